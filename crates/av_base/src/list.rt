@@ -1,0 +1,51 @@
+ghost use Rattle.std.specs.Prelude.{◌≡◌, [], ◌∷◌, ◌++◌, OnOk, OnErr};
+
+use crate::Memory;
+use std::alloc::Global;
+use std::marker::Model;
+
+/// A growing list that keeps the allocator it was made with. Contracts see the list of its items.
+#[derive(Clone, Debug, Drop)]
+pub struct List<T> {
+    items: Vec<T>,
+}
+
+impl<T> Model for List<T> {
+    ghost use Rattle.std.specs.Prelude.{List as Items};
+    ghost use Rattle.std.specs.Coded.{coded_list};
+
+    ghost Value = { Items T };
+
+    ghost coded = { coded_list T.code };
+
+    ghost view = { λ it. it.items.items };
+}
+
+impl<T> List<T> {
+    /// The empty list. It takes no memory yet.
+    pub fn new(alloc: Global) -> List<T>
+        ensures { result ≡ [] }
+    {
+        List {
+            items: Vec::new(alloc),
+        }
+    }
+
+    /// The items, in order.
+    pub fn as_slice(&self) -> &[T]
+        ensures { result.now ≡ self.now }
+    {
+        self.items.as_slice()
+    }
+}
+
+impl<T: Drop> List<T> {
+    /// Puts an item at the end. After `Memory` the item is dropped.
+    pub fn push(&mut self, item: T) -> Result<(), Memory>
+        ensures ok { OnOk result (self.new ≡ self.old ++ item ∷ []) }
+        ensures err { OnErr result (self.new ≡ self.old) }
+    {
+        self.items.push(item)?;
+        Ok(())
+    }
+}
