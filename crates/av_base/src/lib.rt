@@ -2,16 +2,27 @@
 //! outside as sources and sinks of bytes.
 #![tactic(auto)]
 
+mod copy;
+mod honest;
 mod list;
 mod memory;
 mod name;
 mod place;
 mod point;
+mod sink;
+mod source;
+mod stream;
 mod width;
+mod word;
 
+pub use honest::{HonestSink, HonestSource};
 pub use list::List;
 pub use memory::Memory;
 pub use name::Name;
 pub use place::Place;
 pub use point::Point;
+pub use sink::{Sink, WriteFault, write_all};
+pub use source::{Failed, ReadAll, Source, read_all};
+pub use stream::{MemSink, MemSource};
 pub use width::Width;
+pub use word::{Op, Word};
