@@ -1,8 +1,8 @@
 -- What several calls take or add.
-use Rattle.std.proofs.Common.{◌≡◌, ◌⊎◌, ℕ, ◌+◌, ◌-◌, ◌<◌, ◌≤◌, List, [], ◌∷◌, ◌++◌, length, take, drop, Option, Some, None, refl, sym, ◌∙◌, ap, append_assoc, length-append, arith, inl, inr, IfSome, take-add, drop-drop}
+use Rattle.std.proofs.Common.{◌≡◌, ℕ, ◌+◌, ◌-◌, ◌<◌, ◌≤◌, List, [], ◌++◌, length, take, drop, Option, Some, None, sym, append_assoc, length-append, arith, inl, inr, IfSome, take-add, drop-drop}
 use Rattle.std.specs.Prelude.{Result, Ok, Err, OnErr}
 use Rattle.std.proofs.lemmas.List.{append-nil, take-append-drop, take_rest}
-use Rattle.av_base.specs.Outside.{Takes, Adds, IsAtEnd, HasRisen, last_count}
+use Rattle.av_base.specs.Outside.{Takes, Adds, HasRisen}
 
 pub Takes-more : (a b c : Option (List ℕ)) (xs ys : List ℕ) → Takes a b xs → Takes b c ys → Takes a c (xs ++ ys)
 Takes-more (Some a) (Some b) (Some c) xs ys h k = rw (h, k) (sym (append_assoc xs ys c))

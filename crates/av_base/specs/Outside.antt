@@ -1,6 +1,6 @@
 -- What calls of sources and sinks take and add. A source may tell the bytes that are left in it, and a
 -- sink those that it holds; each counts its faults, up to the last number of 64 bits.
-use Rattle.std.specs.Prelude.{◌≡◌, ◌⊎◌, ℕ, ◌+◌, ◌-◌, ◌^◌, ◌<◌, List, [], ◌++◌, Option, Some, None, length, take}
+use Rattle.std.specs.Prelude.{◌≡◌, ◌⊎◌, ℕ, ◌-◌, ◌^◌, ◌<◌, List, [], ◌++◌, Option, Some, None, length, take}
 
 -- these bytes came off the front of what was left, where that is told
 abbrev pub Takes : Option (List ℕ) → Option (List ℕ) → List ℕ → Type 0

@@ -1,5 +1,5 @@
 -- Sources and sinks in memory, as contracts see them.
-use Rattle.std.specs.Prelude.{ℕ, ◌+◌, ◌^◌, List, min, nat_lt, if◌then◌else◌}
+use Rattle.std.specs.Prelude.{ℕ, ◌+◌, List, min}
 use Rattle.av_base.specs.Outside.{last_count}
 
 -- A source in memory: the bytes left, how many it gives at most in a call, the numbers of the calls

@@ -3,6 +3,7 @@
 #![tactic(auto)]
 
 mod copy;
+mod decimal;
 mod honest;
 mod list;
 mod memory;
@@ -12,9 +13,13 @@ mod point;
 mod sink;
 mod source;
 mod stream;
+#[cfg(test)]
+mod tests;
+mod token_kind;
 mod width;
 mod word;
 
+pub use decimal::decimal_value;
 pub use honest::{HonestSink, HonestSource};
 pub use list::List;
 pub use memory::Memory;
@@ -24,5 +29,6 @@ pub use point::Point;
 pub use sink::{Sink, WriteFault, write_all};
 pub use source::{Failed, ReadAll, Source, read_all};
 pub use stream::{MemSink, MemSource};
+pub use token_kind::TokenKind;
 pub use width::Width;
 pub use word::{Op, Word};

@@ -1,4 +1,4 @@
-use Rattle.std.proofs.Common.{arith, length, length-append, take, length-take}
+use Rattle.std.proofs.Common.{arith, length-append, take, length-take}
 use Rattle.av_base.specs.Outside.{TakesSome}
 use Rattle.av_base.proofs.Moves.{Takes-more, on_err}
 use Rattle.av_base.proofs.source.read_all.Goals as goal
