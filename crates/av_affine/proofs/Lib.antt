@@ -1,0 +1,13 @@
+pub mod Ring
+pub mod Order
+pub mod Dots
+pub mod Composing
+pub mod Matrices
+pub mod Gcds
+pub mod Sums
+pub mod Blocks
+pub mod Pivots
+pub mod Inverses
+pub mod Pairs
+pub mod Exact
+pub mod Completing

@@ -1,0 +1,22 @@
+//! Affine forms and maps over whole points of at most four indices, square matrices, and the
+//! completion of a vector to a matrix with a whole inverse.
+#![tactic(auto)]
+
+mod cells;
+mod completion;
+mod compose;
+mod form;
+mod map;
+mod pivot;
+mod primitive;
+mod rows;
+mod square;
+
+pub use completion::{Placed, complete};
+pub use form::Form;
+pub use map::{Map, Over};
+pub use rows::Rows;
+pub use square::{Square, is_inverse, multiply};
+
+#[cfg(test)]
+mod tests;
