@@ -1,0 +1,6 @@
+pub mod Longest
+pub mod Moves
+pub mod Pieces
+pub mod Readings
+pub mod Tables
+pub mod Turns

@@ -1,0 +1,235 @@
+-- The token that is found at the front is the longest one.
+use Rattle.std.proofs.Common.{◌≡◌, ℕ, suc, ◌+◌, ◌<◌, ◌≤◌, Bool, true, false, cond, not, ◌&&◌, List, [], ◌∷◌, ◌++◌, length, take, drop, refl, sym, ap, subst, ◌∙◌, arith, inl, inr, ◌⊎◌, true≢false}
+use Rattle.std.specs.Prelude.{Contains}
+use Rattle.std.specs.List.{prefix_len, AllByRecursion}
+use Rattle.std.specs.Char.{is_ascii_alphabetic, is_ascii_digit}
+use Rattle.std.proofs.Math.Numerals.{one-add}
+use Rattle.std.proofs.Math.Seq.{take-append_seam}
+use Rattle.std.proofs.lemmas.List.{length-take, take-append-drop}
+use Rattle.std.proofs.lemmas.List.Elements.{All-from_recursion, recursion_from_All}
+use Rattle.std.proofs.lemmas.List.Sums.{prefix_len-le-length}
+use Rattle.av_base.specs.declared.token_kind.TokenKind.{TokenKind}
+use Rattle.av_base.specs.declared.token_kind.TokenKind.TheVariants as kind
+use Rattle.av_base.specs.Tokens.{reserved_words, is_word_byte, IsWord, IsDigits, IsSpelled, IsLongest}
+use Rattle.av_lex.specs.declared.scan.Piece.{Piece}
+use Rattle.av_lex.specs.declared.scan.Piece.TheVariants as piece
+use Rattle.av_lex.specs.Faults.{BeginsNone}
+use Rattle.av_lex.specs.Scan.{is_reserved, is_single, begins_pair, word_kind, symbol_of, token_of}
+use Rattle.av_lex.proofs.Tables.{is_found, is_there, reserved_word, is_other, IsSymbol, one, two, symbol_is, single_symbol, pair_symbol}
+
+-- which way a test went
+pub chosen : {A : Type 0} (b : Bool) (x y z : A) → cond b x y ≡ z → ((b ≡ true) × (x ≡ z)) ⊎ ((b ≡ false) × (y ≡ z))
+chosen true x y z e = inl (refl, e)
+chosen false x y z e = inr (refl, e)
+
+-- ---- runs
+
+-- a run has its bytes
+pub run_all : (p : ℕ → Bool) (bytes : List ℕ) → AllByRecursion (λ x. p x ≡ true) (take (prefix_len p bytes) bytes)
+run_all p [] = tt
+run_all p (b ∷ bytes) = go (p b) refl (run_all p bytes)
+  where
+    go : (t : Bool) → p b ≡ t → AllByRecursion (λ x. p x ≡ true) (take (prefix_len p bytes) bytes) → AllByRecursion (λ x. p x ≡ true) (take (cond t (1 + prefix_len p bytes) 0) (b ∷ bytes))
+    go true e h = rw one-add (e, h)
+    go false e h = tt
+
+-- and no less of what begins so
+pub run_covers : (p : ℕ → Bool) (front back : List ℕ) → AllByRecursion (λ x. p x ≡ true) front → length front ≤ prefix_len p (front ++ back)
+run_covers p [] back h = omega arith
+run_covers p (b ∷ front) back h = let ih = run_covers p front back h.1 in rw h.0 (omega arith)
+
+-- ---- what is spelled is covered by the token that is found
+
+pub record Covers (k : TokenKind) (len : ℕ) (found : Piece) : Type 0 where
+  pub kind : TokenKind
+  pub len' : ℕ
+  pub is : found ≡ piece.Token kind len'
+  pub no_less : len ≤ len'
+  pub same : len ≡ len' → k ≡ kind
+
+alphabetic_word : (b : ℕ) → is_ascii_alphabetic b ≡ true → is_word_byte b ≡ true
+alphabetic_word b h = rw h refl
+
+digit_not_letter : (b : ℕ) → is_ascii_digit b ≡ true → is_ascii_alphabetic b ≡ false
+digit_not_letter b h = grind arith
+
+name_kind : (text : List ℕ) → (Contains reserved_words text → ⊥) → word_kind text ≡ kind.Name
+name_kind text h = go (is_reserved text) refl
+  where
+    go : (t : Bool) → is_reserved text ≡ t → cond t kind.Reserved kind.Name ≡ kind.Name
+    go true e = absurd (h (is_there text reserved_words e))
+    go false e = refl
+
+reserved_kind : (text : List ℕ) → Contains reserved_words text → word_kind text ≡ kind.Reserved
+reserved_kind text h = rw (is_found text reserved_words h) refl
+
+word_covers : (k : TokenKind) (front back : List ℕ) → IsWord front → word_kind front ≡ k → (b : ℕ) (bytes : List ℕ) → front ++ back ≡ b ∷ bytes → Covers k (length front) (token_of b (front ++ back))
+unfolding token_of
+word_covers k [] back s w b bytes e = absurd s
+word_covers k (x ∷ front) back s w b bytes e =
+    let head : x ≡ b = cc in
+    let letter : is_ascii_alphabetic b ≡ true = subst (λ z. is_ascii_alphabetic z ≡ true) head s.0 in
+    let all : AllByRecursion (λ x. is_word_byte x ≡ true) (x ∷ front) = (alphabetic_word x s.0, recursion_from_All (λ x. is_word_byte x ≡ true) front s.1) in
+    let n = prefix_len is_word_byte (x ∷ front ++ back) in
+    record {
+      kind = word_kind (take n (x ∷ front ++ back));
+      len' = n;
+      is = rw letter refl;
+      no_less = run_covers is_word_byte (x ∷ front) back all;
+      same = λ h. sym (ap word_kind (ap (λ z. take z (x ∷ front ++ back)) (sym h) ∙ take-append_seam (x ∷ front) back) ∙ w);
+    }
+
+one_or_two : (t : Bool) (found : Piece) → found ≡ cond t (piece.Token kind.Symbol 2) (piece.Token kind.Symbol 1) → Covers kind.Symbol 1 found
+one_or_two true found h = record { kind = kind.Symbol; len' = 2; is = h; no_less = omega arith; same = λ e. absurd (omega arith) }
+one_or_two false found h = record { kind = kind.Symbol; len' = 1; is = h; no_less = omega arith; same = λ e. refl }
+
+other_symbol : (b : ℕ) (text : List ℕ) → is_other b ≡ true → token_of b text ≡ symbol_of b text
+unfolding token_of
+other_symbol b text h = go (is_ascii_alphabetic b) (is_ascii_digit b) refl refl h
+  where
+    go : (t u : Bool) → is_ascii_alphabetic b ≡ t → is_ascii_digit b ≡ u → (not t && not u) ≡ true → token_of b text ≡ symbol_of b text
+    go true u e f k = absurd cc
+    go false true e f k = absurd cc
+    go false false e f k = rw (e, f) refl
+
+symbol_covers : (front back : List ℕ) → IsSymbol front → (b : ℕ) (bytes : List ℕ) → front ++ back ≡ b ∷ bytes → Covers kind.Symbol (length front) (token_of b (front ++ back))
+unfolding symbol_of
+symbol_covers front back (one {b = x} o s) b bytes e =
+    let head : x ≡ b = cc in
+    subst (λ z. Covers kind.Symbol 1 (token_of z (x ∷ back))) head (one_or_two (begins_pair (x ∷ back)) (token_of x (x ∷ back)) (other_symbol x (x ∷ back) o ∙ rw s refl))
+symbol_covers front back (two {b = x} {c = y} o s) b bytes e =
+    let head : x ≡ b = cc in
+    subst (λ z. Covers kind.Symbol 2 (token_of z (x ∷ y ∷ back))) head
+    (record { kind = kind.Symbol; len' = 2; is = other_symbol x (x ∷ y ∷ back) o ∙ rw s refl; no_less = omega arith; same = λ h. refl })
+
+pub covers : (k : TokenKind) (front back : List ℕ) → IsSpelled k front → (b : ℕ) (bytes : List ℕ) → front ++ back ≡ b ∷ bytes → Covers k (length front) (token_of b (front ++ back))
+unfolding token_of
+covers kind.Name front back s b bytes e = word_covers kind.Name front back s.0 (name_kind front s.1) b bytes e
+covers kind.Reserved front back s b bytes e = word_covers kind.Reserved front back (reserved_word front s) (reserved_kind front s) b bytes e
+covers kind.Number [] back s b bytes e = absurd s
+covers kind.Number (x ∷ front) back s b bytes e =
+    let head : x ≡ b = cc in
+    let digit : is_ascii_digit b ≡ true = subst (λ z. is_ascii_digit z ≡ true) head s.0 in
+    record {
+      kind = kind.Number;
+      len' = prefix_len is_ascii_digit (x ∷ front ++ back);
+      is = rw (digit_not_letter b digit, digit) refl;
+      no_less = run_covers is_ascii_digit (x ∷ front) back (s.0, recursion_from_All (λ x. is_ascii_digit x ≡ true) front s.1);
+      same = λ h. refl;
+    }
+covers kind.Symbol front back s b bytes e = symbol_covers front back (symbol_is front s) b bytes e
+covers kind.End front back s b bytes e = absurd s
+
+-- ---- the token that is found is spelled
+
+pub record Fits (k : TokenKind) (n : ℕ) (bytes : List ℕ) : Type 0 where
+  pub spelled : IsSpelled k (take n bytes)
+  pub some : 0 < n
+  pub within : n ≤ length bytes
+
+fits_as : (k l : TokenKind) (m n : ℕ) (bytes : List ℕ) → piece.Token l m ≡ piece.Token k n → Fits l m bytes → Fits k n bytes
+fits_as k l m n bytes e f =
+    let ek : l ≡ k = cc in
+    let en : m ≡ n = cc in
+    subst (λ z. Fits z n bytes) ek (subst (λ z. Fits l z bytes) en f)
+
+pair_fits : (b : ℕ) (bytes : List ℕ) → begins_pair (b ∷ bytes) ≡ true → Fits kind.Symbol 2 (b ∷ bytes)
+pair_fits b [] h = absurd cc
+pair_fits b (c ∷ bytes) h = record { spelled = pair_symbol b c h; some = omega arith; within = omega arith }
+
+symbol_fits : (b : ℕ) (bytes : List ℕ) (k : TokenKind) (n : ℕ) → symbol_of b (b ∷ bytes) ≡ piece.Token k n → Fits k n (b ∷ bytes)
+unfolding symbol_of
+symbol_fits b bytes k n e =
+    elim (chosen (begins_pair (b ∷ bytes)) (piece.Token kind.Symbol 2) (cond (is_single b) (piece.Token kind.Symbol 1) piece.Bad) (piece.Token k n) e) [
+      | inl p ↦ fits_as k kind.Symbol 2 n (b ∷ bytes) p.1 (pair_fits b bytes p.0)
+      | inr p ↦ elim (chosen (is_single b) (piece.Token kind.Symbol 1) piece.Bad (piece.Token k n) p.1) [
+        | inl q ↦ fits_as k kind.Symbol 1 n (b ∷ bytes) q.1 (record { spelled = single_symbol b q.0; some = omega arith; within = omega arith })
+        | inr q ↦ absurd cc
+      ]
+    ]
+
+word_spelled : (text : List ℕ) → IsWord text → IsSpelled (word_kind text) text
+word_spelled text w = go (is_reserved text) refl
+  where
+    go : (t : Bool) → is_reserved text ≡ t → IsSpelled (cond t kind.Reserved kind.Name) text
+    go true e = is_there text reserved_words e
+    go false e = (w, λ h. true≢false (sym (is_found text reserved_words h) ∙ e))
+
+token_fits : (b : ℕ) (bytes : List ℕ) (k : TokenKind) (n : ℕ) → token_of b (b ∷ bytes) ≡ piece.Token k n → Fits k n (b ∷ bytes)
+unfolding token_of
+token_fits b bytes k n e =
+    elim (chosen (is_ascii_alphabetic b) (piece.Token (word_kind (take (prefix_len is_word_byte (b ∷ bytes)) (b ∷ bytes))) (prefix_len is_word_byte (b ∷ bytes))) (cond (is_ascii_digit b) (piece.Token kind.Number (prefix_len is_ascii_digit (b ∷ bytes))) (symbol_of b (b ∷ bytes))) (piece.Token k n) e) [
+      | inl p ↦
+          let m : ℕ = prefix_len is_word_byte (b ∷ bytes) in
+          let at_word : prefix_len is_word_byte (b ∷ bytes) ≡ suc (prefix_len is_word_byte bytes) = rw (alphabetic_word b p.0) (one-add _) in
+          let word : IsWord (take m (b ∷ bytes)) = rw at_word (p.0, All-from_recursion (λ x. is_word_byte x ≡ true) (take (prefix_len is_word_byte bytes) bytes) (run_all is_word_byte bytes)) in
+          fits_as k (word_kind (take m (b ∷ bytes))) m n (b ∷ bytes) p.1 (record { spelled = word_spelled (take m (b ∷ bytes)) word; some = omega (arith, at_word); within = prefix_len-le-length is_word_byte (b ∷ bytes) })
+      | inr p ↦ elim (chosen (is_ascii_digit b) (piece.Token kind.Number (prefix_len is_ascii_digit (b ∷ bytes))) (symbol_of b (b ∷ bytes)) (piece.Token k n) p.1) [
+        | inl q ↦
+            let m : ℕ = prefix_len is_ascii_digit (b ∷ bytes) in
+            let at_digit : prefix_len is_ascii_digit (b ∷ bytes) ≡ suc (prefix_len is_ascii_digit bytes) = rw q.0 (one-add _) in
+            let digits : IsDigits (take m (b ∷ bytes)) = rw at_digit (q.0, All-from_recursion (λ x. is_ascii_digit x ≡ true) (take (prefix_len is_ascii_digit bytes) bytes) (run_all is_ascii_digit bytes)) in
+            fits_as k kind.Number m n (b ∷ bytes) q.1 (record { spelled = digits; some = omega (arith, at_digit); within = prefix_len-le-length is_ascii_digit (b ∷ bytes) })
+        | inr q ↦ symbol_fits b bytes k n q.1
+      ]
+    ]
+
+pub record Found (k : TokenKind) (n : ℕ) (bytes : List ℕ) : Type 0 where
+  pub longest : IsLongest k (take n bytes) (drop n bytes)
+  pub some : 0 < n
+  pub within : n ≤ length bytes
+
+pub token_found : (b : ℕ) (bytes : List ℕ) (k : TokenKind) (n : ℕ) → token_of b (b ∷ bytes) ≡ piece.Token k n → Found k n (b ∷ bytes)
+token_found b bytes k n e =
+    let f = token_fits b bytes k n e in
+    let len : length (take n (b ∷ bytes)) ≡ n = let w = f.within in simp length-take (omega arith) in
+    record {
+      longest = record {
+        spelled = f.spelled;
+        longest = λ other front back same s.
+            let whole : b ∷ bytes ≡ front ++ back = sym (take-append-drop n (b ∷ bytes)) ∙ same in
+            let c = covers other front back s b bytes (sym whole) in
+            let here : piece.Token k n ≡ piece.Token c.kind c.len' = sym e ∙ ap (token_of b) whole ∙ c.is in
+            let n-is : n ≡ c.len' = cc in
+            omega (arith, c.no_less);
+      };
+      some = f.some;
+      within = f.within;
+    }
+
+pub token_none : (b : ℕ) (bytes : List ℕ) → token_of b (b ∷ bytes) ≡ piece.Bad → BeginsNone (b ∷ bytes)
+token_none b bytes e k front back whole s =
+    let c = covers k front back s b bytes (sym whole) in
+    let here : piece.Bad ≡ piece.Token c.kind c.len' = sym e ∙ ap (token_of b) whole ∙ c.is in
+    cc
+
+-- the longest token is the one that is found
+pub token_is : (k : TokenKind) (b : ℕ) (bytes text rest : List ℕ) → b ∷ bytes ≡ text ++ rest → IsLongest k text rest → token_of b (b ∷ bytes) ≡ piece.Token k (length text)
+token_is k b bytes text rest whole l =
+    let c = covers k text rest l.spelled b bytes (sym whole) in
+    let e : token_of b (b ∷ bytes) ≡ piece.Token c.kind c.len' = ap (token_of b) whole ∙ c.is in
+    let f = token_fits b bytes c.kind c.len' e in
+    let no_more = l.longest c.kind (take c.len' (b ∷ bytes)) (drop c.len' (b ∷ bytes)) (sym whole ∙ sym (take-append-drop c.len' (b ∷ bytes))) f.spelled in
+    let len : length (take c.len' (b ∷ bytes)) ≡ c.len' = let w = f.within in simp length-take (omega arith) in
+    let n-is : length text ≡ c.len' = omega (arith, c.no_less) in
+    let k-is : k ≡ c.kind = c.same n-is in
+    e ∙ ap (λ z. piece.Token c.kind z) (sym n-is) ∙ ap (λ z. piece.Token z (length text)) (sym k-is)
+
+abbrev pub IsNoGap : Piece → Type 0
+IsNoGap (piece.Gap n) = ⊥
+IsNoGap _ = Unit {0}
+
+either : (t : Bool) (x y : Piece) → IsNoGap x → IsNoGap y → IsNoGap (cond t x y)
+either true x y h k = h
+either false x y h k = k
+
+pub token_no_gap : (b : ℕ) (text : List ℕ) → IsNoGap (token_of b text)
+unfolding token_of symbol_of
+token_no_gap b text =
+    either (is_ascii_alphabetic b) _ _ tt (either (is_ascii_digit b) _ _ tt (either (begins_pair text) _ _ tt (either (is_single b) _ _ tt tt)))
+
+-- where no token begins, none is found
+pub none_is : (b : ℕ) (bytes : List ℕ) → BeginsNone (b ∷ bytes) → (found : Piece) → token_of b (b ∷ bytes) ≡ found → IsNoGap found → found ≡ piece.Bad
+none_is b bytes h piece.Bad e g = refl
+none_is b bytes h (piece.Token k n) e g = absurd (h k (take n (b ∷ bytes)) (drop n (b ∷ bytes)) (sym (take-append-drop n (b ∷ bytes))) (token_fits b bytes k n e).spelled)
+none_is b bytes h (piece.Gap n) e g = absurd g

@@ -1,0 +1,4 @@
+pub mod Faults
+pub mod Lexing
+pub mod Reading
+pub mod Scan

@@ -1,0 +1,71 @@
+-- What stands at the front of a text, found byte by byte.
+use Rattle.std.specs.Prelude.{ℕ, ◌^◌, ◌<◌, ◌≤◌, Bool, true, false, not, ◌&&◌, ◌||◌, if◌then◌else◌, nat_eq, nat_lt, List, ◌∷◌, take, codes}
+use Rattle.std.specs.List.{prefix_len, list_any}
+use Rattle.std.specs.Char.{is_ascii_digit, is_ascii_alphabetic}
+use Rattle.std.specs.Str.{bytes_eq}
+use Rattle.av_base.specs.declared.token_kind.TokenKind.{TokenKind}
+use Rattle.av_base.specs.declared.token_kind.TokenKind.TheVariants as kind
+use Rattle.av_base.specs.Tokens.{reserved_words, is_word_byte, is_blank, number_of}
+use Rattle.av_lex.specs.declared.scan.Piece.{Piece}
+use Rattle.av_lex.specs.declared.scan.Piece.TheVariants as piece
+
+-- a byte that ends no line
+abbrev pub is_not_feed : ℕ → Bool
+is_not_feed b = not (nat_eq b 10)
+
+-- the text begins with --
+abbrev pub is_dashed : List ℕ → Bool
+is_dashed (b ∷ c ∷ bytes) = nat_eq b 45 && nat_eq c 45
+is_dashed _ = false
+
+-- the text is a reserved word
+abbrev pub is_reserved : List ℕ → Bool
+is_reserved text = list_any (bytes_eq text) reserved_words
+
+-- a symbol of one byte
+abbrev pub is_single : ℕ → Bool
+is_single b = list_any (nat_eq b) (codes "(){}[]|:;,.=<>+-*")
+
+-- a symbol of two bytes
+abbrev pub is_pair : ℕ → ℕ → Bool
+is_pair b c =
+    if nat_eq b 60 then nat_eq c 61 || nat_eq c 62
+    else (if nat_eq b 62 then nat_eq c 61 else (if nat_eq b 45 then nat_eq c 62 else false))
+
+-- the text begins with a symbol of two bytes
+abbrev pub begins_pair : List ℕ → Bool
+begins_pair (b ∷ c ∷ bytes) = is_pair b c
+begins_pair _ = false
+
+-- the symbol at the front
+unfoldable pub symbol_of : ℕ → List ℕ → Piece
+symbol_of first text =
+    if begins_pair text then piece.Token kind.Symbol 2
+    else (if is_single first then piece.Token kind.Symbol 1 else piece.Bad)
+
+-- what a word is
+abbrev pub word_kind : List ℕ → TokenKind
+word_kind text = if is_reserved text then kind.Reserved else kind.Name
+
+-- the token at the front, where no blank and no comment stands there
+unfoldable pub token_of : ℕ → List ℕ → Piece
+token_of first text =
+    if is_ascii_alphabetic first then piece.Token (word_kind (take (prefix_len is_word_byte text) text)) (prefix_len is_word_byte text)
+    else (if is_ascii_digit first then piece.Token kind.Number (prefix_len is_ascii_digit text) else symbol_of first text)
+
+-- what stands at the front
+unfoldable pub piece_of : ℕ → List ℕ → Piece
+piece_of first text =
+    if is_blank first then piece.Gap 1
+    else (if is_dashed text then piece.Gap (prefix_len is_not_feed text) else token_of first text)
+
+-- the piece has bytes, and no more than there are
+abbrev pub FitsIn : Piece → ℕ → Type 0
+FitsIn (piece.Gap n) room = (0 < n) × (n ≤ room)
+FitsIn (piece.Token k n) room = (0 < n) × (n ≤ room)
+FitsIn piece.Bad room = Unit {0}
+
+-- a number's value fits 64 bits
+abbrev pub is_in_range : TokenKind → List ℕ → Bool
+is_in_range kind.Number text = nat_lt (number_of text) (2 ^ 64)
+is_in_range _ text = true
