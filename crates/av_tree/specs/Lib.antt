@@ -1,0 +1,5 @@
+pub mod Trees
+pub mod Domains
+pub mod Values
+pub mod Solutions
+pub mod FirstForm
