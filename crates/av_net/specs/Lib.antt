@@ -1,0 +1,9 @@
+pub mod Meaning
+pub mod Names
+pub mod Settled
+pub mod Clocked
+pub mod Shown
+pub mod Sound
+pub mod Presented
+pub mod Laws
+pub mod Texts

@@ -1,0 +1,17 @@
+//! A netlist as data: one synchronous module of a subset of Verilog with the listing of where each
+//! point of an equation system is presented and shown. The definitions beside it say what it is for
+//! such a module to be sound, settled and clocked, what a design shows, and how its text is written.
+#![tactic(auto)]
+
+mod design;
+mod law;
+mod netlist;
+mod operation;
+
+pub use design::{Design, Entry, Listing};
+pub use law::{presented, runs, settled_once};
+pub use netlist::{Drive, Module, Port, Step};
+pub use operation::{Operand, Operation, Symbol};
+
+#[cfg(test)]
+mod tests;
