@@ -1,0 +1,13 @@
+pub mod Lines
+pub mod InLines
+pub mod Solved
+pub mod SoundCell
+pub mod Computed
+pub mod Compiled
+pub mod Steps
+pub mod Spellings
+pub mod Sound
+pub mod Complete
+pub mod Dashes
+pub mod Words
+pub mod Texts

@@ -1,0 +1,6 @@
+pub mod Listings
+pub mod Headline
+pub mod Said
+pub mod Cell
+pub mod Forms
+pub mod Reading
