@@ -1,0 +1,330 @@
+ghost use Rattle.std.specs.Prelude.{◌≤◌, IfOk};
+
+use crate::standard::{StdSink, StdSource};
+use crate::{LIMIT, Status, alphav};
+use av_base::{Failed, List, MemSink, MemSource, Name, Sink, Source};
+use std::alloc::Global;
+use std::io;
+use std::io::{ErrorKind, Read, Write};
+use std::test::Fail;
+
+const INCREMENT: &str =
+    "system inc (X : {i | 0<=i<=2} of integer)\n  returns (Y : {i | 0<=i<=2} of integer);\nlet Y[i] = X[i] + 1; tel;\n";
+
+const ONE_POINT: &str =
+    "system inc (X : {i | 5<=i<=5} of integer)\n  returns (Y : {i | 5<=i<=5} of integer);\nlet Y[i] = X[i] + 1; tel;\n";
+
+const CONSTANT: &str =
+    "system inc (X : {i | 0<=i<=2} of integer)\n  returns (Y : {i | 0<=i<=2} of integer);\nlet Y[i] = 3; tel;\n";
+
+const DOUBLE: &str =
+    "system inc (X : {i | 0<=i<=2} of integer)\n  returns (Y : {i | 0<=i<=2} of integer);\nlet Y[i] = X[i] + X[i]; tel;\n";
+
+const SHIFTED: &str =
+    "system inc (X : {i | 0<=i<=2} of integer)\n  returns (Y : {i | 0<=i<=2} of integer);\nlet Y[i] = X[i-1] + 1; tel;\n";
+
+const OF_WIDTH_8: &str = "// alphav 1
+// in X (0) i0 0
+// in X (1) i0 1
+// in X (2) i0 2
+// at Y (0) o0 0
+// at Y (1) o0 1
+// at Y (2) o0 2
+module array(input clk, input rst, input [7:0] i0, output [7:0] o0);
+  wire [7:0] c0;
+  assign c0 = i0 + 8'd1;
+  assign o0 = c0;
+endmodule
+";
+
+const OF_WIDTH_1: &str = "// alphav 1
+// in X (0) i0 0
+// in X (1) i0 1
+// in X (2) i0 2
+// at Y (0) o0 0
+// at Y (1) o0 1
+// at Y (2) o0 2
+module array(input clk, input rst, input [0:0] i0, output [0:0] o0);
+  wire [0:0] c0;
+  assign c0 = i0 + 1'd1;
+  assign o0 = c0;
+endmodule
+";
+
+const OF_WIDTH_64: &str = "// alphav 1
+// in X (0) i0 0
+// in X (1) i0 1
+// in X (2) i0 2
+// at Y (0) o0 0
+// at Y (1) o0 1
+// at Y (2) o0 2
+module array(input clk, input rst, input [63:0] i0, output [63:0] o0);
+  wire [63:0] c0;
+  assign c0 = i0 + 64'd1;
+  assign o0 = c0;
+endmodule
+";
+
+const OF_WIDTH_32: &str = "// alphav 1
+// in X (0) i0 0
+// in X (1) i0 1
+// in X (2) i0 2
+// at Y (0) o0 0
+// at Y (1) o0 1
+// at Y (2) o0 2
+module array(input clk, input rst, input [31:0] i0, output [31:0] o0);
+  wire [31:0] c0;
+  assign c0 = i0 + 32'd1;
+  assign o0 = c0;
+endmodule
+";
+
+const OF_ONE_POINT: &str = "// alphav 1
+// in X (5) i0 0
+// at Y (5) o0 0
+module array(input clk, input rst, input [7:0] i0, output [7:0] o0);
+  wire [7:0] c0;
+  assign c0 = i0 + 8'd1;
+  assign o0 = c0;
+endmodule
+";
+
+const OF_CONSTANT: &str = "// alphav 1
+// at Y (0) o0 0
+// at Y (1) o0 1
+// at Y (2) o0 2
+module array(input clk, input rst, output [7:0] o0);
+  wire [7:0] c0;
+  assign c0 = 8'd3;
+  assign o0 = c0;
+endmodule
+";
+
+const OF_DOUBLE: &str = "// alphav 1
+// in X (0) i0 0
+// in X (1) i0 1
+// in X (2) i0 2
+// in X (0) i1 0
+// in X (1) i1 1
+// in X (2) i1 2
+// at Y (0) o0 0
+// at Y (1) o0 1
+// at Y (2) o0 2
+module array(input clk, input rst, input [7:0] i0, input [7:0] i1, output [7:0] o0);
+  wire [7:0] c0;
+  assign c0 = i0 + i1;
+  assign o0 = c0;
+endmodule
+";
+
+const USAGE: &str =
+    "usage: alphav check|schedule|table|emit|run|trace [--width W] [--box C] [NAME=VALUE ...] | sim | demo K\n";
+
+const WIDTH_8: &[&str] = &["emit", "--width", "8"];
+
+// The words, the input, the status and the output.
+const ROWS: &[(&[&str], &str, Status, &str)] = &[
+    (WIDTH_8, INCREMENT, Status::Done, OF_WIDTH_8),
+    (
+        &["emit", "--width", "0001"],
+        INCREMENT,
+        Status::Done,
+        OF_WIDTH_1,
+    ),
+    (
+        &["emit", "--width", "64"],
+        INCREMENT,
+        Status::Done,
+        OF_WIDTH_64,
+    ),
+    (&["emit"], INCREMENT, Status::Done, OF_WIDTH_32),
+    (WIDTH_8, ONE_POINT, Status::Done, OF_ONE_POINT),
+    (WIDTH_8, CONSTANT, Status::Done, OF_CONSTANT),
+    (WIDTH_8, DOUBLE, Status::Done, OF_DOUBLE),
+    (
+        WIDTH_8,
+        SHIFTED,
+        Status::Refused,
+        "refused: not this form\n",
+    ),
+    (&[], INCREMENT, Status::Words, USAGE),
+    (&["emit", "--width", "65"], INCREMENT, Status::Words, USAGE),
+    (&["emit", "--width", "0"], INCREMENT, Status::Words, USAGE),
+    (&["emit", "--width"], INCREMENT, Status::Words, USAGE),
+    (&["emit", "x"], INCREMENT, Status::Words, USAGE),
+    (&["emit", "--width=8"], INCREMENT, Status::Words, USAGE),
+];
+
+#[test]
+fn the_words_and_the_text_fix_status_and_output(rt: HostRuntime) -> Result<(), Fail> {
+    let alloc = rt.alloc();
+    for (words, text, status, out) in ROWS {
+        let mut source = MemSource::new(bytes(alloc, text)?, 4096, numbers(alloc, &[])?);
+        let mut sink = MemSink::new(alloc, 4096, 4096, numbers(alloc, &[])?)?;
+        let answer = answer(alloc, words, &mut source, &mut sink)?;
+        assert_eq!(rt; answer, *status, "{words:?} on {text}");
+        assert_eq!(rt; sink.held(), out.as_bytes(), "{words:?} on {text}");
+    }
+    Ok(())
+}
+
+#[test]
+fn a_text_above_the_limit_is_refused(rt: HostRuntime) -> Result<(), Fail> {
+    let alloc = rt.alloc();
+    let mut text = List::new(alloc);
+    for _ in 0..=LIMIT {
+        text.push(b' ')?;
+    }
+    let mut source = MemSource::new(text, 4096, numbers(alloc, &[])?);
+    let mut sink = MemSink::new(alloc, 4096, 4096, numbers(alloc, &[])?)?;
+    let status = answer(alloc, WIDTH_8, &mut source, &mut sink)?;
+    assert_eq!(rt; status, Status::Refused);
+    assert_eq!(rt; sink.held(), b"refused: too long\n".as_slice());
+    Ok(())
+}
+
+#[test]
+fn a_source_may_fail_at_each_call(rt: HostRuntime) -> Result<(), Fail> {
+    let alloc = rt.alloc();
+    for call in 0..=INCREMENT.len() as u64 {
+        let mut source = MemSource::new(bytes(alloc, INCREMENT)?, 1, numbers(alloc, &[call])?);
+        let mut sink = MemSink::new(alloc, 4096, 1, numbers(alloc, &[])?)?;
+        let status = answer(alloc, WIDTH_8, &mut source, &mut sink)?;
+        assert_eq!(rt; status, Status::ReadFault, "call {call}");
+        assert!(rt; sink.held().is_empty(), "call {call}");
+    }
+    Ok(())
+}
+
+#[test]
+fn a_sink_may_fail_at_each_call_and_be_full_at_each_byte(rt: HostRuntime) -> Result<(), Fail> {
+    let alloc = rt.alloc();
+    for n in 0..OF_WIDTH_8.len() {
+        let mut failing = MemSink::new(alloc, 4096, 1, numbers(alloc, &[n as u64])?)?;
+        let status = answer_increment(alloc, &mut failing)?;
+        assert_eq!(rt; status, Status::WriteFault, "after {n} bytes");
+        assert_eq!(rt;
+            failing.held(),
+            &OF_WIDTH_8.as_bytes()[..n],
+            "after {n} bytes"
+        );
+        let mut full = MemSink::new(alloc, n, 7, numbers(alloc, &[])?)?;
+        let status = answer_increment(alloc, &mut full)?;
+        assert_eq!(rt; status, Status::WriteFault, "room for {n} bytes");
+        assert_eq!(rt;
+            full.held(),
+            &OF_WIDTH_8.as_bytes()[..n],
+            "room for {n} bytes"
+        );
+    }
+    Ok(())
+}
+
+fn answer_increment(alloc: Global, sink: &mut MemSink) -> Result<Status, Fail> {
+    let mut source = MemSource::new(bytes(alloc, INCREMENT)?, 1, numbers(alloc, &[])?);
+    answer(alloc, WIDTH_8, &mut source, sink)
+}
+
+fn answer(
+    alloc: Global,
+    words: &[&str],
+    source: &mut MemSource,
+    sink: &mut MemSink,
+) -> Result<Status, Fail> {
+    let mut names = List::new(alloc);
+    for word in words {
+        names.push(Name::new(alloc, word)?)?;
+    }
+    Ok(alphav(alloc, names.as_slice(), source, sink))
+}
+
+fn bytes(alloc: Global, text: &str) -> Result<List<u8>, Fail> {
+    let mut list = List::new(alloc);
+    for byte in text.as_bytes() {
+        list.push(*byte)?;
+    }
+    Ok(list)
+}
+
+fn numbers(alloc: Global, calls: &[u64]) -> Result<List<u64>, Fail> {
+    let mut list = List::new(alloc);
+    for call in calls {
+        list.push(*call)?;
+    }
+    Ok(list)
+}
+
+// ---- readers and writers
+
+// It is interrupted some times, and then answers as it is told.
+#[derive(Drop)]
+struct Fitful {
+    interrupts: u32,
+    answers: Option<usize>,
+    flushes: bool,
+}
+
+impl Fitful {
+    fn answer(&mut self, most: usize) -> io::Result<usize>
+        ensures { IfOk result (λ n. n ≤ most) }
+    {
+        if self.interrupts > 0 {
+            self.interrupts -= 1;
+            return Err(io::Error::from(ErrorKind::Interrupted));
+        }
+        match self.answers {
+            Some(n) => Ok(n.min(most)),
+            None => Err(io::Error::from(ErrorKind::BrokenPipe)),
+        }
+    }
+}
+
+impl Read for Fitful {
+    fn read(&mut self, buf: &mut [u8]) -> io::Result<usize> {
+        self.answer(buf.len())
+    }
+}
+
+impl Write for Fitful {
+    fn write(&mut self, buf: &[u8]) -> io::Result<usize> {
+        self.answer(buf.len())
+    }
+
+    fn flush(&mut self) -> io::Result<()> {
+        if self.flushes {
+            Ok(())
+        } else {
+            Err(io::Error::from(ErrorKind::BrokenPipe))
+        }
+    }
+}
+
+// Interrupts, what is answered after them, whether a flush succeeds, what is read, and what is written.
+const CALLS: &[(u32, Option<usize>, bool, Option<usize>, Option<usize>)] = &[
+    (0, Some(3), true, Some(3), Some(3)),
+    (1000, Some(3), true, Some(3), Some(3)),
+    (1001, Some(3), true, None, None),
+    (0, Some(3), false, Some(3), None),
+    (0, Some(0), true, Some(0), None),
+    (7, None, true, None, None),
+];
+
+#[test]
+fn an_interrupted_call_is_repeated_and_a_failed_one_is_not(rt: HostRuntime) {
+    for (interrupts, answers, flushes, read, written) in CALLS {
+        let fitful = || Fitful {
+            interrupts: *interrupts,
+            answers: *answers,
+            flushes: *flushes,
+        };
+        let mut into = [0u8; 4];
+        assert_eq!(rt;
+            StdSource::new(fitful()).read(&mut into),
+            (*read).ok_or(Failed)
+        );
+        assert_eq!(rt;
+            StdSink::new(fitful()).write(b"abcd"),
+            (*written).ok_or(Failed)
+        );
+    }
+}
