@@ -1,0 +1,28 @@
+-- Lists of four entries, one by one.
+use Rattle.std.proofs.Common.{◌≡◌, ℕ, zero, suc, ℤ, pos, List, [], ◌∷◌, length, get_or, map, refl, arith, nat_lt, if◌then◌else◌}
+use Rattle.std.proofs.lemmas.Bool.Decides.{nat_tests}
+use Rattle.av_poly.specs.Normal.{counted}
+
+pub four : (f : ℤ → ℤ) (r : List ℤ) (a b c d : ℤ) → length r ≡ 4 → a ≡ f (get_or r 0 (pos 0)) → b ≡ f (get_or r 1 (pos 0)) → c ≡ f (get_or r 2 (pos 0)) → d ≡ f (get_or r 3 (pos 0)) → a ∷ b ∷ c ∷ d ∷ [] ≡ map f r
+four f [] a b c d e h i j k = absurd (omega arith)
+four f (x ∷ []) a b c d e h i j k = absurd (omega arith)
+four f (x ∷ y ∷ []) a b c d e h i j k = absurd (omega arith)
+four f (x ∷ y ∷ z ∷ []) a b c d e h i j k = absurd (omega arith)
+four f (x ∷ y ∷ z ∷ w ∷ []) a b c d e h i j k = rw (h, i, j, k) refl
+four f (x ∷ y ∷ z ∷ w ∷ v ∷ r) a b c d e h i j k = absurd (omega arith)
+
+-- the coefficient at a place, or 0 where it does not count
+abbrev pub counted_or : ℕ → List ℤ → ℕ → ℤ
+counted_or n r index = if nat_lt index n then get_or r index (pos 0) else pos 0
+
+pub four_counted : (n : ℕ) (r : List ℤ) (a b c d : ℤ) → length r ≡ 4 → a ≡ counted_or n r 0 → b ≡ counted_or n r 1 → c ≡ counted_or n r 2 → d ≡ counted_or n r 3 → a ∷ b ∷ c ∷ d ∷ [] ≡ counted n r
+four_counted n [] a b c d e h i j k = absurd (omega arith)
+four_counted n (x ∷ []) a b c d e h i j k = absurd (omega arith)
+four_counted n (x ∷ y ∷ []) a b c d e h i j k = absurd (omega arith)
+four_counted n (x ∷ y ∷ z ∷ []) a b c d e h i j k = absurd (omega arith)
+four_counted zero (x ∷ y ∷ z ∷ w ∷ []) a b c d e h i j k = rw (h, i, j, k) refl
+four_counted (suc zero) (x ∷ y ∷ z ∷ w ∷ []) a b c d e h i j k = rw (h, i, j, k) refl
+four_counted (suc (suc zero)) (x ∷ y ∷ z ∷ w ∷ []) a b c d e h i j k = rw (h, i, j, k) refl
+four_counted (suc (suc (suc zero))) (x ∷ y ∷ z ∷ w ∷ []) a b c d e h i j k = rw (h, i, j, k) refl
+four_counted (suc (suc (suc (suc n)))) (x ∷ y ∷ z ∷ w ∷ []) a b c d e h i j k = grind (arith, nat_tests)
+four_counted n (x ∷ y ∷ z ∷ w ∷ v ∷ r) a b c d e h i j k = absurd (omega arith)

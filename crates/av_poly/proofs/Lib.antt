@@ -1,0 +1,13 @@
+pub mod Membership
+pub mod Anys
+pub mod Parting
+pub mod Fours
+pub mod Dividing
+pub mod Lowering
+pub mod Tightening
+pub mod Sofar
+pub mod Normalising
+pub mod Intervals
+pub mod Searching
+pub mod Ends
+pub mod Rationals

@@ -1,0 +1,6 @@
+use Rattle.std.proofs.Common.{rules}
+use Rattle.av_poly.proofs.Parting.{part_points}
+use Rattle.av_poly.proofs.parts.part.Goals as goal
+
+pub returns-clause-points : goal.returns-clause-points
+returns-clause-points c = λ z. part_points _ c.args.dim c.args.kept.now c.args.row.now c.complement.result z (search rules) (search rules) (c.complement.ensures.points z)

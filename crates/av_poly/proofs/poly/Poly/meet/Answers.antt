@@ -1,0 +1,6 @@
+use Rattle.std.proofs.Common.{rules}
+use Rattle.av_poly.proofs.Membership.{meet_points}
+use Rattle.av_poly.proofs.poly.Poly.meet.Goals as goal
+
+pub returns-clause-points : goal.returns-clause-points
+returns-clause-points c = λ z. meet_points _ c.args.self.now c.args.other.now z (search rules) c.requires (search rules)

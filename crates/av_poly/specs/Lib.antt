@@ -1,0 +1,6 @@
+pub mod Points
+pub mod Preimages
+pub mod Parts
+pub mod Normal
+pub mod Search
+pub mod Rational

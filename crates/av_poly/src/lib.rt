@@ -1,0 +1,14 @@
+//! Polyhedra of whole points: sets that rows `a.z + c >= 0` describe, of at most four indices.
+#![tactic(auto)]
+
+mod before;
+mod interval;
+mod normal;
+mod parts;
+mod poly;
+mod row;
+mod search;
+#[cfg(test)]
+mod tests;
+
+pub use poly::{Bounds, Poly};

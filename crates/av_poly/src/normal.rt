@@ -1,0 +1,163 @@
+//! Rows divided by the greatest common divisor of their coefficients, in place.
+
+ghost use Rattle.std.specs.Prelude.{ℤ, ◌≡◌, ◌≢◌, ◌≤◌, ◌<◌, ◌^◌, ◌<ℤ◌, pos, length, map, max, take, All, IfSome, IfNone, IsTrue, false, nat_lt, if◌then◌else◌, slice_index_or, vec_len};
+ghost use Rattle.std.specs.Int.{IsGcd, int_div_euclid, int_min};
+ghost use Rattle.av_affine.specs.Numbers.{AtMost, IsGcdOf};
+ghost use Rattle.av_poly.specs.Points.{IsSmall};
+ghost use Rattle.av_poly.specs.Normal.{counted, IsConstant, IsDivided, AreNormalised, impossible, Lowers, Places};
+
+use av_affine::Form;
+
+// The greatest common divisor of two numbers.
+fn gcd(a: u64, b: u64) -> u64
+    ensures gcd { IsGcd a b result }
+    ensures most { result ≤ max a b }
+{
+    let mut x = a;
+    let mut y = b;
+    while y != 0 {
+        let rest = x % y;
+        x = y;
+        y = rest;
+    }
+    x
+}
+
+// The greatest common divisor of coefficients.
+fn gcd_of(coef: [i64; 4]) -> u64
+    requires { AtMost (2 ^ 40) coef }
+    ensures gcd { IsGcdOf coef result }
+    ensures most { result ≤ 2 ^ 40 }
+{
+    let mut divisor: u64 = 0;
+    for k in 0..4 {
+        divisor = gcd(divisor, coef[k].unsigned_abs());
+    }
+    divisor
+}
+
+// Each coefficient divided by a common divisor.
+fn quotients(coef: [i64; 4], divisor: i64) -> [i64; 4]
+    requires { pos 0 <ℤ divisor }
+    ensures { result ≡ map (λ x. int_div_euclid x divisor) coef }
+{
+    let a = coef[0].div_euclid(divisor);
+    let b = coef[1].div_euclid(divisor);
+    let c = coef[2].div_euclid(divisor);
+    let d = coef[3].div_euclid(divisor);
+    [a, b, c, d]
+}
+
+// A coefficient that counts, or 0.
+fn counted_at(dim: u8, coef: [i64; 4], index: usize) -> i64
+    requires { index < 4 }
+    ensures { result ≡ (if nat_lt index dim then slice_index_or coef index (pos 0) else pos 0) }
+{
+    if index < dim as usize { coef[index] } else { 0 }
+}
+
+// The coefficients that count, and 0 in place of the others.
+fn counted_of(dim: u8, coef: [i64; 4]) -> [i64; 4]
+    ensures { result ≡ counted dim coef }
+{
+    let a = counted_at(dim, coef, 0);
+    let b = counted_at(dim, coef, 1);
+    let c = counted_at(dim, coef, 2);
+    let d = counted_at(dim, coef, 3);
+    [a, b, c, d]
+}
+
+// The row divided by the greatest common divisor of its coefficients; None where it has none.
+fn divided(dim: u8, row: &Form) -> Option<Form>
+    requires { IsSmall row.now }
+    ensures divided { IfSome result (IsDivided dim row.now) }
+    ensures small { IfSome result IsSmall }
+    ensures none { IfNone result (IsConstant dim row.now) }
+{
+    let coef = counted_of(dim, row.coef);
+    let divisor = gcd_of(coef);
+    if divisor == 0 {
+        return None;
+    }
+    let divisor = divisor as i64;
+    Some(Form {
+        coef: quotients(coef, divisor),
+        constant: row.constant.div_euclid(divisor),
+    })
+}
+
+// The row with the lesser of two constants.
+fn lesser(row: &Form, constant: i64) -> Form
+    ensures { result ≡ record { coef = row.now.coef; constant = int_min row.now.constant constant } }
+{
+    let coef = row.coef;
+    let least = row.constant.min(constant);
+    Form {
+        coef,
+        constant: least,
+    }
+}
+
+// Lowers the constant of the one of the first rows that has equal coefficients; false where none has.
+fn lowered(rows: &mut Vec<Form>, kept: usize, row: &Form) -> bool
+    requires { kept ≤ vec_len rows.old }
+    ensures yes { IsTrue result → Lowers kept row.now rows.old.items rows.new.items }
+    ensures no { result ≡ false → (rows.new.items ≡ rows.old.items) × All (λ other. other.coef ≢ row.now.coef) (take kept rows.old.items) }
+{
+    for k in 0..kept {
+        let other = rows[k];
+        if other.coef == row.coef {
+            rows[k] = lesser(&other, row.constant);
+            return true;
+        }
+    }
+    false
+}
+
+// Lets a row take its place among the first rows, and counts those.
+fn placed(rows: &mut Vec<Form>, kept: usize, row: &Form) -> usize
+    requires { kept < vec_len rows.old }
+    ensures { Places kept row.now rows.old.items rows.new.items result }
+{
+    if lowered(rows, kept, row) {
+        kept
+    } else {
+        rows[kept] = *row;
+        kept + 1
+    }
+}
+
+// The row 0 >= 1.
+fn impossible_row() -> Form
+    ensures { result ≡ impossible }
+{
+    Form {
+        coef: [0, 0, 0, 0],
+        constant: -1,
+    }
+}
+
+// Normalises rows.
+pub(crate) fn normalise_rows(dim: u8, rows: &mut Vec<Form>)
+    requires { All IsSmall rows.old.items }
+    ensures normalised { AreNormalised dim rows.old.items rows.new.items }
+    ensures small { All IsSmall rows.new.items }
+{
+    let mut kept = 0;
+    for k in 0..rows.len() {
+        let row = rows[k];
+        match divided(dim, &row) {
+            Some(new) => {
+                kept = placed(rows, kept, &new);
+            }
+            None => {
+                if row.constant < 0 {
+                    rows[0] = impossible_row();
+                    rows.truncate(1);
+                    return;
+                }
+            }
+        }
+    }
+    rows.truncate(kept);
+}
