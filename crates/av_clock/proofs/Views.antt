@@ -1,0 +1,189 @@
+-- From the fields of a clock to what is seen of it.
+use Rattle.std.proofs.Common.{◌≡◌, ◌≢◌, ℕ, ◌<◌, List, [], ◌∷◌, ◌++◌, length, get_or, set, slice_get, Option, Some, None, refl, sym, ◌∙◌, ap, subst, arith, Bool, true, false, Vec, inl, inr, replicate, if◌then◌else◌, length-append}
+use Rattle.std.specs.Prelude.{All, Contains, IfSome, IsTrue}
+use Rattle.std.specs.Option.{ForSome}
+use Rattle.std.specs.declared.alloc.Global.{Global}
+use Rattle.std.specs.Vec.{with_items}
+use Rattle.std.proofs.Math.ListN.{get_or-append}
+use Rattle.std.proofs.lemmas.Bool.{cases_lt}
+use Rattle.std.proofs.lemmas.Nat.{pow_pos}
+use Rattle.std.proofs.lemmas.Grind.{get_or_default_zero}
+use Rattle.std.proofs.lemmas.List.{with_items_is, get_or-map, length-map, get_or-replicate, length-replicate, get_or_past}
+use Rattle.std.proofs.lemmas.List.Elements.{All-contains}
+use Rattle.std.proofs.lemmas.Option.{slice_get-get_or, slice_get_within, slice_get_cases, get_or_from_slice_get}
+use Rattle.av_base.specs.Words.{IsWord}
+use Rattle.av_net.specs.declared.netlist.Port.{Port}
+use Rattle.av_net.specs.declared.netlist.Drive.{Drive}
+use Rattle.av_net.specs.declared.netlist.Step.{Step}
+use Rattle.av_net.specs.declared.netlist.Module.{Module}
+use Rattle.av_net.specs.Meaning.{Words}
+use Rattle.av_net.specs.Names.{names_of, given_names, wire_names, all_names, width_of}
+use Rattle.av_net.specs.Settled.{Settled, Agree}
+use Rattle.av_net.specs.Clocked.{Edge}
+use Rattle.av_net.specs.Sound.{IsSound}
+use Rattle.av_net.proofs.Declared.{declared_width, input_declared}
+use Rattle.av_net.proofs.Settles.{with_word, with_word_same, with_word_other, names_distinct}
+use Rattle.av_clock.specs.Named.{named, AllFit}
+use Rattle.av_clock.specs.Gates.{AreTaken, FitRegisters}
+use Rattle.av_clock.specs.Seen.{Seen, carried}
+use Rattle.av_clock.proofs.Lookup.{look_at, look_set, look_zero, contains_at}
+use Rattle.av_clock.proofs.Settling.{fit_with}
+use Rattle.av_clock.proofs.Edges.{next_fits, reset_fits}
+
+-- the words of a clock that was just made
+pub zeros_fit : (m : Module) (n : ℕ) → AllFit m (replicate n 0)
+zeros_fit m n k d lt =
+    let name = get_or (all_names m) k d in
+    let word : named m (replicate n 0) name ≡ 0 = look_zero (all_names m) (replicate n 0) name (λ i. elim (cases_lt i n) [
+      | inl within ↦ get_or-replicate n i 0 0 within
+      | inr past ↦ get_or_past (replicate n 0) i 0 (rw length-replicate past)
+    ]) in
+    rw word (pow_pos (width_of m name))
+
+-- the words after a call that was lent them as a slice
+new_items : (v : Vec ℕ Global) (before new : List ℕ) → length new ≡ length before → before ≡ v.items → (with_items v new).items ≡ new
+new_items v before new same is = with_items_is v new (same ∙ ap length is ∙ sym v.ok.0)
+
+-- there are as many
+pub size_call : (v : Vec ℕ Global) (before new : List ℕ) → length new ≡ length before → before ≡ v.items → length (with_items v new).items ≡ length v.items
+size_call v before new same is = ap length (new_items v before new same is) ∙ same ∙ ap length is
+
+-- what such a call says of its slice holds of what is seen
+pub settled_call : (m : Module) (v : Vec ℕ Global) (before new : List ℕ) → length new ≡ length before → before ≡ v.items → Settled m (named m new) → Settled m (named m (with_items v new).items)
+settled_call m v before new same is h = let P : List ℕ → Type 0 = λ words. Settled m (named m words) in subst P (sym (new_items v before new same is)) h
+
+-- and what it says of both
+pub agree_call : (s : Seen) (m : Module) (v : Vec ℕ Global) (before new : List ℕ) (names : List (List ℕ)) (b : Bool) → record { of = m; words = v.items; settled = b } ≡ s → length new ≡ length before → before ≡ v.items
+    → Agree names (named m before) (named m new) → Agree names (carried s) (named m (with_items v new).items)
+agree_call s m v before new names b view same is h =
+    let P : List ℕ → Type 0 = λ words. Agree names (named m v.items) (named m words) in
+    let Q : Seen → Type 0 = λ t. Agree names (carried t) (named m (with_items v new).items) in
+    let R : List ℕ → Type 0 = λ words. Agree names (named m words) (named m new) in
+    subst Q view (subst P (sym (new_items v before new same is)) (subst R is h))
+
+-- a port's place among all names
+port_at : (m : Module) (k : ℕ) (port : Port) → slice_get m.inputs k ≡ Some port → slice_get (all_names m) k ≡ Some port.name
+port_at m k port at =
+    let lt : k < length m.inputs = slice_get_within m.inputs k port at in
+    let inputs = names_of m.inputs in
+    let registers = names_of m.registers in
+    let count : length inputs ≡ length m.inputs = length-map m.inputs (λ (port : Port). port.name) in
+    let lt' : k < length (inputs ++ registers) = omega (arith, length-append inputs registers) in
+    let lt'' : k < length (all_names m) = omega (arith, length-append (inputs ++ registers) (wire_names m)) in
+    let here : get_or inputs k port.name ≡ (get_or m.inputs k port).name = get_or-map (λ (port : Port). port.name) m.inputs k port port.name lt in
+    let name : (get_or m.inputs k port).name ≡ port.name = ap (λ (port : Port). port.name) (get_or_from_slice_get m.inputs k port port at) in
+    slice_get-get_or (all_names m) k port.name lt''
+    ∙ ap Some (get_or-append (inputs ++ registers) (wire_names m) port.name k lt' ∙ get_or-append inputs registers port.name k (omega arith) ∙ here ∙ name)
+
+-- a word at a port
+port_set : (m : Module) (words : List ℕ) (k value : ℕ) (port : Port) → IsSound m → length words ≡ length (all_names m) → slice_get m.inputs k ≡ Some port → named m (set words k value) ≡ with_word (named m words) port.name value
+port_set m words k value port sound same at = look_set (all_names m) words k value port.name (names_distinct m sound) same (port_at m k port at)
+
+-- a word at a port fits
+pub set_fits : (m : Module) (words : List ℕ) (k value : ℕ) → IsSound m → length words ≡ length (all_names m) → k < length m.inputs → ForSome (slice_get m.inputs k) (λ port. IsWord port.width.bits value) → AllFit m words → AllFit m (set words k value)
+set_fits m words k value sound same lt fits fit = elim (slice_get_cases m.inputs k).1 [
+  | inl (port, within, found, here) ↦
+      let wrote = port_set m words k value port sound same found in
+      let wide : width_of m port.name ≡ port.width.bits = declared_width m sound port (input_declared m port (k, lt, here)) in
+      rw wrote (fit_with (width_of m) (all_names m) (named m words) port.name value fit (rw wide (fits port found)))
+  | inr (past, none) ↦ absurd (omega arith)
+]
+
+-- from each value that an option may hold
+if_some : {X : Type 0} (o : Option X) (P : X → Type 0) → ((x : X) → o ≡ Some x → P x) → IfSome o P
+if_some None P h = tt
+if_some (Some x) P h = h x refl
+
+-- the port has the word
+pub set_port : (s : Seen) (m : Module) (words : List ℕ) (b : Bool) (k value : ℕ) → record { of = m; words = words; settled = b } ≡ s → IsSound m → length words ≡ length (all_names m) → IfSome (slice_get s.of.inputs k) (λ port. named m (set words k value) port.name ≡ value)
+set_port s m words b k value view sound same =
+    let of : m ≡ s.of = ap (λ (s : Seen). s.of) view in
+    if_some (slice_get s.of.inputs k) (λ port. named m (set words k value) port.name ≡ value) (λ port at.
+    let wrote = port_set m words k value port sound same (rw of at) in
+    rw wrote (with_word_same (named m words) port.name value))
+
+-- and every other name its own
+pub set_others : (s : Seen) (m : Module) (words : List ℕ) (b : Bool) (k value : ℕ) → record { of = m; words = words; settled = b } ≡ s → IsSound m → length words ≡ length (all_names m)
+    → IfSome (slice_get s.of.inputs k) (λ port. (name : List ℕ) → name ≢ port.name → named m (set words k value) name ≡ carried s name)
+set_others s m words b k value view sound same =
+    let of : m ≡ s.of = ap (λ (s : Seen). s.of) view in
+    if_some (slice_get s.of.inputs k) (λ port. (name : List ℕ) → name ≢ port.name → named m (set words k value) name ≡ carried s name) (λ port at name other.
+    let wrote = port_set m words k value port sound same (rw of at) in
+    rw wrote (with_word_other (named m words) port.name value name other ∙ ap (λ (s : Seen). carried s name) view))
+
+-- the words after an edge: `given` are the words that the registers take, `read` the same in the clock's own room
+pub edge_call : (s : Seen) (m : Module) (v u : Vec ℕ Global) (reset b : Bool) (seen given room read lent new : List ℕ) → record { of = m; words = v.items; settled = b } ≡ s
+    → seen ≡ v.items → AreTaken m reset (named m seen) (length m.steps) given
+    → length given ≡ length room → room ≡ u.items → read ≡ (with_items u given).items
+    → length new ≡ length lent → lent ≡ v.items
+    → ((k : ℕ) → k < length m.steps → (d : Step) → named m new (get_or m.steps k d).register ≡ get_or read k 0)
+    → Edge m reset (carried s) (named m (with_items v new).items)
+edge_call s m v u reset b seen given room read lent new view same taken long own is same' own' stored k d lt =
+    let register = (get_or m.steps k d).register in
+    let P : List ℕ → Type 0 = λ words. AreTaken m reset (named m words) (length m.steps) given in
+    let Q : Seen → Type 0 = λ t. AreTaken m reset (carried t) (length m.steps) given in
+    let taken' : AreTaken m reset (carried s) (length m.steps) given = subst Q view (subst P same taken) in
+    ap (λ words. named m words register) (new_items v lent new same' own') ∙ stored k lt d ∙ ap (λ words. get_or words k 0) (is ∙ new_items u room given long own) ∙ taken' k lt d
+
+-- the words that the registers take fit them
+pub next_call : (m : Module) (v u : Vec ℕ Global) (seen given room read : List ℕ) → IsSound m → AllFit m v.items → seen ≡ v.items → AreTaken m false (named m seen) (length m.steps) given
+    → length given ≡ length room → room ≡ u.items → read ≡ (with_items u given).items → FitRegisters m read
+next_call m v u seen given room read sound fit same taken long own is =
+    let whole : read ≡ given = is ∙ new_items u room given long own in
+    rw whole (next_fits m seen given sound (rw same fit) taken)
+
+-- and so do literals
+pub reset_call : (m : Module) (u : Vec ℕ Global) (given room read : List ℕ) → IsSound m → ((old : Words) → AreTaken m true old (length m.steps) given)
+    → length given ≡ length room → room ≡ u.items → read ≡ (with_items u given).items → FitRegisters m read
+reset_call m u given room read sound taken long own is =
+    let whole : read ≡ given = is ∙ new_items u room given long own in
+    rw whole (reset_fits m (λ name. 0) given sound (taken (λ name. 0)))
+
+-- the words after a store fit
+pub fit_call : (m : Module) (v : Vec ℕ Global) (before new : List ℕ) → length new ≡ length before → before ≡ v.items → AllFit m new → AllFit m (with_items v new).items
+fit_call m v before new same is h = let P : List ℕ → Type 0 = AllFit m in subst P (sym (new_items v before new same is)) h
+
+-- the place of what a drive drives is there
+pub value_within : (m : Module) (v : Vec ℕ Global) (k place : ℕ) → length v.items ≡ length (all_names m) → k < length m.drives → ((d : Drive) → slice_get (all_names m) place ≡ Some (get_or m.drives k d).target) → place < v.len
+value_within m v k place same lt at = elim (slice_get_cases m.drives k).1 [
+  | inl (drive, within, found, here) ↦
+      let within' : place < length (all_names m) = slice_get_within (all_names m) place (get_or m.drives k drive).target (at drive) in
+      let long : v.len ≡ length v.items = v.ok.0 in
+      omega arith
+  | inr (past, none) ↦ absurd (omega arith)
+]
+
+-- its word is the one that is seen
+pub value_word : (s : Seen) (m : Module) (items : List ℕ) (b : Bool) (k place word : ℕ) → record { of = m; words = items; settled = b } ≡ s → IsSound m → length items ≡ length (all_names m)
+    → ((d : Drive) → slice_get (all_names m) place ≡ Some (get_or m.drives k d).target) → word ≡ get_or items place word → (d : Drive) → word ≡ carried s (get_or s.of.drives k d).target
+value_word s m items b k place word view sound same at is d =
+    let P : Seen → Type 0 = λ t. word ≡ carried t (get_or t.of.drives k d).target in
+    let target = (get_or m.drives k d).target in
+    let within : place < length items = rw same (slice_get_within (all_names m) place target (at d)) in
+    subst P view (is ∙ get_or_default_zero items place word within ∙ sym (look_at (all_names m) items place target (names_distinct m sound) same (at d)))
+
+-- and fits
+pub value_fits : (s : Seen) (m : Module) (items : List ℕ) (b : Bool) (k place word : ℕ) → record { of = m; words = items; settled = b } ≡ s → AllFit m items
+    → ((d : Drive) → slice_get (all_names m) place ≡ Some (get_or m.drives k d).target) → ((d : Drive) → word ≡ carried s (get_or s.of.drives k d).target) → (d : Drive) → IsWord (width_of s.of (get_or s.of.drives k d).target) word
+value_fits s m items b k place word view fit at is d =
+    let P : Seen → Type 0 = λ t. IsWord (width_of t.of (get_or t.of.drives k d).target) (carried t (get_or t.of.drives k d).target) in
+    let target = (get_or m.drives k d).target in
+    rw (is d) (subst P view (All-contains (λ name. IsWord (width_of m name) (named m items name)) (all_names m) target fit (contains_at (all_names m) place target (at d))))
+
+-- a clock that says so is settled
+pub value_settled : (s : Seen) (m : Module) (items : List ℕ) (b : Bool) → record { of = m; words = items; settled = b } ≡ s → (IsTrue b → Settled m (named m items)) → IsTrue s.settled → Settled s.of (carried s)
+value_settled s m items b view settled flag =
+    let P : Seen → Type 0 = λ t. Settled t.of (carried t) in
+    subst P view (settled (ap (λ (t : Seen). t.settled) view ∙ flag))
+
+-- the place of a drive, as it is seen
+pub drive_seen : (s : Seen) (m : Module) (items : List ℕ) (b : Bool) (k : ℕ) → record { of = m; words = items; settled = b } ≡ s → k < length s.of.drives → k < length m.drives
+drive_seen s m items b k view lt = let P : Seen → Type 0 = λ t. k < length t.of.drives in subst P (sym view) lt
+
+-- the place of a port, as it is seen
+pub port_seen : (s : Seen) (m : Module) (items : List ℕ) (b : Bool) (k : ℕ) → record { of = m; words = items; settled = b } ≡ s → k < length s.of.inputs → k < length m.inputs
+port_seen s m items b k view lt = let P : Seen → Type 0 = λ t. k < length t.of.inputs in subst P (sym view) lt
+
+-- and that a value fits it
+pub fits_seen : (s : Seen) (m : Module) (items : List ℕ) (b : Bool) (k value : ℕ) → record { of = m; words = items; settled = b } ≡ s → ForSome (slice_get s.of.inputs k) (λ port. IsWord port.width.bits value) → ForSome (slice_get m.inputs k) (λ port. IsWord port.width.bits value)
+fits_seen s m items b k value view fits = let P : Seen → Type 0 = λ t. ForSome (slice_get t.of.inputs k) (λ port. IsWord port.width.bits value) in subst P (sym view) fits

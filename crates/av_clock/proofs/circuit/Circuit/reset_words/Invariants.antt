@@ -1,0 +1,7 @@
+use Rattle.std.proofs.Common.{true}
+use Rattle.av_net.specs.Meaning.{Words}
+use Rattle.av_clock.specs.Gates.{AreTaken}
+use Rattle.av_clock.proofs.circuit.Circuit.reset_words.Given as goal
+
+abbrev pub invariant-loop-i : goal.invariant-loop-i
+invariant-loop-i l = (old : Words) → AreTaken l.self true old l.i l.next

@@ -1,0 +1,16 @@
+-- A clock as it is seen.
+use Rattle.std.specs.Prelude.{ℕ, Bool, List}
+use Rattle.av_net.specs.declared.netlist.Module.{Module}
+use Rattle.av_net.specs.Meaning.{Words}
+use Rattle.av_clock.specs.Named.{named}
+
+-- its module, the words of all names in the order of declarations (input ports, registers, outputs and
+-- wires), and whether it is settled
+pub record Seen : Type 0 where
+  pub of : Module
+  pub words : List ℕ
+  pub settled : Bool
+
+-- the words by name
+abbrev pub carried : Seen → Words
+carried s = named s.of s.words

@@ -1,0 +1,115 @@
+ghost use Rattle.std.specs.Prelude.{◌≡◌, ◌≢◌, ◌<◌, ℕ, List as Items, length, false, true, replicate, IfOk, IfSome, IsTrue, slice_get, slice_set, slice_index_or};
+ghost use Rattle.std.specs.Option.{ForSome};
+ghost use Rattle.av_base.specs.Words.{IsWord};
+ghost use Rattle.av_net.specs.Names.{all_names, given_names, names_of, width_of};
+ghost use Rattle.av_net.specs.Settled.{Settled, Agree};
+ghost use Rattle.av_net.specs.Clocked.{Edge};
+ghost use Rattle.av_net.specs.Sound.{IsSound};
+ghost use Rattle.av_clock.specs.Seen.{carried};
+
+use crate::circuit::Circuit;
+use av_base::Memory;
+use av_net::Module;
+use std::alloc::Global;
+use std::marker::Model;
+
+/// A module that is clocked.
+#[derive(Drop)]
+pub struct Clock<'a> {
+    circuit: Circuit<'a>,
+    words: Vec<u64>,
+    next: Vec<u64>,
+    settled: bool,
+}
+
+impl<'a> Model for Clock<'a> {
+    ghost use Rattle.av_clock.specs.Seen.{Seen};
+
+    ghost Value = { Seen };
+
+    ghost use Rattle.av_clock.specs.Clock.{seen, IsKept};
+
+    ghost view = { seen };
+
+    ghost invariant = { IsKept };
+}
+
+impl<'a> Clock<'a> {
+    /// A clock of a sound module, with all words 0 and not settled.
+    pub fn new(alloc: Global, of: &'a Module) -> Result<Clock<'a>, Memory>
+        requires { IsSound of.now }
+        ensures of { IfOk result (λ clock. clock.of ≡ of.now) }
+        ensures words { IfOk result (λ clock. clock.words ≡ replicate (length (all_names of.now)) 0) }
+        ensures flag { IfOk result (λ clock. clock.settled ≡ false) }
+    {
+        let circuit = Circuit::new(alloc, of)?;
+        let words = vec![in alloc; 0u64; circuit.size()]?;
+        let next = vec![in alloc; 0u64; circuit.steps()]?;
+        Ok(Clock {
+            circuit,
+            words,
+            next,
+            settled: false,
+        })
+    }
+
+    /// Makes every wire and output the value of its `assign`.
+    pub fn settle(&mut self)
+        ensures of { self.new.of ≡ self.old.of }
+        ensures settled { Settled self.new.of (carried self.new) }
+        ensures given { Agree (given_names self.new.of) (carried self.old) (carried self.new) }
+        ensures flag { IsTrue self.new.settled }
+    {
+        self.circuit.settle(&mut self.words);
+        self.settled = true;
+    }
+
+    /// The word of a wire or output, by its place in the module's `drives`.
+    pub fn value(&self, wire: u32) -> u64
+        requires place { wire < length self.now.of.drives }
+        requires settled { IsTrue self.now.settled }
+        ensures word { (d : _) → result ≡ carried self.now (slice_index_or self.now.of.drives wire d).target }
+        ensures fits { (d : _) → IsWord (width_of self.now.of (slice_index_or self.now.of.drives wire d).target) result }
+        ensures settled { Settled self.now.of (carried self.now) }
+    {
+        self.words[self.circuit.target(wire as usize)]
+    }
+
+    /// Presents a value at an input port, by its place in the module's `inputs`.
+    pub fn set(&mut self, port: u32, value: u64)
+        requires port { port < length self.old.of.inputs }
+        requires fits { ForSome (slice_get self.old.of.inputs port) (λ p. IsWord p.width.bits value) }
+        ensures words { self.new ≡ record self.old { words = slice_set self.old.words port value; settled = false } }
+        ensures port { IfSome (slice_get self.old.of.inputs port) (λ p. carried self.new p.name ≡ value) }
+        ensures others { IfSome (slice_get self.old.of.inputs port) (λ p. (name : Items ℕ) → name ≢ p.name
+            → carried self.new name ≡ carried self.old name) }
+    {
+        self.words[port as usize] = value;
+        self.settled = false;
+    }
+
+    /// One edge with `rst` 0: all registers take the words of their operands together.
+    pub fn tick(&mut self)
+        requires { IsTrue self.old.settled }
+        ensures of { self.new.of ≡ self.old.of }
+        ensures edge { Edge self.new.of false (carried self.old) (carried self.new) }
+        ensures ports { Agree (names_of self.new.of.inputs) (carried self.old) (carried self.new) }
+        ensures flag { self.new.settled ≡ false }
+    {
+        self.circuit.next_words(&self.words, &mut self.next);
+        self.circuit.store(&self.next, &mut self.words);
+        self.settled = false;
+    }
+
+    /// One edge with `rst` 1: all registers take their literals.
+    pub fn reset(&mut self)
+        ensures of { self.new.of ≡ self.old.of }
+        ensures edge { Edge self.new.of true (carried self.old) (carried self.new) }
+        ensures ports { Agree (names_of self.new.of.inputs) (carried self.old) (carried self.new) }
+        ensures flag { self.new.settled ≡ false }
+    {
+        self.circuit.reset_words(&mut self.next);
+        self.circuit.store(&self.next, &mut self.words);
+        self.settled = false;
+    }
+}
