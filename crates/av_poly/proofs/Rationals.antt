@@ -1,5 +1,5 @@
 -- Whole points among the rational ones.
-use Rattle.std.proofs.Common.{◌≡◌, ℕ, arith, ℤ, pos, ◌+ℤ◌, ◌*ℤ◌, ◌≤ℤ◌, List, [], ◌∷◌, length}
+use Rattle.std.proofs.Common.{ℕ, arith, ℤ, pos, List, [], ◌∷◌}
 use Rattle.std.proofs.lemmas.Int.{ints}
 use Rattle.av_affine.specs.declared.form.Form.{Form}
 use Rattle.av_poly.specs.Points.{Set, Has, Holds}

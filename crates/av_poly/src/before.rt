@@ -10,7 +10,7 @@ ghost use Rattle.av_poly.specs.Preimages.{rows_before};
 use crate::row::products;
 use arrayvec::ArrayVec;
 use av_affine::{Form, Map};
-use av_base::Memory;
+use av_base::{List, Memory};
 use std::alloc::Global;
 
 // The sum of the products of numbers within the limits.
@@ -86,13 +86,13 @@ fn row_before(row: &Form, map: &Map) -> Form
 }
 
 // Each row of the map's image, as a row of the map's own indices.
-pub(crate) fn each_before(alloc: Global, rows: &[Form], map: &Map) -> Result<Vec<Form>, Memory>
+pub(crate) fn each_before(alloc: Global, rows: &[Form], map: &Map) -> Result<List<Form>, Memory>
     requires rows { All IsWithinLimits rows.now }
     requires map { All IsWithinLimits map.now.rows }
-    ensures value { IfOk result (λ before. before.items ≡ rows_before map.now rows.now) }
-    ensures small { IfOk result (λ before. All IsSmall before.items) }
+    ensures value { IfOk result (λ before. before ≡ rows_before map.now rows.now) }
+    ensures small { IfOk result (λ before. All IsSmall before) }
 {
-    let mut before = Vec::new(alloc);
+    let mut before = List::new(alloc);
     for row in rows {
         before.push(row_before(row, map))?;
     }

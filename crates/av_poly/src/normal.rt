@@ -1,12 +1,13 @@
 //! Rows divided by the greatest common divisor of their coefficients, in place.
 
-ghost use Rattle.std.specs.Prelude.{ℤ, ◌≡◌, ◌≢◌, ◌≤◌, ◌<◌, ◌^◌, ◌<ℤ◌, pos, length, map, max, take, All, IfSome, IfNone, IsTrue, false, nat_lt, if◌then◌else◌, slice_index_or, vec_len};
+ghost use Rattle.std.specs.Prelude.{ℤ, ◌≡◌, ◌≢◌, ◌≤◌, ◌<◌, ◌+◌, ◌^◌, ◌<ℤ◌, pos, length, map, max, take, All, IfSome, IfNone, IsTrue, false, nat_lt, if◌then◌else◌, slice_index_or};
 ghost use Rattle.std.specs.Int.{IsGcd, int_div_euclid, int_min};
 ghost use Rattle.av_affine.specs.Numbers.{AtMost, IsGcdOf};
 ghost use Rattle.av_poly.specs.Points.{IsSmall};
 ghost use Rattle.av_poly.specs.Normal.{counted, IsConstant, IsDivided, AreNormalised, impossible, Lowers, Places};
 
 use av_affine::Form;
+use av_base::List;
 
 // The greatest common divisor of two numbers.
 fn gcd(a: u64, b: u64) -> u64
@@ -99,15 +100,15 @@ fn lesser(row: &Form, constant: i64) -> Form
 }
 
 // Lowers the constant of the one of the first rows that has equal coefficients; false where none has.
-fn lowered(rows: &mut Vec<Form>, kept: usize, row: &Form) -> bool
-    requires { kept ≤ vec_len rows.old }
-    ensures yes { IsTrue result → Lowers kept row.now rows.old.items rows.new.items }
-    ensures no { result ≡ false → (rows.new.items ≡ rows.old.items) × All (λ other. other.coef ≢ row.now.coef) (take kept rows.old.items) }
+fn lowered(rows: &mut List<Form>, kept: usize, row: &Form) -> bool
+    requires { kept ≤ length rows.old }
+    ensures yes { IsTrue result → Lowers kept row.now rows.old rows.new }
+    ensures no { result ≡ false → (rows.new ≡ rows.old) × All (λ other. other.coef ≢ row.now.coef) (take kept rows.old) }
 {
     for k in 0..kept {
-        let other = rows[k];
+        let other = rows.as_slice()[k];
         if other.coef == row.coef {
-            rows[k] = lesser(&other, row.constant);
+            rows.set(k, lesser(&other, row.constant));
             return true;
         }
     }
@@ -115,14 +116,15 @@ fn lowered(rows: &mut Vec<Form>, kept: usize, row: &Form) -> bool
 }
 
 // Lets a row take its place among the first rows, and counts those.
-fn placed(rows: &mut Vec<Form>, kept: usize, row: &Form) -> usize
-    requires { kept < vec_len rows.old }
-    ensures { Places kept row.now rows.old.items rows.new.items result }
+fn placed(rows: &mut List<Form>, kept: usize, row: &Form) -> usize
+    requires within { kept < length rows.old }
+    requires room { kept + 1 < 2 ^ 64 }
+    ensures { Places kept row.now rows.old rows.new result }
 {
     if lowered(rows, kept, row) {
         kept
     } else {
-        rows[kept] = *row;
+        rows.set(kept, *row);
         kept + 1
     }
 }
@@ -138,21 +140,21 @@ fn impossible_row() -> Form
 }
 
 // Normalises rows.
-pub(crate) fn normalise_rows(dim: u8, rows: &mut Vec<Form>)
-    requires { All IsSmall rows.old.items }
-    ensures normalised { AreNormalised dim rows.old.items rows.new.items }
-    ensures small { All IsSmall rows.new.items }
+pub(crate) fn normalise_rows(dim: u8, rows: &mut List<Form>)
+    requires { All IsSmall rows.old }
+    ensures normalised { AreNormalised dim rows.old rows.new }
+    ensures small { All IsSmall rows.new }
 {
     let mut kept = 0;
-    for k in 0..rows.len() {
-        let row = rows[k];
+    for k in 0..rows.as_slice().len() {
+        let row = rows.as_slice()[k];
         match divided(dim, &row) {
             Some(new) => {
                 kept = placed(rows, kept, &new);
             }
             None => {
                 if row.constant < 0 {
-                    rows[0] = impossible_row();
+                    rows.set(0, impossible_row());
                     rows.truncate(1);
                     return;
                 }

@@ -34,7 +34,7 @@ fn part(alloc: Global, dim: u8, kept: &[Form], row: &Form) -> Result<Poly, Memor
         Has part z ↔ ((length z ≡ dim) × Holds kept.now z × (HoldsAt row.now z → ⊥))) }
     ensures dim { IfOk result (λ part. part.dim ≡ dim) }
 {
-    let mut rows = Vec::new(alloc);
+    let mut rows = List::new(alloc);
     append(&mut rows, kept)?;
     rows.push(complement(row))?;
     Ok(Poly { dim, rows })
@@ -53,7 +53,7 @@ pub(crate) fn parts(
     ensures { IfOk result (AreParts dim within.now rows.now) }
 {
     let mut parts = List::new(alloc);
-    let mut kept = Vec::new(alloc);
+    let mut kept = List::new(alloc);
     append(&mut kept, within)?;
     for row in rows {
         parts.push(part(alloc, dim, kept.as_slice(), row)?)?;

@@ -25,7 +25,7 @@ use std::marker::Model;
 #[derive(Debug, Drop)]
 pub struct Poly {
     pub dim: u8,
-    pub rows: Vec<Form>,
+    pub rows: List<Form>,
 }
 
 /// Bounds of each index, with 0 at the places past the set's dimension.
@@ -41,9 +41,9 @@ impl Model for Poly {
 
     ghost Value = { Set };
 
-    ghost view = { λ p. record { dim = p.dim; rows = p.rows.items } };
+    ghost view = { λ p. record { dim = p.dim; rows = p.rows } };
 
-    ghost invariant = { λ p. All IsSmall p.rows.items };
+    ghost invariant = { λ p. All IsSmall p.rows };
 }
 
 impl Poly {
@@ -63,7 +63,7 @@ impl Poly {
         ensures dim { IfOk result (λ both. both.dim ≡ self.now.dim) }
         ensures rows { IfOk result (λ both. both.rows ≡ self.now.rows ++ other.now.rows) }
     {
-        let mut rows = Vec::new(alloc);
+        let mut rows = List::new(alloc);
         append(&mut rows, self.rows.as_slice())?;
         append(&mut rows, other.rows.as_slice())?;
         Ok(Poly {

@@ -6,7 +6,7 @@ ghost use Rattle.av_affine.specs.Forms.{value_at};
 ghost use Rattle.av_poly.specs.Points.{IsSmall, Holds};
 
 use av_affine::Form;
-use av_base::Memory;
+use av_base::{List, Memory};
 
 // The product of small numbers.
 pub(crate) fn product(a: i64, b: i64) -> i128
@@ -60,8 +60,8 @@ pub(crate) fn each_holds(rows: &[Form], z: &[i64]) -> bool
 }
 
 // Puts rows behind others.
-pub(crate) fn append(rows: &mut Vec<Form>, more: &[Form]) -> Result<(), Memory>
-    ensures { OnOk result (rows.new.items ≡ rows.old.items ++ more.now) }
+pub(crate) fn append(rows: &mut List<Form>, more: &[Form]) -> Result<(), Memory>
+    ensures { OnOk result (rows.new ≡ rows.old ++ more.now) }
 {
     for row in more {
         rows.push(*row)?;

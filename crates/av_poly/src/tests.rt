@@ -23,7 +23,7 @@ fn is_small(row: &Form) -> bool
 fn set(alloc: Global, dim: u8, rows: &[Form]) -> Result<Poly, Memory>
     ensures { IfOk result (λ set. set.dim ≡ dim) }
 {
-    let mut kept: Vec<Form> = Vec::new(alloc);
+    let mut kept: List<Form> = List::new(alloc);
     for row in rows {
         if is_small(row) {
             kept.push(*row)?;
@@ -80,6 +80,7 @@ fn left(alloc: Global, poly: &Poly, within: &Poly) -> Result<Option<List<Poly>>,
     if fits
         && poly
             .rows
+            .as_slice()
             .iter()
             .all(|row| row.constant.unsigned_abs() < 1 << 40)
     {

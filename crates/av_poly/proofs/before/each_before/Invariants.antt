@@ -6,6 +6,6 @@ use Rattle.av_poly.proofs.before.each_before.Given as goal
 
 abbrev pub invariant-loop-row : goal.invariant-loop-row
 invariant-loop-row l = record {
-  so_far : l.before.items ≡ rows_before l.map (take l.row-index l.rows);
-  small : All IsSmall l.before.items;
+  so_far : l.before ≡ rows_before l.map (take l.row-index l.rows);
+  small : All IsSmall l.before;
 }

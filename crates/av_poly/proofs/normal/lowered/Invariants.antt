@@ -4,6 +4,6 @@ use Rattle.av_poly.proofs.normal.lowered.Given as goal
 
 abbrev pub invariant-loop-k : goal.invariant-loop-k
 invariant-loop-k l = record {
-  same : l.rows.items ≡ l.fn.rows.items;
-  none : All (λ other. other.coef ≢ l.row.coef) (take l.k l.fn.rows.items);
+  same : l.rows ≡ l.fn.rows;
+  none : All (λ other. other.coef ≢ l.row.coef) (take l.k l.fn.rows);
 }

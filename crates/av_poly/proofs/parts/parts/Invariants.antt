@@ -6,7 +6,7 @@ use Rattle.av_poly.proofs.parts.parts.Given as goal
 
 abbrev pub invariant-loop-row : goal.invariant-loop-row
 invariant-loop-row l = record {
-  kept : l.kept.items ≡ l.within ++ take l.row-index l.rows;
-  small : All IsSmall l.kept.items;
+  kept : l.kept ≡ l.within ++ take l.row-index l.rows;
+  small : All IsSmall l.kept;
   parts : AreParts l.dim l.within (take l.row-index l.rows) l.parts;
 }

@@ -2,4 +2,4 @@ use Rattle.std.proofs.Common.{◌≡◌, ◌++◌, take}
 use Rattle.av_poly.proofs.row.append.Given as goal
 
 abbrev pub invariant-loop-row : goal.invariant-loop-row
-invariant-loop-row l = l.rows.items ≡ l.fn.rows.items ++ take l.row-index l.more
+invariant-loop-row l = l.rows ≡ l.fn.rows ++ take l.row-index l.more

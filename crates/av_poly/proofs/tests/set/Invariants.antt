@@ -3,4 +3,4 @@ use Rattle.av_poly.specs.Points.{IsSmall}
 use Rattle.av_poly.proofs.tests.set.Given as goal
 
 abbrev pub invariant-loop-row : goal.invariant-loop-row
-invariant-loop-row l = All IsSmall l.kept.items
+invariant-loop-row l = All IsSmall l.kept

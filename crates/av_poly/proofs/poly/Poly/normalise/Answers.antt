@@ -8,5 +8,5 @@ returns-clause-points c = λ z. normal_set _ c.args.self.now z (search rules) (s
 
 pub returns-clause-normal : goal.returns-clause-normal
 returns-clause-normal c =
-    let s : AreNormalised c.self.inside.dim c.args.self.now.rows c.normalise_rows.new.rows.items = search rules in
-    normal_is (record { dim = c.self.inside.dim; rows = c.normalise_rows.new.rows.items }) c.args.self.now.rows s
+    let s : AreNormalised c.self.inside.dim c.args.self.now.rows c.normalise_rows.new.rows = search rules in
+    normal_is (record { dim = c.self.inside.dim; rows = c.normalise_rows.new.rows }) c.args.self.now.rows s
