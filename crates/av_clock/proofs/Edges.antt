@@ -1,6 +1,6 @@
 -- The words of registers at an edge, over words by place.
-use Rattle.std.proofs.Common.{◌≡◌, ◌≢◌, ℕ, ◌+◌, ◌<◌, ◌≤◌, List, [], ◌∷◌, length, get_or, set, slice_get, Some, refl, sym, ◌∙◌, ap, subst, arith, inl, inr, Bool, true, false, if◌then◌else◌}
-use Rattle.std.specs.Prelude.{All, Contains}
+use Rattle.std.proofs.Common.{◌≡◌, ◌≢◌, ℕ, ◌+◌, ◌<◌, ◌≤◌, List, length, get_or, set, refl, sym, ◌∙◌, ap, subst, arith, inl, inr, Bool, true, false, if◌then◌else◌}
+use Rattle.std.specs.Prelude.{Contains}
 use Rattle.std.proofs.lemmas.Bool.{cases_lt}
 use Rattle.std.proofs.lemmas.List.{get_or-map, length-map, get_or_default, get_or-set_same, get_or-set_other}
 use Rattle.std.proofs.lemmas.Option.{slice_get_within, slice_get_cases}
@@ -8,9 +8,9 @@ use Rattle.av_base.specs.Words.{IsWord}
 use Rattle.av_net.specs.declared.netlist.Step.{Step}
 use Rattle.av_net.specs.declared.netlist.Module.{Module}
 use Rattle.av_net.specs.Meaning.{Words, word_of, operand_width}
-use Rattle.av_net.specs.Names.{AreDistinct, IsAmong, names_of, given_names, wire_names, all_names, targets_of, registers_of, width_of}
+use Rattle.av_net.specs.Names.{AreDistinct, names_of, given_names, wire_names, all_names, targets_of, registers_of, width_of}
 use Rattle.av_net.specs.Settled.{Agree}
-use Rattle.av_net.specs.Sound.{IsSound, IsFitting}
+use Rattle.av_net.specs.Sound.{IsSound}
 use Rattle.av_net.proofs.Distinct.{apart, front_distinct, rest_distinct}
 use Rattle.av_net.proofs.Cycles.{is_declared, register_contained}
 use Rattle.av_net.proofs.Fits.{word_fits}
@@ -21,7 +21,6 @@ use Rattle.av_clock.specs.declared.gate.Reading.TheVariants.{At}
 use Rattle.av_clock.specs.Named.{named, AllFit}
 use Rattle.av_clock.specs.Gates.{reading_word, IsWithin, IsStepped, AreStepped, AreTaken, FitRegisters}
 use Rattle.av_clock.proofs.Lookup.{look_set}
-use Rattle.av_clock.proofs.Resolved.{at_item}
 use Rattle.av_clock.proofs.Settling.{read_word, read_within, fit_with}
 
 -- a flip-flop with its step

@@ -5,3 +5,4 @@ pub mod Settling
 pub mod Edges
 pub mod Views
 pub mod SampleSound
+pub mod Runs

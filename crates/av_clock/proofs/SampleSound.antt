@@ -10,7 +10,7 @@ use Rattle.av_net.specs.declared.netlist.Port.{Port}
 use Rattle.av_net.specs.declared.netlist.Drive.{Drive}
 use Rattle.av_net.specs.declared.netlist.Step.{Step}
 use Rattle.av_net.specs.Meaning.{EachOperand, operand_width}
-use Rattle.av_net.specs.Names.{clk, rst, names_of, given_names, wire_names, all_names, targets_of, registers_of, AreDistinct, IsAmong, width_of}
+use Rattle.av_net.specs.Names.{clk, rst, names_of, given_names, wire_names, all_names, targets_of, registers_of, IsAmong, width_of}
 use Rattle.av_net.specs.Sound.{IsSound, IsFitting, SuitsWidth, ComparesByOrder}
 use Rattle.av_net.proofs.Tested.{is_among, contains_tested, distinct_tested}
 use Rattle.av_clock.specs.Sample.{sample_inputs, sample_wires, sample_outputs, sample_registers, sample_drives, sample_steps, sample_module}

@@ -1,6 +1,5 @@
 -- Drives taken in order, over words by place.
-use Rattle.std.proofs.Common.{◌≡◌, ◌≢◌, ℕ, ◌+◌, ◌<◌, ◌≤◌, List, [], ◌∷◌, length, get_or, set, drop, slice_get, Some, refl, sym, ◌∙◌, ap, subst, arith, inl, inr, add-one, drop-cons}
-use Rattle.std.specs.Prelude.{All, Contains}
+use Rattle.std.proofs.Common.{◌≡◌, ℕ, ◌+◌, ◌<◌, ◌≤◌, List, [], ◌∷◌, length, get_or, set, drop, slice_get, Some, refl, sym, ◌∙◌, ap, subst, arith, inl, inr, add-one, drop-cons}
 use Rattle.std.proofs.lemmas.List.{drop_all}
 use Rattle.std.proofs.lemmas.List.Elements.{All-weaker}
 use Rattle.std.proofs.lemmas.Option.{slice_get_within, slice_get_cases}
@@ -24,7 +23,7 @@ use Rattle.av_clock.specs.declared.gate.Gate.{Gate}
 use Rattle.av_clock.specs.declared.gate.Gate.TheVariants.{Buffer, Operator, Comparator, Multiplexer}
 use Rattle.av_clock.specs.declared.gate.Assignment.{Assignment}
 use Rattle.av_clock.specs.Named.{looked_up, named, AllFit}
-use Rattle.av_clock.specs.Gates.{reading_word, IsWithin, Takes, CanTake, gate_word, IsRead, ArePaired, IsResolved, IsAssigned, AreAssigned}
+use Rattle.av_clock.specs.Gates.{reading_word, IsWithin, Takes, CanTake, gate_word, IsRead, IsResolved, IsAssigned, AreAssigned}
 use Rattle.av_clock.proofs.Lookup.{look_at, look_set, same_or_not}
 use Rattle.av_clock.proofs.Resolved.{at_item}
 

@@ -1,4 +1,4 @@
-use Rattle.std.proofs.Common.{subst, ◌∙◌, rules, arith, ◌<◌, length}
+use Rattle.std.proofs.Common.{subst, ◌∙◌, arith, ◌<◌, length}
 use Rattle.av_net.specs.Sound.{IsSound}
 use Rattle.av_clock.proofs.Settling.{for_item, assignment_takes, target_within, settles_more, past_items, have_settled}
 use Rattle.av_clock.proofs.circuit.Circuit.settle.Goals as goal

@@ -1,5 +1,4 @@
-use Rattle.std.proofs.Common.{◌≡◌, List, ℕ, ◌∙◌, sym, subst, length, false, true, arith}
-use Rattle.av_net.specs.Names.{all_names}
+use Rattle.std.proofs.Common.{◌≡◌, List, ℕ, ◌∙◌, sym, subst, false, true}
 use Rattle.av_net.specs.Sound.{IsSound}
 use Rattle.av_clock.specs.Named.{AllFit}
 use Rattle.av_clock.proofs.Views.{zeros_fit}

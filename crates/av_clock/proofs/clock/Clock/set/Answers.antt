@@ -1,6 +1,5 @@
-use Rattle.std.proofs.Common.{◌≡◌, false, true, ap, subst, sym, ◌∙◌}
+use Rattle.std.proofs.Common.{◌≡◌, false, true, ◌∙◌}
 use Rattle.std.proofs.Math.ListN.{length-set}
-use Rattle.av_clock.specs.Seen.{Seen}
 use Rattle.av_clock.proofs.Views.{set_fits, set_port, set_others, port_seen, fits_seen}
 use Rattle.av_clock.proofs.clock.Clock.set.Goals as goal
 

@@ -1,11 +1,10 @@
-use Rattle.std.proofs.Common.{ℕ, List, ◌≡◌, ap, sym, subst, ◌∙◌, Option}
+use Rattle.std.proofs.Common.{ap, sym, subst, ◌∙◌}
 use Rattle.std.specs.Ordering.{nat_cmp}
 use Rattle.std.specs.Cmp.Lexicographic.{slice_cmp}
 use Rattle.std.specs.BTreeMap as tree
 use Rattle.std.specs.Prelude.{Contains}
 use Rattle.av_net.specs.declared.netlist.Module.{Module}
 use Rattle.av_net.specs.Names.{all_names}
-use Rattle.av_clock.specs.declared.resolver.Declared.{Declared}
 use Rattle.av_clock.proofs.Found.{Find, IsFound, is_found, found_some, found_read}
 use Rattle.av_clock.proofs.resolver.Resolver.declared.Goals as goal
 
