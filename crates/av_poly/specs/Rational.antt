@@ -1,10 +1,12 @@
 -- Rational points and rays of rows, and the rational bounds of an index, in whole numbers (Schrijver, Theory of Linear and
 -- Integer Programming; textbook). A row is one list here, its constant before its coefficients; the list m, y is the
 -- rational point y/m for a positive m, and a direction for m = 0. So elimination and scaling keep to whole numbers.
-use Rattle.std.specs.Prelude.{◌≡◌, ◌≢◌, ℕ, ℤ, pos, ◌*ℤ◌, ◌≤ℤ◌, ◌<ℤ◌, ◌⊎◌, List, ◌∷◌, length, map, Any, slice_index_or}
+use Rattle.std.specs.Prelude.{◌≡◌, ◌≢◌, ℕ, ℤ, pos, ◌<◌, ◌≤◌, ◌*ℤ◌, ◌≤ℤ◌, ◌<ℤ◌, ◌⊎◌, List, ◌∷◌, length, map, Any, slice_index_or}
 use Rattle.std.specs.List.{AllByRecursion}
 use Rattle.av_affine.specs.declared.form.Form.{Form}
 use Rattle.av_affine.specs.Numbers.{dot}
+use Rattle.av_poly.specs.declared.poly.Bounds.{Bounds}
+use Rattle.av_poly.specs.Points.{Set}
 
 -- the rows as lists: the constant, then the coefficients
 abbrev pub homogeneous : List Form → List (List ℤ)
@@ -37,6 +39,10 @@ pub record IsDirection (dim : ℕ) (rows : List (List ℤ)) (d : List ℤ) : Typ
 abbrev pub IsRationalRay : ℕ → List (List ℤ) → List ℤ → Type 0
 IsRationalRay dim rows d = IsDirection dim rows d × Any (λ x. x ≢ pos 0) d
 
+-- the rows have a rational ray
+abbrev pub HasRationalRay : ℕ → List (List ℤ) → Type 0
+HasRationalRay dim rows = (d : List ℤ) × IsRationalRay dim rows d
+
 -- the whole number x lies between the rational bounds of an index: some rational point has it there
 abbrev pub IsWithinBounds : ℕ → List (List ℤ) → ℕ → ℤ → Type 0
 IsWithinBounds dim rows index x = (m : ℤ) × (y : List ℤ) × IsRationalPoint dim rows m y × (entry_of y index ≡ x *ℤ m)
@@ -64,3 +70,28 @@ pub record Spans (dim : ℕ) (rows : List (List ℤ)) (index : ℕ) (low high : 
   pub least : (x : ℤ) → IsWithinBounds dim rows index x → low ≤ℤ x
   pub greatest : (x : ℤ) → IsWithinBounds dim rows index x → x ≤ℤ high
   pub bounded : IsBounded dim rows index
+
+-- the bounds of a set: it has a rational point, and they are of each index the least and the greatest whole number between
+-- its rational bounds, with 0 at the places past the dimension
+pub record AreBounds (set : Set) (bounds : Bounds) : Type 0 where
+  pub point : HasRationalPoint set.dim (homogeneous set.rows)
+  pub spans : (index : ℕ) → index < set.dim → Spans set.dim (homogeneous set.rows) index (entry_of bounds.low index) (entry_of bounds.high index)
+  pub rest : (index : ℕ) → set.dim ≤ index → (entry_of bounds.low index ≡ pos 0) × (entry_of bounds.high index ≡ pos 0)
+
+-- the set has a rational point, and this is the first index without a finite bound on one side
+pub record IsFirstEndless (set : Set) (index : ℕ) : Type 0 where
+  pub point : HasRationalPoint set.dim (homogeneous set.rows)
+  pub within : index < set.dim
+  pub endless : IsEndless set.dim (homogeneous set.rows) index
+  pub before : (other : ℕ) → other < index → IsBounded set.dim (homogeneous set.rows) other
+
+-- every index has finite bounds, and some index has no whole number between them
+pub record HasGap (set : Set) : Type 0 where
+  pub bounded : (index : ℕ) → index < set.dim → IsBounded set.dim (homogeneous set.rows) index
+  pub gap : ℕ
+  pub within : gap < set.dim
+  pub no_whole : (x : ℤ) → IsWithinBounds set.dim (homogeneous set.rows) gap x → ⊥
+
+-- the set has no bounds to tell: no rational point, or an index with no whole number between its bounds
+abbrev pub HasNoBounds : Set → Type 0
+HasNoBounds set = (HasRationalPoint set.dim (homogeneous set.rows) → ⊥) ⊎ HasGap set

@@ -1,0 +1,14 @@
+pub mod Core
+pub mod Lift
+pub mod Steps
+pub mod Merging
+pub mod Growth
+pub mod Shadows
+pub mod Loops
+pub mod Progress
+pub mod Reading
+pub mod Telling
+pub mod Answering
+pub mod Reaching
+pub mod Constants
+pub mod Laws

@@ -1,0 +1,32 @@
+use Rattle.std.proofs.Common.{rules, ◌≡◌, ℤ, pos, List, ◌∷◌, ◌∙◌, ap₂, suc, length, get_or, FitsSigned, to_z-of_z, to_z, of_z, w64, arith}
+use Rattle.std.proofs.Math.IntN.{neg_ℤ}
+use Rattle.av_elim.proofs.Merging.{four_combined}
+use Rattle.av_elim.proofs.eliminate.combined.Goals as goal
+
+pub small_number-constant-requires-clause-low : goal.small_number-constant-requires-clause-low
+small_number-constant-requires-clause-low c =
+    let f : FitsSigned w64 (get_or c.args.below.now.coef c.args.other (pos 0)) = search rules in
+    simp to_z-of_z (c.requires.below.coefficients (suc c.args.other) (omega arith))
+
+pub small_number-constant-requires-clause-high : goal.small_number-constant-requires-clause-high
+small_number-constant-requires-clause-high c =
+    let f : FitsSigned w64 (get_or c.args.above.now.coef c.args.other (pos 0)) = search rules in
+    simp to_z-of_z (c.requires.above.coefficients (suc c.args.other) (omega arith))
+
+pub returns : goal.returns
+returns c =
+    let p = c.args.below.now.coef in
+    let n = c.args.above.now.coef in
+    let low = get_or p c.args.other (pos 0) in
+    let high = get_or n c.args.other (pos 0) in
+    let h : length p ≡ 4 = search rules in
+    let i : length n ≡ 4 = search rules in
+    let f : FitsSigned w64 low = search rules in
+    let g : FitsSigned w64 high = search rules in
+    let j : FitsSigned w64 c.args.below.now.constant = search rules in
+    let k : FitsSigned w64 c.args.above.now.constant = search rules in
+    let back : (z : ℤ) → FitsSigned w64 z → to_z w64 (of_z w64 z) ≡ z = λ z f. simp to_z-of_z in
+    let e = simp to_z-of_z at c.small_number-constant.ensures in
+    ap₂ (λ (x : ℤ) (xs : List ℤ). x ∷ xs) (back c.small_number-constant.result (search rules) ∙ e)
+    (four_combined low (neg_ℤ high) p n _ _ _ _ h i (back c.coefficient-a.result (search rules) ∙ c.coefficient-a.ensures) (back c.coefficient-b.result (search rules) ∙ c.coefficient-b.ensures)
+    (back c.coefficient-c.result (search rules) ∙ c.coefficient-c.ensures) (back c.coefficient-d.result (search rules) ∙ c.coefficient-d.ensures))

@@ -1,0 +1,4 @@
+pub mod Faults
+pub mod Rows
+pub mod Step
+pub mod Span
