@@ -5,18 +5,15 @@ use Rattle.std.proofs.lemmas.List.{append-nil}
 use Rattle.av_base.specs.declared.width.Width.{Width}
 use Rattle.av_base.specs.Outside.{Takes, TakesMore, IsAtEnd, HasRisen}
 use Rattle.av_tree.specs.FirstForm.{Form, IsText}
+use Rattle.av_net.specs.declared.design.Design.{Design}
+use Rattle.av_net.specs.Texts.{text}
 use Rattle.av_compile.specs.Headline.{Headline}
 use Rattle.av_cli.specs.declared.status.Status.{Status}
 use Rattle.av_cli.specs.declared.status.Status.TheVariants.{Done, Refused, WriteFault}
 use Rattle.av_cli.specs.declared.program.TheConstants.{LIMIT}
 use Rattle.av_cli.specs.Commands.{IsEmit}
 use Rattle.av_cli.specs.Program.{Writes, WritesRefusal, WritesDesign, IsRefused, HasRefusal, refusal_line, AddsWhole, AddsFront, IsComplete}
-use Rattle.av_cli.specs.Written.{IsPut, IsOutput}
-
--- an error that is passed on
-pub same_error : {T E : Type 0} (r : Result T E) (e x : E) → IsErrAnd r (λ y. y ≡ e) → r ≡ Err x → e ≡ x
-same_error (Ok t) e x h k = absurd h
-same_error (Err y) e x h k = cc
+use Rattle.av_cli.specs.Written.{IsPut}
 
 -- ---- what was written
 
@@ -73,15 +70,15 @@ not_this_form_left left left' bytes takes end within none =
     all_taken left left' bytes HasRefusal takes end (codes "not this form", not_this_form bytes within none)
 
 -- what is computed is not refused
-unrefused : (bytes out : List ℕ) (width : Width) → length bytes ≤ LIMIT → IsOutput bytes width out → HasRefusal bytes → ⊥
-unrefused bytes out width within output (reason, inl (long, is)) = omega arith
-unrefused bytes out width within output (reason, inr (short, none, is)) = none output.computes.form output.computes.text
+unrefused : (bytes : List ℕ) (width : Width) (design : Design) → length bytes ≤ LIMIT → Headline bytes width design → HasRefusal bytes → ⊥
+unrefused bytes width design within computes (reason, inl (long, is)) = omega arith
+unrefused bytes width design within computes (reason, inr (short, none, is)) = none computes.form computes.text
 
-pub unrefused_left : (left left' : Option (List ℕ)) (bytes : List ℕ) {seen out : List ℕ} {width : Width} → Takes left left' bytes → IsAtEnd left'
-    → length bytes ≤ LIMIT → seen ≡ bytes → IsOutput seen width out → IfSome left (λ bytes. HasRefusal bytes → ⊥)
-unrefused_left left left' bytes {seen} {out} {width} takes end within same output =
-    let whole : IsOutput bytes width out = subst (λ b. IsOutput b width out) same output in
-    all_taken left left' bytes (λ bytes. HasRefusal bytes → ⊥) takes end (unrefused bytes out width within whole)
+pub unrefused_left : (left left' : Option (List ℕ)) (bytes : List ℕ) {seen : List ℕ} {width : Width} {design : Design} → Takes left left' bytes → IsAtEnd left'
+    → length bytes ≤ LIMIT → seen ≡ bytes → Headline seen width design → IfSome left (λ bytes. HasRefusal bytes → ⊥)
+unrefused_left left left' bytes {seen} {width} {design} takes end within same computes =
+    let whole : Headline bytes width design = subst (λ b. Headline b width design) same computes in
+    all_taken left left' bytes (λ bytes. HasRefusal bytes → ⊥) takes end (unrefused bytes width design within whole)
 
 -- ---- what is due
 
@@ -109,18 +106,18 @@ writes_not_this_form words bits left left' bytes read takes end within none = re
   line = refl;
 }
 
-pub writes_design : (words : List (List ℕ)) (left left' : Option (List ℕ)) (bytes out : List ℕ) {seen text : List ℕ} {width : Width} → IsEmit words width.bits
-    → Takes left left' bytes → IsAtEnd left' → length bytes ≤ LIMIT → seen ≡ bytes → out ≡ text → IsOutput seen width text → WritesDesign words left left' out
-writes_design words left left' bytes out {seen} {text} {width} read takes end within same same_text output = record {
+pub writes_design : (words : List (List ℕ)) (left left' : Option (List ℕ)) (bytes : List ℕ) {seen : List ℕ} {width : Width} {design : Design} → IsEmit words width.bits
+    → Takes left left' bytes → IsAtEnd left' → length bytes ≤ LIMIT → seen ≡ bytes → Headline seen width design → WritesDesign words left left' (text design)
+writes_design words left left' bytes {seen} {width} {design} read takes end within same computes = record {
   width = width;
   read = read;
   taken = bytes;
   takes = takes;
   whole = end;
   within = within;
-  design = output.design;
-  computes = subst (λ b. Headline b width output.design) same output.computes;
-  text_of = same_text ∙ output.text_of;
+  design = design;
+  computes = subst (λ b. Headline b width design) same computes;
+  text_of = refl;
 }
 
 -- ---- completeness

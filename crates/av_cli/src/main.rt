@@ -7,7 +7,6 @@ mod standard;
 mod status;
 #[cfg(test)]
 mod tests;
-mod text;
 mod words;
 
 use av_base::{List, Memory, Name};

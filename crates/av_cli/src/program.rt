@@ -1,14 +1,15 @@
-ghost use Rattle.std.specs.Prelude.{◌≡◌, ◌≤◌, length, IfOk, Err};
+ghost use Rattle.std.specs.Prelude.{◌≡◌};
 ghost use Rattle.av_base.specs.Outside.{HasRisen};
-ghost use Rattle.av_tree.specs.FirstForm.{Form, IsText};
+ghost use Rattle.av_net.specs.Texts.{text};
 ghost use Rattle.av_cli.specs.Program.{AddsWhole, AddsFront, IsComplete};
-ghost use Rattle.av_cli.specs.Written.{IsPut, IsOutput};
+ghost use Rattle.av_cli.specs.Written.{IsPut};
 
 use crate::status::Status;
-use crate::text::text_of;
 use crate::words::read_words;
-use av_base::{List, Name, ReadAll, Sink, Source, Width, read_all, write_all};
+use av_base::{Name, ReadAll, Sink, Source, read_all, write_all};
 use av_compile::{Refusal, compile};
+use av_net::Design;
+use av_vtext::write_design;
 use std::alloc::Global;
 
 /// The greatest number of bytes of an input.
@@ -48,38 +49,30 @@ pub fn alphav<S: Source, K: Sink>(
         Err(ReadAll::ReadFault) => Status::ReadFault,
         Err(ReadAll::Memory) => Status::Memory,
         Err(ReadAll::TooLong) => put(sink, TOO_LONG, Status::Refused),
-        Ok(bytes) => match output(alloc, bytes.as_slice(), width) {
+        Ok(bytes) => match compile(alloc, bytes.as_slice(), width) {
             Err(Refusal::Memory) => Status::Memory,
             Err(Refusal::NotThisForm) => put(sink, NOT_THIS_FORM, Status::Refused),
-            Ok(out) => put_bytes(sink, out.as_slice(), Status::Done),
+            Ok(design) => put_design(sink, &design),
         },
     }
 }
 
-// All that is written for an input that is not refused.
-fn output(alloc: Global, bytes: &[u8], width: Width) -> Result<List<u8>, Refusal>
-    requires { length bytes.now ≤ LIMIT }
-    ensures made { IfOk result (IsOutput bytes.now width) }
-    ensures refused { result ≡ Err Refusal.NotThisForm → (form : Form) → IsText bytes.now form → ⊥ }
-{
-    let design = compile(alloc, bytes, width)?;
-    let text = text_of(alloc, &design)?;
-    Ok(text)
-}
-
-// Adds a line, as `put_bytes` does.
+// Adds the text. The status is the one wanted, or that of a fault of the sink.
 fn put<K: Sink>(sink: &mut K, text: &str, wanted: Status) -> Status
     ensures { IsPut (K.held sink.old) (K.held sink.new) (K.faults sink.old) (K.faults sink.new) text.now wanted result }
 {
-    put_bytes(sink, text.as_bytes(), wanted)
+    match write_all(sink, text.as_bytes()) {
+        Ok(()) => wanted,
+        Err(_) => Status::WriteFault,
+    }
 }
 
-// Adds the text. The status is the one wanted, or that of a fault of the sink.
-fn put_bytes<K: Sink>(sink: &mut K, text: &[u8], wanted: Status) -> Status
-    ensures { IsPut (K.held sink.old) (K.held sink.new) (K.faults sink.old) (K.faults sink.new) text.now wanted result }
+// Adds the text of the design.
+fn put_design<K: Sink>(sink: &mut K, design: &Design) -> Status
+    ensures { IsPut (K.held sink.old) (K.held sink.new) (K.faults sink.old) (K.faults sink.new) (text design.now) Status.Done result }
 {
-    match write_all(sink, text) {
-        Ok(()) => wanted,
+    match write_design(design, sink) {
+        Ok(()) => Status::Done,
         Err(_) => Status::WriteFault,
     }
 }

@@ -3,6 +3,7 @@ use Rattle.std.proofs.Common.{◌≡◌, ℕ, List, refl, ◌∙◌, ap}
 use Rattle.std.specs.List.{flat_map}
 use Rattle.av_base.specs.declared.width.Width.{Width}
 use Rattle.av_tree.specs.FirstForm.{Form, IsText}
+use Rattle.av_tree.proofs.FirstTexts.{text_program}
 use Rattle.av_net.specs.declared.netlist.Module.{Module}
 use Rattle.av_net.specs.declared.design.Entry.{Entry}
 use Rattle.av_compile.specs.declared.form.Form.{Form as Kept}
@@ -18,7 +19,8 @@ pub headline : (bytes : List ℕ) (width : Width) (kept : Kept) (ins ats : List 
 headline bytes width kept ins ats m (f, text, says) is is' is'' = record {
   form = f;
   text = text;
-  computes = computes width f ins ats m text.allowed
+  program = text_program bytes f text;
+  computes = computes width f text.tokens ins ats m text.allowed
       (is ∙ rw (says.low, says.high, says.input, says.right) refl)
       (is' ∙ rw (says.low, says.high, says.output) refl)
       (is'' ∙ ap (module_of width) says.right);

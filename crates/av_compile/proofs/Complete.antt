@@ -4,8 +4,8 @@ use Rattle.std.specs.Prelude.{codes}
 use Rattle.std.proofs.lemmas.Bool.{eq-eqb}
 use Rattle.av_base.specs.declared.token_kind.TokenKind.TheVariants as kind
 use Rattle.av_base.specs.Tokens.{Token, IsWord}
-use Rattle.av_tree.specs.declared.sign.Sign.{Sign}
-use Rattle.av_tree.specs.declared.sign.Sign.TheVariants as sign
+use Rattle.av_tree.specs.declared.operator.Operator.{Operator}
+use Rattle.av_tree.specs.declared.operator.Operator.TheVariants as sign
 use Rattle.av_tree.specs.Trees.{Text}
 use Rattle.av_tree.specs.FirstForm.{Form, Part, word, symbol, name, number, Operand, literal, read, Right, one, two, access, declaration, operand, operator, right_side, parts}
 use Rattle.av_compile.specs.Reading.{same, expect, name_at, number_at, access_at, declaration_at, operand_at, begins_number, sign_of, sign_at, after, right_by, right_at, Header, header_at, equation_at, is_end, form_of}
@@ -47,12 +47,12 @@ number_begins (more {t = t} is fit others) = same_self t.kind kind.Number is.0
 name_begins : {text : Text} {ps : List Part} {ts : List Token} → Spells IsFit (name text ∷ ps) ts → begins_number ts ≡ false
 name_begins (more {t = t} is fit others) = ap (λ k. same k kind.Number) is.0
 
-sign_of-operator : (s : Sign) → sign_of (operator s) ≡ Some s
+sign_of-operator : (s : Operator) → sign_of (operator s) ≡ Some s
 sign_of-operator sign.Add = refl
 sign_of-operator sign.Sub = refl
 sign_of-operator sign.Mul = refl
 
-sign_is : {s : Sign} {ps : List Part} {ts : List Token} → Spells IsFit (symbol (operator s) ∷ ps) ts → sign_at ts ≡ Some s
+sign_is : {s : Operator} {ps : List Part} {ts : List Token} → Spells IsFit (symbol (operator s) ∷ ps) ts → sign_at ts ≡ Some s
 unfolding sign_at
 sign_is {s = s} (more {t = t} is fit others) = rw (same_self t.kind kind.Symbol is.0, is.1) (sign_of-operator s)
 

@@ -1,17 +1,20 @@
 -- The design of a form computes it.
-use Rattle.std.proofs.Common.{◌≡◌, ℕ, ◌-◌, ◌≤◌, List, [], ◌∷◌, map, refl, sym, ◌∙◌, ap, subst, Option, Some, inl}
+use Rattle.std.proofs.Common.{◌≡◌, ℕ, ◌-◌, ◌≤◌, List, [], ◌∷◌, map, refl, sym, ◌∙◌, ap, subst, Option, Some}
 use Rattle.std.specs.Prelude.{All, Contains}
 use Rattle.std.specs.List.{AllByRecursion}
 use Rattle.std.proofs.lemmas.List.Elements.{All-from_recursion, All-contains, recursion_from_All}
 use Rattle.av_base.specs.declared.width.Width.{Width}
 use Rattle.av_base.specs.Words.{IsWord, residue}
-use Rattle.av_tree.specs.declared.sign.Sign.{Sign}
-use Rattle.av_tree.specs.declared.sign.Sign.TheVariants as sign
-use Rattle.av_tree.specs.Domains.{Point, IsDeclared}
+use Rattle.av_tree.specs.declared.operator.Operator.{Operator}
+use Rattle.av_tree.specs.declared.operator.Operator.TheVariants as sign
+use Rattle.av_tree.specs.Points.{Point}
+use Rattle.av_base.specs.Tokens.{Token}
+use Rattle.av_tree.specs.Domains.{IsDeclared, computed}
+use Rattle.av_tree.specs.Points.{no_sizes}
 use Rattle.av_tree.specs.Values.{Assignment, combined}
 use Rattle.av_tree.specs.Solutions.{AreInputs, IsSolution}
 use Rattle.av_tree.specs.FirstForm as form
-use Rattle.av_tree.specs.FirstForm.{Form, Right, one, two, literal, read, tree, IsAllowed}
+use Rattle.av_tree.specs.FirstForm.{Form, Right, one, two, literal, read, sign_of, tree, instance_of, IsAllowed}
 use Rattle.av_net.specs.declared.netlist.Port.{Port}
 use Rattle.av_net.specs.declared.netlist.Module.{Module}
 use Rattle.av_net.specs.declared.design.Entry.{Entry}
@@ -29,7 +32,8 @@ use Rattle.av_compile.specs.Cell.{symbol_of, operand_of, operation_of, drives_of
 use Rattle.av_compile.specs.Headline.{Computes}
 use Rattle.av_compile.proofs.Lines.{each_line, one_line, lines_apart}
 use Rattle.av_compile.proofs.InLines.{each_in_line, has_in_line, in_lines_apart}
-use Rattle.av_compile.proofs.Solved.{IsPoint, of_interval, input_at, output_point, output_is, one_solution, operand_word, right_word}
+use Rattle.av_compile.proofs.Intervals.{IsPoint}
+use Rattle.av_compile.proofs.Solved.{input_at, input_declared, output_point, output_is, one_solution, operand_word, right_word}
 use Rattle.av_compile.proofs.SoundCell.{sound}
 
 -- the design of a form
@@ -42,7 +46,7 @@ design_of width f = record { listing = record { ins = in_lines f; ats = at_lines
 HaveWord : Right → Words → ℕ → Type 0
 HaveWord right v a = (name : List ℕ) → Contains (input_ports right) name → v name ≡ a
 
-applied_is : (s : Sign) (w a b : ℕ) → applied (symbol_of s) w a b ≡ combined w s a b
+applied_is : (s : Operator) (w a b : ℕ) → applied (symbol_of s) w a b ≡ combined w (sign_of s) a b
 applied_is sign.Add w a b = refl
 applied_is sign.Sub w a b = refl
 applied_is sign.Mul w a b = refl
@@ -54,7 +58,7 @@ word_is width at (literal n) v a e = refl
 word_is width at read v a e = e
 
 -- two operands of the width
-two_words : (width : Width) (s : Sign) (w x y a b : ℕ) → w ≡ width.bits → x ≡ a → y ≡ b → applied (symbol_of s) w x y ≡ combined width.bits s a b
+two_words : (width : Width) (s : Operator) (w x y a b : ℕ) → w ≡ width.bits → x ≡ a → y ≡ b → applied (symbol_of s) w x y ≡ combined width.bits (sign_of s) a b
 two_words width s w x y a b e g h = rw (e, g, h) (applied_is s width.bits a b)
 
 right_is : (width : Width) (right : Right) (v : Words) (a : ℕ) → HaveWord right v a → result_of (width_of (module_of width right)) v (operation_of width right) ≡ right_word width.bits right a
@@ -97,17 +101,17 @@ fit_ports width name a names fits = All-from_recursion (λ (p : Port). name ≡ 
     go [] = tt
     go (first ∷ rest) = ((λ is. fits), go rest)
 
-module _ (width : Width) (f : Form) (allowed : IsAllowed f) where
+module _ (width : Width) (f : Form) (tokens : List Token) (allowed : IsAllowed f) where
   point_at : (k : ℕ) → f.low ≤ k → k ≤ f.high → IsPoint f.low f.high (point k)
   point_at k above below = record { entry = k; is = refl; above = above; below = below }
 
-  input_declared : (k : ℕ) → f.low ≤ k → k ≤ f.high → IsDeclared (tree f).inputs f.input (point k)
-  input_declared k above below = inl (refl, of_interval f.input_index f.low f.high (point k) (point_at k above below))
+  input_at_point : (k : ℕ) → f.low ≤ k → k ≤ f.high → IsDeclared no_sizes (tree f tokens).inputs f.input (point k)
+  input_at_point k above below = input_declared f tokens (point k) (point_at k above below)
 
   named : (name : List ℕ) → Contains (input_ports f.right) name → Contains (names_of (module_of width f.right).inputs) name
   named name at = let P : List (List ℕ) → Type 0 = λ names. Contains names name in subst P (sym (ports_named width (input_ports f.right))) at
 
-  module _ (x : Assignment) (inputs : AreInputs width.bits (tree f) x) where
+  module _ (x : Assignment) (inputs : AreInputs (instance_of width.bits f tokens) x) where
     -- under a presenting stream, the ports of the reads have the input's word
     have_word : (v : Words) (k a : ℕ) → f.low ≤ k → k ≤ f.high → x f.input (point k) ≡ Some a → HasInputs (design_of width f) v (k - f.low) x → HaveWord f.right v a
     unfolding HaveWord design_of
@@ -115,13 +119,13 @@ module _ (width : Width) (f : Form) (allowed : IsAllowed f) where
         let P : Entry → Type 0 = λ entry. Contains (names_of (module_of width f.right).inputs) entry.wire → entry.cycle ≡ k - f.low → Some (v entry.wire) ≡ x entry.variable entry.point in
         λ name at. some_is (v name) a (All-contains P (in_lines f) (line f.low f.input name k) has (has_in_line f.low f.high f.input (input_ports f.right) name k at above below) (named name at) refl ∙ e)
 
-    shown_at : (u : Assignment) → IsSolution width.bits (tree f) x u → (v : Words) (k : ℕ) → f.low ≤ k → k ≤ f.high → Settled (module_of width f.right) v → HasInputs (design_of width f) v (k - f.low) x → Some (v o0) ≡ u f.output (point k)
+    shown_at : (u : Assignment) → IsSolution (instance_of width.bits f tokens) x u → (v : Words) (k : ℕ) → f.low ≤ k → k ≤ f.high → Settled (module_of width f.right) v → HasInputs (design_of width f) v (k - f.low) x → Some (v o0) ≡ u f.output (point k)
     shown_at u solves v k above below settled has =
-        let a = input_at width.bits f allowed x inputs (point k) (point_at k above below) in
+        let a = input_at width.bits f tokens allowed x inputs (point k) (point_at k above below) in
         ap Some (output_word width f.right v a.0 settled (have_word v k a.0 above below a.1 has))
-        ∙ sym (output_is width.bits f allowed x inputs u solves k a.0 above below a.1)
+        ∙ sym (output_is width.bits f tokens allowed x inputs u solves k a.0 above below a.1)
 
-    pub shows : (u : Assignment) → IsSolution width.bits (tree f) x u → Shows (design_of width f) x u
+    pub shows : (u : Assignment) → IsSolution (instance_of width.bits f tokens) x u → Shows (design_of width f) x u
     unfolding design_of
     shows u solves =
         shows_settled (design_of width f) x u
@@ -129,7 +133,7 @@ module _ (width : Width) (f : Form) (allowed : IsAllowed f) where
 
     fitting : (name : List ℕ) (k : ℕ) → f.low ≤ k → k ≤ f.high → HasFittingWord (module_of width f.right).inputs x (line f.low f.input name k)
     fitting name k above below =
-        let a = input_at width.bits f allowed x inputs (point k) (point_at k above below) in
+        let a = input_at width.bits f tokens allowed x inputs (point k) (point_at k above below) in
         (a.0, a.1, fit_ports width name a.0 (input_ports f.right) (inputs.words f.input (point k) a.0 a.1))
 
     pub presentable : IsPresentable (design_of width f) x
@@ -138,13 +142,13 @@ module _ (width : Width) (f : Form) (allowed : IsAllowed f) where
         are_presentable (design_of width f) x (in_lines_apart f.low f.high f.input (input_ports f.right) (ports_distinct f.right))
         (each_in_line f.low f.high f.input (input_ports f.right) (HasFittingWord (module_of width f.right).inputs x) (λ name at k above below. fitting name k above below))
 
-  each_once : (z : Point) → IsDeclared (tree f).outputs f.output z → HasOneLine (at_lines f) f.output z o0
-  each_once z d =
-      let p = (output_point f f.output z d).1 in
-      let P : Point → Type 0 = λ y. HasOneLine (at_lines f) f.output y o0 in
-      subst P (sym p.is) (one_line f.low f.high f.output o0 p.entry p.above p.below)
+  each_once : (variable : List ℕ) (z : Point) → IsDeclared no_sizes (computed (tree f tokens)) variable z → HasOneLine (at_lines f) variable z o0
+  each_once variable z d =
+      let (is, p) = output_point f tokens variable z d in
+      let P : List ℕ → Point → Type 0 = λ v y. HasOneLine (at_lines f) v y o0 in
+      subst (λ (v : List ℕ). P v z) is (subst (λ (y : Point). P f.output y) (sym p.is) (one_line f.low f.high f.output o0 p.entry p.above p.below))
 
-  pub whole : IsWhole width f (design_of width f)
+  pub whole : IsWhole width f (instance_of width.bits f tokens) (design_of width f)
   unfolding design_of
   whole = record {
     ins = refl;
@@ -155,13 +159,13 @@ module _ (width : Width) (f : Form) (allowed : IsAllowed f) where
     ins_apart = in_lines_apart f.low f.high f.input (input_ports f.right) (ports_distinct f.right);
     ats_apart = lines_apart f.low f.high f.output o0;
     each_once = each_once;
-    of_inputs = each_in_line f.low f.high f.input (input_ports f.right) (IsOfInput f (module_of width f.right).inputs) (λ name at k above below. record { declared = input_declared k above below; on_port = named name at });
+    of_inputs = each_in_line f.low f.high f.input (input_ports f.right) (IsOfInput (instance_of width.bits f tokens) (module_of width f.right).inputs) (λ name at k above below. record { declared = input_at_point k above below; on_port = named name at });
   }
 
-  computes_of : Computes width f (design_of width f)
+  computes_of : Computes width f (instance_of width.bits f tokens) (design_of width f)
   unfolding design_of
   computes_of = record {
-    one_solution = λ x inputs. one_solution width.bits f allowed x inputs;
+    one_solution = λ x inputs. one_solution width.bits f tokens allowed x inputs;
     whole = whole;
     sound = sound width f.right;
     presentable = λ x inputs. presentable x inputs;
@@ -169,6 +173,6 @@ module _ (width : Width) (f : Form) (allowed : IsAllowed f) where
   }
 
 -- a design with the lines and the module of the form computes it
-pub computes : (width : Width) (f : Form) (ins ats : List Entry) (m : Module) → IsAllowed f → ins ≡ in_lines f → ats ≡ at_lines f → m ≡ module_of width f.right → Computes width f (record { listing = record { ins = ins; ats = ats }; «module» = m })
+pub computes : (width : Width) (f : Form) (tokens : List Token) (ins ats : List Entry) (m : Module) → IsAllowed f → ins ≡ in_lines f → ats ≡ at_lines f → m ≡ module_of width f.right → Computes width f (instance_of width.bits f tokens) (record { listing = record { ins = ins; ats = ats }; «module» = m })
 unfolding design_of
-computes width f ins ats m allowed is is' is'' = rw (is, is', is'') (computes_of width f allowed)
+computes width f tokens ins ats m allowed is is' is'' = rw (is, is', is'') (computes_of width f tokens allowed)

@@ -1,5 +1,6 @@
 pub mod Lines
 pub mod InLines
+pub mod Intervals
 pub mod Solved
 pub mod SoundCell
 pub mod Computed

@@ -6,8 +6,8 @@ use Rattle.std.proofs.lemmas.Bool.{eqb-true}
 use Rattle.std.proofs.lemmas.Slice.Eq.{bytes_eq-Decides}
 use Rattle.av_base.specs.declared.token_kind.TokenKind.TheVariants as kind
 use Rattle.av_base.specs.Tokens.{Token}
-use Rattle.av_tree.specs.declared.sign.Sign.{Sign}
-use Rattle.av_tree.specs.declared.sign.Sign.TheVariants as sign
+use Rattle.av_tree.specs.declared.operator.Operator.{Operator}
+use Rattle.av_tree.specs.declared.operator.Operator.TheVariants as sign
 use Rattle.av_tree.specs.Trees.{Text}
 use Rattle.av_tree.specs.FirstForm.{Form, Part, word, symbol, name, number, AreParts, Operand, literal, read, Right, one, two, access, declaration, operand, operator, right_side, parts}
 use Rattle.av_compile.specs.Reading.{same, expect, name_at, number_at, access_at, Declaration, declaration_at, operand_at, begins_number, sign_of, sign_at, after, right_by, right_at, Header, header_at, equation_at, is_end, closes, form, form_of}
@@ -41,7 +41,7 @@ number_read {ps} {ts} {y} e others =
     let t = number_took ts y e in
     subst (λ (us : List Token). Spells IsAny (number y.0 ∷ ps) us) (sym t.all) (more (t.kind_is, t.number_is) tt others)
 
-sign_of_is : (text : Text) (s : Sign) → sign_of text ≡ Some s → text ≡ operator s
+sign_of_is : (text : Text) (s : Operator) → sign_of text ≡ Some s → text ≡ operator s
 sign_of_is text s e =
     chosen (bytes_eq text (codes "+")) (Some sign.Add) _ (Some s) e
     (λ is found. (bytes_eq-Decides text (codes "+")).0 is ∙ ap operator (some_is sign.Add s found))
@@ -49,7 +49,7 @@ sign_of_is text s e =
     (λ is found. (bytes_eq-Decides text (codes "-")).0 is ∙ ap operator (some_is sign.Sub s found))
     (λ no e. let p = passed (bytes_eq text (codes "*")) (Some sign.Mul) s e in (bytes_eq-Decides text (codes "*")).0 p.0 ∙ ap operator (some_is sign.Mul s p.1)))
 
-sign_read : (ps : List Part) (ts : List Token) (s : Sign) → sign_at ts ≡ Some s → Spells IsAny ps (after ts) → Spells IsAny (symbol (operator s) ∷ ps) ts
+sign_read : (ps : List Part) (ts : List Token) (s : Operator) → sign_at ts ≡ Some s → Spells IsAny ps (after ts) → Spells IsAny (symbol (operator s) ∷ ps) ts
 unfolding sign_at
 sign_read ps [] s e others = absurd cc
 sign_read ps (t ∷ ts) s e others =
@@ -112,7 +112,7 @@ operand_read f ts y ps e others =
     subst (λ (z : Operand × List Token). Spells IsAny (operand f z.0 ++ ps) ts) is
     (access_read f.input f.index ts t ps et (subst (λ (z : Operand × List Token). Spells IsAny ps z.1) (sym is) others))))
 
-right_read_by : (f : Form) (a : Operand) (s : Option Sign) (ts all : List Token) (y : Right × List Token) (ps : List Part)
+right_read_by : (f : Form) (a : Operand) (s : Option Operator) (ts all : List Token) (y : Right × List Token) (ps : List Part)
     → operand_at f.input f.index all ≡ Some (a, ts) → sign_at ts ≡ s → right_by f.input f.index a s ts ≡ Some y → Spells IsAny ps y.1 → Spells IsAny (right_side f y.0 ++ ps) all
 unfolding right_by
 right_read_by f a None ts all y ps ea es e others =

@@ -5,8 +5,8 @@ use Rattle.std.proofs.lemmas.List.Elements.{All-from_recursion, All-nil, Contain
 use Rattle.std.proofs.Math.Nat.{one-le-pow, mod-lt}
 use Rattle.av_base.specs.declared.width.Width.{Width}
 use Rattle.av_base.specs.Words.{IsWord}
-use Rattle.av_tree.specs.declared.sign.Sign.{Sign}
-use Rattle.av_tree.specs.declared.sign.Sign.TheVariants as sign
+use Rattle.av_tree.specs.declared.operator.Operator.{Operator}
+use Rattle.av_tree.specs.declared.operator.Operator.TheVariants as sign
 use Rattle.av_tree.specs.FirstForm as form
 use Rattle.av_tree.specs.FirstForm.{Right, one, two, literal, read}
 use Rattle.av_net.specs.declared.netlist.Drive.{Drive}
@@ -54,7 +54,7 @@ sound_of width right s =
     }
 
 -- an operator of the form keeps the width
-keeps_width : (s : Sign) (w : ℕ) → symbol_width (symbol_of s) w ≡ w
+keeps_width : (s : Operator) (w : ℕ) → symbol_width (symbol_of s) w ≡ w
 keeps_width sign.Add w = refl
 keeps_width sign.Sub w = refl
 keeps_width sign.Mul w = refl

@@ -2,8 +2,8 @@
 use Rattle.std.specs.Prelude.{List, [], ◌∷◌, map, codes}
 use Rattle.av_base.specs.declared.width.Width.{Width}
 use Rattle.av_base.specs.Words.{residue}
-use Rattle.av_tree.specs.declared.sign.Sign.{Sign}
-use Rattle.av_tree.specs.declared.sign.Sign.TheVariants as sign
+use Rattle.av_tree.specs.declared.operator.Operator.{Operator}
+use Rattle.av_tree.specs.declared.operator.Operator.TheVariants as sign
 use Rattle.av_tree.specs.Trees.{Text}
 use Rattle.av_tree.specs.FirstForm as form
 use Rattle.av_tree.specs.FirstForm.{Form, Right, one, two, literal, read}
@@ -20,7 +20,7 @@ use Rattle.av_compile.specs.Listings.{i0, i1, o0, input_ports, port}
 abbrev pub c0 : Text
 c0 = codes "c0"
 
-abbrev pub symbol_of : Sign → Symbol
+abbrev pub symbol_of : Operator → Symbol
 symbol_of sign.Add = symbol.Add
 symbol_of sign.Sub = symbol.Sub
 symbol_of sign.Mul = symbol.Mul

@@ -4,8 +4,10 @@ use Rattle.std.specs.Prelude.{◌≡◌, ℕ, ◌+◌, ◌-◌, pos, List, [], �
 use Rattle.std.specs.List.{range_with_len, flat_map}
 use Rattle.av_base.specs.declared.width.Width.{Width}
 use Rattle.av_tree.specs.Trees.{Text}
-use Rattle.av_tree.specs.Domains.{Point, IsDeclared}
-use Rattle.av_tree.specs.FirstForm.{Form, Operand, literal, read, Right, one, two, tree}
+use Rattle.av_tree.specs.Points.{Point}
+use Rattle.av_tree.specs.Domains.{IsDeclared, computed}
+use Rattle.av_tree.specs.Counts.{Instance}
+use Rattle.av_tree.specs.FirstForm.{Form, Operand, literal, read, Right, one, two}
 use Rattle.av_net.specs.declared.netlist.Port.{Port}
 use Rattle.av_net.specs.declared.design.Entry.{Entry}
 use Rattle.av_net.specs.declared.design.Design.{Design}
@@ -69,14 +71,15 @@ pub record HasOneLine (entries : List Entry) (variable : Text) (z : Point) (wire
   pub only : (j : ℕ) (other : Entry) → slice_get entries j ≡ Some other → IsFor variable z other → j ≡ place
 
 -- the line's point is declared, and its wire is one of these
-pub record IsOfInput (f : Form) (ports : List Port) (entry : Entry) : Type 0 where
-  pub declared : IsDeclared (tree f).inputs entry.variable entry.point
+pub record IsOfInput (i : Instance) (ports : List Port) (entry : Entry) : Type 0 where
+  pub declared : IsDeclared i.sizes i.system.inputs entry.variable entry.point
   pub on_port : Contains (names_of ports) entry.wire
 
 abbrev pub port : Width → Text → Port
 port width name = record { name = name; width = width }
 
-pub record IsWhole (width : Width) (f : Form) (design : Design) : Type 0 where
+-- the listing of a form, with its system
+pub record IsWhole (width : Width) (f : Form) (i : Instance) (design : Design) : Type 0 where
   -- the lines and the ports are just these
   pub ins : design.listing.ins ≡ in_lines f
   pub ats : design.listing.ats ≡ at_lines f
@@ -86,7 +89,7 @@ pub record IsWhole (width : Width) (f : Form) (design : Design) : Type 0 where
   -- no two input points share port and cycle, and no two computed ones wire and cycle
   pub ins_apart : AreApart design.listing.ins
   pub ats_apart : AreApart design.listing.ats
-  -- each declared point of the output stands in one line, on the output port
-  pub each_once : (z : Point) → IsDeclared (tree f).outputs f.output z → HasOneLine design.listing.ats f.output z o0
+  -- each computed point stands in one line, on the output port
+  pub each_once : (variable : Text) (z : Point) → IsDeclared i.sizes (computed i.system) variable z → HasOneLine design.listing.ats variable z o0
   -- each input line is for a declared point, at an input port
-  pub of_inputs : All (IsOfInput f design.module.inputs) design.listing.ins
+  pub of_inputs : All (IsOfInput i design.module.inputs) design.listing.ins

@@ -4,8 +4,8 @@ use Rattle.std.specs.Str.{bytes_eq}
 use Rattle.av_base.specs.declared.token_kind.TokenKind.{TokenKind}
 use Rattle.av_base.specs.declared.token_kind.TokenKind.TheVariants as kind
 use Rattle.av_base.specs.Tokens.{Token, number_of}
-use Rattle.av_tree.specs.declared.sign.Sign.{Sign}
-use Rattle.av_tree.specs.declared.sign.Sign.TheVariants as sign
+use Rattle.av_tree.specs.declared.operator.Operator.{Operator}
+use Rattle.av_tree.specs.declared.operator.Operator.TheVariants as sign
 use Rattle.av_tree.specs.Trees.{Text}
 use Rattle.av_tree.specs.FirstForm.{Form, Operand, literal, read, Right, one, two}
 use Rattle.av_compile.specs.declared.reader.Declaration.{Declaration as FoundDeclaration}
@@ -93,12 +93,12 @@ operand_at variable index ts =
     if begins_number ts then (number_at ts >>= λ n. Some (literal n.0, n.1)) else (access_at variable index ts >>= λ rest. Some (read, rest))
 
 -- the operator that a symbol stands for
-abbrev pub sign_of : Text → Option Sign
+abbrev pub sign_of : Text → Option Operator
 sign_of text =
     if bytes_eq text (codes "+") then Some sign.Add
     else (if bytes_eq text (codes "-") then Some sign.Sub else (if bytes_eq text (codes "*") then Some sign.Mul else None))
 
-unfoldable pub sign_at : List Token → Option Sign
+unfoldable pub sign_at : List Token → Option Operator
 sign_at [] = None
 sign_at (t ∷ ts) = if same t.kind kind.Symbol then sign_of t.text else None
 
@@ -107,7 +107,7 @@ after [] = []
 after (t ∷ ts) = ts
 
 -- what follows the first operand
-unfoldable pub right_by : Text → Text → Operand → Option Sign → Read Right
+unfoldable pub right_by : Text → Text → Operand → Option Operator → Read Right
 right_by variable index a None ts = Some (one a, ts)
 right_by variable index a (Some s) ts = operand_at variable index (after ts) >>= λ b. Some (two a s b.0, b.1)
 

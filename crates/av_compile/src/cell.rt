@@ -8,7 +8,7 @@ ghost use Rattle.av_compile.specs.Cell.{symbol_of, operand_of, operation_of, sec
 use crate::form::{Operand, Right};
 use av_base::{List, Memory, Name, Width, Word};
 use av_net::{self, Drive, Module, Operation, Port, Symbol};
-use av_tree::Sign;
+use av_tree::Operator;
 use std::alloc::Global;
 
 // The module of one cell: an input port for each read, the cell's wire, and the output.
@@ -119,13 +119,13 @@ fn second(first: Operand) -> &'static str
     }
 }
 
-fn symbol(sign: Sign) -> Symbol
+fn symbol(sign: Operator) -> Symbol
     ensures { result ≡ symbol_of sign }
 {
     match sign {
-        Sign::Add => Symbol::Add,
-        Sign::Sub => Symbol::Sub,
-        Sign::Mul => Symbol::Mul,
+        Operator::Add => Symbol::Add,
+        Operator::Sub => Symbol::Sub,
+        Operator::Mul => Symbol::Mul,
     }
 }
 

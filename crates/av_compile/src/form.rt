@@ -1,5 +1,5 @@
 use av_base::Name;
-use av_tree::Sign;
+use av_tree::Operator;
 
 /// What the compiler keeps of a text of the first form: the names of its two variables, the interval
 /// that both are declared over, both ends included, and the right side of its equation. The names of
@@ -17,7 +17,7 @@ pub(crate) struct Form {
 #[derive(Clone, Copy, Debug)]
 pub(crate) enum Right {
     One(Operand),
-    Two(Operand, Sign, Operand),
+    Two(Operand, Operator, Operand),
 }
 
 /// A number, or the input at the index of the equation.

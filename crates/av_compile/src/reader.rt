@@ -6,7 +6,7 @@ ghost use Rattle.av_compile.specs.Reading.{Gives, same, expect, name_at, number_
 use crate::form::{Operand, Right};
 use av_base::{TokenKind, decimal_value};
 use av_lex::Token;
-use av_tree::Sign;
+use av_tree::Operator;
 
 /// A variable over an interval of its index, both ends included.
 #[derive(Clone, Copy, Debug)]
@@ -57,15 +57,15 @@ pub(crate) fn read_program<'a>(tokens: &[Token<'a>]) -> Option<Program<'a>>
 }
 
 // The operator that a symbol stands for.
-fn sign_of(text: &[u8]) -> Option<Sign>
+fn sign_of(text: &[u8]) -> Option<Operator>
     ensures { result ≡ sign_of text.now }
 {
     if text == b"+".as_slice() {
-        Some(Sign::Add)
+        Some(Operator::Add)
     } else if text == b"-".as_slice() {
-        Some(Sign::Sub)
+        Some(Operator::Sub)
     } else if text == b"*".as_slice() {
-        Some(Sign::Mul)
+        Some(Operator::Mul)
     } else {
         None
     }
@@ -241,7 +241,7 @@ impl<'t, 'a> Reader<'t, 'a> {
 
     // The operator that stands next.
     #[tactic(auto, unfolding(crate::specs::Reading::sign_at))]
-    fn sign(&self) -> Option<Sign>
+    fn sign(&self) -> Option<Operator>
         ensures { result ≡ sign_at (views self.now.rest.now) }
     {
         match self.rest {

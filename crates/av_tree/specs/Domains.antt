@@ -1,48 +1,76 @@
 -- Which points a domain has: those at which each of its constraints holds as it is written (Wilde's
 -- reports on Alpha).
-use Rattle.std.specs.Prelude.{◌≡◌, ℤ, pos, ◌≤ℤ◌, List, [], ◌∷◌, Option, Some, None, if◌then◌else◌, ◌⊎◌, length}
-use Rattle.std.specs.List.{AllByRecursion}
-use Rattle.std.specs.Str.{bytes_eq}
-use Rattle.av_tree.specs.Trees.{Text, Index, number, named, Constraint, Domain, Declaration}
+use Rattle.std.specs.Prelude.{ℤ, Bool, true, false, not, ◌&&◌, ◌||◌, int_lt, int_le, List, [], ◌∷◌, ◌++◌, Option, Some, None, ◌↔◌, IsSome, IsTrue, Contains, bytes_eq}
+use Rattle.av_tree.specs.declared.domain.Constraint.{Constraint}
+use Rattle.av_tree.specs.declared.domain.DomainText.{DomainText}
+use Rattle.av_tree.specs.declared.relation.Relation.{Relation}
+use Rattle.av_tree.specs.declared.relation.Relation.TheVariants as relation
+use Rattle.av_tree.specs.declared.system.Declaration.{Declaration}
+use Rattle.av_tree.specs.Trees.{Text, System, Equation}
+use Rattle.av_tree.specs.Points.{Point, Reach, Sizes, index_at, in_reach, have_length}
 
-abbrev pub Point : Type 0
-Point = List ℤ
+abbrev pub compares : Relation → ℤ → ℤ → Bool
+compares relation.Less j k = int_lt j k
+compares relation.LessEqual j k = int_le j k
+compares relation.Greater j k = int_lt k j
+compares relation.GreaterEqual j k = int_le k j
+compares relation.Equal j k = int_le j k && int_le k j
+compares relation.Unequal j k = not (int_le j k && int_le k j)
 
--- the entry of a point at the index of this name
-abbrev pub entry_at : List Text → Point → Text → Option ℤ
-entry_at [] z name = None
-entry_at (n ∷ names) [] name = None
-entry_at (n ∷ names) (k ∷ z) name = if bytes_eq n name then Some k else entry_at names z name
+-- both sides have a number, and these compare so
+abbrev pub both_compare : Relation → Option ℤ → Option ℤ → Bool
+both_compare r None k = false
+both_compare r (Some j) None = false
+both_compare r (Some j) (Some k) = compares r j k
 
--- the value of an index expression at a point, or none where it has an unknown name
-abbrev pub index_at : List Text → Point → Index → Option ℤ
-index_at names z (number n) = Some (pos n)
-index_at names z (named name) = entry_at names z name
+-- each constraint holds
+abbrev pub all_hold : Reach → List Constraint → Bool
+all_hold reach [] = true
+all_hold reach (c ∷ constraints) = both_compare c.relation (index_at reach c.left) (index_at reach c.right) && all_hold reach constraints
 
-abbrev pub with_entry : Option ℤ → Option Point → Option Point
-with_entry None z = None
-with_entry (Some k) None = None
-with_entry (Some k) (Some z) = Some (k ∷ z)
+-- z is a point of a domain with index names of its own
+abbrev pub is_point : Sizes → DomainText → Point → Bool
+is_point sizes d z = have_length d.names z && all_hold (in_reach sizes d.names z) d.constraints
 
--- the point that a list of index expressions names
-abbrev pub image : List Text → Point → List Index → Option Point
-image names z [] = Some []
-image names z (e ∷ es) = with_entry (index_at names z e) (image names z es)
+-- z is a point of a restriction's domain: without names of its own it takes those of the context, of which
+-- there may be none, however many indices the context has
+abbrev pub is_within : Sizes → List Text → DomainText → Point → Bool
+is_within sizes context d z = elim d.names [
+  | [] ↦ all_hold (in_reach sizes context z) d.constraints
+  | n ∷ names ↦ is_point sizes d z
+]
 
-abbrev pub IsAtMost : Option ℤ → Option ℤ → Type 0
-IsAtMost None k = ⊥
-IsAtMost (Some j) None = ⊥
-IsAtMost (Some j) (Some k) = j ≤ℤ k
+-- z is a declared point of the variable
+abbrev pub is_declared : Sizes → List Declaration → Text → Point → Bool
+is_declared sizes [] variable z = false
+is_declared sizes (d ∷ declarations) variable z = (bytes_eq d.name variable && is_point sizes d.domain z) || is_declared sizes declarations variable z
 
-abbrev pub HoldsAt : List Text → Point → Constraint → Type 0
-HoldsAt names z c = IsAtMost (index_at names z c.left) (index_at names z c.right)
+abbrev pub IsDeclared : Sizes → List Declaration → Text → Point → Type 0
+IsDeclared sizes declarations variable z = IsTrue (is_declared sizes declarations variable z)
 
--- the point has an entry for each index, and each constraint holds at it
-pub record IsIn (d : Domain) (z : Point) : Type 0 where
-  pub dimension : length z ≡ length d.names
-  pub constraints : AllByRecursion (HoldsAt d.names z) d.constraints
+-- ---- the variables of a system
 
--- z is a declared point of this variable
-abbrev pub IsDeclared : List Declaration → Text → Point → Type 0
-IsDeclared [] variable z = ⊥
-IsDeclared (d ∷ ds) variable z = ((d.name ≡ variable) × IsIn d.domain z) ⊎ IsDeclared ds variable z
+-- those that have an equation
+abbrev pub computed : System → List Declaration
+computed s = s.outputs ++ s.locals
+
+abbrev pub variables : System → List Declaration
+variables s = s.inputs ++ computed s
+
+-- the index names of a variable's declaration
+abbrev pub declared_names : List Declaration → Text → List Text
+declared_names [] variable = []
+declared_names (d ∷ declarations) variable = elim (bytes_eq d.name variable) [ true ↦ d.domain.names | false ↦ declared_names declarations variable ]
+
+abbrev pub given_or : List Text → Option (List Text) → List Text
+given_or names None = names
+given_or names (Some given) = given
+
+-- the index names over which an equation's right side stands: its own, or those of its variable's declaration
+abbrev pub context : System → Equation → List Text
+context s e = given_or (declared_names (variables s) e.name) e.indices
+
+-- the sizes are those of the parameter domain, and each of its constraints holds at them
+pub record AreSizes (d : DomainText) (sizes : Sizes) : Type 0 where
+  pub named : (name : Text) → IsSome (sizes name) ↔ Contains d.names name
+  pub hold : IsTrue (all_hold sizes d.constraints)

@@ -1,5 +1,14 @@
 pub mod Trees
+pub mod Parts
+pub mod IndexGrammar
+pub mod ExpressionGrammar
+pub mod Grammar
+pub mod Points
 pub mod Domains
+pub mod Counts
+pub mod Folds
 pub mod Values
 pub mod Solutions
+pub mod Rows
+pub mod Proper
 pub mod FirstForm

@@ -1,7 +1,19 @@
-//! What an Alpha system is and means: its tree, the points of its domains, the words of its
-//! expressions and its solutions. The definitions stand in `specs/`.
+//! What an Alpha system is and means: its tree, how a text spells it, the points of its domains, the
+//! words of its expressions and its solutions. The definitions stand in `specs/`.
 #![tactic(auto)]
 
+mod domain;
+mod expression;
+mod laws;
+mod operator;
+mod relation;
 mod sign;
+mod system;
 
+pub use domain::{Constraint, DomainText, IndexExpr, MapText, Term};
+pub use expression::{Access, Expr};
+pub use laws::{counted_word, first_form, one_word};
+pub use operator::Operator;
+pub use relation::Relation;
 pub use sign::Sign;
+pub use system::{Declaration, Equation, System};

@@ -1,7 +1,9 @@
-/// An operator between two parts of an expression.
+/// What joins two parts of an expression: `+`, `-`, `*`, `min` or `max`.
 #[derive(Clone, Copy, Debug, PartialEq, Eq)]
 pub enum Sign {
     Add,
     Sub,
     Mul,
+    Min,
+    Max,
 }

@@ -46,18 +46,18 @@ returns-in-Err-NotThisForm-clause-complete g c =
 
 pub returns-clause-done : goal.returns-clause-done
 returns-clause-done g c =
-    let writes = writes_design _ _ _ _ _ c.in-Some.ensures.read c.in-Ok.ensures.bytes c.in-Ok.ensures.end c.in-Ok.ensures.within c.as_slice.ensures
-    c.as_slice-in-Ok-output.ensures c.in-Ok-output.ensures.made in
-    whole Done _ _ _ writes c.put_bytes.ensures (λ e. cc)
+    let writes = writes_design _ _ _ _ c.in-Some.ensures.read c.in-Ok.ensures.bytes c.in-Ok.ensures.end c.in-Ok.ensures.within c.as_slice.ensures
+    c.in-Ok-compile.ensures.headline in
+    whole Done _ _ _ writes c.put_design.ensures (λ e. cc)
 
 pub returns-clause-write_fault : goal.returns-clause-write_fault
 returns-clause-write_fault g c =
-    let writes = writes_design _ _ _ _ _ c.in-Some.ensures.read c.in-Ok.ensures.bytes c.in-Ok.ensures.end c.in-Ok.ensures.within c.as_slice.ensures
-    c.as_slice-in-Ok-output.ensures c.in-Ok-output.ensures.made in
-    front Done _ _ _ writes c.put_bytes.ensures (λ e. cc)
+    let writes = writes_design _ _ _ _ c.in-Some.ensures.read c.in-Ok.ensures.bytes c.in-Ok.ensures.end c.in-Ok.ensures.within c.as_slice.ensures
+    c.in-Ok-compile.ensures.headline in
+    front Done _ _ _ writes c.put_design.ensures (λ e. cc)
 
 pub returns-clause-complete : goal.returns-clause-complete
 returns-clause-complete g c =
     λ _ no_fault.
-    let none = unrefused_left _ _ _ c.in-Ok.ensures.bytes c.in-Ok.ensures.end c.in-Ok.ensures.within c.as_slice.ensures c.in-Ok-output.ensures.made in
-    complete_done _ _ _ _ c.in-Some.ensures.read none (as_wanted c.put_bytes.ensures no_fault)
+    let none = unrefused_left _ _ _ c.in-Ok.ensures.bytes c.in-Ok.ensures.end c.in-Ok.ensures.within c.as_slice.ensures c.in-Ok-compile.ensures.headline in
+    complete_done _ _ _ _ c.in-Some.ensures.read none (as_wanted c.put_design.ensures no_fault)

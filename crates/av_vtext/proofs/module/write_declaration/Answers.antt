@@ -1,0 +1,6 @@
+use Rattle.std.proofs.Common.{rules}
+use Rattle.av_page.proofs.Putting.{Puts-more, Puts-is}
+use Rattle.av_vtext.proofs.module.write_declaration.Goals as goal
+
+pub returns : goal.returns
+returns g c = Puts-is (Puts-more (Puts-more (Puts-more (Puts-more (Puts-more (Puts-more c.put.ensures c.put-2.ensures) c.put-3.ensures) c.write_range.ensures) c.put-4.ensures) c.put-5.ensures) c.put-6.ensures) (search rules)

@@ -1,0 +1,6 @@
+use Rattle.std.proofs.Common.{rules}
+use Rattle.av_page.proofs.Putting.{Puts-more, Puts-is}
+use Rattle.av_vtext.proofs.module.write_drive.Goals as goal
+
+pub returns : goal.returns
+returns g c = Puts-is (Puts-more (Puts-more (Puts-more (Puts-more c.put.ensures c.put-2.ensures) c.put-3.ensures) c.write_operation.ensures) c.put-4.ensures) (search rules)

@@ -1,0 +1,6 @@
+use Rattle.std.proofs.Common.{rules}
+use Rattle.av_page.proofs.Putting.{Puts-more, Puts-is}
+use Rattle.av_vtext.proofs.operation.write_comparison.Goals as goal
+
+pub returns : goal.returns
+returns g c = Puts-is (Puts-more (Puts-more c.write_signed.ensures c.put.ensures) c.write_signed-2.ensures) (search rules)

@@ -1,0 +1,12 @@
+//! The text of a design, written to a sink piece by piece, without memory.
+#![tactic(auto)]
+
+mod listing;
+mod module;
+mod operation;
+mod writer;
+
+pub use writer::write_design;
+
+#[cfg(test)]
+mod tests;
