@@ -1,0 +1,6 @@
+pub mod Reader
+pub mod IndexReader
+pub mod ExpressionReader
+pub mod ProgramReader
+pub mod Views
+pub mod Parsing

@@ -1,0 +1,21 @@
+//! From the tokens of a program text to its tree.
+#![tactic(auto)]
+
+mod copy;
+mod domain;
+mod expression;
+mod fault;
+mod index;
+mod laws;
+mod parser;
+mod postfix;
+mod program;
+mod text;
+mod whole;
+
+pub use fault::ParseFault;
+pub use laws::one_program;
+pub use whole::parse;
+
+#[cfg(test)]
+mod tests;

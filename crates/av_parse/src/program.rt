@@ -1,0 +1,251 @@
+//! Declarations, equations and the whole.
+
+ghost use Rattle.std.specs.Prelude.{◌≡◌, ◌++◌, length, IfOk};
+ghost use Rattle.av_lex.specs.Lexing.{views};
+ghost use Rattle.av_tree.specs.Trees.{view_equation, view_equations, view_system};
+ghost use Rattle.av_tree.specs.Grammar.{declared};
+ghost use Rattle.av_parse.specs.Reader.{Gives, with_front};
+ghost use Rattle.av_parse.specs.ProgramReader.{declaration_of, declarations_of, inputs_of, variables_of, locals_of, sizes_of, index_names_of, equation_of, equations_of, semicolon_of, header_of, system_of, program_of};
+ghost use Rattle.av_parse.specs.Views.{view_header};
+
+use crate::copy;
+use crate::fault::Stop;
+use crate::parser::Parser;
+use crate::text::name_of;
+use av_base::{List, Memory, Name, Place, TokenKind};
+use av_lex::Token;
+use av_tree::{Declaration, DomainText, Equation, System};
+use std::alloc::Global;
+
+/// The name, the sizes, the inputs and the outputs of a system.
+#[derive(Drop)]
+struct Header {
+    name: Name,
+    sizes: DomainText,
+    inputs: List<Declaration>,
+    outputs: List<Declaration>,
+}
+
+// One declaration for each name, put behind these.
+fn declare(
+    alloc: Global,
+    found: &mut List<Declaration>,
+    domain: &DomainText,
+    names: &[Token],
+) -> Result<(), Memory>
+    ensures { IfOk result (λ _. found.new ≡ found.old ++ declared domain.now (views names.now)) }
+{
+    for token in names {
+        found.push(Declaration {
+            name: name_of(alloc, token.text)?,
+            domain: copy::domain(alloc, domain)?,
+            place: token.place,
+        })?;
+    }
+    Ok(())
+}
+
+impl<'t, 'a> Parser<'t, 'a> {
+    // `names ":" domain "of" "integer"`, put behind these declarations.
+    #[tactic(auto, using(crate::proofs::Lists::stops_then), unfolding(crate::specs::ProgramReader::declaration_of))]
+    fn declaration(&mut self, found: &mut List<Declaration>) -> Result<(), Stop>
+        ensures { Gives (λ _. (found.new, views self.new.rest.now)) result (with_front found.old (declaration_of (views self.old.rest.now))) }
+    {
+        let names = self.names()?;
+        self.symbol(b":")?;
+        let domain = self.domain()?;
+        self.word(b"of")?;
+        self.word(b"integer")?;
+        declare(self.alloc, found, &domain, names.as_slice())?;
+        Ok(())
+    }
+
+    // `declaration { ";" declaration } [ ";" ]`.
+    fn declarations(&mut self) -> Result<List<Declaration>, Stop>
+        ensures { Gives (λ ds. (ds, views self.new.rest.now)) result (declarations_of (length (views self.old.rest.now)) (views self.old.rest.now)) }
+    {
+        let mut found = List::new(self.alloc);
+        let mut room = self.left();
+        while room > 0 {
+            self.declaration(&mut found)?;
+            if !self.is_symbol(b";") {
+                return Ok(found);
+            }
+            self.skip();
+            if !self.begins(TokenKind::Name) {
+                return Ok(found);
+            }
+            room -= 1;
+        }
+        Err(self.syntax())
+    }
+
+    #[tactic(auto, unfolding(crate::specs::ProgramReader::inputs_of))]
+    fn inputs(&mut self) -> Result<List<Declaration>, Stop>
+        ensures { Gives (λ ds. (ds, views self.new.rest.now)) result (inputs_of (views self.old.rest.now)) }
+    {
+        if !self.begins(TokenKind::Name) {
+            return Ok(List::new(self.alloc));
+        }
+        self.declarations()
+    }
+
+    // `declaration ";" { declaration ";" }`.
+    fn variables(&mut self) -> Result<List<Declaration>, Stop>
+        ensures { Gives (λ ds. (ds, views self.new.rest.now)) result (variables_of (length (views self.old.rest.now)) (views self.old.rest.now)) }
+    {
+        let mut found = List::new(self.alloc);
+        let mut room = self.left();
+        while room > 0 {
+            self.declaration(&mut found)?;
+            self.symbol(b";")?;
+            if !self.begins(TokenKind::Name) {
+                return Ok(found);
+            }
+            room -= 1;
+        }
+        Err(self.syntax())
+    }
+
+    #[tactic(auto, unfolding(crate::specs::ProgramReader::locals_of))]
+    fn locals(&mut self) -> Result<List<Declaration>, Stop>
+        ensures { Gives (λ ds. (ds, views self.new.rest.now)) result (locals_of (views self.old.rest.now)) }
+    {
+        if !self.is_word(b"var") {
+            return Ok(List::new(self.alloc));
+        }
+        self.skip();
+        self.variables()
+    }
+
+    // `[ ":" domain ]`, behind the system's name, which stands at this place.
+    #[tactic(auto, unfolding(crate::specs::ProgramReader::sizes_of))]
+    fn sizes(&mut self, place: Place) -> Result<DomainText, Stop>
+        ensures { Gives (λ d. (d, views self.new.rest.now)) result (sizes_of place (views self.old.rest.now)) }
+    {
+        if !self.is_symbol(b":") {
+            return Ok(DomainText {
+                names: List::new(self.alloc),
+                constraints: List::new(self.alloc),
+                place,
+            });
+        }
+        self.skip();
+        self.domain()
+    }
+
+    // `[ "[" [ names ] "]" ]`.
+    #[tactic(auto, unfolding(crate::specs::ProgramReader::index_names_of))]
+    fn index_names(&mut self) -> Result<Option<List<Name>>, Stop>
+        ensures { Gives (λ ns. (ns, views self.new.rest.now)) result (index_names_of (views self.old.rest.now)) }
+    {
+        if !self.is_symbol(b"[") {
+            return Ok(None);
+        }
+        self.skip();
+        let names = self.optional_names()?;
+        self.symbol(b"]")?;
+        Ok(Some(names))
+    }
+
+    // `name [ "[" [ names ] "]" ] "=" expr ";"`.
+    #[tactic(auto, unfolding(crate::specs::ProgramReader::equation_of))]
+    fn equation(&mut self, levels: u32) -> Result<Equation, Stop>
+        ensures { Gives (λ e. (view_equation e, views self.new.rest.now)) result (equation_of levels (views self.old.rest.now)) }
+    {
+        let name = self.expect(TokenKind::Name)?;
+        let indices = self.index_names()?;
+        self.symbol(b"=")?;
+        let right = self.deeper_expr(levels)?;
+        self.symbol(b";")?;
+        Ok(Equation {
+            name: name_of(self.alloc, name.text)?,
+            indices,
+            right,
+            place: name.place,
+        })
+    }
+
+    // `{ equation }`.
+    fn equations(&mut self, levels: u32) -> Result<List<Equation>, Stop>
+        ensures { Gives (λ es. (view_equations es, views self.new.rest.now)) result (equations_of levels (length (views self.old.rest.now)) (views self.old.rest.now)) }
+    {
+        let mut found = List::new(self.alloc);
+        let mut room = self.left();
+        while room > 0 {
+            if !self.begins(TokenKind::Name) {
+                return Ok(found);
+            }
+            let equation = self.equation(levels)?;
+            found.push(equation)?;
+            room -= 1;
+        }
+        Ok(found)
+    }
+
+    // `[ ";" ]`.
+    fn semicolon(&mut self)
+        ensures { views self.new.rest.now ≡ semicolon_of (views self.old.rest.now) }
+    {
+        if self.is_symbol(b";") {
+            self.skip();
+        }
+    }
+
+    // What stands before the locals.
+    #[tactic(auto, unfolding(crate::specs::ProgramReader::header_of))]
+    fn header(&mut self) -> Result<Header, Stop>
+        ensures { Gives (λ h. (view_header h, views self.new.rest.now)) result (header_of (views self.old.rest.now)) }
+    {
+        self.word(b"system")?;
+        let name = self.expect(TokenKind::Name)?;
+        let sizes = self.sizes(name.place)?;
+        self.symbol(b"(")?;
+        let inputs = self.inputs()?;
+        self.symbol(b")")?;
+        self.word(b"returns")?;
+        self.symbol(b"(")?;
+        let outputs = self.declarations()?;
+        self.symbol(b")")?;
+        self.symbol(b";")?;
+        Ok(Header {
+            name: name_of(self.alloc, name.text)?,
+            sizes,
+            inputs,
+            outputs,
+        })
+    }
+
+    #[tactic(auto, unfolding(crate::specs::ProgramReader::system_of))]
+    fn system(&mut self, levels: u32) -> Result<System, Stop>
+        ensures { Gives (λ s. (view_system s, views self.new.rest.now)) result (system_of levels (views self.old.rest.now)) }
+    {
+        let header = self.header()?;
+        let locals = self.locals()?;
+        self.word(b"let")?;
+        let equations = self.equations(levels)?;
+        self.word(b"tel")?;
+        self.semicolon();
+        Ok(System {
+            name: header.name,
+            sizes: header.sizes,
+            inputs: header.inputs,
+            outputs: header.outputs,
+            locals,
+            equations,
+        })
+    }
+
+    /// The program that all these tokens spell.
+    #[tactic(auto, unfolding(crate::specs::ProgramReader::program_of, crate::specs::ProgramReader::ended))]
+    pub(crate) fn program(&mut self, levels: u32) -> Result<System, Stop>
+        ensures { Gives view_system result (program_of levels (views self.old.rest.now)) }
+    {
+        let system = self.system(levels)?;
+        self.expect(TokenKind::End)?;
+        if !self.rest.is_empty() {
+            return Err(self.syntax());
+        }
+        Ok(system)
+    }
+}
