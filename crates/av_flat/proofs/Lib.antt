@@ -1,0 +1,8 @@
+pub mod Sets
+pub mod Words
+pub mod Views
+pub mod Parts
+pub mod PieceValues
+mod Examples
+mod WellFormedSystem
+mod PieceExamples

@@ -1,0 +1,14 @@
+pub mod Trees
+pub mod Points
+pub mod Signatures
+pub mod Counts
+pub mod Values
+pub mod Shown
+pub mod Faults
+pub mod Solutions
+pub mod Sets
+pub mod WellFormed
+pub mod Kept
+pub mod Proper
+pub mod Pieces
+pub mod Quantities

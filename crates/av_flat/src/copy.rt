@@ -1,0 +1,196 @@
+//! Systems and trees once more, in memory of their own.
+
+ghost use Rattle.std.specs.Prelude.{◌≡◌, IfOk, map};
+ghost use Rattle.av_flat.specs.Trees.{view, view_piece, view_variable, view_system};
+
+use crate::{Choice, Flat, Piece, Tree, Var};
+use av_affine::{Form, Map, Rows};
+use av_base::{List, Memory, Name};
+use av_poly::Poly;
+use std::alloc::Global;
+
+/// The same system.
+pub fn copy_flat(alloc: Global, flat: &Flat) -> Result<Flat, Memory>
+    ensures { IfOk result (λ to. view_system to ≡ view_system flat.now) }
+{
+    let vars = copy_variables(alloc, flat.vars.as_slice())?;
+    Ok(Flat {
+        width: flat.width,
+        vars,
+    })
+}
+
+/// The same tree.
+#[cycle(copy)]
+pub fn copy_tree(alloc: Global, tree: &Tree) -> Result<Tree, Memory>
+    ensures { IfOk result (λ to. view to ≡ view tree.now) }
+{
+    match tree {
+        Tree::Ref { var, map } => Ok(Tree::Ref {
+            var: *var,
+            map: copy_map(map),
+        }),
+        Tree::Const(word) => Ok(Tree::Const(*word)),
+        Tree::Binary { sign, left, right } => {
+            let left = boxed(alloc, left)?;
+            let right = boxed(alloc, right)?;
+            Ok(Tree::Binary {
+                sign: *sign,
+                left,
+                right,
+            })
+        }
+        Tree::Choose {
+            left,
+            compare,
+            right,
+            yes,
+            no,
+        } => {
+            let left = boxed(alloc, left)?;
+            let right = boxed(alloc, right)?;
+            let yes = boxed(alloc, yes)?;
+            let no = boxed(alloc, no)?;
+            Ok(Tree::Choose {
+                left,
+                compare: *compare,
+                right,
+                yes,
+                no,
+            })
+        }
+        Tree::Restrict { domain, body } => {
+            let domain = copy_set(alloc, domain)?;
+            let body = boxed(alloc, body)?;
+            Ok(Tree::Restrict { domain, body })
+        }
+        Tree::Case { branches } => Ok(Tree::Case {
+            branches: copy_trees(alloc, branches.as_slice())?,
+        }),
+        Tree::Depend { map, body } => {
+            let body = boxed(alloc, body)?;
+            Ok(Tree::Depend {
+                map: copy_map(map),
+                body,
+            })
+        }
+        Tree::Reduce { op, map, body, set } => {
+            let body = boxed(alloc, body)?;
+            let set = copy_set(alloc, set)?;
+            Ok(Tree::Reduce {
+                op: *op,
+                map: copy_map(map),
+                body,
+                set,
+            })
+        }
+        Tree::Pick {
+            var,
+            choices,
+            otherwise,
+        } => {
+            let choices = copy_choices(alloc, choices.as_slice())?;
+            Ok(Tree::Pick {
+                var: *var,
+                choices,
+                otherwise: *otherwise,
+            })
+        }
+    }
+}
+
+#[cycle(copy)]
+fn boxed(alloc: Global, tree: &Tree) -> Result<Box<Tree>, Memory>
+    ensures { IfOk result (λ to. view to.value ≡ view tree.now) }
+{
+    let to = copy_tree(alloc, tree)?;
+    Ok(Box::new(alloc, to)?)
+}
+
+#[cycle(copy)]
+fn copy_trees(alloc: Global, trees: &[Tree]) -> Result<List<Tree>, Memory>
+    ensures { IfOk result (λ to. map view to ≡ map view trees.now) }
+{
+    let mut to = List::new(alloc);
+    for tree in trees {
+        to.push(copy_tree(alloc, tree)?)?;
+    }
+    Ok(to)
+}
+
+fn copy_choices(alloc: Global, choices: &[Choice]) -> Result<List<Choice>, Memory>
+    ensures { IfOk result (λ to. to ≡ choices.now) }
+{
+    let mut to = List::new(alloc);
+    for choice in choices {
+        to.push(Choice {
+            set: copy_set(alloc, &choice.set)?,
+            map: copy_map(&choice.map),
+        })?;
+    }
+    Ok(to)
+}
+
+fn copy_variables(alloc: Global, vars: &[Var]) -> Result<List<Var>, Memory>
+    ensures { IfOk result (λ to. map view_variable to ≡ map view_variable vars.now) }
+{
+    let mut to = List::new(alloc);
+    for var in vars {
+        to.push(copy_variable(alloc, var)?)?;
+    }
+    Ok(to)
+}
+
+fn copy_variable(alloc: Global, var: &Var) -> Result<Var, Memory>
+    ensures { IfOk result (λ to. view_variable to ≡ view_variable var.now) }
+{
+    let name = Name::new(alloc, var.name.as_str())?;
+    let domain = copy_set(alloc, &var.domain)?;
+    let pieces = copy_pieces(alloc, var.pieces.as_slice())?;
+    Ok(Var {
+        name,
+        kind: var.kind,
+        width: var.width,
+        domain,
+        pieces,
+    })
+}
+
+fn copy_pieces(alloc: Global, pieces: &[Piece]) -> Result<List<Piece>, Memory>
+    ensures { IfOk result (λ to. map view_piece to ≡ map view_piece pieces.now) }
+{
+    let mut to = List::new(alloc);
+    for piece in pieces {
+        to.push(Piece {
+            domain: copy_set(alloc, &piece.domain)?,
+            tree: copy_tree(alloc, &piece.tree)?,
+        })?;
+    }
+    Ok(to)
+}
+
+fn copy_set(alloc: Global, set: &Poly) -> Result<Poly, Memory>
+    ensures { IfOk result (λ to. to ≡ set.now) }
+{
+    let rows = copy_rows(alloc, set.rows.as_slice())?;
+    Ok(Poly { dim: set.dim, rows })
+}
+
+fn copy_rows(alloc: Global, rows: &[Form]) -> Result<List<Form>, Memory>
+    ensures { IfOk result (λ to. to ≡ rows.now) }
+{
+    let mut to = List::new(alloc);
+    for row in rows {
+        to.push(*row)?;
+    }
+    Ok(to)
+}
+
+fn copy_map(map: &Map) -> Map
+    ensures { result ≡ map.now }
+{
+    Map {
+        from: map.from,
+        rows: Rows::from_slice(map.rows.as_slice()),
+    }
+}

@@ -1,0 +1,49 @@
+use crate::pass::Meant;
+use crate::tree::Tree;
+use av_base::{List, Name, Width};
+use av_poly::Poly;
+
+/// What a variable is: given, shown as a result, computed on the way, or the running fold of a reduction.
+#[derive(Clone, Copy, Debug, PartialEq, Eq)]
+pub enum Kind {
+    Input,
+    Output,
+    Local,
+    Partial,
+}
+
+/// A right side that holds at the points of a set.
+#[derive(Debug, Drop)]
+pub struct Piece {
+    pub domain: Poly,
+    pub tree: Tree,
+}
+
+/// A variable with its declared points. Its pieces are the branches of one case, each restricted to its domain;
+/// an input has none.
+#[derive(Debug, Drop)]
+pub struct Var {
+    pub name: Name,
+    pub kind: Kind,
+    /// The width of its words and of its equation, in bits.
+    pub width: Width,
+    pub domain: Poly,
+    pub pieces: List<Piece>,
+}
+
+/// A system of affine recurrence equations with its sizes put in: inputs, outputs and locals, each in the order
+/// of declaration, and then the partial variables.
+#[derive(Debug, Drop)]
+pub struct Flat {
+    pub width: Width,
+    pub vars: List<Var>,
+}
+
+impl Meant for Flat {
+    ghost use Rattle.av_flat.specs.Trees.{view_system};
+    ghost use Rattle.av_flat.specs.Solutions.{shows_of, declares_of};
+
+    ghost shows = { λ flat. shows_of (view_system flat) };
+
+    ghost declares = { λ flat. declares_of (view_system flat) };
+}

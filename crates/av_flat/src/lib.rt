@@ -1,0 +1,24 @@
+//! Flat systems: variables by number, domains as rows, expressions as pieces; what they mean and show, and
+//! passes from one system to another that shows the same. The definitions stand in `specs/`.
+#![tactic(auto)]
+
+mod copy;
+mod flat;
+mod laws;
+mod pass;
+mod quantity;
+mod then;
+mod tree;
+
+pub use copy::{copy_flat, copy_tree};
+pub use flat::{Flat, Kind, Piece, Var};
+pub use laws::{
+    counted_pieces, counted_word, number_of_pieces, one_word, points_of_sets, words_of_pieces,
+};
+pub use pass::{Feeds, Meant, Pass};
+pub use quantity::Quantity;
+pub use then::{Then, ThenFault};
+pub use tree::{Choice, Tree};
+
+#[cfg(test)]
+mod tests;

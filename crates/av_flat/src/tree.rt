@@ -1,0 +1,67 @@
+use av_affine::Map;
+use av_base::{List, Op, Word};
+use av_poly::Poly;
+use av_tree::{Relation, Sign};
+
+/// One of the reads of a `Pick`: where the set holds the point, it reads the image under the map.
+#[derive(Debug, Drop)]
+pub struct Choice {
+    pub set: Poly,
+    pub map: Map,
+}
+
+/// The right side of a piece, or a part of it, over the indices of its context (Mauras 1989; Wilde's reports
+/// on Alpha). A variable is told by its place in `Flat::vars`.
+#[derive(Debug, Drop)]
+pub enum Tree {
+    /// A variable at the image of the point.
+    Ref {
+        var: u32,
+        map: Map,
+    },
+    /// A word, below 2 to the width of the equation.
+    Const(Word),
+    /// Two parts under an operator.
+    Binary {
+        sign: Sign,
+        left: Box<Tree>,
+        right: Box<Tree>,
+    },
+    /// `yes` where the words of `left` and `right` compare so, as signed numbers, else `no`.
+    Choose {
+        left: Box<Tree>,
+        compare: Relation,
+        right: Box<Tree>,
+        yes: Box<Tree>,
+        no: Box<Tree>,
+    },
+    /// The body, inside the domain alone.
+    Restrict {
+        domain: Poly,
+        body: Box<Tree>,
+    },
+    /// The one branch that has a word at the point.
+    Case {
+        branches: List<Tree>,
+    },
+    /// The body at the image of the point.
+    Depend {
+        map: Map,
+        body: Box<Tree>,
+    },
+    /// The fold of the body's words over the points that the map sends to this point, by the index that the map
+    /// drops, ascending. Only points of `set`, which is a set over the body's indices, are taken.
+    Reduce {
+        op: Op,
+        map: Map,
+        body: Box<Tree>,
+        set: Poly,
+    },
+    /// The variable at the image under the first choice whose set holds the point, and the word `otherwise`
+    /// where no set does.
+    Pick {
+        var: u32,
+        choices: List<Choice>,
+        otherwise: Word,
+    },
+}
