@@ -1,0 +1,26 @@
+ghost use Rattle.av_flat.specs.WellFormed.{IsWellFormed};
+ghost use Rattle.std.specs.Prelude.{ℕ, List};
+ghost use Rattle.av_tree.specs.Counts.{Instance};
+ghost use Rattle.av_tree.specs.Trees.{System};
+ghost use Rattle.av_names.specs.declared.size.Size.{Size as SizeWord};
+ghost use Rattle.av_names.specs.Accepted.{instance_of, HasNoInequality};
+ghost use Rattle.av_names.specs.Flattened.{flat_of};
+ghost use Rattle.av_names.specs.Limits.{IsLimited};
+ghost use Rattle.av_names.specs.Refusals.{IsAccepted};
+ghost use Rattle.av_names.specs.Regular.{IsRegular};
+ghost use Rattle.av_names.specs.Same.{SaysTheSame};
+
+/// A law on flat systems: that of a regular system says what the system says.
+pub fn flat_systems_say_the_same()
+    ensures { (i : Instance) → IsRegular i → SaysTheSame i (flat_of i) }
+{}
+
+/// A law on flat systems: that of a regular system within the limits is well formed.
+pub fn flat_systems_are_well_formed()
+    ensures { (i : Instance) → IsRegular i → IsLimited i → IsWellFormed (flat_of i) }
+{}
+
+/// A law on refusals: a system that no rule refuses with its sizes is regular, where no domain has an inequality.
+pub fn accepted_systems_are_regular()
+    ensures { (s : System) (words : List SizeWord) (width : ℕ) → HasNoInequality s → IsAccepted s words → IsRegular (instance_of s words width) }
+{}

@@ -1,0 +1,25 @@
+//! Names with sizes: what is wrong with the names, places and numbers of a system, and the flat system of a tree,
+//! which says what the tree says. The definitions stand in `specs/`.
+#![tactic(auto)]
+
+mod arity;
+mod defined;
+mod fault;
+mod found;
+mod index;
+mod laws;
+mod name_set;
+mod part;
+mod projection;
+mod quantities_in;
+mod reductions_in;
+mod repetitions;
+mod size;
+mod size_words;
+mod tables;
+
+pub use fault::NameFault;
+pub use laws::{
+    accepted_systems_are_regular, flat_systems_are_well_formed, flat_systems_say_the_same,
+};
+pub use size::Size;

@@ -1,0 +1,85 @@
+//! Maps of reductions that are no projections.
+
+ghost use Rattle.std.specs.Prelude.{◌≡◌, [], map, IfOk, option_map};
+ghost use Rattle.av_tree.specs.Trees.{System, view};
+ghost use Rattle.av_names.specs.Parts as list;
+ghost use Rattle.av_names.specs.Reductions as rules;
+ghost use Rattle.av_names.specs.Seen.{part};
+
+use crate::found::sooner_place;
+use crate::name_set::NameSet;
+use crate::part::Part;
+use av_base::{Memory, Name, Place};
+use av_tree::{Expr, IndexExpr, MapText, Term};
+use std::alloc::Global;
+
+/// The first reduction's map that does not give all its names but one, each once and plain.
+pub(crate) fn projection(alloc: Global, parts: &[Part<'_>]) -> Result<Option<Place>, Memory>
+    ensures { IfOk result (λ first. (s : System) → map part parts.now ≡ list.parts s → first ≡ rules.projection s) }
+{
+    let mut first = None;
+    for part in parts {
+        let next = projection_at(alloc, part.expr)?;
+        first = sooner_place(first, next);
+    }
+    Ok(first)
+}
+
+fn projection_at(alloc: Global, expr: &Expr) -> Result<Option<Place>, Memory>
+    ensures { IfOk result (λ place. place ≡ rules.expression_projection (view expr.now)) }
+{
+    match expr {
+        Expr::Reduce { map, .. } => {
+            if is_projection(alloc, map)? {
+                Ok(None)
+            } else {
+                Ok(Some(map.place))
+            }
+        }
+        _ => Ok(None),
+    }
+}
+
+fn is_projection(alloc: Global, map: &MapText) -> Result<bool, Memory>
+    ensures { IfOk result (λ yes. yes ≡ rules.is_projection map.now) }
+{
+    let names = map.names.as_slice();
+    let results = map.results.as_slice();
+    if results.len() + 1 != names.len() {
+        return Ok(false);
+    }
+    gives_names(alloc, names, results)
+}
+
+fn gives_names(alloc: Global, names: &[Name], results: &[IndexExpr]) -> Result<bool, Memory>
+    ensures { IfOk result (λ yes. yes ≡ rules.gives_names names.now [] results.now) }
+{
+    let own = NameSet::of(alloc, names)?;
+    let mut before = NameSet::new(alloc);
+    for entry in results {
+        match plain_name(entry.terms.as_slice()) {
+            None => return Ok(false),
+            Some(name) => {
+                if !own.contains(name) {
+                    return Ok(false);
+                }
+                if !before.insert(name)? {
+                    return Ok(false);
+                }
+            }
+        }
+    }
+    Ok(true)
+}
+
+fn plain_name(terms: &[Term]) -> Option<&Name>
+    ensures { option_map (λ n. n.now) result ≡ rules.plain_name terms.now }
+{
+    match terms {
+        [term] if term.factor == 1 => match &term.name {
+            Some(name) => Some(name),
+            None => None,
+        },
+        _ => None,
+    }
+}

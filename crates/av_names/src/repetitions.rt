@@ -1,0 +1,209 @@
+//! Names that are declared a second time.
+
+ghost use Rattle.std.specs.Prelude.{◌≡◌, [], map, IfOk, option_map};
+ghost use Rattle.av_tree.specs.Domains as domains;
+ghost use Rattle.av_tree.specs.Trees.{view, view_equation, view_system};
+ghost use Rattle.av_names.specs.Found.{at_option, first_found};
+ghost use Rattle.av_names.specs.Parts as list;
+ghost use Rattle.av_names.specs.Repetitions as repeats;
+ghost use Rattle.av_names.specs.Seen.{found, part};
+
+use crate::found::{Found, sooner};
+use crate::name_set::NameSet;
+use crate::part::Part;
+use av_base::{Memory, Name, Place};
+use av_tree::{Access, Declaration, DomainText, Equation, Expr, System};
+use std::alloc::Global;
+
+/// The first name that an earlier one of the list repeats.
+pub(crate) fn second<'a>(alloc: Global, names: &'a [Name]) -> Result<Option<&'a Name>, Memory>
+    ensures { IfOk result (λ name. option_map (λ n. n.now) name ≡ repeats.second [] names.now) }
+{
+    let mut before = NameSet::new(alloc);
+    for name in names {
+        if !before.insert(name)? {
+            return Ok(Some(name));
+        }
+    }
+    Ok(None)
+}
+
+/// The first name that stands once more behind it, or is a size.
+pub(crate) fn again<'a>(
+    alloc: Global,
+    sizes: &NameSet<'_>,
+    names: &'a [Name],
+) -> Result<Option<&'a Name>, Memory>
+    ensures { IfOk result (λ name. option_map (λ n. n.now) name ≡ repeats.again sizes.now names.now) }
+{
+    let mut behind = NameSet::new(alloc);
+    let mut first = None;
+    let mut rest = names.len();
+    while rest > 0 {
+        rest -= 1;
+        let name = &names[rest];
+        if !behind.insert(name)? || sizes.contains(name) {
+            first = Some(name);
+        }
+    }
+    Ok(first)
+}
+
+/// An index name that stands twice in its list, or is a size.
+fn repeated_index<'a>(
+    alloc: Global,
+    sizes: &NameSet<'_>,
+    names: &'a [Name],
+    place: Place,
+) -> Result<Option<Found<'a>>, Memory>
+    ensures { IfOk result (λ first. option_map found first ≡ repeats.repeated_index sizes.now (record { names = names.now; place = place })) }
+{
+    match again(alloc, sizes, names)? {
+        None => Ok(None),
+        Some(name) => Ok(Some(Found { name, place })),
+    }
+}
+
+/// A variable whose name is a size or that of an earlier variable.
+pub(crate) fn repeated_variable<'a>(
+    alloc: Global,
+    sizes: &'a [Name],
+    variables: &[&'a Declaration],
+) -> Result<Option<Found<'a>>, Memory>
+    ensures { IfOk result (λ first. option_map found first ≡ repeats.repeated_variable sizes.now (map (λ d. d.now) variables.now)) }
+{
+    let mut before = NameSet::of(alloc, sizes)?;
+    for variable in variables {
+        if !before.insert(&variable.name)? {
+            return Ok(Some(Found {
+                name: &variable.name,
+                place: variable.place,
+            }));
+        }
+    }
+    Ok(None)
+}
+
+/// An index name of a declared domain.
+fn in_variables<'a>(
+    alloc: Global,
+    sizes: &NameSet<'_>,
+    variables: &[&'a Declaration],
+) -> Result<Option<Found<'a>>, Memory>
+    ensures { IfOk result (λ first. option_map found first ≡ first_found (λ d. repeats.repeated_index sizes.now (repeats.of_declaration d.now)) variables.now) }
+{
+    let mut first = None;
+    for variable in variables {
+        let domain = &variable.domain;
+        let next = repeated_index(alloc, sizes, domain.names.as_slice(), domain.place)?;
+        first = sooner(first, next);
+    }
+    Ok(first)
+}
+
+/// An index name of an equation.
+fn in_equations<'a>(
+    alloc: Global,
+    sizes: &NameSet<'_>,
+    equations: &'a [Equation],
+) -> Result<Option<Found<'a>>, Memory>
+    ensures { IfOk result (λ first. option_map found first ≡ first_found (λ e. at_option (repeats.repeated_index sizes.now) (repeats.of_equation (view_equation e))) equations.now) }
+{
+    let mut first = None;
+    for equation in equations {
+        let next = in_equation(alloc, sizes, equation)?;
+        first = sooner(first, next);
+    }
+    Ok(first)
+}
+
+fn in_equation<'a>(
+    alloc: Global,
+    sizes: &NameSet<'_>,
+    equation: &'a Equation,
+) -> Result<Option<Found<'a>>, Memory>
+    ensures { IfOk result (λ first. option_map found first ≡ at_option (repeats.repeated_index sizes.now) (repeats.of_equation (view_equation equation.now))) }
+{
+    match &equation.indices {
+        None => Ok(None),
+        Some(names) => repeated_index(alloc, sizes, names.as_slice(), equation.place),
+    }
+}
+
+/// An index name of a restriction or a map.
+fn in_parts<'a>(
+    alloc: Global,
+    sizes: &NameSet<'_>,
+    parts: &[Part<'a>],
+) -> Result<Option<Found<'a>>, Memory>
+    ensures { IfOk result (λ first. option_map found first ≡ first_found (λ p. at_option (repeats.repeated_index sizes.now) (repeats.of_part (part p))) parts.now) }
+{
+    let mut first = None;
+    for part in parts {
+        let next = in_part(alloc, sizes, part.expr)?;
+        first = sooner(first, next);
+    }
+    Ok(first)
+}
+
+fn in_part<'a>(
+    alloc: Global,
+    sizes: &NameSet<'_>,
+    expr: &'a Expr,
+) -> Result<Option<Found<'a>>, Memory>
+    ensures { IfOk result (λ first. option_map found first ≡ at_option (repeats.repeated_index sizes.now) (repeats.of_expression (view expr.now))) }
+{
+    match expr {
+        Expr::Restrict { domain, .. } => {
+            repeated_index(alloc, sizes, domain.names.as_slice(), domain.place)
+        }
+        Expr::Ref {
+            at: Access::Mapped(map),
+            ..
+        }
+        | Expr::Const {
+            at: Access::Mapped(map),
+            ..
+        }
+        | Expr::Depend { map, .. }
+        | Expr::Reduce { map, .. } => {
+            repeated_index(alloc, sizes, map.names.as_slice(), map.place)
+        }
+        _ => Ok(None),
+    }
+}
+
+/// A size that was declared before.
+fn repeated_size<'a>(alloc: Global, sizes: &'a DomainText) -> Result<Option<Found<'a>>, Memory>
+    ensures { IfOk result (λ first. option_map found first ≡ repeats.repeated_size sizes.now) }
+{
+    match second(alloc, sizes.names.as_slice())? {
+        None => Ok(None),
+        Some(name) => Ok(Some(Found {
+            name,
+            place: sizes.place,
+        })),
+    }
+}
+
+/// The first name that is declared a second time.
+pub(crate) fn repeated<'a>(
+    alloc: Global,
+    system: &'a System,
+    variables: &[&'a Declaration],
+    parts: &[Part<'a>],
+) -> Result<Option<Found<'a>>, Memory>
+    requires variables { map (λ d. d.now) variables.now ≡ domains.variables (view_system system.now) }
+    requires parts { map part parts.now ≡ list.parts (view_system system.now) }
+    ensures { IfOk result (λ first. option_map found first ≡ repeats.repeated (view_system system.now)) }
+{
+    let names = system.sizes.names.as_slice();
+    let sizes = NameSet::of(alloc, names)?;
+    let size = repeated_size(alloc, &system.sizes)?;
+    let variable = repeated_variable(alloc, names, variables)?;
+    let domain = in_variables(alloc, &sizes, variables)?;
+    let equation = in_equations(alloc, &sizes, system.equations.as_slice())?;
+    let part = in_parts(alloc, &sizes, parts)?;
+    let index = sooner(sooner(domain, equation), part);
+    Ok(sooner(size, sooner(variable, index)))
+}
