@@ -8,5 +8,6 @@ pub mod Streams
 pub mod Lines
 pub mod Fits
 pub mod Declared
+pub mod Rowless
 pub mod RunFits
 mod Examples

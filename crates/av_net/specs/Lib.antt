@@ -7,3 +7,8 @@ pub mod Sound
 pub mod Presented
 pub mod Laws
 pub mod Texts
+pub mod Lexemes
+pub mod Grammar
+pub mod Listed
+pub mod Rows
+pub mod Designs

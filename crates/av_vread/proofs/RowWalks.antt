@@ -1,0 +1,89 @@
+-- The walks of the rows of faults.
+use Rattle.std.proofs.Common.{◌≡◌, ℕ, suc, ◌+◌, ◌<◌, false, cond, not, List, [], ◌∷◌, ◌++◌, length, drop, get_or, map, Option, Some, refl, sym, ap, ◌∙◌, arith, append_assoc, drop-cons}
+use Rattle.std.specs.Prelude.{◌||◌, OnOk, Result, Ok, Err, find, if◌then◌else◌}
+use Rattle.std.proofs.Math.Path.{fun_ext}
+use Rattle.std.proofs.lemmas.List.{append-nil}
+use Rattle.av_net.specs.declared.netlist.Port.{Port}
+use Rattle.av_net.specs.Names.{width_in}
+use Rattle.av_net.specs.Grammar.{Item}
+use Rattle.av_net.specs.Rows.{Among, is_in, target_of, reads_early, first_early, wires_of, registers_in}
+use Rattle.av_vread.specs.Scoped.{Bytes, texts, width_found}
+use Rattle.av_vread.specs.declared.parsed.Item.{Item as FoundItem}
+use Rattle.av_vread.specs.declared.parsed.Declaration.{Declaration as FoundDeclaration}
+use Rattle.av_vread.specs.declared.parsed.Declaration.TheVariants as declaration
+use Rattle.av_vread.specs.Reading.{said_declaration, said_item}
+use Rattle.av_vread.proofs.Walks.{rest_is, put_in, any_or_of, found_more, or_one, width_or_one}
+use denote.Ref.{Bor}
+
+-- two lists with the same names are the same test
+pub same_test : (a b : List (List ℕ)) → ((q : List ℕ) → is_in a q ≡ is_in b q) → is_in a ≡ is_in b
+same_test a b h = fun_ext h
+
+pub set_more : (names : List (Bor Bytes)) (i : ℕ) (d : Bor Bytes) (set set' : List Bytes) (q : Bytes) → i < length names
+    → set' ≡ (if is_in set (get_or names i d).now then set else (set ++ (get_or names i d).now ∷ []))
+    → ((q : Bytes) → is_in (set ++ texts (drop i names)) q ≡ is_in (texts names) q) → is_in (set' ++ texts (drop (i + 1) names)) q ≡ is_in (texts names) q
+set_more names i d set set' q lt e so =
+    let x : Bor Bytes = get_or names i d in
+    put_in set set' (texts (drop (i + 1) names)) x.now q e ∙ ap (λ (z : List (Bor Bytes)). is_in (set ++ texts z) q) (sym (rest_at names i d lt)) ∙ so q
+  where
+    rest_at : (names : List (Bor Bytes)) (i : ℕ) (d : Bor Bytes) → i < length names → drop i names ≡ get_or names i d ∷ drop (i + 1) names
+    rest_at names i d lt = drop-cons names i d lt ∙ ap (λ n. get_or names i d ∷ drop n names) (let next : suc i ≡ i + 1 = omega arith in next)
+
+-- the same names more after either list
+one_more_name : (a b : List (List ℕ)) (t q : List ℕ) → is_in a q ≡ is_in b q → is_in (a ++ t ∷ []) q ≡ is_in (b ++ t ∷ []) q
+one_more_name a b t q h = any_or_of q a (t ∷ []) ∙ ap (λ x. x || is_in (t ∷ []) q) h ∙ sym (any_or_of q b (t ∷ []))
+
+pub early_same : (w : Among) (a b : List (List ℕ)) (items : List Item) → ((q : List ℕ) → is_in a q ≡ is_in b q) → first_early w a items ≡ first_early w b items
+early_same w a b [] h = refl
+early_same w a b (item ∷ items) h =
+    ap (λ (t : Among). cond (reads_early w t item) (Some (target_of item)) (first_early w (a ++ target_of item ∷ []) items)) (same_test a b h)
+    ∙ ap (λ z. cond (reads_early w (is_in b) item) (Some (target_of item)) z) (early_same w (a ++ target_of item ∷ []) (b ++ target_of item ∷ []) items (λ q. one_more_name a b (target_of item) q (h q)))
+
+pub early_more : (w : Among) (items : List FoundItem) (i : ℕ) (x : FoundItem) (earlier earlier' : List (List ℕ)) (total : Option (List ℕ)) → first_early w earlier (map said_item (drop i items)) ≡ total
+    → i < length items → x ≡ get_or items i x → reads_early w (is_in earlier) (said_item x) ≡ false
+    → earlier' ≡ (if is_in earlier (target_of (said_item x)) then earlier else (earlier ++ target_of (said_item x) ∷ []))
+    → first_early w earlier' (map said_item (drop (i + 1) items)) ≡ total
+early_more w items i x earlier earlier' total so lt at late e =
+    let t : List ℕ = target_of (said_item x) in
+    let rest : List Item = map said_item (drop (i + 1) items) in
+    let same : (q : List ℕ) → is_in earlier' q ≡ is_in (earlier ++ t ∷ []) q = λ q. ap (λ z. is_in z q) (sym (append-nil earlier')) ∙ put_in earlier earlier' [] t q e in
+    let one : first_early w earlier (said_item x ∷ rest) ≡ first_early w (earlier ++ t ∷ []) rest = rw late refl in
+    early_same w earlier' (earlier ++ t ∷ []) rest same ∙ sym one ∙ ap (λ z. first_early w earlier (map said_item z)) (sym (rest_is items i x lt at)) ∙ so
+
+pub missing_same : (a b : List (List ℕ)) (names : List (List ℕ)) → ((q : List ℕ) → is_in a q ≡ is_in b q) → find (λ name. not (is_in a name)) names ≡ find (λ name. not (is_in b name)) names
+missing_same a b names h = ap (λ (t : Among). find (λ name. not (t name)) names) (same_test a b h)
+
+-- the same widths, by what is found
+pub same_widths : (a b : List Port) → ((q : List ℕ) → width_found a q ≡ width_found b q) → (q : List ℕ) → width_in a q ≡ width_in b q
+same_widths a b h q = width_or_one a q ∙ ap or_one (h q) ∙ sym (width_or_one b q)
+
+-- a walk that adds ports
+module _ {X : Type 0} (F : List X → List Port) (each : (x : X) (xs : List X) → F (x ∷ xs) ≡ F (x ∷ []) ++ F xs) where
+  pub widths_more : (made made' : List Port) (total : Bytes → Option ℕ) (xs : List X) (i : ℕ) (x : X) → ((q : Bytes) → width_found (made ++ F (drop i xs)) q ≡ total q) → i < length xs → x ≡ get_or xs i x
+      → ((q : Bytes) → width_found made' q ≡ width_found (made ++ F (x ∷ [])) q) → (q : Bytes) → width_found (made' ++ F (drop (i + 1) xs)) q ≡ total q
+  widths_more made made' total xs i x so lt at e q =
+      let rest : List X = drop (i + 1) xs in
+      found_more made' (made ++ F (x ∷ [])) (F rest) q (e q) ∙ ap (λ z. width_found z q) (append_assoc made (F (x ∷ [])) (F rest) ∙ ap (λ z. made ++ z) (sym (each x rest)))
+      ∙ ap (λ z. width_found (made ++ F z) q) (sym (rest_is xs i x lt at)) ∙ so q
+
+-- what holds where a call was right
+pub on_ok : {A E : Type 0} {P Q : Type 0} (r : Result A E) → (P → Q) → OnOk r P → OnOk r Q
+on_ok (Ok x) f h = f h
+on_ok (Err e) f h = tt
+
+pub registers_each : (x : FoundDeclaration) (xs : List FoundDeclaration) → registers_in (map said_declaration (x ∷ xs)) ≡ registers_in (map said_declaration (x ∷ [])) ++ registers_in (map said_declaration xs)
+registers_each (declaration.Wire port) xs = refl
+registers_each (declaration.Register port) xs = refl
+
+pub wires_each : (x : FoundDeclaration) (xs : List FoundDeclaration) → wires_of (map said_declaration (x ∷ xs)) ≡ wires_of (map said_declaration (x ∷ [])) ++ wires_of (map said_declaration xs)
+wires_each (declaration.Wire port) xs = refl
+wires_each (declaration.Register port) xs = refl
+
+pub widths_test : (a : List Port) (w : List ℕ → ℕ) → ((q : List ℕ) → width_in a q ≡ w q) → width_in a ≡ w
+widths_test a w h = fun_ext h
+
+-- four walks one after another
+pub four_walks : (w1 w2 w3 w4 a b c d : List Port) → ((q : Bytes) → width_found w1 q ≡ width_found ([] ++ a) q) → ((q : Bytes) → width_found w2 q ≡ width_found (w1 ++ b) q)
+    → ((q : Bytes) → width_found w3 q ≡ width_found (w2 ++ c) q) → ((q : Bytes) → width_found w4 q ≡ width_found (w3 ++ d) q) → (q : Bytes) → width_in w4 q ≡ width_in (a ++ b ++ c ++ d) q
+four_walks w1 w2 w3 w4 a b c d h1 h2 h3 h4 q =
+    same_widths w4 (a ++ b ++ c ++ d) (λ p. h4 p ∙ found_more w3 (a ++ b ++ c) d p (h3 p ∙ found_more w2 (a ++ b) c p (h2 p ∙ found_more w1 a b p (h1 p)))) q

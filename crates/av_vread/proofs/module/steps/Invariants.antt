@@ -1,0 +1,7 @@
+use Rattle.std.proofs.Common.{◌≡◌, ◌++◌, drop, map}
+use Rattle.av_net.specs.Rows.{steps_of}
+use Rattle.av_vread.specs.Reading.{said_item}
+use Rattle.av_vread.proofs.module.steps.Given as goal
+
+abbrev pub invariant-loop-item : goal.invariant-loop-item
+invariant-loop-item l = l.steps ++ steps_of (map said_item (drop l.item-index l.items)) ≡ steps_of (map said_item l.items)

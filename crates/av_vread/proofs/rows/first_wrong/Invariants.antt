@@ -1,0 +1,7 @@
+use Rattle.std.proofs.Common.{◌≡◌, drop, map}
+use Rattle.av_vread.specs.Reading.{said_item}
+use Rattle.av_net.specs.Rows.{is_in, first_some, wrong_in}
+use Rattle.av_vread.proofs.rows.first_wrong.Given as goal
+
+abbrev pub invariant-loop-item : goal.invariant-loop-item
+invariant-loop-item l = first_some (wrong_in (is_in l.wires) (is_in l.registers) (is_in l.all)) (map said_item (drop l.item-index l.items)) ≡ first_some (wrong_in (is_in l.wires) (is_in l.registers) (is_in l.all)) (map said_item l.items)

@@ -1,0 +1,10 @@
+use Rattle.std.proofs.Common.{subst, sym, ap, ◌∙◌, length, get_or, ◌-◌}
+use Rattle.std.proofs.lemmas.List.{take_rest}
+use Rattle.av_vread.specs.Scan.{FitsIn, piece_of}
+use Rattle.av_vread.proofs.Turns.{piece_fits}
+use Rattle.av_vread.proofs.scan.piece_at.Goals as goal
+
+pub returns-clause-fits : goal.returns-clause-fits
+returns-clause-fits c =
+    let is = c.piece_of.ensures ∙ ap (piece_of (get_or c.args.text.now c.args.at 0)) (take_rest c.args.text.now c.args.at) in
+    subst (λ z. FitsIn z (length c.args.text.now - c.args.at)) (sym is) (piece_fits c.args.text.now c.args.at c.requires)

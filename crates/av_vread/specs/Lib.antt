@@ -1,0 +1,7 @@
+pub mod Bits
+pub mod Scan
+pub mod Lexing
+pub mod Reading
+pub mod Scoped
+pub mod Faults
+pub mod Checked

@@ -1,0 +1,86 @@
+-- What stands at the front of a text, found byte by byte.
+use Rattle.std.specs.Prelude.{ℕ, ◌+◌, ◌<◌, ◌≤◌, Bool, false, not, ◌&&◌, if◌then◌else◌, nat_eq, nat_le, List, ◌∷◌, take, drop, length, codes}
+use Rattle.std.specs.List.{prefix_len, list_any}
+use Rattle.std.specs.Char.{is_ascii_digit}
+use Rattle.std.specs.Str.{bytes_eq}
+use Rattle.av_base.specs.Tokens.{is_word_byte, is_blank}
+use Rattle.av_net.specs.declared.token_kind.TokenKind.{TokenKind}
+use Rattle.av_net.specs.declared.token_kind.TokenKind.TheVariants as kind
+use Rattle.av_net.specs.Lexemes.{reserved_words, begins_name}
+use Rattle.av_vread.specs.declared.scan.Piece.{Piece}
+use Rattle.av_vread.specs.declared.scan.Piece.TheVariants as piece
+
+-- a byte that ends no line
+abbrev pub is_not_feed : ℕ → Bool
+is_not_feed b = not (nat_eq b 10)
+
+-- the text begins with //
+abbrev pub is_slashed : List ℕ → Bool
+is_slashed (b ∷ c ∷ bytes) = nat_eq b 47 && nat_eq c 47
+is_slashed _ = false
+
+-- the text is a reserved word
+abbrev pub is_reserved : List ℕ → Bool
+is_reserved text = list_any (bytes_eq text) reserved_words
+
+-- a symbol of one byte
+abbrev pub is_single : ℕ → Bool
+is_single b = list_any (nat_eq b) (codes "()[]:;,.@?=<>+-*&|")
+
+-- a symbol of two bytes
+abbrev pub is_pair : ℕ → ℕ → Bool
+is_pair b c = list_any (nat_eq b) (codes "<>=!") && nat_eq c 61
+
+-- the text begins with a symbol of two bytes
+abbrev pub begins_pair : List ℕ → Bool
+begins_pair (b ∷ c ∷ bytes) = is_pair b c
+begins_pair _ = false
+
+-- the symbol at the front
+unfoldable pub symbol_of : ℕ → List ℕ → Piece
+symbol_of first text =
+    if begins_pair text then piece.Token kind.Symbol 2
+    else (if is_single first then piece.Token kind.Symbol 1 else piece.Bad)
+
+-- what a word is
+abbrev pub word_kind : List ℕ → TokenKind
+word_kind text = if is_reserved text then kind.Reserved else kind.Name
+
+-- the text begins with $signed
+abbrev pub is_signed : List ℕ → Bool
+is_signed text = nat_le 7 (length text) && bytes_eq (take 7 text) (codes "$signed")
+
+-- so many bytes of 'd and n digits
+abbrev pub based_len : ℕ → ℕ
+based_len n = if nat_eq n 0 then 0 else 2 + n
+
+-- how many bytes of 'd and digits come first, or 0
+abbrev pub tail_len : List ℕ → ℕ
+tail_len (b ∷ c ∷ bytes) = if nat_eq b 39 && nat_eq c 100 then based_len (prefix_len is_ascii_digit bytes) else 0
+tail_len _ = 0
+
+-- n digits, and then a tail
+abbrev pub number_by : ℕ → ℕ → Piece
+number_by n tail = if nat_eq tail 0 then piece.Token kind.Number n else piece.Token kind.Literal (n + tail)
+
+-- the number at the front, with or without its width
+unfoldable pub number_of : List ℕ → Piece
+number_of text = number_by (prefix_len is_ascii_digit text) (tail_len (drop (prefix_len is_ascii_digit text) text))
+
+-- the token at the front, where no blank and no comment stands there
+unfoldable pub token_of : ℕ → List ℕ → Piece
+token_of first text =
+    if begins_name first then piece.Token (word_kind (take (prefix_len is_word_byte text) text)) (prefix_len is_word_byte text)
+    else (if is_ascii_digit first then number_of text else (if is_signed text then piece.Token kind.System 7 else symbol_of first text))
+
+-- what stands at the front
+unfoldable pub piece_of : ℕ → List ℕ → Piece
+piece_of first text =
+    if is_blank first then piece.Gap 1
+    else (if is_slashed text then piece.Gap (prefix_len is_not_feed text) else token_of first text)
+
+-- the piece has bytes, and no more than there are
+abbrev pub FitsIn : Piece → ℕ → Type 0
+FitsIn (piece.Gap n) room = (0 < n) × (n ≤ room)
+FitsIn (piece.Token k n) room = (0 < n) × (n ≤ room)
+FitsIn piece.Bad room = Unit {0}

@@ -1,0 +1,70 @@
+//! From the bytes of a text to its tokens.
+
+ghost use Rattle.std.specs.Prelude.{◌≡◌, ◌<◌, ◌≤◌, length, take, drop, ◌+◌};
+ghost use Rattle.std.specs.Str.{IsAscii};
+ghost use Rattle.av_base.specs.Tokens.{start};
+ghost use Rattle.av_vread.specs.Lexing.{views, GivesTokens, lexed_of};
+
+use crate::VFault;
+use crate::places::moved;
+use crate::scan::{Piece, piece_at};
+use crate::token::Token;
+use av_base::{List, Place};
+use av_net::TokenKind;
+use std::alloc::Global;
+use std::str;
+
+// So many bytes from an index on.
+fn part(bytes: &[u8], at: usize, len: usize) -> &[u8]
+    requires { at + len ≤ length bytes.now }
+    ensures { result.now ≡ take len (drop at bytes.now) }
+{
+    &bytes[at..at + len]
+}
+
+// The bytes of a token as text.
+fn ascii(bytes: &[u8]) -> &str
+    requires { IsAscii bytes.now }
+    ensures { result.now ≡ bytes.now }
+{
+    match str::from_utf8(bytes) {
+        Ok(text) => text,
+        Err(_) => unreachable!(),
+    }
+}
+
+/// The tokens of a text, in order, with `End` as the last of them, or `VByte` with the place of the first
+/// byte outside comments that begins no token.
+pub(crate) fn lex<'a>(alloc: Global, bytes: &'a [u8]) -> Result<List<Token<'a>>, VFault>
+    requires { length bytes.now < 4294967295 }
+    ensures { GivesTokens result (lexed_of (length bytes.now) start bytes.now) }
+{
+    let mut found = List::new(alloc);
+    let mut place = Place { line: 1, column: 1 };
+    let mut at = 0;
+    while at < bytes.len() {
+        match piece_at(bytes, at) {
+            Piece::Gap(len) => {
+                place = moved(place, part(bytes, at, len));
+                at += len;
+            }
+            Piece::Token(kind, len) => {
+                let text = part(bytes, at, len);
+                found.push(Token {
+                    kind,
+                    text: ascii(text),
+                    place,
+                })?;
+                place = moved(place, text);
+                at += len;
+            }
+            Piece::Bad => return Err(VFault::VByte(place)),
+        }
+    }
+    found.push(Token {
+        kind: TokenKind::End,
+        text: "",
+        place,
+    })?;
+    Ok(found)
+}

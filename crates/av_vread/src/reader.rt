@@ -1,0 +1,593 @@
+//! From the tokens of a text to what it says.
+
+ghost use Rattle.std.specs.Prelude.{◌≡◌, ◌≤◌, map, IfOk};
+ghost use Rattle.av_vread.specs.Lexing.{view, views};
+ghost use Rattle.av_vread.specs.Reading.{Gives, place_of, after, is_word, is_at, are_at, word_at, words_at, name_at, number_at, sized_view, literal_at, end_at, width_for, range_at, port_at, directed_at, declared_at, begins_declaration, declaration_at, begins_literal, operand_at, order_of, arithmetic_of, bitwise_of, symbol_of, symbol_at, order_at, signed_at, comparison_at, choice_at, operation_by, operation_at, drive_at, this_name_at, edge_at, reset_at, step_at, begins_item, item_at, ports_at, declarations_at, items_at, closed_at, clocked_at, header_at, text_at, said_declaration, said_item, said_header, said};
+
+use crate::fault::ReadError;
+use crate::literal::{Literal, literal_of};
+use crate::parsed::{Declaration, Header, Item, Text};
+use crate::token::Token;
+use av_base::{List, Name, Place, Width, decimal_value};
+use av_net::{Drive, Operand, Operation, Port, Step, Symbol, TokenKind};
+use std::alloc::Global;
+
+/// What a design text says, or the place of the first token that no text continues.
+#[tactic(auto, unfolding(crate::specs::Reading::text_at))]
+pub(crate) fn read_text<'a>(alloc: Global, tokens: &[Token<'a>]) -> Result<Text, ReadError>
+    ensures { Gives said result (text_at (views tokens.now)) }
+{
+    let mut reader = Reader {
+        alloc,
+        rest: tokens,
+    };
+    let header = reader.header()?;
+    let declarations = reader.declarations()?;
+    let items = reader.items()?;
+    reader.word("endmodule")?;
+    reader.end()?;
+    Ok(Text {
+        name: header.name,
+        inputs: header.inputs,
+        outputs: header.outputs,
+        declarations,
+        items,
+    })
+}
+
+fn arithmetic_of(text: &str) -> Option<Symbol>
+    ensures { result ≡ arithmetic_of text.now }
+{
+    if text == "+" {
+        Some(Symbol::Add)
+    } else if text == "-" {
+        Some(Symbol::Sub)
+    } else if text == "*" {
+        Some(Symbol::Mul)
+    } else {
+        None
+    }
+}
+
+fn bitwise_of(text: &str) -> Option<Symbol>
+    ensures { result ≡ bitwise_of text.now }
+{
+    if text == "&" {
+        Some(Symbol::And)
+    } else if text == "|" {
+        Some(Symbol::Or)
+    } else if text == "==" {
+        Some(Symbol::Equal)
+    } else if text == "!=" {
+        Some(Symbol::Unequal)
+    } else {
+        None
+    }
+}
+
+fn order_of(text: &str) -> Option<Symbol>
+    ensures { result ≡ order_of text.now }
+{
+    if text == "<" {
+        Some(Symbol::Less)
+    } else if text == "<=" {
+        Some(Symbol::LessEqual)
+    } else if text == ">" {
+        Some(Symbol::Greater)
+    } else if text == ">=" {
+        Some(Symbol::GreaterEqual)
+    } else {
+        None
+    }
+}
+
+// The operator that a symbol stands for.
+fn symbol_of(text: &str) -> Option<Symbol>
+    ensures { result ≡ symbol_of text.now }
+{
+    if let Some(symbol) = arithmetic_of(text) {
+        return Some(symbol);
+    }
+    if let Some(symbol) = bitwise_of(text) {
+        return Some(symbol);
+    }
+    order_of(text)
+}
+
+// The width of the range from a number to 0.
+fn width_above(number: u64) -> Width
+    requires { number ≤ 63 }
+    ensures { result ≡ width_for number }
+{
+    Width {
+        bits: number as u32 + 1,
+    }
+}
+
+// Whether a token is no name, and has this text.
+fn is_word(token: &Token, text: &str) -> bool
+    ensures { result ≡ is_word text.now (view token.now) }
+{
+    token.kind != TokenKind::Name && token.text == text
+}
+
+/// The tokens that are left.
+#[derive(Drop)]
+struct Reader<'t, 'a> {
+    alloc: Global,
+    rest: &'t [Token<'a>],
+}
+
+impl<'t, 'a> Reader<'t, 'a> {
+    // ---- single tokens
+
+    // Where the next token stands.
+    fn place(&self) -> Place
+        ensures { result ≡ place_of (views self.now.rest.now) }
+    {
+        match self.rest {
+            [first, ..] => first.place,
+            [] => Place { line: 1, column: 1 },
+        }
+    }
+
+    fn skip(&mut self)
+        ensures { views self.new.rest.now ≡ after (views self.old.rest.now) }
+    {
+        if let [_, rest @ ..] = self.rest {
+            self.rest = rest;
+        }
+    }
+
+    fn is_at(&self, text: &str) -> bool
+        ensures { result ≡ is_at text.now (views self.now.rest.now) }
+    {
+        match self.rest {
+            [first, ..] => is_word(first, text),
+            [] => false,
+        }
+    }
+
+    fn are_at(&self, first: &str, second: &str) -> bool
+        ensures { result ≡ are_at first.now second.now (views self.now.rest.now) }
+    {
+        match self.rest {
+            [one, two, ..] => is_word(one, first) && is_word(two, second),
+            _ => false,
+        }
+    }
+
+    #[tactic(auto, unfolding(crate::specs::Reading::word_at))]
+    fn word(&mut self, text: &str) -> Result<(), ReadError>
+        ensures { Gives (λ _. views self.new.rest.now) result (word_at text.now (views self.old.rest.now)) }
+    {
+        match self.rest {
+            [first, rest @ ..] if is_word(first, text) => {
+                self.rest = rest;
+                Ok(())
+            }
+            _ => Err(ReadError::Syntax(self.place())),
+        }
+    }
+
+    #[tactic(auto, unfolding(crate::specs::Reading::name_at))]
+    fn name(&mut self) -> Result<Name, ReadError>
+        ensures { Gives (λ x. (x, views self.new.rest.now)) result (name_at (views self.old.rest.now)) }
+    {
+        match self.rest {
+            [first, rest @ ..] if first.kind == TokenKind::Name => {
+                self.rest = rest;
+                Ok(Name::new(self.alloc, first.text)?)
+            }
+            _ => Err(ReadError::Syntax(self.place())),
+        }
+    }
+
+    // This very name.
+    #[tactic(auto, unfolding(crate::specs::Reading::this_name_at))]
+    fn this_name(&mut self, name: &str) -> Result<(), ReadError>
+        ensures { Gives (λ _. views self.new.rest.now) result (this_name_at name.now (views self.old.rest.now)) }
+    {
+        match self.rest {
+            [first, rest @ ..] if first.kind == TokenKind::Name && first.text == name => {
+                self.rest = rest;
+                Ok(())
+            }
+            _ => Err(ReadError::Syntax(self.place())),
+        }
+    }
+
+    // A number of at most 63.
+    #[tactic(auto, unfolding(crate::specs::Reading::number_at))]
+    fn number(&mut self) -> Result<u64, ReadError>
+        ensures within { IfOk result (λ x. x ≤ 63) }
+        ensures gives { Gives (λ x. (x, views self.new.rest.now)) result (number_at (views self.old.rest.now)) }
+    {
+        match self.rest {
+            [first, rest @ ..] if first.kind == TokenKind::Number => {
+                match decimal_value(first.text.as_bytes()) {
+                    Some(value) if value <= 63 => {
+                        self.rest = rest;
+                        Ok(value)
+                    }
+                    _ => Err(ReadError::Syntax(first.place)),
+                }
+            }
+            _ => Err(ReadError::Syntax(self.place())),
+        }
+    }
+
+    #[tactic(auto, unfolding(crate::specs::Reading::literal_at, crate::specs::Reading::literal_by))]
+    fn literal(&mut self) -> Result<Literal, ReadError>
+        ensures { Gives (λ x. (sized_view x, views self.new.rest.now)) result (literal_at (views self.old.rest.now)) }
+    {
+        match self.rest {
+            [first, rest @ ..] if first.kind == TokenKind::Literal => {
+                match literal_of(first.text) {
+                    Some(literal) => {
+                        self.rest = rest;
+                        Ok(literal)
+                    }
+                    None => Err(ReadError::Syntax(first.place)),
+                }
+            }
+            _ => Err(ReadError::Syntax(self.place())),
+        }
+    }
+
+    #[tactic(auto, unfolding(crate::specs::Reading::end_at))]
+    fn end(&self) -> Result<(), ReadError>
+        ensures { Gives (λ _. tt) result (end_at (views self.now.rest.now)) }
+    {
+        match self.rest {
+            [last] if last.kind == TokenKind::End => Ok(()),
+            _ => Err(ReadError::Syntax(self.place())),
+        }
+    }
+
+    // ---- declarations
+
+    #[tactic(auto, unfolding(crate::specs::Reading::range_at))]
+    fn range(&mut self) -> Result<Width, ReadError>
+        ensures { Gives (λ x. (x, views self.new.rest.now)) result (range_at (views self.old.rest.now)) }
+    {
+        if !self.is_at("[") {
+            return Ok(width_above(0));
+        }
+        self.skip();
+        let number = self.number()?;
+        self.word(":")?;
+        self.word("0")?;
+        self.word("]")?;
+        Ok(width_above(number))
+    }
+
+    // A range and a name.
+    #[tactic(auto, unfolding(crate::specs::Reading::port_at))]
+    fn port(&mut self) -> Result<Port, ReadError>
+        ensures { Gives (λ x. (x, views self.new.rest.now)) result (port_at (views self.old.rest.now)) }
+    {
+        let width = self.range()?;
+        let name = self.name()?;
+        Ok(Port { name, width })
+    }
+
+    // A port of a direction, with the comma before it.
+    #[tactic(auto, unfolding(crate::specs::Reading::directed_at))]
+    fn directed(&mut self, direction: &str) -> Result<Port, ReadError>
+        ensures { Gives (λ x. (x, views self.new.rest.now)) result (directed_at direction.now (views self.old.rest.now)) }
+    {
+        self.word(",")?;
+        self.word(direction)?;
+        self.port()
+    }
+
+    fn ports(&mut self, direction: &str) -> Result<List<Port>, ReadError>
+        ensures { Gives (λ x. (x, views self.new.rest.now)) result (ports_at direction.now (views self.old.rest.now)) }
+    {
+        let mut found = List::new(self.alloc);
+        while self.are_at(",", direction) {
+            let port = self.directed(direction)?;
+            found.push(port)?;
+        }
+        Ok(found)
+    }
+
+    // A range, a name and what ends a declaration.
+    #[tactic(auto, unfolding(crate::specs::Reading::declared_at))]
+    fn declared(&mut self) -> Result<Port, ReadError>
+        ensures { Gives (λ x. (x, views self.new.rest.now)) result (declared_at (views self.old.rest.now)) }
+    {
+        let port = self.port()?;
+        self.word(";")?;
+        Ok(port)
+    }
+
+    fn begins_declaration(&self) -> bool
+        ensures { result ≡ begins_declaration (views self.now.rest.now) }
+    {
+        self.is_at("wire") || self.is_at("reg")
+    }
+
+    #[tactic(auto, unfolding(crate::specs::Reading::declaration_at))]
+    fn declaration(&mut self) -> Result<Declaration, ReadError>
+        ensures { Gives (λ x. (said_declaration x, views self.new.rest.now)) result (declaration_at (views self.old.rest.now)) }
+    {
+        if self.is_at("wire") {
+            self.skip();
+            let port = self.declared()?;
+            return Ok(Declaration::Wire(port));
+        }
+        self.word("reg")?;
+        let port = self.declared()?;
+        Ok(Declaration::Register(port))
+    }
+
+    fn declarations(&mut self) -> Result<List<Declaration>, ReadError>
+        ensures { Gives (λ x. (map said_declaration x, views self.new.rest.now)) result (declarations_at (views self.old.rest.now)) }
+    {
+        let mut found = List::new(self.alloc);
+        while self.begins_declaration() {
+            let declaration = self.declaration()?;
+            found.push(declaration)?;
+        }
+        Ok(found)
+    }
+
+    // ---- items
+
+    fn is_at_literal(&self) -> bool
+        ensures { result ≡ begins_literal (views self.now.rest.now) }
+    {
+        match self.rest {
+            [first, ..] => first.kind == TokenKind::Literal,
+            [] => false,
+        }
+    }
+
+    #[tactic(auto, unfolding(crate::specs::Reading::operand_at))]
+    fn operand(&mut self) -> Result<Operand, ReadError>
+        ensures { Gives (λ x. (x, views self.new.rest.now)) result (operand_at (views self.old.rest.now)) }
+    {
+        if self.is_at_literal() {
+            let literal = self.literal()?;
+            return Ok(Operand::Literal {
+                width: literal.width,
+                value: literal.value,
+            });
+        }
+        let name = self.name()?;
+        Ok(Operand::Name(name))
+    }
+
+    // The operator that stands next.
+    #[tactic(auto, unfolding(crate::specs::Reading::symbol_at))]
+    fn symbol(&self) -> Option<Symbol>
+        ensures { result ≡ symbol_at (views self.now.rest.now) }
+    {
+        match self.rest {
+            [first, ..] if first.kind != TokenKind::Name => symbol_of(first.text),
+            _ => None,
+        }
+    }
+
+    // The order that stands next.
+    #[tactic(auto, unfolding(crate::specs::Reading::order_at, crate::specs::Reading::order_by))]
+    fn order(&mut self) -> Result<Symbol, ReadError>
+        ensures { Gives (λ x. (x, views self.new.rest.now)) result (order_at (views self.old.rest.now)) }
+    {
+        match self.rest {
+            [first, rest @ ..] if first.kind != TokenKind::Name => match order_of(first.text) {
+                Some(symbol) => {
+                    self.rest = rest;
+                    Ok(symbol)
+                }
+                None => Err(ReadError::Syntax(first.place)),
+            },
+            _ => Err(ReadError::Syntax(self.place())),
+        }
+    }
+
+    // An operand between `$signed(` and `)`.
+    #[tactic(auto, unfolding(crate::specs::Reading::signed_at))]
+    fn signed(&mut self) -> Result<Operand, ReadError>
+        ensures { Gives (λ x. (x, views self.new.rest.now)) result (signed_at (views self.old.rest.now)) }
+    {
+        self.word("$signed")?;
+        self.word("(")?;
+        let operand = self.operand()?;
+        self.word(")")?;
+        Ok(operand)
+    }
+
+    #[tactic(auto, unfolding(crate::specs::Reading::comparison_at))]
+    fn comparison(&mut self) -> Result<Operation, ReadError>
+        ensures { Gives (λ x. (x, views self.new.rest.now)) result (comparison_at (views self.old.rest.now)) }
+    {
+        let left = self.signed()?;
+        let symbol = self.order()?;
+        let right = self.signed()?;
+        Ok(Operation::Signed {
+            left,
+            symbol,
+            right,
+        })
+    }
+
+    // What follows a condition and its `?`.
+    #[tactic(auto, unfolding(crate::specs::Reading::choice_at))]
+    fn choice(&mut self, condition: Operand) -> Result<Operation, ReadError>
+        ensures { Gives (λ x. (x, views self.new.rest.now)) result (choice_at condition (views self.old.rest.now)) }
+    {
+        let yes = self.operand()?;
+        self.word(":")?;
+        let no = self.operand()?;
+        Ok(Operation::Choose { condition, yes, no })
+    }
+
+    // What follows a first operand.
+    #[tactic(auto, unfolding(crate::specs::Reading::operation_by, crate::specs::Reading::binary_by))]
+    fn operation_by(&mut self, left: Operand) -> Result<Operation, ReadError>
+        ensures { Gives (λ x. (x, views self.new.rest.now)) result (operation_by left (views self.old.rest.now)) }
+    {
+        if self.is_at("?") {
+            self.skip();
+            return self.choice(left);
+        }
+        match self.symbol() {
+            None => Ok(Operation::Plain(left)),
+            Some(symbol) => {
+                self.skip();
+                let right = self.operand()?;
+                Ok(Operation::Binary {
+                    left,
+                    symbol,
+                    right,
+                })
+            }
+        }
+    }
+
+    #[tactic(auto, unfolding(crate::specs::Reading::operation_at))]
+    fn operation(&mut self) -> Result<Operation, ReadError>
+        ensures { Gives (λ x. (x, views self.new.rest.now)) result (operation_at (views self.old.rest.now)) }
+    {
+        if self.is_at("$signed") {
+            return self.comparison();
+        }
+        let left = self.operand()?;
+        self.operation_by(left)
+    }
+
+    #[tactic(auto, unfolding(crate::specs::Reading::drive_at))]
+    fn drive(&mut self) -> Result<Drive, ReadError>
+        ensures { Gives (λ x. (x, views self.new.rest.now)) result (drive_at (views self.old.rest.now)) }
+    {
+        self.word("assign")?;
+        let target = self.name()?;
+        self.word("=")?;
+        let operation = self.operation()?;
+        self.word(";")?;
+        Ok(Drive { target, operation })
+    }
+
+    // What stands before a reset.
+    #[tactic(auto, unfolding(crate::specs::Reading::edge_at))]
+    fn edge(&mut self) -> Result<(), ReadError>
+        ensures { Gives (λ _. views self.new.rest.now) result (edge_at (views self.old.rest.now)) }
+    {
+        self.word("always")?;
+        self.word("@")?;
+        self.word("(")?;
+        self.word("posedge")?;
+        self.this_name("clk")?;
+        self.word(")")?;
+        self.word("if")?;
+        self.word("(")?;
+        self.this_name("rst")?;
+        self.word(")")
+    }
+
+    #[tactic(auto, unfolding(crate::specs::Reading::reset_at))]
+    fn reset(&mut self) -> Result<Literal, ReadError>
+        ensures { Gives (λ x. (sized_view x, views self.new.rest.now)) result (reset_at (views self.old.rest.now)) }
+    {
+        self.word("<=")?;
+        let literal = self.literal()?;
+        self.word(";")?;
+        self.word("else")?;
+        Ok(literal)
+    }
+
+    #[tactic(auto, unfolding(crate::specs::Reading::step_at))]
+    fn step(&mut self) -> Result<Item, ReadError>
+        ensures { Gives (λ x. (said_item x, views self.new.rest.now)) result (step_at (views self.old.rest.now)) }
+    {
+        self.edge()?;
+        let register = self.name()?;
+        let literal = self.reset()?;
+        self.this_name(register.as_str())?;
+        self.word("<=")?;
+        let next = self.operand()?;
+        self.word(";")?;
+        let step = Step {
+            register,
+            reset: literal.value,
+            next,
+        };
+        Ok(Item::Step(literal.width, step))
+    }
+
+    fn begins_item(&self) -> bool
+        ensures { result ≡ begins_item (views self.now.rest.now) }
+    {
+        self.is_at("assign") || self.is_at("always")
+    }
+
+    #[tactic(auto, unfolding(crate::specs::Reading::item_at))]
+    fn item(&mut self) -> Result<Item, ReadError>
+        ensures { Gives (λ x. (said_item x, views self.new.rest.now)) result (item_at (views self.old.rest.now)) }
+    {
+        if self.is_at("assign") {
+            let drive = self.drive()?;
+            return Ok(Item::Drive(drive));
+        }
+        self.step()
+    }
+
+    fn items(&mut self) -> Result<List<Item>, ReadError>
+        ensures { Gives (λ x. (map said_item x, views self.new.rest.now)) result (items_at (views self.old.rest.now)) }
+    {
+        let mut found = List::new(self.alloc);
+        while self.begins_item() {
+            let item = self.item()?;
+            found.push(item)?;
+        }
+        Ok(found)
+    }
+
+    // ---- the text
+
+    // The ports that each module has.
+    #[tactic(auto, unfolding(crate::specs::Reading::clocked_at))]
+    fn clocked(&mut self) -> Result<(), ReadError>
+        ensures { Gives (λ _. views self.new.rest.now) result (clocked_at (views self.old.rest.now)) }
+    {
+        self.word("(")?;
+        self.word("input")?;
+        self.this_name("clk")?;
+        self.word(",")?;
+        self.word("input")?;
+        self.this_name("rst")
+    }
+
+    // What ends the list of ports.
+    #[tactic(auto, unfolding(crate::specs::Reading::closed_at))]
+    fn closed(&mut self) -> Result<(), ReadError>
+        ensures { Gives (λ _. views self.new.rest.now) result (closed_at (views self.old.rest.now)) }
+    {
+        if self.is_at(",") {
+            self.skip();
+            return Err(ReadError::Syntax(self.place()));
+        }
+        self.word(")")?;
+        self.word(";")
+    }
+
+    #[tactic(auto, unfolding(crate::specs::Reading::header_at))]
+    fn header(&mut self) -> Result<Header, ReadError>
+        ensures { Gives (λ x. (said_header x, views self.new.rest.now)) result (header_at (views self.old.rest.now)) }
+    {
+        self.word("module")?;
+        let name = self.name()?;
+        self.clocked()?;
+        let inputs = self.ports("input")?;
+        let outputs = self.ports("output")?;
+        self.closed()?;
+        Ok(Header {
+            name,
+            inputs,
+            outputs,
+        })
+    }
+}

@@ -1,0 +1,228 @@
+//! What stands at the front of a text.
+
+ghost use Rattle.std.specs.Prelude.{◌≡◌, ◌<◌, ◌≤◌, ◌-◌, length, drop, slice_index};
+ghost use Rattle.std.specs.List.{prefix_len, list_any};
+ghost use Rattle.std.specs.Str.{bytes_eq};
+ghost use Rattle.std.specs.Char.{is_ascii_digit};
+ghost use Rattle.av_base.specs.Tokens.{is_blank, is_word_byte};
+ghost use Rattle.av_net.specs.Lexemes.{begins_name};
+ghost use Rattle.av_vread.specs.Scan.{is_not_feed, is_slashed, is_reserved, is_single, is_pair, begins_pair, is_signed, tail_len, number_of, symbol_of, word_kind, token_of, piece_of, FitsIn};
+
+use av_net::TokenKind;
+
+const RESERVED_WORDS: [&str; 11] = [
+    "module",
+    "endmodule",
+    "input",
+    "output",
+    "wire",
+    "reg",
+    "assign",
+    "always",
+    "posedge",
+    "if",
+    "else",
+];
+
+/// What stands at the front of a text.
+#[derive(Clone, Copy, Debug)]
+pub(crate) enum Piece {
+    /// So many bytes that are no token.
+    Gap(usize),
+    /// A token of so many bytes.
+    Token(TokenKind, usize),
+    /// A byte that begins no token.
+    Bad,
+}
+
+fn is_word_byte(byte: u8) -> bool
+    ensures { result ≡ is_word_byte byte }
+{
+    byte.is_ascii_alphabetic() || byte.is_ascii_digit() || byte == b'_'
+}
+
+fn begins_name(byte: u8) -> bool
+    ensures { result ≡ begins_name byte }
+{
+    byte.is_ascii_alphabetic() || byte == b'_'
+}
+
+fn is_blank(byte: u8) -> bool
+    ensures { result ≡ is_blank byte }
+{
+    matches!(byte, b' ' | b'\t' | b'\r' | b'\n')
+}
+
+fn word_len(text: &[u8]) -> usize
+    ensures { result ≡ prefix_len is_word_byte text.now }
+{
+    text.iter().take_while(|byte| is_word_byte(**byte)).count()
+}
+
+pub(crate) fn digits_len(text: &[u8]) -> usize
+    ensures len { result ≡ prefix_len is_ascii_digit text.now }
+    ensures within { result ≤ length text.now }
+{
+    text.iter().take_while(|byte| byte.is_ascii_digit()).count()
+}
+
+fn line_len(text: &[u8]) -> usize
+    ensures { result ≡ prefix_len is_not_feed text.now }
+{
+    text.iter().take_while(|byte| **byte != b'\n').count()
+}
+
+fn is_slashed(text: &[u8]) -> bool
+    ensures { result ≡ is_slashed text.now }
+{
+    match text {
+        [first, second, ..] => *first == b'/' && *second == b'/',
+        _ => false,
+    }
+}
+
+fn is_one_of(text: &[u8], words: &[&str]) -> bool
+    ensures { result ≡ list_any (λ word. bytes_eq text.now word.now) words.now }
+{
+    words.iter().any(|word| text == word.as_bytes())
+}
+
+fn is_reserved(text: &[u8]) -> bool
+    ensures { result ≡ is_reserved text.now }
+{
+    is_one_of(text, &RESERVED_WORDS)
+}
+
+fn word_kind(text: &[u8]) -> TokenKind
+    ensures { result ≡ word_kind text.now }
+{
+    if is_reserved(text) {
+        TokenKind::Reserved
+    } else {
+        TokenKind::Name
+    }
+}
+
+fn is_single(byte: u8) -> bool
+    ensures { result ≡ is_single byte }
+{
+    matches!(
+        byte,
+        b'(' | b')'
+            | b'['
+            | b']'
+            | b':'
+            | b';'
+            | b','
+            | b'.'
+            | b'@'
+            | b'?'
+            | b'='
+            | b'<'
+            | b'>'
+            | b'+'
+            | b'-'
+            | b'*'
+            | b'&'
+            | b'|'
+    )
+}
+
+fn is_pair(first: u8, second: u8) -> bool
+    ensures { result ≡ is_pair first second }
+{
+    matches!(first, b'<' | b'>' | b'=' | b'!') && second == b'='
+}
+
+fn begins_pair(text: &[u8]) -> bool
+    ensures { result ≡ begins_pair text.now }
+{
+    match text {
+        [first, second, ..] => is_pair(*first, *second),
+        _ => false,
+    }
+}
+
+#[tactic(auto, unfolding(crate::specs::Scan::symbol_of))]
+fn symbol_of(first: u8, text: &[u8]) -> Piece
+    ensures { result ≡ symbol_of first text.now }
+{
+    if begins_pair(text) {
+        Piece::Token(TokenKind::Symbol, 2)
+    } else if is_single(first) {
+        Piece::Token(TokenKind::Symbol, 1)
+    } else {
+        Piece::Bad
+    }
+}
+
+fn is_signed(text: &[u8]) -> bool
+    ensures { result ≡ is_signed text.now }
+{
+    text.len() >= 7 && &text[..7] == b"$signed".as_slice()
+}
+
+// How many bytes of 'd and digits come first, or 0.
+fn tail_len(text: &[u8]) -> usize
+    ensures len { result ≡ tail_len text.now }
+    ensures within { result ≤ length text.now }
+{
+    match text {
+        [quote, base, digits @ ..] if *quote == b'\'' && *base == b'd' => {
+            let len = digits_len(digits);
+            if len == 0 { 0 } else { 2 + len }
+        }
+        _ => 0,
+    }
+}
+
+#[tactic(auto, unfolding(crate::specs::Scan::number_of))]
+fn number_of(text: &[u8]) -> Piece
+    ensures { result ≡ number_of text.now }
+{
+    let len = digits_len(text);
+    let tail = tail_len(&text[len..]);
+    if tail == 0 {
+        Piece::Token(TokenKind::Number, len)
+    } else {
+        Piece::Token(TokenKind::Literal, len + tail)
+    }
+}
+
+#[tactic(auto, unfolding(crate::specs::Scan::token_of))]
+fn token_of(first: u8, text: &[u8]) -> Piece
+    ensures { result ≡ token_of first text.now }
+{
+    if begins_name(first) {
+        let len = word_len(text);
+        Piece::Token(word_kind(&text[..len]), len)
+    } else if first.is_ascii_digit() {
+        number_of(text)
+    } else if is_signed(text) {
+        Piece::Token(TokenKind::System, 7)
+    } else {
+        symbol_of(first, text)
+    }
+}
+
+#[tactic(auto, unfolding(crate::specs::Scan::piece_of))]
+fn piece_of(first: u8, text: &[u8]) -> Piece
+    ensures { result ≡ piece_of first text.now }
+{
+    if is_blank(first) {
+        Piece::Gap(1)
+    } else if is_slashed(text) {
+        Piece::Gap(line_len(text))
+    } else {
+        token_of(first, text)
+    }
+}
+
+/// What stands at an index of a text.
+pub(crate) fn piece_at(text: &[u8], at: usize) -> Piece
+    requires { at < length text.now }
+    ensures piece { result ≡ piece_of (slice_index text.now at) (drop at text.now) }
+    ensures fits { FitsIn result (length text.now - at) }
+{
+    piece_of(text[at], &text[at..])
+}
