@@ -3,12 +3,13 @@ use Rattle.std.proofs.Common.{◌≡◌, ℕ, ◌-◌, ◌≤◌, List, [], ◌�
 use Rattle.std.specs.Prelude.{All, Contains}
 use Rattle.std.specs.List.{AllByRecursion}
 use Rattle.std.proofs.lemmas.List.Elements.{All-from_recursion, All-contains, recursion_from_All}
+use Rattle.av_base.specs.declared.token_kind.TokenKind.TheVariants as kind
 use Rattle.av_base.specs.declared.width.Width.{Width}
 use Rattle.av_base.specs.Words.{IsWord, residue}
 use Rattle.av_tree.specs.declared.operator.Operator.{Operator}
 use Rattle.av_tree.specs.declared.operator.Operator.TheVariants as sign
 use Rattle.av_tree.specs.Points.{Point}
-use Rattle.av_base.specs.Tokens.{Token}
+use Rattle.av_base.specs.Tokens.{Token, IsSpelled}
 use Rattle.av_tree.specs.Domains.{IsDeclared, computed}
 use Rattle.av_tree.specs.Points.{no_sizes}
 use Rattle.av_tree.specs.Values.{Assignment, combined}
@@ -34,7 +35,7 @@ use Rattle.av_compile.proofs.Lines.{each_line, one_line, lines_apart}
 use Rattle.av_compile.proofs.InLines.{each_in_line, has_in_line, in_lines_apart}
 use Rattle.av_compile.proofs.Intervals.{IsPoint}
 use Rattle.av_compile.proofs.Solved.{input_at, input_declared, output_point, output_is, one_solution, operand_word, right_word}
-use Rattle.av_compile.proofs.SoundCell.{sound}
+use Rattle.av_compile.proofs.SoundDesign.{sound_design}
 
 -- the design of a form
 pub design_of : Width → Form → Design
@@ -101,7 +102,7 @@ fit_ports width name a names fits = All-from_recursion (λ (p : Port). name ≡ 
     go [] = tt
     go (first ∷ rest) = ((λ is. fits), go rest)
 
-module _ (width : Width) (f : Form) (tokens : List Token) (allowed : IsAllowed f) where
+module _ (width : Width) (f : Form) (tokens : List Token) (allowed : IsAllowed f) (spelled : IsSpelled kind.Name f.input × IsSpelled kind.Name f.output) where
   point_at : (k : ℕ) → f.low ≤ k → k ≤ f.high → IsPoint f.low f.high (point k)
   point_at k above below = record { entry = k; is = refl; above = above; below = below }
 
@@ -167,12 +168,12 @@ module _ (width : Width) (f : Form) (tokens : List Token) (allowed : IsAllowed f
   computes_of = record {
     one_solution = λ x inputs. one_solution width.bits f tokens allowed x inputs;
     whole = whole;
-    sound = sound width f.right;
+    sound = sound_design width f allowed spelled.0 spelled.1 (λ name at. named name at);
     presentable = λ x inputs. presentable x inputs;
     shows = λ x u inputs solves. shows x inputs u solves;
   }
 
 -- a design with the lines and the module of the form computes it
-pub computes : (width : Width) (f : Form) (tokens : List Token) (ins ats : List Entry) (m : Module) → IsAllowed f → ins ≡ in_lines f → ats ≡ at_lines f → m ≡ module_of width f.right → Computes width f (instance_of width.bits f tokens) (record { listing = record { ins = ins; ats = ats }; «module» = m })
+pub computes : (width : Width) (f : Form) (tokens : List Token) (ins ats : List Entry) (m : Module) → IsAllowed f → IsSpelled kind.Name f.input × IsSpelled kind.Name f.output → ins ≡ in_lines f → ats ≡ at_lines f → m ≡ module_of width f.right → Computes width f (instance_of width.bits f tokens) (record { listing = record { ins = ins; ats = ats }; «module» = m })
 unfolding design_of
-computes width f tokens ins ats m allowed is is' is'' = rw (is, is', is'') (computes_of width f tokens allowed)
+computes width f tokens ins ats m allowed spelled is is' is'' = rw (is, is', is'') (computes_of width f tokens allowed spelled)

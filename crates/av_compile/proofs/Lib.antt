@@ -12,3 +12,5 @@ pub mod Complete
 pub mod Dashes
 pub mod Words
 pub mod Texts
+mod SpelledNames
+mod SoundDesign

@@ -9,7 +9,7 @@ use Rattle.av_tree.specs.FirstForm.{Form, IsText, tree, instance_of}
 use Rattle.av_net.specs.declared.design.Design.{Design}
 use Rattle.av_net.specs.Shown.{Shows}
 use Rattle.av_net.specs.Presented.{IsPresentable}
-use Rattle.av_net.specs.Sound.{IsSound}
+use Rattle.av_net.specs.Designs.{IsSoundDesign}
 use Rattle.av_compile.specs.Listings.{IsWhole}
 
 -- a design that computes the system of a form
@@ -18,8 +18,8 @@ pub record Computes (width : Width) (f : Form) (i : Instance) (design : Design) 
   pub one_solution : (x : Assignment) → AreInputs i x → HasOneSolution i x
   -- the listing has each point once, and the ports are those that it names
   pub whole : IsWhole width f i design
-  -- the module is one of the subset, so it settles and runs under each stream
-  pub sound : IsSound design.module
+  -- its names and numbers are those of the subset, so its text is read as it, and it settles and runs under each stream
+  pub sound : IsSoundDesign design
   -- every input can be presented
   pub presentable : (x : Assignment) → AreInputs i x → IsPresentable design x
   -- in every run under a stream that presents the input, the listed wires have the solution's words
