@@ -1,20 +1,20 @@
-use crate::{VFault, module_or_fault, one_module, read_module};
-use av_net::Module;
+use crate::{VFault, design_or_fault, one_design, read_design};
+use av_net::Design;
 use std::alloc::Global;
 use std::test::Fail;
 
-// The module of a text that is no longer than the reader asks.
-fn read(alloc: Global, bytes: &[u8]) -> Result<Module, VFault> {
+// The design of a text that is no longer than the reader asks.
+fn read(alloc: Global, bytes: &[u8]) -> Result<Design, VFault> {
     if bytes.len() >= 4_294_967_295 {
         return Err(VFault::Memory);
     }
-    read_module(alloc, bytes)
+    read_design(alloc, bytes)
 }
 
 // What the reader answers, as a line of text.
 fn told(alloc: Global, bytes: &[u8]) -> Result<String, Fail> {
     let line = match read(alloc, bytes) {
-        Ok(read) => format!(in alloc; "module {}", read.name.as_str())?,
+        Ok(read) => format!(in alloc; "module {}", read.module.name.as_str())?,
         Err(VFault::VByte(place)) => format!(in alloc; "byte {}:{}", place.line, place.column)?,
         Err(VFault::VSyntax(place)) => {
             format!(in alloc; "syntax {}:{}", place.line, place.column)?
@@ -44,17 +44,17 @@ const SWAP: &str =
 
 #[test]
 fn the_increment_is_read(rt: HostRuntime) -> Result<(), Fail> {
-    one_module();
-    module_or_fault();
+    one_design();
+    design_or_fault();
     let alloc = rt.alloc();
     match read(alloc, INCREMENT.as_bytes()) {
         Ok(read) => {
-            let text = format!(in alloc; "{:?}", read.drives)?;
+            let text = format!(in alloc; "{:?}", read.module.drives)?;
             assert_eq!(rt;
                 text.as_str(),
                 "List { items: [Drive { target: Name { text: \"c0\" }, operation: Binary { left: Name(Name { text: \"i0\" }), symbol: Add, right: Literal { width: Width { bits: 8 }, value: 1 } } }, Drive { target: Name { text: \"o0\" }, operation: Plain(Name(Name { text: \"c0\" })) }] }"
             );
-            assert_eq!(rt; read.wires.as_slice().len(), 1);
+            assert_eq!(rt; read.module.wires.as_slice().len(), 1);
         }
         Err(_) => assert!(rt; false),
     }
@@ -231,7 +231,7 @@ fn many_names(rt: HostRuntime) -> Result<(), Fail> {
     }
     text.push_str("endmodule\n")?;
     match read(alloc, text.as_bytes()) {
-        Ok(read) => assert_eq!(rt; read.drives.as_slice().len(), 20_000),
+        Ok(read) => assert_eq!(rt; read.module.drives.as_slice().len(), 20_000),
         Err(_) => assert!(rt; false),
     }
     Ok(())
