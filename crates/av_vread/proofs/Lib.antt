@@ -16,3 +16,11 @@ pub mod Tables
 pub mod Turns
 pub mod Walks
 pub mod BitsOf
+pub mod Cuts
+pub mod Numerals
+pub mod Indices
+pub mod EntryLines
+pub mod ListingLines
+pub mod NamesSpelled
+pub mod SoundDesigns
+pub mod LineWalks

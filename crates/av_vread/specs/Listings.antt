@@ -54,15 +54,19 @@ no_lines = record { ins = []; ats = [] }
 abbrev pub listing_at : Among → Among → List ℕ → ℕ → Listed
 listing_at ports wires bytes first = with_lines ports wires no_lines (numbered 1 (take (first - 1) (lines_of bytes)))
 
+-- the fault is that of the first bad line, or want of memory
+abbrev pub IsListingFault : VFault → Listed → Type 0
+IsListingFault (VListing number) wanted = wanted ≡ Err number
+IsListingFault Memory wanted = Unit {0}
+IsListingFault (VByte p) wanted = ⊥
+IsListingFault (VSyntax p) wanted = ⊥
+IsListingFault (VTwice name) wanted = ⊥
+IsListingFault (VName name) wanted = ⊥
+IsListingFault (VUnassigned name) wanted = ⊥
+IsListingFault (VOrder name) wanted = ⊥
+IsListingFault (VWidth name) wanted = ⊥
+
 -- the answer, seen by view, is this one, or want of memory
 abbrev pub GivesListing : {X : Type 0} → (X → Listing) → Result X VFault → Listed → Type 0
 GivesListing view (Ok x) wanted = wanted ≡ Ok (view x)
-GivesListing view (Err (VListing number)) wanted = wanted ≡ Err number
-GivesListing view (Err Memory) wanted = Unit {0}
-GivesListing view (Err (VByte p)) wanted = ⊥
-GivesListing view (Err (VSyntax p)) wanted = ⊥
-GivesListing view (Err (VTwice name)) wanted = ⊥
-GivesListing view (Err (VName name)) wanted = ⊥
-GivesListing view (Err (VUnassigned name)) wanted = ⊥
-GivesListing view (Err (VOrder name)) wanted = ⊥
-GivesListing view (Err (VWidth name)) wanted = ⊥
+GivesListing view (Err fault) wanted = IsListingFault fault wanted

@@ -164,7 +164,7 @@ fn parts_of(text: &[u8]) -> Option<Parts<'_>>
 }
 
 fn entry_of(alloc: Global, wires: &Names, parts: Parts) -> Result<Option<Entry>, Memory>
-    ensures { IfOk result (λ entry. entry ≡ entry_of (is_in wires.now) (parts_view parts)) }
+    ensures { IfOk result (λ entry. entry ≡ entry_of (is_in wires.now) (parts_view parts.entry)) }
 {
     if !is_variable(parts.variable) || !is_wire(wires, parts.wire) {
         return Ok(None);

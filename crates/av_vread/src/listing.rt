@@ -6,12 +6,11 @@ ghost use Rattle.av_net.specs.Rows.{is_in, module_of};
 ghost use Rattle.av_vread.specs.Reading.{said};
 ghost use Rattle.av_vread.specs.Listings.{begins_with, with_in_line, with_at_line, with_line, listing_at, GivesListing};
 
-use crate::VFault;
 use crate::entry::entry_at;
 use crate::line::line_at;
 use crate::names::Names;
 use crate::parsed::Text;
-use crate::scope;
+use crate::{VFault, scope};
 use av_base::List;
 use av_net::Listing;
 use std::alloc::Global;

@@ -67,7 +67,8 @@ pub(crate) fn digits_len(text: &[u8]) -> usize
 }
 
 pub(crate) fn line_len(text: &[u8]) -> usize
-    ensures { result ≡ prefix_len is_not_feed text.now }
+    ensures len { result ≡ prefix_len is_not_feed text.now }
+    ensures within { result ≤ length text.now }
 {
     text.iter().take_while(|byte| **byte != b'\n').count()
 }

@@ -1,5 +1,5 @@
-use Rattle.av_vread.proofs.Faulted.{one_module}
-use Rattle.av_vread.proofs.law.one_module.Goals as goal
+use Rattle.av_vread.proofs.Faulted.{one_design}
+use Rattle.av_vread.proofs.law.one_design.Goals as goal
 
 pub returns : goal.returns
-returns c = one_module
+returns c = one_design
