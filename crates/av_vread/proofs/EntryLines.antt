@@ -62,7 +62,7 @@ word_ascii text h = IsAscii-from_all text (All-weaker (λ b. IsTrue (is_word_byt
     below : (b : ℕ) → IsTrue (is_word_byte b) → b < 128
     below b e = grind arith
 
-variable_word : (text : List ℕ) → is_variable text ≡ true → list_all is_word_byte text ≡ true
+pub variable_word : (text : List ℕ) → is_variable text ≡ true → list_all is_word_byte text ≡ true
 variable_word [] e = refl
 variable_word (b ∷ text) e =
     let z = both (is_ascii_alphabetic b) _ e in

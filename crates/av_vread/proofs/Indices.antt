@@ -28,7 +28,7 @@ some_of is = Some is
 abbrev pub IsApart : ℕ → Type 0
 IsApart c = ((b : ℕ) → is_ascii_digit b ≡ true → is_not c b ≡ true) × (is_not c 45 ≡ true)
 
-digits_without : (c : ℕ) → ((b : ℕ) → is_ascii_digit b ≡ true → is_not c b ≡ true) → (text : List ℕ) → all_ascii_digits text ≡ true → Without c text
+pub digits_without : (c : ℕ) → ((b : ℕ) → is_ascii_digit b ≡ true → is_not c b ≡ true) → (text : List ℕ) → all_ascii_digits text ≡ true → Without c text
 digits_without c h [] e = tt
 digits_without c h (b ∷ text) e = let z = both (is_ascii_digit b) (all_ascii_digits text) e in (h b z.0, digits_without c h text z.1)
 

@@ -24,3 +24,12 @@ pub mod ListingLines
 pub mod NamesSpelled
 pub mod SoundDesigns
 pub mod LineWalks
+pub mod Spaced
+pub mod NextTokens
+pub mod WrittenParts
+pub mod WrittenSpaced
+pub mod WrittenBytes
+pub mod WrittenGrammar
+pub mod NoRows
+pub mod WrittenListing
+pub mod RoundTrip

@@ -2,7 +2,8 @@
 
 ghost use Rattle.std.specs.Prelude.{◌≡◌, ◌⊎◌, ℕ, List as Items};
 ghost use Rattle.av_net.specs.declared.design.Design.{Design as Spelled};
-ghost use Rattle.av_net.specs.Designs.{Spells};
+ghost use Rattle.av_net.specs.Texts.{text};
+ghost use Rattle.av_net.specs.Designs.{Spells, IsSoundDesign};
 ghost use Rattle.av_vread.specs.declared.fault.VFault.{VFault as Fault};
 ghost use Rattle.av_vread.specs.Faults.{IsFault};
 
@@ -16,4 +17,15 @@ pub fn one_design()
 pub fn design_or_fault()
     ensures either { (bytes : Items ℕ) → ((design : Spelled) × Spells bytes design) ⊎ ((f : Fault) × IsFault bytes f) }
     ensures not_both { (bytes : Items ℕ) (design : Spelled) (f : Fault) → Spells bytes design → IsFault bytes f → ⊥ }
+{}
+
+/// A law: the text of a sound design spells that design.
+pub fn read_back()
+    ensures { (design : Spelled) → IsSoundDesign design → Spells (text design) design }
+{}
+
+/// A law: two sound designs with one text are one design.
+pub fn one_text()
+    ensures { (some other : Spelled) → IsSoundDesign some → IsSoundDesign other → text some ≡ text other
+        → some ≡ other }
 {}
