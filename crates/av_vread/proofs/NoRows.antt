@@ -176,13 +176,13 @@ named_right : (m : Module) → IsSound m → first_some (wrong_of m) (said m).it
 named_right m s =
     nothing (wrong_of m) (said m).items (items_all (λ item. wrong_of m item ≡ None) m
     (both_all (λ d. Contains (wire_names m) d.target) (λ d. EachOperand (IsAmong (all_names m)) d.operation) (λ d. wrong_of m (drive d) ≡ None)
-      (λ d t o. rw (is_found d.target (wire_names m) t) (right_operation (all_names m) d.operation o)) m.drives
-      (targets_all (Contains (wire_names m)) m.drives (recursion_from_All (Contains (wire_names m)) (targets_of m.drives) s.drives_wires))
-      (recursion_from_All (λ d. EachOperand (IsAmong (all_names m)) d.operation) m.drives s.drives_read))
+    (λ d t o. rw (is_found d.target (wire_names m) t) (right_operation (all_names m) d.operation o)) m.drives
+    (targets_all (Contains (wire_names m)) m.drives (recursion_from_All (Contains (wire_names m)) (targets_of m.drives) s.drives_wires))
+    (recursion_from_All (λ d. EachOperand (IsAmong (all_names m)) d.operation) m.drives s.drives_read))
     (both_all (λ t. Contains (names_of m.registers) t.register) (λ t. IsAmong (all_names m) t.next) (λ t. wrong_of m (step_item m.registers t) ≡ None)
-      (λ t r o. rw (is_found t.register (names_of m.registers) r) (right_operand (all_names m) t.next o)) m.steps
-      (registers_all (Contains (names_of m.registers)) m.steps (recursion_from_All (Contains (names_of m.registers)) (registers_of m.steps) s.steps_registers))
-      (recursion_from_All (λ t. IsAmong (all_names m) t.next) m.steps s.steps_read)))
+    (λ t r o. rw (is_found t.register (names_of m.registers) r) (right_operand (all_names m) t.next o)) m.steps
+    (registers_all (Contains (names_of m.registers)) m.steps (recursion_from_All (Contains (names_of m.registers)) (registers_of m.steps) s.steps_registers))
+    (recursion_from_All (λ t. IsAmong (all_names m) t.next) m.steps s.steps_read)))
 
 -- ---- names that are driven
 
@@ -304,13 +304,13 @@ suited : (m : Module) → IsSound m → find (λ item. not (suits (width_of m) i
 suited m s =
     found_none (λ item. not (suits (width_of m) item)) (said m).items (items_all (λ item. not (suits (width_of m) item) ≡ false) m
     (weaker (λ d. SuitsWidth (width_of m) (width_of m d.target) d.operation) (λ d. not (suits (width_of m) (drive d)) ≡ false) (λ d h. ap not (suits_all (width_of m) (width_of m d.target) d.operation h)) m.drives
-      (recursion_from_All (λ d. SuitsWidth (width_of m) (width_of m d.target) d.operation) m.drives s.drive_widths))
+    (recursion_from_All (λ d. SuitsWidth (width_of m) (width_of m d.target) d.operation) m.drives s.drive_widths))
     (both_all (λ t. Contains (names_of m.registers) t.register) (λ t. operand_width (width_of m) t.next ≡ width_of m t.register) (λ t. not (suits (width_of m) (step_item m.registers t)) ≡ false)
-      (λ t r h. ap not (and_true (nat_eq (reset_width m.registers t.register).bits (width_of m t.register)) _
-        (equal (reset_width m.registers t.register).bits (width_of m t.register) (reset_bits m.registers t.register ∙ register_width m s t.register r))
-        (equal (operand_width (width_of m) t.next) (width_of m t.register) h))) m.steps
-      (registers_all (Contains (names_of m.registers)) m.steps (recursion_from_All (Contains (names_of m.registers)) (registers_of m.steps) s.steps_registers))
-      (recursion_from_All (λ t. operand_width (width_of m) t.next ≡ width_of m t.register) m.steps s.step_widths)))
+    (λ t r h. ap not (and_true (nat_eq (reset_width m.registers t.register).bits (width_of m t.register)) _
+    (equal (reset_width m.registers t.register).bits (width_of m t.register) (reset_bits m.registers t.register ∙ register_width m s t.register r))
+    (equal (operand_width (width_of m) t.next) (width_of m t.register) h))) m.steps
+    (registers_all (Contains (names_of m.registers)) m.steps (recursion_from_All (Contains (names_of m.registers)) (registers_of m.steps) s.steps_registers))
+    (recursion_from_All (λ t. operand_width (width_of m) t.next ≡ width_of m t.register) m.steps s.step_widths)))
 
 -- ---- all rows
 
@@ -324,7 +324,7 @@ no_rows m s =
       declared_once =
           ap (λ z. first_repeated (clk ∷ rst ∷ []) (names_of m.inputs ++ names_of m.outputs ++ z)) names
           ∙ distinct_none (clk ∷ rst ∷ []) (names_of m.inputs ++ names_of m.outputs ++ (names_of m.wires ++ names_of m.registers))
-              (in_text_order (clk ∷ rst ∷ []) (names_of m.inputs) (names_of m.registers) (names_of m.outputs) (names_of m.wires) s.declared_once);
+          (in_text_order (clk ∷ rst ∷ []) (names_of m.inputs) (names_of m.registers) (names_of m.outputs) (names_of m.wires) s.declared_once);
       driven_once = ap (first_repeated []) driven ∙ distinct_none [] (targets_of m.drives ++ registers_of m.steps) s.driven_once;
       named_right = ap (λ z. first_some (wrong_of z) (said m).items) is ∙ named_right m s;
       all_driven =
@@ -333,6 +333,6 @@ no_rows m s =
       in_order =
           ap (λ z. first_early (is_in (wire_names z)) [] (said m).items) is
           ∙ in_order (is_in (wire_names m)) m.registers (given_names m) [] m.drives m.steps
-              (λ n k w. absurd (apart (given_names m) (wire_names m) n (rest_distinct (clk ∷ rst ∷ []) (all_names m) s.declared_once) k (is_there n (wire_names m) w))) s.in_order;
+          (λ n k w. absurd (apart (given_names m) (wire_names m) n (rest_distinct (clk ∷ rst ∷ []) (all_names m) s.declared_once) k (is_there n (wire_names m) w))) s.in_order;
       suited = ap (option_map target_of) (ap (λ z. find (λ item. not (suits (width_of z) item)) (said m).items) is ∙ suited m s);
     }

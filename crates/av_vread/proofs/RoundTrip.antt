@@ -84,8 +84,8 @@ module _ (m : Module) (s : IsSound m) (own : IsName m.name) (n : All IsName (all
         (λ d t o. record { target = All-contains IsName (wire_names m) d.target (All-from_recursion IsName (wire_names m) driven) t; operands = o }) m.drives
         (targets_all (Contains (wire_names m)) m.drives (recursion_from_All (Contains (wire_names m)) (targets_of m.drives) s.drives_wires))
         (both_all (λ d. EachOperand (IsAmong (all_names m)) d.operation) (λ d. EachOperand IsFitting d.operation) (λ d. EachOperand IsWritten d.operation)
-          (λ d h k. written_operation m n d.operation h k) m.drives
-          (recursion_from_All (λ d. EachOperand (IsAmong (all_names m)) d.operation) m.drives s.drives_read) (recursion_from_All (λ d. EachOperand IsFitting d.operation) m.drives s.drives_fit));
+        (λ d h k. written_operation m n d.operation h k) m.drives
+        (recursion_from_All (λ d. EachOperand (IsAmong (all_names m)) d.operation) m.drives s.drives_read) (recursion_from_All (λ d. EachOperand IsFitting d.operation) m.drives s.drives_fit));
     steps =
         both_all (λ t. Contains (names_of m.registers) t.register) (λ t. IsWritten t.next × IsWord (width_of m t.register) t.reset) IsStepWritten
         (λ t r h. record {
@@ -94,9 +94,9 @@ module _ (m : Module) (s : IsSound m) (own : IsName m.name) (n : All IsName (all
           next = h.0;
         }) m.steps stepped
         (both_all (λ t. IsWritten t.next) (λ t. IsWord (width_of m t.register) t.reset) (λ t. IsWritten t.next × IsWord (width_of m t.register) t.reset) (λ t h k. (h, k)) m.steps
-          (both_all (λ t. IsAmong (all_names m) t.next) (λ t. IsFitting t.next) (λ t. IsWritten t.next) (λ t h k. written_operand m n t.next h k) m.steps
-            (recursion_from_All (λ t. IsAmong (all_names m) t.next) m.steps s.steps_read) (recursion_from_All (λ t. IsFitting t.next) m.steps s.steps_fit))
-          (recursion_from_All (λ t. IsWord (width_of m t.register) t.reset) m.steps s.resets_fit));
+        (both_all (λ t. IsAmong (all_names m) t.next) (λ t. IsFitting t.next) (λ t. IsWritten t.next) (λ t h k. written_operand m n t.next h k) m.steps
+        (recursion_from_All (λ t. IsAmong (all_names m) t.next) m.steps s.steps_read) (recursion_from_All (λ t. IsFitting t.next) m.steps s.steps_fit))
+        (recursion_from_All (λ t. IsWord (width_of m t.register) t.reset) m.steps s.resets_fit));
   }
 
   is_right : IsModuleRight m
@@ -108,7 +108,7 @@ module _ (m : Module) (s : IsSound m) (own : IsName m.name) (n : All IsName (all
         both_all (λ t. Contains (names_of m.registers) t.register) (λ t. IsWord (width_of m t.register) t.reset × IsFitting t.next) (IsStepRight m.registers)
         (λ t r h. record { reset = subst (λ w. IsWord w t.reset) (sym (register_width m s t.register r)) h.0; next = h.1 }) m.steps stepped
         (both_all (λ t. IsWord (width_of m t.register) t.reset) (λ t. IsFitting t.next) (λ t. IsWord (width_of m t.register) t.reset × IsFitting t.next) (λ t h k. (h, k)) m.steps
-          (recursion_from_All (λ t. IsWord (width_of m t.register) t.reset) m.steps s.resets_fit) (recursion_from_All (λ t. IsFitting t.next) m.steps s.steps_fit));
+        (recursion_from_All (λ t. IsWord (width_of m t.register) t.reset) m.steps s.resets_fit) (recursion_from_All (λ t. IsFitting t.next) m.steps s.steps_fit));
   }
 
 -- ---- a sound design is read from its text
@@ -137,10 +137,12 @@ module _ (d : Design) (sound : IsSoundDesign d) where
 
   comments : AllByRecursion IsCommentLine heads
   unfolding heads
-  comments =
-      (version_comment, entry_comments (names_of d.«module».inputs) (wire_names d.«module») d.listing
-      (may_be_read (names_of d.«module».inputs) inputs_named d.listing.ins (recursion_from_All (MayBeListed (names_of d.«module».inputs)) d.listing.ins sound.ins))
-      (may_be_read (wire_names d.«module») wires_named d.listing.ats (recursion_from_All (MayBeListed (wire_names d.«module»)) d.listing.ats sound.ats)))
+  comments = (
+    version_comment,
+    entry_comments (names_of d.«module».inputs) (wire_names d.«module») d.listing
+        (may_be_read (names_of d.«module».inputs) inputs_named d.listing.ins (recursion_from_All (MayBeListed (names_of d.«module».inputs)) d.listing.ins sound.ins))
+        (may_be_read (wire_names d.«module») wires_named d.listing.ats (recursion_from_All (MayBeListed (wire_names d.«module»)) d.listing.ats sound.ats)),
+  )
 
   here : Place
   here = after_lines start heads

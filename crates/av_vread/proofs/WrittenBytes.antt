@@ -96,7 +96,7 @@ operation_bytes (operation.Signed x s y) ws =
 operation_bytes (operation.Choose c x y) ws =
     operand_bytes c (codes " ") (symbol (codes "?") (codes " ") ∷ operand_part x (codes " ") ∷ symbol (codes ":") (codes " ") ∷ operand_part y [] ∷ ws)
     ∙ ap (λ z. operand_text c ++ (32 ∷ 63 ∷ 32 ∷ z)) (operand_bytes x (codes " ") (symbol (codes ":") (codes " ") ∷ operand_part y [] ∷ ws)
-        ∙ ap (λ z. operand_text x ++ (32 ∷ 58 ∷ 32 ∷ z)) (operand_bytes y [] ws))
+    ∙ ap (λ z. operand_text x ++ (32 ∷ 58 ∷ 32 ∷ z)) (operand_bytes y [] ws))
     ∙ sym (choice (operand_text c) (operand_text x) (operand_text y) (bytes_of ws))
   where
     choice : (c x y rest : List ℕ) → c ++ codes " ? " ++ x ++ codes " : " ++ y ++ rest ≡ c ++ (32 ∷ 63 ∷ 32 ∷ (x ++ (32 ∷ 58 ∷ 32 ∷ (y ++ rest))))
@@ -122,8 +122,8 @@ step_bytes registers s ws =
     ∙ ap (λ z. edge_text ++ z) (assignment_bytes s.register (reset_text registers s) (codes "; else " ++ (second ++ (59 ∷ 10 ∷ bytes_of ws)))
     ∙ ap (λ z. s.register ++ (32 ∷ 60 ∷ 61 ∷ 32 ∷ (z ++ (codes "; else " ++ (second ++ (59 ∷ 10 ∷ bytes_of ws)))))) (literal_bytes (width_in registers s.register) s.reset)
     ∙ ap (λ z. s.register ++ (32 ∷ 60 ∷ 61 ∷ 32 ∷ (decimal (width_in registers s.register) ++ (39 ∷ 100 ∷ decimal s.reset) ++ (codes "; else " ++ z))))
-        (assignment_bytes s.register (operand_text s.next) (59 ∷ 10 ∷ bytes_of ws)
-        ∙ ap (λ z. s.register ++ (32 ∷ 60 ∷ 61 ∷ 32 ∷ z)) (sym (operand_bytes s.next [] (end_of_line ∷ ws))))))
+    (assignment_bytes s.register (operand_text s.next) (59 ∷ 10 ∷ bytes_of ws)
+    ∙ ap (λ z. s.register ++ (32 ∷ 60 ∷ 61 ∷ 32 ∷ z)) (sym (operand_bytes s.next [] (end_of_line ∷ ws))))))
   where
     first : List ℕ
     first = assignment_text s.register (reset_text registers s)
@@ -156,9 +156,9 @@ pub module_bytes : (m : Module) → bytes_of (module_parts m) ≡ module_text m
 unfolding module_text clocked_text
 module_bytes m =
     ap (λ z. codes "module " ++ (m.name ++ (clocked_text ++ z)))
-        (ports_bytes (codes "input") m.inputs (ports_onto (codes "output") m.outputs (closed_onto m))
-        ∙ ap (λ z. flat_map (port_text (codes "input")) m.inputs ++ z) (ports_bytes (codes "output") m.outputs (closed_onto m)
-        ∙ ap (λ z. flat_map (port_text (codes "output")) m.outputs ++ (codes ");\n" ++ z)) (body_bytes m
-        ∙ ap (λ z. flat_map (declaration_line (codes "wire")) m.wires ++ (flat_map (declaration_line (codes "reg")) m.registers ++ z)) (items_bytes m))))
+    (ports_bytes (codes "input") m.inputs (ports_onto (codes "output") m.outputs (closed_onto m))
+    ∙ ap (λ z. flat_map (port_text (codes "input")) m.inputs ++ z) (ports_bytes (codes "output") m.outputs (closed_onto m)
+    ∙ ap (λ z. flat_map (port_text (codes "output")) m.outputs ++ (codes ");\n" ++ z)) (body_bytes m
+    ∙ ap (λ z. flat_map (declaration_line (codes "wire")) m.wires ++ (flat_map (declaration_line (codes "reg")) m.registers ++ z)) (items_bytes m))))
     ∙ sym (ten (codes "module ") m.name clocked_text (flat_map (port_text (codes "input")) m.inputs) (flat_map (port_text (codes "output")) m.outputs) (codes ");\n")
-        (flat_map (declaration_line (codes "wire")) m.wires) (flat_map (declaration_line (codes "reg")) m.registers) (flat_map drive_line m.drives) (flat_map (step_line m.registers) m.steps) (codes "endmodule\n"))
+    (flat_map (declaration_line (codes "wire")) m.wires) (flat_map (declaration_line (codes "reg")) m.registers) (flat_map drive_line m.drives) (flat_map (step_line m.registers) m.steps) (codes "endmodule\n"))

@@ -64,9 +64,22 @@ rst_name = ((refl, All-from_recursion (λ x. IsTrue (is_word_byte x)) (codes "st
 
 range_spaced : (width : Width) (ws : List Written) → AreSpaced ws → AreSpaced (range_parts width ++ ws)
 range_spaced width ws s =
-    let most = width.most in
-    (tt, plain_next 91 _ refl, tt, (tt, number_next (decimal (width.bits - 1)) _ (small_number (width.bits - 1) (omega arith)) refl, tt, (tt, plain_next 58 _ refl, tt,
-    (tt, number_next (codes "0") _ (refl, All-nil _) refl, tt, (tt, plain_next 93 _ refl, one_blank, s)))))
+    let most = width.most in (
+      tt,
+      plain_next 91 _ refl,
+      tt,
+      (
+        tt,
+        number_next (decimal (width.bits - 1)) _ (small_number (width.bits - 1) (omega arith)) refl,
+        tt,
+        (
+          tt,
+          plain_next 58 _ refl,
+          tt,
+          (tt, number_next (codes "0") _ (refl, All-nil _) refl, tt, (tt, plain_next 93 _ refl, one_blank, s)),
+        ),
+      ),
+    )
 
 port_spaced : (direction : List ℕ) (port : Port) (ws : List Written) → is_reserved direction ≡ true → IsName port.name → is_clear (bytes_of ws) ≡ true → AreSpaced ws → AreSpaced (port_parts direction port ++ ws)
 port_spaced direction port ws d n c s =
@@ -84,9 +97,12 @@ ports_spaced direction (port ∷ ports) ws d n s =
     record { clear = refl; spaced = port_spaced direction port (ports_onto direction ports ws) d n.0 later.clear later.spaced }
 
 declaration_spaced : (kind : List ℕ) (port : Port) (ws : List Written) → is_reserved kind ≡ true → IsName port.name → AreSpaced ws → AreSpaced (declaration_parts kind port ++ ws)
-declaration_spaced kind port ws d n s =
-    (two_blanks, reserved_next kind _ (is_word kind d) refl, one_blank,
-    range_spaced port.width (named port.name [] ∷ end_of_line ∷ ws) (tt, name_next port.name _ n refl, tt, (tt, plain_next 59 _ refl, one_feed, s)))
+declaration_spaced kind port ws d n s = (
+  two_blanks,
+  reserved_next kind _ (is_word kind d) refl,
+  one_blank,
+  range_spaced port.width (named port.name [] ∷ end_of_line ∷ ws) (tt, name_next port.name _ n refl, tt, (tt, plain_next 59 _ refl, one_feed, s)),
+)
 
 declarations_spaced : (kind : List ℕ) (ports : List Port) (ws : List Written) → is_reserved kind ≡ true → HaveNames ports → AreSpaced ws → AreSpaced (declarations_onto kind ports ws)
 declarations_spaced kind [] ws d n s = s
@@ -125,9 +141,13 @@ operation_spaced (operation.Binary x o y) ws w c s =
 operation_spaced (operation.Signed x o y) ws w c s =
     signed_spaced x (codes " ") (symbol (spelling o) (codes " ") ∷ signed_parts y [] ++ ws) w.0 one_blank (tt, symbol_next o _ refl, one_blank, signed_spaced y [] ws w.1 tt s)
 operation_spaced (operation.Choose b x y) ws w c s =
-    operand_spaced b (codes " ") (symbol (codes "?") (codes " ") ∷ operand_part x (codes " ") ∷ symbol (codes ":") (codes " ") ∷ operand_part y [] ∷ ws) w.0 one_blank refl
-    (tt, plain_next 63 _ refl, one_blank, operand_spaced x (codes " ") (symbol (codes ":") (codes " ") ∷ operand_part y [] ∷ ws) w.1 one_blank refl
-    (tt, plain_next 58 _ refl, one_blank, operand_spaced y [] ws w.2 tt c s))
+    operand_spaced b (codes " ") (symbol (codes "?") (codes " ") ∷ operand_part x (codes " ") ∷ symbol (codes ":") (codes " ") ∷ operand_part y [] ∷ ws) w.0 one_blank refl (
+      tt,
+      plain_next 63 _ refl,
+      one_blank,
+      operand_spaced x (codes " ") (symbol (codes ":") (codes " ") ∷ operand_part y [] ∷ ws) w.1 one_blank refl
+          (tt, plain_next 58 _ refl, one_blank, operand_spaced y [] ws w.2 tt c s),
+    )
 
 -- a drive as the grammar spells it
 pub record IsDriveWritten (d : Drive) : Type 0 where
@@ -135,9 +155,17 @@ pub record IsDriveWritten (d : Drive) : Type 0 where
   pub operands : EachOperand IsWritten d.operation
 
 drive_spaced : (d : Drive) (ws : List Written) → IsDriveWritten d → AreSpaced ws → AreSpaced (drive_onto d ws)
-drive_spaced d ws w s =
-    (two_blanks, reserved_next (codes "assign") _ (is_word (codes "assign") refl) refl, one_blank, (tt, name_next d.target _ w.target refl, one_blank,
-    (tt, single_next 61 _ refl refl, one_blank, operation_spaced d.operation (end_of_line ∷ ws) w.operands refl (tt, plain_next 59 _ refl, one_feed, s))))
+drive_spaced d ws w s = (
+  two_blanks,
+  reserved_next (codes "assign") _ (is_word (codes "assign") refl) refl,
+  one_blank,
+  (
+    tt,
+    name_next d.target _ w.target refl,
+    one_blank,
+    (tt, single_next 61 _ refl refl, one_blank, operation_spaced d.operation (end_of_line ∷ ws) w.operands refl (tt, plain_next 59 _ refl, one_feed, s)),
+  ),
+)
 
 -- a step as the grammar spells it
 pub record IsStepWritten (s : Step) : Type 0 where
@@ -154,9 +182,18 @@ line_ended ws s = (tt, plain_next 59 _ refl, one_feed, s)
 
 step_spaced : (bits : ℕ) (t : Step) (ws : List Written) → bits ≤ 64 → IsStepWritten t → AreSpaced ws → AreSpaced (step_onto bits t ws)
 step_spaced bits t ws most w s =
-    edge_spaced (becomes_onto bits t ws)
-    (tt, name_next t.register _ w.register refl, one_blank, (tt, pair_next 60 61 _ refl, one_blank, literal_spaced bits t.reset [] (otherwise_onto t ws) most w.reset tt refl
-    (tt, plain_next 59 _ refl, one_blank, (tt, reserved_next (codes "else") _ (is_word (codes "else") refl) refl, one_blank, (tt, name_next t.register _ w.register refl, one_blank, (tt, pair_next 60 61 _ refl, one_blank, operand_spaced t.next [] (end_of_line ∷ ws) w.next tt refl (line_ended ws s)))))))
+    edge_spaced (becomes_onto bits t ws) (
+      tt,
+      name_next t.register _ w.register refl,
+      one_blank,
+      (
+        tt,
+        pair_next 60 61 _ refl,
+        one_blank,
+        literal_spaced bits t.reset [] (otherwise_onto t ws) most w.reset tt refl
+            (tt, plain_next 59 _ refl, one_blank, (tt, reserved_next (codes "else") _ (is_word (codes "else") refl) refl, one_blank, (tt, name_next t.register _ w.register refl, one_blank, (tt, pair_next 60 61 _ refl, one_blank, operand_spaced t.next [] (end_of_line ∷ ws) w.next tt refl (line_ended ws s))))),
+      ),
+    )
 
 drives_spaced : (drives : List Drive) (ws : List Written) → AllByRecursion IsDriveWritten drives → AreSpaced ws → AreSpaced (drives_onto drives ws)
 drives_spaced [] ws w s = s

@@ -1,7 +1,6 @@
 -- The lines of a text, found one after another, and what stands between certain bytes.
-use Rattle.std.specs.Prelude.{ℕ, ◌+◌, ◌-◌, Bool, not, ◌&&◌, if◌then◌else◌, nat_eq, nat_lt, nat_le, List, [], take, drop, length, slice_index, Option, Some, None}
+use Rattle.std.specs.Prelude.{ℕ, ◌+◌, ◌-◌, Bool, not, ◌&&◌, if◌then◌else◌, nat_eq, nat_lt, List, take, drop, length, slice_index, Option, Some, None}
 use Rattle.std.specs.List.{prefix_len}
-use Rattle.av_net.specs.Listed.{lines_of}
 
 abbrev pub is_not : ℕ → ℕ → Bool
 is_not byte b = not (nat_eq b byte)
@@ -30,7 +29,3 @@ line_by len text = if nat_lt len (length text) then trimmed (take len text) else
 
 abbrev pub first_line_of : List ℕ → List ℕ
 first_line_of text = line_by (line_len text) text
-
--- the lines from an index on; none begins behind the end
-abbrev pub lines_from : ℕ → List ℕ → List (List ℕ)
-lines_from at bytes = if nat_le at (length bytes) then lines_of (drop at bytes) else []

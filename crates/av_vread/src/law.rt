@@ -19,6 +19,11 @@ pub fn design_or_fault()
     ensures not_both { (bytes : Items ℕ) (design : Spelled) (f : Fault) → Spells bytes design → IsFault bytes f → ⊥ }
 {}
 
+/// A law: a design that a text spells is sound.
+pub fn spelled_is_sound()
+    ensures { (bytes : Items ℕ) (design : Spelled) → Spells bytes design → IsSoundDesign design }
+{}
+
 /// A law: the text of a sound design spells that design.
 pub fn read_back()
     ensures { (design : Spelled) → IsSoundDesign design → Spells (text design) design }

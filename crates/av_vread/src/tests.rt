@@ -1,4 +1,6 @@
-use crate::{VFault, design_or_fault, one_design, read_design};
+use crate::{
+    VFault, design_or_fault, one_design, one_text, read_back, read_design, spelled_is_sound,
+};
 use av_net::{Design, Entry};
 use std::alloc::Global;
 use std::test::Fail;
@@ -62,6 +64,9 @@ fn listed(alloc: Global, entries: &[Entry]) -> Result<String, Fail> {
 fn the_increment_is_read(rt: HostRuntime) -> Result<(), Fail> {
     one_design();
     design_or_fault();
+    spelled_is_sound();
+    read_back();
+    one_text();
     let alloc = rt.alloc();
     match read(alloc, INCREMENT.as_bytes()) {
         Ok(read) => {
