@@ -2,9 +2,11 @@ pub mod Sooner
 pub mod Sets
 pub mod Cases
 pub mod Repeats
+pub mod Reach
 pub mod Lists
 pub mod Lookups
 pub mod Given
+pub mod Unknown
 pub mod Names
 pub mod Terms
 pub mod Comparisons

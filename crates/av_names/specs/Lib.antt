@@ -16,3 +16,4 @@ pub mod Regular
 pub mod Limits
 pub mod Same
 pub mod Accepted
+pub mod Texts

@@ -6,6 +6,7 @@ mod arity;
 mod defined;
 mod fault;
 mod found;
+mod in_reach;
 mod index;
 mod laws;
 mod name_set;
@@ -17,6 +18,7 @@ mod repetitions;
 mod size;
 mod size_words;
 mod tables;
+mod unknown_names;
 
 pub use fault::NameFault;
 pub use laws::{
