@@ -7,6 +7,7 @@ pub mod Lists
 pub mod Lookups
 pub mod Given
 pub mod Unknown
+pub mod Rules
 pub mod Names
 pub mod Terms
 pub mod Comparisons

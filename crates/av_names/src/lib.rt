@@ -15,8 +15,11 @@ mod projection;
 mod quantities_in;
 mod reductions_in;
 mod repetitions;
+mod refused;
+mod resolver;
 mod size;
 mod size_words;
+mod stub;
 mod tables;
 mod unknown_names;
 
@@ -24,4 +27,5 @@ pub use fault::NameFault;
 pub use laws::{
     accepted_systems_are_regular, flat_systems_are_well_formed, flat_systems_say_the_same,
 };
+pub use resolver::resolve;
 pub use size::Size;
