@@ -16,3 +16,6 @@ pub mod Regular
 pub mod Limits
 pub mod Same
 pub mod Accepted
+pub mod Texts
+pub mod Fitting
+pub mod Sums

@@ -8,18 +8,23 @@ mod fault;
 mod found;
 mod index;
 mod laws;
+mod measure;
 mod name_set;
+mod outside;
 mod part;
 mod projection;
 mod quantities_in;
 mod reductions_in;
 mod repetitions;
 mod size;
+mod size_table;
 mod size_words;
+mod sums;
 mod tables;
+mod written;
 
 pub use fault::NameFault;
 pub use laws::{
-    accepted_systems_are_regular, flat_systems_are_well_formed, flat_systems_say_the_same,
+    accepted_systems_are_regular, accepted_texts_say_the_same, flat_systems_are_well_formed, flat_systems_say_the_same,
 };
 pub use size::Size;
