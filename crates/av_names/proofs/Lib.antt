@@ -29,3 +29,8 @@ pub mod Accepted
 pub mod Projected
 pub mod Accepting
 pub mod AcceptedSystems
+pub mod Spelled
+pub mod SpelledSystems
+pub mod Limited
+pub mod Resolved
+pub mod Summed

@@ -17,3 +17,5 @@ pub mod Limits
 pub mod Same
 pub mod Accepted
 pub mod Texts
+pub mod Fitting
+pub mod Sums

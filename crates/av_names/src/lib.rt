@@ -9,7 +9,9 @@ mod found;
 mod in_reach;
 mod index;
 mod laws;
+mod measure;
 mod name_set;
+mod outside;
 mod part;
 mod projection;
 mod quantities_in;
@@ -18,14 +20,17 @@ mod repetitions;
 mod refused;
 mod resolver;
 mod size;
+mod size_table;
 mod size_words;
 mod stub;
+mod sums;
 mod tables;
 mod unknown_names;
+mod written;
 
 pub use fault::NameFault;
 pub use laws::{
-    accepted_systems_are_regular, flat_systems_are_well_formed, flat_systems_say_the_same,
+    accepted_systems_are_regular, accepted_texts_say_the_same, flat_systems_are_well_formed, flat_systems_say_the_same,
 };
 pub use resolver::resolve;
 pub use size::Size;

@@ -11,14 +11,15 @@ ghost use Rattle.av_names.specs.Texts.{IsOfText, AreSmall};
 
 use crate::arity::arity;
 use crate::defined::{defines_input, no_equation, second_equation};
+use crate::measure::{great_coefficient, great_constant};
 use crate::name_set::NameSet;
+use crate::outside::is_outside;
 use crate::part::Part;
 use crate::projection::projection;
 use crate::quantities_in::{too_many_indices, too_many_nodes, too_many_variables};
 use crate::reductions_in::{case_in_reduce, depend_on_reduce};
 use crate::repetitions::repeated;
 use crate::size_words::{first_outside, given, size_twice, size_unknown};
-use crate::stub::{great_coefficient, great_constant, is_outside};
 use crate::unknown_names::unknown;
 use crate::{NameFault, Size};
 use av_base::{Memory, Name};

@@ -21,34 +21,6 @@ use av_flat::Flat;
 use av_tree::{Declaration, System};
 use std::alloc::Global;
 
-pub(crate) fn great_coefficient<'a>(alloc: Global, system: &'a System, sizes: &[Size], variables: &[&'a Declaration], parts: &[Part<'a>]) -> Result<Option<u128>, Memory>
-    requires text { IsOfText (view_system system.now) }
-    requires small { AreSmall sizes.now }
-    requires variables { map (λ d. d.now) variables.now ≡ domains.variables (view_system system.now) }
-    requires parts { map part parts.now ≡ list.parts (view_system system.now) }
-    ensures { IfOk result (λ n. n ≡ rules.great_coefficient (view_system system.now) (sizes_of sizes.now)) }
-{
-    Ok(None)
-}
-
-pub(crate) fn great_constant<'a>(alloc: Global, system: &'a System, sizes: &[Size], variables: &[&'a Declaration], parts: &[Part<'a>]) -> Result<Option<u128>, Memory>
-    requires text { IsOfText (view_system system.now) }
-    requires small { AreSmall sizes.now }
-    requires variables { map (λ d. d.now) variables.now ≡ domains.variables (view_system system.now) }
-    requires parts { map part parts.now ≡ list.parts (view_system system.now) }
-    ensures { IfOk result (λ n. n ≡ rules.great_constant (view_system system.now) (sizes_of sizes.now)) }
-{
-    Ok(None)
-}
-
-pub(crate) fn is_outside(alloc: Global, system: &System, sizes: &[Size]) -> Result<bool, Memory>
-    requires text { IsOfText (view_system system.now) }
-    requires small { AreSmall sizes.now }
-    ensures { IfOk result (λ yes. yes ≡ words.is_outside (view_system system.now) sizes.now) }
-{
-    Ok(false)
-}
-
 pub(crate) fn flat_of(alloc: Global, system: &System, sizes: &[Size], width: Width) -> Result<Flat, Memory>
     requires text { IsOfText (view_system system.now) }
     requires small { AreSmall sizes.now }
