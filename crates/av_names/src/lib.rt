@@ -16,8 +16,8 @@ mod part;
 mod projection;
 mod quantities_in;
 mod reductions_in;
-mod repetitions;
 mod refused;
+mod repetitions;
 mod resolver;
 mod size;
 mod size_table;
@@ -30,7 +30,11 @@ mod written;
 
 pub use fault::NameFault;
 pub use laws::{
-    accepted_systems_are_regular, accepted_texts_say_the_same, flat_systems_are_well_formed, flat_systems_say_the_same,
+    accepted_systems_are_regular, accepted_texts_say_the_same, flat_systems_are_well_formed,
+    flat_systems_say_the_same,
 };
 pub use resolver::resolve;
 pub use size::Size;
+
+#[cfg(test)]
+mod tests;

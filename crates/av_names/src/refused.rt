@@ -34,11 +34,7 @@ fn copied(alloc: Global, name: &Name) -> Result<Name, Memory>
 }
 
 /// The sizes that are given are not those that are named.
-fn wrong_sizes(
-    alloc: Global,
-    system: &System,
-    sizes: &[Size],
-) -> Result<Option<NameFault>, Memory>
+fn wrong_sizes(alloc: Global, system: &System, sizes: &[Size]) -> Result<Option<NameFault>, Memory>
     ensures { IfOk result (λ fault. fault ≡ first_rule (rules.size_rules (view_system system.now) sizes.now)) }
 {
     if let Some(name) = size_twice(alloc, sizes)? {

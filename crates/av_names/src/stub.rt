@@ -21,11 +21,19 @@ use av_flat::Flat;
 use av_tree::{Declaration, System};
 use std::alloc::Global;
 
-pub(crate) fn flat_of(alloc: Global, system: &System, sizes: &[Size], width: Width) -> Result<Flat, Memory>
+pub(crate) fn flat_of(
+    alloc: Global,
+    system: &System,
+    sizes: &[Size],
+    width: Width,
+) -> Result<Flat, Memory>
     requires text { IsOfText (view_system system.now) }
     requires small { AreSmall sizes.now }
     requires accepted { IsAccepted (view_system system.now) sizes.now }
     ensures { IfOk result (λ to. flat.view_system to ≡ flattened.flat_of (instance_of (view_system system.now) sizes.now width.bits)) }
 {
-    Ok(Flat { width, vars: List::new(alloc) })
+    Ok(Flat {
+        width,
+        vars: List::new(alloc),
+    })
 }
