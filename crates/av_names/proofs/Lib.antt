@@ -30,4 +30,5 @@ pub mod Spelled
 pub mod SpelledSystems
 pub mod Limited
 pub mod Resolved
+pub mod Fitted
 pub mod Summed

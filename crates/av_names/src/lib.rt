@@ -2,6 +2,7 @@
 //! which says what the tree says. The definitions stand in `specs/`.
 #![tactic(auto)]
 
+mod affine;
 mod arity;
 mod defined;
 mod fault;
