@@ -32,3 +32,4 @@ pub mod Limited
 pub mod Resolved
 pub mod Fitted
 pub mod Summed
+pub mod Branches

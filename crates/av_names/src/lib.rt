@@ -6,6 +6,7 @@ mod affine;
 mod arity;
 mod defined;
 mod fault;
+mod flatten;
 mod found;
 mod index;
 mod laws;
