@@ -33,4 +33,6 @@ pub mod Spelled
 pub mod SpelledSystems
 pub mod Limited
 pub mod Resolved
+pub mod Fitted
 pub mod Summed
+pub mod Branches

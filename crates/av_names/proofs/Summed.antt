@@ -20,7 +20,7 @@ use Rattle.av_tree.specs.Rows as rows
 use Rattle.av_tree.specs.Rows.{compared}
 use Rattle.av_names.specs.declared.size.Size.{Size}
 use Rattle.av_names.specs.Fitting.{FitsRows}
-use Rattle.av_names.specs.Forms.{index_form, form_of_row, rows_over}
+use Rattle.av_names.specs.Forms.{filled, index_form, form_of_row, rows_over}
 use Rattle.av_names.specs.Found.{sooner, first_of}
 use Rattle.av_names.specs.Quantities.{Counted, greatest, exceeds}
 use Rattle.av_names.specs.SizeWords.{sizes_of}
@@ -149,6 +149,11 @@ rows_more sizes names cs i c made new lt at so_far pushed =
     append_again [] ys zs = refl
     append_again (x ∷ xs) ys zs = ap (λ r. x ∷ r) (append_again xs ys zs)
 
+pub row_is : (sizes : Sizes) (names : List Text) (a b : IndexExpr) (gap : ℤ) (coef : List ℤ) (k : ℤ)
+    → coef ≡ filled (map (λ name. rows.coefficient a.terms name -ℤ rows.coefficient b.terms name) names)
+    → k ≡ rows.constant sizes names a.terms -ℤ rows.constant sizes names b.terms -ℤ gap → ◌≡◌ {A = Form} (record { coef = coef; constant = k }) (form_of_row (rows.at_least sizes names a b gap))
+row_is sizes names a b gap coef k e f = rw (e, f) refl
+
 -- ---- the identity
 
 pub identity_rows : (n : ℕ) → n ≤ 4 → take n (index_form 0 ∷ index_form 1 ∷ index_form 2 ∷ index_form 3 ∷ []) ≡ map index_form (range_with_len 0 n)
@@ -194,6 +199,12 @@ front_small sizes names cs front rest e fits =
     small_row f (subst IsWithinLimits r.2 (all_at IsWithinLimits (map form_of_row (compared sizes names q.0.left q.0.relation q.0.right)) (form_of_row r.0) h
     (among_image form_of_row (compared sizes names q.0.left q.0.relation q.0.right) r.0 q.2))))))).0
 
+pub small_there : (o p : Option ℤ) → o ≡ p → unsigned_abs (rows.or_zero p) ≤ 1048576 → IfSome o (λ k. unsigned_abs k ≤ 1048576)
+small_there o p e h = rw e (by p h)
+  where
+    by : (q : Option ℤ) → unsigned_abs (rows.or_zero q) ≤ 1048576 → IfSome q (λ k. unsigned_abs k ≤ 1048576)
+    by None l = tt
+    by (Some k) l = l
 -- ---- places
 
 pub place_there : (o : Option ℕ) (other p q : ℕ) → o ≡ Some p → (elim o [ None ↦ other | Some place ↦ place ]) ≡ q → p ≡ q
@@ -202,9 +213,3 @@ place_there o other p q e h = let x = rw e at h in x
 pub place_missing : (o : Option ℕ) (other q : ℕ) → o ≡ None → (elim o [ None ↦ other | Some place ↦ place ]) ≡ q → other ≡ q
 place_missing o other q e h = let x = rw e at h in x
 
-pub small_there : (o p : Option ℤ) → o ≡ p → unsigned_abs (rows.or_zero p) ≤ 1048576 → IfSome o (λ k. unsigned_abs k ≤ 1048576)
-small_there o p e h = rw e (by p h)
-  where
-    by : (q : Option ℤ) → unsigned_abs (rows.or_zero q) ≤ 1048576 → IfSome q (λ k. unsigned_abs k ≤ 1048576)
-    by None l = tt
-    by (Some k) l = l

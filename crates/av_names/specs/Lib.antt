@@ -19,3 +19,4 @@ pub mod Accepted
 pub mod Texts
 pub mod Fitting
 pub mod Sums
+pub mod Building

@@ -2,9 +2,11 @@
 //! which says what the tree says. The definitions stand in `specs/`.
 #![tactic(auto)]
 
+mod affine;
 mod arity;
 mod defined;
 mod fault;
+mod flatten;
 mod found;
 mod in_reach;
 mod index;
