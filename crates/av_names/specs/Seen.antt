@@ -5,19 +5,14 @@ use Rattle.av_tree.specs.declared.system.Equation.{Equation as EquationMade}
 use Rattle.av_tree.specs.Trees.{Text, Equation, view, view_equation}
 use Rattle.av_tree.specs.Rows.{is_index}
 use Rattle.av_names.specs.declared.found.Found.{Found as FoundMade}
-use Rattle.av_names.specs.declared.quantities_in.Counted.{Counted as CountedMade}
 use Rattle.av_names.specs.declared.part.Context.{Context as ContextMade}
 use Rattle.av_names.specs.declared.part.Part.{Part as PartMade}
 use Rattle.av_names.specs.Forms.{Context}
 use Rattle.av_names.specs.Found.{Found}
 use Rattle.av_names.specs.Parts.{Part}
-use Rattle.av_names.specs.Quantities.{Counted}
 
 abbrev pub found : FoundMade → Found
 found f = record { name = f.name.now; place = f.place }
-
-abbrev pub counted : CountedMade → Counted
-counted c = record { number = c.number; place = c.place }
 
 abbrev pub context : ContextMade → Context
 context c = record { names = c.names.now; indices = c.indices }

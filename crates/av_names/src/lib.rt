@@ -37,6 +37,3 @@ pub use laws::{
 };
 pub use resolver::resolve;
 pub use size::Size;
-
-#[cfg(test)]
-mod tests;

@@ -51,7 +51,7 @@ fn limit(measure: Measure) -> u128
 }
 
 /// The one that stands first; the left one of two at one place.
-fn sooner(left: Option<Counted>, right: Option<Counted>) -> Option<Counted>
+pub(crate) fn sooner(left: Option<Counted>, right: Option<Counted>) -> Option<Counted>
     ensures { option_map seen.counted result ≡ finds.sooner (λ c. c.place) (option_map seen.counted left) (option_map seen.counted right) }
 {
     match (left, right) {
@@ -236,7 +236,8 @@ fn great(measure: Measure, sizes: &IndexMap<&str, i64>, all: &[Written<'_>]) -> 
     number_of(first)
 }
 
-fn number_of(counted: Option<Counted>) -> Option<u128>
+/// The number alone.
+pub(crate) fn number_of(counted: Option<Counted>) -> Option<u128>
     ensures { result ≡ option_map (λ c. c.number) (option_map seen.counted counted) }
 {
     match counted {

@@ -6,14 +6,14 @@ ghost use Rattle.indexmap.specs.IndexMap.{get_by};
 ghost use Rattle.av_tree.specs.Domains as domains;
 ghost use Rattle.av_tree.specs.Trees.{view, view_equation, view_system};
 ghost use Rattle.av_names.specs.Forms.{over};
-ghost use Rattle.av_names.specs.Found as finds;
 ghost use Rattle.av_names.specs.Found.{first_of, at_option};
 ghost use Rattle.av_names.specs.Parts as list;
 ghost use Rattle.av_names.specs.Quantities as rules;
-ghost use Rattle.av_names.specs.Seen.{counted, part, names_at};
+ghost use Rattle.av_names.specs.Seen.{part, names_at};
+ghost use Rattle.av_names.specs.Sums.{counted};
 
-use crate::found::is_before;
 use crate::index::{by_name, context};
+use crate::measure::{Counted, number_of, sooner};
 use crate::part::{Context, Part, gather};
 use av_base::{Memory, Place};
 use av_tree::{Access, Declaration, Equation, Expr, MapText, System};
@@ -38,30 +38,6 @@ pub(crate) fn too_many_variables(variables: &[&Declaration]) -> Option<u128>
     }
 }
 
-/// A quantity of an object, and the object's place.
-#[derive(Clone, Copy)]
-pub(crate) struct Counted {
-    pub(crate) number: u128,
-    pub(crate) place: Place,
-}
-
-/// The one that stands first; the left one of two at one place.
-pub(crate) fn sooner_counted(left: Option<Counted>, right: Option<Counted>) -> Option<Counted>
-    ensures { option_map counted result ≡ finds.sooner (λ c. c.place) (option_map counted left) (option_map counted right) }
-{
-    match (left, right) {
-        (None, _) => right,
-        (_, None) => left,
-        (Some(a), Some(b)) => {
-            if is_before(b.place, a.place) {
-                Some(b)
-            } else {
-                Some(a)
-            }
-        }
-    }
-}
-
 /// A length at a place, where it is above the limit.
 fn exceeds(limit: usize, length: usize, place: Place) -> Option<Counted>
     ensures { option_map counted result ≡ rules.exceeds limit (record { number = length; place = place }) }
@@ -76,16 +52,6 @@ fn exceeds(limit: usize, length: usize, place: Place) -> Option<Counted>
     }
 }
 
-/// The number of the first of the objects above the limit.
-pub(crate) fn number_of(first: Option<Counted>) -> Option<u128>
-    ensures { result ≡ option_map (λ c. c.number) (option_map counted first) }
-{
-    match first {
-        Some(counted) => Some(counted.number),
-        None => None,
-    }
-}
-
 /// The first declared domain with too many indices.
 fn indices_of_variables(variables: &[&Declaration]) -> Option<Counted>
     ensures { option_map counted result ≡ first_of (λ c. c.place) (λ d. rules.exceeds 4 (rules.of_declaration d.now)) variables.now }
@@ -94,7 +60,7 @@ fn indices_of_variables(variables: &[&Declaration]) -> Option<Counted>
     for variable in variables {
         let domain = &variable.domain;
         let next = exceeds(MOST_INDICES, domain.names.as_slice().len(), domain.place);
-        first = sooner_counted(first, next);
+        first = sooner(first, next);
     }
     first
 }
@@ -115,7 +81,7 @@ fn indices_of_equations(equations: &[Equation]) -> Option<Counted>
     let mut first = None;
     for equation in equations {
         let next = indices_of_equation(equation);
-        first = sooner_counted(first, next);
+        first = sooner(first, next);
     }
     first
 }
@@ -126,7 +92,7 @@ fn indices_of_map(map: &MapText) -> Option<Counted>
 {
     let names = exceeds(MOST_INDICES, map.names.as_slice().len(), map.place);
     let results = exceeds(MOST_INDICES, map.results.as_slice().len(), map.place);
-    sooner_counted(names, results)
+    sooner(names, results)
 }
 
 fn indices_of_expression(expr: &Expr) -> Option<Counted>
@@ -157,7 +123,7 @@ fn indices_of_parts(parts: &[Part<'_>]) -> Option<Counted>
     let mut first = None;
     for part in parts {
         let next = indices_of_expression(part.expr);
-        first = sooner_counted(first, next);
+        first = sooner(first, next);
     }
     first
 }
@@ -175,7 +141,7 @@ pub(crate) fn too_many_indices(
     let domain = indices_of_variables(variables);
     let equation = indices_of_equations(system.equations.as_slice());
     let part = indices_of_parts(parts);
-    number_of(sooner_counted(sooner_counted(domain, equation), part))
+    number_of(sooner(sooner(domain, equation), part))
 }
 
 /// The nodes of an equation, which are the parts of its right side.
@@ -204,7 +170,7 @@ fn nodes_of_equations(
     for equation in equations {
         let nodes = nodes_of(alloc, table, equation)?;
         let next = exceeds(MOST_NODES, nodes, equation.place);
-        first = sooner_counted(first, next);
+        first = sooner(first, next);
     }
     Ok(first)
 }

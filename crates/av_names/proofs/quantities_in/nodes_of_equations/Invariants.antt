@@ -1,7 +1,7 @@
 use Rattle.std.proofs.Common.{◌≡◌, take}
 use Rattle.std.specs.Prelude.{option_map}
 use Rattle.av_names.specs.Found.{first_of}
-use Rattle.av_names.specs.Seen.{counted}
+use Rattle.av_names.specs.Sums.{counted}
 use Rattle.std.proofs.Common.{false, length}
 use Rattle.std.specs.Prelude.{bytes_eq}
 use Rattle.indexmap.specs.IndexMap.{get_by}
