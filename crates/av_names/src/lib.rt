@@ -24,7 +24,6 @@ mod resolver;
 mod size;
 mod size_table;
 mod size_words;
-mod stub;
 mod sums;
 mod tables;
 mod unknown_names;

@@ -12,7 +12,7 @@ ghost use Rattle.av_names.specs.declared.fault.NameFault.TheVariants as fault;
 
 use crate::index::all_parts;
 use crate::refused::refused;
-use crate::stub::flat_of;
+use crate::flat_system::flat_of;
 use crate::tables::all_variables;
 use crate::{NameFault, Size};
 use av_base::Width;
