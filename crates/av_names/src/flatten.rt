@@ -22,6 +22,7 @@ use indexmap::IndexMap;
 use std::alloc::Global;
 
 /// What the names of a system stand for.
+#[derive(Drop)]
 pub(crate) struct Tables<'a> {
     pub(crate) system: &'a System,
     /// The place of each variable in the order inputs, outputs, locals.
@@ -67,7 +68,7 @@ fn restriction(
 
 /// The expression with the sizes put in, node by node.
 #[cycle(tree)]
-fn tree(
+pub(crate) fn tree(
     alloc: Global,
     tables: &Tables<'_>,
     context: Context<'_>,

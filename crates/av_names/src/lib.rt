@@ -6,6 +6,8 @@ mod affine;
 mod arity;
 mod defined;
 mod fault;
+mod flat_system;
+mod flat_tables;
 mod flatten;
 mod found;
 mod in_reach;
