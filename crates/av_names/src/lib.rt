@@ -29,6 +29,7 @@ mod written;
 
 pub use fault::NameFault;
 pub use laws::{
-    accepted_systems_are_regular, accepted_texts_say_the_same, flat_systems_are_well_formed, flat_systems_say_the_same,
+    accepted_systems_are_regular, accepted_texts_say_the_same, flat_systems_are_well_formed,
+    flat_systems_say_the_same,
 };
 pub use size::Size;

@@ -223,11 +223,7 @@ fn great_written(
 }
 
 /// The greatest number of the first object of the text that is above the limit.
-fn great(
-    measure: Measure,
-    sizes: &IndexMap<&str, i64>,
-    all: &[Written<'_>],
-) -> Option<u128>
+fn great(measure: Measure, sizes: &IndexMap<&str, i64>, all: &[Written<'_>]) -> Option<u128>
     requires short { All (λ w. IsShortWritten (seen.written w)) all.now }
     requires sizes { HasSmallValues (sizes_in sizes.now) }
     ensures { (s : Spelled) → map seen.written all.now ≡ all_written s → result ≡ seen.great measure s (sizes_in sizes.now) }
