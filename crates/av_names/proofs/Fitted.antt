@@ -35,12 +35,14 @@ forms_fit sizes names es f g = all_from (FitsForm sizes names) es (λ e m. (all_
 
 rows_fit : (sizes : Sizes) (names : List Text) (cs : List Constraint) → All (IsFewSides (2 ^ 32)) cs → HaveSmallRows sizes names cs → All (FitsRows sizes names) cs
 rows_fit sizes names cs f g = all_from (FitsRows sizes names) cs (λ c m.
-    let s = all_at (IsFewSides (2 ^ 32)) cs c f m in
-    ((s.left, s.right), all_from IsWithinLimits (map form_of_row (compared sizes names c.left c.relation c.right)) (λ r n.
-    let q = among_source form_of_row (compared sizes names c.left c.relation c.right) r n in
-    let h = all_at IsWithinLimits (rows_over sizes names cs) (form_of_row q.0) g (among_image form_of_row (flat_map (λ d. compared sizes names d.left d.relation d.right) cs) q.0
-    (among_flat (λ d. compared sizes names d.left d.relation d.right) cs c q.0 m q.1)) in
-    subst IsWithinLimits q.2 h)))
+    let s = all_at (IsFewSides (2 ^ 32)) cs c f m in (
+      (s.left, s.right),
+      all_from IsWithinLimits (map form_of_row (compared sizes names c.left c.relation c.right)) (λ r n.
+          let q = among_source form_of_row (compared sizes names c.left c.relation c.right) r n in
+          let h = all_at IsWithinLimits (rows_over sizes names cs) (form_of_row q.0) g (among_image form_of_row (flat_map (λ d. compared sizes names d.left d.relation d.right) cs) q.0
+          (among_flat (λ d. compared sizes names d.left d.relation d.right) cs c q.0 m q.1)) in
+          subst IsWithinLimits q.2 h),
+    ))
 
 -- ---- expressions
 
@@ -100,6 +102,8 @@ module _ (s : System) (words : List Size) (width : ℕ) (of_text : IsOfText s) (
   pub right_fits : (e : Equation) → Among e s.equations → (length (context s e) ≤ 4) × FitsIn i.sizes (over (context s e)) e.right
   right_fits e m =
       let r = all_at (IsRegularEquation i) s.equations e (is_regular s words width of_text accepted).equations m in
-      let l = few_given (indices_of i e.name) (declared_names (variables s) e.name) e.indices (few e.name) (few e.name) r.indices in
-      (l, part_fits i few (over (context s e)) e.right l r.right (all_at (λ x. IsLimitedIn i.sizes (context s x) x.right) s.equations e (is_limited s words width of_text accepted).equations m)
-      (all_at (λ x. HasFew (2 ^ 32) x.right) s.equations e (few_system s of_text).equations m))
+      let l = few_given (indices_of i e.name) (declared_names (variables s) e.name) e.indices (few e.name) (few e.name) r.indices in (
+        l,
+        part_fits i few (over (context s e)) e.right l r.right (all_at (λ x. IsLimitedIn i.sizes (context s x) x.right) s.equations e (is_limited s words width of_text accepted).equations m)
+            (all_at (λ x. HasFew (2 ^ 32) x.right) s.equations e (few_system s of_text).equations m),
+      )

@@ -205,6 +205,7 @@ small_there o p e h = rw e (by p h)
     by : (q : Option ℤ) → unsigned_abs (rows.or_zero q) ≤ 1048576 → IfSome q (λ k. unsigned_abs k ≤ 1048576)
     by None l = tt
     by (Some k) l = l
+
 -- ---- places
 
 pub place_there : (o : Option ℕ) (other p q : ℕ) → o ≡ Some p → (elim o [ None ↦ other | Some place ↦ place ]) ≡ q → p ≡ q
@@ -212,4 +213,3 @@ place_there o other p q e h = let x = rw e at h in x
 
 pub place_missing : (o : Option ℕ) (other q : ℕ) → o ≡ None → (elim o [ None ↦ other | Some place ↦ place ]) ≡ q → other ≡ q
 place_missing o other q e h = let x = rw e at h in x
-

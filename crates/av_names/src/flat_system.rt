@@ -219,7 +219,19 @@ pub(crate) fn flat_of(
     let names = all_names(alloc, system, sizes, width)?;
     let mut vars = List::new(alloc);
     push_inputs(alloc, &mut vars, &names, system.inputs.as_slice())?;
-    push_computed(alloc, &mut vars, &names, Kind::Output, system.outputs.as_slice())?;
-    push_computed(alloc, &mut vars, &names, Kind::Local, system.locals.as_slice())?;
+    push_computed(
+        alloc,
+        &mut vars,
+        &names,
+        Kind::Output,
+        system.outputs.as_slice(),
+    )?;
+    push_computed(
+        alloc,
+        &mut vars,
+        &names,
+        Kind::Local,
+        system.locals.as_slice(),
+    )?;
     Ok(Flat { width, vars })
 }

@@ -85,7 +85,12 @@ pub(crate) fn tree(
             Ok(Tree::Ref { var, map })
         }
         Expr::Const { value, .. } => Ok(Tree::Const(Word::of(*value, tables.width))),
-        Expr::Binary { sign, left, right, .. } => {
+        Expr::Binary {
+            sign,
+            left,
+            right,
+            ..
+        } => {
             let left = boxed(alloc, tables, context, left)?;
             let right = boxed(alloc, tables, context, right)?;
             Ok(Tree::Binary {

@@ -9,7 +9,6 @@ use Rattle.av_names.specs.Sums.{sizes_in}
 use Rattle.av_names.proofs.Branches.{branches_fit, case_built, less_deep}
 use Rattle.av_names.proofs.flatten.+tree.Goals as goal
 
-
 pub tree-trees-requires : goal.tree-trees-requires
 tree-trees-requires t c = (
   less_deep t c.args.expr.now c.in-Case.branches c.as_slice.result.now c.in-Case.place c.in-Case.is c.as_slice.ensures c.decreases,
