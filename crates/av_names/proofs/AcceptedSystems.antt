@@ -38,7 +38,7 @@ use Rattle.av_names.proofs.Places.{HasDomain}
 
 -- ---- lists
 
-among_flat : {X Y : Type 0} (f : X → List Y) (xs : List X) (x : X) (y : Y) → Among x xs → Among y (f x) → Among y (flat_map f xs)
+pub among_flat : {X Y : Type 0} (f : X → List Y) (xs : List X) (x : X) (y : Y) → Among x xs → Among y (f x) → Among y (flat_map f xs)
 among_flat f [] x y m n = absurd m
 among_flat f (z ∷ xs) x y (inl e) n = among_first (f z) (flat_map f xs) y (subst (λ a. Among y (f a)) (sym e) n)
 among_flat f (z ∷ xs) x y (inr m) n = among_second (f z) (flat_map f xs) y (among_flat f xs x y m n)
@@ -48,7 +48,7 @@ either_way None ys y m = m
 either_way (Some z) ys y m = inr m
 
 -- each rule finds nothing
-each_rule : (os : List (Option NameFault)) → first_rule os ≡ None → (o : Option NameFault) → Among o os → o ≡ None
+pub each_rule : (os : List (Option NameFault)) → first_rule os ≡ None → (o : Option NameFault) → Among o os → o ≡ None
 each_rule [] h o m = absurd m
 each_rule (p ∷ os) h o (inl e) = sym e ∙ (rule_first p os h).0
 each_rule (p ∷ os) h o (inr m) = each_rule os (rule_first p os h).1 o m

@@ -2,9 +2,12 @@ pub mod Sooner
 pub mod Sets
 pub mod Cases
 pub mod Repeats
+pub mod Reach
 pub mod Lists
 pub mod Lookups
 pub mod Given
+pub mod Unknown
+pub mod Rules
 pub mod Names
 pub mod Terms
 pub mod Comparisons
@@ -26,3 +29,13 @@ pub mod Accepted
 pub mod Projected
 pub mod Accepting
 pub mod AcceptedSystems
+pub mod Spelled
+pub mod SpelledSystems
+pub mod Limited
+pub mod Resolved
+pub mod Fitted
+pub mod Summed
+pub mod Branches
+pub mod Earlier
+pub mod Built
+pub mod FlatSystem

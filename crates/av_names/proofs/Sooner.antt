@@ -120,7 +120,7 @@ first_filter_map at rule f (x ∷ xs) = filtered at rule (f x) (filter_map f xs)
     filtered at rule None ys rest e = e
     filtered at rule (Some y) ys rest e = ap (λ r. sooner at (rule y) r) e
 
-sooner_nothing : {A : Type 0} (at : A → Place) (w : Option A) → sooner at w None ≡ w
+pub sooner_nothing : {A : Type 0} (at : A → Place) (w : Option A) → sooner at w None ≡ w
 sooner_nothing at None = refl
 sooner_nothing at (Some w) = refl
 

@@ -16,3 +16,7 @@ pub mod Regular
 pub mod Limits
 pub mod Same
 pub mod Accepted
+pub mod Texts
+pub mod Fitting
+pub mod Sums
+pub mod Building

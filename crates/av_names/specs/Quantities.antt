@@ -45,11 +45,11 @@ abbrev pub of_equation : Equation → Option Counted
 of_equation e = option_map (λ names. counted (length names) e.place) e.indices
 
 -- a map's names before its results
-abbrev of_map : Option MapText → List Counted
+abbrev pub of_map : Option MapText → List Counted
 of_map None = []
 of_map (Some m) = counted (length m.names) m.place ∷ counted (length m.results) m.place ∷ []
 
-abbrev of_expression : Expression → List Counted
+abbrev pub of_expression : Expression → List Counted
 of_expression (restriction d e place) = counted (length d.names) d.place ∷ []
 of_expression e = of_map (map_at e)
 

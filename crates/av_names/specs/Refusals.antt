@@ -1,5 +1,5 @@
 -- Why a system with the sizes given is refused: the rules in their order, of which the first that holds is answered.
-use Rattle.std.specs.Prelude.{◌≡◌, ℕ, List, [], ◌∷◌, Option, Some, None, option_map, if◌then◌else◌}
+use Rattle.std.specs.Prelude.{◌≡◌, ℕ, List, [], ◌∷◌, ◌++◌, Option, Some, None, option_map, if◌then◌else◌}
 use Rattle.av_base.specs.declared.place.Place.{Place}
 use Rattle.av_flat.specs.declared.quantity.Quantity.{Quantity}
 use Rattle.av_flat.specs.declared.quantity.Quantity.TheVariants as quantity
@@ -28,27 +28,45 @@ first_rule [] = None
 first_rule (None ∷ rules) = first_rule rules
 first_rule (Some f ∷ rules) = Some f
 
-abbrev pub rules : System → List Size → List (Option NameFault)
-rules s words =
-    found_as fault.Repeated (repeated s)
-    ∷ option_map fault.SizeTwice (size_twice words)
-    ∷ option_map fault.SizeUnknown (size_unknown s words)
-    ∷ option_map fault.SizeMissing (size_missing s words)
-    ∷ found_as fault.Unknown (unknown s)
-    ∷ found_as fault.DefinesInput (defines_input s)
+-- ---- the rules, in four groups
+
+abbrev pub size_rules : System → List Size → List (Option NameFault)
+size_rules s words = option_map fault.SizeTwice (size_twice words) ∷ option_map fault.SizeUnknown (size_unknown s words) ∷ option_map fault.SizeMissing (size_missing s words) ∷ []
+
+-- on names
+abbrev pub name_rules : System → List Size → List (Option NameFault)
+name_rules s words = found_as fault.Repeated (repeated s) ∷ (size_rules s words ++ found_as fault.Unknown (unknown s) ∷ [])
+
+-- on the left sides of equations
+abbrev pub equation_rules : System → List (Option NameFault)
+equation_rules s =
+    found_as fault.DefinesInput (defines_input s)
     ∷ found_as fault.SecondEquation (second_equation [] s.equations)
     ∷ found_as fault.NoEquation (no_equation s)
-    ∷ option_map fault.Arity (arity s)
+    ∷ []
+
+-- on numbers of indices and on reductions
+abbrev pub form_rules : System → List (Option NameFault)
+form_rules s =
+    option_map fault.Arity (arity s)
     ∷ option_map fault.Projection (projection s)
     ∷ option_map fault.CaseInReduce (case_in_reduce s)
     ∷ option_map fault.DependOnReduce (depend_on_reduce s)
-    ∷ limit quantity.Variables (too_many_variables s)
+    ∷ []
+
+-- on quantities, and on the values of the sizes
+abbrev pub limit_rules : System → List Size → List (Option NameFault)
+limit_rules s words =
+    limit quantity.Variables (too_many_variables s)
     ∷ limit quantity.Indices (too_many_indices s)
     ∷ limit quantity.Nodes (too_many_nodes s)
     ∷ limit quantity.Coefficient (great_coefficient s (sizes_of words))
     ∷ limit quantity.Constant (great_constant s (sizes_of words))
     ∷ (if is_outside s words then Some fault.SizeOutside else None)
     ∷ []
+
+abbrev pub rules : System → List Size → List (Option NameFault)
+rules s words = name_rules s words ++ (equation_rules s ++ (form_rules s ++ limit_rules s words))
 
 -- why the system is refused with these sizes, or none
 abbrev pub refusal : System → List Size → Option NameFault

@@ -21,16 +21,17 @@ is_variable ds name = is_index (declared_as ds) name
 abbrev pub unknown_equation : System → Equation → Option Found
 unknown_equation s e = found_where (not (is_variable (variables s) e.name)) e.name e.place
 
-abbrev unknown_variable : List Declaration → Expression → Option Found
-unknown_variable ds (reference name at place) = found_where (not (is_variable ds name)) name place
-unknown_variable ds _ = None
+-- a reference of another name than these
+abbrev pub unknown_variable : List Text → Expression → Option Found
+unknown_variable names (reference name at place) = found_where (not (is_index names name)) name place
+unknown_variable names _ = None
 
 abbrev pub unknown_reference : System → Part → Option Found
-unknown_reference s p = unknown_variable (variables s) p.expression
+unknown_reference s p = unknown_variable (declared_as (variables s)) p.expression
 
 -- ---- index names
 
-abbrev named_unknown : List Text → List Text → Term → Option Text → Option Found
+abbrev pub named_unknown : List Text → List Text → Term → Option Text → Option Found
 named_unknown sizes names t None = None
 named_unknown sizes names t (Some n) = found_where (not (is_index names n) && not (is_index sizes n)) n t.place
 

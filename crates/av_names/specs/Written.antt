@@ -26,7 +26,7 @@ abbrev results_of : MapText → Written
 results_of m = record { names = m.names; indices = m.results; constraints = [] }
 
 -- what stands in brackets is over the names of the context
-abbrev behind : Context → Access → Written
+abbrev pub behind : Context → Access → Written
 behind c access.Here = nothing
 behind c (access.Indices es) = record { names = c.names; indices = es; constraints = [] }
 behind c (access.Mapped m) = results_of m

@@ -1,3 +1,6 @@
+ghost use Rattle.std.specs.Prelude.{◌≡◌};
+ghost use Rattle.av_names.specs.declared.fault.NameFault.TheVariants as fault;
+
 use av_base::{Memory, Name, Place};
 use av_flat::Quantity;
 
@@ -42,6 +45,8 @@ pub enum NameFault {
 }
 
 impl From<Memory> for NameFault {
+    ghost from_gives = { λ _ e. e ≡ fault.Memory };
+
     fn from(_: Memory) -> NameFault {
         NameFault::Memory
     }

@@ -41,7 +41,10 @@ pub(crate) fn names_of<'a>(table: &IndexMap<&'a str, &'a Declaration>, name: &Na
 }
 
 /// The index names over which an equation's right side stands.
-fn context<'a>(table: &IndexMap<&'a str, &'a Declaration>, equation: &'a Equation) -> &'a [Name]
+pub(crate) fn context<'a>(
+    table: &IndexMap<&'a str, &'a Declaration>,
+    equation: &'a Equation,
+) -> &'a [Name]
     ensures { result.now ≡ domains.given_or (names_at (option_map (λ d. d.now) (get_by (λ k. bytes_eq equation.now.name k.now) table.now))) equation.now.indices }
 {
     match &equation.indices {

@@ -9,6 +9,7 @@ ghost use Rattle.av_names.specs.Limits.{IsLimited};
 ghost use Rattle.av_names.specs.Refusals.{IsAccepted};
 ghost use Rattle.av_names.specs.Regular.{IsRegular};
 ghost use Rattle.av_names.specs.Same.{SaysTheSame};
+ghost use Rattle.av_names.specs.Texts.{IsOfText};
 
 /// A law on flat systems: that of a regular system says what the system says.
 pub fn flat_systems_say_the_same()
@@ -23,4 +24,11 @@ pub fn flat_systems_are_well_formed()
 /// A law on refusals: a system that no rule refuses with its sizes is regular, where no domain has an inequality.
 pub fn accepted_systems_are_regular()
     ensures { (s : System) (words : List SizeWord) (width : ℕ) → HasNoInequality s → IsAccepted s words → IsRegular (instance_of s words width) }
+{}
+
+/// A law on texts: of the system of a text that no rule refuses with its sizes, the flat system is well formed and says
+/// what the system says.
+pub fn accepted_texts_say_the_same()
+    ensures well_formed { (s : System) (words : List SizeWord) (width : ℕ) → IsOfText s → IsAccepted s words → IsWellFormed (flat_of (instance_of s words width)) }
+    ensures same { (s : System) (words : List SizeWord) (width : ℕ) → IsOfText s → IsAccepted s words → SaysTheSame (instance_of s words width) (flat_of (instance_of s words width)) }
 {}

@@ -2,24 +2,39 @@
 //! which says what the tree says. The definitions stand in `specs/`.
 #![tactic(auto)]
 
+mod affine;
 mod arity;
 mod defined;
 mod fault;
+mod flat_system;
+mod flat_tables;
+mod flatten;
 mod found;
+mod in_reach;
 mod index;
 mod laws;
+mod measure;
 mod name_set;
+mod outside;
 mod part;
 mod projection;
 mod quantities_in;
 mod reductions_in;
+mod refused;
 mod repetitions;
+mod resolver;
 mod size;
+mod size_table;
 mod size_words;
+mod sums;
 mod tables;
+mod unknown_names;
+mod written;
 
 pub use fault::NameFault;
 pub use laws::{
-    accepted_systems_are_regular, flat_systems_are_well_formed, flat_systems_say_the_same,
+    accepted_systems_are_regular, accepted_texts_say_the_same, flat_systems_are_well_formed,
+    flat_systems_say_the_same,
 };
+pub use resolver::resolve;
 pub use size::Size;

@@ -1,0 +1,14 @@
+use Rattle.std.proofs.Common.{refl, ◌∙◌}
+use Rattle.std.specs.Prelude.{option_map, bytes_eq}
+use Rattle.indexmap.specs.IndexMap.{get_by}
+use Rattle.av_tree.specs.Trees.{view_system}
+use Rattle.av_names.specs.Sums.{counted}
+use Rattle.av_names.proofs.Unknown.{nodes_are}
+use Rattle.av_names.proofs.quantities_in.too_many_nodes.Goals as goal
+
+pub returns : goal.returns
+returns c =
+    c.number_of.ensures
+    ∙ nodes_are (view_system c.args.system.now) c.args.variables.now c.args.system.now.equations c.requires refl
+    (λ name. option_map (λ d. d.now) (get_by (λ k. bytes_eq name k.now) c.in_ok-table.table)) c.in_ok-table.ensures (option_map counted c.in_ok-first.first)
+    (rw c.as_slice.ensures at c.in_ok-first.ensures)

@@ -1,0 +1,300 @@
+//! The greatest coefficients and constants of the text, against their limits.
+
+ghost use Rattle.std.specs.Prelude.{◌≡◌, ◌-ℤ◌, map, option_map, All, IfOk};
+ghost use Rattle.av_tree.specs.Domains as domains;
+ghost use Rattle.av_tree.specs.Rows as rows;
+ghost use Rattle.av_tree.specs.Points.{Sizes};
+ghost use Rattle.av_tree.specs.Trees.{System as Spelled, view_system};
+ghost use Rattle.av_names.specs.Found as finds;
+ghost use Rattle.av_names.specs.Found.{first_of};
+ghost use Rattle.av_names.specs.Parts as list;
+ghost use Rattle.av_names.specs.Quantities as rules;
+ghost use Rattle.av_names.specs.Seen.{part};
+ghost use Rattle.av_names.specs.SizeWords.{sizes_of};
+ghost use Rattle.av_names.specs.Sums as seen;
+ghost use Rattle.av_names.specs.Sums.{sizes_in, HasSmallValues, limit_of};
+ghost use Rattle.av_names.specs.Texts.{AreShort, AreSmall, HasShortTerms, HasShortSides, IsOfText, IsShortWritten};
+ghost use Rattle.av_names.specs.Written.{all_written};
+
+use crate::Size;
+use crate::found::is_before;
+use crate::part::Part;
+use crate::size_table::size_table;
+use crate::sums::{coefficient, coefficient_between, constant, constant_between};
+use crate::written::{Written, written_all};
+use av_base::{Memory, Name, Place};
+use av_tree::{Constraint, Declaration, IndexExpr, Relation, System, Term};
+use indexmap::IndexMap;
+use std::alloc::Global;
+
+/// Which numbers of rows and results of maps are measured.
+#[derive(Clone, Copy)]
+pub(crate) enum Measure {
+    Coefficient,
+    Constant,
+}
+
+/// A number with the place of what has it.
+#[derive(Clone, Copy)]
+pub(crate) struct Counted {
+    pub(crate) number: u128,
+    pub(crate) place: Place,
+}
+
+fn limit(measure: Measure) -> u128
+    ensures { result ≡ limit_of measure }
+{
+    match measure {
+        Measure::Coefficient => 1024,
+        Measure::Constant => 1048576,
+    }
+}
+
+/// The one that stands first; the left one of two at one place.
+pub(crate) fn sooner(left: Option<Counted>, right: Option<Counted>) -> Option<Counted>
+    ensures { option_map seen.counted result ≡ finds.sooner (λ c. c.place) (option_map seen.counted left) (option_map seen.counted right) }
+{
+    match (left, right) {
+        (None, _) => right,
+        (_, None) => left,
+        (Some(a), Some(b)) => {
+            if is_before(b.place, a.place) {
+                Some(b)
+            } else {
+                Some(a)
+            }
+        }
+    }
+}
+
+fn exceeding(measure: Measure, number: u128, place: Place) -> Option<Counted>
+    ensures { option_map seen.counted result ≡ rules.exceeds (limit_of measure) (record { number = number; place = place }) }
+{
+    if number > limit(measure) {
+        Some(Counted { number, place })
+    } else {
+        None
+    }
+}
+
+fn greatest_of_terms(names: &[Name], terms: &[Term]) -> u128
+    requires { AreShort terms.now }
+    ensures { result ≡ rules.greatest (map (rows.coefficient terms.now) names.now) }
+{
+    let mut most: u128 = 0;
+    for name in names {
+        let size = coefficient(terms, name).unsigned_abs();
+        most = most.max(size);
+    }
+    most
+}
+
+fn greatest_of_differences(names: &[Name], left: &[Term], right: &[Term]) -> u128
+    requires left { AreShort left.now }
+    requires right { AreShort right.now }
+    ensures { result ≡ rules.greatest (map (λ name. rows.coefficient left.now name -ℤ rows.coefficient right.now name) names.now) }
+{
+    let mut most: u128 = 0;
+    for name in names {
+        let size = coefficient_between(left, right, name).unsigned_abs();
+        most = most.max(size);
+    }
+    most
+}
+
+/// The greatest coefficient of the rows of a comparison.
+fn row_coefficient(names: &[Name], constraint: &Constraint) -> u128
+    requires { HasShortSides constraint.now }
+    ensures { (sizes : Sizes) → result ≡ (rules.row_coefficient sizes names.now constraint.now).number }
+{
+    match constraint.relation {
+        Relation::Unequal => 0,
+        _ => greatest_of_differences(
+            names,
+            constraint.left.terms.as_slice(),
+            constraint.right.terms.as_slice(),
+        ),
+    }
+}
+
+/// The greatest constant of the rows of a comparison.
+fn row_constant(sizes: &IndexMap<&str, i64>, names: &[Name], constraint: &Constraint) -> u128
+    requires short { HasShortSides constraint.now }
+    requires sizes { HasSmallValues (sizes_in sizes.now) }
+    ensures { result ≡ (rules.row_constant (sizes_in sizes.now) names.now constraint.now).number }
+{
+    let left = constraint.left.terms.as_slice();
+    let right = constraint.right.terms.as_slice();
+    match constraint.relation {
+        Relation::Less => constant_between(sizes, names, right, left, 1).unsigned_abs(),
+        Relation::Greater => constant_between(sizes, names, left, right, 1).unsigned_abs(),
+        Relation::LessEqual | Relation::GreaterEqual | Relation::Equal => {
+            constant_between(sizes, names, left, right, 0).unsigned_abs()
+        }
+        Relation::Unequal => 0,
+    }
+}
+
+fn index_number(
+    measure: Measure,
+    sizes: &IndexMap<&str, i64>,
+    names: &[Name],
+    entry: &IndexExpr,
+) -> u128
+    requires short { HasShortTerms entry.now }
+    requires sizes { HasSmallValues (sizes_in sizes.now) }
+    ensures { result ≡ (seen.of_index measure (sizes_in sizes.now) names.now entry.now).number }
+{
+    let terms = entry.terms.as_slice();
+    match measure {
+        Measure::Coefficient => greatest_of_terms(names, terms),
+        Measure::Constant => constant(sizes, names, terms).unsigned_abs(),
+    }
+}
+
+fn row_number(
+    measure: Measure,
+    sizes: &IndexMap<&str, i64>,
+    names: &[Name],
+    constraint: &Constraint,
+) -> u128
+    requires short { HasShortSides constraint.now }
+    requires sizes { HasSmallValues (sizes_in sizes.now) }
+    ensures { result ≡ (seen.of_row measure (sizes_in sizes.now) names.now constraint.now).number }
+{
+    match measure {
+        Measure::Coefficient => row_coefficient(names, constraint),
+        Measure::Constant => row_constant(sizes, names, constraint),
+    }
+}
+
+/// The first of the index expressions whose number is above the limit.
+fn great_index(
+    measure: Measure,
+    sizes: &IndexMap<&str, i64>,
+    names: &[Name],
+    entries: &[IndexExpr],
+) -> Option<Counted>
+    requires short { All HasShortTerms entries.now }
+    requires sizes { HasSmallValues (sizes_in sizes.now) }
+    ensures { option_map seen.counted result ≡ first_of (λ c. c.place) (λ e. rules.exceeds (limit_of measure) (seen.of_index measure (sizes_in sizes.now) names.now e)) entries.now }
+{
+    let mut first = None;
+    for entry in entries {
+        let number = index_number(measure, sizes, names, entry);
+        let next = exceeding(measure, number, entry.place);
+        first = sooner(first, next);
+    }
+    first
+}
+
+/// The first of the comparisons with a row whose number is above the limit.
+fn great_row(
+    measure: Measure,
+    sizes: &IndexMap<&str, i64>,
+    names: &[Name],
+    constraints: &[Constraint],
+) -> Option<Counted>
+    requires short { All HasShortSides constraints.now }
+    requires sizes { HasSmallValues (sizes_in sizes.now) }
+    ensures { option_map seen.counted result ≡ first_of (λ c. c.place) (λ e. rules.exceeds (limit_of measure) (seen.of_row measure (sizes_in sizes.now) names.now e)) constraints.now }
+{
+    let mut first = None;
+    for constraint in constraints {
+        let number = row_number(measure, sizes, names, constraint);
+        let next = exceeding(measure, number, constraint.left.place);
+        first = sooner(first, next);
+    }
+    first
+}
+
+fn great_written(
+    measure: Measure,
+    sizes: &IndexMap<&str, i64>,
+    written: Written<'_>,
+) -> Option<Counted>
+    requires short { IsShortWritten (seen.written written) }
+    requires sizes { HasSmallValues (sizes_in sizes.now) }
+    ensures { option_map seen.counted result ≡ first_of (λ c. c.place) (rules.exceeds (limit_of measure)) (seen.numbers_of measure (sizes_in sizes.now) (seen.written written.entry)) }
+{
+    let index = great_index(measure, sizes, written.names, written.indices);
+    let row = great_row(measure, sizes, written.names, written.constraints);
+    sooner(index, row)
+}
+
+/// The greatest number of the first object of the text that is above the limit.
+fn great(measure: Measure, sizes: &IndexMap<&str, i64>, all: &[Written<'_>]) -> Option<u128>
+    requires short { All (λ w. IsShortWritten (seen.written w)) all.now }
+    requires sizes { HasSmallValues (sizes_in sizes.now) }
+    ensures { (s : Spelled) → map seen.written all.now ≡ all_written s → result ≡ seen.great measure s (sizes_in sizes.now) }
+{
+    let mut first = None;
+    for written in all {
+        let next = great_written(measure, sizes, *written);
+        first = sooner(first, next);
+    }
+    number_of(first)
+}
+
+/// The number alone.
+pub(crate) fn number_of(counted: Option<Counted>) -> Option<u128>
+    ensures { result ≡ option_map (λ c. c.number) (option_map seen.counted counted) }
+{
+    match counted {
+        Some(counted) => Some(counted.number),
+        None => None,
+    }
+}
+
+fn great_number<'a>(
+    alloc: Global,
+    measure: Measure,
+    system: &'a System,
+    sizes: &[Size],
+    variables: &[&'a Declaration],
+    parts: &[Part<'a>],
+) -> Result<Option<u128>, Memory>
+    requires text { IsOfText (view_system system.now) }
+    requires small { AreSmall sizes.now }
+    requires variables { map (λ d. d.now) variables.now ≡ domains.variables (view_system system.now) }
+    requires parts { map part parts.now ≡ list.parts (view_system system.now) }
+    ensures { IfOk result (λ n. n ≡ seen.great measure (view_system system.now) (sizes_of sizes.now)) }
+{
+    let table = size_table(alloc, sizes)?;
+    let all = written_all(alloc, system, variables, parts)?;
+    Ok(great(measure, &table, all.as_slice()))
+}
+
+/// The greatest coefficient of the first row or result in the text with one above 1,024.
+pub(crate) fn great_coefficient<'a>(
+    alloc: Global,
+    system: &'a System,
+    sizes: &[Size],
+    variables: &[&'a Declaration],
+    parts: &[Part<'a>],
+) -> Result<Option<u128>, Memory>
+    requires text { IsOfText (view_system system.now) }
+    requires small { AreSmall sizes.now }
+    requires variables { map (λ d. d.now) variables.now ≡ domains.variables (view_system system.now) }
+    requires parts { map part parts.now ≡ list.parts (view_system system.now) }
+    ensures { IfOk result (λ n. n ≡ rules.great_coefficient (view_system system.now) (sizes_of sizes.now)) }
+{
+    great_number(alloc, Measure::Coefficient, system, sizes, variables, parts)
+}
+
+/// The greatest constant of the first row or result in the text with one above 1,048,576.
+pub(crate) fn great_constant<'a>(
+    alloc: Global,
+    system: &'a System,
+    sizes: &[Size],
+    variables: &[&'a Declaration],
+    parts: &[Part<'a>],
+) -> Result<Option<u128>, Memory>
+    requires text { IsOfText (view_system system.now) }
+    requires small { AreSmall sizes.now }
+    requires variables { map (λ d. d.now) variables.now ≡ domains.variables (view_system system.now) }
+    requires parts { map part parts.now ≡ list.parts (view_system system.now) }
+    ensures { IfOk result (λ n. n ≡ rules.great_constant (view_system system.now) (sizes_of sizes.now)) }
+{
+    great_number(alloc, Measure::Constant, system, sizes, variables, parts)
+}

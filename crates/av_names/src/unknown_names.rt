@@ -1,0 +1,151 @@
+//! Names that nothing declares.
+
+ghost use Rattle.std.specs.Prelude.{◌≡◌, false, map, not, bytes_eq, option_map, IfOk};
+ghost use Rattle.indexmap.specs.IndexMap.{get_by};
+ghost use Rattle.av_tree.specs.Domains as domains;
+ghost use Rattle.av_tree.specs.Rows.{is_index};
+ghost use Rattle.av_tree.specs.Trees.{view, view_system};
+ghost use Rattle.av_names.specs.Forms.{over};
+ghost use Rattle.av_names.specs.Found as finds;
+ghost use Rattle.av_names.specs.Found.{first_found};
+ghost use Rattle.av_names.specs.Parts as list;
+ghost use Rattle.av_names.specs.Seen.{found, part, names_at, SameNames};
+ghost use Rattle.av_names.specs.Unknowns as rules;
+ghost use Rattle.av_names.specs.Written.{written_at, all_written};
+
+use crate::found::{Found, sooner};
+use crate::in_reach::{found_where, unknown_in_constraints, unknown_in_domain, unknown_inside};
+use crate::index::{by_name, context};
+use crate::name_set::NameSet;
+use crate::part::Part;
+use av_base::Memory;
+use av_tree::{Declaration, Equation, Expr, System};
+use indexmap::IndexMap;
+use std::alloc::Global;
+
+/// The names of the variables.
+fn variable_names<'a>(alloc: Global, variables: &[&'a Declaration]) -> Result<NameSet<'a>, Memory>
+    ensures { IfOk result (λ set. SameNames set (rules.declared_as (map (λ d. d.now) variables.now))) }
+{
+    let mut set = NameSet::new(alloc);
+    for variable in variables {
+        set.insert(&variable.name)?;
+    }
+    Ok(set)
+}
+
+/// The first equation of another name than these.
+fn unknown_in_equations<'a>(variables: &NameSet<'_>, equations: &'a [Equation]) -> Option<Found<'a>>
+    ensures { option_map found result ≡ first_found (λ e. finds.found_where (not (is_index variables.now e.name)) e.name e.place) equations.now }
+{
+    let mut first = None;
+    for equation in equations {
+        let unknown = !variables.contains(&equation.name);
+        let next = found_where(unknown, &equation.name, equation.place);
+        first = sooner(first, next);
+    }
+    first
+}
+
+fn unknown_reference<'a>(variables: &NameSet<'_>, expr: &'a Expr) -> Option<Found<'a>>
+    ensures { option_map found result ≡ rules.unknown_variable variables.now (view expr.now) }
+{
+    match expr {
+        Expr::Ref { name, place, .. } => found_where(!variables.contains(name), name, *place),
+        _ => None,
+    }
+}
+
+/// The first reference of another name than these.
+fn unknown_in_references<'a>(variables: &NameSet<'_>, parts: &[Part<'a>]) -> Option<Found<'a>>
+    ensures { option_map found result ≡ first_found (λ p. rules.unknown_variable variables.now (part p).expression) parts.now }
+{
+    let mut first = None;
+    for part in parts {
+        let next = unknown_reference(variables, part.expr);
+        first = sooner(first, next);
+    }
+    first
+}
+
+/// In the declared domains.
+fn unknown_in_declarations<'a>(
+    alloc: Global,
+    sizes: &NameSet<'_>,
+    variables: &[&'a Declaration],
+) -> Result<Option<Found<'a>>, Memory>
+    ensures { IfOk result (λ first. option_map found first ≡ first_found (λ d. first_found (rules.unknown_side sizes.now d.now.domain.names) d.now.domain.constraints) variables.now) }
+{
+    let mut first = None;
+    for variable in variables {
+        let next = unknown_in_domain(alloc, sizes, &variable.domain)?;
+        first = sooner(first, next);
+    }
+    Ok(first)
+}
+
+/// In the right side of an equation.
+fn unknown_in_right<'a>(
+    alloc: Global,
+    sizes: &NameSet<'_>,
+    table: &IndexMap<&str, &Declaration>,
+    equation: &'a Equation,
+) -> Result<Option<Found<'a>>, Memory>
+    ensures { IfOk result (λ first. option_map found first ≡ first_found (λ p. rules.unknown_written sizes.now (written_at p)) (list.parts_of false (over (domains.given_or (names_at (option_map (λ d. d.now) (get_by (λ k. bytes_eq equation.now.name k.now) table.now))) equation.now.indices)) (view equation.now.right))) }
+{
+    let names = NameSet::of(alloc, context(table, equation))?;
+    unknown_inside(alloc, sizes, &names, &equation.right)
+}
+
+/// In the right sides of all equations.
+fn unknown_in_rights<'a>(
+    alloc: Global,
+    sizes: &NameSet<'_>,
+    table: &IndexMap<&str, &Declaration>,
+    equations: &'a [Equation],
+) -> Result<Option<Found<'a>>, Memory>
+    ensures { IfOk result (λ first. option_map found first ≡ first_found (λ e. first_found (λ p. rules.unknown_written sizes.now (written_at p)) (list.parts_of false (over (domains.given_or (names_at (option_map (λ d. d.now) (get_by (λ k. bytes_eq e.name k.now) table.now))) e.indices)) (view e.right))) equations.now) }
+{
+    let mut first = None;
+    for equation in equations {
+        let next = unknown_in_right(alloc, sizes, table, equation)?;
+        first = sooner(first, next);
+    }
+    Ok(first)
+}
+
+/// The first name in index expressions that is neither an index in reach nor a size.
+fn unknown_index<'a>(
+    alloc: Global,
+    system: &'a System,
+    variables: &[&'a Declaration],
+) -> Result<Option<Found<'a>>, Memory>
+    requires { map (λ d. d.now) variables.now ≡ domains.variables (view_system system.now) }
+    ensures { IfOk result (λ first. option_map found first ≡ first_found (rules.unknown_written system.now.sizes.names) (all_written (view_system system.now))) }
+{
+    let sizes = NameSet::of(alloc, system.sizes.names.as_slice())?;
+    let table = by_name(alloc, variables)?;
+    let nothing = NameSet::new(alloc);
+    let outer = unknown_in_constraints(&sizes, &nothing, system.sizes.constraints.as_slice());
+    let domain = unknown_in_declarations(alloc, &sizes, variables)?;
+    let right = unknown_in_rights(alloc, &sizes, &table, system.equations.as_slice())?;
+    Ok(sooner(outer, sooner(domain, right)))
+}
+
+/// The first name that nothing declares.
+pub(crate) fn unknown<'a>(
+    alloc: Global,
+    system: &'a System,
+    variables: &[&'a Declaration],
+    parts: &[Part<'a>],
+) -> Result<Option<Found<'a>>, Memory>
+    requires variables { map (λ d. d.now) variables.now ≡ domains.variables (view_system system.now) }
+    requires parts { map part parts.now ≡ list.parts (view_system system.now) }
+    ensures { IfOk result (λ first. option_map found first ≡ rules.unknown (view_system system.now)) }
+{
+    let known = variable_names(alloc, variables)?;
+    let equation = unknown_in_equations(&known, system.equations.as_slice());
+    let reference = unknown_in_references(&known, parts);
+    let index = unknown_index(alloc, system, variables)?;
+    Ok(sooner(equation, sooner(reference, index)))
+}
