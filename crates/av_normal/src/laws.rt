@@ -1,0 +1,12 @@
+//! Laws of normal forms, each the contract of a function that does nothing.
+
+ghost use Rattle.av_flat.specs.Trees.{FlatSystem};
+ghost use Rattle.av_flat.specs.WellFormed.{IsWellFormed};
+ghost use Rattle.av_flat.specs.Shown.{SameMeaning};
+ghost use Rattle.av_flat.specs.Solutions.{shows_of, declares_of};
+ghost use Rattle.av_normal.specs.NormalForm.{IsNormalForm};
+
+/// A law on normal forms: what a well formed system shows its normal form shows, and nothing else.
+pub fn normal_forms_show_the_same()
+    ensures { (s t : FlatSystem) → IsWellFormed s → IsNormalForm s t → SameMeaning (shows_of s) (declares_of s) (shows_of t) (declares_of t) }
+{}
