@@ -1,1 +1,6 @@
 pub mod NormalForm
+pub mod NormalFaults
+pub mod Searches
+pub mod Standing
+pub mod Numbered
+pub mod Counted

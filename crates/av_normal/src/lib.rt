@@ -1,6 +1,21 @@
 //! Pieces: every variable of a flat system brought to its kept pieces, which show what the system shows.
 #![tactic(auto)]
 
+mod bounded;
+mod compose;
+mod count;
+mod distribute;
+mod fault;
+mod fill;
+mod keep;
 mod laws;
+mod measure;
+mod normal;
+mod rows;
+mod spread;
+#[cfg(test)]
+mod tests;
 
+pub use fault::NormalFault;
 pub use laws::normal_forms_show_the_same;
+pub use normal::Normal;

@@ -1,0 +1,33 @@
+-- Trees under dependences, with all that composing and taking rows at the image need. Only private contracts cite this.
+use Rattle.std.specs.Prelude.{◌≡◌, ℕ, All, List, [], ◌∷◌, length, Option, Some, None, slice_get}
+use Rattle.av_affine.specs.Forms.{IsWithinLimits}
+use Rattle.av_affine.specs.declared.map.Map.{Map}
+use Rattle.av_flat.specs.Trees.{Tree, Trees, reference, constant, binary, choice, restriction, cases, dependence, reduction, pick, none, more}
+use Rattle.av_flat.specs.Signatures.{Signature}
+
+-- the map leads to the indices of the innermost one
+abbrev pub LeadsTo : Map → List Map → Type 0
+LeadsTo m [] = Unit {0}
+LeadsTo m (d ∷ ds) = m.from ≡ length d.rows
+
+-- each map leads to the next one's indices, and their numbers are within their limits
+abbrev pub AreChained : List Map → Type 0
+AreChained [] = Unit {0}
+AreChained (m ∷ ds) = All IsWithinLimits m.rows × LeadsTo m ds × AreChained ds
+
+abbrev mutual
+  -- the maps of the tree are chained with those that it stands under
+  pub StandsUnder : List Map → Tree → Type 0
+  StandsUnder ds (reference place m) = AreChained (m ∷ ds)
+  StandsUnder ds (constant n) = Unit {0}
+  StandsUnder ds (binary s l r) = StandsUnder ds l × StandsUnder ds r
+  StandsUnder ds (choice l c r x y) = StandsUnder ds l × StandsUnder ds r × StandsUnder ds x × StandsUnder ds y
+  StandsUnder ds (restriction d t) = AreChained ds × StandsUnder ds t
+  StandsUnder ds (cases ts) = StandUnder ds ts
+  StandsUnder ds (dependence m t) = StandsUnder (m ∷ ds) t
+  StandsUnder ds (reduction o m t set) = StandsUnder [] t
+  StandsUnder ds (pick place choices n) = Unit {0}
+
+  pub StandUnder : List Map → Trees → Type 0
+  StandUnder ds none = Unit {0}
+  StandUnder ds (more t ts) = StandsUnder ds t × StandUnder ds ts
