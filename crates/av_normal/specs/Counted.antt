@@ -15,16 +15,18 @@ pieces_counted (p ∷ ps) = piece_count p.tree + pieces_counted ps
 abbrev pub IsOfFew : Variable → Type 0
 IsOfFew v = IsTrue (is_computed v.kind) → piece_count (right_side v) ≤ 256
 
+-- it has n, more than 256, where what does not fit 128 bits counts as the greatest that does
+abbrev pub HasMany : Variable → ℕ → Type 0
+HasMany v n = IsTrue (is_computed v.kind) × (256 < piece_count (right_side v)) × (n ≡ min (piece_count (right_side v)) (2 ^ 128 - 1))
+
 abbrev pub HasFew : List Variable → Type 0
 HasFew [] = Unit {0}
 HasFew (v ∷ vs) = IsOfFew v × HasFew vs
 
--- the first equation of more than 256 pieces has n, where what does not fit 128 bits counts as the greatest that does
+-- the first equation of more than 256 pieces has n
 abbrev pub IsFirstOfMany : List Variable → ℕ → Type 0
 IsFirstOfMany [] n = ⊥
-IsFirstOfMany (v ∷ vs) n =
-    (IsTrue (is_computed v.kind) × (256 < piece_count (right_side v)) × (n ≡ min (piece_count (right_side v)) (2 ^ 128 - 1)))
-    ⊎ (IsOfFew v × IsFirstOfMany vs n)
+IsFirstOfMany (v ∷ vs) n = HasMany v n ⊎ (IsOfFew v × IsFirstOfMany vs n)
 
 abbrev pub IsOfMany : List Variable → NormalFault → Type 0
 IsOfMany vs (fault.Pieces n) = IsFirstOfMany vs n

@@ -27,6 +27,13 @@ IsWide os (fault.Pieces n) = ⊥
 IsWide os (fault.Unbounded name) = ⊥
 IsWide os fault.Memory = Unit {0}
 
+-- the fault is of this one, which is above a limit
+abbrev pub IsWideOne : Measured → NormalFault → Type 0
+IsWideOne o (fault.Limit kind n) = IsOver o kind n
+IsWideOne o (fault.Pieces n) = ⊥
+IsWideOne o (fault.Unbounded name) = ⊥
+IsWideOne o fault.Memory = ⊥
+
 -- these rows, as they stand, are above a limit
 abbrev pub IsOverLimit : List Form → Quantity → ℕ → Type 0
 IsOverLimit rows kind n = IsOverNumbers rows kind n ⊎ IsOverRows rows kind n

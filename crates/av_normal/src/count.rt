@@ -1,9 +1,10 @@
 //! How many pieces trees and equations have, where what 128 bits do not hold counts as the greatest that they do.
 
-ghost use Rattle.std.specs.Prelude.{◌≡◌, ◌-◌, ◌<◌, ◌≤◌, ◌^◌, IfOk, IfErr, min, map, OnOk, OnErr, IsTrue};
-ghost use Rattle.av_flat.specs.Trees.{view, view_piece, view_variable, trees_of, right_side, restriction};
+ghost use Rattle.std.specs.Prelude.{◌≡◌, ◌-◌, ◌^◌, IfSome, IfNone, IfErr, OnOk, min, map};
+ghost use Rattle.av_flat.specs.Trees.{view, view_piece, view_variable, trees_of};
+ghost use Rattle.av_flat.specs.Signatures.{is_computed};
 ghost use Rattle.av_flat.specs.Quantities.{piece_count, piece_count_of_all};
-ghost use Rattle.av_normal.specs.Counted.{HasFew, IsOfMany, pieces_counted};
+ghost use Rattle.av_normal.specs.Counted.{pieces_counted, HasMany, IsOfFew, HasFew, IsOfMany};
 
 use crate::NormalFault;
 use av_flat::{Kind, Piece, Tree, Var};
@@ -56,14 +57,35 @@ fn equation_count(pieces: &[Piece]) -> u128
     count
 }
 
-// The number of pieces of the first equation that has too many.
+fn is_computed(kind: Kind) -> bool
+    ensures { result ≡ is_computed kind }
+{
+    match kind {
+        Kind::Input => false,
+        Kind::Output | Kind::Local | Kind::Partial => true,
+    }
+}
+
+// How many pieces a variable's equation has, where it has one with too many.
+fn many_pieces(var: &Var) -> Option<u128>
+    ensures some { IfSome result (HasMany (view_variable var.now)) }
+    ensures none { IfNone result (IsOfFew (view_variable var.now)) }
+{
+    let count = equation_count(var.pieces.as_slice());
+    if is_computed(var.kind) && count > MOST_PIECES {
+        Some(count)
+    } else {
+        None
+    }
+}
+
+// Tries the number of pieces of each equation.
 pub(crate) fn few_pieces(vars: &[Var]) -> Result<(), NormalFault>
     ensures few { OnOk result (HasFew (map view_variable vars.now)) }
     ensures many { IfErr result (IsOfMany (map view_variable vars.now)) }
 {
     for var in vars {
-        let count = equation_count(var.pieces.as_slice());
-        if var.kind != Kind::Input && count > MOST_PIECES {
+        if let Some(count) = many_pieces(var) {
             return Err(NormalFault::Pieces(count));
         }
     }

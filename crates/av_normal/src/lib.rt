@@ -13,8 +13,6 @@ mod measure;
 mod normal;
 mod rows;
 mod spread;
-#[cfg(test)]
-mod tests;
 
 pub use fault::NormalFault;
 pub use laws::normal_forms_show_the_same;

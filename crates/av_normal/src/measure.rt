@@ -1,12 +1,12 @@
 //! Rows against the limits on sets.
 
-ghost use Rattle.std.specs.Prelude.{◌≡◌, ◌≤◌, ◌<◌, ◌^◌, ℕ, length, All, IfOk, IfErr, OnOk};
+ghost use Rattle.std.specs.Prelude.{◌≡◌, ◌≤◌, ◌^◌, length, All, IfOk, IfErr, OnOk};
 ghost use Rattle.av_affine.specs.Numbers.{greatest};
 ghost use Rattle.av_affine.specs.Forms.{IsWithinLimits};
 ghost use Rattle.av_affine.specs.Maps.{greatest_coefficient, greatest_constant};
 ghost use Rattle.av_poly.specs.Normal.{AreNormalised};
-ghost use Rattle.av_flat.specs.declared.quantity.Quantity.{Quantity};
-ghost use Rattle.av_normal.specs.Searches.{IsOverLimit, IsWideRows};
+ghost use Rattle.av_flat.specs.Quantities.{of_set};
+ghost use Rattle.av_normal.specs.Searches.{IsWideRows, IsNarrow, IsWideOne};
 
 use crate::NormalFault;
 use av_affine::Form;
@@ -76,7 +76,10 @@ pub(crate) fn rows_fit(rows: &[Form]) -> Result<(), NormalFault>
 pub(crate) fn narrowed(set: Poly) -> Result<Poly, NormalFault>
     ensures dim { IfOk result (λ to. to.dim ≡ set.dim) }
     ensures normalised { IfOk result (λ to. AreNormalised set.dim set.rows to.rows) }
-    ensures fit { IfOk result (λ to. (greatest_coefficient to.rows ≤ 1024) × (greatest_constant to.rows ≤ 2 ^ 20) × (length to.rows ≤ 20)) }
+    ensures limits { IfOk result (λ to. All IsWithinLimits to.rows) }
+    ensures few { IfOk result (λ to. length to.rows ≤ 20) }
+    ensures narrow { OnOk result (IsNarrow (of_set set)) }
+    ensures wide { IfErr result (IsWideOne (of_set set)) }
 {
     let mut set = set;
     set.normalise();
