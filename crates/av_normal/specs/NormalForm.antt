@@ -27,9 +27,9 @@ set_of dim p = record { dim = dim; rows = p.rows }
 
 -- the parts that have a point are these pieces, in their order
 pub data AreKeptOf (dim : ℕ) : List Part → List Piece → Type 0 where
-  pub ended : AreKeptOf dim [] []
-  pub dropped : {p : Part} {ps : List Part} {qs : List Piece} → ((z : Point) → Has (set_of dim p) z → ⊥) → AreKeptOf dim ps qs → AreKeptOf dim (p ∷ ps) qs
-  pub kept : {p : Part} {q : Piece} {ps : List Part} {qs : List Piece} → (z : Point) → Has (set_of dim p) z → IsNormalised (set_of dim p) q.domain → HasNormalSets p.tree q.tree
+  ended : AreKeptOf dim [] []
+  dropped : {p : Part} {ps : List Part} {qs : List Piece} → ((z : Point) → Has (set_of dim p) z → ⊥) → AreKeptOf dim ps qs → AreKeptOf dim (p ∷ ps) qs
+  kept : {p : Part} {q : Piece} {ps : List Part} {qs : List Piece} → (z : Point) → Has (set_of dim p) z → IsNormalised (set_of dim p) q.domain → HasNormalSets p.tree q.tree
       → AreKeptOf dim ps qs → AreKeptOf dim (p ∷ ps) (q ∷ qs)
 
 pub record IsNormalVariable (vs : List Signature) (v w : Variable) : Type 0 where

@@ -2,6 +2,7 @@
 
 ghost use Rattle.av_flat.specs.Trees.{FlatSystem};
 ghost use Rattle.av_flat.specs.WellFormed.{IsWellFormed};
+ghost use Rattle.av_flat.specs.Proper.{IsProper};
 ghost use Rattle.av_flat.specs.Shown.{SameMeaning};
 ghost use Rattle.av_flat.specs.Solutions.{shows_of, declares_of};
 ghost use Rattle.av_normal.specs.NormalForm.{IsNormalForm};
@@ -9,4 +10,9 @@ ghost use Rattle.av_normal.specs.NormalForm.{IsNormalForm};
 /// A law on normal forms: what a well formed system shows its normal form shows, and nothing else.
 pub fn normal_forms_show_the_same()
     ensures { (s t : FlatSystem) → IsWellFormed s → IsNormalForm s t → SameMeaning (shows_of s) (declares_of s) (shows_of t) (declares_of t) }
+{}
+
+/// A law on normal forms: where a well formed system is proper, its normal form is.
+pub fn normal_forms_are_proper()
+    ensures { (s t : FlatSystem) → IsWellFormed s → IsNormalForm s t → IsProper s → IsProper t }
 {}
