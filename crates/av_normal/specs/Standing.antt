@@ -1,9 +1,17 @@
 -- Trees under dependences, with all that composing and taking rows at the image need. Only private contracts cite this.
-use Rattle.std.specs.Prelude.{◌≡◌, ℕ, All, List, [], ◌∷◌, length, Option, Some, None, slice_get}
+use Rattle.std.specs.Prelude.{◌≡◌, All, List, [], ◌∷◌, length, map, Option, Some, None}
 use Rattle.av_affine.specs.Forms.{IsWithinLimits}
 use Rattle.av_affine.specs.declared.map.Map.{Map}
 use Rattle.av_flat.specs.Trees.{Tree, Trees, reference, constant, binary, choice, restriction, cases, dependence, reduction, pick, none, more}
-use Rattle.av_flat.specs.Signatures.{Signature}
+use Rattle.av_flat.specs.Pieces.{composed}
+use Rattle.av_flat.specs.Quantities.{of_map, steps, composed_maps_of_all}
+use Rattle.av_normal.specs.declared.fault.NormalFault.{NormalFault}
+use Rattle.av_normal.specs.Searches.{AreNarrow, IsWide}
+
+-- all maps as one, where there are any
+abbrev pub composed_under : List Map → Option Map
+composed_under [] = None
+composed_under (d ∷ ds) = Some (composed d ds)
 
 -- the map leads to the indices of the innermost one
 abbrev pub LeadsTo : Map → List Map → Type 0
@@ -31,3 +39,16 @@ abbrev mutual
   pub StandUnder : List Map → Trees → Type 0
   StandUnder ds none = Unit {0}
   StandUnder ds (more t ts) = StandsUnder ds t × StandUnder ds ts
+
+-- what a loop over the outer maps keeps: whole stands for own, and the steps to come for all
+pub record IsUnder (own : Map) (under : List Map) (whole : Map) (rest : List Map) : Type 0 where
+  pub chained : AreChained (whole ∷ rest)
+  pub same : composed whole rest ≡ composed own under
+  pub narrow : AreNarrow (map of_map (steps whole rest)) → AreNarrow (map of_map (steps own under))
+  pub first : (f : NormalFault) → IsWide (map of_map (steps whole rest)) f → IsWide (map of_map (steps own under)) f
+
+-- what a loop over trees keeps: those to come stand for all
+pub record AreUnder (ds : List Map) (all rest : Trees) : Type 0 where
+  pub stand : StandUnder ds rest
+  pub narrow : AreNarrow (map of_map (composed_maps_of_all ds rest)) → AreNarrow (map of_map (composed_maps_of_all ds all))
+  pub first : (f : NormalFault) → IsWide (map of_map (composed_maps_of_all ds rest)) f → IsWide (map of_map (composed_maps_of_all ds all)) f

@@ -9,7 +9,7 @@ ghost use Rattle.av_flat.specs.Quantities.{piece_count, piece_count_of_all};
 ghost use Rattle.av_normal.specs.Numbered.{part_at};
 
 use crate::NormalFault;
-use crate::compose::{outwards, within};
+use crate::compose::{outwards, together, within};
 use crate::count::piece_count;
 use crate::rows::{append, copy_map};
 use av_affine::{Form, Map};
@@ -36,11 +36,9 @@ fn append_under(
     domain: &Poly,
     rows: &mut List<Form>,
 ) -> Result<(), NormalFault> {
-    if under.is_empty() {
-        append(rows, domain.rows.as_slice())?;
-    } else {
-        let whole = outwards(&under[0], &under[1..])?;
-        append_before(alloc, domain, &whole, rows)?;
+    match together(under)? {
+        Some(whole) => append_before(alloc, domain, &whole, rows)?,
+        None => append(rows, domain.rows.as_slice())?,
     }
     Ok(())
 }
