@@ -3,4 +3,4 @@
 
 mod laws;
 
-pub use laws::{normal_forms_are_proper, normal_forms_show_the_same};
+pub use laws::{normal_forms_are_kept, normal_forms_are_proper, normal_forms_show_the_same};
