@@ -1,5 +1,5 @@
 -- What makes a kept piece kept: its tree is plain, within the limits, and reads declared points alone.
-use Rattle.std.proofs.Common.{◌≡◌, ℕ, ◌≤◌, ◌⊎◌, inl, inr, Bool, true, false, IsTrue, nat_eq, ℤ, pos, List, [], ◌∷◌, ◌++◌, length, map, replicate, refl, sym, ap, subst, ◌∙◌, arith, All}
+use Rattle.std.proofs.Common.{◌≡◌, ℕ, inl, inr, false, IsTrue, nat_eq, pos, List, [], ◌∷◌, ◌++◌, length, map, replicate, refl, sym, subst, ◌∙◌, arith, All}
 use Rattle.std.specs.List.{list_all}
 use Rattle.std.proofs.lemmas.List.{length-replicate}
 use Rattle.std.proofs.lemmas.List.Elements.{All-nil, All-cons, All-head, All-tail, All-weaker}
@@ -16,13 +16,13 @@ use Rattle.av_flat.specs.Trees.{Tree, Trees, Piece, Variable, FlatSystem, refere
 use Rattle.av_flat.specs.Points.{has, holds}
 use Rattle.av_flat.specs.Signatures.{Signature, signatures}
 use Rattle.av_flat.specs.Sets.{HasFewRows}
-use Rattle.av_flat.specs.WellFormed.{Fits, EachPart, EachPartOfAll, IsInPlace, HasSmallRows, HasWords, is_case, is_pick, IsWellFormedTree, IsWellFormedPiece, IsWellFormedVariable}
+use Rattle.av_flat.specs.WellFormed.{Fits, EachPart, EachPartOfAll, IsInPlace, HasSmallRows, HasWords, is_case, is_pick, IsWellFormedPiece, IsWellFormedVariable}
 use Rattle.av_flat.specs.Kept.{IsPlain, ReadsDeclared, HasFewOwnRows, IsKeptPiece}
 use Rattle.av_flat.specs.Quantities.{of_set, body_sets}
-use Rattle.av_flat.specs.Pieces.{Part, part, parts, pieces_of}
-use Rattle.av_flat.proofs.Sets.{both_true, both_hold, equal, is_equal, has_is}
+use Rattle.av_flat.specs.Pieces.{Part, parts}
+use Rattle.av_flat.proofs.Sets.{both_true, both_hold, equal, has_is}
 use Rattle.av_normal.specs.NormalForm.{IsNormalised, set_of, IsNormalVariable}
-use Rattle.av_normal.proofs.Laid.{Hold, both_of, IsReduced, IsLaid, IsLaidPart, Any, looser, Own, laid_parts}
+use Rattle.av_normal.proofs.Laid.{both_of, IsReduced, IsLaid, IsLaidPart, Any, looser, Own, laid_parts}
 use Rattle.av_normal.proofs.PieceWords.{hold_normal, has_normal, laid_normal}
 use Rattle.av_normal.proofs.RightSides.{IsKeptAs, Keep, keep_is, made, restricted, each_branch, right_fits, right_in_place, right_no_pick}
 use Rattle.av_normal.proofs.Limits as limit
@@ -204,9 +204,12 @@ module _ (s : FlatSystem) (v : Variable) (g : IsWellFormedVariable s v) (fits : 
   corner_size = length-replicate v.domain.dim (pos 0)
 
   own_parts : EachPart (Own SmallMap (IsWord v.width)) (right_side v)
-  own_parts = (tt, each_branch (Own SmallMap (IsWord v.width)) v.pieces
-      (All-weaker (IsWellFormedPiece (signatures s) v) (λ p. Own SmallMap (IsWord v.width) (restricted p) × EachPart (Own SmallMap (IsWord v.width)) p.tree)
-      (λ p k. (tt, each_both HasSmallRows (HasWords v.width) (Own SmallMap (IsWord v.width)) (own_of (signatures s) v.width) p.tree k.tree.rows k.tree.words)) v.pieces g.pieces))
+  own_parts = (
+    tt,
+    each_branch (Own SmallMap (IsWord v.width)) v.pieces
+        (All-weaker (IsWellFormedPiece (signatures s) v) (λ p. Own SmallMap (IsWord v.width) (restricted p) × EachPart (Own SmallMap (IsWord v.width)) p.tree)
+        (λ p k. (tt, each_both HasSmallRows (HasWords v.width) (Own SmallMap (IsWord v.width)) (own_of (signatures s) v.width) p.tree k.tree.rows k.tree.words)) v.pieces g.pieces),
+  )
 
   laid_all : All (IsLaidPart (signatures s) SmallMap (IsWord v.width) v.domain.dim) (parts (signatures s) [] (right_side v))
   laid_all =

@@ -1,5 +1,5 @@
 -- The normal form of a system is well formed and kept where no set of the system is above a limit and its domains are bounded.
-use Rattle.std.proofs.Common.{◌≡◌, ◌≢◌, ℕ, suc, ◌<◌, ◌≤◌, IsTrue, List, [], ◌∷◌, length, map, get_or, refl, sym, ap, subst, ◌∙◌, arith, All, AllPairs}
+use Rattle.std.proofs.Common.{◌≡◌, ◌≢◌, ℕ, suc, ◌≤◌, List, [], ◌∷◌, map, get_or, refl, sym, ap, subst, ◌∙◌, arith, All, AllPairs}
 use Rattle.std.proofs.lemmas.List.{length-map, get_or-map}
 use Rattle.std.proofs.lemmas.List.Elements.{All-map, All-weaker}
 use Rattle.std.proofs.lemmas.List.Kept.{AllPairs-cons}
@@ -7,10 +7,8 @@ use Rattle.av_base.specs.declared.token_kind.TokenKind.TheVariants as token
 use Rattle.av_base.specs.Tokens.{IsSpelled}
 use Rattle.av_affine.specs.Forms.{IsWithinLimits}
 use Rattle.av_poly.specs.Points.{Set}
-use Rattle.av_tree.specs.Trees.{Text}
-use Rattle.av_flat.specs.declared.flat.Kind.{Kind}
 use Rattle.av_flat.specs.declared.quantity.Quantity.{Quantity}
-use Rattle.av_flat.specs.Trees.{Piece, Variable, FlatSystem, cases, right_side}
+use Rattle.av_flat.specs.Trees.{Piece, Variable, FlatSystem, cases}
 use Rattle.av_flat.specs.Signatures.{Signature, signature, signatures, rank, is_input, is_shown}
 use Rattle.av_flat.specs.Sets.{HasFewRows, IsBounded}
 use Rattle.av_flat.specs.WellFormed.{IsWellFormedPiece, IsWellFormedVariable, IsWellFormed}

@@ -1,5 +1,5 @@
 -- Where no set or map of a system is above a limit, each has few rows and small numbers.
-use Rattle.std.proofs.Common.{◌≡◌, ℕ, ◌<◌, ◌≤◌, ◌^◌, ◌⊎◌, inl, inr, List, [], ◌∷◌, ◌++◌, length, map, refl, sym, subst, arith, append_assoc, append-nil, All}
+use Rattle.std.proofs.Common.{ℕ, ◌≤◌, ◌^◌, inl, inr, List, [], ◌∷◌, ◌++◌, length, map, refl, sym, subst, append_assoc, All}
 use Rattle.std.specs.List.{flat_map}
 use Rattle.std.proofs.lemmas.Bool.{cases_lt}
 use Rattle.std.proofs.lemmas.List.Elements.{All-nil, All-cons, All-head, All-tail, All-push, All-weaker}
@@ -16,7 +16,7 @@ use Rattle.av_flat.specs.Trees.{Variable, FlatSystem, right_side}
 use Rattle.av_flat.specs.Signatures.{Signature, signatures}
 use Rattle.av_flat.specs.Sets.{HasFewRows}
 use Rattle.av_flat.specs.Pieces.{Part, pieces_of}
-use Rattle.av_flat.specs.Quantities.{IsFirst, Measured, of_set, of_map, measured, composed_maps, body_sets, IsOverNumbers, IsOverRows, IsOver, HasWideSets}
+use Rattle.av_flat.specs.Quantities.{IsFirst, Measured, of_set, of_map, measured, composed_maps, body_sets, IsOverNumbers, IsOver, HasWideSets}
 use Rattle.av_normal.specs.NormalForm.{IsNormalised, set_of}
 use Rattle.av_normal.proofs.Laid.{all_parts}
 use Rattle.av_normal.proofs.Normalised.{normalised_again}

@@ -1,5 +1,5 @@
 -- Rows that were normalised among others: dividing twice is dividing once, and a false row stays false.
-use Rattle.std.proofs.Common.{◌≡◌, ◌≢◌, ℕ, zero, suc, ◌<◌, ◌⊎◌, inl, inr, arith, ℤ, pos, ◌≤ℤ◌, ◌<ℤ◌, List, [], ◌∷◌, ◌++◌, length, map, get_or, refl, sym, ap, ap₂, subst, ◌∙◌, All, Any, div-one}
+use Rattle.std.proofs.Common.{◌≡◌, ℕ, zero, suc, ◌<◌, ◌⊎◌, inl, inr, arith, ℤ, pos, ◌≤ℤ◌, List, [], ◌∷◌, ◌++◌, length, map, get_or, refl, sym, ap, ap₂, subst, ◌∙◌, All, Any, div-one}
 use Rattle.std.proofs.Math.IntN.{negsuc}
 use Rattle.std.proofs.Math.Nat.{zero-div, eq-one_of_dvd-one}
 use Rattle.std.specs.List.{AllByRecursion}
@@ -7,12 +7,12 @@ use Rattle.std.specs.Int.{int_div_euclid}
 use Rattle.std.specs.Int.RustNames.{unsigned_abs}
 use Rattle.std.proofs.lemmas.Int.{ints}
 use Rattle.std.proofs.lemmas.List.{get_or_default}
-use Rattle.std.proofs.lemmas.List.Elements.{All-nil, All-weaker, All-append, All-from_recursion, Contains-append_left, Contains-append_right, Contains-append_cases}
+use Rattle.std.proofs.lemmas.List.Elements.{All-weaker, All-append, All-from_recursion, Contains-append_left, Contains-append_right, Contains-append_cases}
 use Prim.Native.Nat.{◌∣◌}
 use Rattle.av_affine.specs.declared.form.Form.{Form}
 use Rattle.av_affine.specs.Numbers.{IsGcdOf}
 use Rattle.av_affine.proofs.Exact.{divided, divided_primitive}
-use Rattle.av_poly.specs.Normal.{counted, IsConstant, IsNever, IsDivided, Tightens, AreTightest, AreNormalised, IsPrimitive, impossible}
+use Rattle.av_poly.specs.Normal.{counted, IsConstant, IsNever, IsDivided, Tightens, AreNormalised, IsPrimitive, impossible}
 use Rattle.av_poly.proofs.Dividing.{not_constant}
 use Rattle.av_normal.proofs.Laid.{all_parts}
 
@@ -117,9 +117,9 @@ module _ (dim : ℕ) (rows new more out : List Form) (t : IsTighter dim rows new
   from_old : (row : Form) → Any (Divides row) (new ++ more) → Any (Divides row) (rows ++ more)
   from_old row w = elim (any_either (Divides row) new more w) [
     | inl a ↦ (let (k, old, l, e, d) = a in
-      let p = primitive_in dim rows new k old t l e in
-      let same = divided_twice dim old row p d in
-      any_first (Divides row) rows more (subst (λ (r : Form). Any (Divides r) rows) (e ∙ sym same) (t.divided k old l)))
+        let p = primitive_in dim rows new k old t l e in
+        let same = divided_twice dim old row p d in
+        any_first (Divides row) rows more (subst (λ (r : Form). Any (Divides r) rows) (e ∙ sym same) (t.divided k old l)))
     | inr a ↦ any_second (Divides row) rows more a
   ]
 
@@ -154,11 +154,14 @@ normalised_among dim rows new more out (inr t) (inr (ok, s)) =
     let P : Form → Type 0 = λ row. IsConstant dim row → pos 0 ≤ℤ row.constant in
     let Q : Form → Type 0 = λ row. IsConstant dim row ⊎ Any (Tightens dim row) out in
     let least = all_parts Q new more s.least in
-    inr (All-append P rows more t.none_false (all_parts P new more ok).1, record {
-      divided = All-weaker (λ row. Any (λ old. IsDivided dim old row) (new ++ more)) (λ row. Any (λ old. IsDivided dim old row) (rows ++ more)) (from_old dim rows new more out t) out s.divided;
-      least = All-append Q rows more (least_old dim rows new more out t least.0) least.1;
-      distinct = s.distinct;
-    })
+    inr (
+      All-append P rows more t.none_false (all_parts P new more ok).1,
+      record {
+        divided = All-weaker (λ row. Any (λ old. IsDivided dim old row) (new ++ more)) (λ row. Any (λ old. IsDivided dim old row) (rows ++ more)) (from_old dim rows new more out t) out s.divided;
+        least = All-append Q rows more (least_old dim rows new more out t least.0) least.1;
+        distinct = s.distinct;
+      },
+    )
 
 -- normalising some rows first changes nothing
 pub normalised_early : (dim : ℕ) (rows new more out : List Form) → AreNormalised dim rows new → AreNormalised dim (new ++ more) out → AreNormalised dim (rows ++ more) out
@@ -168,11 +171,14 @@ normalised_early dim rows new more out a b = normalised_among dim rows new more 
 pub normalised_again : (dim : ℕ) (rows new : List Form) → AreNormalised dim rows new → AreNormalised dim new new
 normalised_again dim rows new (inl (w, e)) = inl (subst (Any (IsNever dim)) (sym e) (0, impossible, omega arith, refl, never_impossible dim), e)
 normalised_again dim rows new (inr (ok, s)) =
-    inr ((λ k d l c. absurd (primitive_not_constant dim (get_or new k d) (primitive_of k d l) c)), record {
-      divided = λ k d l. (k, get_or new k d, l, get_or_default new k (get_or new k d) d l, divided_itself dim (get_or new k d) (primitive_of k d l));
-      least = λ k d l. inr (k, get_or new k d, l, get_or_default new k (get_or new k d) d l, itself (get_or new k d) (primitive_of k d l));
-      distinct = s.distinct;
-    })
+    inr (
+      (λ k d l c. absurd (primitive_not_constant dim (get_or new k d) (primitive_of k d l) c)),
+      record {
+        divided = λ k d l. (k, get_or new k d, l, get_or_default new k (get_or new k d) d l, divided_itself dim (get_or new k d) (primitive_of k d l));
+        least = λ k d l. inr (k, get_or new k d, l, get_or_default new k (get_or new k d) d l, itself (get_or new k d) (primitive_of k d l));
+        distinct = s.distinct;
+      },
+    )
   where
     primitive_of : (k : ℕ) (d : Form) → k < length new → IsPrimitive dim (get_or new k d)
     primitive_of k d l = let (i, old, m, f, is) = s.divided k d l in primitive dim old (get_or new k d) is

@@ -1,25 +1,23 @@
 -- Rows that were normalised before a projection takes them to a body: its columns are unit columns and columns of 0.
-use Rattle.std.proofs.Common.{◌≡◌, ◌≢◌, ℕ, zero, suc, ◌<◌, ◌≤◌, ◌⊎◌, inl, inr, Bool, true, false, arith, nat_lt, if◌then◌else◌, ℤ, pos, ◌+ℤ◌, ◌*ℤ◌, ◌≤ℤ◌, ◌<ℤ◌, List, [], ◌∷◌, ◌++◌, length, map, get_or, refl, sym, ap, ap₂, subst, ◌∙◌, All, Any}
-use Rattle.std.proofs.Math.IntN.{negsuc}
+use Rattle.std.proofs.Common.{◌≡◌, ◌≢◌, ℕ, zero, suc, ◌<◌, ◌≤◌, ◌⊎◌, inl, inr, Bool, true, false, arith, nat_lt, if◌then◌else◌, ℤ, pos, ◌≤ℤ◌, List, [], ◌∷◌, ◌++◌, length, map, get_or, refl, sym, ap, subst, ◌∙◌, All, Any}
 use Rattle.std.proofs.Math.Nat.{zero-div}
 use Rattle.std.specs.Int.{int_div_euclid}
 use Rattle.std.specs.Int.RustNames.{unsigned_abs}
 use Rattle.std.proofs.lemmas.Bool.{cases_eq, cases_lt}
 use Rattle.std.proofs.lemmas.Int.{ints}
-use Rattle.std.proofs.lemmas.List.{get_or_default, length-map}
-use Rattle.std.proofs.lemmas.List.Elements.{All-nil, All-cons, All-head, All-tail, All-map, All-weaker, All-from_recursion}
+use Rattle.std.proofs.lemmas.List.{get_or_default}
+use Rattle.std.proofs.lemmas.List.Elements.{All-head, All-tail, All-map, All-from_recursion}
 use Rattle.std.proofs.lemmas.Nat.Gcd.{dvd-zero}
 use Prim.Native.Nat.{◌∣◌}
 use Rattle.av_affine.specs.declared.form.Form.{Form}
 use Rattle.av_affine.specs.declared.map.Map.{Map}
-use Rattle.av_affine.specs.Numbers.{dot, IsGcdOf, four}
+use Rattle.av_affine.specs.Numbers.{dot, four}
 use Rattle.av_affine.specs.Maps.{coefficients_of, constants_of, through}
 use Rattle.av_poly.specs.Normal.{counted, IsConstant, IsNever, IsDivided, Tightens, AreNormalised}
 use Rattle.av_poly.specs.Preimages.{rows_before}
-use Rattle.av_poly.proofs.Dividing.{dot_counted, dot_constant}
 use Rattle.av_flat.specs.WellFormed.{IsIndex, IsProjection}
-use Rattle.av_normal.proofs.Projecting.{unit, unit_here, unit_elsewhere, coefficient_at, AreIndices, AreOnce}
-use Rattle.av_normal.proofs.Normalised.{IsTighter, StandFor, stand_for, normalised_among}
+use Rattle.av_normal.proofs.Projecting.{unit_here, unit_elsewhere, coefficient_at, AreIndices, AreOnce}
+use Rattle.av_normal.proofs.Normalised.{StandFor, stand_for, normalised_among}
 
 -- ---- columns
 

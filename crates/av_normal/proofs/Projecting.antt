@@ -1,5 +1,5 @@
 -- The map of a reduction sends the points over a point to that point.
-use Rattle.std.proofs.Common.{◌≡◌, ℕ, zero, suc, ◌+◌, ◌<◌, ◌≤◌, Bool, true, false, ◌&&◌, IsTrue, if◌then◌else◌, nat_eq, ℤ, pos, ◌+ℤ◌, ◌*ℤ◌, int_le, List, [], ◌∷◌, length, map, take, get_or, refl, sym, ap, ap₂, subst, ◌∙◌, arith, All, AllPairs}
+use Rattle.std.proofs.Common.{◌≡◌, ℕ, zero, suc, ◌+◌, ◌<◌, Bool, true, false, if◌then◌else◌, nat_eq, ℤ, pos, ◌+ℤ◌, ◌*ℤ◌, List, [], ◌∷◌, length, map, take, get_or, refl, sym, ap, ap₂, subst, ◌∙◌, arith, All, AllPairs}
 use Rattle.std.specs.List.{range_with_len}
 use Rattle.std.proofs.lemmas.Int.{ints}
 use Rattle.std.proofs.lemmas.List.{get_or-take}
@@ -10,7 +10,6 @@ use Rattle.av_affine.specs.declared.map.Map.{Map}
 use Rattle.av_affine.specs.Numbers.{dot}
 use Rattle.av_affine.specs.Forms.{value_at}
 use Rattle.av_affine.specs.Maps.{image}
-use Rattle.av_affine.specs.Completion.{unit_row}
 use Rattle.av_tree.specs.Points.{Point, is_one}
 use Rattle.av_flat.specs.Points.{is_index, entry_over, point_over}
 use Rattle.av_flat.specs.WellFormed.{IsIndex, IsProjection}

@@ -1,5 +1,5 @@
 -- The right side of a normal variable has the words of the right side that it was brought from.
-use Rattle.std.proofs.Common.{◌≡◌, ◌↔◌, ℕ, ◌+◌, ◌<◌, ◌≤◌, ◌⊎◌, inl, inr, Bool, true, false, ◌&&◌, IsTrue, if◌then◌else◌, List, [], ◌∷◌, ◌++◌, length, map, refl, sym, ap, ap₂, subst, ◌∙◌, arith, zero-add, All, nat_eq, None}
+use Rattle.std.proofs.Common.{◌≡◌, ◌↔◌, ℕ, ◌+◌, ◌≤◌, ◌⊎◌, inl, inr, Bool, true, false, ◌&&◌, IsTrue, if◌then◌else◌, List, [], ◌∷◌, ◌++◌, length, map, refl, sym, ap, ap₂, subst, ◌∙◌, arith, zero-add, All, nat_eq, None}
 use Rattle.std.specs.List.{list_all}
 use Rattle.std.proofs.lemmas.List.Folds.{list_all-append}
 use Rattle.std.proofs.lemmas.List.Elements.{All-head, All-tail, All-weaker}
@@ -15,7 +15,7 @@ use Rattle.av_flat.specs.Counts.{count, count_all}
 use Rattle.av_flat.specs.Values.{Scene, HasValue, IsOfBranch}
 use Rattle.av_flat.specs.Solutions.{scene}
 use Rattle.av_flat.specs.WellFormed.{Fits, FitAll, EachPart, EachPartOfAll, IsInPlace, is_pick, IsWellFormedPiece, IsWellFormedVariable}
-use Rattle.av_flat.specs.Pieces.{Part, part, parts, filled, one_where, holding, IsOfPart, pieces_of}
+use Rattle.av_flat.specs.Pieces.{Part, part, parts, filled, one_where, holding, IsOfPart}
 use Rattle.av_flat.proofs.Sets.{both_true, equal, has_is}
 use Rattle.av_flat.proofs.Parts.{fitting, pieces_counted}
 use Rattle.av_flat.proofs.PieceValues.{words_of_parts}
@@ -166,12 +166,18 @@ module _ (s : FlatSystem) (v : Variable) (g : IsWellFormedVariable s v) where
       (All-weaker (IsWellFormedPiece (signatures s) v) (λ p. (p.domain.dim ≡ v.domain.dim) × Fits (signatures s) v.domain.dim p.tree) (λ p k. (k.dimension, k.tree.fits)) v.pieces g.pieces)
 
   pub right_in_place : EachPart IsInPlace (right_side v)
-  right_in_place = (tt, each_branch IsInPlace v.pieces
-      (All-weaker (IsWellFormedPiece (signatures s) v) (λ p. IsInPlace (restricted p) × EachPart IsInPlace p.tree) (λ p k. (tt, k.tree.reductions)) v.pieces g.pieces))
+  right_in_place = (
+    tt,
+    each_branch IsInPlace v.pieces
+        (All-weaker (IsWellFormedPiece (signatures s) v) (λ p. IsInPlace (restricted p) × EachPart IsInPlace p.tree) (λ p k. (tt, k.tree.reductions)) v.pieces g.pieces),
+  )
 
   pub right_no_pick : EachPart (λ u. is_pick u ≡ false) (right_side v)
-  right_no_pick = (refl, each_branch (λ u. is_pick u ≡ false) v.pieces
-      (All-weaker (IsWellFormedPiece (signatures s) v) (λ p. (is_pick (restricted p) ≡ false) × EachPart (λ u. is_pick u ≡ false) p.tree) (λ p k. (refl, k.tree.no_pick)) v.pieces g.pieces))
+  right_no_pick = (
+    refl,
+    each_branch (λ u. is_pick u ≡ false) v.pieces
+        (All-weaker (IsWellFormedPiece (signatures s) v) (λ p. (is_pick (restricted p) ≡ false) × EachPart (λ u. is_pick u ≡ false) p.tree) (λ p k. (refl, k.tree.no_pick)) v.pieces g.pieces),
+  )
 
   module _ (z : Point) (point : IsTrue (has v.domain z)) where
     size : length z ≡ v.domain.dim
