@@ -22,11 +22,10 @@ use Rattle.av_flat.specs.Quantities.{of_set, body_sets}
 use Rattle.av_flat.specs.Pieces.{Part, parts}
 use Rattle.av_flat.proofs.Sets.{both_true, both_hold, equal, has_is}
 use Rattle.av_normal.specs.NormalForm.{IsNormalised, set_of, IsNormalVariable}
-use Rattle.av_normal.proofs.Laid.{both_of, IsReduced, IsLaid, IsLaidPart, Any, looser, Own, laid_parts}
+use Rattle.av_normal.proofs.Laid.{both_of, IsReduced, IsLaid, IsLaidPart, Anything, looser, Own, laid_parts}
 use Rattle.av_normal.proofs.PieceWords.{hold_normal, has_normal, laid_normal}
 use Rattle.av_normal.proofs.RightSides.{IsKeptAs, Keep, keep_is, made, restricted, each_branch, right_fits, right_in_place, right_no_pick}
-use Rattle.av_normal.proofs.Limits as limit
-use Rattle.av_normal.proofs.Limits.{AllFit, small_set, few_set}
+use Rattle.av_normal.proofs.Limits.{IsWithin, AllFit, small_set, few_set}
 
 -- ---- trees of kept pieces
 
@@ -155,17 +154,17 @@ pub record IsFine (vs : List Signature) (width dim : ℕ) (rows : List Form) (q 
 
 module _ (vs : List Signature) (width dim : ℕ) (rows : List Form) where
   abbrev FitsPart : Part → Type 0
-  FitsPart p = limit.Fits (of_set (set_of dim p))
+  FitsPart p = IsWithin (of_set (set_of dim p))
 
   abbrev FitBodies : Part → Type 0
-  FitBodies p = All (λ set. limit.Fits (of_set set)) (body_sets p.tree)
+  FitBodies p = All (λ set. IsWithin (of_set set)) (body_sets p.tree)
 
   fine_piece : (p : Part) (q : Piece) → IsLaidPart vs SmallMap (IsWord width) dim p → IsKeptAs dim (made rows p) q → FitsPart (made rows p) → FitBodies (made rows p) → IsFine vs width dim rows q
   fine_piece p q a k f b =
       let all = rows ++ p.rows in
       let n = k.normal in
-      let laid = laid_normal vs SmallMap (IsWord width) SmallSet dim all p.tree q.tree (looser vs SmallMap (IsWord width) Any dim p.rows all p.tree (λ y e h. (both_of rows p.rows y h).1) a) k.same
-      (All-weaker (λ set. limit.Fits (of_set set)) (λ set. (inner : Set) → IsNormalised set inner → SmallSet inner)
+      let laid = laid_normal vs SmallMap (IsWord width) SmallSet dim all p.tree q.tree (looser vs SmallMap (IsWord width) Anything dim p.rows all p.tree (λ y e h. (both_of rows p.rows y h).1) a) k.same
+      (All-weaker (λ set. IsWithin (of_set set)) (λ set. (inner : Set) → IsNormalised set inner → SmallSet inner)
       (λ set fits inner normal. record { small = small_set set inner normal fits; few = few_set set inner normal fits }) (body_sets (made rows p).tree) b) in
       let own = looser vs SmallMap (IsWord width) SmallSet dim all q.domain.rows q.tree (λ z e h. sym (hold_normal (set_of dim (made rows p)) q.domain z n e) ∙ h) laid in
       record {

@@ -47,8 +47,8 @@ all_sources P f (x ∷ xs) h = All-cons (λ y. P (f y)) x xs (All-head P (f x) (
 -- ---- within the limits
 
 -- no quantity of it is above its limit
-abbrev pub Fits : Measured → Type 0
-Fits o = (k : Quantity) × (n : ℕ) × IsOver o k n → ⊥
+abbrev pub IsWithin : Measured → Type 0
+IsWithin o = (k : Quantity) × (n : ℕ) × IsOver o k n → ⊥
 
 small_rows : (rows : List Form) → ((k : Quantity) (n : ℕ) → IsOverNumbers rows k n → ⊥) → All IsWithinLimits rows
 small_rows rows h = elim (cases_lt 1024 (greatest_coefficient rows)) [
@@ -59,13 +59,13 @@ small_rows rows h = elim (cases_lt 1024 (greatest_coefficient rows)) [
   ]
 ]
 
-pub small_map : (m : Map) → Fits (of_map m) → All IsWithinLimits m.rows
+pub small_map : (m : Map) → IsWithin (of_map m) → All IsWithinLimits m.rows
 small_map m h = small_rows m.rows (λ k n over. h (k, n, over))
 
-pub small_set : (set inner : Set) → IsNormalised set inner → Fits (of_set set) → All IsWithinLimits inner.rows
+pub small_set : (set inner : Set) → IsNormalised set inner → IsWithin (of_set set) → All IsWithinLimits inner.rows
 small_set set inner e h = small_rows inner.rows (λ k n over. h (k, n, (inner.rows, e.rows, inl over)))
 
-few_rows : (set inner : Set) → IsNormalised set inner → Fits (of_set set) → length inner.rows ≤ 20
+few_rows : (set inner : Set) → IsNormalised set inner → IsWithin (of_set set) → length inner.rows ≤ 20
 few_rows set inner e h = elim (cases_lt 20 (length inner.rows)) [
   | inl l ↦ elim (cases_lt 1024 (greatest_coefficient inner.rows)) [
     | inl a ↦ absurd (h (quantity.Coefficient, greatest_coefficient inner.rows, (inner.rows, e.rows, inl (inl (refl, refl, a)))))
@@ -77,7 +77,7 @@ few_rows set inner e h = elim (cases_lt 20 (length inner.rows)) [
   | inr l ↦ l
 ]
 
-pub few_set : (set inner : Set) → IsNormalised set inner → Fits (of_set set) → HasFewRows inner
+pub few_set : (set inner : Set) → IsNormalised set inner → IsWithin (of_set set) → HasFewRows inner
 few_set set inner e h = record {
   rows = inner.rows;
   normalised = subst (λ d. AreNormalised d inner.rows inner.rows) (sym e.dim) (normalised_again set.dim set.rows inner.rows e.rows);
@@ -88,20 +88,20 @@ few_set set inner e h = record {
 
 pub record AllFit (vs : List Signature) (v : Variable) : Type 0 where
   pub maps : All (λ m. All IsWithinLimits m.rows) (composed_maps [] (right_side v))
-  pub pieces : All (λ p. Fits (of_set (set_of v.domain.dim p))) (pieces_of vs v)
-  pub bodies : All (λ p. All (λ set. Fits (of_set set)) (body_sets p.tree)) (pieces_of vs v)
+  pub pieces : All (λ p. IsWithin (of_set (set_of v.domain.dim p))) (pieces_of vs v)
+  pub bodies : All (λ p. All (λ set. IsWithin (of_set set)) (body_sets p.tree)) (pieces_of vs v)
 
-all_fit : (vs : List Signature) (v : Variable) → All Fits (measured vs v) → AllFit vs v
+all_fit : (vs : List Signature) (v : Variable) → All IsWithin (measured vs v) → AllFit vs v
 all_fit vs v h =
     let maps = map of_map (composed_maps [] (right_side v)) in
     let pieces = map (λ (p : Part). of_set (record { dim = v.domain.dim; rows = p.rows })) (pieces_of vs v) in
     let sets = flat_map (λ (p : Part). body_sets p.tree) (pieces_of vs v) in
-    let last = all_parts Fits (of_set v.domain ∷ maps ++ pieces) (map of_set sets) h in
-    let first = all_parts Fits (of_set v.domain ∷ maps) pieces last.0 in
+    let last = all_parts IsWithin (of_set v.domain ∷ maps ++ pieces) (map of_set sets) h in
+    let first = all_parts IsWithin (of_set v.domain ∷ maps) pieces last.0 in
     record {
-      maps = All-weaker (λ m. Fits (of_map m)) (λ m. All IsWithinLimits m.rows) small_map (composed_maps [] (right_side v)) (all_sources Fits of_map (composed_maps [] (right_side v)) (All-tail Fits (of_set v.domain) maps first.0));
-      pieces = all_sources Fits (λ p. of_set (set_of v.domain.dim p)) (pieces_of vs v) first.1;
-      bodies = all_spread_parts (λ set. Fits (of_set set)) (λ p. body_sets p.tree) (pieces_of vs v) (all_sources Fits of_set sets last.1);
+      maps = All-weaker (λ m. IsWithin (of_map m)) (λ m. All IsWithinLimits m.rows) small_map (composed_maps [] (right_side v)) (all_sources IsWithin of_map (composed_maps [] (right_side v)) (All-tail IsWithin (of_set v.domain) maps first.0));
+      pieces = all_sources IsWithin (λ p. of_set (set_of v.domain.dim p)) (pieces_of vs v) first.1;
+      bodies = all_spread_parts (λ set. IsWithin (of_set set)) (λ p. body_sets p.tree) (pieces_of vs v) (all_sources IsWithin of_set sets last.1);
     }
 
 pub each_fits : (s : FlatSystem) → ((k : Quantity) (n : ℕ) → HasWideSets s k n → ⊥) → All (AllFit (signatures s)) s.variables
@@ -109,4 +109,4 @@ each_fits s h =
     let vs = signatures s in
     let fit = none_first (λ o. (k : Quantity) × (n : ℕ) × IsOver o k n) (flat_map (measured vs) s.variables)
     (λ o first. let here = first.here in h here.0 here.1 (record { what = o; first = first; over = here.2 })) in
-    All-weaker (λ v. All Fits (measured vs v)) (AllFit vs) (all_fit vs) s.variables (all_spread_parts Fits (measured vs) s.variables fit)
+    All-weaker (λ v. All IsWithin (measured vs v)) (AllFit vs) (all_fit vs) s.variables (all_spread_parts IsWithin (measured vs) s.variables fit)

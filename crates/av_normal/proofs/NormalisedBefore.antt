@@ -66,6 +66,16 @@ later_entry n f forms p j is l e x xs =
     let here : get_or f.coef j (pos 0) ≡ pos 0 = coefficient_at n f p j is l ∙ unit_elsewhere p j e in
     rw here (omega (arith, ints))
 
+later_column : (n : ℕ) (f : Form) (forms : List Form) (p j : ℕ) → IsIndex n f p → j < n → j ≢ p → (i : ℕ) → ((xs : List ℤ) → column forms j xs ≡ get_or xs i (pos 0))
+    → (xs : List ℤ) → column (f ∷ forms) j xs ≡ get_or xs (suc i) (pos 0)
+later_column n f forms p j is l e i h [] = refl
+later_column n f forms p j is l e i h (x ∷ xs) = later_entry n f forms p j is l e x xs ∙ h xs
+
+later_none : (n : ℕ) (f : Form) (forms : List Form) (p j : ℕ) → IsIndex n f p → j < n → j ≢ p → ((xs : List ℤ) → column forms j xs ≡ pos 0) → (xs : List ℤ) → column (f ∷ forms) j xs ≡ pos 0
+later_none n f forms p j is l e h [] = refl
+later_none n f forms p j is l e h (x ∷ xs) = later_entry n f forms p j is l e x xs ∙ h xs
+
+-- each column has one entry of the row, or 0
 column_is : (n : ℕ) (forms : List Form) (j : ℕ) → j < n → AreIndices n forms → AreOnce n forms → ((i : ℕ) × IsEntry forms j i) ⊎ ((xs : List ℤ) → column forms j xs ≡ pos 0)
 column_is n [] j l each once = inr dot_nothing
 column_is n (f ∷ forms) j l each once =
@@ -73,19 +83,10 @@ column_is n (f ∷ forms) j l each once =
     elim (cases_eq j p) [
       | inl e ↦ inl (0, (omega arith, first_entry n f forms p j is each once e))
       | inr e ↦ elim (column_is n forms j l (All-tail (λ g. (place : ℕ) × IsIndex n g place) f forms each) (λ a b d k m. once (suc a) (suc b) d (omega (arith, k)) (omega (arith, m)))) [
-        | inl r ↦ inl (suc r.0, ((let k = r.1.0 in omega (arith, k)), entries n f forms p j is l e r.0 r.1.1))
-        | inr r ↦ inr (none n f forms p j is l e r)
+        | inl r ↦ inl (suc r.0, ((let k = r.1.0 in omega (arith, k)), later_column n f forms p j is l e r.0 r.1.1))
+        | inr r ↦ inr (later_none n f forms p j is l e r)
       ]
     ]
-  where
-    entries : (n : ℕ) (f : Form) (forms : List Form) (p j : ℕ) → IsIndex n f p → j < n → j ≢ p → (i : ℕ) → ((xs : List ℤ) → column forms j xs ≡ get_or xs i (pos 0))
-        → (xs : List ℤ) → column (f ∷ forms) j xs ≡ get_or xs (suc i) (pos 0)
-    entries n f forms p j is l e i h [] = refl
-    entries n f forms p j is l e i h (x ∷ xs) = later_entry n f forms p j is l e x xs ∙ h xs
-
-    none : (n : ℕ) (f : Form) (forms : List Form) (p j : ℕ) → IsIndex n f p → j < n → j ≢ p → ((xs : List ℤ) → column forms j xs ≡ pos 0) → (xs : List ℤ) → column (f ∷ forms) j xs ≡ pos 0
-    none n f forms p j is l e h [] = refl
-    none n f forms p j is l e h (x ∷ xs) = later_entry n f forms p j is l e x xs ∙ h xs
 
 -- each entry stands in one column
 abbrev IsColumnOf : ℕ → List Form → ℕ → ℕ → Type 0
@@ -99,12 +100,7 @@ entry_is n (f ∷ forms) zero l each once =
 entry_is n (f ∷ forms) (suc i) l each once =
     let (p, is) = All-head (λ g. (place : ℕ) × IsIndex n g place) f forms each in
     let (j, (within, at, h)) = entry_is n forms i (omega (arith, l)) (All-tail (λ g. (place : ℕ) × IsIndex n g place) f forms each) (λ a b d k m. once (suc a) (suc b) d (omega (arith, k)) (omega (arith, m))) in
-    (j, (within, at, later n f forms p j is within (λ e. once 0 (suc i) f (omega arith) l p is (let P : ℕ → Type 0 = λ a. IsIndex n (get_or forms i f) a in subst P e (at f))) i h))
-  where
-    later : (n : ℕ) (f : Form) (forms : List Form) (p j : ℕ) → IsIndex n f p → j < n → j ≢ p → (i : ℕ) → ((xs : List ℤ) → column forms j xs ≡ get_or xs i (pos 0))
-        → (xs : List ℤ) → column (f ∷ forms) j xs ≡ get_or xs (suc i) (pos 0)
-    later n f forms p j is l e i h [] = refl
-    later n f forms p j is l e i h (x ∷ xs) = later_entry n f forms p j is l e x xs ∙ h xs
+    (j, (within, at, later_column n f forms p j is within (λ e. once 0 (suc i) f (omega arith) l p is (let P : ℕ → Type 0 = λ a. IsIndex n (get_or forms i f) a in subst P e (at f))) i h))
 
 constants_none : (n : ℕ) (forms : List Form) (xs : List ℤ) → AreIndices n forms → dot xs (constants_of forms) ≡ pos 0
 constants_none n [] xs each = dot_nothing xs

@@ -1,5 +1,5 @@
 -- A normal form shows what its system shows, and is proper where that is.
-use Rattle.std.proofs.Common.{◌≡◌, ◌↔◌, ℕ, Bool, IsTrue, List, [], ◌∷◌, map, Some, IsSome, refl, sym, ap, ap₂, subst, ◌∙◌, All}
+use Rattle.std.proofs.Common.{◌≡◌, ◌↔◌, ℕ, Bool, IsTrue, List, [], ◌∷◌, map, Some, refl, sym, ap, ap₂, subst, ◌∙◌, All}
 use Rattle.std.proofs.lemmas.List.Elements.{All-nil, All-cons, All-head, All-tail}
 use Rattle.av_base.specs.Words.{IsWord}
 use Rattle.av_tree.specs.Trees.{Text}
@@ -51,9 +51,6 @@ same_signatures vs [] [] n = refl
 same_signatures vs [] (w ∷ ys) n = absurd n
 same_signatures vs (v ∷ xs) [] n = absurd n
 same_signatures vs (v ∷ xs) (w ∷ ys) n = ap₂ (λ a b. a ∷ b) (one_signature vs v w n.0) (same_signatures vs xs ys n.1)
-
-some_is : (u : Assignment) (name : Text) (z : Point) (w : ℕ) → u name z ≡ Some w → IsSome (u name z)
-some_is u name z w e = rw e refl
 
 module _ (s t : FlatSystem) (g : IsWellFormed s) (n : IsNormalForm s t) where
   abbrev vs : List Signature
