@@ -3,4 +3,5 @@ pub mod NormalFaults
 pub mod Searches
 pub mod Standing
 pub mod Numbered
+pub mod Branches
 pub mod Counted

@@ -1,14 +1,17 @@
 //! A piece of a tree by its number, without a case, a restriction or a dependence.
 
-ghost use Rattle.std.specs.Prelude.{◌≡◌, ◌<◌, ◌≤◌, ◌++◌, All, IfOk, IfErr, OnOk, map, length};
+ghost use Rattle.std.specs.Prelude.{◌≡◌, ◌<◌, ◌≤◌, ◌++◌, ◌∷◌, All, IfOk, OnOk, length, map};
+ghost use Rattle.av_affine.specs.Forms.{IsWithinLimits};
 ghost use Rattle.av_poly.specs.Points.{IsSmall};
-ghost use Rattle.av_flat.specs.Trees.{view, trees_of, view_variable};
-ghost use Rattle.av_flat.specs.Signatures.{signature};
-ghost use Rattle.av_flat.specs.Pieces.{parts, rows_under};
-ghost use Rattle.av_flat.specs.Quantities.{piece_count, piece_count_of_all};
-ghost use Rattle.av_normal.specs.Numbered.{part_at};
+ghost use Rattle.av_poly.specs.Preimages.{rows_before};
+ghost use Rattle.av_flat.specs.Trees.{view};
+ghost use Rattle.av_flat.specs.Pieces.{composed, parts, rows_under};
+ghost use Rattle.av_flat.specs.Quantities.{of_map, steps, piece_count};
+ghost use Rattle.av_normal.specs.Searches.{AreNarrow};
+ghost use Rattle.av_normal.specs.Standing.{AreChained, IsRestricting, IsReadable};
+ghost use Rattle.av_normal.specs.Numbered.{part_at, signatures_of};
+ghost use Rattle.av_normal.specs.Branches.{counted, IsBranchAt};
 
-use crate::NormalFault;
 use crate::compose::{outwards, together, within};
 use crate::count::piece_count;
 use crate::rows::{append, copy_map};
@@ -18,14 +21,20 @@ use av_flat::{Tree, Var, copy_tree};
 use av_poly::Poly;
 use std::alloc::Global;
 
-// Puts the rows of a set, taken at the image under a map after those that it stands under, behind others.
+// Puts the rows of a set, taken at the image under a map, behind others.
 fn append_before(
     alloc: Global,
     set: &Poly,
-    map: &Map,
+    own: &Map,
     rows: &mut List<Form>,
-) -> Result<(), Memory> {
-    let before = set.preimage(alloc, map)?;
+) -> Result<(), Memory>
+    requires fits { length own.now.rows ≡ set.now.dim }
+    requires rows { All IsWithinLimits set.now.rows }
+    requires map { All IsWithinLimits own.now.rows }
+    ensures rows { OnOk result (rows.new ≡ rows.old ++ rows_before own.now set.now.rows) }
+    ensures small { OnOk result (All IsSmall rows.old → All IsSmall rows.new) }
+{
+    let before = set.preimage(alloc, own)?;
     append(rows, before.rows.as_slice())
 }
 
@@ -35,16 +44,37 @@ fn append_under(
     under: &[Map],
     domain: &Poly,
     rows: &mut List<Form>,
-) -> Result<(), NormalFault> {
-    match together(under)? {
-        Some(whole) => append_before(alloc, domain, &whole, rows)?,
-        None => append(rows, domain.rows.as_slice())?,
+) -> Result<(), Memory>
+    requires { IsRestricting under.now domain.now }
+    ensures rows { OnOk result (rows.new ≡ rows.old ++ rows_under under.now domain.now.rows) }
+    ensures small { OnOk result (All IsSmall rows.old → All IsSmall rows.new) }
+{
+    match together(under) {
+        Ok(Some(whole)) => append_before(alloc, domain, &whole, rows),
+        Ok(None) => append(rows, domain.rows.as_slice()),
+        Err(_fault) => Err(Memory),
     }
-    Ok(())
+}
+
+// The map after those that it stands under, which are known to compose within the limits.
+fn composed_map(own: &Map, under: &[Map]) -> Result<Map, Memory>
+    requires chained { AreChained (own.now ∷ under.now) }
+    requires narrow { AreNarrow (map of_map (steps own.now under.now)) }
+    ensures composed { IfOk result (λ m. m ≡ composed own.now under.now) }
+    ensures limits { IfOk result (λ m. All IsWithinLimits m.rows) }
+{
+    match outwards(own, under) {
+        Ok(whole) => Ok(whole),
+        Err(_fault) => Err(Memory),
+    }
 }
 
 // The branch in which the piece with this number is, and its number there.
-fn branch_at(trees: &[Tree], number: u128) -> (usize, u128) {
+fn branch_at(trees: &[Tree], number: u128) -> (usize, u128)
+    requires number { number < counted trees.now }
+    requires few { counted trees.now ≤ 256 }
+    ensures { IsBranchAt trees.now number result.0 result.1 }
+{
     let mut left = number;
     for k in 0..trees.len() {
         let count = piece_count(&trees[k]);
@@ -57,7 +87,6 @@ fn branch_at(trees: &[Tree], number: u128) -> (usize, u128) {
 }
 
 // The tree of the piece with this number, whose rows come behind others.
-#[cycle(distribute)]
 pub(crate) fn piece_at(
     alloc: Global,
     vars: &[Var],
@@ -65,10 +94,17 @@ pub(crate) fn piece_at(
     tree: &Tree,
     number: u128,
     rows: &mut List<Form>,
-) -> Result<Tree, NormalFault> {
+) -> Result<Tree, Memory>
+    requires readable { IsReadable (signatures_of vars.now) under.now (view tree.now) }
+    requires number { number < piece_count (view tree.now) }
+    requires few { piece_count (view tree.now) ≤ 256 }
+    ensures tree { IfOk result (λ t. view t ≡ (part_at (parts (signatures_of vars.now) under.now (view tree.now)) number).tree) }
+    ensures rows { OnOk result (rows.new ≡ rows.old ++ (part_at (parts (signatures_of vars.now) under.now (view tree.now)) number).rows) }
+    ensures small { OnOk result (All IsSmall rows.old → All IsSmall rows.new) }
+{
     match tree {
         Tree::Ref { var, map } => {
-            let whole = outwards(map, under)?;
+            let whole = composed_map(map, under)?;
             append_before(alloc, &vars[*var as usize].domain, &whole, rows)?;
             Ok(Tree::Ref {
                 var: *var,
@@ -77,10 +113,11 @@ pub(crate) fn piece_at(
         }
         Tree::Const(word) => Ok(Tree::Const(*word)),
         Tree::Binary { sign, left, right } => {
-            let slow = number / piece_count(right);
-            let fast = number % piece_count(right);
-            let left = boxed_piece_at(alloc, vars, under, left, slow, rows)?;
-            let right = boxed_piece_at(alloc, vars, under, right, fast, rows)?;
+            let fast = piece_count(right);
+            let left = piece_at(alloc, vars, under, left, number / fast, rows)?;
+            let left = Box::new(alloc, left)?;
+            let right = piece_at(alloc, vars, under, right, number % fast, rows)?;
+            let right = Box::new(alloc, right)?;
             Ok(Tree::Binary {
                 sign: *sign,
                 left,
@@ -94,16 +131,19 @@ pub(crate) fn piece_at(
             yes,
             no,
         } => {
-            let last = number % piece_count(no);
-            let number = number / piece_count(no);
-            let third = number % piece_count(yes);
-            let number = number / piece_count(yes);
-            let slow = number / piece_count(right);
-            let second = number % piece_count(right);
-            let left = boxed_piece_at(alloc, vars, under, left, slow, rows)?;
-            let right = boxed_piece_at(alloc, vars, under, right, second, rows)?;
-            let yes = boxed_piece_at(alloc, vars, under, yes, third, rows)?;
-            let no = boxed_piece_at(alloc, vars, under, no, last, rows)?;
+            let last = piece_count(no);
+            let third = piece_count(yes) * last;
+            let second = piece_count(right) * third;
+            let left = piece_at(alloc, vars, under, left, number / second, rows)?;
+            let left = Box::new(alloc, left)?;
+            let number = number % second;
+            let right = piece_at(alloc, vars, under, right, number / third, rows)?;
+            let right = Box::new(alloc, right)?;
+            let number = number % third;
+            let yes = piece_at(alloc, vars, under, yes, number / last, rows)?;
+            let yes = Box::new(alloc, yes)?;
+            let no = piece_at(alloc, vars, under, no, number % last, rows)?;
+            let no = Box::new(alloc, no)?;
             Ok(Tree::Choose {
                 left,
                 compare: *compare,
@@ -118,8 +158,7 @@ pub(crate) fn piece_at(
         }
         Tree::Case { branches } => {
             let (branch, number) = branch_at(branches.as_slice(), number);
-            let tree = &branches.as_slice()[branch];
-            piece_at(alloc, vars, under, tree, number, rows)
+            piece_at(alloc, vars, under, &branches.as_slice()[branch], number, rows)
         }
         Tree::Depend { map, body } => {
             let inner = within(alloc, map, under)?;
@@ -128,7 +167,8 @@ pub(crate) fn piece_at(
         Tree::Reduce { op, map, body, set } => {
             let mut inner = List::new(alloc);
             append(&mut inner, set.rows.as_slice())?;
-            let body = boxed_piece_at(alloc, vars, &[], body, 0, &mut inner)?;
+            let body = piece_at(alloc, vars, &[], body, 0, &mut inner)?;
+            let body = Box::new(alloc, body)?;
             let set = Poly {
                 dim: map.from,
                 rows: inner,
@@ -140,22 +180,6 @@ pub(crate) fn piece_at(
                 set,
             })
         }
-        Tree::Pick { .. } => Ok(copy_tree(alloc, tree)?),
-    }
-}
-
-#[cycle(distribute)]
-fn boxed_piece_at(
-    alloc: Global,
-    vars: &[Var],
-    under: &[Map],
-    tree: &Tree,
-    number: u128,
-    rows: &mut List<Form>,
-) -> Result<Box<Tree>, NormalFault> {
-    let piece = piece_at(alloc, vars, under, tree, number, rows)?;
-    match Box::new(alloc, piece) {
-        Ok(boxed) => Ok(boxed),
-        Err(_) => Err(NormalFault::Memory),
+        Tree::Pick { .. } => copy_tree(alloc, tree),
     }
 }
