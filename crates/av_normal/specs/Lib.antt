@@ -4,4 +4,5 @@ pub mod Searches
 pub mod Standing
 pub mod Numbered
 pub mod Branches
+pub mod Filling
 pub mod Counted
