@@ -1,5 +1,5 @@
 -- The set of a body, made from the normalised rows of its holder.
-use Rattle.std.proofs.Common.{◌≡◌, ◌≤◌, ◌^◌, ℕ, List, [], ◌∷◌, length, subst, sym}
+use Rattle.std.proofs.Common.{◌≡◌, ◌≤◌, ◌^◌, ℕ, List, [], ◌∷◌, length, subst, sym, ap₂}
 use Rattle.av_affine.specs.declared.form.Form.{Form}
 use Rattle.av_affine.specs.declared.map.Map.{Map}
 use Rattle.av_affine.specs.Maps.{greatest_coefficient, greatest_constant}
@@ -13,6 +13,9 @@ use Rattle.av_normal.specs.Filling.{inner_of, IsFoldable}
 use Rattle.av_normal.proofs.NormalisedBefore.{normalised_before}
 use Rattle.av_normal.proofs.Once.{narrow_within}
 use Rattle.av_normal.proofs.Searching.{wide_here}
+
+pub same_set : (a b : Set) → a.dim ≡ b.dim → a.rows ≡ b.rows → a ≡ b
+same_set a b p q = ap₂ (λ dim rows. record { dim = dim; rows = rows }) p q
 
 module _ (n : ℕ) (holder : List Form) (m : Map) (set : Set) (h : IsFoldable n m set) (rows : List Form) (a : AreNormalised n rows holder) where
   pub early : (out : List Form) → AreNormalised m.from (inner_of m holder set).rows out → AreNormalised m.from (inner_of m rows set).rows out

@@ -40,7 +40,8 @@ fn inner_set(
 {
     let held = holder.preimage(alloc, own)?;
     let both = held.meet(alloc, set)?;
-    narrowed(both)
+    let inner = narrowed(both)?;
+    Ok(inner)
 }
 
 // The tree of a piece with its holder's rows in the set of each reduction.
