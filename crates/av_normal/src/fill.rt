@@ -1,27 +1,22 @@
 //! The sets of reductions, with the rows of what holds them.
 
-ghost use Rattle.std.specs.Prelude.{List as Items, ◌≡◌, [], ◌∷◌, All, IfOk, IfErr, OnOk, map};
+ghost use Rattle.std.specs.Prelude.{List as Items, ◌≡◌, [], ◌∷◌, All, IfOk, IfErr, OnOk};
 ghost use Rattle.av_affine.specs.declared.form.Form.{Form};
 ghost use Rattle.av_affine.specs.Forms.{IsWithinLimits};
 ghost use Rattle.av_poly.specs.Normal.{AreNormalised};
-ghost use Rattle.av_flat.specs.Trees.{view};
-ghost use Rattle.av_flat.specs.Pieces.{filled};
-ghost use Rattle.av_flat.specs.Quantities.{of_set, body_sets};
-ghost use Rattle.av_normal.specs.NormalForm.{HasNormalSets};
-ghost use Rattle.av_normal.specs.Searches.{IsNarrow, AreNarrow, IsWide};
-ghost use Rattle.av_normal.specs.Filling.{inner_of, IsFoldable, IsFillable};
+ghost use Rattle.av_flat.specs.Quantities.{of_set};
+ghost use Rattle.av_normal.specs.Searches.{IsNarrow, IsWide};
+ghost use Rattle.av_normal.specs.Filling.{inner_of, IsFoldable};
 
 use crate::NormalFault;
 use crate::measure::narrowed;
-use crate::rows::copy_map;
 use av_affine::Map;
-use av_flat::{Tree, copy_tree};
 use av_poly::Poly;
 use std::alloc::Global;
 
 // The set of a body: the rows of its holder at the kept indices, and then its own. What the holder's rows were made
 // from makes no difference.
-fn inner_set(
+pub(crate) fn inner_set(
     alloc: Global,
     holder: &Poly,
     own: &Map,
@@ -42,70 +37,4 @@ fn inner_set(
     let both = held.meet(alloc, set)?;
     let inner = narrowed(both)?;
     Ok(inner)
-}
-
-// The tree of a piece with its holder's rows in the set of each reduction.
-pub(crate) fn filled(alloc: Global, holder: &Poly, tree: &Tree) -> Result<Tree, NormalFault>
-    requires fillable { IsFillable holder.now.dim (view tree.now) }
-    requires rows { All IsWithinLimits holder.now.rows }
-    ensures same { IfOk result (λ t. (rows : Items Form) → AreNormalised holder.now.dim rows holder.now.rows →
-        HasNormalSets (filled rows (view tree.now)) (view t)) }
-    ensures narrow { OnOk result ((rows : Items Form) → AreNormalised holder.now.dim rows holder.now.rows →
-        AreNarrow (map of_set (body_sets (filled rows (view tree.now))))) }
-    ensures wide { IfErr result (λ fault. (rows : Items Form) → AreNormalised holder.now.dim rows holder.now.rows →
-        IsWide (map of_set (body_sets (filled rows (view tree.now)))) fault) }
-{
-    match tree {
-        Tree::Binary { sign, left, right } => {
-            let left = filled(alloc, holder, left)?;
-            let right = filled(alloc, holder, right)?;
-            let left = Box::new(alloc, left)?;
-            let right = Box::new(alloc, right)?;
-            Ok(Tree::Binary {
-                sign: *sign,
-                left,
-                right,
-            })
-        }
-        Tree::Choose {
-            left,
-            compare,
-            right,
-            yes,
-            no,
-        } => {
-            let left = filled(alloc, holder, left)?;
-            let right = filled(alloc, holder, right)?;
-            let yes = filled(alloc, holder, yes)?;
-            let no = filled(alloc, holder, no)?;
-            let left = Box::new(alloc, left)?;
-            let right = Box::new(alloc, right)?;
-            let yes = Box::new(alloc, yes)?;
-            let no = Box::new(alloc, no)?;
-            Ok(Tree::Choose {
-                left,
-                compare: *compare,
-                right,
-                yes,
-                no,
-            })
-        }
-        Tree::Reduce { op, map, body, set } => {
-            let set = inner_set(alloc, holder, map, set)?;
-            let body = filled(alloc, &set, body)?;
-            let body = Box::new(alloc, body)?;
-            Ok(Tree::Reduce {
-                op: *op,
-                map: copy_map(map),
-                body,
-                set,
-            })
-        }
-        Tree::Ref { .. }
-        | Tree::Const(_)
-        | Tree::Restrict { .. }
-        | Tree::Case { .. }
-        | Tree::Depend { .. }
-        | Tree::Pick { .. } => Ok(copy_tree(alloc, tree)?),
-    }
 }
