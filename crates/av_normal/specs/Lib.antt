@@ -5,4 +5,5 @@ pub mod Standing
 pub mod Numbered
 pub mod Branches
 pub mod Filling
+pub mod Extents
 pub mod Counted

@@ -1,6 +1,7 @@
 //! Pieces: every variable of a flat system brought to its kept pieces, which show what the system shows.
 #![tactic(auto)]
 
+mod bounded;
 mod compose;
 mod count;
 mod distribute;
