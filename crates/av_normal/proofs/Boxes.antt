@@ -9,7 +9,7 @@ use Rattle.av_affine.specs.Numbers.{AtMost, greatest}
 use Rattle.av_affine.proofs.Ring.{times_times}
 use Rattle.av_flat.specs.Sets.{box_size}
 
-four_is : (xs : List ℤ) → length xs ≡ 4 → xs ≡ get_or xs 0 (pos 0) ∷ get_or xs 1 (pos 0) ∷ get_or xs 2 (pos 0) ∷ get_or xs 3 (pos 0) ∷ []
+pub four_is : (xs : List ℤ) → length xs ≡ 4 → xs ≡ get_or xs 0 (pos 0) ∷ get_or xs 1 (pos 0) ∷ get_or xs 2 (pos 0) ∷ get_or xs 3 (pos 0) ∷ []
 four_is [] e = absurd (omega (arith, e))
 four_is (a ∷ []) e = absurd (omega (arith, e))
 four_is (a ∷ b ∷ []) e = absurd (omega (arith, e))

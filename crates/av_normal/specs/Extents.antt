@@ -1,6 +1,6 @@
 -- The boxes of declared domains, as their bounds. Only private contracts cite this.
-use Rattle.std.specs.Prelude.{◌≡◌, ℕ, ◌<◌, ◌≤◌, ℤ, pos, ◌++◌, ◌⊎◌, List, Option, Some, None}
-use Rattle.av_affine.specs.Numbers.{greatest}
+use Rattle.std.specs.Prelude.{◌≡◌, ℕ, ◌<◌, ◌≤◌, ℤ, pos, ◌++◌, ◌⊎◌, List, Option, Some, None, Bool, true, false}
+use Rattle.av_affine.specs.Numbers.{AtMost, greatest}
 use Rattle.av_poly.specs.declared.poly.Bounds.{Bounds}
 use Rattle.av_poly.specs.Points.{Set, Has}
 use Rattle.av_poly.specs.Rational.{AreBounds, IsFirstEndless, HasNoBounds}
@@ -31,3 +31,15 @@ IsOverBounds b (fault.Limit kind n) =
 IsOverBounds b (fault.Pieces n) = ⊥
 IsOverBounds b (fault.Unbounded name) = ⊥
 IsOverBounds b fault.Memory = ⊥
+
+-- ---- pieces with a point
+
+-- small bounds, between which the points of the set lie; or it has no point
+abbrev pub IsReach : Set → Option Bounds → Type 0
+IsReach set None = (z : List ℤ) → Has set z → ⊥
+IsReach set (Some b) = AtMost 4095 b.low × AtMost 4095 b.high × ((z : List ℤ) → Has set z → IsBetween b.low b.high z)
+
+-- whether the set has a point
+abbrev pub SaysPoint : Set → Bool → Type 0
+SaysPoint set true = (z : List ℤ) × Has set z
+SaysPoint set false = (z : List ℤ) → Has set z → ⊥

@@ -7,6 +7,7 @@ mod count;
 mod distribute;
 mod fault;
 mod fill;
+mod keep;
 mod laws;
 mod measure;
 mod rows;
