@@ -1,8 +1,6 @@
 -- Sums and products of numbers that are capped at the greatest of 128 bits, and the pieces of equations.
-use Rattle.std.proofs.Common.{◌≡◌, ℕ, ◌+◌, ◌-◌, ◌*◌, ◌^◌, ◌≤◌, ◌<◌, min, List, [], ◌∷◌, map, refl, ap, arith, ◌∙◌, sym, mul-zero, ⊎_elim}
+use Rattle.std.proofs.Common.{◌≡◌, ℕ, ◌+◌, ◌-◌, ◌*◌, ◌^◌, min, List, [], ◌∷◌, map, refl, ap, arith, ◌∙◌}
 use Rattle.std.proofs.lemmas.Grind.{common_steps}
-use Rattle.std.proofs.lemmas.Bool.{cases_lt, cases_eq}
-use Rattle.std.proofs.Math.Nat.{mul-le-mul}
 use Rattle.av_flat.specs.Trees.{Piece, Variable, restriction, trees_of, right_side}
 use Rattle.av_flat.specs.Quantities.{piece_count, piece_count_of_all}
 use Rattle.av_normal.specs.Counted.{pieces_counted}

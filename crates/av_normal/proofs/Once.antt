@@ -1,5 +1,5 @@
 -- Two lists of normalised rows of one list have as many rows and the same greatest numbers.
-use Rattle.std.proofs.Common.{◌≡◌, ◌≢◌, ℕ, zero, suc, ◌<◌, ◌≤◌, ◌⊎◌, ⊎_elim, inl, inr, arith, ℤ, pos, ◌≤ℤ◌, ◌<ℤ◌, List, [], ◌∷◌, length, map, get_or, max, refl, sym, ap, ap₂, subst, ◌∙◌, ◌^◌}
+use Rattle.std.proofs.Common.{◌≡◌, ◌≢◌, ℕ, zero, suc, ◌<◌, ◌≤◌, ◌⊎◌, ⊎_elim, inl, inr, arith, pos, ◌≤ℤ◌, List, [], ◌∷◌, length, map, get_or, max, refl, sym, ap, ap₂, subst, ◌∙◌, ◌^◌}
 use Rattle.std.specs.Prelude.{fold}
 use Rattle.std.specs.List.{All, Any, AllPairs, AllByRecursion}
 use Rattle.std.specs.Int.RustNames.{unsigned_abs}
@@ -9,14 +9,13 @@ use Rattle.std.proofs.lemmas.Bool.{cases_lt}
 use Rattle.std.proofs.lemmas.Nat.Gcd.{dvd_antisymm}
 use Rattle.std.proofs.lemmas.List.{get_or_default}
 use Rattle.av_affine.specs.declared.form.Form.{Form}
-use Rattle.av_affine.specs.Numbers.{greatest, IsGcdOf}
+use Rattle.av_affine.specs.Numbers.{greatest}
 use Rattle.av_affine.specs.Maps.{greatest_coefficient, greatest_constant}
 use Rattle.av_poly.specs.Points.{Set}
-use Rattle.av_poly.specs.Normal.{counted, IsConstant, IsNever, IsDivided, Tightens, AreTightest, AreNormalised, impossible}
+use Rattle.av_poly.specs.Normal.{counted, IsConstant, IsNever, IsDivided, AreTightest, AreNormalised}
 use Rattle.av_poly.proofs.Dividing.{not_constant}
-use Rattle.av_flat.specs.Quantities.{of_set, IsOver}
+use Rattle.av_flat.specs.Quantities.{of_set}
 use Rattle.av_normal.specs.Searches.{IsNarrow}
-use Prim.Native.Nat.{◌∣◌}
 
 -- ---- a list without repetitions is no longer than one that has its elements
 
@@ -126,12 +125,12 @@ module _ (dim : ℕ) (rows : List Form) where
       let again = get_or a back.place y in
       let coefs : again.coef ≡ x.coef = back.coef ∙ m.coef in
       let place : back.place ≡ k = ⊎_elim
-          (λ h. absurd (s.distinct back.place k y h l (coefs ∙ ap (λ (r : Form). r.coef) (get_or_default a k d y l))))
-          (λ h. ⊎_elim
-          (λ n. absurd (s.distinct k back.place y n back.within (sym (coefs ∙ ap (λ (r : Form). r.coef) (get_or_default a k d y l)))))
-          (λ n. omega (arith, h, n))
-          (cases_lt k back.place))
-          (cases_lt back.place k) in
+      (λ h. absurd (s.distinct back.place k y h l (coefs ∙ ap (λ (r : Form). r.coef) (get_or_default a k d y l))))
+      (λ h. ⊎_elim
+      (λ n. absurd (s.distinct k back.place y n back.within (sym (coefs ∙ ap (λ (r : Form). r.coef) (get_or_default a k d y l)))))
+      (λ n. omega (arith, h, n))
+      (cases_lt k back.place))
+      (cases_lt back.place k) in
       let same : again ≡ x = ap (λ (i : ℕ). get_or a i y) place ∙ get_or_default a k y d l in
       let up = m.constant in
       let down = back.constant in

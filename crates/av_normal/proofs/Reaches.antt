@@ -1,5 +1,5 @@
 -- What two boxes have in common, and sets without a point.
-use Rattle.std.proofs.Common.{◌≡◌, ◌≤◌, ℕ, ℤ, pos, ◌≤ℤ◌, List, [], ◌∷◌, length, get_or, sym, subst, ⊎_elim}
+use Rattle.std.proofs.Common.{◌≡◌, ◌≤◌, ℤ, pos, ◌≤ℤ◌, List, [], ◌∷◌, length, get_or, subst, ⊎_elim}
 use Rattle.std.specs.Int.RustNames.{unsigned_abs}
 use Rattle.std.proofs.lemmas.List.Elements.{All-from_recursion}
 use Rattle.av_affine.specs.Numbers.{AtMost}
@@ -22,7 +22,6 @@ small_four a b c d p q r s = All-from_recursion (λ x. unsigned_abs x ≤ 4095) 
 pub record IsTight (a b c d l h : ℤ) : Type 0 where
   pub below : (x : ℤ) → a ≤ℤ x → c ≤ℤ x → x ≤ℤ d → l ≤ℤ x
   pub above : (x : ℤ) → x ≤ℤ b → c ≤ℤ x → x ≤ℤ d → x ≤ℤ h
-
 
 -- the same of equal numbers
 pub tight_same : (a b c d l h k m : ℤ) → k ≡ l → m ≡ h → IsTight a b c d l h → IsTight a b c d k m

@@ -1,5 +1,5 @@
 -- Maps under dependences, and the variables that references read.
-use Rattle.std.proofs.Common.{◌≡◌, ℕ, ◌<◌, List, [], ◌∷◌, length, map, Option, Some, None, refl, sym, ap, arith, ◌∙◌}
+use Rattle.std.proofs.Common.{◌≡◌, List, [], ◌∷◌, length, Some, refl, ap, ◌∙◌}
 use Rattle.std.proofs.lemmas.List.{length-map}
 use Rattle.av_affine.specs.declared.map.Map.{Map}
 use Rattle.av_affine.specs.Maps.{composition, through}

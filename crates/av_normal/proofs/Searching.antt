@@ -1,7 +1,7 @@
 -- Searches of lists that are put together.
 use Rattle.std.proofs.Common.{ℕ, List, [], ◌∷◌, ◌++◌, map, inl, inr}
 use Rattle.av_flat.specs.declared.quantity.Quantity.{Quantity}
-use Rattle.av_flat.specs.Quantities.{Measured, IsOver}
+use Rattle.av_flat.specs.Quantities.{Measured}
 use Rattle.av_normal.specs.declared.fault.NormalFault.{NormalFault}
 use Rattle.av_normal.specs.declared.fault.NormalFault.TheVariants as fault
 use Rattle.av_normal.specs.Searches.{IsNarrow, AreNarrow, IsFirstWide, IsWide, IsWideOne}

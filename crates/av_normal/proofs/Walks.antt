@@ -1,5 +1,5 @@
 -- A walk over the composed maps of trees.
-use Rattle.std.proofs.Common.{◌≡◌, ℕ, ◌<◌, ◌+◌, List, [], ◌∷◌, ◌++◌, map, subst, length, drop, get_or, ap, sym, ◌∙◌}
+use Rattle.std.proofs.Common.{◌≡◌, ℕ, ◌<◌, ◌+◌, List, ◌++◌, map, subst, length, drop, get_or, ap, sym, ◌∙◌}
 use Rattle.av_affine.specs.declared.map.Map.{Map}
 use Rattle.av_flat.specs.declared.tree.Tree.{Tree as TreeMade}
 use Rattle.av_flat.specs.Trees.{Tree, Trees, more, trees_of, view}

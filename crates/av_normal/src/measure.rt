@@ -54,20 +54,14 @@ pub(crate) fn rows_fit(rows: &[Form]) -> Result<(), NormalFault>
 {
     let coefficient = most_coefficient(rows);
     if coefficient > MOST_COEFFICIENT {
-        return Err(NormalFault::Limit(
-            Quantity::Coefficient,
-            coefficient as u128,
-        ));
+        return Err(NormalFault::Limit(Quantity::Coefficient, coefficient as u128));
     }
     let constant = most_constant(rows);
     if constant > MOST_CONSTANT {
         return Err(NormalFault::Limit(Quantity::Constant, constant as u128));
     }
     if rows.len() > MOST_ROWS {
-        return Err(NormalFault::Limit(
-            Quantity::Constraints,
-            rows.len() as u128,
-        ));
+        return Err(NormalFault::Limit(Quantity::Constraints, rows.len() as u128));
     }
     Ok(())
 }

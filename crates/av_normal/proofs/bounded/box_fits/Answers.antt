@@ -1,4 +1,4 @@
-use Rattle.std.proofs.Common.{◌≡◌, ◌≤◌, ◌++◌, arith, refl, inl, inr, max}
+use Rattle.std.proofs.Common.{◌≡◌, ◌++◌, arith, refl, inl, inr}
 use Rattle.std.proofs.lemmas.Int.{ints}
 use Rattle.av_affine.specs.Numbers.{greatest}
 use Rattle.av_normal.proofs.Boxes.{greatest_append, most_at}

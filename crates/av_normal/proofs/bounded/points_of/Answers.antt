@@ -1,4 +1,4 @@
-use Rattle.std.proofs.Common.{◌≡◌, ◌<◌, length, rules, arith, get_or, pos, FitsSigned, to_z-of_z}
+use Rattle.std.proofs.Common.{◌≡◌, length, rules, arith, get_or, pos, FitsSigned, to_z-of_z}
 use Rattle.std.specs.Int.{w128}
 use Rattle.av_normal.proofs.Boxes.{box_of}
 use Rattle.av_normal.proofs.bounded.points_of.Goals as goal

@@ -1,8 +1,5 @@
-use Rattle.std.proofs.Common.{◌≡◌, ◌∷◌, ◌<◌, length, drop, arith, sym, subst, get_or, add-one, ◌∙◌, ap, List, [], refl, rules}
-use Rattle.std.proofs.Math.Seq.{drop-cons}
+use Rattle.std.proofs.Common.{◌<◌, length, rules}
 use Rattle.std.proofs.lemmas.Result.{err_from_is_err_and}
-use Rattle.av_affine.specs.declared.map.Map.{Map}
-use Rattle.av_normal.specs.Standing.{IsUnder}
 use Rattle.av_normal.proofs.Chains.{next_of, one_chain, one_more, refused}
 use Rattle.av_normal.proofs.compose.outwards.Goals as goal
 

@@ -1,4 +1,4 @@
-use Rattle.std.proofs.Common.{◌≡◌, ◌∷◌, ◌++◌, take}
+use Rattle.std.proofs.Common.{◌≡◌, ◌∷◌, take}
 use Rattle.av_normal.proofs.compose.within.Given as goal
 
 abbrev pub invariant-loop-outer : goal.invariant-loop-outer

@@ -1,4 +1,4 @@
-use Rattle.std.proofs.Common.{◌≡◌, ◌≤◌, ◌<◌, ◌-◌, ◌+◌, length, arith, rules, min, ◌^◌, subst, sym, ℕ}
+use Rattle.std.proofs.Common.{◌≡◌, ◌<◌, ◌-◌, ◌+◌, length, arith, rules, subst, sym, ℕ}
 use Rattle.av_flat.specs.Trees.{view}
 use Rattle.av_flat.specs.Quantities.{piece_count}
 use Rattle.av_normal.specs.Branches.{IsLeft}

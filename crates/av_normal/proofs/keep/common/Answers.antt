@@ -1,7 +1,7 @@
 use Rattle.std.proofs.Common.{◌≡◌, ◌≤◌, length, rules, get_or, pos, FitsSigned, to_z, of_z, to_z-of_z}
 use Rattle.std.specs.Int.{w128}
 use Rattle.std.specs.Int.RustNames.{unsigned_abs}
-use Rattle.av_normal.proofs.Reaches.{small_four, between_both, IsTight, tight_same}
+use Rattle.av_normal.proofs.Reaches.{small_four, between_both, tight_same}
 use Rattle.av_normal.proofs.keep.common.Goals as goal
 
 pub returns-clause-low : goal.returns-clause-low
@@ -65,17 +65,17 @@ returns-clause-between c =
     let p0 : (to_z w128 (of_z w128 c.lower-first.result)) ≡ c.lower-first.result = simp to_z-of_z in
     let q0 : (to_z w128 (of_z w128 c.upper-first.result)) ≡ c.upper-first.result = simp to_z-of_z in
     let t0 = tight_same (get_or a 0 (pos 0)) (get_or b 0 (pos 0)) (get_or d 0 (pos 0)) (get_or e 0 (pos 0)) c.lower-first.result c.upper-first.result (to_z w128 (of_z w128 c.lower-first.result)) (to_z w128 (of_z w128 c.upper-first.result)) p0 q0
-        (record { below = simp to_z-of_z at c.lower-first.ensures.below; above = simp to_z-of_z at c.upper-first.ensures.above }) in
+    (record { below = simp to_z-of_z at c.lower-first.ensures.below; above = simp to_z-of_z at c.upper-first.ensures.above }) in
     let p1 : (to_z w128 (of_z w128 c.lower-second.result)) ≡ c.lower-second.result = simp to_z-of_z in
     let q1 : (to_z w128 (of_z w128 c.upper-second.result)) ≡ c.upper-second.result = simp to_z-of_z in
     let t1 = tight_same (get_or a 1 (pos 0)) (get_or b 1 (pos 0)) (get_or d 1 (pos 0)) (get_or e 1 (pos 0)) c.lower-second.result c.upper-second.result (to_z w128 (of_z w128 c.lower-second.result)) (to_z w128 (of_z w128 c.upper-second.result)) p1 q1
-        (record { below = simp to_z-of_z at c.lower-second.ensures.below; above = simp to_z-of_z at c.upper-second.ensures.above }) in
+    (record { below = simp to_z-of_z at c.lower-second.ensures.below; above = simp to_z-of_z at c.upper-second.ensures.above }) in
     let p2 : (to_z w128 (of_z w128 c.lower-third.result)) ≡ c.lower-third.result = simp to_z-of_z in
     let q2 : (to_z w128 (of_z w128 c.upper-third.result)) ≡ c.upper-third.result = simp to_z-of_z in
     let t2 = tight_same (get_or a 2 (pos 0)) (get_or b 2 (pos 0)) (get_or d 2 (pos 0)) (get_or e 2 (pos 0)) c.lower-third.result c.upper-third.result (to_z w128 (of_z w128 c.lower-third.result)) (to_z w128 (of_z w128 c.upper-third.result)) p2 q2
-        (record { below = simp to_z-of_z at c.lower-third.ensures.below; above = simp to_z-of_z at c.upper-third.ensures.above }) in
+    (record { below = simp to_z-of_z at c.lower-third.ensures.below; above = simp to_z-of_z at c.upper-third.ensures.above }) in
     let p3 : (to_z w128 (of_z w128 c.lower-fourth.result)) ≡ c.lower-fourth.result = simp to_z-of_z in
     let q3 : (to_z w128 (of_z w128 c.upper-fourth.result)) ≡ c.upper-fourth.result = simp to_z-of_z in
     let t3 = tight_same (get_or a 3 (pos 0)) (get_or b 3 (pos 0)) (get_or d 3 (pos 0)) (get_or e 3 (pos 0)) c.lower-fourth.result c.upper-fourth.result (to_z w128 (of_z w128 c.lower-fourth.result)) (to_z w128 (of_z w128 c.upper-fourth.result)) p3 q3
-        (record { below = simp to_z-of_z at c.lower-fourth.ensures.below; above = simp to_z-of_z at c.upper-fourth.ensures.above }) in
+    (record { below = simp to_z-of_z at c.lower-fourth.ensures.below; above = simp to_z-of_z at c.upper-fourth.ensures.above }) in
     between_both a b d e la lb ld le (to_z w128 (of_z w128 c.lower-first.result)) (to_z w128 (of_z w128 c.lower-second.result)) (to_z w128 (of_z w128 c.lower-third.result)) (to_z w128 (of_z w128 c.lower-fourth.result)) (to_z w128 (of_z w128 c.upper-first.result)) (to_z w128 (of_z w128 c.upper-second.result)) (to_z w128 (of_z w128 c.upper-third.result)) (to_z w128 (of_z w128 c.upper-fourth.result)) t0 t1 t2 t3

@@ -1,5 +1,4 @@
-use Rattle.std.proofs.Common.{◌≡◌, ap, arith, length, ◌∙◌}
-use Rattle.av_affine.specs.Maps.{greatest_coefficient, greatest_constant}
+use Rattle.std.proofs.Common.{ap, ◌∙◌}
 use Rattle.av_affine.proofs.Composing.{within_limits}
 use Rattle.av_poly.specs.Points.{Set}
 use Rattle.av_normal.proofs.Once.{narrow_within}
