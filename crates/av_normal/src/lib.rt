@@ -1,0 +1,16 @@
+//! Pieces: every variable of a flat system brought to its kept pieces, which show what the system shows.
+#![tactic(auto)]
+
+mod bounded;
+mod compose;
+mod count;
+mod distribute;
+mod fault;
+mod fill;
+mod keep;
+mod laws;
+mod measure;
+mod rows;
+
+pub use fault::NormalFault;
+pub use laws::{normal_forms_are_kept, normal_forms_are_proper, normal_forms_show_the_same};
