@@ -1,1 +1,13 @@
 pub mod Values
+pub mod Comments
+pub mod Named
+pub mod Ordered
+pub mod FirstLines
+pub mod Turns
+pub mod Parted
+pub mod Spelled
+pub mod Sorting
+pub mod Lined
+pub mod Told
+pub mod Divided
+pub mod Fits

@@ -2,8 +2,22 @@
 #![tactic(auto)]
 
 mod cycle;
+mod division;
+mod fault;
+mod forms;
+mod inputs;
+mod lines;
+mod places;
+mod reader;
+mod spelling;
+mod stimulus;
+mod timeline;
 
 pub use cycle::write_cycle;
+pub use division::{Division, divide};
+pub use fault::DataFault;
+pub use places::Places;
+pub use stimulus::{Given, Stimulus, read_stimulus};
 
 #[cfg(test)]
 mod tests;
