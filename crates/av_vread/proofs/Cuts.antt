@@ -1,5 +1,5 @@
 -- What stands before and after a byte.
-use Rattle.std.proofs.Common.{◌≡◌, ℕ, suc, ◌+◌, ◌<◌, ◌≤◌, Bool, true, false, cond, not, List, [], ◌∷◌, ◌++◌, length, take, drop, Option, Some, None, refl, sym, ap, subst, ◌∙◌, arith, true≢false}
+use Rattle.std.proofs.Common.{◌≡◌, ℕ, suc, ◌+◌, Bool, true, false, cond, not, List, [], ◌∷◌, ◌++◌, length, take, drop, Option, Some, None, refl, sym, ap, subst, ◌∙◌, arith, true≢false}
 use Rattle.std.specs.Prelude.{nat_eq, nat_lt}
 use Rattle.std.specs.List.{prefix_len, AllByRecursion}
 use Rattle.std.proofs.Math.Numerals.{one-add}
@@ -17,7 +17,7 @@ onto b (Some parts) = Some (b ∷ parts.0, parts.1)
 abbrev cut_by : Bool → ℕ → List ℕ → Option (List ℕ × List ℕ)
 cut_by t n text = cond t (Some (take n text, drop (n + 1) text)) None
 
-less_suc : (n m : ℕ) (t : Bool) → nat_lt n m ≡ t → nat_lt (suc n) (suc m) ≡ t
+pub less_suc : (n m : ℕ) (t : Bool) → nat_lt n m ≡ t → nat_lt (suc n) (suc m) ≡ t
 less_suc n m true e = let lt = ltb-true n m e in grind arith
 less_suc n m false e = let le = ltb-false n m e in grind arith
 

@@ -1,28 +1,25 @@
 -- Entries are read from their lines.
-use Rattle.std.proofs.Common.{◌≡◌, ℕ, ◌+◌, ◌<◌, ◌≤◌, Bool, true, false, cond, not, List, [], ◌∷◌, ◌++◌, length, Option, Some, None, refl, sym, ap, subst, ◌∙◌, arith, true≢false, append_assoc}
-use Rattle.std.specs.Prelude.{◌&&◌, ◌||◌, ℤ, nat_abs, decimal, codes, All, Contains, IsTrue}
+use Rattle.std.proofs.Common.{◌≡◌, ℕ, ◌<◌, ◌≤◌, Bool, true, false, cond, not, List, [], ◌∷◌, ◌++◌, Option, Some, None, refl, sym, ap, subst, ◌∙◌, arith, true≢false, append_assoc}
+use Rattle.std.specs.Prelude.{◌&&◌, ℤ, nat_abs, decimal, codes, IsTrue}
 use Rattle.std.specs.Char.{is_ascii_alphabetic}
 use Rattle.std.specs.List.{list_all, list_any, AllByRecursion}
 use Rattle.std.specs.Str.{bytes_eq, IsAscii}
 use Rattle.std.proofs.lemmas.Str.Ascii.{IsAscii-from_all}
 use Rattle.std.proofs.lemmas.List.Elements.{All-from_recursion, recursion_from_All, All-weaker}
 use Rattle.av_base.specs.declared.token_kind.TokenKind.TheVariants as kind
-use Rattle.av_base.specs.Tokens.{reserved_words, is_word_byte, IsWord, IsSpelled}
+use Rattle.av_base.specs.Tokens.{reserved_words, is_word_byte, IsSpelled}
 use Rattle.av_net.specs.declared.design.Entry.{Entry}
 use Rattle.av_net.specs.Texts.{point_text}
 use Rattle.av_net.specs.Listed.{MayBeListed}
-use Rattle.av_net.specs.Rows.{Among, is_in}
+use Rattle.av_net.specs.Rows.{is_in}
 use Rattle.av_vread.specs.Lines.{is_not, cut}
-use Rattle.av_vread.specs.Entries.{point_of, numeral_of, is_variable, is_wire, Parts, first_part, second_part, third_part, parts_of, entry_by, entry_of, entry_in, entry_at}
-use Rattle.av_vread.proofs.Tables.{both, is_found, is_there}
+use Rattle.av_vread.specs.Entries.{point_of, numeral_of, is_variable, is_wire, Parts, first_part, second_part, third_part, entry_by, entry_of, entry_in, entry_at}
+use Rattle.av_vread.proofs.Tables.{both, and_true, is_found, is_there}
 use Rattle.av_vread.proofs.Cuts.{Without, cut_gives, cut_is}
-use Rattle.av_vread.proofs.Numerals.{IsNumeral, numeral_is, numeral_gives}
-use Rattle.av_vread.proofs.Indices.{AreSmall, IsPoint, point_gives, point_is, point_without}
+use Rattle.av_vread.proofs.Numerals.{numeral_is, numeral_gives}
+use Rattle.av_vread.proofs.Indices.{AreSmall, point_gives, point_is, point_without}
 
 -- ---- words
-
-and_true : (a b : Bool) → a ≡ true → b ≡ true → (a && b) ≡ true
-and_true a b e f = rw (e, f) refl
 
 all_word : (text : List ℕ) → list_all is_word_byte text ≡ true → AllByRecursion (λ x. IsTrue (is_word_byte x)) text
 all_word [] e = tt

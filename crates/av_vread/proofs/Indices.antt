@@ -1,6 +1,6 @@
 -- Points are read from their indices.
-use Rattle.std.proofs.Common.{◌≡◌, ◌≢◌, ℕ, zero, suc, ◌+◌, ◌-◌, ◌<◌, ◌≤◌, Bool, true, false, cond, not, List, [], ◌∷◌, ◌++◌, length, Option, Some, None, refl, sym, ap, subst, ◌∙◌, arith, true≢false, append_assoc, w64, FitsSigned, to_z, of_z, ◌^◌}
-use Rattle.std.specs.Prelude.{◌&&◌, ◌||◌, nat_eq, ℤ, pos, negsuc, nat_abs, decimal, codes, option_map}
+use Rattle.std.proofs.Common.{◌≡◌, ◌≢◌, ℕ, zero, suc, ◌-◌, ◌<◌, ◌≤◌, Bool, true, false, cond, List, [], ◌∷◌, ◌++◌, length, Option, Some, None, refl, sym, ap, subst, ◌∙◌, arith, append_assoc, w64, FitsSigned, to_z, of_z}
+use Rattle.std.specs.Prelude.{nat_eq, ℤ, pos, negsuc, nat_abs, decimal, codes, option_map}
 use Rattle.std.specs.Fmt.{signed_decimal}
 use Rattle.std.specs.Char.{is_ascii_digit}
 use Rattle.std.specs.List.{AllByRecursion, flat_map}
@@ -12,7 +12,7 @@ use Rattle.av_net.specs.Texts.{entries_text, point_text}
 use Rattle.av_vread.specs.Lines.{is_not, cut}
 use Rattle.av_vread.specs.Entries.{index_of, with_index, indices_by, indices_of, inside_of, closed_by, point_of}
 use Rattle.av_vread.proofs.Tables.{both}
-use Rattle.av_vread.proofs.Cuts.{Without, cut_gives, cut_none, IsCut, cut_is}
+use Rattle.av_vread.proofs.Cuts.{Without, cut_gives, cut_none, cut_is}
 use Rattle.av_vread.proofs.Numerals.{decimal_digits, IsIndex, index_is, index_gives}
 
 -- indices that may be listed

@@ -1,3 +1,4 @@
+pub mod Each
 pub mod Ascii
 pub mod Faulted
 pub mod Longest

@@ -1,16 +1,16 @@
 -- Going over the lines of a text.
 use Rattle.std.proofs.Common.{◌≡◌, ℕ, zero, suc, ◌+◌, ◌-◌, ◌<◌, ◌≤◌, Bool, true, false, cond, not, List, [], ◌∷◌, length, take, drop, get_or, Ok, Err, refl, sym, ap, subst, ◌∙◌, arith, true≢false, inl, inr, ◌⊎◌}
 use Rattle.std.specs.Prelude.{if◌then◌else◌, ◌&&◌, nat_eq, nat_lt, nat_le}
-use Rattle.std.specs.List.{prefix_len}
 use Rattle.std.proofs.Math.Numerals.{one-add}
-use Rattle.std.proofs.lemmas.Bool.{ltb-true, ltb-false, leb-true, leb-false, eqb-true}
-use Rattle.std.proofs.lemmas.List.{length-drop, drop-drop, nil_from_length}
+use Rattle.std.proofs.lemmas.Bool.{ltb-true, leb-true, leb-false, eqb-true}
+use Rattle.std.proofs.lemmas.List.{length-drop, drop-drop}
 use Rattle.av_net.specs.declared.design.Listing.{Listing}
 use Rattle.av_net.specs.Listed.{Line, longer, begins_feed, lines_of, numbered}
 use Rattle.av_net.specs.Rows.{Among}
 use Rattle.av_vread.specs.declared.fault.VFault.{VFault}
 use Rattle.av_vread.specs.declared.fault.VFault.TheVariants.{VByte, VSyntax, VListing, VTwice, VName, VUnassigned, VOrder, VWidth, Memory}
-use Rattle.av_vread.specs.Lines.{ends_with_return, trimmed, line_len, line_by, first_line_of}
+use Rattle.av_vread.specs.Lines.{trimmed, line_len, first_line_of}
+use Rattle.av_vread.proofs.Cuts.{less_suc}
 use Rattle.av_vread.proofs.Tables.{both}
 use Rattle.av_vread.specs.Listings.{Listed, with_line, and_then, with_lines, no_lines, listing_at, IsListingFault}
 
@@ -19,10 +19,6 @@ abbrev pub lines_from : ℕ → List ℕ → List (List ℕ)
 lines_from at bytes = if nat_le at (length bytes) then lines_of (drop at bytes) else []
 
 -- ---- a first byte more
-
-less_suc : (n m : ℕ) (t : Bool) → nat_lt n m ≡ t → nat_lt (suc n) (suc m) ≡ t
-less_suc n m true e = let lt = ltb-true n m e in grind arith
-less_suc n m false e = let le = ltb-false n m e in grind arith
 
 within_suc : (n m : ℕ) (t : Bool) → nat_le (n + 1) m ≡ t → nat_le (suc n + 1) (suc m) ≡ t
 within_suc n m true e = let le = leb-true (n + 1) m e in grind arith

@@ -1,9 +1,8 @@
 -- The listing is read from its lines, up to the first that is none of one.
-use Rattle.std.proofs.Common.{◌≡◌, ℕ, suc, ◌+◌, ◌<◌, ◌≤◌, Bool, true, false, cond, List, [], ◌∷◌, ◌++◌, length, map, take, drop, Option, Some, None, Ok, Err, refl, sym, ap, subst, ◌∙◌, arith, true≢false, append_assoc, length-append}
-use Rattle.std.specs.Prelude.{◌&&◌, ◌||◌, nat_eq, nat_le, codes, All, Contains}
+use Rattle.std.proofs.Common.{◌≡◌, ℕ, Bool, true, false, cond, List, [], ◌∷◌, ◌++◌, length, map, take, drop, Option, Some, None, Ok, Err, refl, sym, ap, subst, ◌∙◌, arith, true≢false, append_assoc}
+use Rattle.std.specs.Prelude.{◌||◌, nat_eq, nat_le, codes, All}
 use Rattle.std.specs.List.{list_all, AllByRecursion, filter}
 use Rattle.std.specs.Str.{bytes_eq}
-use Rattle.std.proofs.Math.Seq.{take-append_seam}
 use Rattle.std.proofs.lemmas.Bool.{eqb-true}
 use Rattle.std.proofs.lemmas.List.{append-nil, map-append, length-take, nil_from_length, take-append-drop}
 use Rattle.std.proofs.lemmas.List.Elements.{recursion_from_All, All-from_recursion, All-nil, All-push, All-contains, Contains-append_right, filter_passes}
@@ -15,17 +14,13 @@ use Rattle.av_net.specs.Listed.{Line, is_listed, line_text, MayBeListed, IsListi
 use Rattle.av_net.specs.Rows.{is_in}
 use Rattle.av_vread.specs.Entries.{entry_at}
 use Rattle.av_vread.specs.Listings.{Listed, begins_with, with_in, with_at, with_in_line, with_at_line, with_line, and_then, with_lines, no_lines}
-use Rattle.av_vread.proofs.Tables.{both}
-use Rattle.av_vread.proofs.EntryLines.{body, MayBeRead, entry_gives, entry_is}
+use Rattle.av_vread.proofs.Tables.{both, and_false}
+use Rattle.av_vread.proofs.EntryLines.{body, entry_gives, entry_is}
 
 abbrev pub texts_of : List Line → List (List ℕ)
 texts_of lines = map (λ line. line.text) lines
 
 -- ---- first words
-
-and_false : (a b : Bool) → b ≡ false → (a && b) ≡ false
-and_false true b e = e
-and_false false b e = refl
 
 -- a text begins with a word where its first six bytes are that word
 word_begins : (word text : List ℕ) → length word ≡ 6 → take 6 text ≡ word → begins_with word text ≡ true

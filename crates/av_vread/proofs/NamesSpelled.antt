@@ -1,16 +1,15 @@
 -- The names that a text says are spelled as names.
-use Rattle.std.proofs.Common.{◌≡◌, ℕ, true, List, [], ◌∷◌, ◌++◌, map, refl, sym, subst, arith}
+use Rattle.std.proofs.Common.{◌≡◌, ℕ, true, List, [], ◌∷◌, ◌++◌, map, subst, arith}
 use Rattle.std.specs.Prelude.{All}
 use Rattle.std.specs.List.{list_all, AllByRecursion}
 use Rattle.std.proofs.lemmas.List.Elements.{recursion_from_All, All-from_recursion, All-append, All-weaker}
 use Rattle.av_base.specs.declared.place.Place.{Place}
 use Rattle.av_base.specs.declared.width.Width.{Width}
 use Rattle.av_base.specs.Tokens.{is_word_byte}
-use Rattle.av_net.specs.declared.token_kind.TokenKind.{TokenKind}
 use Rattle.av_net.specs.declared.token_kind.TokenKind.TheVariants as kind
 use Rattle.av_net.specs.declared.netlist.Port.{Port}
 use Rattle.av_net.specs.Names.{names_of, wire_names, all_names}
-use Rattle.av_net.specs.Lexemes.{Token, begins_name, IsIdentifier, IsName, IsSpelled, AreTokens, end, blank, comment, token}
+use Rattle.av_net.specs.Lexemes.{Token, begins_name, IsName, IsSpelled, AreTokens, end, blank, comment, token}
 use Rattle.av_net.specs.Grammar.{Text, Declaration, wire, register, AreWords, no_word, next_word, IsNameAt, name, IsNumberAt, number, IsRange, no_range, range, IsPort, IsDeclaration, wire_declaration, register_declaration, AreMany, no_more, one_more, IsText}
 use Rattle.av_net.specs.Rows.{wires_of, registers_in, module_of, declared_port}
 use Rattle.av_vread.proofs.EntryLines.{word_all}

@@ -1,20 +1,20 @@
 -- Which texts are the next token, by what follows them.
-use Rattle.std.proofs.Common.{◌≡◌, ℕ, zero, suc, ◌+◌, ◌<◌, ◌≤◌, ◌^◌, Bool, true, false, cond, not, List, [], ◌∷◌, ◌++◌, length, take, drop, refl, sym, ap, subst, ◌∙◌, arith, true≢false, append_assoc}
-use Rattle.std.specs.Prelude.{◌&&◌, ◌||◌, nat_eq, nat_le, codes, Contains, IsTrue}
+use Rattle.std.proofs.Common.{◌≡◌, ℕ, suc, ◌+◌, Bool, true, false, cond, not, List, [], ◌∷◌, ◌++◌, length, take, drop, refl, sym, ap, ◌∙◌, arith, true≢false, append_assoc}
+use Rattle.std.specs.Prelude.{◌&&◌, nat_eq, nat_le, codes, Contains}
 use Rattle.std.specs.List.{prefix_len, list_any, AllByRecursion}
 use Rattle.std.specs.Char.{is_ascii_digit}
 use Rattle.std.proofs.Math.Numerals.{one-add}
 use Rattle.std.proofs.Math.Seq.{take-append_seam, drop-append_seam}
 use Rattle.std.proofs.lemmas.List.Elements.{recursion_from_All}
-use Rattle.av_base.specs.Tokens.{is_word_byte, is_blank, IsDigits}
+use Rattle.av_base.specs.Tokens.{is_word_byte, IsDigits}
 use Rattle.av_net.specs.declared.token_kind.TokenKind.{TokenKind}
 use Rattle.av_net.specs.declared.token_kind.TokenKind.TheVariants as kind
 use Rattle.av_net.specs.Lexemes.{reserved_words, begins_name, IsIdentifier, IsName}
 use Rattle.av_vread.specs.declared.scan.Piece.{Piece}
 use Rattle.av_vread.specs.declared.scan.Piece.TheVariants as piece
-use Rattle.av_vread.specs.Scan.{is_single, is_pair, begins_pair, is_signed, tail_len, number_by, number_of, word_kind, symbol_of, token_of}
-use Rattle.av_vread.proofs.Tables.{both, is_other, reserved_word}
-use Rattle.av_vread.proofs.Longest.{name_kind, reserved_kind, other_symbol, run_stops, digits_all, digits_some, at_digit, tail_of, literal_number, sized_length}
+use Rattle.av_vread.specs.Scan.{is_single, is_pair, begins_pair, tail_len, number_of, word_kind, symbol_of, token_of}
+use Rattle.av_vread.proofs.Tables.{both, and_false, not_true, is_other, reserved_word}
+use Rattle.av_vread.proofs.Longest.{name_kind, reserved_kind, other_symbol, digits_all, at_digit, literal_number, sized_length}
 use Rattle.av_vread.proofs.Spaced.{IsNext}
 
 -- the first byte belongs to no word, no literal and no operator that began before it
@@ -76,10 +76,6 @@ reserved_next text rest h c = word_next kind.Reserved text rest (reserved_word t
 abbrev pub is_plain : ℕ → Bool
 is_plain b = is_other b && (is_single b && (not (list_any (nat_eq b) (codes "<>=!")) && not (nat_eq b 47)))
 
-not_true : (t : Bool) → not t ≡ true → t ≡ false
-not_true true e = absurd (true≢false (sym e))
-not_true false e = refl
-
 symbol_next : (b : ℕ) (rest : List ℕ) → is_other b ≡ true → is_single b ≡ true → nat_eq b 47 ≡ false → begins_pair (b ∷ rest) ≡ false → IsNext kind.Symbol (b ∷ []) rest
 unfolding symbol_of
 symbol_next b rest o s h e = record { first = b; later = []; is = refl; no_slash = h; found = other_symbol b rest o ∙ rw (e, s) refl }
@@ -102,10 +98,6 @@ single_next b rest p c =
     let s = both (is_single b) (not (nat_eq b 47)) o.1 in
     symbol_next b rest o.0 s.0 (not_true (nat_eq b 47) s.1) (alone rest c)
   where
-    and_false : (t u : Bool) → u ≡ false → (t && u) ≡ false
-    and_false true u e = e
-    and_false false u e = refl
-
     alone : (rest : List ℕ) → is_clear rest ≡ true → begins_pair (b ∷ rest) ≡ false
     alone [] e = refl
     alone (c ∷ rest) e =

@@ -1,11 +1,8 @@
 -- No row of faults holds of the text of a sound module.
-use Rattle.std.proofs.Common.{◌≡◌, ℕ, zero, suc, ◌+◌, ◌<◌, Bool, true, false, cond, not, List, [], ◌∷◌, ◌++◌, length, map, Option, Some, None, refl, sym, ap, subst, ◌∙◌, arith, inl, inr, ◌⊎◌, append_assoc, true≢false, eq-eqb}
-use Rattle.std.specs.Prelude.{◌&&◌, ◌||◌, nat_eq, All, Contains, find, option_map}
+use Rattle.std.proofs.Common.{◌≡◌, ℕ, zero, suc, Bool, true, false, not, List, [], ◌∷◌, ◌++◌, map, Option, None, refl, sym, ap, subst, ◌∙◌, arith, inl, inr, append_assoc, eq-eqb}
+use Rattle.std.specs.Prelude.{◌&&◌, nat_eq, Contains, find, option_map}
 use Rattle.std.specs.List.{list_any, AllByRecursion}
-use Rattle.std.specs.Str.{bytes_eq}
-use Rattle.std.proofs.lemmas.List.{map-append}
-use Rattle.std.proofs.lemmas.List.Elements.{recursion_from_All, All-contains, Contains-append_left, Contains-append_right, Contains-append_cases, Contains-push, Contains-push_cases}
-use Rattle.av_base.specs.declared.width.Width.{Width}
+use Rattle.std.proofs.lemmas.List.Elements.{recursion_from_All, Contains-append_left, Contains-append_right, Contains-append_cases, Contains-push, Contains-push_cases}
 use Rattle.av_net.specs.declared.operation.Operand.{Operand}
 use Rattle.av_net.specs.declared.operation.Operand.TheVariants as operand
 use Rattle.av_net.specs.declared.operation.Operation.{Operation}
@@ -15,14 +12,15 @@ use Rattle.av_net.specs.declared.netlist.Drive.{Drive}
 use Rattle.av_net.specs.declared.netlist.Step.{Step}
 use Rattle.av_net.specs.declared.netlist.Module.{Module}
 use Rattle.av_net.specs.Meaning.{Widths, operand_width, EachOperand}
-use Rattle.av_net.specs.Names.{clk, rst, names_of, given_names, wire_names, all_names, targets_of, registers_of, AreDistinct, IsAmong, width_in, declarations, width_of}
+use Rattle.av_net.specs.Names.{clk, rst, names_of, given_names, wire_names, all_names, targets_of, registers_of, AreDistinct, IsAmong, width_in, width_of}
 use Rattle.av_net.specs.Sound.{IsInOrder, symbol_width, SuitsWidth, IsSound}
-use Rattle.av_net.specs.Grammar.{Text, Declaration, wire, register, Item, drive, step}
-use Rattle.av_net.specs.Rows.{wires_of, registers_in, drives_of, steps_of, module_of, declared_port, declared_names, target_of, operands_of, is_in, first_from, first_some, first_repeated, Among, wrong_operand, wrong_in, is_early, reads_early, first_early, suits_width, suits}
+use Rattle.av_net.specs.Grammar.{wire, register, Item, drive}
+use Rattle.av_net.specs.Rows.{wires_of, registers_in, drives_of, steps_of, module_of, declared_names, target_of, operands_of, is_in, first_some, first_repeated, Among, wrong_operand, wrong_in, is_early, first_early, suits_width, suits}
 use Rattle.av_net.specs.Designs.{HasNoRow}
 use Rattle.av_net.proofs.Distinct.{apart, front_distinct, rest_distinct, append_distinct}
 use Rattle.av_net.proofs.Declared.{width_here, register_declared, declared_width}
-use Rattle.av_vread.proofs.Tables.{is_found, is_there}
+use Rattle.av_vread.proofs.Each.{all_append, all_front, all_back, all_map, all_weaker, both_all}
+use Rattle.av_vread.proofs.Tables.{and_true, is_found, is_there}
 use Rattle.av_vread.proofs.WrittenGrammar.{reset_width, reset_bits, step_item, said}
 
 -- ---- the module that is said
@@ -134,14 +132,6 @@ module _ {X Y : Type 0} (f : X → Option Y) where
   nothing [] h = refl
   nothing (x ∷ xs) h = rw (h.0, nothing xs h.1) refl
 
-all_append : {X : Type 0} (P : X → Type 0) (xs ys : List X) → AllByRecursion P xs → AllByRecursion P ys → AllByRecursion P (xs ++ ys)
-all_append P [] ys h k = k
-all_append P (x ∷ xs) ys h k = (h.0, all_append P xs ys h.1 k)
-
-all_map : {X Y : Type 0} (P : Y → Type 0) (f : X → Y) (xs : List X) → AllByRecursion (λ x. P (f x)) xs → AllByRecursion P (map f xs)
-all_map P f [] h = tt
-all_map P f (x ∷ xs) h = (h.0, all_map P f xs h.1)
-
 -- what holds of the drives and of the steps holds of the items
 items_all : (P : Item → Type 0) (m : Module) → AllByRecursion (λ d. P (drive d)) m.drives → AllByRecursion (λ s. P (step_item m.registers s)) m.steps → AllByRecursion P (said m).items
 items_all P m h k = all_append P (map drive m.drives) (map (step_item m.registers) m.steps) (all_map P drive m.drives h) (all_map P (step_item m.registers) m.steps k)
@@ -158,11 +148,6 @@ right_operation names (operation.Choose c x y) h = nothing (wrong_operand (is_in
 
 abbrev wrong_of : Module → Item → Option (List ℕ)
 wrong_of m item = wrong_in (is_in (wire_names m)) (is_in (names_of m.registers)) (is_in (all_names m)) item
-
--- each item of two lists that go together
-pub both_all : {X : Type 0} (P Q R : X → Type 0) → ((x : X) → P x → Q x → R x) → (xs : List X) → AllByRecursion P xs → AllByRecursion Q xs → AllByRecursion R xs
-both_all P Q R f [] h k = tt
-both_all P Q R f (x ∷ xs) h k = (f x h.0 k.0, both_all P Q R f xs h.1 k.1)
 
 pub targets_all : (P : List ℕ → Type 0) (ds : List Drive) → AllByRecursion P (targets_of ds) → AllByRecursion (λ d. P d.target) ds
 targets_all P [] h = tt
@@ -190,18 +175,6 @@ found_none : {X : Type 0} (p : X → Bool) (xs : List X) → AllByRecursion (λ 
 found_none p [] h = refl
 found_none p (x ∷ xs) h = rw h.0 (found_none p xs h.1)
 
-weaker : {X : Type 0} (P Q : X → Type 0) → ((x : X) → P x → Q x) → (xs : List X) → AllByRecursion P xs → AllByRecursion Q xs
-weaker P Q f [] h = tt
-weaker P Q f (x ∷ xs) h = (f x h.0, weaker P Q f xs h.1)
-
-all_front : {X : Type 0} (P : X → Type 0) (xs ys : List X) → AllByRecursion P (xs ++ ys) → AllByRecursion P xs
-all_front P [] ys h = tt
-all_front P (x ∷ xs) ys h = (h.0, all_front P xs ys h.1)
-
-all_back : {X : Type 0} (P : X → Type 0) (xs ys : List X) → AllByRecursion P (xs ++ ys) → AllByRecursion P ys
-all_back P [] ys h = h
-all_back P (x ∷ xs) ys h = all_back P xs ys h.1
-
 module _ (m : Module) (s : IsSound m) where
   targets : List (List ℕ)
   targets = targets_of m.drives ++ registers_of m.steps
@@ -209,19 +182,19 @@ module _ (m : Module) (s : IsSound m) where
   by_drives : AllByRecursion (Contains targets) (wire_names m)
   unfolding targets
   by_drives =
-      weaker (Contains (targets_of m.drives)) (Contains targets) (λ n h. Contains-append_left (targets_of m.drives) (registers_of m.steps) n h) (wire_names m)
+      all_weaker (Contains (targets_of m.drives)) (Contains targets) (λ n h. Contains-append_left (targets_of m.drives) (registers_of m.steps) n h) (wire_names m)
       (recursion_from_All (Contains (targets_of m.drives)) (wire_names m) s.wires_driven)
 
   by_steps : AllByRecursion (Contains targets) (names_of m.registers)
   unfolding targets
   by_steps =
-      weaker (Contains (registers_of m.steps)) (Contains targets) (λ n h. Contains-append_right (targets_of m.drives) (registers_of m.steps) n h) (names_of m.registers)
+      all_weaker (Contains (registers_of m.steps)) (Contains targets) (λ n h. Contains-append_right (targets_of m.drives) (registers_of m.steps) n h) (names_of m.registers)
       (recursion_from_All (Contains (registers_of m.steps)) (names_of m.registers) s.registers_stepped)
 
   all_driven : find (λ name. not (is_in targets name)) (names_of m.outputs ++ (names_of m.wires ++ names_of m.registers)) ≡ None
   all_driven =
       found_none (λ name. not (is_in targets name)) (names_of m.outputs ++ (names_of m.wires ++ names_of m.registers))
-      (weaker (Contains targets) (λ name. not (is_in targets name) ≡ false) (λ n h. ap not (is_found n targets h)) (names_of m.outputs ++ (names_of m.wires ++ names_of m.registers))
+      (all_weaker (Contains targets) (λ name. not (is_in targets name) ≡ false) (λ n h. ap not (is_found n targets h)) (names_of m.outputs ++ (names_of m.wires ++ names_of m.registers))
       (all_append (Contains targets) (names_of m.outputs) (names_of m.wires ++ names_of m.registers) (all_front (Contains targets) (names_of m.outputs) (names_of m.wires) by_drives)
       (all_append (Contains targets) (names_of m.wires) (names_of m.registers) (all_back (Contains targets) (names_of m.outputs) (names_of m.wires) by_drives) by_steps)))
 
@@ -266,9 +239,6 @@ in_order wires registers known earlier (d ∷ ds) ss h k =
 equal : (a b : ℕ) → a ≡ b → nat_eq a b ≡ true
 equal a b e = eq-eqb a b e
 
-and_true : (a b : Bool) → a ≡ true → b ≡ true → (a && b) ≡ true
-and_true a b e f = rw (e, f) refl
-
 suits_all : (widths : Widths) (w : ℕ) (o : Operation) → SuitsWidth widths w o → suits_width widths w o ≡ true
 suits_all widths w (operation.Plain x) h = equal (operand_width widths x) w h
 suits_all widths w (operation.Binary x s y) h =
@@ -303,7 +273,7 @@ register_width m s name h =
 suited : (m : Module) → IsSound m → find (λ item. not (suits (width_of m) item)) (said m).items ≡ None
 suited m s =
     found_none (λ item. not (suits (width_of m) item)) (said m).items (items_all (λ item. not (suits (width_of m) item) ≡ false) m
-    (weaker (λ d. SuitsWidth (width_of m) (width_of m d.target) d.operation) (λ d. not (suits (width_of m) (drive d)) ≡ false) (λ d h. ap not (suits_all (width_of m) (width_of m d.target) d.operation h)) m.drives
+    (all_weaker (λ d. SuitsWidth (width_of m) (width_of m d.target) d.operation) (λ d. not (suits (width_of m) (drive d)) ≡ false) (λ d h. ap not (suits_all (width_of m) (width_of m d.target) d.operation h)) m.drives
     (recursion_from_All (λ d. SuitsWidth (width_of m) (width_of m d.target) d.operation) m.drives s.drive_widths))
     (both_all (λ t. Contains (names_of m.registers) t.register) (λ t. operand_width (width_of m) t.next ≡ width_of m t.register) (λ t. not (suits (width_of m) (step_item m.registers t)) ≡ false)
     (λ t r h. ap not (and_true (nat_eq (reset_width m.registers t.register).bits (width_of m t.register)) _

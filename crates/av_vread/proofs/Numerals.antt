@@ -1,6 +1,6 @@
 -- Numbers are read from their decimal digits.
-use Rattle.std.proofs.Common.{◌≡◌, ℕ, zero, suc, ◌+◌, ◌^◌, ◌<◌, ◌≤◌, Bool, true, false, cond, not, List, [], ◌∷◌, ◌++◌, length, get_or, Option, Some, None, refl, sym, ap, subst, ◌∙◌, arith, rules, true≢false}
-use Rattle.std.specs.Prelude.{◌&&◌, ◌||◌, nat_eq, nat_lt, nat_le, ℤ, pos, negsuc, neg_ℤ, nat_abs, decimal, IsTrue}
+use Rattle.std.proofs.Common.{◌≡◌, ℕ, zero, suc, ◌+◌, ◌^◌, ◌<◌, ◌≤◌, Bool, true, false, cond, not, List, [], ◌∷◌, length, get_or, Option, Some, None, refl, sym, ap, subst, ◌∙◌, arith, rules, true≢false}
+use Rattle.std.specs.Prelude.{◌&&◌, ◌||◌, nat_eq, nat_lt, nat_le, ℤ, pos, negsuc, nat_abs, decimal, IsTrue}
 use Rattle.std.specs.Fmt.{signed_decimal}
 use Rattle.std.specs.Char.{is_ascii_digit}
 use Rattle.std.specs.List.{prefix_len, AllByRecursion}
@@ -14,7 +14,7 @@ use Rattle.av_base.specs.Tokens.{number_of, number_from, IsDigits}
 use Rattle.av_vread.specs.Reading.{are_digits}
 use Rattle.av_vread.specs.Entries.{is_numeral, numeral_of, below_zero, not_below, index_of}
 use Rattle.av_vread.specs.Lines.{is_not}
-use Rattle.av_vread.proofs.Tables.{both}
+use Rattle.av_vread.proofs.Tables.{both, and_true}
 use Rattle.av_vread.proofs.Cuts.{Without}
 
 own : IsNumeralModel (λ ds. all_ascii_digits ds ≡ true) number_of
@@ -72,11 +72,6 @@ numeral_is text n e = go (is_numeral text) refl e
     go : (t : Bool) → is_numeral text ≡ t → cond t (Some (number_of text)) None ≡ Some n → IsNumeral text n
     go true h e = subst (IsNumeral text) (number_some (number_of text) n e) (is h)
     go false h e = absurd cc
-
-and_true : (a b : Bool) → a ≡ true → b ≡ true → (a && b) ≡ true
-and_true true true e f = refl
-and_true true false e f = absurd (true≢false (sym f))
-and_true false b e f = absurd (true≢false (sym e))
 
 pub decimal_digits : (n : ℕ) → n ≤ 4095 → all_ascii_digits (decimal n) ≡ true
 decimal_digits n most = digits_decimal own n (omega arith)

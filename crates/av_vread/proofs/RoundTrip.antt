@@ -1,8 +1,8 @@
 -- The text of a sound design spells that design.
-use Rattle.std.proofs.Common.{◌≡◌, ℕ, ◌+◌, ◌-◌, ◌<◌, ◌≤◌, ◌^◌, List, [], ◌∷◌, ◌++◌, length, take, refl, sym, ap, subst, ◌∙◌, arith, append_assoc, true}
+use Rattle.std.proofs.Common.{◌≡◌, ℕ, ◌-◌, List, [], ◌∷◌, ◌++◌, length, take, refl, sym, ap, subst, ◌∙◌, arith, append_assoc, true}
 use Rattle.std.specs.Prelude.{codes, All, Contains}
 use Rattle.std.specs.List.{AllByRecursion, list_all, filter}
-use Rattle.std.proofs.lemmas.List.Elements.{All-from_recursion, recursion_from_All, All-contains, Contains-append_left, Contains-append_right}
+use Rattle.std.proofs.lemmas.List.Elements.{All-from_recursion, recursion_from_All, All-contains}
 use Rattle.av_base.specs.declared.place.Place.{Place}
 use Rattle.av_base.specs.Words.{IsWord}
 use Rattle.av_base.specs.Tokens.{start, is_word_byte}
@@ -15,12 +15,13 @@ use Rattle.av_net.specs.declared.netlist.Module.{Module}
 use Rattle.av_net.specs.declared.design.Entry.{Entry}
 use Rattle.av_net.specs.declared.design.Design.{Design}
 use Rattle.av_net.specs.Meaning.{EachOperand}
-use Rattle.av_net.specs.Names.{names_of, given_names, wire_names, all_names, targets_of, registers_of, IsAmong, width_in, width_of}
+use Rattle.av_net.specs.Names.{names_of, given_names, wire_names, all_names, targets_of, registers_of, IsAmong, width_of}
 use Rattle.av_net.specs.Sound.{IsSound, IsFitting, ComparesByOrder}
 use Rattle.av_net.specs.Lexemes.{IsName, AreTokens}
 use Rattle.av_net.specs.Listed.{lines_of, numbered, is_listed, listing_lines, MayBeListed, IsListing}
 use Rattle.av_net.specs.Texts.{version_line, listing_text, module_text, text}
 use Rattle.av_net.specs.Designs.{Says, Spells, IsSoundDesign}
+use Rattle.av_vread.proofs.Each.{all_front, all_back, both_all}
 use Rattle.av_vread.proofs.EntryLines.{MayBeRead}
 use Rattle.av_vread.proofs.NamesSpelled.{are_words}
 use Rattle.av_vread.proofs.Faulted.{one_design}
@@ -30,7 +31,7 @@ use Rattle.av_vread.proofs.WrittenSpaced.{IsWritten, HaveNames, IsDriveWritten, 
 use Rattle.av_vread.proofs.WrittenBytes.{module_bytes}
 use Rattle.av_vread.proofs.WrittenGrammar.{word_small, reset_width, reset_bits, IsDriveRight, IsStepRight, IsModuleRight, said, module_is}
 use Rattle.av_vread.proofs.WrittenListing.{joined, entry_lines, listing_joined, IsCommentLine, version_comment, entry_comments, after_lines, comments_before, lines_after, lines_found, listing_found}
-use Rattle.av_vread.proofs.NoRows.{module_said, register_width, both_all, targets_all, registers_all, no_rows}
+use Rattle.av_vread.proofs.NoRows.{module_said, register_width, targets_all, registers_all, no_rows}
 
 -- ---- a sound module is written as the grammar spells it
 
@@ -48,26 +49,18 @@ have_names : (ports : List Port) → AllByRecursion IsName (names_of ports) → 
 have_names [] h = tt
 have_names (port ∷ ports) h = (h.0, have_names ports h.1)
 
-front : {X : Type 0} (P : X → Type 0) (xs ys : List X) → AllByRecursion P (xs ++ ys) → AllByRecursion P xs
-front P [] ys h = tt
-front P (x ∷ xs) ys h = (h.0, front P xs ys h.1)
-
-back : {X : Type 0} (P : X → Type 0) (xs ys : List X) → AllByRecursion P (xs ++ ys) → AllByRecursion P ys
-back P [] ys h = h
-back P (x ∷ xs) ys h = back P xs ys h.1
-
 module _ (m : Module) (s : IsSound m) (own : IsName m.name) (n : All IsName (all_names m)) where
   all : AllByRecursion IsName (all_names m)
   all = recursion_from_All IsName (all_names m) n
 
   given : AllByRecursion IsName (given_names m)
-  given = front IsName (given_names m) (wire_names m) all
+  given = all_front IsName (given_names m) (wire_names m) all
 
   driven : AllByRecursion IsName (wire_names m)
-  driven = back IsName (given_names m) (wire_names m) all
+  driven = all_back IsName (given_names m) (wire_names m) all
 
   registers_named : AllByRecursion IsName (names_of m.registers)
-  registers_named = back IsName (names_of m.inputs) (names_of m.registers) given
+  registers_named = all_back IsName (names_of m.inputs) (names_of m.registers) given
 
   stepped : AllByRecursion (λ t. Contains (names_of m.registers) t.register) m.steps
   stepped = registers_all (Contains (names_of m.registers)) m.steps (recursion_from_All (Contains (names_of m.registers)) (registers_of m.steps) s.steps_registers)
@@ -75,9 +68,9 @@ module _ (m : Module) (s : IsSound m) (own : IsName m.name) (n : All IsName (all
   is_written : IsModuleWritten m
   is_written = record {
     own = own;
-    inputs = have_names m.inputs (front IsName (names_of m.inputs) (names_of m.registers) given);
-    outputs = have_names m.outputs (front IsName (names_of m.outputs) (names_of m.wires) driven);
-    wires = have_names m.wires (back IsName (names_of m.outputs) (names_of m.wires) driven);
+    inputs = have_names m.inputs (all_front IsName (names_of m.inputs) (names_of m.registers) given);
+    outputs = have_names m.outputs (all_front IsName (names_of m.outputs) (names_of m.wires) driven);
+    wires = have_names m.wires (all_back IsName (names_of m.outputs) (names_of m.wires) driven);
     registers = have_names m.registers registers_named;
     drives =
         both_all (λ d. Contains (wire_names m) d.target) (λ d. EachOperand IsWritten d.operation) IsDriveWritten
@@ -129,11 +122,11 @@ module _ (d : Design) (sound : IsSoundDesign d) where
       ∙ ap (λ z. version_line ++ z) (listing_joined d.listing (module_text d.«module») ∙ ap (joined (entry_lines d.listing)) (sym (module_bytes d.«module»)))
 
   inputs_named : All IsName (names_of d.«module».inputs)
-  inputs_named = All-from_recursion IsName (names_of d.«module».inputs) (front IsName (names_of d.«module».inputs) (names_of d.«module».registers)
-      (front IsName (given_names d.«module») (wire_names d.«module») (recursion_from_All IsName (all_names d.«module») sound.names)))
+  inputs_named = All-from_recursion IsName (names_of d.«module».inputs) (all_front IsName (names_of d.«module».inputs) (names_of d.«module».registers)
+      (all_front IsName (given_names d.«module») (wire_names d.«module») (recursion_from_All IsName (all_names d.«module») sound.names)))
 
   wires_named : All IsName (wire_names d.«module»)
-  wires_named = All-from_recursion IsName (wire_names d.«module») (back IsName (given_names d.«module») (wire_names d.«module») (recursion_from_All IsName (all_names d.«module») sound.names))
+  wires_named = All-from_recursion IsName (wire_names d.«module») (all_back IsName (given_names d.«module») (wire_names d.«module») (recursion_from_All IsName (all_names d.«module») sound.names))
 
   comments : AllByRecursion IsCommentLine heads
   unfolding heads

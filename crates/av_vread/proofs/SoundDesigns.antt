@@ -1,19 +1,14 @@
 -- A design that is spelled is sound.
-use Rattle.std.proofs.Common.{◌≡◌, ℕ, ◌≤◌, List, get_or, sym, subst}
-use Rattle.std.specs.Prelude.{All}
+use Rattle.std.proofs.Common.{ℕ, List, get_or, sym, subst}
 use Rattle.av_net.specs.declared.operation.Operand.{Operand}
 use Rattle.av_net.specs.declared.operation.Operand.TheVariants as operand
 use Rattle.av_net.specs.declared.operation.Operation.{Operation}
 use Rattle.av_net.specs.declared.operation.Operation.TheVariants as operation
-use Rattle.av_net.specs.declared.netlist.Port.{Port}
 use Rattle.av_net.specs.declared.design.Design.{Design}
-use Rattle.av_net.specs.declared.design.Listing.{Listing}
 use Rattle.av_net.specs.Meaning.{EachOperand}
-use Rattle.av_net.specs.Names.{names_of, wire_names, declarations}
-use Rattle.av_net.specs.Grammar.{Text}
-use Rattle.av_net.specs.Listed.{IsListing, listing_lines}
+use Rattle.av_net.specs.Names.{declarations}
 use Rattle.av_net.specs.Rows.{module_of}
-use Rattle.av_net.specs.Designs.{Says, HasNoRow, Spells, HasWidth, IsSoundDesign}
+use Rattle.av_net.specs.Designs.{Spells, HasWidth, IsSoundDesign}
 use Rattle.av_net.proofs.Rowless.{sound_text}
 use Rattle.av_vread.proofs.NamesSpelled.{tokens_named, text_named}
 

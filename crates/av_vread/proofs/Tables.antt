@@ -19,6 +19,17 @@ both true true e = (refl, refl)
 both true false e = absurd cc
 both false b e = absurd cc
 
+pub and_true : (a b : Bool) → a ≡ true → b ≡ true → (a && b) ≡ true
+and_true a b e f = rw (e, f) refl
+
+pub and_false : (a b : Bool) → b ≡ false → (a && b) ≡ false
+and_false true b e = e
+and_false false b e = refl
+
+pub not_true : (t : Bool) → not t ≡ true → t ≡ false
+not_true true e = absurd cc
+not_true false e = refl
+
 -- a list's text is found, and what is found is a text of the list
 pub is_found : (text : List ℕ) (table : List (List ℕ)) → Contains table text → list_any (bytes_eq text) table ≡ true
 is_found text table h = list_any-from_Contains nat_list_eq_equiv text table h

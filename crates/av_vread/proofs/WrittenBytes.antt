@@ -15,9 +15,9 @@ use Rattle.av_net.specs.declared.netlist.Step.{Step}
 use Rattle.av_net.specs.declared.netlist.Module.{Module}
 use Rattle.av_net.specs.Names.{width_in}
 use Rattle.av_net.specs.Grammar.{spelling}
-use Rattle.av_net.specs.Texts.{range_text, port_text, ports_text, clocked_text, header_line, declaration_line, literal_text, operand_text, symbol_text, signed_text, operation_text, drive_line, assignment_text, reset_text, edge_text, step_line, declarations_text, items_text, module_text}
+use Rattle.av_net.specs.Texts.{range_text, port_text, clocked_text, declaration_line, literal_text, operand_text, symbol_text, signed_text, operation_text, drive_line, assignment_text, reset_text, edge_text, step_line, module_text}
 use Rattle.av_vread.proofs.Spaced.{Written, bytes_of}
-use Rattle.av_vread.proofs.WrittenParts.{word, named, symbol, operand_part, range_parts, port_parts, ports_onto, end_of_line, declaration_parts, declarations_onto, signed_parts, operation_parts, drive_onto, drives_onto, edge_parts, step_onto, steps_onto, clocked_parts, items_onto, body_onto, closed_onto, module_parts}
+use Rattle.av_vread.proofs.WrittenParts.{word, symbol, operand_part, port_parts, ports_onto, end_of_line, declaration_parts, declarations_onto, signed_parts, operation_parts, drive_onto, drives_onto, step_onto, steps_onto, items_onto, body_onto, closed_onto, module_parts}
 
 -- ---- declarations
 

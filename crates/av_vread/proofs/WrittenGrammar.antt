@@ -1,5 +1,5 @@
 -- The tokens of a written module say that module.
-use Rattle.std.proofs.Common.{◌≡◌, ◌≢◌, ℕ, ◌+◌, ◌-◌, ◌<◌, ◌≤◌, ◌^◌, Bool, true, false, cond, List, [], ◌∷◌, ◌++◌, map, refl, sym, ap, subst, ◌∙◌, arith, append_assoc}
+use Rattle.std.proofs.Common.{◌≡◌, ◌≢◌, ℕ, ◌-◌, ◌<◌, ◌^◌, Bool, true, false, cond, List, [], ◌∷◌, ◌++◌, map, refl, sym, subst, arith}
 use Rattle.std.specs.Prelude.{codes, decimal}
 use Rattle.std.specs.List.{AllByRecursion}
 use Rattle.std.specs.Str.{bytes_eq}
@@ -7,10 +7,7 @@ use Rattle.std.proofs.Math.Nat.{pow-le-pow_right}
 use Rattle.av_base.specs.declared.place.Place.{Place}
 use Rattle.av_base.specs.declared.width.Width.{Width}
 use Rattle.av_base.specs.Words.{IsWord}
-use Rattle.av_base.specs.Tokens.{number_of}
-use Rattle.av_net.specs.declared.token_kind.TokenKind.{TokenKind}
 use Rattle.av_net.specs.declared.token_kind.TokenKind.TheVariants as kind
-use Rattle.av_net.specs.declared.operation.Symbol.{Symbol}
 use Rattle.av_net.specs.declared.operation.Operand.{Operand}
 use Rattle.av_net.specs.declared.operation.Operand.TheVariants as operand
 use Rattle.av_net.specs.declared.operation.Operation.{Operation}
@@ -22,8 +19,8 @@ use Rattle.av_net.specs.declared.netlist.Module.{Module}
 use Rattle.av_net.specs.Meaning.{EachOperand}
 use Rattle.av_net.specs.Names.{clk, rst, width_in}
 use Rattle.av_net.specs.Sound.{IsFitting, ComparesByOrder}
-use Rattle.av_net.specs.Lexemes.{Token, IsSized}
-use Rattle.av_net.specs.Grammar.{Text, Declaration, wire, register, Item, drive, step, AreWords, no_word, next_word, IsNameAt, name, IsNumberAt, number, IsLiteral, IsLiteralAt, literal, IsEnd, end, IsRange, range, IsPort, IsDeclaration, wire_declaration, register_declaration, IsOperand, named, constant, spelling, IsSigned, IsOperation, plain, binary, signed, choice, IsDrive, IsEdge, IsStep, IsItem, assignment, at_an_edge, AreMany, no_more, one_more, IsClocked, IsText}
+use Rattle.av_net.specs.Lexemes.{Token}
+use Rattle.av_net.specs.Grammar.{Text, wire, register, Item, drive, step, AreWords, no_word, next_word, IsNameAt, name, number, IsLiteral, literal, end, IsRange, range, IsPort, IsDeclaration, wire_declaration, register_declaration, IsOperand, named, constant, spelling, IsSigned, IsOperation, plain, binary, signed, choice, IsDrive, IsEdge, IsItem, assignment, at_an_edge, AreMany, no_more, one_more, IsClocked, IsText}
 use Rattle.av_vread.proofs.Numerals.{number_digits, number_value}
 use Rattle.av_vread.proofs.Spaced.{Written, past, passed, tokens_from}
 use Rattle.av_vread.proofs.WrittenParts as part

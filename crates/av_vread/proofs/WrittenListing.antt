@@ -1,10 +1,8 @@
 -- The lines before a module's text are comments, and those of the listing are found among them.
-use Rattle.std.proofs.Common.{◌≡◌, ◌≢◌, ℕ, suc, ◌+◌, ◌-◌, ◌<◌, ◌≤◌, Bool, true, false, cond, not, List, [], ◌∷◌, ◌++◌, length, map, take, refl, sym, ap, subst, ◌∙◌, arith, append_assoc, true≢false, eq-eqb}
-use Rattle.std.specs.Prelude.{◌&&◌, nat_eq, codes, decimal, ℤ, nat_abs}
+use Rattle.std.proofs.Common.{◌≡◌, ◌≢◌, ℕ, suc, ◌+◌, ◌≤◌, Bool, true, false, not, List, [], ◌∷◌, ◌++◌, length, map, take, refl, sym, ap, subst, ◌∙◌, arith, append_assoc, true≢false, eq-eqb}
+use Rattle.std.specs.Prelude.{nat_eq, codes, decimal, nat_abs}
 use Rattle.std.specs.Char.{is_ascii_digit}
 use Rattle.std.specs.List.{AllByRecursion, list_all, flat_map, filter}
-use Rattle.std.specs.Str.{all_ascii_digits}
-use Rattle.std.proofs.lemmas.List.{map-append}
 use Rattle.std.proofs.lemmas.List.Elements.{All-from_recursion, recursion_from_All}
 use Rattle.av_base.specs.declared.place.Place.{Place}
 use Rattle.av_base.specs.Tokens.{next_place, moved, is_word_byte}
@@ -12,13 +10,14 @@ use Rattle.av_net.specs.declared.design.Entry.{Entry}
 use Rattle.av_net.specs.declared.design.Listing.{Listing}
 use Rattle.av_net.specs.Lexemes.{Token, AreTokens, blank, comment}
 use Rattle.av_net.specs.Texts.{entry_line, listing_text, point_text, entries_text}
-use Rattle.av_net.specs.Listed.{Line, longer, begins_feed, lines_of, numbered, is_listed, MayBeListed, line_text}
+use Rattle.av_net.specs.Listed.{longer, lines_of, numbered, is_listed, line_text}
 use Rattle.av_vread.specs.Lines.{is_not}
-use Rattle.av_vread.proofs.Tables.{both}
+use Rattle.av_vread.proofs.Each.{all_append, all_map, all_weaker}
+use Rattle.av_vread.proofs.Tables.{both, not_true}
 use Rattle.av_vread.proofs.Cuts.{Without}
 use Rattle.av_vread.proofs.Numerals.{decimal_digits}
-use Rattle.av_vread.proofs.Indices.{AreSmall, IsApart, digits_without, indices_without, without_append}
-use Rattle.av_vread.proofs.EntryLines.{body, variable_is, variable_gives, variable_word, MayBeRead}
+use Rattle.av_vread.proofs.Indices.{digits_without, indices_without, without_append}
+use Rattle.av_vread.proofs.EntryLines.{body, variable_gives, variable_word, MayBeRead}
 use Rattle.av_vread.proofs.ListingLines.{texts_of}
 
 -- ---- lines, one after another
@@ -137,18 +136,10 @@ version_comment = record {
   no_return = (refl, (refl, (refl, (refl, (refl, (refl, (refl, (refl, (refl, (refl, (refl, tt)))))))))));
 }
 
-mapped : (P : List ℕ → Type 0) (kind : List ℕ) (Q : Entry → Type 0) → ((e : Entry) → Q e → P (line_text kind e)) → (entries : List Entry) → AllByRecursion Q entries → AllByRecursion P (map (line_text kind) entries)
-mapped P kind Q f [] h = tt
-mapped P kind Q f (e ∷ entries) h = (f e h.0, mapped P kind Q f entries h.1)
-
-appended : (P : List ℕ → Type 0) (xs ys : List (List ℕ)) → AllByRecursion P xs → AllByRecursion P ys → AllByRecursion P (xs ++ ys)
-appended P [] ys h k = k
-appended P (x ∷ xs) ys h k = (h.0, appended P xs ys h.1 k)
-
 pub entry_comments : (ports wires : List (List ℕ)) (listing : Listing) → AllByRecursion (MayBeRead ports) listing.ins → AllByRecursion (MayBeRead wires) listing.ats → AllByRecursion IsCommentLine (entry_lines listing)
 entry_comments ports wires listing h k =
-    appended IsCommentLine (map (line_text (codes "in")) listing.ins) (map (line_text (codes "at")) listing.ats)
-    (mapped IsCommentLine (codes "in") (MayBeRead ports) (in_line ports) listing.ins h) (mapped IsCommentLine (codes "at") (MayBeRead wires) (at_line wires) listing.ats k)
+    all_append IsCommentLine (map (line_text (codes "in")) listing.ins) (map (line_text (codes "at")) listing.ats)
+    (all_map IsCommentLine (line_text (codes "in")) listing.ins (all_weaker (MayBeRead ports) (λ e. IsCommentLine (line_text (codes "in") e)) (in_line ports) listing.ins h)) (all_map IsCommentLine (line_text (codes "at")) listing.ats (all_weaker (MayBeRead wires) (λ e. IsCommentLine (line_text (codes "at") e)) (at_line wires) listing.ats k))
 
 -- ---- what is read behind them
 
@@ -190,13 +181,9 @@ lines_after p (line ∷ lines) h =
 line_found : (line rest : List ℕ) → Without 10 line → Without 13 line → lines_of (line ++ (10 ∷ rest)) ≡ line ∷ lines_of rest
 line_found [] rest h k = refl
 line_found (b ∷ line) rest h k =
-    let feed : nat_eq b 10 ≡ false = no (nat_eq b 10) h.0 in
-    let back : nat_eq b 13 ≡ false = no (nat_eq b 13) k.0 in
+    let feed : nat_eq b 10 ≡ false = not_true (nat_eq b 10) h.0 in
+    let back : nat_eq b 13 ≡ false = not_true (nat_eq b 13) k.0 in
     rw (feed, back) (ap (longer b) (line_found line rest h.1 k.1))
-  where
-    no : (t : Bool) → not t ≡ true → t ≡ false
-    no true e = absurd (true≢false (sym e))
-    no false e = refl
 
 pub lines_found : (lines : List (List ℕ)) (rest : List ℕ) → AllByRecursion IsCommentLine lines → take (length lines) (lines_of (joined lines rest)) ≡ lines
 lines_found [] rest h = refl
@@ -214,7 +201,7 @@ numbered_all n (text ∷ texts) h = rw (h.0 n) (ap (λ z. text ∷ z) (numbered_
 
 entries_listed : (listing : Listing) → AllByRecursion IsListedText (entry_lines listing)
 entries_listed listing =
-    appended IsListedText (map (line_text (codes "in")) listing.ins) (map (line_text (codes "at")) listing.ats) (ins listing.ins) (ats listing.ats)
+    all_append IsListedText (map (line_text (codes "in")) listing.ins) (map (line_text (codes "at")) listing.ats) (ins listing.ins) (ats listing.ats)
   where
     ins : (entries : List Entry) → AllByRecursion IsListedText (map (line_text (codes "in")) entries)
     ins [] = tt

@@ -2,7 +2,6 @@
 use Rattle.std.proofs.Common.{ℕ, ◌-◌, List, [], ◌∷◌, ◌++◌}
 use Rattle.std.specs.Prelude.{codes, decimal}
 use Rattle.av_net.specs.declared.token_kind.TokenKind.TheVariants as kind
-use Rattle.av_net.specs.declared.operation.Symbol.{Symbol}
 use Rattle.av_net.specs.declared.operation.Operand.{Operand}
 use Rattle.av_net.specs.declared.operation.Operand.TheVariants as operand
 use Rattle.av_net.specs.declared.operation.Operation.{Operation}

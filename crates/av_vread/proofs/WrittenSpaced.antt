@@ -1,11 +1,11 @@
 -- The tokens of a written module are those that are found in its text.
-use Rattle.std.proofs.Common.{◌≡◌, ℕ, ◌+◌, ◌-◌, ◌<◌, ◌≤◌, ◌^◌, Bool, true, false, cond, List, [], ◌∷◌, ◌++◌, refl, sym, ◌∙◌, arith, true≢false}
+use Rattle.std.proofs.Common.{◌≡◌, ℕ, ◌-◌, ◌<◌, ◌≤◌, ◌^◌, Bool, true, false, cond, List, [], ◌∷◌, ◌++◌, refl, sym, ◌∙◌, arith, true≢false}
 use Rattle.std.specs.Prelude.{codes, decimal, Contains, IsTrue}
 use Rattle.std.specs.List.{AllByRecursion}
 use Rattle.std.specs.Str.{bytes_eq}
 use Rattle.std.proofs.lemmas.List.Elements.{All-nil, All-from_recursion}
 use Rattle.av_base.specs.declared.width.Width.{Width}
-use Rattle.av_base.specs.Tokens.{is_word_byte, is_blank, IsDigits}
+use Rattle.av_base.specs.Tokens.{is_word_byte, IsDigits}
 use Rattle.av_net.specs.declared.token_kind.TokenKind.TheVariants as kind
 use Rattle.av_net.specs.declared.operation.Symbol.{Symbol}
 use Rattle.av_net.specs.declared.operation.Symbol.TheVariants.{Add, Sub, Mul, And, Or, Equal, Unequal, Less, LessEqual, Greater, GreaterEqual}
@@ -18,7 +18,7 @@ use Rattle.av_net.specs.declared.netlist.Drive.{Drive}
 use Rattle.av_net.specs.declared.netlist.Step.{Step}
 use Rattle.av_net.specs.declared.netlist.Module.{Module}
 use Rattle.av_net.specs.Meaning.{EachOperand}
-use Rattle.av_net.specs.Names.{clk, rst, names_of, width_in}
+use Rattle.av_net.specs.Names.{clk, rst, width_in}
 use Rattle.av_net.specs.Lexemes.{reserved_words, IsName}
 use Rattle.av_net.specs.Grammar.{spelling}
 use Rattle.av_vread.specs.Scan.{is_reserved}
@@ -26,7 +26,7 @@ use Rattle.av_vread.proofs.Tables.{is_there, is_found}
 use Rattle.av_vread.proofs.Numerals.{number_digits}
 use Rattle.av_vread.proofs.Spaced.{Written, bytes_of, IsNext, AreBlank, AreSpaced}
 use Rattle.av_vread.proofs.NextTokens.{is_clear, name_next, reserved_next, plain_next, single_next, pair_next, signed_next, number_next, literal_next}
-use Rattle.av_vread.proofs.WrittenParts.{word, indented, named, symbol, number, literal, system, operand_part, range_parts, port_parts, ports_onto, end_of_line, declaration_parts, declarations_onto, signed_parts, operation_parts, drive_onto, drives_onto, edge_parts, otherwise_onto, becomes_onto, step_onto, steps_onto, clocked_parts, items_onto, body_onto, closed_onto, module_parts}
+use Rattle.av_vread.proofs.WrittenParts.{word, named, symbol, literal, operand_part, range_parts, port_parts, ports_onto, end_of_line, declaration_parts, declarations_onto, signed_parts, operation_parts, drive_onto, drives_onto, edge_parts, otherwise_onto, becomes_onto, step_onto, steps_onto, closed_onto, module_parts}
 
 -- an operand as the grammar spells it
 abbrev pub IsWritten : Operand → Type 0
