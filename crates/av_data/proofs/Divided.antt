@@ -132,6 +132,7 @@ next_is (y ∷ ys) zero x rest e = record { within = omega arith; here = head e;
   where
     head : y ∷ ys ≡ x ∷ rest → y ≡ x
     head e = ap (λ (zs : List _). get_or zs 0 y) e
+
     tail : y ∷ ys ≡ x ∷ rest → ys ≡ rest
     tail e = ap (λ (zs : List _). drop 1 zs) e
 next_is (y ∷ ys) (suc k) x rest e =
@@ -181,6 +182,7 @@ module _ (bytes : List ℕ) (at k : ℕ) (walks : Walks bytes at k) (lt : at < l
     where
       one_more : suc k ≡ k + 1
       one_more = omega arith
+
       later : k + 1 ≤ lines_before bytes
       later = elim (cases_lt k (lines_before bytes)) [
         | inl less ↦ omega arith
@@ -204,6 +206,7 @@ module _ (bytes : List ℕ) (at k : ℕ) (walks : Walks bytes at k) (lt : at < l
         | inl less ↦ absurd (true≢false (sym (prefix_len_passes (λ line. not (is_mark line)) (whole_lines bytes) k (line_at bytes at) less) ∙ ap not (ap is_mark next.here ∙ marked)))
         | inr le ↦ (let n = walks.none in omega (arith, n, le))
       ]
+
       one_more : suc k ≡ lines_before bytes + 1
       one_more = omega (arith, is)
 
