@@ -10,9 +10,9 @@ ghost use Rattle.av_names.specs.Texts.{IsOfText, AreSmall};
 ghost use Rattle.av_names.specs.declared.fault.NameFault.{NameFault as Fault};
 ghost use Rattle.av_names.specs.declared.fault.NameFault.TheVariants as fault;
 
+use crate::flat_system::flat_of;
 use crate::index::all_parts;
 use crate::refused::refused;
-use crate::flat_system::flat_of;
 use crate::tables::all_variables;
 use crate::{NameFault, Size};
 use av_base::Width;
