@@ -1,4 +1,4 @@
-ghost use Rattle.std.specs.Prelude.{◌<◌, length, IfOk};
+ghost use Rattle.std.specs.Prelude.{◌<◌, ◌≤◌, length, unsigned_abs, IfOk, OnOk};
 ghost use Rattle.av_names.specs.Texts.{AreSmall};
 
 use crate::{NameFault, Size, resolve};
@@ -302,18 +302,25 @@ fn push_fault(out: &mut String, fault: &NameFault) -> Result<(), Fail> {
     }
 }
 
+// Puts a size behind others, where it is small as they are.
+fn push_small(sizes: &mut Vec<Size>, name: Name, value: i64) -> Result<(), Memory>
+    requires before { AreSmall sizes.old.items }
+    requires small { unsigned_abs value ≤ 1048576 }
+    ensures { OnOk result (AreSmall sizes.new.items) }
+{
+    sizes.push(Size { name, value })?;
+    Ok(())
+}
+
 /// The sizes, of which those above 1048576 are left out.
 fn size_list(alloc: Global, words: &[(&str, i64)]) -> Result<Vec<Size>, Memory>
     ensures { IfOk result (λ sizes. AreSmall sizes.items) }
 {
     let mut sizes = Vec::new(alloc);
     for word in words {
-        if word.1.unsigned_abs() <= 1048576 {
-            let name = Name::new(alloc, word.0)?;
-            sizes.push(Size {
-                name,
-                value: word.1,
-            })?;
+        let value = word.1;
+        if value.unsigned_abs() <= 1048576 {
+            push_small(&mut sizes, Name::new(alloc, word.0)?, value)?;
         }
     }
     Ok(sizes)
