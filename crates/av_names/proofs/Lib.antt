@@ -8,6 +8,7 @@ pub mod Lookups
 pub mod Given
 pub mod Unknown
 pub mod Rules
+pub mod OfText
 pub mod Names
 pub mod Terms
 pub mod Comparisons

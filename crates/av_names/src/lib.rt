@@ -38,3 +38,6 @@ pub use laws::{
 };
 pub use resolver::resolve;
 pub use size::Size;
+
+#[cfg(test)]
+mod tests;
