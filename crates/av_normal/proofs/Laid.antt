@@ -1,5 +1,5 @@
 -- What holds of the trees of parts: no case, restriction, dependence or pick, and each reference reads a declared point where the rows hold.
-use Rattle.std.proofs.Common.{◌≡◌, ℕ, zero, suc, ◌+◌, ◌*◌, ◌<◌, ◌≤◌, Bool, true, false, IsTrue, if◌then◌else◌, ℤ, pos, List, [], ◌∷◌, ◌++◌, length, map, Some, slice_get, refl, sym, ap, subst, ◌∙◌, arith, All}
+use Rattle.std.proofs.Common.{◌≡◌, ℕ, ◌*◌, ◌<◌, ◌≤◌, Bool, false, IsTrue, if◌then◌else◌, pos, List, [], ◌∷◌, ◌++◌, length, map, Some, slice_get, refl, sym, ap, subst, ◌∙◌, arith, All}
 use Rattle.std.specs.List.{flat_map, list_all}
 use Rattle.std.proofs.lemmas.List.{length-map}
 use Rattle.std.proofs.lemmas.List.Folds.{list_all-append}
@@ -15,9 +15,9 @@ use Rattle.av_flat.specs.Trees.{Tree, Trees, reference, constant, binary, choice
 use Rattle.av_flat.specs.Points.{holds, point_over}
 use Rattle.av_flat.specs.Signatures.{Signature, is_declared_at}
 use Rattle.av_flat.specs.Counts.{count}
-use Rattle.av_flat.specs.WellFormed.{Fits, FitAll, Leads, dimension_of, EachPart, EachPartOfAll, IsInPlace, IsProjection, is_case, is_reduction, is_pick}
+use Rattle.av_flat.specs.WellFormed.{Fits, FitAll, Leads, EachPart, EachPartOfAll, IsInPlace, IsProjection, is_case, is_reduction, is_pick}
 use Rattle.av_flat.specs.Quantities.{piece_count, steps, steps_under, composed_maps, composed_maps_of_all}
-use Rattle.av_flat.specs.Pieces.{Part, part, rows_of, composed, rows_under, in_pairs, in_fours, first_part, parts, parts_of_all}
+use Rattle.av_flat.specs.Pieces.{Part, part, rows_of, composed, rows_under, first_part, parts, parts_of_all}
 use Rattle.av_flat.proofs.Sets.{both_true, both_hold}
 use Rattle.av_flat.proofs.Parts.{reach, Chain, composed_image, declared_where, length_parts}
 use Rattle.av_normal.proofs.Projecting.{length_over}
@@ -62,8 +62,8 @@ IsLaid vs M W S n rows (choice l c r x y) = IsLaid vs M W S n rows l × IsLaid v
 IsLaid vs M W S n rows (reduction o m t set) = IsReduced M S n m set × IsLaid vs M W S m.from set.rows t
 IsLaid vs M W S n rows _ = ⊥
 
-abbrev pub Any : {X : Type 0} → X → Type 0
-Any x = Unit {0}
+abbrev pub Anything : {X : Type 0} → X → Type 0
+Anything x = Unit {0}
 
 pub looser : (vs : List Signature) (M : Map → Type 0) (W : ℕ → Type 0) (S : Set → Type 0) (n : ℕ) (rows others : List Form) (t : Tree) → Implies n others rows
     → IsLaid vs M W S n rows t → IsLaid vs M W S n others t
@@ -159,12 +159,12 @@ Clear ds T = 0 < length ds → T
 
 module _ (vs : List Signature) (M : Map → Type 0) (W : ℕ → Type 0) where
   abbrev pub IsLaidPart : ℕ → Part → Type 0
-  IsLaidPart n p = IsLaid vs M W Any n p.rows p.tree
+  IsLaidPart n p = IsLaid vs M W Anything n p.rows p.tree
 
-  loosened : (n : ℕ) (rows others : List Form) (t : Tree) → Implies n others rows → IsLaid vs M W Any n rows t → IsLaid vs M W Any n others t
-  loosened n rows others t i a = looser vs M W Any n rows others t i a
+  loosened : (n : ℕ) (rows others : List Form) (t : Tree) → Implies n others rows → IsLaid vs M W Anything n rows t → IsLaid vs M W Anything n others t
+  loosened n rows others t i a = looser vs M W Anything n rows others t i a
 
-  laid_pair : (n : ℕ) (a b : List Form) (s t : Tree) → IsLaid vs M W Any n a s → IsLaid vs M W Any n b t → IsLaid vs M W Any n (a ++ b) s × IsLaid vs M W Any n (a ++ b) t
+  laid_pair : (n : ℕ) (a b : List Form) (s t : Tree) → IsLaid vs M W Anything n a s → IsLaid vs M W Anything n b t → IsLaid vs M W Anything n (a ++ b) s × IsLaid vs M W Anything n (a ++ b) t
   laid_pair n a b s t p q = (loosened n a (a ++ b) s (λ z e h. (both_of a b z h).0) p, loosened n b (a ++ b) t (λ z e h. (both_of a b z h).1) q)
 
   mutual
@@ -223,7 +223,7 @@ module _ (vs : List Signature) (M : Map → Type 0) (W : ℕ → Type 0) where
         let fits : Fits vs (length y) t = (let P : ℕ → Type 0 = λ k. Fits vs k t in subst P (sym size) f.3) in
         let body = first_part (parts vs [] t) in
         let rec = only_part (IsLaidPart (length y)) (parts vs [] t) (laid_parts [] t y (let few = f.1 in omega (arith, size, few)) fits g.1 n.1 (λ k. absurd (omega (arith, k))) own.1 w) (length_parts vs [] t ∙ caseless t g.0.1) in
-        let laid : IsLaid vs M W Any m.from body.rows body.tree = (let P : ℕ → Type 0 = λ k. IsLaid vs M W Any k body.rows body.tree in subst P size rec) in
+        let laid : IsLaid vs M W Anything m.from body.rows body.tree = (let P : ℕ → Type 0 = λ k. IsLaid vs M W Anything k body.rows body.tree in subst P size rec) in
         All-cons (IsLaidPart (length z)) (part [] (reduction o m body.tree (record { dim = m.from; rows = set.rows ++ body.rows }))) [] (
           record { projection = g.0.0; results = f.0; few = f.1; dimension = refl; map_is = own.0; set_is = tt },
           loosened m.from body.rows (set.rows ++ body.rows) body.tree (λ u e k. (both_of set.rows body.rows u k).1) laid,
@@ -238,4 +238,3 @@ module _ (vs : List Signature) (M : Map → Type 0) (W : ℕ → Type 0) where
         let v = all_parts M (composed_maps ds t) (composed_maps_of_all ds ts) w in
         All-append (IsLaidPart (length z)) (parts vs ds t) (parts_of_all vs ds ts) (laid_parts ds t z h f.0 g.0 n.0 (λ k. (c k).0) o.0 v.0)
         (laid_parts_of_all ds ts z h f.1 g.1 n.1 (λ k. (c k).1) o.1 v.1)
-

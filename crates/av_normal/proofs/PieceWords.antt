@@ -1,5 +1,5 @@
 -- A kept piece has the words of the part that it stands for: filled and normalised sets have the same points over a point of the piece.
-use Rattle.std.proofs.Common.{◌≡◌, ◌↔◌, ℕ, ◌+◌, ◌≤◌, ◌⊎◌, inl, inr, Bool, true, false, ◌&&◌, IsTrue, if◌then◌else◌, ℤ, List, [], ◌∷◌, ◌++◌, length, refl, sym, ap, ◌∙◌, arith, All}
+use Rattle.std.proofs.Common.{◌≡◌, ◌↔◌, ℕ, ◌≤◌, inl, inr, Bool, true, false, ◌&&◌, IsTrue, if◌then◌else◌, ℤ, List, [], ◌∷◌, ◌++◌, length, refl, sym, ap, ◌∙◌, arith, All}
 use Rattle.std.specs.List.{list_all}
 use Rattle.std.proofs.lemmas.List.Folds.{list_all-append}
 use Rattle.std.proofs.lemmas.List.Elements.{All-head, All-tail}
@@ -11,7 +11,7 @@ use Rattle.av_poly.proofs.Normalising.{normal_set}
 use Rattle.av_tree.specs.Points.{Point}
 use Rattle.av_tree.specs.Folds.{IsAmong, ArePaired, IsFolded, folded}
 use Rattle.av_tree.specs.Values.{IsCombined, IsChosen}
-use Rattle.av_flat.specs.Trees.{Tree, reference, constant, binary, choice, restriction, cases, dependence, reduction, pick}
+use Rattle.av_flat.specs.Trees.{Tree, reference, constant, binary, choice, reduction}
 use Rattle.av_flat.specs.Points.{has, holds, point_over}
 use Rattle.av_flat.specs.Signatures.{Signature}
 use Rattle.av_flat.specs.Counts.{count, count_inside}
@@ -23,7 +23,7 @@ use Rattle.av_flat.proofs.Sets.{has_is}
 use Rattle.av_flat.proofs.Parts.{fitting, rows_reach}
 use Rattle.av_normal.specs.NormalForm.{IsNormalised, HasNormalSets}
 use Rattle.av_normal.proofs.Projecting.{length_over, image_over}
-use Rattle.av_normal.proofs.Laid.{Hold, both_of, hold_both, IsReduced, IsLaid, Any, looser, count_one, all_parts}
+use Rattle.av_normal.proofs.Laid.{Hold, both_of, hold_both, IsReduced, IsLaid, Anything, looser, count_one, all_parts}
 
 -- ---- points of normalised sets
 
@@ -116,7 +116,7 @@ cond_true : (b : Bool) (n : ℕ) → (if b then n else 0) ≡ 1 → IsTrue b
 cond_true true n e = refl
 cond_true false n e = absurd cc
 
-true_first : (a b : Bool) → IsTrue a → (a && b) ≡ b
+pub true_first : (a b : Bool) → IsTrue a → (a && b) ≡ b
 true_first true b h = refl
 true_first false b h = absurd cc
 
@@ -127,7 +127,7 @@ module _ (vs : List Signature) (M : Map → Type 0) (W : ℕ → Type 0) where
   abbrev pub wider : Map → List Form → Set → Set
   wider m rows set = record { dim = set.dim; rows = rows_before m rows ++ set.rows }
 
-  pub laid_normal : (S : Set → Type 0) (n : ℕ) (rows : List Form) (t u : Tree) → IsLaid vs M W Any n rows t → HasNormalSets (filled rows t) u
+  pub laid_normal : (S : Set → Type 0) (n : ℕ) (rows : List Form) (t u : Tree) → IsLaid vs M W Anything n rows t → HasNormalSets (filled rows t) u
       → All (λ set. (inner : Set) → IsNormalised set inner → S inner) (body_sets (filled rows t)) → IsLaid vs M W S n rows u
   laid_normal S n rows (reference place m) (reference q k) a h b = rw (h.0, h.1) a
   laid_normal S n rows (constant k) (constant j) a h b = rw h a
@@ -144,18 +144,18 @@ module _ (vs : List Signature) (M : Map → Type 0) (W : ℕ → Type 0) where
   laid_normal S n rows (reduction o m t set) (reduction p k u inner) a h b =
       let P : Set → Type 0 = λ other. (new : Set) → IsNormalised other new → S new in
       let wide = wider m rows set in
-      let body = laid_normal S m.from wide.rows t u (looser vs M W Any m.from set.rows wide.rows t (λ z e q. (both_of (rows_before m rows) set.rows z q).1) a.1) h.2 (All-tail P wide (body_sets (filled wide.rows t)) b) in
+      let body = laid_normal S m.from wide.rows t u (looser vs M W Anything m.from set.rows wide.rows t (λ z e q. (both_of (rows_before m rows) set.rows z q).1) a.1) h.2 (All-tail P wide (body_sets (filled wide.rows t)) b) in
       rw h.1 (
         record { projection = a.0.projection; results = a.0.results; few = a.0.few; dimension = h.3.dim ∙ a.0.dimension; map_is = a.0.map_is; set_is = All-head P wide (body_sets (filled wide.rows t)) b inner h.3 },
         looser vs M W S m.from wide.rows inner.rows u (λ z e q. sym (hold_normal wide inner z h.3 (e ∙ sym a.0.dimension)) ∙ q) body,
       )
   laid_normal S n rows t u a h b = absurd h
 
-  pub laid_any : (n : ℕ) (rows : List Form) (t u : Tree) → IsLaid vs M W Any n rows t → HasNormalSets (filled rows t) u → IsLaid vs M W Any n rows u
-  laid_any n rows t u a h = laid_normal Any n rows t u a h (λ k d l inner e. tt)
+  pub laid_any : (n : ℕ) (rows : List Form) (t u : Tree) → IsLaid vs M W Anything n rows t → HasNormalSets (filled rows t) u → IsLaid vs M W Anything n rows u
+  laid_any n rows t u a h = laid_normal Anything n rows t u a h (λ k d l inner e. tt)
 
   -- over a point of the holder, the body has as many words as before, and the same
-  module _ (rows : List Form) (m : Map) (t u : Tree) (set inner : Set) (n : ℕ) (z : Point) (a : IsReduced M Any n m set) (laid : IsLaid vs M W Any m.from set.rows t)
+  module _ (rows : List Form) (m : Map) (t u : Tree) (set inner : Set) (n : ℕ) (z : Point) (a : IsReduced M Anything n m set) (laid : IsLaid vs M W Anything m.from set.rows t)
       (same : HasNormalSets (filled (rows_before m rows ++ set.rows) t) u) (normal : IsNormalised (record { dim = set.dim; rows = rows_before m rows ++ set.rows }) inner) (size : length z ≡ n) (here : Hold rows z) where
     over_size : (k : ℤ) → length (point_over m z k) ≡ set.dim
     over_size k = length_over m z k ∙ sym a.dimension
@@ -175,18 +175,18 @@ module _ (vs : List Signature) (M : Map → Type 0) (W : ℕ → Type 0) where
     over_set : (k : ℤ) → IsTrue (has set (point_over m z k)) → Hold (rows_before m rows ++ set.rows) (point_over m z k)
     over_set k h = hold_both (rows_before m rows) set.rows (point_over m z k) (over_holds k) (sym (fitting (length (point_over m z k)) set.dim (list_all (holds (point_over m z k)) set.rows) (over_size k)) ∙ h)
 
-    over_laid : IsLaid vs M W Any m.from (rows_before m rows ++ set.rows) t
-    over_laid = looser vs M W Any m.from set.rows (rows_before m rows ++ set.rows) t (λ y e q. (both_of (rows_before m rows) set.rows y q).1) laid
+    over_laid : IsLaid vs M W Anything m.from (rows_before m rows ++ set.rows) t
+    over_laid = looser vs M W Anything m.from set.rows (rows_before m rows ++ set.rows) t (λ y e q. (both_of (rows_before m rows) set.rows y q).1) laid
 
     over_count : (k : ℤ) → count_inside vs set t (point_over m z k) ≡ count_inside vs inner u (point_over m z k)
     over_count k =
         let y = point_over m z k in
         cond_same (has set y) (has inner y) (count vs t y) (count vs u y) (over_has k)
-        (λ h. count_one vs M W Any m.from (rows_before m rows ++ set.rows) t y over_laid (length_over m z k) (over_set k h)
-        ∙ sym (count_one vs M W Any m.from (rows_before m rows ++ set.rows) u y (laid_any m.from (rows_before m rows ++ set.rows) t u over_laid same) (length_over m z k) (over_set k h)))
+        (λ h. count_one vs M W Anything m.from (rows_before m rows ++ set.rows) t y over_laid (length_over m z k) (over_set k h)
+        ∙ sym (count_one vs M W Anything m.from (rows_before m rows ++ set.rows) u y (laid_any m.from (rows_before m rows ++ set.rows) t u over_laid same) (length_over m z k) (over_set k h)))
 
 module _ (s : Scene) (M : Map → Type 0) (W : ℕ → Type 0) where
-  pub value_same : (n : ℕ) (rows : List Form) (t u : Tree) (z : Point) (w : ℕ) → IsLaid s.variables M W Any n rows t → HasNormalSets (filled rows t) u → length z ≡ n → Hold rows z
+  pub value_same : (n : ℕ) (rows : List Form) (t u : Tree) (z : Point) (w : ℕ) → IsLaid s.variables M W Anything n rows t → HasNormalSets (filled rows t) u → length z ≡ n → Hold rows z
       → HasValue s t z w ↔ HasValue s u z w
   value_same n rows (reference place m) (reference q k) z w a h e here = rw (h.0, h.1) ((λ v. v), (λ v. v))
   value_same n rows (constant k) (constant j) z w a h e here = rw h ((λ v. v), (λ v. v))

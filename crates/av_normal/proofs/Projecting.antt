@@ -1,5 +1,5 @@
 -- The map of a reduction sends the points over a point to that point.
-use Rattle.std.proofs.Common.{◌≡◌, ℕ, zero, suc, ◌+◌, ◌<◌, ◌≤◌, Bool, true, false, ◌&&◌, IsTrue, if◌then◌else◌, nat_eq, ℤ, pos, ◌+ℤ◌, ◌*ℤ◌, int_le, List, [], ◌∷◌, length, map, take, get_or, refl, sym, ap, ap₂, subst, ◌∙◌, arith, All, AllPairs}
+use Rattle.std.proofs.Common.{◌≡◌, ℕ, zero, suc, ◌+◌, ◌<◌, Bool, true, false, if◌then◌else◌, nat_eq, ℤ, pos, ◌+ℤ◌, ◌*ℤ◌, List, [], ◌∷◌, length, map, take, get_or, refl, sym, ap, ap₂, subst, ◌∙◌, arith, All, AllPairs}
 use Rattle.std.specs.List.{range_with_len}
 use Rattle.std.proofs.lemmas.Int.{ints}
 use Rattle.std.proofs.lemmas.List.{get_or-take}
@@ -10,7 +10,6 @@ use Rattle.av_affine.specs.declared.map.Map.{Map}
 use Rattle.av_affine.specs.Numbers.{dot}
 use Rattle.av_affine.specs.Forms.{value_at}
 use Rattle.av_affine.specs.Maps.{image}
-use Rattle.av_affine.specs.Completion.{unit_row}
 use Rattle.av_tree.specs.Points.{Point, is_one}
 use Rattle.av_flat.specs.Points.{is_index, entry_over, point_over}
 use Rattle.av_flat.specs.WellFormed.{IsIndex, IsProjection}
@@ -18,7 +17,7 @@ use Rattle.av_flat.proofs.Sets.{equal, is_equal}
 
 -- ---- one index
 
-pub other : (a b : ℕ) → (a ≡ b → ⊥) → nat_eq a b ≡ false
+other : (a b : ℕ) → (a ≡ b → ⊥) → nat_eq a b ≡ false
 other a b n = go (nat_eq a b) refl
   where
     go : (t : Bool) → nat_eq a b ≡ t → nat_eq a b ≡ false
@@ -26,16 +25,16 @@ other a b n = go (nat_eq a b) refl
     go false e = e
 
 -- 1 at one place, and 0 elsewhere
-abbrev unit : ℕ → ℕ → ℤ
+abbrev pub unit : ℕ → ℕ → ℤ
 unit k j = if nat_eq j k then pos 1 else pos 0
 
-unit_here : (k j : ℕ) → j ≡ k → unit k j ≡ pos 1
+pub unit_here : (k j : ℕ) → j ≡ k → unit k j ≡ pos 1
 unit_here k j e = ap (λ t. if t then pos 1 else pos 0) (is_equal j k e)
 
-unit_elsewhere : (k j : ℕ) → (j ≡ k → ⊥) → unit k j ≡ pos 0
+pub unit_elsewhere : (k j : ℕ) → (j ≡ k → ⊥) → unit k j ≡ pos 0
 unit_elsewhere k j n = ap (λ t. if t then pos 1 else pos 0) (other j k n)
 
-pub dot_take : (n : ℕ) (xs y : List ℤ) → length y ≡ n → dot (take n xs) y ≡ dot xs y
+dot_take : (n : ℕ) (xs y : List ℤ) → length y ≡ n → dot (take n xs) y ≡ dot xs y
 dot_take zero [] y h = refl
 dot_take (suc n) [] y h = refl
 dot_take zero (x ∷ xs) [] h = refl
@@ -79,19 +78,20 @@ one_is : (t : Bool) → is_one (if t then pos 1 else pos 0) ≡ t
 one_is true = refl
 one_is false = refl
 
-pub index_at : (n : ℕ) (f : Form) (p place : ℕ) → IsIndex n f p → place < n → is_index place f ≡ nat_eq place p
-index_at n f p place is l =
-    let e : get_or f.coef place (pos 0) ≡ unit p place =
+pub coefficient_at : (n : ℕ) (f : Form) (p place : ℕ) → IsIndex n f p → place < n → get_or f.coef place (pos 0) ≡ unit p place
+coefficient_at n f p place is l =
     sym (get_or-take n f.coef place (pos 0) l) ∙ ap (λ xs. get_or xs place (pos 0)) is.coefficients
-    ∙ get_or-map-range_with_len (unit p) 0 n place place (pos 0) l (omega arith) in
-    ap is_one e ∙ one_is (nat_eq place p)
+    ∙ get_or-map-range_with_len (unit p) 0 n place place (pos 0) l (omega arith)
+
+index_at : (n : ℕ) (f : Form) (p place : ℕ) → IsIndex n f p → place < n → is_index place f ≡ nat_eq place p
+index_at n f p place is l = ap is_one (coefficient_at n f p place is l) ∙ one_is (nat_eq place p)
 
 -- ---- all but one, each once
 
-abbrev AreOnce : ℕ → List Form → Type 0
+abbrev pub AreOnce : ℕ → List Form → Type 0
 AreOnce n forms = AllPairs (λ f g. (place : ℕ) → IsIndex n f place → IsIndex n g place → ⊥) forms
 
-abbrev AreIndices : ℕ → List Form → Type 0
+abbrev pub AreIndices : ℕ → List Form → Type 0
 AreIndices n forms = All (λ f. (place : ℕ) × IsIndex n f place) forms
 
 image_is : (n : ℕ) (entry : ℕ → ℤ) (k : ℤ) (y : Point) → length y ≡ n → ((place : ℕ) → place < n → get_or y place (pos 0) ≡ entry place)

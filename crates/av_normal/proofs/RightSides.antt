@@ -1,5 +1,5 @@
 -- The right side of a normal variable has the words of the right side that it was brought from.
-use Rattle.std.proofs.Common.{◌≡◌, ◌↔◌, ℕ, ◌+◌, ◌<◌, ◌≤◌, ◌⊎◌, inl, inr, Bool, true, false, ◌&&◌, IsTrue, if◌then◌else◌, List, [], ◌∷◌, ◌++◌, length, map, refl, sym, ap, ap₂, subst, ◌∙◌, arith, zero-add, All, nat_eq, None}
+use Rattle.std.proofs.Common.{◌≡◌, ◌↔◌, ℕ, ◌+◌, ◌≤◌, ◌⊎◌, inl, inr, Bool, true, false, IsTrue, if◌then◌else◌, List, [], ◌∷◌, ◌++◌, length, map, refl, sym, ap, ap₂, subst, ◌∙◌, arith, zero-add, All, nat_eq, None}
 use Rattle.std.specs.List.{list_all}
 use Rattle.std.proofs.lemmas.List.Folds.{list_all-append}
 use Rattle.std.proofs.lemmas.List.Elements.{All-head, All-tail, All-weaker}
@@ -15,13 +15,13 @@ use Rattle.av_flat.specs.Counts.{count, count_all}
 use Rattle.av_flat.specs.Values.{Scene, HasValue, IsOfBranch}
 use Rattle.av_flat.specs.Solutions.{scene}
 use Rattle.av_flat.specs.WellFormed.{Fits, FitAll, EachPart, EachPartOfAll, IsInPlace, is_pick, IsWellFormedPiece, IsWellFormedVariable}
-use Rattle.av_flat.specs.Pieces.{Part, part, parts, filled, one_where, holding, IsOfPart, pieces_of}
+use Rattle.av_flat.specs.Pieces.{Part, part, parts, filled, one_where, holding, IsOfPart}
 use Rattle.av_flat.proofs.Sets.{both_true, equal, has_is}
 use Rattle.av_flat.proofs.Parts.{fitting, pieces_counted}
 use Rattle.av_flat.proofs.PieceValues.{words_of_parts}
 use Rattle.av_normal.specs.NormalForm.{IsNormalised, HasNormalSets, set_of, AreKeptOf, ended, dropped, kept, IsNormalVariable}
-use Rattle.av_normal.proofs.Laid.{Hold, both_of, hold_both, IsLaid, IsLaidPart, Any, looser, count_one, Own, laid_parts}
-use Rattle.av_normal.proofs.PieceWords.{has_normal, cond_same, laid_any, value_same}
+use Rattle.av_normal.proofs.Laid.{Hold, both_of, hold_both, IsLaid, IsLaidPart, Anything, looser, count_one, Own, laid_parts}
+use Rattle.av_normal.proofs.PieceWords.{has_normal, cond_same, true_first, laid_any, value_same}
 
 -- ---- kept parts, by recursion on both lists
 
@@ -62,10 +62,6 @@ if_none : (b : Bool) → (IsTrue b → ⊥) → ◌≡◌ {A = ℕ} (if b then 1
 if_none true h = absurd (h refl)
 if_none false h = refl
 
-true_first : (a b : Bool) → IsTrue a → (a && b) ≡ b
-true_first true b h = refl
-true_first false b h = absurd cc
-
 module _ (s : Scene) (M : Map → Type 0) (W : ℕ → Type 0) (dim : ℕ) (rows : List Form) (z : Point) (size : length z ≡ dim) (here : Hold rows z) where
   made_has : (p : Part) → has (set_of dim (made rows p)) z ≡ list_all (holds z) p.rows
   made_has p =
@@ -79,13 +75,13 @@ module _ (s : Scene) (M : Map → Type 0) (W : ℕ → Type 0) (dim : ℕ) (rows
   piece_has : (p : Part) (q : Piece) → IsKeptAs dim (made rows p) q → has q.domain z ≡ list_all (holds z) p.rows
   piece_has p q k = has_normal (set_of dim (made rows p)) q.domain z k.normal ∙ made_has p
 
-  laid_made : (p : Part) → IsLaidPart s.variables M W dim p → IsLaid s.variables M W Any dim (rows ++ p.rows) p.tree
-  laid_made p a = looser s.variables M W Any dim p.rows (rows ++ p.rows) p.tree (λ y e h. (both_of rows p.rows y h).1) a
+  laid_made : (p : Part) → IsLaidPart s.variables M W dim p → IsLaid s.variables M W Anything dim (rows ++ p.rows) p.tree
+  laid_made p a = looser s.variables M W Anything dim p.rows (rows ++ p.rows) p.tree (λ y e h. (both_of rows p.rows y h).1) a
 
   piece_count : (p : Part) (q : Piece) → IsLaidPart s.variables M W dim p → IsKeptAs dim (made rows p) q → count s.variables (restricted q) z ≡ one_where z p.rows
   piece_count p q a k =
       cond_same (has q.domain z) (list_all (holds z) p.rows) (count s.variables q.tree z) 1 (piece_has p q k)
-      (λ h. count_one s.variables M W Any dim (rows ++ p.rows) q.tree z (laid_any s.variables M W dim (rows ++ p.rows) p.tree q.tree (laid_made p a) k.same) size (hold_both rows p.rows z here (sym (piece_has p q k) ∙ h)))
+      (λ h. count_one s.variables M W Anything dim (rows ++ p.rows) q.tree z (laid_any s.variables M W dim (rows ++ p.rows) p.tree q.tree (laid_made p a) k.same) size (hold_both rows p.rows z here (sym (piece_has p q k) ∙ h)))
 
   piece_value : (p : Part) (q : Piece) (w : ℕ) → IsLaidPart s.variables M W dim p → IsKeptAs dim (made rows p) q → Hold p.rows z → HasValue s p.tree z w ↔ HasValue s q.tree z w
   piece_value p q w a k h = value_same s M W dim (rows ++ p.rows) p.tree q.tree z w (laid_made p a) k.same size (hold_both rows p.rows z here h)
@@ -147,7 +143,7 @@ mutual
   each_part_of_all P f none = tt
   each_part_of_all P f (more t ts) = (each_part P f t, each_part_of_all P f ts)
 
-own_any : (t : Tree) → Own Any Any t
+own_any : (t : Tree) → Own Anything Anything t
 own_any (reference place m) = tt
 own_any (constant n) = tt
 own_any (reduction o m t set) = tt
@@ -166,12 +162,18 @@ module _ (s : FlatSystem) (v : Variable) (g : IsWellFormedVariable s v) where
       (All-weaker (IsWellFormedPiece (signatures s) v) (λ p. (p.domain.dim ≡ v.domain.dim) × Fits (signatures s) v.domain.dim p.tree) (λ p k. (k.dimension, k.tree.fits)) v.pieces g.pieces)
 
   pub right_in_place : EachPart IsInPlace (right_side v)
-  right_in_place = (tt, each_branch IsInPlace v.pieces
-      (All-weaker (IsWellFormedPiece (signatures s) v) (λ p. IsInPlace (restricted p) × EachPart IsInPlace p.tree) (λ p k. (tt, k.tree.reductions)) v.pieces g.pieces))
+  right_in_place = (
+    tt,
+    each_branch IsInPlace v.pieces
+        (All-weaker (IsWellFormedPiece (signatures s) v) (λ p. IsInPlace (restricted p) × EachPart IsInPlace p.tree) (λ p k. (tt, k.tree.reductions)) v.pieces g.pieces),
+  )
 
   pub right_no_pick : EachPart (λ u. is_pick u ≡ false) (right_side v)
-  right_no_pick = (refl, each_branch (λ u. is_pick u ≡ false) v.pieces
-      (All-weaker (IsWellFormedPiece (signatures s) v) (λ p. (is_pick (restricted p) ≡ false) × EachPart (λ u. is_pick u ≡ false) p.tree) (λ p k. (refl, k.tree.no_pick)) v.pieces g.pieces))
+  right_no_pick = (
+    refl,
+    each_branch (λ u. is_pick u ≡ false) v.pieces
+        (All-weaker (IsWellFormedPiece (signatures s) v) (λ p. (is_pick (restricted p) ≡ false) × EachPart (λ u. is_pick u ≡ false) p.tree) (λ p k. (refl, k.tree.no_pick)) v.pieces g.pieces),
+  )
 
   module _ (z : Point) (point : IsTrue (has v.domain z)) where
     size : length z ≡ v.domain.dim
@@ -183,15 +185,15 @@ module _ (s : FlatSystem) (v : Variable) (g : IsWellFormedVariable s v) where
     fits_here : Fits (signatures s) (length z) (right_side v)
     fits_here = let P : ℕ → Type 0 = λ n. Fits (signatures s) n (right_side v) in subst P (sym size) right_fits
 
-    laid_here : All (IsLaidPart (signatures s) Any Any v.domain.dim) (parts (signatures s) [] (right_side v))
+    laid_here : All (IsLaidPart (signatures s) Anything Anything v.domain.dim) (parts (signatures s) [] (right_side v))
     laid_here =
-        let P : ℕ → Type 0 = λ n. All (IsLaidPart (signatures s) Any Any n) (parts (signatures s) [] (right_side v)) in
-        subst P size (laid_parts (signatures s) Any Any [] (right_side v) z few fits_here right_in_place right_no_pick (λ k. absurd (omega (arith, k))) (each_part (Own Any Any) own_any (right_side v)) (λ k d l. tt))
+        let P : ℕ → Type 0 = λ n. All (IsLaidPart (signatures s) Anything Anything n) (parts (signatures s) [] (right_side v)) in
+        subst P size (laid_parts (signatures s) Anything Anything [] (right_side v) z few fits_here right_in_place right_no_pick (λ k. absurd (omega (arith, k))) (each_part (Own Anything Anything) own_any (right_side v)) (λ k d l. tt))
 
     module _ (w : Variable) (n : IsNormalVariable (signatures s) v w) where
       pub right_count : count (signatures s) (right_side w) z ≡ count (signatures s) (right_side v) z
       right_count =
-          counted (record { variables = signatures s; words = λ name y. None; width = 0 }) Any Any v.domain.dim v.domain.rows z size (domain_holds v z point)
+          counted (record { variables = signatures s; words = λ name y. None; width = 0 }) Anything Anything v.domain.dim v.domain.rows z size (domain_holds v z point)
           (parts (signatures s) [] (right_side v)) w.pieces laid_here (keep_is v.domain.dim n.pieces)
           ∙ sym (pieces_counted (signatures s) (right_side v) z few fits_here)
 
@@ -201,9 +203,9 @@ module _ (s : FlatSystem) (v : Variable) (g : IsWellFormedVariable s v) where
           let keep = keep_is v.domain.dim n.pieces in (
             (λ h.
                 let r = same.0 h in
-                (right_count ∙ r.0, words_forth (scene s u v) Any Any v.domain.dim v.domain.rows z size (domain_holds v z point) (parts (signatures s) [] (right_side v)) w.pieces x laid_here keep r.1)),
+                (right_count ∙ r.0, words_forth (scene s u v) Anything Anything v.domain.dim v.domain.rows z size (domain_holds v z point) (parts (signatures s) [] (right_side v)) w.pieces x laid_here keep r.1)),
             (λ h. same.1 (
               sym right_count ∙ h.0,
-              words_back (scene s u v) Any Any v.domain.dim v.domain.rows z size (domain_holds v z point) (parts (signatures s) [] (right_side v)) w.pieces x laid_here keep h.1,
+              words_back (scene s u v) Anything Anything v.domain.dim v.domain.rows z size (domain_holds v z point) (parts (signatures s) [] (right_side v)) w.pieces x laid_here keep h.1,
             )),
           )

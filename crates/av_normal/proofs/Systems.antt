@@ -1,8 +1,7 @@
 -- A normal form shows what its system shows, and is proper where that is.
-use Rattle.std.proofs.Common.{◌≡◌, ◌↔◌, ℕ, Bool, IsTrue, List, [], ◌∷◌, map, Some, IsSome, refl, sym, ap, ap₂, subst, ◌∙◌, All}
+use Rattle.std.proofs.Common.{◌≡◌, ◌↔◌, ℕ, Bool, IsTrue, List, [], ◌∷◌, map, Some, refl, sym, ap, ap₂, subst, ◌∙◌, All}
 use Rattle.std.proofs.lemmas.List.Elements.{All-nil, All-cons, All-head, All-tail}
 use Rattle.av_base.specs.Words.{IsWord}
-use Rattle.av_poly.specs.Points.{Set}
 use Rattle.av_tree.specs.Trees.{Text}
 use Rattle.av_tree.specs.Points.{Point}
 use Rattle.av_tree.specs.Values.{Assignment}
@@ -13,7 +12,7 @@ use Rattle.av_flat.specs.Signatures.{Signature, signature, signatures, is_any, i
 use Rattle.av_flat.specs.Counts.{count}
 use Rattle.av_flat.specs.Values.{Scene, HasValue}
 use Rattle.av_flat.specs.Shown.{SameMeaning}
-use Rattle.av_flat.specs.Solutions.{scene, AtEachPoint, Satisfies, IsSolution, Shows, shows_of, declares_of}
+use Rattle.av_flat.specs.Solutions.{scene, AtEachPoint, Satisfies, IsSolution, shows_of, declares_of}
 use Rattle.av_flat.specs.Sets.{IsUnbounded}
 use Rattle.av_flat.specs.Proper.{IsProper}
 use Rattle.av_flat.specs.WellFormed.{IsWellFormedVariable, IsWellFormed}
@@ -52,9 +51,6 @@ same_signatures vs [] [] n = refl
 same_signatures vs [] (w ∷ ys) n = absurd n
 same_signatures vs (v ∷ xs) [] n = absurd n
 same_signatures vs (v ∷ xs) (w ∷ ys) n = ap₂ (λ a b. a ∷ b) (one_signature vs v w n.0) (same_signatures vs xs ys n.1)
-
-some_is : (u : Assignment) (name : Text) (z : Point) (w : ℕ) → u name z ≡ Some w → IsSome (u name z)
-some_is u name z w e = rw e refl
 
 module _ (s t : FlatSystem) (g : IsWellFormed s) (n : IsNormalForm s t) where
   abbrev vs : List Signature

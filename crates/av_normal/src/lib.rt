@@ -15,6 +15,5 @@ mod rows;
 mod spread;
 
 pub use fault::NormalFault;
-pub use laws::normal_forms_show_the_same;
+pub use laws::{normal_forms_are_kept, normal_forms_are_proper, normal_forms_show_the_same};
 pub use normal::Normal;
-pub use laws::{normal_forms_are_proper, normal_forms_show_the_same};
