@@ -86,3 +86,18 @@ no_point set z b h = elim b [
   | inl f ↦ f (pos 1, z, point_is_rational set z h)
   | inr g ↦ g.no_whole (entry_of z g.gap) (point_within_bounds set z g.gap h)
 ]
+
+-- ---- points between small bounds
+
+pub between_small : (low high z : List ℤ) → AllByRecursion (λ x. unsigned_abs x ≤ 4095) low → AllByRecursion (λ x. unsigned_abs x ≤ 4095) high → IsBetween low high z → AllByRecursion (λ x. unsigned_abs x ≤ 4095) z
+between_small low high [] a b h = tt
+between_small [] high (x ∷ z) a b h = absurd h
+between_small (l ∷ low) [] (x ∷ z) a b h = absurd h
+between_small (l ∷ low) (g ∷ high) (x ∷ z) a b h =
+    let s = a.0 in let t = b.0 in let p = h.0 in let q = h.1 in
+    (omega (arith, ints, s, t, p, q), between_small low high z a.1 b.1 h.2)
+
+pub small_between : (low high z : List ℤ) → AtMost 4095 low → AtMost 4095 high → IsBetween low high z → AtMost 4095 z
+small_between low high z a b h =
+    All-from_recursion (λ x. unsigned_abs x ≤ 4095) z
+    (between_small low high z (recursion_from_All (λ x. unsigned_abs x ≤ 4095) low a) (recursion_from_All (λ x. unsigned_abs x ≤ 4095) high b) h)

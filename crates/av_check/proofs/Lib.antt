@@ -7,3 +7,4 @@ pub mod Founded
 pub mod Prepared
 pub mod Settled
 pub mod Looking
+pub mod Opposing

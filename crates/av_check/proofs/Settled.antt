@@ -1,5 +1,6 @@
 -- Wrong points of variables, and the faults of systems: one at most, and none of a proper system.
 use Rattle.std.proofs.Common.{◌≡◌, ◌≢◌, ◌↔◌, ℕ, zero, suc, ◌+◌, ◌<◌, ◌≤◌, ◌⊎◌, inl, inr, Bool, true, false, true≢false, IsTrue, List, [], ◌∷◌, ◌++◌, length, map, take, drop, take-append-drop, get_or, Option, Some, None, refl, sym, ap, ap₂, subst, ◌∙◌, arith, All}
+use Rattle.std.specs.Prelude.{Result, Ok, Err, OnOk, IfErr}
 use Rattle.std.proofs.Math.Seq.{drop-cons}
 use Rattle.std.proofs.lemmas.List.{length-map, get_or-map, take_more}
 use Rattle.std.proofs.lemmas.List.Elements.{All-nil, All-head, All-push, All-weaker}
@@ -20,6 +21,8 @@ use Rattle.av_normal.proofs.Limits.{none_first}
 use Rattle.av_check.specs.declared.fault.CheckFault.{CheckFault}
 use Rattle.av_check.specs.declared.fault.CheckFault.TheVariants as fault
 use Rattle.av_check.specs.declared.verdict.Blame.{Blame}
+use Rattle.av_check.specs.declared.verdict.Verdict.TheVariants as verdict
+use Rattle.av_check.specs.Verdicts.{IsVerdict}
 use Rattle.av_check.specs.Least.{IsLeast}
 use Rattle.av_check.specs.Having.{IsOff}
 use Rattle.av_check.specs.Wrong.{IsWrongAt, IsLeastWrong, IsFirstWrong}
@@ -48,14 +51,21 @@ module _ (vs : List Signature) (v w : Variable) (r : IsReady vs v w) (computed :
 pub input_is_fine : (vs : List Signature) (v : Variable) → is_computed v.kind ≡ false → HasNoWrong vs v
 input_is_fine vs v e z h = true≢false (sym h.computed ∙ e)
 
-pub two_words : (n : ℕ) → (n ≡ 1 → ⊥) → (n ≡ 0 → ⊥) → 1 < n
+two_words : (n : ℕ) → (n ≡ 1 → ⊥) → (n ≡ 0 → ⊥) → 1 < n
 two_words zero h k = absurd (k refl)
 two_words (suc zero) h k = absurd (h refl)
 two_words (suc (suc n)) h k = omega arith
 
-pub uncovered : (vs : List Signature) (v : Variable) (z : Point) (name : Text) (outside : Option (Text × Point)) (blame : Option Blame) → IsLeastWrong vs v z → name ≡ v.name → count vs (right_side v) z ≡ 0
+uncovered : (vs : List Signature) (v : Variable) (z : Point) (name : Text) (outside : Option (Text × Point)) (blame : Option Blame) → IsLeastWrong vs v z → name ≡ v.name → count vs (right_side v) z ≡ 0
     → blame ≡ blamed vs (right_side v) z → outside ≡ named vs blame → IsFaultOf vs v (fault.Uncovered name z outside)
 uncovered vs v z name outside blame h e n b o = (h, e, n, o ∙ ap (named vs) b)
+
+pub judged_counted : (vs : List Signature) (v : Variable) (z : Point) (name : Text) → IsLeastWrong vs v z → name ≡ v.name → IsVerdict vs (right_side v) z verdict.Counted → IsFaultOf vs v (fault.TwoBranches name z)
+judged_counted vs v z name h e k = (h, e, two_words (count vs (right_side v) z) h.wrong.count k)
+
+pub judged_missing : (vs : List Signature) (v : Variable) (z : Point) (name : Text) (outside : Option (Text × Point)) (blame : Option Blame) → IsLeastWrong vs v z → name ≡ v.name
+    → IsVerdict vs (right_side v) z (verdict.Missing blame) → outside ≡ named vs blame → IsFaultOf vs v (fault.Uncovered name z outside)
+judged_missing vs v z name outside blame h e k o = uncovered vs v z name outside blame h e k.0 k.1 o
 
 -- ---- all variables
 
@@ -196,3 +206,16 @@ one_fault s (fault.TwoBranches a y) (fault.Uncovered b z q) h k n =
     let two = h.2.2 in
     let none = k.2.2 in
     absurd (omega (arith, same, none, two))
+
+pub refuses : (s : FlatSystem) (r : Result (Unit {0}) CheckFault) → OnOk r (IsProper s) → IfErr r (IsFault s) → (f : CheckFault) → IsFault s f → f ≢ fault.Memory → (r ≡ Err f) ⊎ (r ≡ Err fault.Memory)
+refuses s (Ok u) p w f h n = absurd (n (no_fault s f p h))
+refuses s (Err g) p w f h n = elim (one_fault s f g h w n) [ inl e ↦ inl (ap Err (sym e)) | inr e ↦ inr (ap Err e) ]
+
+pub complete : (s : FlatSystem) (r : Result (Unit {0}) CheckFault) → IfErr r (IsFault s) → IsProper s → IfErr r (λ f. f ≡ fault.Memory)
+complete s (Ok u) w p = tt
+complete s (Err g) w p = no_fault s g p w
+
+pub found_at : (s : FlatSystem) (width : ℕ) (r : Result (Unit {0}) CheckFault) → s ≡ record { width = width; variables = s.variables }
+    → IfErr r (λ f. (w : ℕ) → IsFault (record { width = w; variables = s.variables }) f) → IfErr r (IsFault s)
+found_at s width (Ok u) e h = tt
+found_at s width (Err g) e h = subst (λ (x : FlatSystem). IsFault x g) (sym e) (h width)

@@ -1,4 +1,4 @@
-ghost use Rattle.std.specs.Prelude.{ℤ, List as Items, ◌≡◌, ◌≢◌, ◌⊎◌, Ok, Err, All, IfOk, IfErr, OnOk, map};
+ghost use Rattle.std.specs.Prelude.{ℕ, ◌≡◌, ◌≢◌, ◌⊎◌, Err, Some, All, IfOk, IfErr, OnOk, map};
 ghost use Rattle.av_affine.specs.Numbers.{AtMost};
 ghost use Rattle.av_flat.specs.Trees.{view_variable, view_piece, view_system};
 ghost use Rattle.av_flat.specs.Signatures.{signature, signatures, is_computed};
@@ -10,6 +10,13 @@ ghost use Rattle.av_check.specs.Wrong.{IsLeastWrong};
 ghost use Rattle.av_check.specs.CheckFaults.{IsFaultOf, IsFault};
 ghost use Rattle.av_check.specs.Standing.{StandsInside};
 ghost use Rattle.av_check.specs.Ready.{IsReady, AreReady, HasNoWrong};
+
+ghost use Rattle.av_tree.specs.Trees.{Text};
+ghost use Rattle.av_flat.specs.declared.quantity.Quantity.{Quantity};
+ghost use Rattle.av_flat.specs.Quantities.{HasWideSets, HasUnbounded};
+ghost use Rattle.av_flat.specs.Kept.{IsKept};
+ghost use Rattle.av_normal.specs.NormalForm.{IsNormalForm};
+ghost use Rattle.av_check.specs.declared.fault.CheckFault.{CheckFault as FaultSeen};
 
 use crate::CheckFault;
 use crate::judge::judge_pieces;
@@ -41,6 +48,22 @@ fn domains(alloc: Global, pieces: &[Piece]) -> Result<List<Poly>, Memory>
     Ok(sets)
 }
 
+// The point with the name of the variable, where there is one at the place.
+fn name_place(
+    alloc: Global,
+    vars: &[Var],
+    blame: Blame,
+) -> Result<Option<(Name, Point)>, Memory>
+    ensures { IfOk result (λ outside. outside ≡ named (map signature (map view_variable vars.now)) (Some blame)) }
+{
+    let place = blame.var as usize;
+    if place >= vars.len() {
+        return Ok(None);
+    }
+    let name = Name::new(alloc, vars[place].name.as_str())?;
+    Ok(Some((name, blame.point)))
+}
+
 // The blame with the name of the variable.
 fn name_blame(
     alloc: Global,
@@ -51,13 +74,7 @@ fn name_blame(
 {
     match blame {
         None => Ok(None),
-        Some(blame) => match vars.get(blame.var as usize) {
-            None => Ok(None),
-            Some(var) => {
-                let name = Name::new(alloc, var.name.as_str())?;
-                Ok(Some((name, blame.point)))
-            }
-        },
+        Some(blame) => name_place(alloc, vars, blame),
     }
 }
 
@@ -107,10 +124,27 @@ fn check_variable(alloc: Global, vars: &[Var], var: &Var, kept: &Var) -> Result<
 fn check_variables(alloc: Global, vars: &[Var], kept: &[Var]) -> Result<(), CheckFault>
     requires { AreReady (map signature (map view_variable vars.now)) (map view_variable vars.now) (map view_variable kept.now) }
     ensures fine { OnOk result (All (HasNoWrong (map signature (map view_variable vars.now))) (map view_variable vars.now)) }
-    ensures wrong { IfErr result (IsFault (record { width = 0; variables = map view_variable vars.now })) }
+    ensures wrong { IfErr result (λ f. (width : ℕ) → IsFault (record { width = width; variables = map view_variable vars.now }) f) }
 {
     for k in 0..vars.len() {
         check_variable(alloc, vars, &vars[k], &kept[k])?;
     }
     Ok(())
+}
+
+/// Whether each declared point of an output or local has just one word (Wilde's reports on Alpha, by the domains of
+/// expressions), where the system's normal form is at hand. The work is on sets of rows: no count is taken at a point but
+/// the one that is answered.
+pub fn check_normal(alloc: Global, flat: &Flat, normal: &Flat) -> Result<(), CheckFault>
+    requires well_formed { IsWellFormed (view_system flat.now) }
+    requires ends { (name : Text) → HasUnbounded (view_system flat.now) name → ⊥ }
+    requires narrow { (kind : Quantity) (n : ℕ) → HasWideSets (view_system flat.now) kind n → ⊥ }
+    requires normal { IsNormalForm (view_system flat.now) (view_system normal.now) }
+    requires kept { IsKept (view_system normal.now) }
+    ensures proper { OnOk result (IsProper (view_system flat.now)) }
+    ensures complete { IsProper (view_system flat.now) → IfErr result (λ f. f ≡ fault.Memory) }
+    ensures fault { IfErr result (IsFault (view_system flat.now)) }
+    ensures refused { (f : FaultSeen) → IsFault (view_system flat.now) f → f ≢ fault.Memory → (result ≡ Err f) ⊎ (result ≡ Err fault.Memory) }
+{
+    check_variables(alloc, flat.vars.as_slice(), normal.vars.as_slice())
 }

@@ -69,7 +69,8 @@ fn judge(
             if domain.contains(&point_under(under, z)) {
                 judge(alloc, vars, under, body, z)
             } else {
-                Ok(Verdict::Missing(None))
+                let nobody = None;
+                Ok(Verdict::Missing(nobody))
             }
         }
         Tree::Case { branches } => judge_all(alloc, vars, under, branches.as_slice(), z),

@@ -6,10 +6,14 @@ mod fault;
 mod images;
 mod judge;
 mod least;
+mod opposed;
 mod order;
 mod outside;
 mod overlap;
 mod sets;
+#[cfg(test)]
+mod tests;
 mod verdict;
 
+pub use check::check_normal;
 pub use fault::CheckFault;

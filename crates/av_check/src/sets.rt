@@ -8,6 +8,7 @@ ghost use Rattle.av_poly.specs.Points.{Has};
 ghost use Rattle.av_check.specs.Least.{IsLeast};
 ghost use Rattle.av_check.specs.Having.{IsInside};
 
+use crate::opposed::are_contrary;
 use av_affine::Form;
 use av_base::{List, Memory, Point};
 use av_poly::{Bounds, Poly};
@@ -50,5 +51,8 @@ pub(crate) fn least_point(set: &Poly, extent: &Bounds) -> Option<Point>
     requires inside { IsInside set.now.dim extent.now set.now }
     ensures { IsLeast (Has set.now) result }
 {
+    if are_contrary(set.rows.as_slice()) {
+        return None;
+    }
     set.first_point(extent)
 }

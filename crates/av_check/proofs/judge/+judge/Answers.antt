@@ -1,4 +1,4 @@
-use Rattle.std.proofs.Common.{◌≡◌, ◌<◌, ◌+◌, length, map, Bool, true, false, List, ap, sym, subst, ◌∙◌, rules, IfOk}
+use Rattle.std.proofs.Common.{◌≡◌, ◌<◌, ◌+◌, length, map, true, false, None, List, ap, sym, subst, ◌∙◌, rules, IfOk}
 use Rattle.std.proofs.lemmas.Result.{IfOk-weaker}
 use Rattle.av_flat.specs.declared.tree.Tree.{Tree as TreeMade}
 use Rattle.av_flat.specs.Trees.{Tree, view, trees_of, view_variable, cases}
@@ -8,11 +8,12 @@ use Rattle.av_flat.proofs.Views.{view_case}
 use Rattle.av_flat.specs.Points.{has}
 use Rattle.av_tree.specs.Points.{Point}
 use Rattle.av_check.specs.declared.verdict.Verdict.{Verdict}
+use Rattle.av_check.specs.declared.verdict.Verdict.TheVariants as verdict
 use Rattle.av_check.specs.Blame.{blamed}
 use Rattle.av_check.specs.Standing.{reach, Stands, StandAll}
 use Rattle.av_check.specs.Verdicts.{IsVerdict, IsVerdictOfAll}
 use Rattle.av_check.proofs.Judging.{of_two, of_four, inside, outside, has_true, has_false, branch_more}
-use Rattle.av_check.proofs.Looking.{next_stands}
+use Rattle.av_check.proofs.Looking.{less_deep, next_stands}
 use Rattle.av_check.proofs.judge.+judge.Goals as goal
 
 pub judge-judge_all-requires : goal.judge-judge_all-requires
@@ -22,7 +23,7 @@ judge-judge_all-requires t c =
     let z = c.args.z.now in
     let e = ap view c.in-Case.is ∙ view_case c.in-Case.branches in
     let stands = subst (λ (u : Tree). Stands vs ds u z) e c.requires.stands in (
-      search rules,
+      less_deep t c.args.tree.now c.in-Case.branches c.as_slice.result.now c.in-Case.is c.as_slice.ensures c.decreases,
       (subst (λ (ts : List TreeMade). StandAll vs ds (trees_of (map view ts)) z) (sym c.as_slice.ensures) stands, c.requires.small),
     )
 
@@ -75,7 +76,7 @@ judge-returns-else-contains t c =
     let body = c.in-Restrict.body.value in
     let missed = has_false d c.point_under.result c.contains.result c.contains.ensures c.if-contains.false in
     let at = subst (λ (x : Point). has d x ≡ false) c.point_under.ensures.point missed in
-    subst (λ (u : TreeMade). IsVerdict vs (view u) y _) (sym c.in-Restrict.is) (outside vs y d (view body) at)
+    subst (λ (u : TreeMade). IsVerdict vs (view u) y (verdict.Missing None)) (sym c.in-Restrict.is) (outside vs y d (view body) at)
 
 pub judge-returns-in-Case : goal.judge-returns-in-Case
 judge-returns-in-Case t c =

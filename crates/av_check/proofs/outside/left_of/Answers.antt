@@ -1,6 +1,6 @@
-use Rattle.std.proofs.Common.{◌≡◌, ◌↔◌, ◌<◌, ◌∙◌, ◌++◌, ◌∷◌, [], ℤ, length, List, ap, subst, rules}
+use Rattle.std.proofs.Common.{◌≡◌, ◌↔◌, ◌<◌, ◌∙◌, ◌++◌, ◌∷◌, [], ℕ, ℤ, All, length, List, ap, subst, rules}
 use Rattle.av_poly.specs.Points.{Set, Has}
-use Rattle.av_check.specs.Having.{IsInAny}
+use Rattle.av_check.specs.Having.{IsInAny, IsInside}
 use Rattle.av_check.proofs.Counting.{first_inside, first_left, left_more}
 use Rattle.av_check.proofs.outside.left_of.Goals as goal
 
@@ -19,6 +19,6 @@ loop-set-preserved c =
     let l : c.loop-set.set-index < length c.args.sets.now = search rules in
     let own = subst (λ (ps : List Set). (z : List ℤ) → IsInAny c.in_ok-left.left z ↔ (IsInAny ps z × (Has set z → ⊥))) c.as_slice.ensures c.in_ok-left.ensures.points in
     record {
-      inside = c.in_ok-left.ensures.inside;
+      inside = subst (λ (n : ℕ). All (IsInside n c.args.extent.now) c.in_ok-left.left) (ap (λ (s : Set). s.dim) c.domain.view_is) c.in_ok-left.ensures.inside;
       points = left_more c.args.domain.now c.args.sets.now c.loop-set.left c.in_ok-left.left c.loop-set.set-index set l c.set-item.is own c.loop-set.invariant.points;
     }
