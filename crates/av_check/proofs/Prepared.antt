@@ -21,6 +21,9 @@ use Rattle.av_flat.specs.Kept.{IsPlain, ReadsDeclared, IsKeptPiece, IsKeptVariab
 use Rattle.av_flat.specs.Quantities.{HasWideSets}
 use Rattle.av_flat.proofs.Sets.{has_is}
 use Rattle.av_normal.specs.NormalForm.{IsNormalised, IsNormalVariable, AreNormalVariables, IsNormalForm}
+use Rattle.av_normal.specs.declared.fault.NormalFault.{NormalFault}
+use Rattle.av_normal.specs.declared.fault.NormalFault.TheVariants as normal_fault
+use Rattle.av_normal.specs.NormalFaults.{HasFewPieces, HasNarrowSets, HasEnds, IsFault}
 use Rattle.av_normal.proofs.PieceWords.{has_normal, cond_same}
 use Rattle.av_normal.proofs.RightSides.{right_count}
 use Rattle.av_normal.proofs.Systems.{both_all, signatures_are}
@@ -111,3 +114,15 @@ module _ (s t : FlatSystem) (g : IsWellFormed s) (n : IsNormalForm s t) (kept : 
   are_ready = all_ready s.variables t.variables n.variables
       (both_all (IsWellFormedVariable s) (AllFit (signatures s)) s.variables g.each (each_fits s narrow))
       (both_all (IsWellFormedVariable t) (IsKeptVariable (signatures t)) t.variables kept.well_formed.each kept.each)
+
+-- ---- systems that the pass to normal forms has no cause to refuse
+
+module _ (s : FlatSystem) (none : (f : NormalFault) → IsFault s f → f ≡ normal_fault.Memory) where
+  few_pieces : HasFewPieces s
+  few_pieces n h = let e = none (normal_fault.Pieces n) h in absurd cc
+
+  pub narrow_sets : HasNarrowSets s
+  narrow_sets kind n h = let e = none (normal_fault.Limit kind n) (few_pieces, inl h) in absurd cc
+
+  pub has_ends : HasEnds s
+  has_ends name h = let e = none (normal_fault.Unbounded name) (few_pieces, narrow_sets, h) in absurd cc

@@ -1,7 +1,7 @@
 //! Each declared point exactly once: the first variable and its least point at which an equation has no word, or two.
 #![tactic(auto)]
 
-mod check;
+mod checker;
 mod fault;
 mod images;
 mod judge;
@@ -15,5 +15,5 @@ mod sets;
 mod tests;
 mod verdict;
 
-pub use check::check_normal;
+pub use checker::check_normal;
 pub use fault::CheckFault;
