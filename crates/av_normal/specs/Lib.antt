@@ -3,4 +3,7 @@ pub mod NormalFaults
 pub mod Searches
 pub mod Standing
 pub mod Numbered
+pub mod Branches
+pub mod Filling
+pub mod Extents
 pub mod Counted

@@ -3,6 +3,7 @@ ghost use Rattle.av_normal.specs.declared.fault.NormalFault.TheVariants as fault
 
 use av_base::{Memory, Name};
 use av_flat::Quantity;
+use std::alloc::{AllocError, AllocFailed};
 
 /// Why a system has no normal form. Where several of these hold, the first of these is answered: pieces, limits of
 /// sets and composed maps, domains without an end, limits of boxes.
@@ -23,6 +24,22 @@ impl From<Memory> for NormalFault {
     ghost from_gives = { λ _ e. e ≡ fault.Memory };
 
     fn from(_: Memory) -> NormalFault {
+        NormalFault::Memory
+    }
+}
+
+impl From<AllocError> for NormalFault {
+    ghost from_gives = { λ _ e. e ≡ fault.Memory };
+
+    fn from(_: AllocError) -> NormalFault {
+        NormalFault::Memory
+    }
+}
+
+impl<T: Drop> From<AllocFailed<T>> for NormalFault {
+    ghost from_gives = { λ _ e. e ≡ fault.Memory };
+
+    fn from(_: AllocFailed<T>) -> NormalFault {
         NormalFault::Memory
     }
 }

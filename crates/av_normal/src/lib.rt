@@ -7,13 +7,9 @@ mod count;
 mod distribute;
 mod fault;
 mod fill;
-mod keep;
 mod laws;
 mod measure;
-mod normal;
 mod rows;
-mod spread;
 
 pub use fault::NormalFault;
 pub use laws::{normal_forms_are_kept, normal_forms_are_proper, normal_forms_show_the_same};
-pub use normal::Normal;

@@ -78,6 +78,7 @@ pub(crate) fn narrowed(set: Poly) -> Result<Poly, NormalFault>
     ensures normalised { IfOk result (λ to. AreNormalised set.dim set.rows to.rows) }
     ensures limits { IfOk result (λ to. All IsWithinLimits to.rows) }
     ensures few { IfOk result (λ to. length to.rows ≤ 20) }
+    ensures greatest { IfOk result (λ to. (greatest_coefficient to.rows ≤ 1024) × (greatest_constant to.rows ≤ 2 ^ 20)) }
     ensures narrow { OnOk result (IsNarrow (of_set set)) }
     ensures wide { IfErr result (IsWideOne (of_set set)) }
 {

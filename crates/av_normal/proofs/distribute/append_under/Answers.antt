@@ -1,0 +1,18 @@
+use Rattle.std.proofs.Common.{sym, subst, List, ◌∙◌}
+use Rattle.std.specs.List.{All}
+use Rattle.std.proofs.lemmas.List.Elements.{All-append}
+use Rattle.av_affine.specs.declared.form.Form.{Form}
+use Rattle.av_poly.specs.Points.{IsSmall}
+use Rattle.av_normal.proofs.Outcomes.{on_ok}
+use Rattle.av_normal.proofs.Reading.{fits_under}
+use Rattle.av_normal.proofs.distribute.append_under.Goals as goal
+
+pub append_before-requires-clause-fits : goal.append_before-requires-clause-fits
+append_before-requires-clause-fits c =
+    fits_under c.args.under.now c.args.domain.now c.in-Ok-Some.whole (sym c.in-Ok-Some.field-0-is ∙ c.in-Ok-Some.ensures.composed) c.requires.fits
+
+pub returns-in-Ok-None-clause-small : goal.returns-in-Ok-None-clause-small
+returns-in-Ok-None-clause-small c =
+    let P : List Form → Type 0 = λ (rows : List Form). All IsSmall rows in
+    let small = subst P (sym c.as_slice.ensures) c.domain.invariant in
+    on_ok c.append.result c.append.ensures (λ e h. subst P (sym e) (All-append IsSmall c.args.rows.now c.as_slice.result.now h small))
