@@ -125,7 +125,7 @@ module _ (vs : List Signature) (z : Point) where
   piece_more f g xs i x so_far own next l e h p k =
       let P : List Tree → Type 0 = λ (ts : List Tree). IsVerdictOfAll vs (trees_of ts) z next in
       let taken : map f (map g (take (i + 1) xs)) ≡ map f (map g (take i xs)) ++ f (g x) ∷ [] =
-          ap (λ ys. map f (map g ys)) (take_more xs i x l ∙ ap (λ y. take i xs ++ y ∷ []) (sym e)) ∙ ap (map f) (map-append g (take i xs) (x ∷ [])) ∙ map-append f (map g (take i xs)) (g x ∷ []) in
+      ap (λ ys. map f (map g ys)) (take_more xs i x l ∙ ap (λ y. take i xs ++ y ∷ []) (sym e)) ∙ ap (map f) (map-append g (take i xs) (x ∷ [])) ∙ map-append f (map g (take i xs)) (g x ∷ []) in
       subst P (sym taken)
       (of_push (map f (map g (take i xs))) (f (g x)) next
       (h (count_all vs (trees_of (map f (map g (take i xs)))) z) (count vs (f (g x)) z) (blamed_of_all vs (trees_of (map f (map g (take i xs)))) z) (blamed vs (f (g x)) z) p k))

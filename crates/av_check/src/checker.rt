@@ -10,7 +10,6 @@ ghost use Rattle.av_check.specs.Wrong.{IsLeastWrong};
 ghost use Rattle.av_check.specs.CheckFaults.{IsFaultOf, IsFault};
 ghost use Rattle.av_check.specs.Standing.{StandsInside};
 ghost use Rattle.av_check.specs.Ready.{IsReady, AreReady, HasNoWrong};
-
 ghost use Rattle.av_tree.specs.Trees.{Text};
 ghost use Rattle.av_flat.specs.declared.quantity.Quantity.{Quantity};
 ghost use Rattle.av_flat.specs.Quantities.{HasWideSets, HasUnbounded};
@@ -49,11 +48,7 @@ fn domains(alloc: Global, pieces: &[Piece]) -> Result<List<Poly>, Memory>
 }
 
 // The point with the name of the variable, where there is one at the place.
-fn name_place(
-    alloc: Global,
-    vars: &[Var],
-    blame: Blame,
-) -> Result<Option<(Name, Point)>, Memory>
+fn name_place(alloc: Global, vars: &[Var], blame: Blame) -> Result<Option<(Name, Point)>, Memory>
     ensures { IfOk result (λ outside. outside ≡ named (map signature (map view_variable vars.now)) (Some blame)) }
 {
     let place = blame.var as usize;
@@ -79,12 +74,7 @@ fn name_blame(
 }
 
 // What is wrong with a variable at its least wrong point.
-fn fault_at(
-    alloc: Global,
-    vars: &[Var],
-    var: &Var,
-    point: Point,
-) -> Result<CheckFault, Memory>
+fn fault_at(alloc: Global, vars: &[Var], var: &Var, point: Point) -> Result<CheckFault, Memory>
     requires stand { All (λ piece. StandsInside (map signature (map view_variable vars.now)) (view_piece piece) point) var.now.pieces }
     requires small { AtMost 4095 point }
     requires least { IsLeastWrong (map signature (map view_variable vars.now)) (view_variable var.now) point }

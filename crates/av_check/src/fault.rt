@@ -15,7 +15,10 @@ pub enum CheckFault {
         outside: Option<(Name, Point)>,
     },
     /// Two branches or more have a word there.
-    TwoBranches { variable: Name, point: Point },
+    TwoBranches {
+        variable: Name,
+        point: Point,
+    },
     /// Want of memory. No contract says when it comes.
     Memory,
 }

@@ -62,7 +62,12 @@ fn left_outside(
 }
 
 // What sets leave of a domain.
-fn left_of(alloc: Global, extent: &Bounds, domain: &Poly, sets: &[Poly]) -> Result<List<Poly>, Memory>
+fn left_of(
+    alloc: Global,
+    extent: &Bounds,
+    domain: &Poly,
+    sets: &[Poly],
+) -> Result<List<Poly>, Memory>
     requires dim { domain.now.dim ≤ 4 }
     requires low { AtMost 4095 extent.now.low }
     requires high { AtMost 4095 extent.now.high }

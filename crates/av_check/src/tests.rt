@@ -10,7 +10,7 @@ use crate::least::least_wrong;
 use av_affine::Form;
 use av_base::{List, Memory, Point};
 use av_elim::bounds;
-use av_poly::Poly;
+use av_poly::{Bounds, Poly};
 use std::alloc::Global;
 use std::test::Fail;
 
@@ -80,6 +80,13 @@ fn are_small(numbers: &[i128]) -> bool
     numbers.iter().all(|x| x.unsigned_abs() <= 4095)
 }
 
+fn is_small_box(extent: &Bounds) -> bool
+    ensures low { IsTrue result → AtMost 4095 extent.now.low }
+    ensures high { IsTrue result → AtMost 4095 extent.now.high }
+{
+    are_small(&extent.low) && are_small(&extent.high)
+}
+
 // Whether no coordinate of a point of the set is above 4,095, as its bounds tell; also where it has no bounds.
 fn is_small(alloc: Global, set: &Poly) -> bool
     requires dim { set.now.dim ≤ 4 }
@@ -87,7 +94,7 @@ fn is_small(alloc: Global, set: &Poly) -> bool
     ensures { IsTrue result → (z : Items ℤ) → Has set.now z → AtMost 4095 z }
 {
     match bounds(alloc, set) {
-        Ok(extent) => are_small(&extent.low) && are_small(&extent.high),
+        Ok(extent) => is_small_box(&extent),
         Err(_) => false,
     }
 }
@@ -142,7 +149,17 @@ fn large_domains(rt: HostRuntime) -> Result<(), Fail> {
     let alloc = rt.alloc();
     let square = [0, 255, 0, 255];
     assert!(rt; wrong(alloc, square, &[square])?.is_none());
-    assert!(rt; is_at(&wrong(alloc, square, &[[0, 254, 0, 255], [255, 255, 0, 254]])?, &[255, 255]));
-    assert!(rt; is_at(&wrong(alloc, square, &[square, [255, 255, 255, 255]])?, &[255, 255]));
+    assert!(rt;
+        is_at(
+            &wrong(alloc, square, &[[0, 254, 0, 255], [255, 255, 0, 254]])?,
+            &[255, 255]
+        )
+    );
+    assert!(rt;
+        is_at(
+            &wrong(alloc, square, &[square, [255, 255, 255, 255]])?,
+            &[255, 255]
+        )
+    );
     Ok(())
 }

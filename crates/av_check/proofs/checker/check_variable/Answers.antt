@@ -16,7 +16,7 @@ pub least_wrong-requires-clause-sets : goal.least_wrong-requires-clause-sets
 least_wrong-requires-clause-sets c =
     let d = c.args.var.now.domain.dim in
     let e : c.as_slice-2.result.now ≡ map (λ p. p.domain) (map view_piece c.args.kept.now.pieces) =
-        c.as_slice-2.ensures ∙ c.in_ok-sets.ensures ∙ ap (λ (ps : List PieceMade). map (λ p. p.domain) (map view_piece ps)) c.as_slice.ensures in
+    c.as_slice-2.ensures ∙ c.in_ok-sets.ensures ∙ ap (λ (ps : List PieceMade). map (λ p. p.domain) (map view_piece ps)) c.as_slice.ensures in
     subst (All (IsOrdinary d)) (sym e) (All-map (IsOrdinary d) (λ p. p.domain) (map view_piece c.args.kept.now.pieces) c.requires.sets)
 
 pub returns-in-None-clause-fine : goal.returns-in-None-clause-fine
@@ -25,7 +25,7 @@ returns-in-None-clause-fine c =
     let v = view_variable c.args.var.now in
     let computed : is_computed v.kind ≡ true = sym c.is_computed.ensures ∙ c.if-not-is_computed.false in
     let e : c.as_slice-2.result.now ≡ map (λ p. p.domain) (map view_piece c.args.kept.now.pieces) =
-        c.as_slice-2.ensures ∙ c.in_ok-sets.ensures ∙ ap (λ (ps : List PieceMade). map (λ p. p.domain) (map view_piece ps)) c.as_slice.ensures in
+    c.as_slice-2.ensures ∙ c.in_ok-sets.ensures ∙ ap (λ (ps : List PieceMade). map (λ p. p.domain) (map view_piece ps)) c.as_slice.ensures in
     let h = subst (λ (o : Option Point). IsLeast (IsOff v.domain c.as_slice-2.result.now) o) c.in-None.is c.in_ok-least_wrong.ensures in
     none_is_wrong vs v (view_variable c.args.kept.now) c.requires computed (subst (λ (sets : List Set). IsLeast (IsOff v.domain sets) None) e h)
 
@@ -49,6 +49,6 @@ fault_at-requires-clause-least c =
     let point = c.in-Some.point in
     let computed : is_computed v.kind ≡ true = sym c.is_computed.ensures ∙ c.if-not-is_computed.false in
     let e : c.as_slice-2.result.now ≡ map (λ p. p.domain) (map view_piece c.args.kept.now.pieces) =
-        c.as_slice-2.ensures ∙ c.in_ok-sets.ensures ∙ ap (λ (ps : List PieceMade). map (λ p. p.domain) (map view_piece ps)) c.as_slice.ensures in
+    c.as_slice-2.ensures ∙ c.in_ok-sets.ensures ∙ ap (λ (ps : List PieceMade). map (λ p. p.domain) (map view_piece ps)) c.as_slice.ensures in
     let h = subst (λ (o : Option Point). IsLeast (IsOff v.domain c.as_slice-2.result.now) o) c.in-Some.is c.in_ok-least_wrong.ensures in
     least_is_wrong vs v (view_variable c.args.kept.now) c.requires computed point (subst (λ (sets : List Set). IsLeast (IsOff v.domain sets) (Some point)) e h)
