@@ -1,5 +1,5 @@
 -- Boxes within the limit on coordinates, and domains that have no point outside them.
-use Rattle.std.proofs.Common.{◌≡◌, ℕ, ◌≤◌, ◌^◌, ℤ, ◌≤ℤ◌, pos, inl, inr, List, [], ◌∷◌, length, map, get_or, refl, sym, subst, arith, All}
+use Rattle.std.proofs.Common.{ℕ, ◌≤◌, ◌^◌, ℤ, ◌≤ℤ◌, pos, inl, inr, List, [], ◌∷◌, length, map, get_or, sym, subst, arith, All}
 use Rattle.std.proofs.Math.IntN.{negsuc}
 use Rattle.std.specs.List.{AllByRecursion}
 use Rattle.std.specs.Int.RustNames.{unsigned_abs}

@@ -1,5 +1,5 @@
 -- Trees of well formed systems stand where their points are found by composed maps.
-use Rattle.std.proofs.Common.{◌≡◌, ℕ, ◌≤◌, List, [], ◌∷◌, ◌++◌, length, map, refl, sym, subst, ◌∙◌, All}
+use Rattle.std.proofs.Common.{◌≡◌, ℕ, ◌≤◌, List, [], ◌∷◌, ◌++◌, length, map, sym, subst, ◌∙◌, All}
 use Rattle.std.proofs.lemmas.List.{length-map}
 use Rattle.std.proofs.lemmas.List.Elements.{All-nil, All-cons, All-head, All-tail}
 use Rattle.av_affine.specs.declared.map.Map.{Map}
@@ -10,7 +10,7 @@ use Rattle.av_flat.specs.Signatures.{Signature}
 use Rattle.av_flat.specs.WellFormed.{Fits, FitAll, EachPart, EachPartOfAll, HasSmallRows}
 use Rattle.av_flat.specs.Quantities.{steps_under, composed_maps, composed_maps_of_all}
 use Rattle.av_normal.proofs.Laid.{all_parts}
-use Rattle.av_check.specs.Standing.{reach, HasSmallForms, IsChain, IsImage, IsReached, Stands, StandAll, StandsInside}
+use Rattle.av_check.specs.Standing.{reach, HasSmallForms, IsChain, IsReached, Stands, StandAll, StandsInside}
 
 reached : (ds : List Map) (z : Point) → IsChain ds z → All HasSmallForms ds → All HasSmallForms (steps_under ds) → IsReached ds z
 reached [] z h u c = h

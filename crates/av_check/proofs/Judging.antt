@@ -1,11 +1,10 @@
 -- Verdicts of trees from those of their parts.
-use Rattle.std.proofs.Common.{◌≡◌, ℕ, zero, suc, ◌+◌, ◌*◌, ◌<◌, Bool, true, false, true≢false, IsTrue, List, [], ◌∷◌, ◌++◌, length, map, take, get_or, Option, Some, None, refl, sym, ap, ap₂, subst, ◌∙◌, ◌↔◌, arith, mul_assoc, zero-mul, mul-zero, add_assoc, add-zero}
+use Rattle.std.proofs.Common.{◌≡◌, ℕ, zero, suc, ◌+◌, ◌*◌, ◌<◌, Bool, true, false, true≢false, IsTrue, List, [], ◌∷◌, ◌++◌, length, map, take, get_or, Option, Some, None, refl, sym, ap, ap₂, subst, ◌∙◌, ◌↔◌, arith, mul_assoc, zero-mul, mul-zero}
 use Rattle.std.specs.Prelude.{nat_eq, if◌then◌else◌}
 use Rattle.std.proofs.lemmas.List.{take_more, map-append}
 use Rattle.av_poly.specs.Points.{Set, Has}
 use Rattle.av_tree.specs.Points.{Point}
-use Rattle.av_flat.specs.Trees.{Tree, Trees, binary, choice, restriction, cases, none, more, trees_of}
-use Rattle.av_base.specs.declared.word.Op.{Op}
+use Rattle.av_flat.specs.Trees.{Tree, restriction, trees_of}
 use Rattle.av_flat.specs.Points.{has}
 use Rattle.av_flat.specs.Signatures.{Signature, is_declared_at}
 use Rattle.av_flat.specs.Counts.{count, count_all}

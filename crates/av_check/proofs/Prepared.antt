@@ -1,5 +1,5 @@
 -- Well formed systems and their normal forms are ready to be tried.
-use Rattle.std.proofs.Common.{◌≡◌, ℕ, ◌+◌, ◌*◌, ◌<◌, ◌≤◌, ℤ, pos, ◌≤ℤ◌, inl, inr, Bool, true, false, true≢false, IsTrue, List, [], ◌∷◌, length, map, get_or, refl, sym, ap, ap₂, subst, ◌∙◌, arith, All}
+use Rattle.std.proofs.Common.{◌≡◌, ℕ, ◌+◌, ◌*◌, ◌<◌, ◌≤◌, ℤ, pos, ◌≤ℤ◌, inl, inr, Bool, true≢false, IsTrue, List, [], ◌∷◌, map, refl, sym, ap, ap₂, subst, ◌∙◌, arith, All}
 use Rattle.std.specs.Prelude.{if◌then◌else◌}
 use Rattle.std.specs.Int.RustNames.{unsigned_abs}
 use Rattle.std.proofs.lemmas.Int.{ints}
@@ -11,11 +11,11 @@ use Rattle.av_poly.specs.Rational.{entry_of}
 use Rattle.av_poly.proofs.Rationals.{point_within_bounds}
 use Rattle.av_tree.specs.Points.{Point}
 use Rattle.av_flat.specs.declared.quantity.Quantity.{Quantity}
-use Rattle.av_flat.specs.Trees.{Tree, Trees, Piece, Variable, FlatSystem, reference, constant, binary, choice, restriction, cases, dependence, reduction, pick, trees_of, right_side}
+use Rattle.av_flat.specs.Trees.{Tree, Piece, Variable, FlatSystem, reference, constant, binary, choice, restriction, cases, dependence, reduction, pick, trees_of, right_side}
 use Rattle.av_flat.specs.Points.{has}
 use Rattle.av_flat.specs.Signatures.{Signature, signatures}
 use Rattle.av_flat.specs.Counts.{count, count_all}
-use Rattle.av_flat.specs.Sets.{HasSmallBox, IsBounded}
+use Rattle.av_flat.specs.Sets.{IsBounded}
 use Rattle.av_flat.specs.WellFormed.{EachPart, IsWellFormedPiece, IsWellFormedVariable, IsWellFormed}
 use Rattle.av_flat.specs.Kept.{IsPlain, ReadsDeclared, IsKeptPiece, IsKeptVariable, IsKept}
 use Rattle.av_flat.specs.Quantities.{HasWideSets}
@@ -28,8 +28,7 @@ use Rattle.av_normal.proofs.PieceWords.{has_normal, cond_same}
 use Rattle.av_normal.proofs.RightSides.{right_count}
 use Rattle.av_normal.proofs.Systems.{both_all, signatures_are}
 use Rattle.av_normal.proofs.Limits.{AllFit, each_fits}
-use Rattle.av_check.specs.Having.{one_in, having, IsOrdinary}
-use Rattle.av_check.specs.Standing.{StandsInside}
+use Rattle.av_check.specs.Having.{having, IsOrdinary}
 use Rattle.av_check.specs.Ready.{IsReady, AreReady}
 use Rattle.av_check.proofs.Founded.{IsFoundedPiece, pieces_stand}
 

@@ -1,5 +1,5 @@
 -- Points under maps, by composed maps.
-use Rattle.std.proofs.Common.{◌≡◌, ◌↔◌, ℕ, suc, ◌<◌, ◌≤◌, ◌+◌, ◌^◌, max, List, [], ◌∷◌, length, map, fold, get_or, drop, length-drop, Result, Err, refl, sym, ap, subst, ◌∙◌, arith, All, add-one}
+use Rattle.std.proofs.Common.{◌≡◌, ◌↔◌, ℕ, suc, ◌<◌, ◌≤◌, ◌+◌, ◌^◌, max, List, [], ◌∷◌, length, map, fold, get_or, drop, length-drop, Result, Err, refl, sym, ap, subst, ◌∙◌, arith, All}
 use Rattle.std.proofs.Math.Seq.{drop-cons}
 use Rattle.std.specs.List.{AllByRecursion}
 use Rattle.std.specs.Int.RustNames.{unsigned_abs}
@@ -17,7 +17,7 @@ use Rattle.av_flat.specs.Pieces.{composed}
 use Rattle.av_flat.specs.Quantities.{steps}
 use Rattle.av_flat.proofs.Parts.{composed_image}
 use Rattle.av_flat.proofs.Parts as parts
-use Rattle.av_check.specs.Standing.{reach, HasSmallForms, IsChain, IsImage, IsOnTheWay}
+use Rattle.av_check.specs.Standing.{reach, HasSmallForms, IsChain, IsOnTheWay}
 
 -- ---- compositions within limits are not refused
 

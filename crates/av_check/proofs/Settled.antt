@@ -1,11 +1,9 @@
 -- Wrong points of variables, and the faults of systems: one at most, and none of a proper system.
-use Rattle.std.proofs.Common.{◌≡◌, ◌≢◌, ◌↔◌, ℕ, zero, suc, ◌+◌, ◌<◌, ◌≤◌, ◌⊎◌, inl, inr, Bool, true, false, true≢false, IsTrue, List, [], ◌∷◌, ◌++◌, length, map, take, drop, take-append-drop, get_or, Option, Some, None, refl, sym, ap, ap₂, subst, ◌∙◌, arith, All}
+use Rattle.std.proofs.Common.{◌≡◌, ◌≢◌, ◌↔◌, ℕ, zero, suc, ◌+◌, ◌<◌, ◌⊎◌, inl, inr, false, true≢false, IsTrue, List, [], ◌∷◌, ◌++◌, length, map, take, drop, take-append-drop, get_or, Option, Some, None, refl, sym, ap, ap₂, subst, ◌∙◌, arith, All}
 use Rattle.std.specs.Prelude.{Result, Ok, Err, OnOk, IfErr}
 use Rattle.std.proofs.Math.Seq.{drop-cons}
 use Rattle.std.proofs.lemmas.List.{length-map, get_or-map, take_more}
-use Rattle.std.proofs.lemmas.List.Elements.{All-nil, All-head, All-push, All-weaker}
-use Rattle.av_poly.specs.Points.{Has}
-use Rattle.av_poly.specs.Search.{IsNotAfter}
+use Rattle.std.proofs.lemmas.List.Elements.{All-head, All-push, All-weaker}
 use Rattle.av_tree.specs.Trees.{Text}
 use Rattle.av_tree.specs.Points.{Point}
 use Rattle.av_flat.specs.Trees.{Variable, FlatSystem, right_side}
@@ -14,7 +12,7 @@ use Rattle.av_flat.specs.Signatures.{Signature, signatures, is_computed}
 use Rattle.av_flat.specs.Counts.{count}
 use Rattle.av_flat.specs.Sets.{IsUnbounded}
 use Rattle.av_flat.specs.Proper.{IsProper}
-use Rattle.av_flat.specs.Quantities.{IsFirst, HasUnbounded}
+use Rattle.av_flat.specs.Quantities.{HasUnbounded}
 use Rattle.av_flat.proofs.Sets.{has_is}
 use Rattle.av_normal.proofs.Laid.{all_parts}
 use Rattle.av_normal.proofs.Limits.{none_first}

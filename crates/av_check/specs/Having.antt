@@ -1,5 +1,5 @@
 -- How many sets have a point. Only private contracts cite this.
-use Rattle.std.specs.Prelude.{◌≡◌, ◌≢◌, ℕ, ◌+◌, ◌<◌, ◌^◌, if◌then◌else◌, unsigned_abs, All, Any, List, [], ◌∷◌}
+use Rattle.std.specs.Prelude.{◌≡◌, ◌≢◌, ℕ, ◌+◌, ◌<◌, if◌then◌else◌, All, Any, List, [], ◌∷◌}
 use Rattle.av_affine.specs.Forms.{IsWithinLimits}
 use Rattle.av_poly.specs.declared.poly.Bounds.{Bounds}
 use Rattle.av_poly.specs.Points.{Set, Has}

@@ -1,5 +1,5 @@
 -- The least of points in lexicographic order. Only private contracts cite this.
-use Rattle.std.specs.Prelude.{ℤ, Bool, true, false, ◌&&◌, ◌||◌, int_lt, List, [], ◌∷◌, Option, Some, None, if◌then◌else◌}
+use Rattle.std.specs.Prelude.{ℤ, Bool, true, false, int_lt, List, [], ◌∷◌, Option, Some, None, if◌then◌else◌}
 use Rattle.std.specs.Ordering.{int_eq}
 use Rattle.av_poly.specs.Search.{IsNotAfter}
 use Rattle.av_tree.specs.Points.{Point}

@@ -1,11 +1,10 @@
-use Rattle.std.proofs.Common.{◌≡◌, map, ℕ, List, All, refl, sym, subst, ◌∙◌}
+use Rattle.std.proofs.Common.{map, ℕ, List, All, refl, sym, subst}
 use Rattle.std.specs.Prelude.{OnOk, IfErr}
 use Rattle.std.proofs.lemmas.Result.{on_ok_weaker}
 use Rattle.av_flat.specs.declared.flat.Var.{Var}
 use Rattle.av_flat.specs.Trees.{FlatSystem, view_variable, view_system}
-use Rattle.av_flat.specs.Signatures.{signature, signatures}
+use Rattle.av_flat.specs.Signatures.{signature}
 use Rattle.av_flat.specs.Proper.{IsProper}
-use Rattle.av_check.specs.declared.fault.CheckFault.{CheckFault}
 use Rattle.av_check.specs.CheckFaults.{IsFault}
 use Rattle.av_check.specs.Ready.{AreReady, HasNoWrong}
 use Rattle.av_check.proofs.Prepared.{are_ready}

@@ -1,4 +1,4 @@
-use Rattle.std.proofs.Common.{◌≡◌, ◌<◌, ◌≤◌, length, map, List, All, refl, subst, arith, rules}
+use Rattle.std.proofs.Common.{◌<◌, ◌≤◌, length, map, List, All, refl, subst, arith, rules}
 use Rattle.std.proofs.lemmas.List.{length-map, take_all}
 use Rattle.std.proofs.lemmas.Result.{err_from_is_err_and}
 use Rattle.av_flat.specs.declared.flat.Var.{Var}

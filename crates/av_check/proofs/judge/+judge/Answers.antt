@@ -1,13 +1,12 @@
-use Rattle.std.proofs.Common.{◌≡◌, ◌<◌, ◌+◌, length, map, true, false, None, List, ap, sym, subst, ◌∙◌, rules, IfOk}
+use Rattle.std.proofs.Common.{◌≡◌, ◌<◌, length, map, true, false, None, List, ap, sym, subst, ◌∙◌, rules}
 use Rattle.std.proofs.lemmas.Result.{IfOk-weaker}
 use Rattle.av_flat.specs.declared.tree.Tree.{Tree as TreeMade}
 use Rattle.av_flat.specs.Trees.{Tree, view, trees_of, view_variable, cases}
-use Rattle.av_flat.specs.Signatures.{Signature, signature}
+use Rattle.av_flat.specs.Signatures.{signature}
 use Rattle.av_flat.specs.Counts.{count}
 use Rattle.av_flat.proofs.Views.{view_case}
 use Rattle.av_flat.specs.Points.{has}
 use Rattle.av_tree.specs.Points.{Point}
-use Rattle.av_check.specs.declared.verdict.Verdict.{Verdict}
 use Rattle.av_check.specs.declared.verdict.Verdict.TheVariants as verdict
 use Rattle.av_check.specs.Blame.{blamed}
 use Rattle.av_check.specs.Standing.{reach, Stands, StandAll}

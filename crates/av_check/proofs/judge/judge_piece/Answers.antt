@@ -1,4 +1,4 @@
-use Rattle.std.proofs.Common.{map, IfOk}
+use Rattle.std.proofs.Common.{map}
 use Rattle.std.proofs.lemmas.Result.{IfOk-weaker}
 use Rattle.av_flat.specs.Trees.{view, view_variable, restriction}
 use Rattle.av_flat.specs.Signatures.{signature}

@@ -1,5 +1,5 @@
-use Rattle.std.proofs.Common.{◌≡◌, ◌<◌, ◌≤◌, length, sym, ◌∙◌, arith, rules}
-use Rattle.av_check.proofs.Lexicographic.{order_ended, order_all, order_same, order_told}
+use Rattle.std.proofs.Common.{◌<◌, length, sym, ◌∙◌, arith, rules}
+use Rattle.av_check.proofs.Lexicographic.{order_ended}
 use Rattle.av_check.proofs.order.is_in_order.Goals as goal
 
 pub returns-then-k-other : goal.returns-then-k-other

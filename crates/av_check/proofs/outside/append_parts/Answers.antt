@@ -1,4 +1,4 @@
-use Rattle.std.proofs.Common.{◌≡◌, ◌↔◌, ◌⊎◌, ◌≤◌, ◌<◌, ◌∙◌, ◌++◌, ◌∷◌, [], ℤ, length, List, All, sym, subst, rules}
+use Rattle.std.proofs.Common.{◌≡◌, ◌↔◌, ◌⊎◌, ◌≤◌, ◌<◌, ◌∙◌, ◌++◌, ◌∷◌, [], length, List, All, sym, subst, rules}
 use Rattle.std.proofs.lemmas.List.{take_all}
 use Rattle.av_poly.specs.Points.{Set, Has}
 use Rattle.av_check.specs.Having.{IsInAny, IsInside}
