@@ -1,0 +1,10 @@
+pub mod Lexicographic
+pub mod Counting
+pub mod Boxes
+pub mod Reaching
+pub mod Judging
+pub mod Founded
+pub mod Prepared
+pub mod Settled
+pub mod Looking
+pub mod Opposing

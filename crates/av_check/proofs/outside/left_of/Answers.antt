@@ -1,0 +1,24 @@
+use Rattle.std.proofs.Common.{◌≡◌, ◌↔◌, ◌<◌, ◌∙◌, ◌++◌, ◌∷◌, [], ℕ, ℤ, All, length, List, ap, subst, rules}
+use Rattle.av_poly.specs.Points.{Set, Has}
+use Rattle.av_check.specs.Having.{IsInAny, IsInside}
+use Rattle.av_check.proofs.Counting.{first_inside, first_left, left_more}
+use Rattle.av_check.proofs.outside.left_of.Goals as goal
+
+pub loop-set-init : goal.loop-set-init
+loop-set-init c =
+    let own = c.in_ok-normalised.field-0 in
+    let f : c.push.new.self ≡ [] ++ own ∷ [] = c.in_ok-push.ensures.ok ∙ ap (λ (xs : List Set). xs ++ own ∷ []) c.new-left.ensures in
+    record {
+      inside = first_inside c.args.domain.now own c.args.extent.now c.push.new.self c.requires.inside c.in_ok-normalised.ensures.dim c.in_ok-normalised.ensures.points f;
+      points = first_left c.args.domain.now own c.push.new.self c.in_ok-normalised.ensures.points f;
+    }
+
+pub loop-set-preserved : goal.loop-set-preserved
+loop-set-preserved c =
+    let set = c.set-item.result in
+    let l : c.loop-set.set-index < length c.args.sets.now = search rules in
+    let own = subst (λ (ps : List Set). (z : List ℤ) → IsInAny c.in_ok-left.left z ↔ (IsInAny ps z × (Has set z → ⊥))) c.as_slice.ensures c.in_ok-left.ensures.points in
+    record {
+      inside = subst (λ (n : ℕ). All (IsInside n c.args.extent.now) c.in_ok-left.left) (ap (λ (s : Set). s.dim) c.domain.view_is) c.in_ok-left.ensures.inside;
+      points = left_more c.args.domain.now c.args.sets.now c.loop-set.left c.in_ok-left.left c.loop-set.set-index set l c.set-item.is own c.loop-set.invariant.points;
+    }

@@ -1,0 +1,7 @@
+use Rattle.std.proofs.Common.{take}
+use Rattle.av_check.specs.Least.{IsLeast}
+use Rattle.av_check.specs.Having.{IsSharedBy}
+use Rattle.av_check.proofs.overlap.least_with_others.Given as goal
+
+abbrev pub invariant-loop-other : goal.invariant-loop-other
+invariant-loop-other l = IsLeast (IsSharedBy l.domain l.set (take l.other-index l.others)) l.least

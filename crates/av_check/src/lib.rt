@@ -1,0 +1,19 @@
+//! Each declared point exactly once: the first variable and its least point at which an equation has no word, or two.
+#![tactic(auto)]
+
+mod checker;
+mod fault;
+mod images;
+mod judge;
+mod least;
+mod opposed;
+mod order;
+mod outside;
+mod overlap;
+mod sets;
+#[cfg(test)]
+mod tests;
+mod verdict;
+
+pub use checker::check_normal;
+pub use fault::CheckFault;
