@@ -8,6 +8,8 @@ use Rattle.av_tree.specs.FirstForm.{Form, IsText}
 use Rattle.av_net.specs.declared.design.Design.{Design}
 use Rattle.av_net.specs.Texts.{text}
 use Rattle.av_compile.specs.Headline.{Headline}
+use Rattle.av_vread.proofs.RoundTrip.{read_back}
+use Rattle.av_vread.proofs.Faulted.{one_design}
 use Rattle.av_cli.specs.declared.status.Status.{Status}
 use Rattle.av_cli.specs.declared.status.Status.TheVariants.{Done, Refused, WriteFault}
 use Rattle.av_cli.specs.declared.program.TheConstants.{LIMIT}
@@ -118,6 +120,8 @@ writes_design words left left' bytes {seen} {width} {design} read takes end with
   design = design;
   computes = subst (λ b. Headline b width design) same computes;
   text_of = refl;
+  spelled = read_back design computes.computes.sound;
+  only = λ other says. one_design (text design) other design says (read_back design computes.computes.sound);
 }
 
 -- ---- completeness

@@ -1,2 +1,4 @@
 pub mod Answered
 pub mod Digits
+mod OptionWords
+mod SizeWords

@@ -1,3 +1,4 @@
 pub mod Commands
+pub mod CommandsSeen
 pub mod Program
 pub mod Written

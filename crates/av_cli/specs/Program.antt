@@ -6,6 +6,7 @@ use Rattle.av_base.specs.Outside.{Takes, Adds, AddsPrefix, IsAtEnd}
 use Rattle.av_tree.specs.FirstForm.{Form, IsText}
 use Rattle.av_net.specs.declared.design.Design.{Design}
 use Rattle.av_net.specs.Texts.{text}
+use Rattle.av_net.specs.Designs.{Spells}
 use Rattle.av_compile.specs.Headline.{Headline}
 use Rattle.av_cli.specs.declared.status.Status.{Status}
 use Rattle.av_cli.specs.declared.status.Status.TheVariants.{Done, Refused, Words, ReadFault, WriteFault, Memory}
@@ -41,7 +42,8 @@ pub record WritesRefusal (words : List (List ℕ)) (left left' : Option (List �
   pub refused : IsRefused taken reason
   pub line : out ≡ refusal_line reason
 
--- the command's output: the text of a design that computes what the source gave up to its end
+-- the command's output: the text of a design that computes what the source gave up to its end. The grammar reads the text
+-- as that design and as no other.
 pub record WritesDesign (words : List (List ℕ)) (left left' : Option (List ℕ)) (out : List ℕ) : Type 0 where
   pub width : Width
   pub read : IsEmit words width.bits
@@ -52,6 +54,8 @@ pub record WritesDesign (words : List (List ℕ)) (left left' : Option (List ℕ
   pub design : Design
   pub computes : Headline taken width design
   pub text_of : out ≡ text design
+  pub spelled : Spells out design
+  pub only : (other : Design) → Spells out other → other ≡ design
 
 -- what a status writes, where it writes something whole
 abbrev pub Writes : Status → List (List ℕ) → Option (List ℕ) → Option (List ℕ) → List ℕ → Type 0

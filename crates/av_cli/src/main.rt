@@ -2,7 +2,10 @@
 //! that computes it to standard output.
 #![tactic(auto)]
 
+mod numbers;
+mod options;
 mod program;
+mod size_word;
 mod standard;
 mod status;
 #[cfg(test)]

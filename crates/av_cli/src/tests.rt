@@ -152,7 +152,52 @@ const ROWS: &[(&[&str], &str, Status, &str)] = &[
     (&["emit", "--width", "0"], INCREMENT, Status::Words, USAGE),
     (&["emit", "--width"], INCREMENT, Status::Words, USAGE),
     (&["emit", "x"], INCREMENT, Status::Words, USAGE),
-    (&["emit", "--width=8"], INCREMENT, Status::Words, USAGE),
+    (
+        &["emit", "--width=8", "--", "N=1"],
+        INCREMENT,
+        Status::Done,
+        OF_WIDTH_8,
+    ),
+    (
+        &["emit", "--box=4", "N=-1048576", "--width", "8", "M=007"],
+        INCREMENT,
+        Status::Done,
+        OF_WIDTH_8,
+    ),
+    (
+        &["emit", "--box", "1", "--box", "1"],
+        INCREMENT,
+        Status::Words,
+        USAGE,
+    ),
+    (
+        &["emit", "--width=8", "--width", "8"],
+        INCREMENT,
+        Status::Words,
+        USAGE,
+    ),
+    (&["emit", "--box", "5"], INCREMENT, Status::Words, USAGE),
+    (
+        &["emit", "--width", "--", "8"],
+        INCREMENT,
+        Status::Words,
+        USAGE,
+    ),
+    (&["emit", "--width="], INCREMENT, Status::Words, USAGE),
+    (&["emit", "--", "--"], INCREMENT, Status::Words, USAGE),
+    (
+        &["emit", "--", "--width=8"],
+        INCREMENT,
+        Status::Words,
+        USAGE,
+    ),
+    (&["emit", "N=1048577"], INCREMENT, Status::Words, USAGE),
+    (&["emit", "N=+1"], INCREMENT, Status::Words, USAGE),
+    (&["emit", "N="], INCREMENT, Status::Words, USAGE),
+    (&["emit", "max=1"], INCREMENT, Status::Words, USAGE),
+    (&["emit", "-h"], INCREMENT, Status::Words, USAGE),
+    (&["sim", "N=1"], INCREMENT, Status::Words, USAGE),
+    (&["demo", "17"], INCREMENT, Status::Words, USAGE),
 ];
 
 #[test]
