@@ -3,6 +3,8 @@ ghost use Rattle.std.specs.Prelude.{◌≤◌, IfOk};
 use crate::standard::{StdSink, StdSource};
 use crate::{LIMIT, Status, alphav};
 use av_base::{Failed, List, MemSink, MemSource, Name, Sink, Source};
+use av_vread::read_design;
+use av_vtext::write_design;
 use std::alloc::Global;
 use std::io;
 use std::io::{ErrorKind, Read, Write};
@@ -211,6 +213,28 @@ fn the_words_and_the_text_fix_status_and_output(rt: HostRuntime) -> Result<(), F
         assert_eq!(rt; sink.held(), out.as_bytes(), "{words:?} on {text}");
     }
     Ok(())
+}
+
+#[test]
+fn a_design_text_read_and_written_again_is_the_same(rt: HostRuntime) -> Result<(), Fail> {
+    let alloc = rt.alloc();
+    for text in [OF_WIDTH_8, OF_WIDTH_1, OF_WIDTH_64] {
+        let mut sink = MemSink::new(alloc, 4096, 7, numbers(alloc, &[])?)?;
+        assert!(rt; written_again(alloc, text, &mut sink), "{text}");
+        assert_eq!(rt; sink.held(), text.as_bytes());
+    }
+    Ok(())
+}
+
+// Whether the design text is read and its design is written.
+fn written_again(alloc: Global, text: &str, sink: &mut MemSink) -> bool {
+    if text.len() >= 4_294_967_295 {
+        return false;
+    }
+    match read_design(alloc, text.as_bytes()) {
+        Ok(design) => write_design(&design, sink).is_ok(),
+        Err(_fault) => false,
+    }
 }
 
 #[test]
