@@ -1,1 +1,6 @@
 pub mod Cycles
+pub mod Lines
+pub mod Stimuli
+pub mod Reading
+pub mod Said
+pub mod Kept

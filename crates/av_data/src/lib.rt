@@ -2,8 +2,18 @@
 #![tactic(auto)]
 
 mod cycle;
+mod fault;
+mod forms;
+mod inputs;
+mod lines;
+mod reader;
+mod spelling;
+mod stimulus;
+mod timeline;
 
 pub use cycle::write_cycle;
+pub use fault::DataFault;
+pub use stimulus::{Given, Stimulus};
 
 #[cfg(test)]
 mod tests;
