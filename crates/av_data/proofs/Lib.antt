@@ -4,3 +4,8 @@ pub mod Named
 pub mod Ordered
 pub mod FirstLines
 pub mod Turns
+pub mod Parted
+pub mod Spelled
+pub mod Sorting
+pub mod Lined
+pub mod Told

@@ -1,6 +1,6 @@
 -- What tables keep.
 use Rattle.std.specs.Prelude.{◌≡◌, ℕ, List, map}
-use Rattle.av_net.specs.Names.{names_of, AreDistinct}
+use Rattle.av_net.specs.Names.{names_of}
 use Rattle.av_data.specs.declared.stimulus.Given.{Given}
 use Rattle.av_data.specs.declared.inputs.Inputs.TheInside.{Inside}
 use denote.Ref.{Bor}

@@ -1,6 +1,6 @@
 -- Which lines spell a stimulus, and what is wrong with lines that spell none. The lines stand without what ends
 -- them. The format is this project's own.
-use Rattle.std.specs.Prelude.{◌≡◌, ◌≢◌, ◌⊎◌, ◌↔◌, ℕ, ◌+◌, ◌^◌, ◌<◌, ◌≤◌, List, [], ◌∷◌, codes, slice_get, Some, All, AllPairs, Contains}
+use Rattle.std.specs.Prelude.{◌≡◌, ◌≢◌, ◌⊎◌, ◌↔◌, ℕ, ◌+◌, ◌^◌, ◌<◌, ◌≤◌, List, [], ◌∷◌, codes, slice_get, Some, Result, Ok, Err, All, AllPairs, Contains}
 use Rattle.av_base.specs.Words.{IsWord}
 use Rattle.av_base.specs.Tokens.{IsDigits, number_of}
 use Rattle.av_net.specs.declared.netlist.Port.{Port}
@@ -132,3 +132,21 @@ pub data IsFirstFault (inputs : List Port) : ℕ → List (List ℕ) → DataFau
 -- the first fault of the bytes, whose first line has this number
 abbrev pub IsStimulusFault : List Port → ℕ → List ℕ → DataFault → Type 0
 IsStimulusFault inputs first bytes fault = IsFirstFault inputs first (data_lines bytes) fault
+
+-- ---- answers
+
+-- the answer is this stimulus, or want of memory
+abbrev pub GivesStimulus : Result Stimulus DataFault → Stimulus → Type 0
+GivesStimulus (Ok s) wanted = s ≡ wanted
+GivesStimulus (Err Memory) wanted = Unit {0}
+GivesStimulus (Err (DataSyntax l)) wanted = ⊥
+GivesStimulus (Err (DataUnknown l)) wanted = ⊥
+GivesStimulus (Err (DataOutside l)) wanted = ⊥
+GivesStimulus (Err (DataTwice l)) wanted = ⊥
+GivesStimulus (Err (DataMissing name point)) wanted = ⊥
+
+-- the answer is this fault, or want of memory
+abbrev pub GivesFault : Result Stimulus DataFault → DataFault → Type 0
+GivesFault (Err Memory) wanted = Unit {0}
+GivesFault (Err fault) wanted = fault ≡ wanted
+GivesFault (Ok s) wanted = ⊥

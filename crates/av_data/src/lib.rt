@@ -13,7 +13,7 @@ mod timeline;
 
 pub use cycle::write_cycle;
 pub use fault::DataFault;
-pub use stimulus::{Given, Stimulus};
+pub use stimulus::{Given, Stimulus, read_stimulus};
 
 #[cfg(test)]
 mod tests;

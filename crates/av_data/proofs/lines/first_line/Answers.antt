@@ -1,7 +1,7 @@
 use Rattle.std.proofs.Common.{sym, ap, ◌∙◌}
 use Rattle.av_net.specs.Listed.{begins_feed}
 use Rattle.av_data.specs.Reading.{begins_return}
-use Rattle.av_data.proofs.FirstLines.{goes_first, goes_on, feed_line, return_line, whole_line}
+use Rattle.av_data.proofs.FirstLines.{goes_on}
 use Rattle.av_data.proofs.lines.first_line.Goals as goal
 
 pub loop-i-preserved : goal.loop-i-preserved

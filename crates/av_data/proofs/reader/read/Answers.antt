@@ -1,8 +1,7 @@
-use Rattle.std.proofs.Common.{◌≡◌, ◌+◌, ◌<◌, ◌≤◌, length, drop, Some, None, Ok, Err, sym, ap, ◌∙◌, subst, arith}
+use Rattle.std.proofs.Common.{◌≡◌, ◌+◌, ◌<◌, ◌≤◌, length, drop, ap, ◌∙◌, arith}
 use Rattle.std.proofs.lemmas.Result.{err_from_is_err_and}
-use Rattle.av_net.specs.declared.netlist.Port.{Port}
-use Rattle.av_data.specs.Reading.{first_line, line_size, cycles_at, value_at, stimulus_of, FaultIs}
-use Rattle.av_data.proofs.Turns.{Tells, size_left, cycles_read, cycles_failed, value_read, value_failed, ends_without, ends_with}
+use Rattle.av_data.specs.Reading.{line_size, stimulus_of}
+use Rattle.av_data.proofs.Turns.{size_left, cycles_read, cycles_failed, value_read, value_failed, ends_without, ends_with}
 use Rattle.av_data.proofs.reader.read.Goals as goal
 use Rattle.av_data.proofs.reader.read.Goals.{in-None+in_ok-cycles-in-None, in-Some+in_ok-value_at-in-Some}
 
@@ -37,17 +36,20 @@ pub loop-at-preserved : goal.loop-at-preserved
 loop-at-preserved c =
     let size = size_left c.args.bytes.now c.loop-at.at c.loop-at-test.true in
     let is : c.first_line-size.result.1 ≡ line_size (drop c.loop-at.at c.args.bytes.now) = c.first_line-size.ensures.size ∙ ap line_size c.from.ensures in
-    let k : c.loop-at.line ≤ c.args.first + c.loop-at.at = c.loop-at.invariant.2 in
-    (elim c.match-cycles.branch [
-      | in-None+in_ok-cycles-in-None w ↦
-          rw (w.cycles-is, w.values-is, is)
-          (cycles_read c.args.ports.now c.args.bytes.now (stimulus_of c.args.ports.now c.args.first c.args.bytes.now) c.loop-at.values c.loop-at.line c.loop-at.at w.in_ok-cycles-in-None.cycles
-          (rw w.in-None.is at c.loop-at.invariant.0) c.loop-at-test.true (rw (c.first_line-size.ensures.line, c.from.ensures) at w.in_ok-cycles-in-None.ensures))
-      | in-Some+in_ok-value_at-in-Some w ↦
-          rw (w.cycles-is, w.values-is, is)
-          (value_read c.args.ports.now c.args.bytes.now (stimulus_of c.args.ports.now c.args.first c.args.bytes.now) w.in-Some.cycles c.loop-at.values w.value_at.new.values c.loop-at.line c.loop-at.at
-          (rw w.in-Some.is at c.loop-at.invariant.0) c.loop-at-test.true (rw (c.first_line-size.ensures.line, c.from.ensures, c.in_ok-inputs.ensures) at w.in_ok-value_at-in-Some.ensures.ok))
-    ], omega (arith, size.1, is), omega (arith, size.0, is, k))
+    let k : c.loop-at.line ≤ c.args.first + c.loop-at.at = c.loop-at.invariant.2 in (
+      elim c.match-cycles.branch [
+        | in-None+in_ok-cycles-in-None w ↦
+            rw (w.cycles-is, w.values-is, is)
+            (cycles_read c.args.ports.now c.args.bytes.now (stimulus_of c.args.ports.now c.args.first c.args.bytes.now) c.loop-at.values c.loop-at.line c.loop-at.at w.in_ok-cycles-in-None.cycles
+            (rw w.in-None.is at c.loop-at.invariant.0) c.loop-at-test.true (rw (c.first_line-size.ensures.line, c.from.ensures) at w.in_ok-cycles-in-None.ensures))
+        | in-Some+in_ok-value_at-in-Some w ↦
+            rw (w.cycles-is, w.values-is, is)
+            (value_read c.args.ports.now c.args.bytes.now (stimulus_of c.args.ports.now c.args.first c.args.bytes.now) w.in-Some.cycles c.loop-at.values w.value_at.new.values c.loop-at.line c.loop-at.at
+            (rw w.in-Some.is at c.loop-at.invariant.0) c.loop-at-test.true (rw (c.first_line-size.ensures.line, c.from.ensures, c.in_ok-inputs.ensures) at w.in_ok-value_at-in-Some.ensures.ok))
+      ],
+      omega (arith, size.1, is),
+      omega (arith, size.0, is, k),
+    )
 
 pub returns-in-None-cycles : goal.returns-in-None-cycles
 returns-in-None-cycles c =

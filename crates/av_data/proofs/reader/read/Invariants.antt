@@ -1,4 +1,4 @@
-use Rattle.std.proofs.Common.{◌≡◌, length, ◌-◌, ◌+◌, ◌≤◌}
+use Rattle.std.proofs.Common.{length, ◌-◌, ◌+◌, ◌≤◌}
 use Rattle.av_data.specs.Reading.{stimulus_of}
 use Rattle.av_data.proofs.Turns.{Tells}
 use Rattle.av_data.proofs.reader.read.Given as goal

@@ -1,4 +1,4 @@
-use Rattle.std.proofs.Common.{sym, ◌∙◌, Some, None, ap}
+use Rattle.std.proofs.Common.{sym, ◌∙◌, Some, ap}
 use Rattle.av_data.proofs.Named.{place_found}
 use Rattle.av_data.proofs.inputs.Inputs.place.Goals as goal
 
