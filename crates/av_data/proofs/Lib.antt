@@ -9,3 +9,4 @@ pub mod Spelled
 pub mod Sorting
 pub mod Lined
 pub mod Told
+pub mod Divided

@@ -4,3 +4,4 @@ pub mod Stimuli
 pub mod Reading
 pub mod Said
 pub mod Kept
+pub mod Divisions

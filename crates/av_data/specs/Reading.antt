@@ -30,6 +30,13 @@ abbrev pub line_size : List ℕ → ℕ
 line_size [] = 0
 line_size (b ∷ bytes) = if nat_eq b 10 then 1 else (if begins_return (b ∷ bytes) then 2 else 1 + line_size bytes)
 
+abbrev pub is_not_feed : ℕ → Bool
+is_not_feed b = not (nat_eq b 10)
+
+-- how many bytes it has with its line feed
+unfoldable pub whole_size : List ℕ → ℕ
+whole_size bytes = if nat_lt (prefix_len is_not_feed bytes) (length bytes) then prefix_len is_not_feed bytes + 1 else prefix_len is_not_feed bytes
+
 -- ---- the parts of a line, from left to right
 
 abbrev pub is_part_byte : ℕ → Bool

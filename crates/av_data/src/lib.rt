@@ -2,6 +2,7 @@
 #![tactic(auto)]
 
 mod cycle;
+mod division;
 mod fault;
 mod forms;
 mod inputs;
@@ -12,6 +13,7 @@ mod stimulus;
 mod timeline;
 
 pub use cycle::write_cycle;
+pub use division::{Division, divide};
 pub use fault::DataFault;
 pub use stimulus::{Given, Stimulus, read_stimulus};
 
