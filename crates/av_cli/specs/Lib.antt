@@ -1,3 +1,5 @@
 pub mod Commands
 pub mod Program
 pub mod Written
+pub mod Simulated
+pub mod Clocking

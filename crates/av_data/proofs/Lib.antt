@@ -10,3 +10,4 @@ pub mod Sorting
 pub mod Lined
 pub mod Told
 pub mod Divided
+pub mod Fits

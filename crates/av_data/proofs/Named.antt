@@ -1,9 +1,9 @@
 -- Names that are kept in a table, in their order.
-use Rattle.std.proofs.Common.{◌≡◌, ℕ, suc, ◌+◌, ◌<◌, Bool, true, false, cond, not, List, [], ◌∷◌, ◌++◌, length, take, drop, get_or, Option, refl, sym, ap, ◌∙◌, arith, add-one, take-suc}
+use Rattle.std.proofs.Common.{◌≡◌, ℕ, suc, ◌+◌, ◌<◌, Bool, true, false, cond, not, List, [], ◌∷◌, ◌++◌, length, take, drop, get_or, refl, sym, ap, subst, ◌∙◌, arith, add-one, take-suc}
 use Rattle.std.specs.Prelude.{◌||◌, if◌then◌else◌, Contains}
 use Rattle.std.specs.List.{list_any, position, position_or_len}
 use Rattle.std.specs.Str.{bytes_eq}
-use Rattle.std.proofs.lemmas.List.{map_push, length-map, map-append, take-append-drop}
+use Rattle.std.proofs.lemmas.List.{map_push, length-map, get_or-map, take-append-drop}
 use Rattle.std.proofs.lemmas.Slice.Eq.{bytes_eq-Decides}
 use Rattle.std.proofs.lemmas.Map.Views.{Contains-from_any}
 use Rattle.av_net.specs.declared.netlist.Port.{Port}
@@ -11,7 +11,6 @@ use Rattle.av_net.specs.Names.{names_of, AreDistinct}
 use Rattle.av_net.specs.Rows.{is_in}
 use Rattle.av_net.proofs.Distinct.{apart, front_distinct}
 use Rattle.av_data.specs.Kept.{shown}
-use Rattle.av_data.specs.Reading.{place_of}
 use denote.Ref.{Bor}
 
 abbrev Key : Type 0
@@ -33,26 +32,31 @@ first_shown q [] = refl
 first_shown q (k ∷ keys) = ap (λ n. cond (not (bytes_eq q k.now)) (1 + n) 0) (first_shown q keys)
 
 -- a name is found at its place
-pub place_found : (keys : List Key) (ports inputs : List Port) (name : List ℕ) (r : Option ℕ) → r ≡ position (λ k. bytes_eq name k.now) keys → shown keys ≡ names_of ports → ports ≡ inputs
-    → r ≡ place_of inputs name
-place_found keys ports inputs name r found named is =
-    let first : position_or_len (λ k. bytes_eq name k.now) keys ≡ position_or_len (bytes_eq name) (names_of inputs) = first_shown name keys ∙ ap (position_or_len (bytes_eq name)) (named ∙ ap names_of is) in
-    let size : length keys ≡ length (names_of inputs) = sym (length-map keys (λ (k : Key). k.now)) ∙ ap length (named ∙ ap names_of is) in
-    found ∙ rw (first, size) refl
+pub place_found : (keys : List Key) (names : List (List ℕ)) (name : List ℕ) → shown keys ≡ names → position (λ k. bytes_eq name k.now) keys ≡ position (bytes_eq name) names
+place_found keys names name is =
+    let first : position_or_len (λ k. bytes_eq name k.now) keys ≡ position_or_len (bytes_eq name) names = first_shown name keys ∙ ap (position_or_len (bytes_eq name)) is in
+    let size : length keys ≡ length names = sym (length-map keys (λ (k : Key). k.now)) ∙ ap length is in
+    rw (first, size) refl
 
--- a later name is new
-pub is_new : (ports : List Port) (i : ℕ) (port : Port) → i < length ports → port ≡ get_or ports i port → AreDistinct (names_of ports) → is_in (names_of (take i ports)) port.name ≡ false
-is_new ports i port lt at distinct = by (is_in (names_of (take i ports)) port.name) refl
+-- a later name of different ones is new
+pub is_new : (names : List (List ℕ)) (i : ℕ) (name : List ℕ) → i < length names → name ≡ get_or names i name → AreDistinct names → is_in (take i names) name ≡ false
+is_new names i name lt at distinct = by (is_in (take i names) name) refl
   where
-    by : (t : Bool) → is_in (names_of (take i ports)) port.name ≡ t → t ≡ false
+    by : (t : Bool) → is_in (take i names) name ≡ t → t ≡ false
     by false e = refl
     by true e =
-        let here : Contains (names_of (take i ports)) port.name = Contains-from_any (λ x y e. (bytes_eq-Decides x y).0 e) port.name (names_of (take i ports)) e in
-        let split : ports ≡ take (suc i) ports ++ drop (suc i) ports = sym (take-append-drop (suc i) ports) in
-        let front : names_of (take (suc i) ports) ≡ names_of (take i ports) ++ port.name ∷ [] = ap names_of (take-suc ports i port lt) ∙ map_push (λ (p : Port). p.name) (take i ports) (get_or ports i port) ∙ ap (λ (p : Port). names_of (take i ports) ++ p.name ∷ []) (sym at) in
-        let whole : AreDistinct (names_of (take (suc i) ports) ++ names_of (drop (suc i) ports)) = rw (split, map-append) at distinct in
-        absurd (apart (names_of (take i ports)) (port.name ∷ []) port.name (front_distinct (names_of (take i ports) ++ port.name ∷ []) (names_of (drop (suc i) ports)) (rw front at whole)) here (0, omega arith, refl))
+        let here : Contains (take i names) name = Contains-from_any (λ x y e. (bytes_eq-Decides x y).0 e) name (take i names) e in
+        let split : names ≡ take (suc i) names ++ drop (suc i) names = sym (take-append-drop (suc i) names) in
+        let front : take (suc i) names ≡ take i names ++ name ∷ [] = take-suc names i name lt ∙ ap (λ n. take i names ++ n ∷ []) (sym at) in
+        let whole : AreDistinct (take (suc i) names ++ drop (suc i) names) = subst AreDistinct split distinct in
+        let some : AreDistinct (take i names ++ name ∷ []) = subst AreDistinct front (front_distinct (take (suc i) names) (drop (suc i) names) whole) in
+        absurd (apart (take i names) (name ∷ []) name some here (0, omega arith, refl))
 
--- the names of one port more
-pub one_named : (ports : List Port) (i : ℕ) (port : Port) → i < length ports → port ≡ get_or ports i port → names_of (take (i + 1) ports) ≡ names_of (take i ports) ++ port.name ∷ []
-one_named ports i port lt at = rw add-one (ap names_of (take-suc ports i port lt) ∙ map_push (λ (p : Port). p.name) (take i ports) (get_or ports i port) ∙ ap (λ (p : Port). names_of (take i ports) ++ p.name ∷ []) (sym at))
+-- one name more
+pub one_named : (names : List (List ℕ)) (i : ℕ) (name : List ℕ) → i < length names → name ≡ get_or names i name → take (i + 1) names ≡ take i names ++ name ∷ []
+one_named names i name lt at = rw add-one (take-suc names i name lt ∙ ap (λ n. take i names ++ n ∷ []) (sym at))
+
+-- the name of a port
+pub port_name : (ports : List Port) (i : ℕ) (port : Port) → i < length ports → port ≡ get_or ports i port → (i < length (names_of ports)) × (port.name ≡ get_or (names_of ports) i port.name)
+port_name ports i port lt at =
+    (omega (arith, length-map ports (λ (p : Port). p.name)), ap (λ (p : Port). p.name) at ∙ sym (get_or-map (λ (p : Port). p.name) ports i port port.name lt))

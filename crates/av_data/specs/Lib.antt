@@ -4,4 +4,5 @@ pub mod Stimuli
 pub mod Reading
 pub mod Said
 pub mod Kept
+pub mod Named
 pub mod Divisions

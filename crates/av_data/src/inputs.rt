@@ -4,9 +4,9 @@ ghost use Rattle.std.specs.Prelude.{◌≡◌, ◌<◌, length, IfOk, IfSome};
 ghost use Rattle.av_net.specs.Names.{AreDistinct, names_of};
 ghost use Rattle.av_data.specs.Reading.{place_of, width_at};
 
+use crate::places::Places;
 use av_base::{Memory, Width};
 use av_net::Port;
-use indexmap::IndexSet;
 use std::alloc::Global;
 use std::marker::Model;
 
@@ -14,7 +14,7 @@ use std::marker::Model;
 #[derive(Drop)]
 pub(crate) struct Inputs<'a> {
     ports: &'a [Port],
-    names: IndexSet<&'a [u8]>,
+    names: Places<'a>,
 }
 
 impl<'a> Model for Inputs<'a> {
@@ -23,7 +23,7 @@ impl<'a> Model for Inputs<'a> {
 
     ghost Value = { Items Declared };
 
-    ghost use Rattle.av_data.specs.Kept.{AreNamed};
+    ghost use Rattle.av_data.specs.Named.{AreNamed};
 
     ghost view = { λ inputs. inputs.ports.now };
 
@@ -35,9 +35,9 @@ impl<'a> Inputs<'a> {
         requires { AreDistinct (names_of ports.now) }
         ensures { IfOk result (λ inputs. inputs ≡ ports.now) }
     {
-        let mut names = IndexSet::new(alloc);
+        let mut names = Places::new(alloc);
         for port in ports {
-            enter(&mut names, port)?;
+            names.push(&port.name)?;
         }
         Ok(Inputs { ports, names })
     }
@@ -48,7 +48,7 @@ impl<'a> Inputs<'a> {
         ensures place { IfOk result (λ place. place ≡ place_of self.now name.now) }
         ensures within { IfOk result (λ place. IfSome place (λ k. k < length self.now)) }
     {
-        match self.names.get_index_of(name) {
+        match self.names.find(name) {
             None => Ok(None),
             Some(place) => match u32::try_from(place) {
                 Ok(place) => Ok(Some(place)),
@@ -63,19 +63,5 @@ impl<'a> Inputs<'a> {
         ensures { result.bits ≡ width_at self.now place }
     {
         self.ports[place as usize].width
-    }
-}
-
-ghost use Rattle.std.specs.Prelude.{◌++◌, ◌∷◌, [], OnOk, not, false};
-ghost use Rattle.av_net.specs.Rows.{is_in};
-ghost use Rattle.av_data.specs.Kept.{shown};
-
-// Puts the name of a port behind others.
-fn enter<'a>(names: &mut IndexSet<&'a [u8]>, port: &'a Port) -> Result<(), Memory>
-    ensures { OnOk result (is_in (shown names.old.keys) port.now.name ≡ false → shown names.new.keys ≡ shown names.old.keys ++ port.now.name ∷ []) }
-{
-    match names.insert(port.name.as_str().as_bytes()) {
-        Ok(_) => Ok(()),
-        Err(_) => Err(Memory),
     }
 }

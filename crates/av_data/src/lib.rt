@@ -7,6 +7,7 @@ mod fault;
 mod forms;
 mod inputs;
 mod lines;
+mod places;
 mod reader;
 mod spelling;
 mod stimulus;
@@ -15,6 +16,7 @@ mod timeline;
 pub use cycle::write_cycle;
 pub use division::{Division, divide};
 pub use fault::DataFault;
+pub use places::Places;
 pub use stimulus::{Given, Stimulus, read_stimulus};
 
 #[cfg(test)]

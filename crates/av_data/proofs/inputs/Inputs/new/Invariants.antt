@@ -1,7 +1,6 @@
 use Rattle.std.proofs.Common.{◌≡◌, take}
 use Rattle.av_net.specs.Names.{names_of}
-use Rattle.av_data.specs.Kept.{shown}
 use Rattle.av_data.proofs.inputs.Inputs.new.Given as goal
 
 abbrev pub invariant-loop-port : goal.invariant-loop-port
-invariant-loop-port l = shown l.names.keys ≡ names_of (take l.port-index l.ports)
+invariant-loop-port l = l.names ≡ take l.port-index (names_of l.ports)
