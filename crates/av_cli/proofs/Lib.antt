@@ -1,2 +1,4 @@
 pub mod Answered
 pub mod Digits
+pub mod Walking
+pub mod Presenting

@@ -3,6 +3,7 @@
 #![tactic(auto)]
 
 mod program;
+mod simulation;
 mod standard;
 mod status;
 #[cfg(test)]

@@ -105,18 +105,23 @@ pub record IsPlaced (inputs : List Port) (name : List ℕ) (place : ℕ) : Type 
 abbrev name_in : Port → List ℕ
 name_in port = port.name
 
+-- a name is at its place
+pub at_place : (names : List (List ℕ)) (name : List ℕ) (place : ℕ) → position (bytes_eq name) names ≡ Some place → slice_get names place ≡ Some name
+at_place names name place e =
+    let at = position-Some (bytes_eq name) names place name e in
+    let is : name ≡ get_or names place name = (bytes_eq-Decides name (get_or names place name)).0 at.1 in
+    slice_get-get_or names place name at.0 ∙ ap (λ (n : List ℕ). Some n) (sym is)
+
 placed_name : (inputs : List Port) (name : List ℕ) (place : ℕ) → place_of inputs name ≡ Some place → IsPlaced inputs name place
 placed_name inputs name place e =
-    let at = position-Some (bytes_eq name) (names_of inputs) place name e in
-    let is : name ≡ get_or (names_of inputs) place name = (bytes_eq-Decides name (get_or (names_of inputs) place name)).0 at.1 in
-    let there : slice_get (names_of inputs) place ≡ Some name = slice_get-get_or (names_of inputs) place name at.0 ∙ ap (λ (n : List ℕ). Some n) (sym is) in
-    go (slice_get inputs place) refl (sym (slice_get-map name_in inputs place) ∙ there)
+    go (slice_get inputs place) refl (sym (slice_get-map name_in inputs place) ∙ at_place (names_of inputs) name place e)
   where
     go : (o : Option Port) → slice_get inputs place ≡ o → option_map name_in o ≡ Some name → IsPlaced inputs name place
     go None f h = absurd (some_none h refl)
     go (Some port) f h = record { port = port; there = f; named = one_some h }
 
-no_place : (names : List (List ℕ)) (name : List ℕ) → position (bytes_eq name) names ≡ None → Contains names name → ⊥
+-- and one without a place is not there
+pub no_place : (names : List (List ℕ)) (name : List ℕ) → position (bytes_eq name) names ≡ None → Contains names name → ⊥
 no_place names name e (k, lt, at) = by (nat_lt (position_or_len (bytes_eq name) names) (length names)) refl e
   where
     by : (t : Bool) → nat_lt (position_or_len (bytes_eq name) names) (length names) ≡ t → cond t (Some (position_or_len (bytes_eq name) names)) None ≡ None → ⊥
