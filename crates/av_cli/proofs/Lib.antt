@@ -2,3 +2,5 @@ pub mod Answered
 pub mod Digits
 pub mod Walking
 pub mod Presenting
+pub mod Running
+pub mod Targets

@@ -1,20 +1,22 @@
 -- Words of ports: what is set, noted and shown.
-use Rattle.std.proofs.Common.{◌≡◌, ◌≢◌, ℕ, zero, suc, ◌+◌, ◌<◌, ◌≤◌, List, [], ◌∷◌, ◌++◌, length, get_or, take, map, Option, Some, None, slice_get, option_map, refl, sym, ap, ◌∙◌, subst, arith, inl, inr, add-one, append_assoc}
-use Rattle.std.specs.Prelude.{slice_index, slice_set, All, Contains}
+use Rattle.std.proofs.Common.{◌≡◌, ◌≢◌, ℕ, zero, suc, ◌+◌, ◌<◌, ◌≤◌, List, [], ◌∷◌, ◌++◌, length, get_or, take, map, Option, Some, None, slice_get, option_map, refl, sym, ap, ◌∙◌, subst, arith, inl, inr, add-one, append_assoc, take-suc, length-append, Bool, true, false, true≢false}
+use Rattle.std.specs.Prelude.{slice_index, slice_set, Contains, IfSome}
 use Rattle.std.specs.Option.{ForSome}
 use Rattle.std.proofs.lemmas.Bool.{cases_lt}
-use Rattle.std.proofs.lemmas.List.{get_or-set_same, get_or-set_other, length-map, map-append}
+use Rattle.std.proofs.lemmas.List.{get_or-set_same, get_or-set_other, length-map, map-append, take_all, take_more_set}
 use Rattle.std.proofs.lemmas.Option.{slice_get-get_or, slice_get-map, slice_get_within, get_or_from_slice_get}
 use Rattle.av_net.specs.declared.netlist.Port.{Port}
+use Rattle.av_net.specs.declared.netlist.Drive.{Drive}
 use Rattle.av_net.specs.declared.netlist.Module.{Module}
 use Rattle.av_net.specs.Meaning.{Words}
-use Rattle.av_net.specs.Names.{AreDistinct, clk, rst, names_of, given_names, wire_names, all_names}
+use Rattle.av_net.specs.Names.{AreDistinct, clk, rst, names_of, given_names, wire_names, all_names, targets_of}
 use Rattle.av_net.specs.Settled.{Agree}
 use Rattle.av_net.specs.Sound.{IsSound}
 use Rattle.av_net.proofs.Distinct.{apart, front_distinct, rest_distinct}
+use Rattle.av_clock.specs.Seen.{Seen, carried}
 use Rattle.av_data.specs.declared.stimulus.Given.{Given}
 use Rattle.av_cli.specs.Simulated.{given_word, port_words}
-use Rattle.av_cli.specs.Clocking.{ArePresented}
+use Rattle.av_cli.specs.Clocking.{ArePresented, AreWires}
 
 abbrev name_in : Port → List ℕ
 name_in port = port.name
@@ -82,19 +84,75 @@ registers_kept m k v v' w port sound there others agree = λ i d lt.
         let some = slice_get-get_or (names_of m.registers) i d lt in
         get_or_from_slice_get (names_of m.registers) i (get_or (names_of m.registers) i d) port.name some ∙ sym same
 
-pub for_some : (inputs : List Port) (k : ℕ) (P : Port → Type 0) → k < length inputs → ((port : Port) → slice_get inputs k ≡ Some port → P port) → ForSome (slice_get inputs k) P
-for_some inputs k P lt h = by (slice_get inputs k) refl
+-- a port is there
+pub port_there : (ports : List Port) (k : ℕ) → k < length ports → (port : Port) × (slice_get ports k ≡ Some port)
+port_there [] k lt = absurd (omega arith)
+port_there (p ∷ ports) zero lt = (p, refl)
+port_there (p ∷ ports) (suc k) lt = port_there ports k (omega arith)
+
+pub for_some : (inputs : List Port) (k : ℕ) (P : Port → Type 0) → ((port : Port) → slice_get inputs k ≡ Some port → P port) → k < length inputs → ForSome (slice_get inputs k) P
+for_some inputs k P h lt = λ port e. h port e
+
+if_some : (o : Option Port) (P : Port → Type 0) (port : Port) → IfSome o P → o ≡ Some port → P port
+if_some o P port h e = subst (λ z. IfSome z P) e h
+
+-- one port more is set
+pub turn : (m : Module) (given : List Given) (c k : ℕ) (clock clock' : Seen) (start : Words) (words : List ℕ) (word : ℕ) → IsSound m → clock.of ≡ m → k < length m.inputs → k < length words
+    → ArePresented m given c k (carried clock) words → Agree (names_of m.registers) start (carried clock) → given_word given c k ≡ word
+    → IfSome (slice_get clock.of.inputs k) (λ p. carried clock' p.name ≡ word)
+    → IfSome (slice_get clock.of.inputs k) (λ p. (name : List ℕ) → name ≢ p.name → carried clock' name ≡ carried clock name)
+    → ArePresented m given c (k + 1) (carried clock') (slice_set words k word) × Agree (names_of m.registers) start (carried clock')
+turn m given c k clock clock' start words word sound of lt room presented agree is here others =
+    let (port, there) = port_there m.inputs k lt in
+    let seen : slice_get clock.of.inputs k ≡ Some port = ap (λ (x : Module). slice_get x.inputs k) of ∙ there in
+    let set = if_some (slice_get clock.of.inputs k) (λ p. carried clock' p.name ≡ word) port here seen in
+    let kept = if_some (slice_get clock.of.inputs k) (λ p. (name : List ℕ) → name ≢ p.name → carried clock' name ≡ carried clock name) port others seen in
+    (presents_more m given c k (carried clock) (carried clock') words word port sound there room presented is set kept, registers_kept m k (carried clock) (carried clock') start port sound there kept agree)
+
+-- ---- outputs
+
+abbrev target_in : Drive → List ℕ
+target_in drive = drive.target
+
+-- the drive of a target
+drive_there : (drives : List Drive) (w : ℕ) (name : List ℕ) → slice_get (targets_of drives) w ≡ Some name → (drive : Drive) × (slice_get drives w ≡ Some drive) × (drive.target ≡ name)
+drive_there drives w name e = by (slice_get drives w) refl (sym (slice_get-map target_in drives w) ∙ e)
   where
-    by : (o : Option Port) → slice_get inputs k ≡ o → ForSome o P
-    by None e = absurd (none (get inputs k lt e))
-      where
-        get : (xs : List Port) (i : ℕ) → i < length xs → slice_get xs i ≡ None → ⊥
-        get [] i lt e = omega arith
-        get (x ∷ xs) zero lt e = cc
-        get (x ∷ xs) (suc i) lt e = get xs i (omega arith) e
-        none : ⊥ → ⊥
-        none x = x
-    by (Some port) e = h port e
+    text : Option (List ℕ) → List ℕ
+    text None = []
+    text (Some n) = n
+    flag : Option (List ℕ) → Bool
+    flag None = false
+    flag (Some n) = true
+    by : (o : Option Drive) → slice_get drives w ≡ o → option_map target_in o ≡ Some name → (drive : Drive) × (slice_get drives w ≡ Some drive) × (drive.target ≡ name)
+    by None f h = absurd (true≢false (sym (ap flag h)))
+    by (Some drive) f h = (drive, f, ap text h)
+
+pub wire_within : (m : Module) (wires : List ℕ) (i : ℕ) → AreWires m (length m.outputs) wires → i < length wires → slice_index wires i < length m.drives
+wire_within m wires i are lt =
+    let within : i < length m.outputs = (let c = are.count in omega (arith, c, lt)) in
+    let (port, there) = port_there m.outputs i within in
+    omega (arith, slice_get_within (targets_of m.drives) (slice_index wires i) port.name (are.drives i port within there), length-map m.drives target_in)
+
+-- one output more is noted
+pub shows_more : (m : Module) (v : Words) (wires words : List ℕ) (inputs i word : ℕ) → AreWires m (length m.outputs) wires → i < length wires → inputs ≡ length m.inputs → length words ≡ length (m.inputs ++ m.outputs)
+    → take (inputs + i) words ≡ port_words v (m.inputs ++ take i m.outputs) → ((d : Drive) → word ≡ v (get_or m.drives (slice_index wires i) d).target)
+    → take (inputs + (i + 1)) (slice_set words (inputs + i) word) ≡ port_words v (m.inputs ++ take (i + 1) m.outputs)
+shows_more m v wires words inputs i word are lt count room so is =
+    let within : i < length m.outputs = (let c = are.count in omega (arith, c, lt)) in
+    let (port, there) = port_there m.outputs i within in
+    let (drive, here, target) = drive_there m.drives (slice_index wires i) port.name (are.drives i port within there) in
+    let value : word ≡ v port.name = is drive ∙ ap (λ (x : Drive). v x.target) (get_or_from_slice_get m.drives (slice_index wires i) drive drive here) ∙ ap v target in
+    let next : inputs + (i + 1) ≡ (inputs + i) + 1 = omega arith in
+    let inside : inputs + i < length words = omega (arith, room, count, within, length-append m.inputs m.outputs) in
+    let outputs : take (i + 1) m.outputs ≡ take i m.outputs ++ port ∷ [] = rw add-one (take-suc m.outputs i port within ∙ ap (λ (p : Port). take i m.outputs ++ p ∷ []) (get_or_from_slice_get m.outputs i port port there)) in
+    ap (λ n. take n (slice_set words (inputs + i) word)) next ∙ take_more_set words (inputs + i) word inside ∙ ap (λ z. z ++ word ∷ []) so ∙ ap (λ w. port_words v (m.inputs ++ take i m.outputs) ++ w ∷ []) value
+    ∙ sym (map-append (λ (p : Port). v p.name) (m.inputs ++ take i m.outputs) (port ∷ [])) ∙ ap (port_words v) (append_assoc m.inputs (take i m.outputs) (port ∷ []) ∙ ap (λ (ps : List Port). m.inputs ++ ps) (sym outputs))
+
+pub all_shown : (m : Module) (v : Words) (words : List ℕ) (inputs i : ℕ) → length m.outputs ≤ i → inputs ≡ length m.inputs → length words ≡ length (m.inputs ++ m.outputs)
+    → take (inputs + i) words ≡ port_words v (m.inputs ++ take i m.outputs) → words ≡ port_words v (m.inputs ++ m.outputs)
+all_shown m v words inputs i le count room so =
+    sym (take_all (inputs + i) words (omega (arith, room, count, le, length-append m.inputs m.outputs))) ∙ so ∙ ap (λ (ps : List Port). port_words v (m.inputs ++ ps)) (take_all i m.outputs le)
 
 -- ---- lists of words
 

@@ -58,6 +58,6 @@ pub record IsPrepared (m : Module) (p : Prepared) : Type 0 where
   pub sound : IsSound m
   pub clock : p.clock.of ≡ m
   pub ports : p.ports ≡ header_ports m
-  pub wires : AreWires m (length m.outputs) p.wires.items
-  pub room : length p.words.items ≡ length (header_ports m)
+  pub wires : AreWires m (length m.outputs) p.wires
+  pub room : length p.words ≡ length (header_ports m)
   pub count : p.inputs ≡ length m.inputs

@@ -23,8 +23,8 @@ use std::alloc::Global;
 pub(crate) struct Prepared<'a> {
     clock: Clock<'a>,
     ports: List<Port>,
-    wires: Vec<u32>,
-    words: Vec<u64>,
+    wires: List<u32>,
+    words: List<u64>,
     inputs: u32,
 }
 
@@ -75,16 +75,26 @@ fn place_of(targets: &Places, name: &Name) -> Result<u32, Memory>
 }
 
 // The place of the drive of each output.
-fn wires(alloc: Global, of: &Module) -> Result<Vec<u32>, Memory>
+fn wires(alloc: Global, of: &Module) -> Result<List<u32>, Memory>
     requires { IsSound of.now }
-    ensures { IfOk result (λ wires. AreWires of.now (length of.now.outputs) wires.items) }
+    ensures { IfOk result (λ wires. AreWires of.now (length of.now.outputs) wires) }
 {
     let targets = targets(alloc, of.drives.as_slice())?;
-    let mut wires = Vec::new(alloc);
+    let mut wires = List::new(alloc);
     for port in of.outputs.as_slice() {
         wires.push(place_of(&targets, &port.name)?)?;
     }
     Ok(wires)
+}
+
+fn zeros(alloc: Global, count: usize) -> Result<List<u64>, Memory>
+    ensures { IfOk result (λ words. length words ≡ count) }
+{
+    let mut words = List::new(alloc);
+    for _ in 0..count {
+        words.push(0)?;
+    }
+    Ok(words)
 }
 
 /// Takes all the memory that clocking the module takes.
@@ -96,7 +106,7 @@ pub(crate) fn make_ready<'a>(alloc: Global, of: &'a Module) -> Result<Prepared<'
         return Err(Memory);
     };
     let ports = header_ports(alloc, of)?;
-    let words = vec![in alloc; 0u64; ports.as_slice().len()]?;
+    let words = zeros(alloc, ports.as_slice().len())?;
     Ok(Prepared {
         clock: Clock::new(alloc, of)?,
         ports,
@@ -130,7 +140,7 @@ fn present(
     given: &[Given],
     first: usize,
     cycle: u32,
-    words: &mut [u64],
+    words: &mut List<u64>,
 ) -> usize
     requires sound { IsSound clock.old.of }
     requires count { inputs ≡ length clock.old.of.inputs }
@@ -148,14 +158,14 @@ fn present(
     for port in 0..inputs {
         let (word, rest) = word_next(given, next, cycle, port);
         clock.set(port, word);
-        words[port as usize] = word;
+        words.set(port as usize, word);
         next = rest;
     }
     next
 }
 
 // Notes the words of the outputs behind those of the input ports.
-fn show(clock: &Clock<'_>, inputs: u32, wires: &[u32], words: &mut [u64])
+fn show(clock: &Clock<'_>, inputs: u32, wires: &[u32], words: &mut List<u64>)
     requires settled { IsTrue clock.now.settled }
     requires wires { AreWires clock.now.of (length clock.now.of.outputs) wires.now }
     requires room { length words.old ≡ length (header_ports clock.now.of) }
@@ -163,9 +173,9 @@ fn show(clock: &Clock<'_>, inputs: u32, wires: &[u32], words: &mut [u64])
     requires inputs { take inputs words.old ≡ port_words (carried clock.now) clock.now.of.inputs }
     ensures { words.new ≡ port_words (carried clock.now) (header_ports clock.now.of) }
 {
-    let inputs = inputs as usize;
+    let first = inputs as usize;
     for (i, wire) in wires.iter().enumerate() {
-        words[inputs + i] = clock.value(*wire);
+        words.set(first + i, clock.value(*wire));
     }
 }
 
@@ -197,8 +207,18 @@ pub(crate) fn run<K: Sink>(
             &mut parts.words,
         );
         parts.clock.settle();
-        show(&parts.clock, parts.inputs, &parts.wires, &mut parts.words);
-        write_cycle(cycle, parts.ports.as_slice(), &parts.words, sink)?;
+        show(
+            &parts.clock,
+            parts.inputs,
+            parts.wires.as_slice(),
+            &mut parts.words,
+        );
+        write_cycle(
+            cycle,
+            parts.ports.as_slice(),
+            parts.words.as_slice(),
+            sink,
+        )?;
         parts.clock.tick();
     }
     Ok(())
