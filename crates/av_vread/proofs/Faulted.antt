@@ -1,23 +1,29 @@
--- What reading and checking tells of a text.
-use Rattle.std.proofs.Common.{◌≡◌, ℕ, List, length, Option, Some, None, Result, Ok, Err, refl, sym, ap, subst, ◌∙◌, arith, inl, inr, ◌⊎◌}
+-- What checking a text answers: the design that the text spells, or its first fault.
+use Rattle.std.proofs.Common.{◌≡◌, ℕ, ◌-◌, ◌≤◌, List, length, take, Option, Some, None, Result, Ok, Err, refl, sym, ap, subst, ◌∙◌, arith, inl, inr, ◌⊎◌}
 use Rattle.av_base.specs.declared.place.Place.{Place}
 use Rattle.av_base.specs.Tokens.{start}
 use Rattle.av_net.specs.declared.netlist.Module.{Module}
+use Rattle.av_net.specs.declared.design.Design.{Design}
+use Rattle.av_net.specs.declared.design.Listing.{Listing}
+use Rattle.av_net.specs.Names.{names_of, wire_names}
 use Rattle.av_net.specs.Lexemes.{Token}
 use Rattle.av_net.specs.Grammar.{Text}
-use Rattle.av_net.specs.Rows.{module_of, declared_twice, driven_twice, wrong_name, undriven_name, early_name, unsuited_name}
-use Rattle.av_net.specs.Designs.{HasNoRow, first_line}
-use Rattle.av_net.specs.Sound.{IsSound}
-use Rattle.av_net.proofs.Rowless.{sound_text}
+use Rattle.av_net.specs.Listed.{Line, lines_of, numbered, listing_lines, IsListing, IsBadLine}
+use Rattle.av_net.specs.Rows.{is_in, module_of, declared_twice, driven_twice, wrong_name, undriven_name, early_name, unsuited_name}
+use Rattle.av_net.specs.Designs.{Says, HasNoRow, Spells, IsSoundDesign, first_line}
 use Rattle.av_vread.specs.declared.fault.VFault.{VFault}
 use Rattle.av_vread.specs.declared.fault.VFault.TheVariants.{VByte, VSyntax, VListing, VTwice, VName, VUnassigned, VOrder, VWidth, Memory}
 use Rattle.av_vread.specs.Lexing.{Lexed, lexed_of}
 use Rattle.av_vread.specs.Reading.{text_at}
-use Rattle.av_vread.specs.Faults.{or_row, first_row, SaysText, SaysNothing, IsFault, SpellsModule, GivesModule, GivesFault}
-use Rattle.av_vread.specs.Checked.{Checked, checked_row, checked_text, checked_tokens, checked_of, FaultIs}
+use Rattle.av_vread.specs.Listings.{Listed, no_lines, listing_at}
+use Rattle.av_vread.specs.Faults.{or_row, first_row, SaysNothing, ListsBadly, HasRow, IsFault, GivesDesign, GivesFault}
+use Rattle.av_vread.specs.Checked.{Checked, checked_row, checked_listing, checked_text, checked_tokens, checked_of, FaultIs}
 use Rattle.av_vread.proofs.Readings.{read_sound, read_fault, read_complete, fault_complete}
 use Rattle.av_vread.proofs.Sound.{text_took}
 use Rattle.av_vread.proofs.Complete.{text_gives}
+use Rattle.av_vread.proofs.NamesSpelled.{tokens_named, IsNamed, text_named, are_words}
+use Rattle.av_vread.proofs.ListingLines.{read_listed, listing_is, listing_read, bad_is, bad_read, kept_listed}
+use Rattle.av_vread.proofs.SoundDesigns.{spelled_sound}
 
 -- ---- rows
 
@@ -38,7 +44,7 @@ row_none x e =
 pub none_row : (x : Text) → HasNoRow x → first_row x ≡ None
 none_row x h = rw (h.declared_once, h.driven_once, h.named_right, h.all_driven, h.in_order, h.suited) refl
 
--- a fault that a row has
+-- a fault that a row of names has
 abbrev IsRow : VFault → Type 0
 IsRow (VTwice name) = Unit {0}
 IsRow (VName name) = Unit {0}
@@ -62,59 +68,115 @@ row_is x f e =
     is_row VTwice (λ n. tt) (declared_twice x) _ (is_row VTwice (λ n. tt) (driven_twice x) _ (is_row VName (λ n. tt) (wrong_name x) _ (is_row VUnassigned (λ n. tt) (undriven_name x) _
     (is_row VOrder (λ n. tt) (early_name x) _ (is_row VWidth (λ n. tt) (unsuited_name x) None (λ g h. absurd cc)))))) f e
 
--- ---- what is said is checked
+-- ---- the listing of what is said
 
-pub checked_said : (bytes : List ℕ) (x : Text) → SaysText bytes x → checked_of bytes ≡ checked_row x (first_row x)
-checked_said bytes x (line, s) = ap checked_tokens (read_complete s.lexed (length bytes) (omega arith)) ∙ ap checked_text (text_gives s.tokens x s.parsed)
+abbrev listing_of : List ℕ → Text → ℕ → Listed
+listing_of bytes x line = listing_at (is_in (names_of x.inputs)) (is_in (wire_names (module_of x))) bytes line
 
-said_by : (bytes : List ℕ) (tokens : List Token) (x : Text) → lexed_of (length bytes) start bytes ≡ Ok tokens → text_at tokens ≡ Ok x → SaysText bytes x
-said_by bytes tokens x e f = (first_line tokens, record { tokens = tokens; lexed = read_sound (length bytes) start bytes tokens e; parsed = text_took tokens x f; begins = refl })
+abbrev Lists : List ℕ → Text → ℕ → Listing → Type 0
+Lists bytes x line listing = IsListing (names_of x.inputs) (wire_names (module_of x)) (listing_lines bytes line) listing
 
-ok_text : (x y : Text) → ◌≡◌ {A = Checked} (Ok x) (Ok y) → x ≡ y
-ok_text x y e = cc
+module _ (bytes : List ℕ) (x : Text) (line : ℕ) (s : Says bytes x line) where
+  ports : List (List ℕ)
+  ports = names_of x.inputs
+
+  wires : List (List ℕ)
+  wires = wire_names (module_of x)
+
+  lines : List Line
+  lines = numbered 1 (take (line - 1) (lines_of bytes))
+
+  named : IsNamed x
+  named = text_named s.parsed (tokens_named s.lexed)
+
+  listing_ok : (listing : Listing) → listing_of bytes x line ≡ Ok listing → Lists bytes x line listing
+  unfolding ports wires lines
+  listing_ok listing e = listing_is ports wires (listing_lines bytes line) listing (kept_listed lines) (read_listed ports wires no_lines lines ∙ e)
+
+  listing_given : (listing : Listing) → Lists bytes x line listing → listing_of bytes x line ≡ Ok listing
+  unfolding ports wires lines
+  listing_given listing h =
+      sym (read_listed ports wires no_lines lines) ∙ listing_read ports wires (are_words ports named.inputs) (are_words wires named.wires) (listing_lines bytes line) listing h
+
+  bad_line : (n : ℕ) → listing_of bytes x line ≡ Err n → IsBadLine (names_of x.inputs) (wire_names (module_of x)) (listing_lines bytes line) n
+  unfolding ports wires lines
+  bad_line n e =
+      bad_is ports wires (are_words ports named.inputs) (are_words wires named.wires) (listing_lines bytes line) n (kept_listed lines) (read_listed ports wires no_lines lines ∙ e)
+
+  bad_given : (n : ℕ) → IsBadLine (names_of x.inputs) (wire_names (module_of x)) (listing_lines bytes line) n → listing_of bytes x line ≡ Err n
+  unfolding ports wires lines
+  bad_given n b =
+      sym (read_listed ports wires no_lines lines) ∙ bad_read ports wires (are_words ports named.inputs) (are_words wires named.wires) (listing_lines bytes line) n (kept_listed lines) b
+
+  -- what is said is checked
+  checked_said : checked_of bytes ≡ checked_listing x (listing_of bytes x line)
+  checked_said =
+      ap (checked_tokens bytes) (read_complete s.lexed (length bytes) (omega arith)) ∙ ap (λ n. checked_text bytes n (text_at s.tokens)) s.begins
+      ∙ ap (checked_text bytes line) (text_gives s.tokens x s.parsed)
+
+-- ---- what an answer of checking tells
+
+says_by : (bytes : List ℕ) (tokens : List Token) (x : Text) → lexed_of (length bytes) start bytes ≡ Ok tokens → text_at tokens ≡ Ok x → Says bytes x (first_line tokens)
+says_by bytes tokens x e f = record { tokens = tokens; lexed = read_sound (length bytes) start bytes tokens e; parsed = text_took tokens x f; begins = refl }
+
+ok_read : (a b : Text × Listing) → ◌≡◌ {A = Checked} (Ok a) (Ok b) → a ≡ b
+ok_read a b e = cc
 
 err_fault : (f g : VFault) → ◌≡◌ {A = Checked} (Err f) (Err g) → f ≡ g
 err_fault f g e = cc
 
--- what an answer of checking tells
 module _ (bytes : List ℕ) where
-  pub record Said (x : Text) : Type 0 where
-    pub says : SaysText bytes x
-    pub no_row_holds : first_row x ≡ None
+  pub record Said (read : Text × Listing) : Type 0 where
+    pub line : ℕ
+    pub says : Says bytes read.0 line
+    pub lists : Lists bytes read.0 line read.1
+    pub no_row_holds : first_row read.0 ≡ None
 
-  said_row : (x y : Text) (o : Option VFault) → SaysText bytes y → first_row y ≡ o → checked_row y o ≡ Ok x → Said x
-  said_row x y None s e c = subst Said (ok_text y x c) (record { says = s; no_row_holds = e })
-  said_row x y (Some f) s e c = absurd cc
+  said_row : (read : Text × Listing) (x : Text) (line : ℕ) (listing : Listing) (o : Option VFault) → Says bytes x line → Lists bytes x line listing → first_row x ≡ o → checked_row x listing o ≡ Ok read → Said read
+  said_row read x line listing None s l e c = subst Said (ok_read (x, listing) read c) (record { line = line; says = s; lists = l; no_row_holds = e })
+  said_row read x line listing (Some f) s l e c = absurd cc
 
-  pub said_ok : (x : Text) → checked_of bytes ≡ Ok x → Said x
-  said_ok x c = by_tokens (lexed_of (length bytes) start bytes) refl c
+  said_listing : (read : Text × Listing) (x : Text) (line : ℕ) (r : Listed) → Says bytes x line → listing_of bytes x line ≡ r → checked_listing x r ≡ Ok read → Said read
+  said_listing read x line (Ok listing) s e c = said_row read x line listing (first_row x) s (listing_ok bytes x line s listing e) refl c
+  said_listing read x line (Err n) s e c = absurd cc
+
+  pub said_ok : (read : Text × Listing) → checked_of bytes ≡ Ok read → Said read
+  said_ok read c = by_tokens (lexed_of (length bytes) start bytes) refl c
     where
-      by_text : (tokens : List Token) → lexed_of (length bytes) start bytes ≡ Ok tokens → (r : Result Text Place) → text_at tokens ≡ r → checked_text r ≡ Ok x → Said x
-      by_text tokens e (Ok y) f c = said_row x y (first_row y) (said_by bytes tokens y e f) refl c
+      by_text : (tokens : List Token) → lexed_of (length bytes) start bytes ≡ Ok tokens → (r : Result Text Place) → text_at tokens ≡ r → checked_text bytes (first_line tokens) r ≡ Ok read → Said read
+      by_text tokens e (Ok x) f c = said_listing read x (first_line tokens) (listing_of bytes x (first_line tokens)) (says_by bytes tokens x e f) refl c
       by_text tokens e (Err p) f c = absurd cc
 
-      by_tokens : (r : Lexed) → lexed_of (length bytes) start bytes ≡ r → checked_tokens r ≡ Ok x → Said x
+      by_tokens : (r : Lexed) → lexed_of (length bytes) start bytes ≡ r → checked_tokens bytes r ≡ Ok read → Said read
       by_tokens (Ok tokens) e c = by_text tokens e (text_at tokens) refl c
       by_tokens (Err p) e c = absurd cc
 
-  row_fault : (x : Text) (f : VFault) → SaysText bytes x → first_row x ≡ Some f → IsRow f → IsFault bytes f
-  row_fault x (VTwice name) s e r = (x, s, e)
-  row_fault x (VName name) s e r = (x, s, e)
-  row_fault x (VUnassigned name) s e r = (x, s, e)
-  row_fault x (VOrder name) s e r = (x, s, e)
-  row_fault x (VWidth name) s e r = (x, s, e)
-  row_fault x (VByte p) s e r = absurd r
-  row_fault x (VSyntax p) s e r = absurd r
-  row_fault x (VListing n) s e r = absurd r
-  row_fault x Memory s e r = absurd r
+  row_fault : (f : VFault) → HasRow bytes f → IsRow f → IsFault bytes f
+  row_fault (VTwice name) h r = h
+  row_fault (VName name) h r = h
+  row_fault (VUnassigned name) h r = h
+  row_fault (VOrder name) h r = h
+  row_fault (VWidth name) h r = h
+  row_fault (VByte p) h r = absurd r
+  row_fault (VSyntax p) h r = absurd r
+  row_fault (VListing n) h r = absurd r
+  row_fault Memory h r = absurd r
+
+  fault_row : (f : VFault) (x : Text) (line : ℕ) (listing : Listing) (o : Option VFault) → Says bytes x line → Lists bytes x line listing → first_row x ≡ o → checked_row x listing o ≡ Err f → IsFault bytes f
+  fault_row f x line listing None s l e c = absurd cc
+  fault_row f x line listing (Some g) s l e c =
+      let row : HasRow bytes g = record { said = x; line = line; says = s; listing = listing; lists = l; row = e } in
+      subst (IsFault bytes) (err_fault g f c) (row_fault g row (row_is x g e))
+
+  fault_listing : (f : VFault) (x : Text) (line : ℕ) (r : Listed) → Says bytes x line → listing_of bytes x line ≡ r → checked_listing x r ≡ Err f → IsFault bytes f
+  fault_listing f x line (Ok listing) s e c = fault_row f x line listing (first_row x) s (listing_ok bytes x line s listing e) refl c
+  fault_listing f x line (Err n) s e c =
+      let bad : ListsBadly bytes n = record { said = x; line = line; says = s; bad = bad_line bytes x line s n e } in
+      subst (IsFault bytes) (err_fault (VListing n) f c) bad
 
   pub said_err : (f : VFault) → checked_of bytes ≡ Err f → IsFault bytes f
   said_err f c = by_tokens (lexed_of (length bytes) start bytes) refl c
     where
-      by_row : (y : Text) (o : Option VFault) → SaysText bytes y → first_row y ≡ o → checked_row y o ≡ Err f → IsFault bytes f
-      by_row y None s e c = absurd cc
-      by_row y (Some g) s e c = let same : g ≡ f = err_fault g f c in subst (IsFault bytes) same (row_fault y g s e (row_is y g e))
-
       nothing : (tokens : List Token) (p : Place) → lexed_of (length bytes) start bytes ≡ Ok tokens → text_at tokens ≡ Err p → SaysNothing bytes
       nothing tokens p e g = record {
         tokens = tokens;
@@ -122,11 +184,11 @@ module _ (bytes : List ℕ) where
         none = λ x t. let z : ◌≡◌ {A = Result Text Place} (Err p) (Ok x) = sym g ∙ text_gives tokens x t in cc;
       }
 
-      by_text : (tokens : List Token) → lexed_of (length bytes) start bytes ≡ Ok tokens → (r : Result Text Place) → text_at tokens ≡ r → checked_text r ≡ Err f → IsFault bytes f
-      by_text tokens e (Ok y) g c = by_row y (first_row y) (said_by bytes tokens y e g) refl c
+      by_text : (tokens : List Token) → lexed_of (length bytes) start bytes ≡ Ok tokens → (r : Result Text Place) → text_at tokens ≡ r → checked_text bytes (first_line tokens) r ≡ Err f → IsFault bytes f
+      by_text tokens e (Ok x) g c = fault_listing f x (first_line tokens) (listing_of bytes x (first_line tokens)) (says_by bytes tokens x e g) refl c
       by_text tokens e (Err p) g c = subst (IsFault bytes) (err_fault (VSyntax p) f c) (nothing tokens p e g)
 
-      by_tokens : (r : Lexed) → lexed_of (length bytes) start bytes ≡ r → checked_tokens r ≡ Err f → IsFault bytes f
+      by_tokens : (r : Lexed) → lexed_of (length bytes) start bytes ≡ r → checked_tokens bytes r ≡ Err f → IsFault bytes f
       by_tokens (Ok tokens) e c = by_text tokens e (text_at tokens) refl c
       by_tokens (Err p) e c = subst (IsFault bytes) (err_fault (VByte p) f c) (read_fault (length bytes) start bytes p (omega arith) e)
 
@@ -143,34 +205,42 @@ module _ (bytes : List ℕ) where
 
       go : (r : Result Text Place) → text_at s.tokens ≡ r → IsSyntax
       go (Ok x) e = absurd (s.none x (text_took s.tokens x e))
-      go (Err p) e = record { place = p; is = ap checked_tokens lexed ∙ ap checked_text e }
+      go (Err p) e = record { place = p; is = ap (checked_tokens bytes) lexed ∙ ap (checked_text bytes (first_line s.tokens)) e }
 
-  same_syntax : (p q : Place) (r : Result Module VFault) → r ≡ Err (VSyntax p) → GivesFault r (VSyntax q)
-  same_syntax p q r e = subst (λ z. GivesFault z (VSyntax q)) (sym e) tt
+  bad_answer : (n : ℕ) → ListsBadly bytes n → checked_of bytes ≡ Err (VListing n)
+  bad_answer n h = checked_said bytes h.said h.line h.says ∙ ap (checked_listing h.said) (bad_given bytes h.said h.line h.says n h.bad)
 
-  row_given : (f : VFault) → ((x : Text) × SaysText bytes x × (first_row x ≡ Some f)) → checked_of bytes ≡ Err f
-  row_given f (x, s, e) = checked_said bytes x s ∙ ap (checked_row x) e
+  row_answer : (f : VFault) → HasRow bytes f → checked_of bytes ≡ Err f
+  row_answer f h =
+      checked_said bytes h.said h.line h.says ∙ ap (checked_listing h.said) (listing_given bytes h.said h.line h.says h.listing h.lists) ∙ ap (checked_row h.said h.listing) h.row
 
   -- ---- the clauses
 
-  pub found : (x : Text) (m : Module) → checked_of bytes ≡ Ok x → m ≡ module_of x → SpellsModule bytes m
-  found x m c e = let s = said_ok x c in record { said = x; says = s.says; no_row = row_none x s.no_row_holds; is = e }
+  abbrev pub designed : Listing → Module → Design
+  designed listing m = record { listing = listing; «module» = m }
 
-  pub sound : (x : Text) (m : Module) → checked_of bytes ≡ Ok x → m ≡ module_of x → IsSound m
-  sound x m c e =
-      let s = said_ok x c in
-      subst IsSound (sym e) (sound_text s.says.1.tokens x s.says.1.parsed (row_none x s.no_row_holds))
+  pub found : (x : Text) (listing : Listing) (m : Module) → checked_of bytes ≡ Ok (x, listing) → m ≡ module_of x → Spells bytes (designed listing m)
+  found x listing m c e =
+      let s = said_ok (x, listing) c in
+      record { said = x; line = s.line; says = s.says; lists = s.lists; is_module = e; no_row = row_none x s.no_row_holds }
 
-  given : (m : Module) (s : SpellsModule bytes m) → checked_of bytes ≡ Ok s.said
-  given m s = checked_said bytes s.said s.says ∙ ap (checked_row s.said) (none_row s.said s.no_row)
+  pub sound : (x : Text) (listing : Listing) (m : Module) → checked_of bytes ≡ Ok (x, listing) → m ≡ module_of x → IsSoundDesign (designed listing m)
+  sound x listing m c e = spelled_sound bytes (designed listing m) (found x listing m c e)
 
-  pub only_ok : (x : Text) (m wanted : Module) → checked_of bytes ≡ Ok x → m ≡ module_of x → SpellsModule bytes wanted → m ≡ wanted
-  only_ok x m wanted c e s = e ∙ ap module_of (ok_text x s.said (sym c ∙ given wanted s)) ∙ sym s.is
+  given : (design : Design) (s : Spells bytes design) → checked_of bytes ≡ Ok (s.said, design.listing)
+  given design s =
+      checked_said bytes s.said s.line s.says ∙ ap (checked_listing s.said) (listing_given bytes s.said s.line s.says design.listing s.lists)
+      ∙ ap (checked_row s.said design.listing) (none_row s.said s.no_row)
 
-  ok_or_err : {f : VFault} {x : Text} → ◌≡◌ {A = Checked} (Ok x) (Err f) → ⊥
+  pub only_ok : (x : Text) (listing : Listing) (m : Module) (wanted : Design) → checked_of bytes ≡ Ok (x, listing) → m ≡ module_of x → Spells bytes wanted → designed listing m ≡ wanted
+  only_ok x listing m wanted c e s =
+      let same : (x, listing) ≡ (s.said, wanted.listing) = ok_read (x, listing) (s.said, wanted.listing) (sym c ∙ given wanted s) in
+      ap (designed listing) e ∙ ap (λ read. designed read.1 (module_of read.0)) same ∙ ap (designed wanted.listing) (sym s.is_module)
+
+  ok_or_err : {f : VFault} {read : Text × Listing} → ◌≡◌ {A = Checked} (Ok read) (Err f) → ⊥
   ok_or_err e = cc
 
-  pub only_err : (f : VFault) (wanted : Module) → FaultIs f (checked_of bytes) → SpellsModule bytes wanted → GivesModule (Err f) wanted
+  pub only_err : (f : VFault) (wanted : Design) → FaultIs f (checked_of bytes) → Spells bytes wanted → GivesDesign (Err f) wanted
   only_err Memory wanted c s = tt
   only_err (VByte p) wanted c s = ok_or_err (sym (given wanted s) ∙ c)
   only_err (VSyntax p) wanted c s = ok_or_err (sym (given wanted s) ∙ c)
@@ -198,26 +268,26 @@ module _ (bytes : List ℕ) where
   IsAnswered f = checked_of bytes ≡ Err f
 
   answered : (f : VFault) → IsFault bytes f → IsAnswered f
-  answered (VByte p) h = ap checked_tokens (fault_complete h (length bytes) (omega arith))
+  answered (VByte p) h = ap (checked_tokens bytes) (fault_complete h (length bytes) (omega arith))
   answered (VSyntax p) h = syntax_of h
-  answered (VListing n) h = absurd h
-  answered (VTwice n) h = row_given (VTwice n) h
-  answered (VName n) h = row_given (VName n) h
-  answered (VUnassigned n) h = row_given (VUnassigned n) h
-  answered (VOrder n) h = row_given (VOrder n) h
-  answered (VWidth n) h = row_given (VWidth n) h
+  answered (VListing n) h = bad_answer n h
+  answered (VTwice n) h = row_answer (VTwice n) h
+  answered (VName n) h = row_answer (VName n) h
+  answered (VUnassigned n) h = row_answer (VUnassigned n) h
+  answered (VOrder n) h = row_answer (VOrder n) h
+  answered (VWidth n) h = row_answer (VWidth n) h
   answered Memory h = absurd h
 
-  pub refused_ok : (x : Text) (f : VFault) → checked_of bytes ≡ Ok x → IsFault bytes f → ⊥
-  refused_ok x (VByte p) c h = ok_or_err (sym c ∙ answered (VByte p) h)
-  refused_ok x (VSyntax p) c h = ok_or_err (sym c ∙ (syntax_of h).is)
-  refused_ok x (VListing n) c h = h
-  refused_ok x (VTwice n) c h = ok_or_err (sym c ∙ answered (VTwice n) h)
-  refused_ok x (VName n) c h = ok_or_err (sym c ∙ answered (VName n) h)
-  refused_ok x (VUnassigned n) c h = ok_or_err (sym c ∙ answered (VUnassigned n) h)
-  refused_ok x (VOrder n) c h = ok_or_err (sym c ∙ answered (VOrder n) h)
-  refused_ok x (VWidth n) c h = ok_or_err (sym c ∙ answered (VWidth n) h)
-  refused_ok x Memory c h = h
+  pub refused_ok : (read : Text × Listing) (f : VFault) → checked_of bytes ≡ Ok read → IsFault bytes f → ⊥
+  refused_ok read (VByte p) c h = ok_or_err (sym c ∙ answered (VByte p) h)
+  refused_ok read (VSyntax p) c h = ok_or_err (sym c ∙ (syntax_of h).is)
+  refused_ok read (VListing n) c h = ok_or_err (sym c ∙ answered (VListing n) h)
+  refused_ok read (VTwice n) c h = ok_or_err (sym c ∙ answered (VTwice n) h)
+  refused_ok read (VName n) c h = ok_or_err (sym c ∙ answered (VName n) h)
+  refused_ok read (VUnassigned n) c h = ok_or_err (sym c ∙ answered (VUnassigned n) h)
+  refused_ok read (VOrder n) c h = ok_or_err (sym c ∙ answered (VOrder n) h)
+  refused_ok read (VWidth n) c h = ok_or_err (sym c ∙ answered (VWidth n) h)
+  refused_ok read Memory c h = h
 
   -- the answer where one fault is the first and another was met
   same_fault : (f g : VFault) → checked_of bytes ≡ Err f → checked_of bytes ≡ Err g → f ≡ g
@@ -262,25 +332,25 @@ module _ (bytes : List ℕ) where
       by (VSyntax q) h d =
           let s = syntax_of h in
           subst (λ z. GivesFault (Err z) (VSyntax q)) (same_fault (VSyntax s.place) g s.is d) tt
-      by (VListing n) h d = absurd h
       by Memory h d = absurd h
       by (VByte p) h d = equal (VByte p) (answered (VByte p) h) d
+      by (VListing n) h d = equal (VListing n) (answered (VListing n) h) d
       by (VTwice p) h d = equal (VTwice p) (answered (VTwice p) h) d
       by (VName p) h d = equal (VName p) (answered (VName p) h) d
       by (VUnassigned p) h d = equal (VUnassigned p) (answered (VUnassigned p) h) d
       by (VOrder p) h d = equal (VOrder p) (answered (VOrder p) h) d
       by (VWidth p) h d = equal (VWidth p) (answered (VWidth p) h) d
 
--- each text spells a module or has a first fault
-pub either : (bytes : List ℕ) → ((m : Module) × SpellsModule bytes m) ⊎ ((f : VFault) × IsFault bytes f)
+-- each text spells a design or has a first fault
+pub either : (bytes : List ℕ) → ((design : Design) × Spells bytes design) ⊎ ((f : VFault) × IsFault bytes f)
 either bytes = go (checked_of bytes) refl
   where
-    go : (r : Checked) → checked_of bytes ≡ r → ((m : Module) × SpellsModule bytes m) ⊎ ((f : VFault) × IsFault bytes f)
-    go (Ok x) e = inl (module_of x, found bytes x (module_of x) e refl)
+    go : (r : Checked) → checked_of bytes ≡ r → ((design : Design) × Spells bytes design) ⊎ ((f : VFault) × IsFault bytes f)
+    go (Ok read) e = inl (designed bytes read.1 (module_of read.0), found bytes read.0 read.1 (module_of read.0) e refl)
     go (Err f) e = inr (f, said_err bytes f e)
 
-pub not_both : (bytes : List ℕ) (m : Module) (f : VFault) → SpellsModule bytes m → IsFault bytes f → ⊥
-not_both bytes m f s h = refused_ok bytes s.said f (given bytes m s) h
+pub not_both : (bytes : List ℕ) (design : Design) (f : VFault) → Spells bytes design → IsFault bytes f → ⊥
+not_both bytes design f s h = refused_ok bytes (s.said, design.listing) f (given bytes design s) h
 
-pub one_module : (bytes : List ℕ) (some other : Module) → SpellsModule bytes some → SpellsModule bytes other → some ≡ other
-one_module bytes some other s t = only_ok bytes s.said some other (given bytes some s) s.is t
+pub one_design : (bytes : List ℕ) (some other : Design) → Spells bytes some → Spells bytes other → some ≡ other
+one_design bytes some other s t = only_ok bytes s.said some.listing some.«module» other (given bytes some s) s.is_module t

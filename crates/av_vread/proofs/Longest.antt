@@ -56,14 +56,14 @@ alphabetic_word b h = grind arith
 digit_not_letter : (b : ℕ) → is_ascii_digit b ≡ true → begins_name b ≡ false
 digit_not_letter b h = grind arith
 
-name_kind : (text : List ℕ) → (Contains reserved_words text → ⊥) → word_kind text ≡ kind.Name
+pub name_kind : (text : List ℕ) → (Contains reserved_words text → ⊥) → word_kind text ≡ kind.Name
 name_kind text h = go (is_reserved text) refl
   where
     go : (t : Bool) → is_reserved text ≡ t → cond t kind.Reserved kind.Name ≡ kind.Name
     go true e = absurd (h (is_there text reserved_words e))
     go false e = refl
 
-reserved_kind : (text : List ℕ) → Contains reserved_words text → word_kind text ≡ kind.Reserved
+pub reserved_kind : (text : List ℕ) → Contains reserved_words text → word_kind text ≡ kind.Reserved
 reserved_kind text h = rw (is_found text reserved_words h) refl
 
 word_covers : (k : TokenKind) (front back : List ℕ) → IsIdentifier front → word_kind front ≡ k → (b : ℕ) (bytes : List ℕ) → front ++ back ≡ b ∷ bytes → Covers k (length front) (token_of b (front ++ back))
@@ -82,7 +82,7 @@ word_covers k (x ∷ front) back s w b bytes e =
       same = λ h. sym (ap word_kind (ap (λ z. take z (x ∷ front ++ back)) (sym h) ∙ take-append_seam (x ∷ front) back) ∙ w);
     }
 
-one_or_two : (t : Bool) (found : Piece) → found ≡ cond t (piece.Token kind.Symbol 2) (piece.Token kind.Symbol 1) → Covers kind.Symbol 1 found
+pub one_or_two : (t : Bool) (found : Piece) → found ≡ cond t (piece.Token kind.Symbol 2) (piece.Token kind.Symbol 1) → Covers kind.Symbol 1 found
 one_or_two true found h = record { kind = kind.Symbol; len' = 2; is = h; no_less = omega arith; same = λ e. absurd (omega arith) }
 one_or_two false found h = record { kind = kind.Symbol; len' = 1; is = h; no_less = omega arith; same = λ e. refl }
 
@@ -99,7 +99,7 @@ not_signed b bytes h = go (is_signed (b ∷ bytes)) refl
     go true e = absurd (true≢false (sym (signed_first b bytes e) ∙ h))
     go false e = e
 
-other_symbol : (b : ℕ) (bytes : List ℕ) → is_other b ≡ true → token_of b (b ∷ bytes) ≡ symbol_of b (b ∷ bytes)
+pub other_symbol : (b : ℕ) (bytes : List ℕ) → is_other b ≡ true → token_of b (b ∷ bytes) ≡ symbol_of b (b ∷ bytes)
 unfolding token_of
 other_symbol b bytes h = go (begins_name b) (is_ascii_digit b) (is_signed (b ∷ bytes)) refl refl refl h
   where
@@ -162,13 +162,13 @@ pub digits_some : (text : List ℕ) → IsDigits text → 0 < length text
 digits_some [] d = absurd d
 digits_some (b ∷ text) d = omega arith
 
-tail_of : (digits back : List ℕ) → IsDigits digits → tail_len (39 ∷ 100 ∷ (digits ++ back)) ≡ 2 + prefix_len is_ascii_digit (digits ++ back)
+pub tail_of : (digits back : List ℕ) → IsDigits digits → tail_len (39 ∷ 100 ∷ (digits ++ back)) ≡ 2 + prefix_len is_ascii_digit (digits ++ back)
 tail_of digits back d =
     let some : 0 < prefix_len is_ascii_digit (digits ++ back) = omega (arith, digits_some digits d, run_covers is_ascii_digit digits back (digits_all digits d)) in
     let e : nat_eq (prefix_len is_ascii_digit (digits ++ back)) 0 ≡ false = grind arith in
     rw e refl
 
-literal_number : (size digits back : List ℕ) → IsDigits size → IsDigits digits
+pub literal_number : (size digits back : List ℕ) → IsDigits size → IsDigits digits
     → number_of (size ++ (39 ∷ 100 ∷ (digits ++ back))) ≡ piece.Token kind.Literal (length size + (2 + prefix_len is_ascii_digit (digits ++ back)))
 unfolding number_of
 literal_number size digits back s d =
@@ -178,12 +178,12 @@ literal_number size digits back s d =
     let none : nat_eq (2 + prefix_len is_ascii_digit (digits ++ back)) 0 ≡ false = grind arith in
     rw (run, after, tail, none) refl
 
-sized_length : (size digits : List ℕ) → length (size ++ (codes "'d" ++ digits)) ≡ length size + (2 + length digits)
+pub sized_length : (size digits : List ℕ) → length (size ++ (codes "'d" ++ digits)) ≡ length size + (2 + length digits)
 sized_length [] digits = omega arith
 sized_length (b ∷ size) digits = omega (arith, sized_length size digits)
 
 -- the token at a digit is a number
-at_digit : (b : ℕ) (text : List ℕ) → is_ascii_digit b ≡ true → token_of b text ≡ number_of text
+pub at_digit : (b : ℕ) (text : List ℕ) → is_ascii_digit b ≡ true → token_of b text ≡ number_of text
 unfolding token_of
 at_digit b text h = rw (digit_not_letter b h, h) refl
 

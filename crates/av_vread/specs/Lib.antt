@@ -3,5 +3,8 @@ pub mod Scan
 pub mod Lexing
 pub mod Reading
 pub mod Scoped
+pub mod Lines
+pub mod Entries
+pub mod Listings
 pub mod Faults
 pub mod Checked

@@ -1,17 +1,22 @@
-//! What a text says, checked row by row.
+//! What a text says and its listing, checked row by row.
 
 ghost use Rattle.std.specs.Prelude.{◌≡◌, ◌<◌, length, None};
 ghost use Rattle.av_vread.specs.Reading.{said};
 ghost use Rattle.av_vread.specs.Faults.{or_row, first_row};
-ghost use Rattle.av_vread.specs.Checked.{Answers, AnswersRow, checked_of};
+ghost use Rattle.av_vread.specs.Lexing.{views};
+ghost use Rattle.av_vread.specs.Checked.{Answers, said_with, AnswersRow, checked_of};
+ghost use Rattle.av_net.specs.Designs.{first_line};
 ghost use Rattle.av_net.specs.Rows.{declared_twice, driven_twice, wrong_name, undriven_name, early_name, unsuited_name};
 ghost use Rattle.av_vread.specs.declared.fault.VFault.TheVariants.{VTwice, VName, VUnassigned, VOrder, VWidth};
 
 use crate::lexer::lex;
+use crate::listing::read_listing;
 use crate::parsed::Text;
 use crate::reader::read_text;
+use crate::token::Token;
 use crate::{VFault, rows};
 use av_base::Name;
+use av_net::Listing;
 use std::alloc::Global;
 
 fn check_twice(alloc: Global, text: &Text) -> Result<(), VFault>
@@ -58,13 +63,24 @@ fn check(alloc: Global, text: &Text) -> Result<(), VFault>
     check_drives(alloc, text)
 }
 
-/// What a text says, if no row of faults holds of it.
-pub(crate) fn checked(alloc: Global, bytes: &[u8]) -> Result<Text, VFault>
+// The line of the first token.
+fn first_line(tokens: &[Token]) -> u32
+    ensures { result ≡ first_line (views tokens.now) }
+{
+    match tokens {
+        [first, ..] => first.place.line,
+        [] => 1,
+    }
+}
+
+/// What a text says and its listing, if no row of faults holds of it.
+pub(crate) fn checked(alloc: Global, bytes: &[u8]) -> Result<(Text, Listing), VFault>
     requires { length bytes.now < 4294967295 }
-    ensures { Answers said result (checked_of bytes.now) }
+    ensures { Answers said_with result (checked_of bytes.now) }
 {
     let tokens = lex(alloc, bytes)?;
     let text = read_text(alloc, tokens.as_slice())?;
+    let listing = read_listing(alloc, bytes, first_line(tokens.as_slice()), &text)?;
     check(alloc, &text)?;
-    Ok(text)
+    Ok((text, listing))
 }

@@ -1,18 +1,36 @@
 //! Laws of the definitions of design texts, each the contract of a function that does nothing.
 
 ghost use Rattle.std.specs.Prelude.{◌≡◌, ◌⊎◌, ℕ, List as Items};
-ghost use Rattle.av_net.specs.declared.netlist.Module.{Module as Netlist};
+ghost use Rattle.av_net.specs.declared.design.Design.{Design as Spelled};
+ghost use Rattle.av_net.specs.Texts.{text};
+ghost use Rattle.av_net.specs.Designs.{Spells, IsSoundDesign};
 ghost use Rattle.av_vread.specs.declared.fault.VFault.{VFault as Fault};
-ghost use Rattle.av_vread.specs.Faults.{SpellsModule, IsFault};
+ghost use Rattle.av_vread.specs.Faults.{IsFault};
 
-/// A law: a text spells at most one module, its listing left aside.
-pub fn one_module()
-    ensures { (bytes : Items ℕ) (some other : Netlist) → SpellsModule bytes some → SpellsModule bytes other
+/// A law: a text spells at most one design.
+pub fn one_design()
+    ensures { (bytes : Items ℕ) (some other : Spelled) → Spells bytes some → Spells bytes other
         → some ≡ other }
 {}
 
-/// A law: each text spells a module or has a first fault, and none does both, its listing left aside.
-pub fn module_or_fault()
-    ensures either { (bytes : Items ℕ) → ((m : Netlist) × SpellsModule bytes m) ⊎ ((f : Fault) × IsFault bytes f) }
-    ensures not_both { (bytes : Items ℕ) (m : Netlist) (f : Fault) → SpellsModule bytes m → IsFault bytes f → ⊥ }
+/// A law: each text spells a design or has a first fault, and none does both.
+pub fn design_or_fault()
+    ensures either { (bytes : Items ℕ) → ((design : Spelled) × Spells bytes design) ⊎ ((f : Fault) × IsFault bytes f) }
+    ensures not_both { (bytes : Items ℕ) (design : Spelled) (f : Fault) → Spells bytes design → IsFault bytes f → ⊥ }
+{}
+
+/// A law: a design that a text spells is sound.
+pub fn spelled_is_sound()
+    ensures { (bytes : Items ℕ) (design : Spelled) → Spells bytes design → IsSoundDesign design }
+{}
+
+/// A law: the text of a sound design spells that design.
+pub fn read_back()
+    ensures { (design : Spelled) → IsSoundDesign design → Spells (text design) design }
+{}
+
+/// A law: two sound designs with one text are one design.
+pub fn one_text()
+    ensures { (some other : Spelled) → IsSoundDesign some → IsSoundDesign other → text some ≡ text other
+        → some ≡ other }
 {}

@@ -22,8 +22,8 @@ fn part(bytes: &[u8], at: usize, len: usize) -> &[u8]
     &bytes[at..at + len]
 }
 
-// The bytes of a token as text.
-fn ascii(bytes: &[u8]) -> &str
+/// ASCII bytes as text.
+pub(crate) fn ascii(bytes: &[u8]) -> &str
     requires { IsAscii bytes.now }
     ensures { result.now ≡ bytes.now }
 {

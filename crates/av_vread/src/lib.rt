@@ -3,9 +3,12 @@
 
 mod check;
 mod design;
+mod entry;
 mod fault;
 mod law;
 mod lexer;
+mod line;
+mod listing;
 mod literal;
 mod module;
 mod names;
@@ -18,9 +21,9 @@ mod scope;
 mod token;
 mod widths;
 
-pub use design::read_module;
+pub use design::read_design;
 pub use fault::VFault;
-pub use law::{module_or_fault, one_module};
+pub use law::{design_or_fault, one_design, one_text, read_back, spelled_is_sound};
 
 #[cfg(test)]
 mod tests;

@@ -26,7 +26,7 @@ fn after_base(bytes: &[u8]) -> Option<&[u8]>
     }
 }
 
-fn are_digits(bytes: &[u8]) -> bool
+pub(crate) fn are_digits(bytes: &[u8]) -> bool
     ensures { result ≡ are_digits bytes.now }
 {
     !bytes.is_empty() && digits_len(bytes) == bytes.len()

@@ -35,7 +35,7 @@ pub(crate) enum Piece {
     Bad,
 }
 
-fn is_word_byte(byte: u8) -> bool
+pub(crate) fn is_word_byte(byte: u8) -> bool
     ensures { result ≡ is_word_byte byte }
 {
     byte.is_ascii_alphabetic() || byte.is_ascii_digit() || byte == b'_'
@@ -66,8 +66,9 @@ pub(crate) fn digits_len(text: &[u8]) -> usize
     text.iter().take_while(|byte| byte.is_ascii_digit()).count()
 }
 
-fn line_len(text: &[u8]) -> usize
-    ensures { result ≡ prefix_len is_not_feed text.now }
+pub(crate) fn line_len(text: &[u8]) -> usize
+    ensures len { result ≡ prefix_len is_not_feed text.now }
+    ensures within { result ≤ length text.now }
 {
     text.iter().take_while(|byte| **byte != b'\n').count()
 }
@@ -81,7 +82,7 @@ fn is_slashed(text: &[u8]) -> bool
     }
 }
 
-fn is_one_of(text: &[u8], words: &[&str]) -> bool
+pub(crate) fn is_one_of(text: &[u8], words: &[&str]) -> bool
     ensures { result ≡ list_any (λ word. bytes_eq text.now word.now) words.now }
 {
     words.iter().any(|word| text == word.as_bytes())

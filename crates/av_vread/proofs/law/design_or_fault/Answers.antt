@@ -1,5 +1,5 @@
 use Rattle.av_vread.proofs.Faulted.{either, not_both}
-use Rattle.av_vread.proofs.law.module_or_fault.Goals as goal
+use Rattle.av_vread.proofs.law.design_or_fault.Goals as goal
 
 pub returns-clause-either : goal.returns-clause-either
 returns-clause-either c = either
