@@ -4,3 +4,5 @@ pub mod Walking
 pub mod Presenting
 pub mod Running
 pub mod Targets
+mod OptionWords
+mod SizeWords

@@ -1,26 +1,98 @@
 -- How the words of the command line are read.
-use Rattle.std.specs.Prelude.{◌≡◌, ◌⊎◌, ℕ, ◌≤◌, List, [], ◌∷◌, codes}
-use Rattle.av_base.specs.Tokens.{IsDigits, number_of}
+use Rattle.std.specs.Prelude.{◌≡◌, ◌⊎◌, ℕ, ◌≤◌, ℤ, pos, unsigned_abs, List, [], ◌∷◌, ◌++◌, Option, Some, None, codes}
+use Rattle.std.specs.List.{AllByRecursion}
+use Rattle.std.proofs.Math.IntN.{neg_ℤ}
+use Rattle.av_base.specs.declared.token_kind.TokenKind.TheVariants as kind
+use Rattle.av_base.specs.Tokens.{IsDigits, IsSpelled, number_of}
+
+-- ---- numbers
+
+-- decimal digits of a number from 1 to the greatest
+pub record SpellsUpTo (greatest : ℕ) (digits : List ℕ) (n : ℕ) : Type 0 where
+  pub spelled : IsDigits digits
+  pub value : number_of digits ≡ n
+  pub least : 1 ≤ n
+  pub most : n ≤ greatest
+
+-- digits of a whole number, with a minus sign before them or without
+abbrev pub SpellsWhole : List ℕ → ℤ → Type 0
+SpellsWhole text value =
+    (IsDigits text × (value ≡ pos (number_of text)))
+    ⊎ ((digits : List ℕ) × (text ≡ codes "-" ++ digits) × IsDigits digits × (value ≡ neg_ℤ (pos (number_of digits))))
+
+-- ---- sizes
+
+-- NAME=VALUE, where the name is one of an Alpha text
+pub record IsSize (word : List ℕ) : Type 0 where
+  pub name : List ℕ
+  pub text : List ℕ
+  pub value : ℤ
+  pub parts : word ≡ name ++ (codes "=" ++ text)
+  pub named : IsSpelled kind.Name name
+  pub valued : SpellsWhole text value
+  pub most : unsigned_abs value ≤ 1048576
+
+-- ---- options
+
+-- the width of words, and the size of the box, where an option gives them
+pub record Options : Type 0 where
+  pub width : Option ℕ
+  pub box : Option ℕ
+
+abbrev pub having_width : Options → ℕ → Options
+having_width o n = record { width = Some n; box = o.box }
+
+abbrev pub having_box : Options → ℕ → Options
+having_box o n = record { width = o.width; box = Some n }
+
+-- an option with its value stands before the rest: in two words, or in one with a `=` between
+abbrev pub IsOption : List ℕ → List (List ℕ) → List ℕ → List (List ℕ) → Type 0
+IsOption name words digits rest = (words ≡ name ∷ digits ∷ rest) ⊎ (words ≡ (name ++ (codes "=" ++ digits)) ∷ rest)
+
+-- with the options so far, the words end with these options; behind `--` there are sizes alone
+pub data Say : Options → List (List ℕ) → Options → Type 0 where
+  nothing : {o : Options} → Say o [] o
+  width : {o p : Options} {words rest : List (List ℕ)} {digits : List ℕ} {n : ℕ} → o.width ≡ None → IsOption (codes "--width") words digits rest
+      → SpellsUpTo 64 digits n → Say (having_width o n) rest p → Say o words p
+  box : {o p : Options} {words rest : List (List ℕ)} {digits : List ℕ} {n : ℕ} → o.box ≡ None → IsOption (codes "--box") words digits rest
+      → SpellsUpTo 4 digits n → Say (having_box o n) rest p → Say o words p
+  size : {o p : Options} {word : List ℕ} {rest : List (List ℕ)} → IsSize word → Say o rest p → Say o (word ∷ rest) p
+  sizes : {o : Options} {word : List ℕ} {rest : List (List ℕ)} → word ≡ codes "--" → AllByRecursion IsSize rest → Say o (word ∷ rest) o
+
+-- ---- commands
 
 -- where no option gives the width of words
 abbrev pub default_width : ℕ
 default_width = 32
 
--- decimal digits of a width, from 1 to 64 bits
-pub record SpellsWidth (digits : List ℕ) (bits : ℕ) : Type 0 where
-  pub spelled : IsDigits digits
-  pub value : number_of digits ≡ bits
-  pub least : 1 ≤ bits
-  pub most : bits ≤ 64
+abbrev pub given_or : ℕ → Option ℕ → ℕ
+given_or default None = default
+given_or default (Some n) = n
 
--- `emit`, or `emit --width V`
-abbrev pub IsEmit : List (List ℕ) → ℕ → Type 0
-IsEmit words bits =
-    ((words ≡ codes "emit" ∷ []) × (bits ≡ default_width))
-    ⊎ ((digits : List ℕ) × (words ≡ codes "emit" ∷ codes "--width" ∷ digits ∷ []) × SpellsWidth digits bits)
+-- no option yet
+abbrev pub no_options : Options
+no_options = record { width = None; box = None }
+
+-- `emit`, then options and sizes in any order
+pub record IsEmit (words : List (List ℕ)) (bits : ℕ) : Type 0 where
+  pub rest : List (List ℕ)
+  pub first : words ≡ codes "emit" ∷ rest
+  pub options : Options
+  pub say : Say no_options rest options
+  pub bits_are : bits ≡ given_or default_width options.width
+
+-- nothing, or `--` alone
+abbrev pub IsBare : List (List ℕ) → Type 0
+IsBare words = (words ≡ []) ⊎ (words ≡ codes "--" ∷ [])
+
+-- `sim`, with no option and no size
+pub record IsSim (words : List (List ℕ)) : Type 0 where
+  pub rest : List (List ℕ)
+  pub first : words ≡ codes "sim" ∷ rest
+  pub bare : IsBare rest
 
 abbrev pub AreRead : List (List ℕ) → Type 0
-AreRead words = (bits : ℕ) × IsEmit words bits
+AreRead words = ((bits : ℕ) × IsEmit words bits) ⊎ IsSim words
 
 abbrev pub usage_line : List ℕ
 usage_line = codes "usage: alphav check|schedule|table|emit|run|trace [--width W] [--box C] [NAME=VALUE ...] | sim | demo K\n"

@@ -1,4 +1,5 @@
 pub mod Commands
+pub mod CommandsSeen
 pub mod Program
 pub mod Written
 pub mod Simulated

@@ -2,8 +2,11 @@
 //! that computes it to standard output.
 #![tactic(auto)]
 
+mod numbers;
+mod options;
 mod program;
 mod simulation;
+mod size_word;
 mod standard;
 mod status;
 #[cfg(test)]

@@ -5,7 +5,7 @@ ghost use Rattle.av_cli.specs.Program.{AddsWhole, AddsFront, IsComplete};
 ghost use Rattle.av_cli.specs.Written.{IsPut};
 
 use crate::status::Status;
-use crate::words::read_words;
+use crate::words::{Command, read_words};
 use av_base::{Name, ReadAll, Sink, Source, read_all, write_all};
 use av_compile::{Refusal, compile};
 use av_net::Design;
@@ -42,7 +42,7 @@ pub fn alphav<S: Source, K: Sink>(
     ensures complete { (HasRisen (S.faults source.old) (S.faults source.new) → ⊥) → (HasRisen (K.faults sink.old) (K.faults sink.new) → ⊥)
         → IsComplete words.now (S.left source.old) result }
 {
-    let Some(width) = read_words(words) else {
+    let Some(Command::Emit { width }) = read_words(words) else {
         return put(sink, USAGE, Status::Words);
     };
     match read_all(alloc, source, LIMIT) {

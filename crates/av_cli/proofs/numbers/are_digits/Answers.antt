@@ -1,7 +1,7 @@
 use Rattle.std.proofs.Common.{◌<◌, length, arith}
 use Rattle.std.proofs.lemmas.Bool.Decides.{nat_tests}
 use Rattle.av_cli.proofs.Digits.{digits_from_all, all_from_digits}
-use Rattle.av_cli.proofs.words.are_digits.Goals as goal
+use Rattle.av_cli.proofs.numbers.are_digits.Goals as goal
 
 pub returns-then-not-is_empty : goal.returns-then-not-is_empty
 returns-then-not-is_empty c =

@@ -1,0 +1,138 @@
+-- Words of the form NAME=VALUE.
+use Rattle.std.proofs.Common.{◌≡◌, ◌≢◌, ◌⊎◌, inl, inr, ◌↔◌, ℕ, ◌+◌, ◌-◌, ◌≤◌, ℤ, pos, Bool, true, false, List, [], ◌∷◌, ◌++◌, length, take, drop, IsTrue, unsigned_abs, refl, sym, ap, subst, ◌∙◌, arith, length-append}
+use Rattle.std.specs.Prelude.{codes, Contains, not, cond}
+use Rattle.std.specs.List.{prefix_len, list_any, AllByRecursion}
+use Rattle.std.specs.Str.{bytes_eq}
+use Rattle.std.specs.Char.{is_ascii_digit, is_ascii_alphabetic}
+use Rattle.std.proofs.Math.IntN.{neg_ℤ}
+use Rattle.std.proofs.lemmas.Int.{ints}
+use Rattle.std.proofs.lemmas.List.{take-append-drop, take_rest}
+use Rattle.std.proofs.lemmas.List.Elements.{recursion_from_All}
+use Rattle.std.proofs.Math.Seq.{take-append_seam, drop-append_seam}
+use Rattle.av_base.specs.declared.token_kind.TokenKind.TheVariants as kind
+use Rattle.av_base.specs.Tokens.{IsDigits, IsSpelled, IsWord, is_word_byte, number_of, reserved_words}
+use Rattle.av_lex.proofs.Longest.{run_all}
+use Rattle.av_lex.proofs.Tables.{is_found, is_there}
+use Rattle.av_cli.specs.Commands.{IsSize, SpellsWhole}
+
+-- ---- values
+
+no_dash : (digits : List ℕ) → IsDigits (45 ∷ digits) → ⊥
+no_dash digits h = absurd cc
+
+abs_neg : (n : ℕ) → unsigned_abs (neg_ℤ (pos n)) ≡ n
+abs_neg n = omega (arith, ints)
+
+abs_pos : (n : ℕ) → unsigned_abs (pos n) ≡ n
+abs_pos n = omega (arith, ints)
+
+-- behind a minus sign
+pub dashed : (text digits : List ℕ) (b : Bool) → text ≡ codes "-" ++ digits → (IsTrue b ↔ (IsDigits digits × (number_of digits ≤ 1048576)))
+    → IsTrue b ↔ ((z : ℤ) × SpellsWhole text z × (unsigned_abs z ≤ 1048576))
+dashed text digits b e h = (into, outof)
+  where
+    into : IsTrue b → (z : ℤ) × SpellsWhole text z × (unsigned_abs z ≤ 1048576)
+    into t =
+        let d = h.0 t in
+        let a = abs_neg (number_of digits) in
+        (neg_ℤ (pos (number_of digits)), inr (digits, e, d.0, refl), omega (arith, a, d.1))
+
+    outof : (z : ℤ) × SpellsWhole text z × (unsigned_abs z ≤ 1048576) → IsTrue b
+    outof (z, inl (digit, v), most) = absurd (no_dash digits (subst IsDigits e digit))
+    outof (z, inr (other, e', digit, v), most) =
+        let same : other ≡ digits = let k = sym e' ∙ e in cc in
+        let a = abs_neg (number_of other) in
+        let m : unsigned_abs (neg_ℤ (pos (number_of other))) ≤ 1048576 = subst (λ (x : ℤ). unsigned_abs x ≤ 1048576) v most in
+        h.1 (subst (λ (x : List ℕ). IsDigits x × (number_of x ≤ 1048576)) same (digit, omega (arith, a, m)))
+
+-- without one
+pub bare : (text : List ℕ) (b : Bool) → ((rest : List ℕ) → text ≢ codes "-" ++ rest) → (IsTrue b ↔ (IsDigits text × (number_of text ≤ 1048576)))
+    → IsTrue b ↔ ((z : ℤ) × SpellsWhole text z × (unsigned_abs z ≤ 1048576))
+bare text b none h = (into, outof)
+  where
+    into : IsTrue b → (z : ℤ) × SpellsWhole text z × (unsigned_abs z ≤ 1048576)
+    into t =
+        let d = h.0 t in
+        let a = abs_pos (number_of text) in
+        (pos (number_of text), inl (d.0, refl), omega (arith, a, d.1))
+
+    outof : (z : ℤ) × SpellsWhole text z × (unsigned_abs z ≤ 1048576) → IsTrue b
+    outof (z, inl (digit, v), most) =
+        let a = abs_pos (number_of text) in
+        let m : unsigned_abs (pos (number_of text)) ≤ 1048576 = subst (λ (x : ℤ). unsigned_abs x ≤ 1048576) v most in
+        h.1 (digit, omega (arith, a, m))
+    outof (z, inr (other, e', digit, v), most) = absurd (none other e')
+
+-- ---- names
+
+pub is_no_reserved : (text : List ℕ) (b : Bool) → b ≡ list_any (bytes_eq text) reserved_words → IsWord text → IsTrue (not b) ↔ IsSpelled kind.Name text
+is_no_reserved text b e word = (
+  (λ t. (word, λ there. absurd (both b t (e ∙ is_found text reserved_words there)))),
+  (λ is. none b (λ found. is.1 (is_there text reserved_words (sym e ∙ found)))),
+)
+  where
+    both : (a : Bool) → IsTrue (not a) → a ≡ true → ⊥
+    both true h k = absurd cc
+    both false h k = absurd cc
+
+    none : (a : Bool) → (a ≡ true → ⊥) → IsTrue (not a)
+    none true h = absurd (h refl)
+    none false h = refl
+
+-- ---- the two parts
+
+no_word : is_word_byte 61 ≡ false
+no_word = refl
+
+-- letters, digits and _ up to the `=`
+run_to : (name text : List ℕ) → AllByRecursion (λ b. is_word_byte b ≡ true) name → prefix_len is_word_byte (name ++ (codes "=" ++ text)) ≡ length name
+run_to [] text all = refl
+run_to (b ∷ name) text all = let r = run_to name text all.1 in rw (all.0, r) (omega arith)
+
+word_bytes : (name : List ℕ) → IsWord name → AllByRecursion (λ b. is_word_byte b ≡ true) name
+word_bytes [] word = absurd word
+word_bytes (b ∷ bytes) word = (letter b word.0, recursion_from_All (λ x. is_word_byte x ≡ true) bytes word.1)
+  where
+    letter : (c : ℕ) → IsTrue (is_ascii_alphabetic c) → is_word_byte c ≡ true
+    letter c h = rw h refl
+
+pub named_run : (word : List ℕ) → AllByRecursion (λ byte. IsTrue (is_word_byte byte)) (take (prefix_len is_word_byte word) word)
+named_run word = run_all is_word_byte word
+
+-- a name and what is given behind it
+pub size_is : (word : List ℕ) → IsSpelled kind.Name (take (prefix_len is_word_byte word) word)
+    → ((value : List ℕ) × (z : ℤ) × (drop (prefix_len is_word_byte word) word ≡ codes "=" ++ value) × SpellsWhole value z × (unsigned_abs z ≤ 1048576)) → IsSize word
+size_is word named (value, z, e, spelled, most) = record {
+  name = take (prefix_len is_word_byte word) word;
+  text = value;
+  value = z;
+  parts = sym (take-append-drop (prefix_len is_word_byte word) word) ∙ ap (λ t. take (prefix_len is_word_byte word) word ++ t) e;
+  named = named;
+  valued = spelled;
+  most = most;
+}
+
+pub is_size : (word : List ℕ) → IsSize word → IsSpelled kind.Name (take (prefix_len is_word_byte word) word)
+    × ((value : List ℕ) × (z : ℤ) × (drop (prefix_len is_word_byte word) word ≡ codes "=" ++ value) × SpellsWhole value z × (unsigned_abs z ≤ 1048576))
+is_size word is =
+    let run : prefix_len is_word_byte word ≡ length is.name = ap (prefix_len is_word_byte) is.parts ∙ run_to is.name is.text (word_bytes is.name is.named.0) in
+    let name : take (prefix_len is_word_byte word) word ≡ is.name = ap (λ n. take n word) run ∙ (ap (take (length is.name)) is.parts ∙ take-append_seam is.name (codes "=" ++ is.text)) in
+    let rest : drop (prefix_len is_word_byte word) word ≡ codes "=" ++ is.text = ap (λ n. drop n word) run ∙ (ap (drop (length is.name)) is.parts ∙ drop-append_seam is.name (codes "=" ++ is.text)) in
+    (subst (IsSpelled kind.Name) (sym name) is.named, (is.text, is.value, rest, is.valued, is.most))
+
+pub size_by : (word : List ℕ) (n : ℕ) (given : Bool) → n ≡ prefix_len is_word_byte word → IsSpelled kind.Name (take n word)
+    → (IsTrue given ↔ ((value : List ℕ) × (z : ℤ) × (take (length word - n) (drop n word) ≡ codes "=" ++ value) × SpellsWhole value z × (unsigned_abs z ≤ 1048576)))
+    → IsTrue given ↔ IsSize word
+size_by word n given e named h = (
+  (λ t. let (value, z, is, spelled, most) = h.0 t in
+      size_is word (subst (λ (m : ℕ). IsSpelled kind.Name (take m word)) e named)
+      (value, z, ap (λ m. drop m word) (sym e) ∙ (sym (take_rest word n) ∙ is), spelled, most)),
+  (λ is. let (value, z, k, spelled, most) = (is_size word is).1 in
+      h.1 (value, z, take_rest word n ∙ (ap (λ m. drop m word) e ∙ k), spelled, most)),
+)
+
+pub no_size_by : (word : List ℕ) (n : ℕ) (named : Bool) → n ≡ prefix_len is_word_byte word → named ≡ false → (IsTrue named ↔ IsSpelled kind.Name (take n word)) → IsTrue named ↔ IsSize word
+no_size_by word n named e no_name h = (
+  (λ t. absurd (let k : true ≡ false = sym t ∙ no_name in cc)),
+  (λ is. h.1 (subst (λ (m : ℕ). IsSpelled kind.Name (take m word)) (sym e) (is_size word is).0)),
+)

@@ -1,0 +1,9 @@
+use Rattle.std.proofs.Common.{refl}
+use Rattle.av_cli.proofs.SizeWords.{size_by, no_size_by}
+use Rattle.av_cli.proofs.size_word.is_size.Goals as goal
+
+pub returns-then-is_name : goal.returns-then-is_name
+returns-then-is_name c = size_by c.args.word.now c.name_len-len.result c.is_given.result c.name_len-len.ensures.len (c.if-is_name.ensures.0 refl) c.is_given.ensures
+
+pub returns-else-is_name : goal.returns-else-is_name
+returns-else-is_name c = no_size_by c.args.word.now c.name_len-len.result c.is_name.result c.name_len-len.ensures.len c.if-is_name.false c.is_name.ensures
