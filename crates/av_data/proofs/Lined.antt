@@ -138,7 +138,8 @@ name_there inputs place port e =
     let there = contained_name inputs place port e in
     (place, slice_get_within (names_of inputs) place port.name there, get_or_from_slice_get (names_of inputs) place port.name port.name there)
 
-place_at : (inputs : List Port) (place : ℕ) (port : Port) → AreDistinct (names_of inputs) → slice_get inputs place ≡ Some port → place_of inputs port.name ≡ Some place
+-- the port of a name is the one at its place
+pub place_at : (inputs : List Port) (place : ℕ) (port : Port) → AreDistinct (names_of inputs) → slice_get inputs place ≡ Some port → place_of inputs port.name ≡ Some place
 place_at inputs place port distinct e = by (place_of inputs port.name) refl
   where
     here : (k : ℕ) (q : Port) → slice_get inputs k ≡ Some q → (k < length (names_of inputs)) × (get_or (names_of inputs) k port.name ≡ q.name)

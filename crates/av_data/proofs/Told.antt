@@ -214,3 +214,7 @@ module _ (inputs : List Port) (distinct : AreDistinct (names_of inputs)) where
     | inl e ↦ memory_fails g f e
     | inr e ↦ same_fails g f (one_err g f (Reads first bytes) e (all_failed first (data_lines bytes) f is))
   ]
+
+  -- no bytes both spell a stimulus and have a fault
+  pub not_both : (first : ℕ) (bytes : List ℕ) (s : Stimulus) (f : DataFault) → SpellsStimulus inputs bytes s → IsStimulusFault inputs first bytes f → ⊥
+  not_both first bytes s f is fault = ok_err (sym (reads_spelled first bytes s is) ∙ all_failed first (data_lines bytes) f fault)
