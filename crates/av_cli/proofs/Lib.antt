@@ -5,3 +5,6 @@ pub mod Running
 pub mod Targets
 mod OptionWords
 mod SizeWords
+pub mod Simulating
+pub mod Sent
+pub mod Answered

@@ -6,7 +6,8 @@ use Rattle.std.proofs.lemmas.List.{append-nil, length-map}
 use Rattle.std.proofs.lemmas.List.Elements.{All-append, All-map, All-contains, All-head, All-tail, Contains-append_left, Contains-append_right}
 use Rattle.std.proofs.lemmas.Option.{slice_get-get_or, slice_get_within}
 use Rattle.std.proofs.Math.Seq.{take-append-add}
-use Rattle.av_base.specs.Outside.{Adds, AddsPrefix, HasRisen}
+use Rattle.av_base.specs.Outside.{Adds, AddsPrefix}
+use Rattle.av_base.proofs.Moves.{Adds-more}
 use Rattle.av_net.specs.declared.netlist.Port.{Port}
 use Rattle.av_net.specs.declared.netlist.Step.{Step}
 use Rattle.av_net.specs.declared.netlist.Module.{Module}
@@ -105,20 +106,11 @@ lines_split m in_cycle c (suc n) lt = elim (cases_lt c n) [
       ([], ap (λ k. run_lines m in_cycle k ++ words_line m (in_cycle k) k) same ∙ ap (λ z. run_lines m in_cycle c ++ z) (sym (append-nil (words_line m (in_cycle c) c))))
 ]
 
--- one line more
-adds_more : (a b d : Option (List ℕ)) (x y : List ℕ) → Adds a b x → Adds b d y → Adds a d (x ++ y)
-adds_more (Some a) (Some b) (Some d) x y e f = f ∙ ap (λ z. z ++ y) e ∙ append_assoc a x y
-adds_more None None None x y e f = tt
-adds_more (Some a) (Some b) None x y e f = f
-adds_more (Some a) None d x y e f = absurd e
-adds_more None (Some b) d x y e f = absurd e
-adds_more None None (Some d) x y e f = f
-
 pub line_added : (m : Module) (s : Stimulus) (c : ℕ) (held held' held'' : Option (List ℕ)) (line : List ℕ) → c < s.cycles → ForRuns m s (λ run. Adds held held' (run_lines m run.in_cycle c)) → Adds held' held'' line
     → ForRuns m s (λ run. c < s.cycles → line ≡ words_line m (run.in_cycle c) c) → ForRuns m s (λ run. Adds held held'' (run_lines m run.in_cycle (c + 1)))
 line_added m s c held held' held'' line lt so adds is = λ stream run stimulated clocked.
     rw add-one
-    (subst (λ z. Adds held held'' (run_lines m run.in_cycle c ++ z)) (is stream run stimulated clocked lt) (adds_more held held' held'' (run_lines m run.in_cycle c) line (so stream run stimulated clocked) adds))
+    (subst (λ z. Adds held held'' (run_lines m run.in_cycle c ++ z)) (is stream run stimulated clocked lt) (Adds-more held held' held'' (run_lines m run.in_cycle c) line (so stream run stimulated clocked) adds))
 
 -- a front of a line
 pub front_added : (m : Module) (s : Stimulus) (c : ℕ) (held held' held'' : Option (List ℕ)) (line : List ℕ) → c < s.cycles → ForRuns m s (λ run. Adds held held' (run_lines m run.in_cycle c)) → AddsPrefix held' held'' line
@@ -127,7 +119,7 @@ front_added m s c held held' held'' line lt so (n, adds) is = λ stream run stim
     let before = run_lines m run.in_cycle c in
     let (rest, split) = lines_split m run.in_cycle c s.cycles lt in
     let same : run_lines m run.in_cycle s.cycles ≡ before ++ (line ++ rest) = split ∙ ap (λ z. before ++ (z ++ rest)) (sym (is stream run stimulated clocked lt)) in
-    let all : Adds held held'' (before ++ take n line) = adds_more held held' held'' before (take n line) (so stream run stimulated clocked) adds in
+    let all : Adds held held'' (before ++ take n line) = Adds-more held held' held'' before (take n line) (so stream run stimulated clocked) adds in
     let front : take (length before + length (take n line)) (before ++ (line ++ rest)) ≡ before ++ take n line = take-append-add before (line ++ rest) (length (take n line)) ∙ ap (λ z. before ++ z) (begins n line rest) in
     (length before + length (take n line), subst (Adds held held'') (sym front ∙ ap (take (length before + length (take n line))) (sym same)) all)
   where
@@ -137,10 +129,6 @@ front_added m s c held held' held'' line lt so (n, adds) is = λ stream run stim
     begins (suc n) (b ∷ line) rest = ap (λ (z : List ℕ). b ∷ z) (begins n line rest)
 
 -- ---- the turn of a cycle
-
-pub adds_none : (o : Option (List ℕ)) → Adds o o []
-adds_none (Some bytes) = sym (append-nil bytes)
-adds_none None = tt
 
 -- the words noted of the input ports are those of the settled clock
 pub inputs_noted : (m : Module) (s : Stimulus) (c : ℕ) (parts : Prepared) (seen seen' : Seen) (words : List ℕ) → IsPrepared m parts → length words ≡ length parts.words → seen.of ≡ parts.clock.of → seen'.of ≡ seen.of

@@ -15,8 +15,8 @@ use Rattle.av_cli.specs.Simulated.{AreSimulated}
 -- there is no mark, or the text before it spells no design, or what follows it is no stimulus for the design's module
 pub data RefusesSim (bytes reason : List ℕ) : Type 0 where
   no_mark : HasNoMark bytes → reason ≡ codes "no mark" → RefusesSim bytes reason
-  bad_text : {text rest : List ℕ} {first : ℕ} {fault : VFault} → IsDivided bytes text rest first → IsFault text fault → reason ≡ text_reason fault → RefusesSim bytes reason
-  bad_stimulus : {text rest : List ℕ} {first : ℕ} {design : Design} {fault : DataFault} → IsDivided bytes text rest first → Spells text design
+  bad_text : {text rest : List ℕ} {first : ℕ} (fault : VFault) → IsDivided bytes text rest first → IsFault text fault → reason ≡ text_reason fault → RefusesSim bytes reason
+  bad_stimulus : {text rest : List ℕ} {first : ℕ} {design : Design} (fault : DataFault) → IsDivided bytes text rest first → Spells text design
       → IsStimulusFault design.module.inputs first rest fault → reason ≡ data_reason fault → RefusesSim bytes reason
 
 -- the lines of the run of the module before the mark, under the stimulus behind it

@@ -1,11 +1,11 @@
 use Rattle.std.proofs.Common.{◌≡◌, ◌<◌, ◌≤◌, length, drop, true, refl, sym, ap, ◌∙◌, subst, arith}
-use Rattle.av_base.proofs.Moves.{on_err}
+use Rattle.av_base.proofs.Moves.{on_err, Adds-none}
 use Rattle.av_base.specs.Outside.{Adds}
 use Rattle.av_net.specs.declared.netlist.Module.{Module}
 use Rattle.av_net.specs.Clocked.{Edge}
 use Rattle.av_clock.specs.Seen.{carried}
 use Rattle.av_cli.specs.Simulated.{run_lines}
-use Rattle.av_cli.proofs.Running.{IsRunning, reset_registers, adds_none, inputs_noted, turns, fails}
+use Rattle.av_cli.proofs.Running.{IsRunning, reset_registers, inputs_noted, turns, fails}
 use Rattle.av_cli.proofs.simulation.run.Goals as goal
 
 pub loop-cycle-init : goal.loop-cycle-init
@@ -14,7 +14,7 @@ loop-cycle-init g c =
     let prepared = c.requires.prepared in
     record {
       prepared = record { sound = prepared.sound; clock = c.reset.ensures.of; ports = prepared.ports; wires = prepared.wires; room = prepared.room; count = prepared.count };
-      written = λ stream run stimulated is. adds_none (g.K.Sink.held c.args.sink.now);
+      written = λ stream run stimulated is. Adds-none (g.K.Sink.held c.args.sink.now) (g.K.Sink.held c.args.sink.now) refl;
       registers = reset_registers m c.args.stimulus.now (carried c.args.parts.now.clock) (carried c.reset.new.self) prepared.sound (subst (λ x. Edge x true (carried c.args.parts.now.clock) (carried c.reset.new.self)) c.reset.ensures.of c.reset.ensures.edge);
       left = c.requires.left;
       within = omega arith;
