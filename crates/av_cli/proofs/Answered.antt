@@ -57,7 +57,7 @@ inputs_distinct text design spelled =
 exclusive_sim : (bytes reason out : List ℕ) → RefusesSim bytes reason → GivesSim bytes out → ⊥
 exclusive_sim bytes reason out (no_mark none e) g =
     let marked = g.divided.marked in
-    omega (none, marked)
+    omega (arith, none, marked)
 exclusive_sim bytes reason out (bad_text {text} fault divided is e) g =
     let same : g.text ≡ text = g.divided.text_is ∙ sym divided.text_is in
     not_both text g.design fault (subst (λ t. Spells t g.design) same g.spelled) is
@@ -70,7 +70,7 @@ exclusive_sim bytes reason out (bad_stimulus {text} {rest} {first} {design} faul
 
 exclusive : (command : Command) (words : List (List ℕ)) (bytes out : List ℕ) → Are command words → length bytes ≤ LIMIT → Gives command bytes out → HasRefusal words bytes → ⊥
 exclusive command words bytes out are within g (reason, inl (long, is)) = omega arith
-exclusive (Emit width) words bytes out are within g (reason, inr (inl (short, some, none, is))) = none g.computes.form g.computes.text
+exclusive (Emit width) words bytes out are within g (reason, inr (inl (short, some, (none, is)))) = none g.computes.form g.computes.text
 exclusive (Emit width) words bytes out are within g (reason, inr (inr (short, other, r))) = no_sim words width.bits are other
 exclusive Sim words bytes out are within g (reason, inr (inl (short, (bits, other), r))) = no_sim words bits other are
 exclusive Sim words bytes out are within g (reason, inr (inr (short, other, r))) = exclusive_sim bytes reason out r g
@@ -186,6 +186,11 @@ complete_memory words left status read is = record {
 }
 
 -- ---- the answer of a command to the bytes of the source
+
+pub by_command : (command other : Command) (bytes : List ℕ) {held held' : Option (List ℕ)} {faults faults' : ℕ} {status : Status} → command ≡ other
+    → IsAnswered (Refuses other bytes) (Gives other bytes) held held' faults faults' status → IsAnswered (Refuses command bytes) (Gives command bytes) held held' faults faults' status
+by_command command other bytes {held} {held'} {faults} {faults'} {status} e answered =
+    subst (λ x. IsAnswered (Refuses x bytes) (Gives x bytes) held held' faults faults' status) (sym e) answered
 
 pub answered_refused : (command : Command) (words : List (List ℕ)) (left left' : Option (List ℕ)) (bytes : List ℕ) {held held' : Option (List ℕ)} {faults faults' : ℕ} {status : Status}
     → Are command words → Takes left left' bytes → IsAtEnd left' → length bytes ≤ LIMIT

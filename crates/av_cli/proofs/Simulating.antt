@@ -13,6 +13,7 @@ use Rattle.av_net.specs.Designs.{Spells}
 use Rattle.av_net.proofs.Cycles.{has_runs}
 use Rattle.av_net.proofs.Distinct.{front_distinct}
 use Rattle.av_vread.specs.declared.fault.VFault.{VFault}
+use Rattle.av_vread.specs.declared.fault.VFault.TheVariants as text_fault
 use Rattle.av_vread.specs.Faults.{IsFault}
 use Rattle.av_data.specs.declared.fault.DataFault.{DataFault}
 use Rattle.av_data.specs.declared.fault.DataFault.TheVariants.{DataSyntax, DataUnknown, DataOutside, DataTwice, DataMissing, Memory}
@@ -23,7 +24,7 @@ use Rattle.av_data.specs.Stimuli.{SpellsStimulus, IsLaterFault, here, past_empty
 use Rattle.av_data.specs.Reading.{place_of}
 use Rattle.av_data.proofs.Lined.{place_at}
 use Rattle.av_cli.specs.declared.status.Status.{Status}
-use Rattle.av_cli.specs.declared.status.Status.TheVariants.{Done, Refused, WriteFault}
+use Rattle.av_cli.specs.declared.status.Status.TheVariants.{Done, Refused, WriteFault, Memory as OutOfMemory}
 use Rattle.av_cli.specs.Refusals.{refusal_line, text_reason, data_reason, IsOfStimulus}
 use Rattle.av_cli.specs.Simulated.{given_word, IsStimulated, run_lines, AreSimulated}
 use Rattle.av_cli.specs.Sims.{RefusesSim, bad_text, bad_stimulus, GivesSim, RefusesStimulus, GivesRun}
@@ -109,3 +110,20 @@ module_answered bytes text rest first design divided spelled (refused r put) = r
 module_answered bytes text rest first design divided spelled (given g put) =
     given (record { text = text; rest = rest; first = first; divided = divided; design = design; spelled = spelled; stimulus = g.stimulus; stimulated = g.stimulated; simulated = g.simulated }) put
 module_answered bytes text rest first design divided spelled (no_memory a b) = no_memory a b
+
+pub stimulus_refused : (m : Module) (bytes : List ℕ) (first : ℕ) (f : DataFault) {held held' : Option (List ℕ)} {faults faults' : ℕ} {status : Status} → (f ≡ Memory) ⊎ IsStimulusFault m.inputs first bytes f
+    → (f ≡ Memory → (status ≡ OutOfMemory) × (held' ≡ held)) → ((f ≡ Memory → ⊥) → IsPut held held' faults faults' (refusal_line (data_reason f)) Refused status)
+    → IsAnswered (RefusesStimulus m bytes first) (GivesRun m bytes) held held' faults faults' status
+stimulus_refused m bytes first Memory fault none put = let (a, b) = none refl in no_memory a b
+stimulus_refused m bytes first f (inl e) none put = let (a, b) = none e in no_memory a b
+stimulus_refused m bytes first (DataSyntax l) (inr is) none put = refused (record { cause = DataSyntax l; is = is; told = refl }) (put (λ e. cc))
+stimulus_refused m bytes first (DataUnknown l) (inr is) none put = refused (record { cause = DataUnknown l; is = is; told = refl }) (put (λ e. cc))
+stimulus_refused m bytes first (DataOutside l) (inr is) none put = refused (record { cause = DataOutside l; is = is; told = refl }) (put (λ e. cc))
+stimulus_refused m bytes first (DataTwice l) (inr is) none put = refused (record { cause = DataTwice l; is = is; told = refl }) (put (λ e. cc))
+stimulus_refused m bytes first (DataMissing name point) (inr is) none put = refused (record { cause = DataMissing name point; is = is; told = refl }) (put (λ e. cc))
+
+pub text_refused : (bytes text rest : List ℕ) (first : ℕ) (f : VFault) {held held' : Option (List ℕ)} {faults faults' : ℕ} {status : Status} → IsDivided bytes text rest first → (f ≡ text_fault.Memory) ⊎ IsFault text f
+    → (f ≡ text_fault.Memory → (status ≡ OutOfMemory) × (held' ≡ held)) → ((f ≡ text_fault.Memory → ⊥) → IsPut held held' faults faults' (refusal_line (text_reason f)) Refused status)
+    → IsAnswered (RefusesSim bytes) (GivesSim bytes) held held' faults faults' status
+text_refused bytes text rest first f divided (inl e) none put = let (a, b) = none e in no_memory a b
+text_refused bytes text rest first f divided (inr is) none put = refused (bad_text f divided is refl) (put (λ e. subst (λ x. IsFault text x) e is))

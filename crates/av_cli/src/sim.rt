@@ -12,9 +12,9 @@ use crate::put::{put, put_data_refusal, put_text_refusal};
 use crate::simulation::{make_ready, run};
 use crate::status::Status;
 use av_base::{Memory, Sink};
-use av_data::{DataFault, Stimulus, divide, read_stimulus};
+use av_data::{Stimulus, divide, read_stimulus};
 use av_net::Module;
-use av_vread::{VFault, read_design};
+use av_vread::read_design;
 use std::alloc::Global;
 
 const NO_MARK: &str = "refused: no mark\n";
@@ -52,7 +52,6 @@ fn sim_module<K: Sink>(
     ensures { IsAnswered (RefusesStimulus of.now bytes.now first_line) (GivesRun of.now bytes.now) (K.held sink.old) (K.held sink.new) (K.faults sink.old) (K.faults sink.new) result }
 {
     match read_stimulus(alloc, bytes, first_line, of) {
-        Err(DataFault::Memory) => Status::Memory,
         Err(fault) => put_data_refusal(sink, &fault),
         Ok(stimulus) => clock_module(alloc, of, &stimulus, sink),
     }
@@ -67,7 +66,6 @@ pub(crate) fn sim<K: Sink>(alloc: Global, bytes: &[u8], sink: &mut K) -> Status
         return put(sink, NO_MARK, Status::Refused);
     };
     match read_design(alloc, parts.text) {
-        Err(VFault::Memory) => Status::Memory,
         Err(fault) => put_text_refusal(sink, &fault),
         Ok(design) => sim_module(alloc, &design.module, parts.rest, parts.first_line, sink),
     }

@@ -1,8 +1,7 @@
 use Rattle.std.proofs.Common.{refl}
 use Rattle.av_cli.proofs.Walking.{all_left}
-use Rattle.av_cli.proofs.Simulating.{of_stimulus, run_answered}
+use Rattle.av_cli.proofs.Simulating.{of_stimulus, stimulus_refused, run_answered}
 use Rattle.av_cli.proofs.sim.sim_module.Goals as goal
-use Rattle.av_cli.proofs.sim.sim_module.Goals.{in-DataMissing-1, in-DataSyntax-1}
 
 pub put_data_refusal-requires : goal.put_data_refusal-requires
 put_data_refusal-requires g c = of_stimulus c.args.of.now.inputs c.args.first_line c.args.bytes.now c.in-Err.fault (c.in-Err.ensures.fault c.in-Err.fault refl)
@@ -15,4 +14,4 @@ returns-in-Ok g c = run_answered c.args.of.now c.args.bytes.now c.args.first_lin
 
 pub returns-in-Err : goal.returns-in-Err
 returns-in-Err g c =
-    elim c.match-fault.branch [ in-DataMissing-1 w ↦ (let u : ⊥ = w in cc) | in-DataSyntax-1 w ↦ (let u : ⊥ = w in cc) ]
+    stimulus_refused c.args.of.now c.args.bytes.now c.args.first_line c.in-Err.fault (c.in-Err.ensures.fault c.in-Err.fault refl) c.put_data_refusal.ensures.memory c.put_data_refusal.ensures.refused
