@@ -1,17 +1,14 @@
 -- How the program's clauses follow from what its steps did.
-use Rattle.std.proofs.Common.{◌≡◌, ◌≢◌, ℕ, ◌<◌, ◌≤◌, List, [], ◌∷◌, ◌++◌, length, length-append, codes, Option, Some, None, refl, sym, ◌∙◌, ap, subst, inl, inr, arith}
-use Rattle.std.specs.Prelude.{◌⊎◌, IfSome}
+use Rattle.std.proofs.Common.{◌≡◌, ◌≢◌, ℕ, ◌<◌, ◌≤◌, List, ◌∷◌, ◌++◌, length, length-append, codes, Option, Some, None, refl, sym, ◌∙◌, ap, subst, inl, inr, arith}
+use Rattle.std.specs.Prelude.{IfSome}
 use Rattle.std.proofs.lemmas.List.{append-nil}
 use Rattle.av_base.specs.Outside.{Takes, TakesMore, IsAtEnd, HasRisen}
 use Rattle.av_net.specs.declared.design.Design.{Design}
 use Rattle.av_net.specs.Designs.{Spells}
 use Rattle.av_net.specs.Names.{names_of, AreDistinct}
 use Rattle.av_net.proofs.Distinct.{front_distinct}
-use Rattle.av_vread.specs.declared.fault.VFault.{VFault}
 use Rattle.av_vread.proofs.Faulted.{not_both, one_design}
 use Rattle.av_vread.proofs.SoundDesigns.{spelled_sound}
-use Rattle.av_data.specs.declared.stimulus.Stimulus.{Stimulus}
-use Rattle.av_data.specs.declared.fault.DataFault.{DataFault}
 use Rattle.av_data.specs.Stimuli.{SpellsStimulus}
 use Rattle.av_data.proofs.Told.{not_both as not_both_stimuli}
 use Rattle.av_cli.specs.declared.status.Status.{Status}
@@ -22,10 +19,9 @@ use Rattle.av_cli.specs.declared.words.Command.TheVariants.{Emit, Sim}
 use Rattle.av_cli.specs.Commands.{IsEmit, IsSim, AreRead}
 use Rattle.av_cli.specs.CommandsSeen.{Are}
 use Rattle.av_cli.specs.Refusals.{refusal_line}
-use Rattle.av_cli.specs.Emits.{RefusesEmit, GivesEmit}
 use Rattle.av_cli.specs.Sims.{RefusesSim, no_mark, bad_text, bad_stimulus, GivesSim}
 use Rattle.av_cli.specs.Asked.{Refuses, Gives}
-use Rattle.av_cli.specs.Program.{Writes, WritesRefusal, WritesDesign, WritesRun, IsRefused, HasRefusal, AddsWhole, AddsFront, IsComplete}
+use Rattle.av_cli.specs.Program.{Writes, WritesRefusal, IsRefused, HasRefusal, AddsWhole, AddsFront, IsComplete}
 use Rattle.av_cli.specs.Written.{IsPut, IsAnswered, refused, given, no_memory}
 use Rattle.av_cli.proofs.Presenting.{given_distinct}
 

@@ -1,5 +1,5 @@
 -- A run that is clocked and written cycle by cycle.
-use Rattle.std.proofs.Common.{◌≡◌, ℕ, zero, suc, ◌+◌, ◌<◌, ◌≤◌, true, false, List, [], ◌∷◌, ◌++◌, length, get_or, take, drop, map, Option, Some, None, slice_get, refl, sym, ap, ◌∙◌, subst, arith, inl, inr, add-one, append_assoc, length-append}
+use Rattle.std.proofs.Common.{◌≡◌, ℕ, zero, suc, ◌+◌, ◌<◌, ◌≤◌, true, false, List, [], ◌∷◌, ◌++◌, length, get_or, take, drop, Option, Some, slice_get, refl, sym, ap, ◌∙◌, subst, arith, inl, inr, add-one, append_assoc, length-append}
 use Rattle.std.specs.Prelude.{All, Contains}
 use Rattle.std.proofs.lemmas.Bool.{cases_lt}
 use Rattle.std.proofs.lemmas.List.{append-nil, length-map}
@@ -16,7 +16,6 @@ use Rattle.av_net.specs.Names.{names_of, registers_of, given_names, wire_names, 
 use Rattle.av_net.specs.Settled.{Settled, Agree}
 use Rattle.av_net.specs.Clocked.{Stream, Run, IsRun, Edge}
 use Rattle.av_net.specs.Sound.{IsSound}
-use Rattle.av_net.proofs.Cycles.{is_declared, register_contained}
 use Rattle.av_net.proofs.Once.{agree_within, same_word, one_settled}
 use Rattle.av_clock.specs.Seen.{Seen, carried}
 use Rattle.av_data.specs.declared.stimulus.Stimulus.{Stimulus}

@@ -1,12 +1,12 @@
 -- How the answers of `sim` follow from what its steps did.
-use Rattle.std.proofs.Common.{◌≡◌, ℕ, ◌+◌, ◌<◌, ◌≤◌, List, [], ◌∷◌, Option, Some, None, get_or, refl, sym, ap, ◌∙◌, subst, inl, inr, arith}
-use Rattle.std.specs.Prelude.{◌⊎◌, All, Result, Ok, Err}
+use Rattle.std.proofs.Common.{◌≡◌, ℕ, ◌+◌, List, [], ◌∷◌, Option, Some, None, get_or, refl, ap, subst, inl, inr}
+use Rattle.std.specs.Prelude.{◌⊎◌}
 use Rattle.av_base.specs.Outside.{Adds, AddsPrefix, HasRisen}
 use Rattle.av_net.specs.declared.netlist.Port.{Port}
 use Rattle.av_net.specs.declared.netlist.Module.{Module}
 use Rattle.av_net.specs.declared.design.Design.{Design}
 use Rattle.av_net.specs.Meaning.{Words}
-use Rattle.av_net.specs.Names.{names_of, AreDistinct}
+use Rattle.av_net.specs.Names.{names_of}
 use Rattle.av_net.specs.Clocked.{Stream, Run, IsRun}
 use Rattle.av_net.specs.Sound.{IsSound}
 use Rattle.av_net.specs.Designs.{Spells}
@@ -20,13 +20,13 @@ use Rattle.av_data.specs.declared.fault.DataFault.TheVariants.{DataSyntax, DataU
 use Rattle.av_data.specs.declared.stimulus.Given.{Given}
 use Rattle.av_data.specs.declared.stimulus.Stimulus.{Stimulus}
 use Rattle.av_data.specs.Divisions.{IsDivided}
-use Rattle.av_data.specs.Stimuli.{SpellsStimulus, IsLaterFault, here, past_empty, past_value, IsFirstFault, no_cycles, other_first, past_empty_first, past_cycles, IsStimulusFault}
+use Rattle.av_data.specs.Stimuli.{SpellsStimulus, IsLaterFault, here, past_empty, past_value, IsFirstFault, past_empty_first, past_cycles, IsStimulusFault}
 use Rattle.av_data.specs.Reading.{place_of}
 use Rattle.av_data.proofs.Lined.{place_at}
 use Rattle.av_cli.specs.declared.status.Status.{Status}
 use Rattle.av_cli.specs.declared.status.Status.TheVariants.{Done, Refused, WriteFault, Memory as OutOfMemory}
 use Rattle.av_cli.specs.Refusals.{refusal_line, text_reason, data_reason, IsOfStimulus}
-use Rattle.av_cli.specs.Simulated.{given_word, IsStimulated, run_lines, AreSimulated}
+use Rattle.av_cli.specs.Simulated.{given_word, IsStimulated, run_lines}
 use Rattle.av_cli.specs.Sims.{RefusesSim, bad_text, bad_stimulus, GivesSim, RefusesStimulus, GivesRun}
 use Rattle.av_cli.specs.Written.{IsPut, IsAnswered, refused, given, no_memory, IsClocked}
 use Rattle.av_cli.proofs.Presenting.{given_distinct}

@@ -1,6 +1,6 @@
 -- What the program reads and writes for each status. What a source tells of the bytes left in it stands
 -- as `left` before the call and as `left'` after it.
-use Rattle.std.specs.Prelude.{◌≡◌, ◌⊎◌, ℕ, ◌<◌, ◌≤◌, List, ◌++◌, codes, length, Option, IfSome}
+use Rattle.std.specs.Prelude.{◌≡◌, ◌⊎◌, ℕ, ◌<◌, ◌≤◌, List, codes, length, Option, IfSome}
 use Rattle.av_base.specs.declared.width.Width.{Width}
 use Rattle.av_base.specs.Outside.{Takes, Adds, AddsPrefix, IsAtEnd}
 use Rattle.av_cli.specs.declared.status.Status.{Status}

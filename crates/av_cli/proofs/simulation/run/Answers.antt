@@ -1,11 +1,11 @@
-use Rattle.std.proofs.Common.{◌≡◌, ◌<◌, ◌≤◌, length, drop, true, refl, sym, ap, ◌∙◌, subst, arith}
+use Rattle.std.proofs.Common.{◌≡◌, true, refl, subst, arith}
 use Rattle.av_base.proofs.Moves.{on_err, Adds-none}
 use Rattle.av_base.specs.Outside.{Adds}
 use Rattle.av_net.specs.declared.netlist.Module.{Module}
 use Rattle.av_net.specs.Clocked.{Edge}
 use Rattle.av_clock.specs.Seen.{carried}
 use Rattle.av_cli.specs.Simulated.{run_lines}
-use Rattle.av_cli.proofs.Running.{IsRunning, reset_registers, inputs_noted, turns, fails}
+use Rattle.av_cli.proofs.Running.{reset_registers, inputs_noted, turns, fails}
 use Rattle.av_cli.proofs.simulation.run.Goals as goal
 
 pub loop-cycle-init : goal.loop-cycle-init

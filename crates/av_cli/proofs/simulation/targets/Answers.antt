@@ -1,6 +1,4 @@
-use Rattle.std.proofs.Common.{◌++◌, ◌∷◌, [], sym, ap, ◌∙◌, arith}
-use Rattle.std.proofs.lemmas.List.{get_or-map, length-map}
-use Rattle.av_net.specs.declared.netlist.Drive.{Drive}
+use Rattle.std.proofs.Common.{◌++◌, ◌∷◌, [], sym, ap, ◌∙◌}
 use Rattle.av_net.specs.Names.{targets_of}
 use Rattle.av_net.specs.Rows.{is_in}
 use Rattle.av_data.proofs.Named.{is_new, one_named}

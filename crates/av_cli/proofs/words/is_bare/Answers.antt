@@ -1,6 +1,4 @@
-use Rattle.std.proofs.Common.{◌≡◌, List, ℕ, sym, ◌∙◌, refl}
-use Rattle.std.specs.Prelude.{codes}
-use Rattle.std.proofs.lemmas.Slice.Eq.{bytes_eq-Decides}
+use Rattle.std.proofs.Common.{◌∙◌, refl}
 use Rattle.av_cli.proofs.OptionWords.{bare_two}
 use Rattle.av_cli.proofs.words.is_bare.Goals as goal
 
