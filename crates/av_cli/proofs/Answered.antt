@@ -235,8 +235,8 @@ pub answered_complete : (command : Command) (words : List (List ℕ)) (left left
     → IsAnswered (Refuses command bytes) (Gives command bytes) held held' faults faults' status → (HasRisen faults faults' → ⊥) → IsComplete words left status
 answered_complete command words left left' bytes {status = status} are takes end within (refused {reason} r put) none =
     complete_refused words left status (read_of command words are)
-      (all_taken left left' bytes (HasRefusal words) takes end (reason, refusal_of command words bytes reason are within r)) (as_wanted put none)
+    (all_taken left left' bytes (HasRefusal words) takes end (reason, refusal_of command words bytes reason are within r)) (as_wanted put none)
 answered_complete command words left left' bytes {status = status} are takes end within (given {out} g put) none =
     complete_done words left status (read_of command words are)
-      (all_taken left left' bytes (λ bytes. HasRefusal words bytes → ⊥) takes end (exclusive command words bytes out are within g)) (as_wanted put none)
+    (all_taken left left' bytes (λ bytes. HasRefusal words bytes → ⊥) takes end (exclusive command words bytes out are within g)) (as_wanted put none)
 answered_complete command words left left' bytes {status = status} are takes end within (no_memory a b) none = complete_memory words left status (read_of command words are) a

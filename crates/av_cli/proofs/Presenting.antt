@@ -39,9 +39,9 @@ other_name names j k a b distinct lj lk ea eb differ same =
     elim (cases_lt j k) [
       | inl lt ↦ distinct j k a lt lk (ea ∙ sym at)
       | inr ge ↦ elim (cases_lt k j) [
-          | inl lt ↦ distinct k j a lt lj (at ∙ sym ea)
-          | inr le ↦ differ (omega (arith, ge, le))
-        ]
+        | inl lt ↦ distinct k j a lt lj (at ∙ sym ea)
+        | inr le ↦ differ (omega (arith, ge, le))
+      ]
     ]
 
 pub presents_more : (m : Module) (given : List Given) (c k : ℕ) (v v' : Words) (words : List ℕ) (word : ℕ) (port : Port) → IsSound m → slice_get m.inputs k ≡ Some port → k < length words
@@ -121,9 +121,11 @@ drive_there drives w name e = by (slice_get drives w) refl (sym (slice_get-map t
     text : Option (List ℕ) → List ℕ
     text None = []
     text (Some n) = n
+
     flag : Option (List ℕ) → Bool
     flag None = false
     flag (Some n) = true
+
     by : (o : Option Drive) → slice_get drives w ≡ o → option_map target_in o ≡ Some name → (drive : Drive) × (slice_get drives w ≡ Some drive) × (drive.target ≡ name)
     by None f h = absurd (true≢false (sym (ap flag h)))
     by (Some drive) f h = (drive, f, ap text h)

@@ -97,9 +97,10 @@ lines_split m in_cycle c zero lt = absurd (omega arith)
 lines_split m in_cycle c (suc n) lt = elim (cases_lt c n) [
   | inl less ↦
       let (rest, is) = lines_split m in_cycle c n less in
-      let last = words_line m (in_cycle n) n in
-      (rest ++ last,
-      ap (λ z. z ++ last) is ∙ append_assoc (run_lines m in_cycle c) (words_line m (in_cycle c) c ++ rest) last ∙ ap (λ z. run_lines m in_cycle c ++ z) (append_assoc (words_line m (in_cycle c) c) rest last))
+      let last = words_line m (in_cycle n) n in (
+        rest ++ last,
+        ap (λ z. z ++ last) is ∙ append_assoc (run_lines m in_cycle c) (words_line m (in_cycle c) c ++ rest) last ∙ ap (λ z. run_lines m in_cycle c ++ z) (append_assoc (words_line m (in_cycle c) c) rest last),
+      )
   | inr ge ↦
       let same : n ≡ c = omega (arith, ge, lt) in
       ([], ap (λ k. run_lines m in_cycle k ++ words_line m (in_cycle k) k) same ∙ ap (λ z. run_lines m in_cycle c ++ z) (sym (append-nil (words_line m (in_cycle c) c))))

@@ -69,6 +69,7 @@ none_here c k (g ∷ left) all =
     differ : IsFrom c (k + 1) g.cycle g.port → g.cycle ≡ c → g.port ≡ k → ⊥
     differ (inl a) e f = omega (arith, a, e)
     differ (inr a) e f = omega (arith, a.1, f)
+
     by : (t : Bool) → t ≡ false → given_word left c k ≡ 0 → (if t then g.value else given_word left c k) ≡ 0
     by true e ih = absurd (true≢false e)
     by false e ih = ih
@@ -135,8 +136,10 @@ port_left inputs given c k left ready = by left ready.words ready.ahead ready.as
       where
         behind : All (λ h. IsFrom c (k + 1) h.cycle h.port) values
         behind = All-weaker (IsBefore g) (λ h. IsFrom c (k + 1) h.cycle h.port) (λ h b. from_before c k g h (All-head (λ g. IsFrom c k g.cycle g.port) g values ahead) b) values (pairs_head g values ascending)
+
         skip : (d l : ℕ) → IsFrom c (k + 1) d l → is_here c k g ≡ true → given_word (g ∷ values) d l ≡ given_word values d l
         skip d l from e = rw (later_not_here c k d l g from e) refl
+
         one : (t : Bool) → is_here c k g ≡ t → AreLeft inputs given c (k + 1) (if t then values else g ∷ values)
         one true e = record {
           words = λ d l from. words d l (sooner c k d l from) ∙ skip d l from e;
@@ -164,12 +167,14 @@ cycle_left inputs given c n left is ready = record {
     later : (d l : ℕ) → IsFrom (c + 1) 0 d l → c < d
     later d l (inl a) = omega (arith, a)
     later d l (inr a) = omega (arith, a.0)
+
     step : (g : Given) → IsFrom c n g.cycle g.port → IsForPort inputs g → IsFrom (c + 1) 0 g.cycle g.port
     step g (inl a) fit = elim (cases_lt (c + 1) g.cycle) [
       | inl lt ↦ inl lt
       | inr ge ↦ inr (omega (arith, a, ge), omega arith)
     ]
     step g (inr a) (p, declared, fits) = absurd (omega (arith, a.1, is, slice_get_within inputs g.port p declared))
+
     next : (values : List Given) → All (λ g. IsFrom c n g.cycle g.port) values → All (IsForPort inputs) values → All (λ g. IsFrom (c + 1) 0 g.cycle g.port) values
     next [] all fit = All-nil (λ g. IsFrom (c + 1) 0 g.cycle g.port)
     next (g ∷ values) all fit =
@@ -188,6 +193,7 @@ all_left inputs bytes s is = record {
     from_start : (c k : ℕ) → IsFrom 0 0 c k
     from_start zero k = inr (refl, omega arith)
     from_start (suc c) k = inl (omega arith)
+
     first : (values : List Given) → All (λ g. IsFrom 0 0 g.cycle g.port) values
     first [] = All-nil (λ g. IsFrom 0 0 g.cycle g.port)
     first (g ∷ values) = All-cons (λ g. IsFrom 0 0 g.cycle g.port) g values (from_start g.cycle g.port) (first values)

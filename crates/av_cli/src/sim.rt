@@ -20,12 +20,7 @@ use std::alloc::Global;
 const NO_MARK: &str = "refused: no mark\n";
 
 // Takes all memory, and then writes the lines of the run.
-fn clock_module<K: Sink>(
-    alloc: Global,
-    of: &Module,
-    stimulus: &Stimulus,
-    sink: &mut K,
-) -> Status
+fn clock_module<K: Sink>(alloc: Global, of: &Module, stimulus: &Stimulus, sink: &mut K) -> Status
     requires sound { IsSound of.now }
     requires left { AreLeft of.now.inputs stimulus.now.values 0 0 stimulus.now.values }
     ensures { IsClocked of.now stimulus.now (K.held sink.old) (K.held sink.new) (K.faults sink.old) (K.faults sink.new) result }

@@ -213,12 +213,7 @@ pub(crate) fn run<K: Sink>(
             parts.wires.as_slice(),
             &mut parts.words,
         );
-        write_cycle(
-            cycle,
-            parts.ports.as_slice(),
-            parts.words.as_slice(),
-            sink,
-        )?;
+        write_cycle(cycle, parts.ports.as_slice(), parts.words.as_slice(), sink)?;
         parts.clock.tick();
     }
     Ok(())

@@ -168,7 +168,15 @@ const ROWS: &[(&[&str], &str, Status, &str)] = &[
     (&["emit", "x"], INCREMENT, Status::Words, USAGE),
     (&["emit", "--width=8"], INCREMENT, Status::Done, OF_WIDTH_8),
     (
-        &["emit", "N=0", "--box=4", "--width", "008", "--", "M=-1048576"],
+        &[
+            "emit",
+            "N=0",
+            "--box=4",
+            "--width",
+            "008",
+            "--",
+            "M=-1048576",
+        ],
         INCREMENT,
         Status::Done,
         OF_WIDTH_8,

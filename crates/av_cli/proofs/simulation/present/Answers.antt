@@ -14,8 +14,7 @@ loop-port-preserved c =
     let is = word_is m.inputs c.args.given.now c.args.cycle c.loop-port.port (drop c.loop-port.next c.args.given.now) inv.3 ∙ sym c.word_next-word.ensures.word in
     let lt : c.loop-port.port < length m.inputs = omega (arith, c.loop-port-test.true, c.requires.count) in
     let room : c.loop-port.port < length c.loop-port.words = omega (arith, c.loop-port-test.true, c.requires.room, inv.5) in
-    let both = turn m c.args.given.now c.args.cycle c.loop-port.port c.loop-port.clock c.set.new.self (carried c.args.clock.now) c.loop-port.words c.word_next-word.result.0 c.requires.sound inv.0 lt room inv.1 inv.2 is c.set.ensures.port c.set.ensures.others in
-    (
+    let both = turn m c.args.given.now c.args.cycle c.loop-port.port c.loop-port.clock c.set.new.self (carried c.args.clock.now) c.loop-port.words c.word_next-word.result.0 c.requires.sound inv.0 lt room inv.1 inv.2 is c.set.ensures.port c.set.ensures.others in (
       ap (λ s. s.of) c.set.ensures.words ∙ inv.0,
       subst (λ ws. ArePresented m c.args.given.now c.args.cycle (c.loop-port.port + 1) (carried c.set.new.self) ws) (sym c.set-in-loop-port.ensures) both.0,
       both.1,

@@ -11,9 +11,8 @@ value-requires-clause-place c = wire_within c.args.clock.now.of c.args.wires.now
 pub loop-i-preserved : goal.loop-i-preserved
 loop-i-preserved c =
     let inv = c.loop-i.invariant in
-    let room : length c.loop-i.words ≡ length (header_ports c.args.clock.now.of) = inv.1 ∙ c.requires.room in
-    (
+    let room : length c.loop-i.words ≡ length (header_ports c.args.clock.now.of) = inv.1 ∙ c.requires.room in (
       ap (take (c.args.inputs + (c.loop-i.i + 1))) c.set.ensures
-      ∙ shows_more c.args.clock.now.of (carried c.args.clock.now) c.args.wires.now c.loop-i.words c.args.inputs c.loop-i.i c.value.result c.requires.wires c.loop-i-test.true c.requires.count room inv.0 c.value.ensures.word,
+          ∙ shows_more c.args.clock.now.of (carried c.args.clock.now) c.args.wires.now c.loop-i.words c.args.inputs c.loop-i.i c.value.result c.requires.wires c.loop-i-test.true c.requires.count room inv.0 c.value.ensures.word,
       ap length c.set.ensures ∙ length-set c.loop-i.words (c.args.inputs + c.loop-i.i) c.value.result ∙ inv.1,
     )
