@@ -1,23 +1,77 @@
 -- How the program's clauses follow from what its steps did.
-use Rattle.std.proofs.Common.{◌≡◌, ◌≢◌, ℕ, ◌<◌, ◌≤◌, List, ◌++◌, length, length-append, codes, Option, Some, None, refl, sym, ◌∙◌, ap, subst, inl, inr, arith}
-use Rattle.std.specs.Prelude.{Result, Ok, Err, IfSome, IsErrAnd}
+use Rattle.std.proofs.Common.{◌≡◌, ◌≢◌, ℕ, ◌<◌, ◌≤◌, List, ◌∷◌, ◌++◌, length, length-append, codes, Option, Some, None, refl, sym, ◌∙◌, ap, subst, inl, inr, arith}
+use Rattle.std.specs.Prelude.{IfSome}
 use Rattle.std.proofs.lemmas.List.{append-nil}
-use Rattle.av_base.specs.declared.width.Width.{Width}
 use Rattle.av_base.specs.Outside.{Takes, TakesMore, IsAtEnd, HasRisen}
-use Rattle.av_tree.specs.FirstForm.{Form, IsText}
 use Rattle.av_net.specs.declared.design.Design.{Design}
-use Rattle.av_net.specs.Texts.{text}
-use Rattle.av_compile.specs.Headline.{Headline}
-use Rattle.av_vread.proofs.RoundTrip.{read_back}
-use Rattle.av_vread.proofs.Faulted.{one_design}
+use Rattle.av_net.specs.Designs.{Spells}
+use Rattle.av_net.specs.Names.{names_of, AreDistinct}
+use Rattle.av_net.proofs.Distinct.{front_distinct}
+use Rattle.av_vread.proofs.Faulted.{not_both, one_design}
+use Rattle.av_vread.proofs.SoundDesigns.{spelled_sound}
+use Rattle.av_data.specs.Stimuli.{SpellsStimulus}
+use Rattle.av_data.proofs.Told.{not_both as not_both_stimuli}
 use Rattle.av_cli.specs.declared.status.Status.{Status}
-use Rattle.av_cli.specs.declared.status.Status.TheVariants.{Done, Refused, WriteFault}
+use Rattle.av_cli.specs.declared.status.Status.TheVariants.{Done, Refused, Words, ReadFault, WriteFault, Memory}
 use Rattle.av_cli.specs.declared.program.TheConstants.{LIMIT}
-use Rattle.av_cli.specs.Commands.{IsEmit}
-use Rattle.av_cli.specs.Program.{Writes, WritesRefusal, WritesDesign, IsRefused, HasRefusal, refusal_line, AddsWhole, AddsFront, IsComplete}
-use Rattle.av_cli.specs.Written.{IsPut}
+use Rattle.av_cli.specs.declared.words.Command.{Command}
+use Rattle.av_cli.specs.declared.words.Command.TheVariants.{Emit, Sim}
+use Rattle.av_cli.specs.Commands.{IsEmit, IsSim, AreRead}
+use Rattle.av_cli.specs.CommandsSeen.{Are}
+use Rattle.av_cli.specs.Refusals.{refusal_line}
+use Rattle.av_cli.specs.Sims.{RefusesSim, no_mark, bad_text, bad_stimulus, GivesSim}
+use Rattle.av_cli.specs.Asked.{Refuses, Gives}
+use Rattle.av_cli.specs.Program.{Writes, WritesRefusal, IsRefused, HasRefusal, AddsWhole, AddsFront, IsComplete}
+use Rattle.av_cli.specs.Written.{IsPut, IsAnswered, refused, given, no_memory}
+use Rattle.av_cli.proofs.Presenting.{given_distinct}
 
--- ---- what was written
+pub read_of : (command : Command) (words : List (List ℕ)) → Are command words → AreRead words
+read_of (Emit width) words are = inl (width.bits, are)
+read_of Sim words are = inr are
+
+refusal_of : (command : Command) (words : List (List ℕ)) (bytes reason : List ℕ) → Are command words → length bytes ≤ LIMIT → Refuses command bytes reason → IsRefused words bytes reason
+refusal_of (Emit width) words bytes reason are within r = inr (inl (within, (width.bits, are), r))
+refusal_of Sim words bytes reason are within r = inr (inr (within, are, r))
+
+writes_output : (command : Command) (words : List (List ℕ)) (left left' : Option (List ℕ)) (bytes out : List ℕ) → Are command words → Takes left left' bytes → IsAtEnd left' → length bytes ≤ LIMIT → Gives command bytes out
+    → Writes Done words left left' out
+writes_output (Emit w) words left left' bytes out are takes end within g = inl (record { width = w; read = are; taken = bytes; takes = takes; whole = end; within = within; gives = g })
+writes_output Sim words left left' bytes out are takes end within g = inr (record { read = are; taken = bytes; takes = takes; whole = end; within = within; gives = g })
+
+-- ---- refused or given, and not both
+
+no_sim : (words : List (List ℕ)) (bits : ℕ) → IsEmit words bits → IsSim words → ⊥
+no_sim words bits e s =
+    let same : codes "emit" ∷ e.rest ≡ codes "sim" ∷ s.rest = sym e.first ∙ s.first in
+    cc
+
+inputs_distinct : (text : List ℕ) (design : Design) → Spells text design → AreDistinct (names_of design.module.inputs)
+inputs_distinct text design spelled =
+    let sound = spelled_sound text design spelled in
+    front_distinct (names_of design.module.inputs) (names_of design.module.registers) (given_distinct design.module sound.sound)
+
+exclusive_sim : (bytes reason out : List ℕ) → RefusesSim bytes reason → GivesSim bytes out → ⊥
+exclusive_sim bytes reason out (no_mark none e) g =
+    let marked = g.divided.marked in
+    omega (arith, none, marked)
+exclusive_sim bytes reason out (bad_text {text} fault divided is e) g =
+    let same : g.text ≡ text = g.divided.text_is ∙ sym divided.text_is in
+    not_both text g.design fault (subst (λ t. Spells t g.design) same g.spelled) is
+exclusive_sim bytes reason out (bad_stimulus {text} {rest} {first} {design} fault divided spelled is e) g =
+    let same : g.text ≡ text = g.divided.text_is ∙ sym divided.text_is in
+    let one : g.design ≡ design = one_design text g.design design (subst (λ t. Spells t g.design) same g.spelled) spelled in
+    let later : g.rest ≡ rest = g.divided.rest_is ∙ sym divided.rest_is in
+    let stimulated = subst (λ (d : Design). SpellsStimulus d.module.inputs rest g.stimulus) one (subst (λ r. SpellsStimulus g.design.module.inputs r g.stimulus) later g.stimulated) in
+    not_both_stimuli design.module.inputs (inputs_distinct text design spelled) first rest g.stimulus fault stimulated is
+
+exclusive : (command : Command) (words : List (List ℕ)) (bytes out : List ℕ) → Are command words → length bytes ≤ LIMIT → Gives command bytes out → HasRefusal words bytes → ⊥
+exclusive command words bytes out are within g (reason, inl (long, is)) = omega arith
+exclusive (Emit width) words bytes out are within g (reason, inr (inl (short, some, (none, is)))) = none g.computes.form g.computes.text
+exclusive (Emit width) words bytes out are within g (reason, inr (inr (short, other, r))) = no_sim words width.bits are other
+exclusive Sim words bytes out are within g (reason, inr (inl (short, (bits, other), r))) = no_sim words bits other are
+exclusive Sim words bytes out are within g (reason, inr (inr (short, other, r))) = exclusive_sim bytes reason out r g
+
+-- ---- what was put
 
 -- the status wanted: all of it was added
 pub whole : (wanted : Status) (words : List (List ℕ)) (left left' : Option (List ℕ)) {status : Status} {held held' : Option (List ℕ)} {faults faults' : ℕ} {out : List ℕ}
@@ -44,7 +98,12 @@ pub as_wanted : {wanted status : Status} {held held' : Option (List ℕ)} {fault
     → IsPut held held' faults faults' out wanted status → (HasRisen faults faults' → ⊥) → status ≡ wanted
 as_wanted put none = elim put.ends [ inl all ↦ all.0 | inr some ↦ absurd (none some.1) ]
 
--- ---- what was read
+-- the status is the one wanted, or that of a fault
+no_other : {wanted status : Status} {held held' : Option (List ℕ)} {faults faults' : ℕ} {out : List ℕ} (other : Status)
+    → IsPut held held' faults faults' out wanted status → other ≢ wanted → other ≢ WriteFault → status ≡ other → ⊥
+no_other other put a b e = elim put.ends [ inl all ↦ a (sym e ∙ all.0) | inr some ↦ b (sym e ∙ some.0) ]
+
+-- ---- what was taken
 
 -- all that was left was taken
 all_taken : (left left' : Option (List ℕ)) (bytes : List ℕ) (P : List ℕ → Type 0) → Takes left left' bytes → IsAtEnd left' → P bytes → IfSome left P
@@ -58,36 +117,17 @@ longer : (old rest taken : List ℕ) → old ≡ taken ++ rest → LIMIT < lengt
 longer old rest taken takes long = omega (arith, length-append taken rest, ap length takes)
 
 -- more was left than the limit
-pub too_long_left : (left left' : Option (List ℕ)) → TakesMore left left' LIMIT → IfSome left HasRefusal
-too_long_left (Some old) (Some rest) (taken, takes, long) = (codes "too long", inl (longer old rest taken takes long, refl))
-too_long_left (Some old) None (taken, takes, long) = absurd takes
-too_long_left None left' more = tt
-
-not_this_form : (bytes : List ℕ) → length bytes ≤ LIMIT → ((form : Form) → IsText bytes form → ⊥) → IsRefused bytes (codes "not this form")
-not_this_form bytes within none = inr (within, none, refl)
-
-pub not_this_form_left : (left left' : Option (List ℕ)) (bytes : List ℕ) → Takes left left' bytes → IsAtEnd left' → length bytes ≤ LIMIT
-    → ((form : Form) → IsText bytes form → ⊥) → IfSome left HasRefusal
-not_this_form_left left left' bytes takes end within none =
-    all_taken left left' bytes HasRefusal takes end (codes "not this form", not_this_form bytes within none)
-
--- what is computed is not refused
-unrefused : (bytes : List ℕ) (width : Width) (design : Design) → length bytes ≤ LIMIT → Headline bytes width design → HasRefusal bytes → ⊥
-unrefused bytes width design within computes (reason, inl (long, is)) = omega arith
-unrefused bytes width design within computes (reason, inr (short, none, is)) = none computes.form computes.text
-
-pub unrefused_left : (left left' : Option (List ℕ)) (bytes : List ℕ) {seen : List ℕ} {width : Width} {design : Design} → Takes left left' bytes → IsAtEnd left'
-    → length bytes ≤ LIMIT → seen ≡ bytes → Headline seen width design → IfSome left (λ bytes. HasRefusal bytes → ⊥)
-unrefused_left left left' bytes {seen} {width} {design} takes end within same computes =
-    let whole : Headline bytes width design = subst (λ b. Headline b width design) same computes in
-    all_taken left left' bytes (λ bytes. HasRefusal bytes → ⊥) takes end (unrefused bytes width design within whole)
+pub too_long_left : (words : List (List ℕ)) (left left' : Option (List ℕ)) → TakesMore left left' LIMIT → IfSome left (HasRefusal words)
+too_long_left words (Some old) (Some rest) (taken, takes, long) = (codes "too long", inl (longer old rest taken takes long, refl))
+too_long_left words (Some old) None (taken, takes, long) = absurd takes
+too_long_left words None left' more = tt
 
 -- ---- what is due
 
-pub writes_too_long : (words : List (List ℕ)) (bits : ℕ) (left left' : Option (List ℕ)) → IsEmit words bits → TakesMore left left' LIMIT
+pub writes_too_long : (command : Command) (words : List (List ℕ)) (left left' : Option (List ℕ)) → Are command words → TakesMore left left' LIMIT
     → WritesRefusal words left left' (refusal_line (codes "too long"))
-writes_too_long words bits left left' read (taken, takes, long) = record {
-  read = (bits, read);
+writes_too_long command words left left' are (taken, takes, long) = record {
+  read = read_of command words are;
   taken = taken;
   takes = takes;
   whole = λ within. absurd (omega arith);
@@ -96,32 +136,16 @@ writes_too_long words bits left left' read (taken, takes, long) = record {
   line = refl;
 }
 
-pub writes_not_this_form : (words : List (List ℕ)) (bits : ℕ) (left left' : Option (List ℕ)) (bytes : List ℕ) → IsEmit words bits → Takes left left' bytes
-    → IsAtEnd left' → length bytes ≤ LIMIT → ((form : Form) → IsText bytes form → ⊥) → WritesRefusal words left left' (refusal_line (codes "not this form"))
-writes_not_this_form words bits left left' bytes read takes end within none = record {
-  read = (bits, read);
+writes_refusal : (command : Command) (words : List (List ℕ)) (left left' : Option (List ℕ)) (bytes reason : List ℕ) → Are command words → Takes left left' bytes → IsAtEnd left' → length bytes ≤ LIMIT
+    → Refuses command bytes reason → WritesRefusal words left left' (refusal_line reason)
+writes_refusal command words left left' bytes reason are takes end within r = record {
+  read = read_of command words are;
   taken = bytes;
   takes = takes;
   whole = λ _. end;
-  reason = codes "not this form";
-  refused = not_this_form bytes within none;
+  reason = reason;
+  refused = refusal_of command words bytes reason are within r;
   line = refl;
-}
-
-pub writes_design : (words : List (List ℕ)) (left left' : Option (List ℕ)) (bytes : List ℕ) {seen : List ℕ} {width : Width} {design : Design} → IsEmit words width.bits
-    → Takes left left' bytes → IsAtEnd left' → length bytes ≤ LIMIT → seen ≡ bytes → Headline seen width design → WritesDesign words left left' (text design)
-writes_design words left left' bytes {seen} {width} {design} read takes end within same computes = record {
-  width = width;
-  read = read;
-  taken = bytes;
-  takes = takes;
-  whole = end;
-  within = within;
-  design = design;
-  computes = subst (λ b. Headline b width design) same computes;
-  text_of = refl;
-  spelled = read_back design computes.computes.sound;
-  only = λ other says. one_design (text design) other design says (read_back design computes.computes.sound);
 }
 
 -- ---- completeness
@@ -130,18 +154,89 @@ if_some_weaker : (o : Option (List ℕ)) (P Q : List ℕ → Type 0) → ((x : L
 if_some_weaker (Some x) P Q f h = f x h
 if_some_weaker None P Q f h = tt
 
-pub complete_refused : (words : List (List ℕ)) (bits : ℕ) (left : Option (List ℕ)) (status : Status) → IsEmit words bits → IfSome left HasRefusal
+if_some_all : (o : Option (List ℕ)) (Q : List ℕ → Type 0) → ((x : List ℕ) → Q x) → IfSome o Q
+if_some_all (Some x) Q f = f x
+if_some_all None Q f = tt
+
+pub complete_refused : (words : List (List ℕ)) (left : Option (List ℕ)) (status : Status) → AreRead words → IfSome left (HasRefusal words)
     → status ≡ Refused → IsComplete words left status
-complete_refused words bits left status read refusal is = record {
-  unread = λ unread. absurd (unread (bits, read));
-  refused = λ _. if_some_weaker left HasRefusal _ (λ bytes h. λ _. inl is) refusal;
-  done = λ _. if_some_weaker left HasRefusal _ (λ bytes h. λ none. absurd (none h)) refusal;
+complete_refused words left status read refusal is = record {
+  unread = λ unread. absurd (unread read);
+  refused = λ _. if_some_weaker left (HasRefusal words) _ (λ bytes h. λ _. inl is) refusal;
+  done = λ _. if_some_weaker left (HasRefusal words) _ (λ bytes h. λ none. absurd (none h)) refusal;
 }
 
-pub complete_done : (words : List (List ℕ)) (bits : ℕ) (left : Option (List ℕ)) (status : Status) → IsEmit words bits
-    → IfSome left (λ bytes. HasRefusal bytes → ⊥) → status ≡ Done → IsComplete words left status
-complete_done words bits left status read unrefused is = record {
-  unread = λ unread. absurd (unread (bits, read));
-  refused = λ _. if_some_weaker left (λ bytes. HasRefusal bytes → ⊥) _ (λ bytes h. λ refusal. absurd (h refusal)) unrefused;
-  done = λ _. if_some_weaker left (λ bytes. HasRefusal bytes → ⊥) _ (λ bytes h. λ _. inl is) unrefused;
+complete_done : (words : List (List ℕ)) (left : Option (List ℕ)) (status : Status) → AreRead words → IfSome left (λ bytes. HasRefusal words bytes → ⊥)
+    → status ≡ Done → IsComplete words left status
+complete_done words left status read unrefused is = record {
+  unread = λ unread. absurd (unread read);
+  refused = λ _. if_some_weaker left (λ bytes. HasRefusal words bytes → ⊥) _ (λ bytes h. λ refusal. absurd (h refusal)) unrefused;
+  done = λ _. if_some_weaker left (λ bytes. HasRefusal words bytes → ⊥) _ (λ bytes h. λ _. inl is) unrefused;
 }
+
+complete_memory : (words : List (List ℕ)) (left : Option (List ℕ)) (status : Status) → AreRead words → status ≡ Memory → IsComplete words left status
+complete_memory words left status read is = record {
+  unread = λ unread. absurd (unread read);
+  refused = λ _. if_some_all left _ (λ bytes. λ _. inr is);
+  done = λ _. if_some_all left _ (λ bytes. λ _. inr is);
+}
+
+-- ---- the answer of a command to the bytes of the source
+
+pub by_command : (command other : Command) (bytes : List ℕ) {held held' : Option (List ℕ)} {faults faults' : ℕ} {status : Status} → command ≡ other
+    → IsAnswered (Refuses other bytes) (Gives other bytes) held held' faults faults' status → IsAnswered (Refuses command bytes) (Gives command bytes) held held' faults faults' status
+by_command command other bytes {held} {held'} {faults} {faults'} {status} e answered =
+    subst (λ x. IsAnswered (Refuses x bytes) (Gives x bytes) held held' faults faults' status) (sym e) answered
+
+pub answered_refused : (command : Command) (words : List (List ℕ)) (left left' : Option (List ℕ)) (bytes : List ℕ) {held held' : Option (List ℕ)} {faults faults' : ℕ} {status : Status}
+    → Are command words → Takes left left' bytes → IsAtEnd left' → length bytes ≤ LIMIT
+    → IsAnswered (Refuses command bytes) (Gives command bytes) held held' faults faults' status → status ≡ Refused → AddsWhole Refused words left left' held held'
+answered_refused command words left left' bytes are takes end within (refused {reason} r put) e =
+    whole Refused words left left' (writes_refusal command words left left' bytes reason are takes end within r) put (λ x. cc) e
+answered_refused command words left left' bytes are takes end within (given g put) e = absurd (no_other Refused put (λ x. cc) (λ x. cc) e)
+answered_refused command words left left' bytes are takes end within (no_memory a b) e = absurd cc
+
+pub answered_done : (command : Command) (words : List (List ℕ)) (left left' : Option (List ℕ)) (bytes : List ℕ) {held held' : Option (List ℕ)} {faults faults' : ℕ} {status : Status}
+    → Are command words → Takes left left' bytes → IsAtEnd left' → length bytes ≤ LIMIT
+    → IsAnswered (Refuses command bytes) (Gives command bytes) held held' faults faults' status → status ≡ Done → AddsWhole Done words left left' held held'
+answered_done command words left left' bytes are takes end within (refused r put) e = absurd (no_other Done put (λ x. cc) (λ x. cc) e)
+answered_done command words left left' bytes are takes end within (given {out} g put) e =
+    whole Done words left left' (writes_output command words left left' bytes out are takes end within g) put (λ x. cc) e
+answered_done command words left left' bytes are takes end within (no_memory a b) e = absurd cc
+
+pub answered_fault : (command : Command) (words : List (List ℕ)) (left left' : Option (List ℕ)) (bytes : List ℕ) {held held' : Option (List ℕ)} {faults faults' : ℕ} {status : Status}
+    → Are command words → Takes left left' bytes → IsAtEnd left' → length bytes ≤ LIMIT
+    → IsAnswered (Refuses command bytes) (Gives command bytes) held held' faults faults' status → status ≡ WriteFault
+    → HasRisen faults faults' × AddsFront words left left' held held'
+answered_fault command words left left' bytes are takes end within (refused {reason} r put) e =
+    front Refused words left left' (writes_refusal command words left left' bytes reason are takes end within r) put (λ x. cc) e
+answered_fault command words left left' bytes are takes end within (given {out} g put) e =
+    front Done words left left' (writes_output command words left left' bytes out are takes end within g) put (λ x. cc) e
+answered_fault command words left left' bytes are takes end within (no_memory a b) e = absurd cc
+
+pub answered_memory : {R G : List ℕ → Type 0} {held held' : Option (List ℕ)} {faults faults' : ℕ} {status : Status} → IsAnswered R G held held' faults faults' status → status ≡ Memory → held' ≡ held
+answered_memory (refused r put) e = absurd (no_other Memory put (λ x. cc) (λ x. cc) e)
+answered_memory (given g put) e = absurd (no_other Memory put (λ x. cc) (λ x. cc) e)
+answered_memory (no_memory a b) e = b
+
+-- no answer is the usage line or a fault of the source
+pub never_words : {R G : List ℕ → Type 0} {held held' : Option (List ℕ)} {faults faults' : ℕ} {status : Status} → IsAnswered R G held held' faults faults' status → status ≡ Words → ⊥
+never_words (refused r put) e = no_other Words put (λ x. cc) (λ x. cc) e
+never_words (given g put) e = no_other Words put (λ x. cc) (λ x. cc) e
+never_words (no_memory a b) e = cc
+
+pub never_read_fault : {R G : List ℕ → Type 0} {held held' : Option (List ℕ)} {faults faults' : ℕ} {status : Status} → IsAnswered R G held held' faults faults' status → status ≡ ReadFault → ⊥
+never_read_fault (refused r put) e = no_other ReadFault put (λ x. cc) (λ x. cc) e
+never_read_fault (given g put) e = no_other ReadFault put (λ x. cc) (λ x. cc) e
+never_read_fault (no_memory a b) e = cc
+
+pub answered_complete : (command : Command) (words : List (List ℕ)) (left left' : Option (List ℕ)) (bytes : List ℕ) {held held' : Option (List ℕ)} {faults faults' : ℕ} {status : Status}
+    → Are command words → Takes left left' bytes → IsAtEnd left' → length bytes ≤ LIMIT
+    → IsAnswered (Refuses command bytes) (Gives command bytes) held held' faults faults' status → (HasRisen faults faults' → ⊥) → IsComplete words left status
+answered_complete command words left left' bytes {status = status} are takes end within (refused {reason} r put) none =
+    complete_refused words left status (read_of command words are)
+    (all_taken left left' bytes (HasRefusal words) takes end (reason, refusal_of command words bytes reason are within r)) (as_wanted put none)
+answered_complete command words left left' bytes {status = status} are takes end within (given {out} g put) none =
+    complete_done words left status (read_of command words are)
+    (all_taken left left' bytes (λ bytes. HasRefusal words bytes → ⊥) takes end (exclusive command words bytes out are within g)) (as_wanted put none)
+answered_complete command words left left' bytes {status = status} are takes end within (no_memory a b) none = complete_memory words left status (read_of command words are) a

@@ -1,4 +1,10 @@
-pub mod Answered
 pub mod Digits
+pub mod Walking
+pub mod Presenting
+pub mod Running
+pub mod Targets
 mod OptionWords
 mod SizeWords
+pub mod Simulating
+pub mod Sent
+pub mod Answered

@@ -1,5 +1,5 @@
 -- What the words behind an option, a size or `--` say.
-use Rattle.std.proofs.Common.{◌≡◌, ◌≢◌, ◌⊎◌, inl, inr, ◌↔◌, ℕ, suc, ◌+◌, ◌<◌, ◌≤◌, get_or, Bool, List, [], ◌∷◌, ◌++◌, length, drop, None, Some, Option, IsTrue, refl, sym, ap, subst, ◌∙◌, arith, length-append}
+use Rattle.std.proofs.Common.{◌≡◌, ◌≢◌, ◌⊎◌, inl, inr, ◌↔◌, ℕ, suc, ◌+◌, ◌<◌, get_or, Bool, List, [], ◌∷◌, ◌++◌, length, drop, None, Option, IsTrue, refl, sym, ap, subst, ◌∙◌, arith, length-append}
 use Rattle.std.specs.Prelude.{codes}
 use Rattle.std.specs.Str.{bytes_eq}
 use Rattle.std.proofs.lemmas.Slice.Eq.{bytes_eq-Decides}
@@ -9,7 +9,7 @@ use Rattle.std.specs.Prelude.{IfNone}
 use Rattle.std.proofs.lemmas.List.{append-nil, drop_all}
 use Rattle.std.proofs.Math.Seq.{drop-append_seam, drop-cons}
 use Rattle.av_base.specs.Tokens.{IsWord}
-use Rattle.av_cli.specs.Commands.{SpellsUpTo, IsSize, Options, having_width, having_box, IsOption, Say, nothing, width, box, size, sizes}
+use Rattle.av_cli.specs.Commands.{SpellsUpTo, IsSize, Options, having_width, having_box, IsOption, Say, nothing, width, box, size, sizes, IsBare}
 
 -- ---- the first word of an option
 
@@ -216,6 +216,19 @@ module _ (o p : Options) (words : List (List ℕ)) (at : ℕ) (w : List ℕ) (lt
 
   pub size_fail : (w ≡ codes "--" → ⊥) → (IsSize w → ⊥) → Say o (drop at words) p → ⊥
   size_fail no_dashes none say = none (size_said o p w (drop (at + 1) words) width_free box_free no_dashes (subst (λ (ws : List (List ℕ)). Say o ws p) front say)).0
+
+-- two words are bare where the second is `--`
+pub bare_two : (words : List (List ℕ)) (w : List ℕ) (b : Bool) → length words ≡ 2 → w ≡ get_or words 1 w → b ≡ bytes_eq w (codes "--") → IsTrue b ↔ IsBare (drop 1 words)
+bare_two words w b two is e =
+    let front : drop 1 words ≡ w ∷ drop 2 words = at_words words 1 2 w (omega (arith, two)) refl is in
+    let none : drop 2 words ≡ [] = drop_all 2 words (omega (arith, two)) in
+    let all : drop 1 words ≡ w ∷ [] = front ∙ ap (λ ws. w ∷ ws) none in (
+      (λ t. inr (all ∙ ap (λ x. x ∷ []) ((bytes_eq-Decides w (codes "--")).0 (sym e ∙ t)))),
+      (λ is_bare. elim is_bare [
+        | inl empty ↦ absurd (let k = sym all ∙ empty in cc)
+        | inr dashes ↦ (let k = sym all ∙ dashes in e ∙ (bytes_eq-Decides w (codes "--")).1 (cc))
+      ]),
+    )
 
 pub empty_of : (xs : List ℕ) → length xs ≡ 0 → xs ≡ []
 empty_of [] e = refl

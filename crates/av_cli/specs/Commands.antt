@@ -81,8 +81,18 @@ pub record IsEmit (words : List (List ℕ)) (bits : ℕ) : Type 0 where
   pub say : Say no_options rest options
   pub bits_are : bits ≡ given_or default_width options.width
 
+-- nothing, or `--` alone
+abbrev pub IsBare : List (List ℕ) → Type 0
+IsBare words = (words ≡ []) ⊎ (words ≡ codes "--" ∷ [])
+
+-- `sim`, with no option and no size
+pub record IsSim (words : List (List ℕ)) : Type 0 where
+  pub rest : List (List ℕ)
+  pub first : words ≡ codes "sim" ∷ rest
+  pub bare : IsBare rest
+
 abbrev pub AreRead : List (List ℕ) → Type 0
-AreRead words = (bits : ℕ) × IsEmit words bits
+AreRead words = ((bits : ℕ) × IsEmit words bits) ⊎ IsSim words
 
 abbrev pub usage_line : List ℕ
 usage_line = codes "usage: alphav check|schedule|table|emit|run|trace [--width W] [--box C] [NAME=VALUE ...] | sim | demo K\n"

@@ -1,4 +1,10 @@
 pub mod Commands
 pub mod CommandsSeen
-pub mod Program
+pub mod Refusals
+pub mod Simulated
+pub mod Clocking
+pub mod Emits
+pub mod Sims
+pub mod Asked
 pub mod Written
+pub mod Program

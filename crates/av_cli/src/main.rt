@@ -2,9 +2,14 @@
 //! that computes it to standard output.
 #![tactic(auto)]
 
+mod emit;
 mod numbers;
 mod options;
 mod program;
+mod put;
+mod refusals;
+mod sim;
+mod simulation;
 mod size_word;
 mod standard;
 mod status;

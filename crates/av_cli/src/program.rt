@@ -1,15 +1,15 @@
-ghost use Rattle.std.specs.Prelude.{◌≡◌};
+ghost use Rattle.std.specs.Prelude.{◌≡◌, ◌≤◌, length};
 ghost use Rattle.av_base.specs.Outside.{HasRisen};
-ghost use Rattle.av_net.specs.Texts.{text};
 ghost use Rattle.av_cli.specs.Program.{AddsWhole, AddsFront, IsComplete};
-ghost use Rattle.av_cli.specs.Written.{IsPut};
+ghost use Rattle.av_cli.specs.Written.{IsAnswered};
+ghost use Rattle.av_cli.specs.Asked.{Refuses, Gives};
 
+use crate::emit::emit;
+use crate::put::put;
+use crate::sim::sim;
 use crate::status::Status;
-use crate::words::read_words;
-use av_base::{Name, ReadAll, Sink, Source, read_all, write_all};
-use av_compile::{Refusal, compile};
-use av_net::Design;
-use av_vtext::write_design;
+use crate::words::{Command, read_words};
+use av_base::{Name, ReadAll, Sink, Source, read_all};
 use std::alloc::Global;
 
 /// The greatest number of bytes of an input.
@@ -19,8 +19,6 @@ const USAGE: &str =
     "usage: alphav check|schedule|table|emit|run|trace [--width W] [--box C] [NAME=VALUE ...] | sim | demo K\n";
 
 const TOO_LONG: &str = "refused: too long\n";
-
-const NOT_THIS_FORM: &str = "refused: not this form\n";
 
 /// All that the program does: it reads the words, then the source to its end, computes all that is to
 /// be written, and then writes it.
@@ -42,37 +40,24 @@ pub fn alphav<S: Source, K: Sink>(
     ensures complete { (HasRisen (S.faults source.old) (S.faults source.new) → ⊥) → (HasRisen (K.faults sink.old) (K.faults sink.new) → ⊥)
         → IsComplete words.now (S.left source.old) result }
 {
-    let Some(width) = read_words(words) else {
+    let Some(command) = read_words(words) else {
         return put(sink, USAGE, Status::Words);
     };
     match read_all(alloc, source, LIMIT) {
         Err(ReadAll::ReadFault) => Status::ReadFault,
         Err(ReadAll::Memory) => Status::Memory,
         Err(ReadAll::TooLong) => put(sink, TOO_LONG, Status::Refused),
-        Ok(bytes) => match compile(alloc, bytes.as_slice(), width) {
-            Err(Refusal::Memory) => Status::Memory,
-            Err(Refusal::NotThisForm) => put(sink, NOT_THIS_FORM, Status::Refused),
-            Ok(design) => put_design(sink, &design),
-        },
+        Ok(bytes) => answer(alloc, command, bytes.as_slice(), sink),
     }
 }
 
-// Adds the text. The status is the one wanted, or that of a fault of the sink.
-fn put<K: Sink>(sink: &mut K, text: &str, wanted: Status) -> Status
-    ensures { IsPut (K.held sink.old) (K.held sink.new) (K.faults sink.old) (K.faults sink.new) text.now wanted result }
+// Answers the bytes of an input.
+fn answer<K: Sink>(alloc: Global, command: Command, bytes: &[u8], sink: &mut K) -> Status
+    requires { length bytes.now ≤ LIMIT }
+    ensures { IsAnswered (Refuses command bytes.now) (Gives command bytes.now) (K.held sink.old) (K.held sink.new) (K.faults sink.old) (K.faults sink.new) result }
 {
-    match write_all(sink, text.as_bytes()) {
-        Ok(()) => wanted,
-        Err(_) => Status::WriteFault,
-    }
-}
-
-// Adds the text of the design.
-fn put_design<K: Sink>(sink: &mut K, design: &Design) -> Status
-    ensures { IsPut (K.held sink.old) (K.held sink.new) (K.faults sink.old) (K.faults sink.new) (text design.now) Status.Done result }
-{
-    match write_design(design, sink) {
-        Ok(()) => Status::Done,
-        Err(_) => Status::WriteFault,
+    match command {
+        Command::Emit { width } => emit(alloc, bytes, width, sink),
+        Command::Sim => sim(alloc, bytes, sink),
     }
 }

@@ -119,8 +119,22 @@ module array(input clk, input rst, input [7:0] i0, input [7:0] i1, output [7:0] 
 endmodule
 ";
 
+const SWAP: &str = "module swap(input clk, input rst, output [3:0] o0, output [3:0] o1);
+  reg [3:0] a;
+  reg [3:0] b;
+  assign o0 = a;
+  assign o1 = b;
+  always @(posedge clk) if (rst) a <= 4'd1; else a <= b;
+  always @(posedge clk) if (rst) b <= 4'd2; else b <= a;
+endmodule
+%%
+cycles 3
+";
+
 const USAGE: &str =
     "usage: alphav check|schedule|table|emit|run|trace [--width W] [--box C] [NAME=VALUE ...] | sim | demo K\n";
+
+mod sims;
 
 const WIDTH_8: &[&str] = &["emit", "--width", "8"];
 
@@ -154,52 +168,36 @@ const ROWS: &[(&[&str], &str, Status, &str)] = &[
     (&["emit", "--width", "0"], INCREMENT, Status::Words, USAGE),
     (&["emit", "--width"], INCREMENT, Status::Words, USAGE),
     (&["emit", "x"], INCREMENT, Status::Words, USAGE),
+    (&["emit", "--width=8"], INCREMENT, Status::Done, OF_WIDTH_8),
     (
-        &["emit", "--width=8", "--", "N=1"],
+        &[
+            "emit",
+            "N=0",
+            "--box=4",
+            "--width",
+            "008",
+            "--",
+            "M=-1048576",
+        ],
         INCREMENT,
         Status::Done,
         OF_WIDTH_8,
     ),
-    (
-        &["emit", "--box=4", "N=-1048576", "--width", "8", "M=007"],
-        INCREMENT,
-        Status::Done,
-        OF_WIDTH_8,
-    ),
+    (&["emit", "N=1048577"], INCREMENT, Status::Words, USAGE),
     (
         &["emit", "--box", "1", "--box", "1"],
         INCREMENT,
         Status::Words,
         USAGE,
     ),
+    (&["sim", "N=1"], SWAP, Status::Words, USAGE),
+    (&["sim", "--width", "8"], SWAP, Status::Words, USAGE),
     (
-        &["emit", "--width=8", "--width", "8"],
-        INCREMENT,
-        Status::Words,
-        USAGE,
+        &["sim", "--"],
+        SWAP,
+        Status::Done,
+        "0 o0=1 o1=2\n1 o0=2 o1=1\n2 o0=1 o1=2\n",
     ),
-    (&["emit", "--box", "5"], INCREMENT, Status::Words, USAGE),
-    (
-        &["emit", "--width", "--", "8"],
-        INCREMENT,
-        Status::Words,
-        USAGE,
-    ),
-    (&["emit", "--width="], INCREMENT, Status::Words, USAGE),
-    (&["emit", "--", "--"], INCREMENT, Status::Words, USAGE),
-    (
-        &["emit", "--", "--width=8"],
-        INCREMENT,
-        Status::Words,
-        USAGE,
-    ),
-    (&["emit", "N=1048577"], INCREMENT, Status::Words, USAGE),
-    (&["emit", "N=+1"], INCREMENT, Status::Words, USAGE),
-    (&["emit", "N="], INCREMENT, Status::Words, USAGE),
-    (&["emit", "max=1"], INCREMENT, Status::Words, USAGE),
-    (&["emit", "-h"], INCREMENT, Status::Words, USAGE),
-    (&["sim", "N=1"], INCREMENT, Status::Words, USAGE),
-    (&["demo", "17"], INCREMENT, Status::Words, USAGE),
 ];
 
 #[test]

@@ -1,4 +1,4 @@
-use Rattle.std.proofs.Common.{◌≡◌, ◌+◌, ◌≤◌, List, ℕ, sym, subst, refl, ◌∙◌, length, drop, arith}
+use Rattle.std.proofs.Common.{◌≡◌, sym, subst, refl, ◌∙◌, drop, arith}
 use Rattle.std.proofs.lemmas.List.{drop_all}
 use Rattle.av_cli.specs.Commands.{IsSize}
 use Rattle.av_cli.proofs.OptionWords.{sizes_from}

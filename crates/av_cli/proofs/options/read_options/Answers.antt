@@ -1,6 +1,6 @@
-use Rattle.std.proofs.Common.{◌≡◌, List, [], ℕ, sym, subst, drop, length, arith}
+use Rattle.std.proofs.Common.{◌≡◌, [], drop, arith}
 use Rattle.std.proofs.lemmas.List.{drop_all}
-use Rattle.av_cli.specs.Commands.{Say, nothing}
+use Rattle.av_cli.specs.Commands.{nothing}
 use Rattle.av_cli.specs.CommandsSeen.{seen}
 use Rattle.av_cli.proofs.options.read_options.Goals as goal
 

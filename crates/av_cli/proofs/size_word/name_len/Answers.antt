@@ -1,4 +1,4 @@
-use Rattle.std.proofs.Common.{◌≡◌, ◌≤◌, ℕ, subst, sym, take, length, IsTrue}
+use Rattle.std.proofs.Common.{◌≤◌, ℕ, subst, sym, take, length, IsTrue}
 use Rattle.std.specs.List.{AllByRecursion}
 use Rattle.std.proofs.lemmas.List.Sums.{prefix_len-le-length}
 use Rattle.av_base.specs.Tokens.{is_word_byte}

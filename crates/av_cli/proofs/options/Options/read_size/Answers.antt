@@ -1,6 +1,5 @@
-use Rattle.std.proofs.Common.{◌≡◌, ◌+◌, ◌<◌, List, ℕ, true, false, sym, subst, refl, ◌∙◌, length, drop, arith}
+use Rattle.std.proofs.Common.{◌≡◌, true, false, sym, subst, refl, ◌∙◌, length, arith}
 use Rattle.std.specs.Prelude.{codes}
-use Rattle.std.specs.Str.{bytes_eq}
 use Rattle.std.proofs.lemmas.Slice.Eq.{bytes_eq-Decides}
 use Rattle.av_cli.specs.Commands.{IsSize}
 use Rattle.av_cli.specs.CommandsSeen.{seen}

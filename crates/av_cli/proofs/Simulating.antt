@@ -1,0 +1,129 @@
+-- How the answers of `sim` follow from what its steps did.
+use Rattle.std.proofs.Common.{◌≡◌, ℕ, ◌+◌, List, [], ◌∷◌, Option, Some, None, get_or, refl, ap, subst, inl, inr}
+use Rattle.std.specs.Prelude.{◌⊎◌}
+use Rattle.av_base.specs.Outside.{Adds, AddsPrefix, HasRisen}
+use Rattle.av_net.specs.declared.netlist.Port.{Port}
+use Rattle.av_net.specs.declared.netlist.Module.{Module}
+use Rattle.av_net.specs.declared.design.Design.{Design}
+use Rattle.av_net.specs.Meaning.{Words}
+use Rattle.av_net.specs.Names.{names_of}
+use Rattle.av_net.specs.Clocked.{Stream, Run, IsRun}
+use Rattle.av_net.specs.Sound.{IsSound}
+use Rattle.av_net.specs.Designs.{Spells}
+use Rattle.av_net.proofs.Cycles.{has_runs}
+use Rattle.av_net.proofs.Distinct.{front_distinct}
+use Rattle.av_vread.specs.declared.fault.VFault.{VFault}
+use Rattle.av_vread.specs.declared.fault.VFault.TheVariants as text_fault
+use Rattle.av_vread.specs.Faults.{IsFault}
+use Rattle.av_data.specs.declared.fault.DataFault.{DataFault}
+use Rattle.av_data.specs.declared.fault.DataFault.TheVariants.{DataSyntax, DataUnknown, DataOutside, DataTwice, DataMissing, Memory}
+use Rattle.av_data.specs.declared.stimulus.Given.{Given}
+use Rattle.av_data.specs.declared.stimulus.Stimulus.{Stimulus}
+use Rattle.av_data.specs.Divisions.{IsDivided}
+use Rattle.av_data.specs.Stimuli.{SpellsStimulus, IsLaterFault, here, past_empty, past_value, IsFirstFault, past_empty_first, past_cycles, IsStimulusFault}
+use Rattle.av_data.specs.Reading.{place_of}
+use Rattle.av_data.proofs.Lined.{place_at}
+use Rattle.av_cli.specs.declared.status.Status.{Status}
+use Rattle.av_cli.specs.declared.status.Status.TheVariants.{Done, Refused, WriteFault, Memory as OutOfMemory}
+use Rattle.av_cli.specs.Refusals.{refusal_line, text_reason, data_reason, IsOfStimulus}
+use Rattle.av_cli.specs.Simulated.{given_word, IsStimulated, run_lines}
+use Rattle.av_cli.specs.Sims.{RefusesSim, bad_text, bad_stimulus, GivesSim, RefusesStimulus, GivesRun}
+use Rattle.av_cli.specs.Written.{IsPut, IsAnswered, refused, given, no_memory, IsClocked}
+use Rattle.av_cli.proofs.Presenting.{given_distinct}
+
+-- ---- faults
+
+later_never : (inputs : List Port) (n : ℕ) (earlier : List Given) (k : ℕ) (lines : List (List ℕ)) (name : List ℕ) (point : List _) → IsLaterFault inputs n (DataMissing name point) earlier k lines → ⊥
+later_never inputs n earlier k [] name point x = elim x [ ]
+later_never inputs n earlier k (line ∷ lines) name point (here is) = is
+later_never inputs n earlier k (line ∷ lines) name point (past_empty e rest) = later_never inputs n earlier (k + 1) lines name point rest
+later_never inputs n earlier k (line ∷ lines) name point (past_value {g = g} gives apart rest) = later_never inputs n (g ∷ earlier) (k + 1) lines name point rest
+
+first_never : (inputs : List Port) (k : ℕ) (lines : List (List ℕ)) (name : List ℕ) (point : List _) → IsFirstFault inputs k lines (DataMissing name point) → ⊥
+first_never inputs k [] name point x = elim x [ ]
+first_never inputs k (line ∷ lines) name point (past_empty_first e rest) = first_never inputs (k + 1) lines name point rest
+first_never inputs k (line ∷ lines) name point (past_cycles {n = n} c rest) = later_never inputs n [] (k + 1) lines name point rest
+
+-- no point is missing from a stimulus
+pub of_stimulus : (inputs : List Port) (first : ℕ) (bytes : List ℕ) (f : DataFault) → (f ≡ Memory) ⊎ IsStimulusFault inputs first bytes f → IsOfStimulus f
+of_stimulus inputs first bytes Memory h = tt
+of_stimulus inputs first bytes (DataSyntax l) h = tt
+of_stimulus inputs first bytes (DataUnknown l) h = tt
+of_stimulus inputs first bytes (DataOutside l) h = tt
+of_stimulus inputs first bytes (DataTwice l) h = tt
+of_stimulus inputs first bytes (DataMissing name point) (inl e) = absurd cc
+of_stimulus inputs first bytes (DataMissing name point) (inr is) = absurd (first_never inputs first _ name point is)
+
+-- ---- a run under the stimulus
+
+abbrev word_by : List Given → ℕ → Option ℕ → ℕ
+word_by values c None = 0
+word_by values c (Some k) = given_word values c k
+
+stream_of : Module → Stimulus → Stream
+stream_of m s = record { on_reset = λ name. 0; in_cycle = λ c name. word_by s.values c (place_of m.inputs name) }
+
+is_stream : (m : Module) (s : Stimulus) → IsSound m → IsStimulated m s (stream_of m s)
+unfolding stream_of
+is_stream m s sound = record {
+  on_reset = λ k d lt. refl;
+  in_cycles = λ c k port e. ap (word_by s.values c) (place_at m.inputs k port (front_distinct (names_of m.inputs) (names_of m.registers) (given_distinct m sound)) e);
+}
+
+pub clocked_done : (m' m : Module) (s : Stimulus) (held held' : Option (List ℕ)) (faults faults' : ℕ) → m' ≡ m
+    → ((stream : Stream) (run : Run) → IsStimulated m' s stream → IsRun m' s.cycles stream run → Adds held held' (run_lines m' run.in_cycle s.cycles)) → IsClocked m s held held' faults faults' Done
+clocked_done m' m s held held' faults faults' e added =
+    let all = subst (λ x. (stream : Stream) (run : Run) → IsStimulated x s stream → IsRun x s.cycles stream run → Adds held held' (run_lines x run.in_cycle s.cycles)) e added in
+    inr (λ stream run stimulated is. record { ends = inl (refl, all stream run stimulated is) })
+
+pub clocked_failed : (m' m : Module) (s : Stimulus) (held held' : Option (List ℕ)) (faults faults' : ℕ) → m' ≡ m → HasRisen faults faults'
+    → ((stream : Stream) (run : Run) → IsStimulated m' s stream → IsRun m' s.cycles stream run → AddsPrefix held held' (run_lines m' run.in_cycle s.cycles)) → IsClocked m s held held' faults faults' WriteFault
+clocked_failed m' m s held held' faults faults' e risen front =
+    let all = subst (λ x. (stream : Stream) (run : Run) → IsStimulated x s stream → IsRun x s.cycles stream run → AddsPrefix held held' (run_lines x run.in_cycle s.cycles)) e front in
+    inr (λ stream run stimulated is. record { ends = inr (refl, risen, all stream run stimulated is) })
+
+-- ---- answers
+
+pub run_answered : (m : Module) (bytes : List ℕ) (first : ℕ) (s : Stimulus) (held held' : Option (List ℕ)) (faults faults' : ℕ) (status : Status) → IsSound m → SpellsStimulus m.inputs bytes s → IsClocked m s held held' faults faults' status
+    → IsAnswered (RefusesStimulus m bytes first) (GivesRun m bytes) held held' faults faults' status
+run_answered m bytes first s held held' faults faults' status sound spelled (inl none) = no_memory none.0 none.1
+run_answered m bytes first s held held' faults faults' status sound spelled (inr lines) =
+    let stream = stream_of m s in
+    let stimulated = is_stream m s sound in
+    let (run, is, before) = has_runs m sound s.cycles stream (λ name. 0) in
+    given (record {
+      stimulus = s;
+      stimulated = spelled;
+      simulated = record {
+        stream = stream;
+        run = run;
+        stimulated = stimulated;
+        powered = λ k d lt. ap (λ (v : Words). v (get_or m.registers k d).name) before;
+        clocked = is;
+        lines = refl;
+      };
+    }) (lines stream run stimulated is)
+
+pub module_answered : (bytes text rest : List ℕ) (first : ℕ) (design : Design) {held held' : Option (List ℕ)} {faults faults' : ℕ} {status : Status} → IsDivided bytes text rest first → Spells text design
+    → IsAnswered (RefusesStimulus design.module rest first) (GivesRun design.module rest) held held' faults faults' status → IsAnswered (RefusesSim bytes) (GivesSim bytes) held held' faults faults' status
+module_answered bytes text rest first design divided spelled (refused r put) = refused (bad_stimulus r.cause divided spelled r.is r.told) put
+module_answered bytes text rest first design divided spelled (given g put) =
+    given (record { text = text; rest = rest; first = first; divided = divided; design = design; spelled = spelled; stimulus = g.stimulus; stimulated = g.stimulated; simulated = g.simulated }) put
+module_answered bytes text rest first design divided spelled (no_memory a b) = no_memory a b
+
+pub stimulus_refused : (m : Module) (bytes : List ℕ) (first : ℕ) (f : DataFault) {held held' : Option (List ℕ)} {faults faults' : ℕ} {status : Status} → (f ≡ Memory) ⊎ IsStimulusFault m.inputs first bytes f
+    → (f ≡ Memory → (status ≡ OutOfMemory) × (held' ≡ held)) → ((f ≡ Memory → ⊥) → IsPut held held' faults faults' (refusal_line (data_reason f)) Refused status)
+    → IsAnswered (RefusesStimulus m bytes first) (GivesRun m bytes) held held' faults faults' status
+stimulus_refused m bytes first Memory fault none put = let (a, b) = none refl in no_memory a b
+stimulus_refused m bytes first f (inl e) none put = let (a, b) = none e in no_memory a b
+stimulus_refused m bytes first (DataSyntax l) (inr is) none put = refused (record { cause = DataSyntax l; is = is; told = refl }) (put (λ e. cc))
+stimulus_refused m bytes first (DataUnknown l) (inr is) none put = refused (record { cause = DataUnknown l; is = is; told = refl }) (put (λ e. cc))
+stimulus_refused m bytes first (DataOutside l) (inr is) none put = refused (record { cause = DataOutside l; is = is; told = refl }) (put (λ e. cc))
+stimulus_refused m bytes first (DataTwice l) (inr is) none put = refused (record { cause = DataTwice l; is = is; told = refl }) (put (λ e. cc))
+stimulus_refused m bytes first (DataMissing name point) (inr is) none put = refused (record { cause = DataMissing name point; is = is; told = refl }) (put (λ e. cc))
+
+pub text_refused : (bytes text rest : List ℕ) (first : ℕ) (f : VFault) {held held' : Option (List ℕ)} {faults faults' : ℕ} {status : Status} → IsDivided bytes text rest first → (f ≡ text_fault.Memory) ⊎ IsFault text f
+    → (f ≡ text_fault.Memory → (status ≡ OutOfMemory) × (held' ≡ held)) → ((f ≡ text_fault.Memory → ⊥) → IsPut held held' faults faults' (refusal_line (text_reason f)) Refused status)
+    → IsAnswered (RefusesSim bytes) (GivesSim bytes) held held' faults faults' status
+text_refused bytes text rest first f divided (inl e) none put = let (a, b) = none e in no_memory a b
+text_refused bytes text rest first f divided (inr is) none put = refused (bad_text f divided is refl) (put (λ e. subst (λ x. IsFault text x) e is))

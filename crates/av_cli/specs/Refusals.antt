@@ -1,0 +1,45 @@
+-- The lines of refusals.
+use Rattle.std.specs.Prelude.{ℕ, List, [], ◌++◌, codes, decimal}
+use Rattle.av_base.specs.declared.place.Place.{Place}
+use Rattle.av_vread.specs.declared.fault.VFault.{VFault}
+use Rattle.av_vread.specs.declared.fault.VFault.TheVariants.{VByte, VSyntax, VListing, VTwice, VName, VUnassigned, VOrder, VWidth, Memory}
+use Rattle.av_data.specs.declared.fault.DataFault.{DataFault}
+use Rattle.av_data.specs.declared.fault.DataFault.TheVariants as data_fault
+use Rattle.av_net.specs.Texts.{point_text}
+
+abbrev pub refusal_line : List ℕ → List ℕ
+refusal_line reason = codes "refused: " ++ reason ++ codes "\n"
+
+-- as `3:14`
+abbrev pub place_text : Place → List ℕ
+place_text p = decimal p.line ++ codes ":" ++ decimal p.column
+
+-- why a design text is refused; want of memory has no line
+abbrev pub text_reason : VFault → List ℕ
+text_reason (VByte p) = codes "verilog bad byte " ++ place_text p
+text_reason (VSyntax p) = codes "verilog syntax " ++ place_text p
+text_reason (VListing number) = codes "verilog listing " ++ decimal number
+text_reason (VTwice name) = codes "verilog twice " ++ name
+text_reason (VName name) = codes "verilog unknown " ++ name
+text_reason (VUnassigned name) = codes "verilog unassigned " ++ name
+text_reason (VOrder name) = codes "verilog order " ++ name
+text_reason (VWidth name) = codes "verilog width " ++ name
+text_reason Memory = []
+
+-- why lines of data are refused
+abbrev pub data_reason : DataFault → List ℕ
+data_reason (data_fault.DataSyntax number) = codes "data syntax " ++ decimal number
+data_reason (data_fault.DataUnknown number) = codes "data unknown " ++ decimal number
+data_reason (data_fault.DataOutside number) = codes "data outside " ++ decimal number
+data_reason (data_fault.DataTwice number) = codes "data twice " ++ decimal number
+data_reason (data_fault.DataMissing name point) = codes "data missing " ++ name ++ codes " " ++ point_text point
+data_reason data_fault.Memory = []
+
+-- a stimulus may have this fault
+abbrev pub IsOfStimulus : DataFault → Type 0
+IsOfStimulus (data_fault.DataSyntax number) = Unit {0}
+IsOfStimulus (data_fault.DataUnknown number) = Unit {0}
+IsOfStimulus (data_fault.DataOutside number) = Unit {0}
+IsOfStimulus (data_fault.DataTwice number) = Unit {0}
+IsOfStimulus (data_fault.DataMissing name point) = ⊥
+IsOfStimulus data_fault.Memory = Unit {0}

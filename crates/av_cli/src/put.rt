@@ -1,0 +1,65 @@
+//! Texts that are put into a sink.
+
+ghost use Rattle.std.specs.Prelude.{◌≡◌};
+ghost use Rattle.av_net.specs.Texts.{text};
+ghost use Rattle.av_vread.specs.declared.fault.VFault.TheVariants as text_fault;
+ghost use Rattle.av_data.specs.declared.fault.DataFault.TheVariants as data_fault;
+ghost use Rattle.av_cli.specs.Refusals.{refusal_line, text_reason, data_reason, IsOfStimulus};
+ghost use Rattle.av_cli.specs.Written.{IsPut};
+
+use crate::refusals::{write_data_refusal, write_text_refusal};
+use crate::status::Status;
+use av_base::{Sink, write_all};
+use av_data::DataFault;
+use av_net::Design;
+use av_vread::VFault;
+use av_vtext::write_design;
+
+/// Adds the text. The status is the one wanted, or that of a fault of the sink.
+pub(crate) fn put<K: Sink>(sink: &mut K, text: &str, wanted: Status) -> Status
+    ensures { IsPut (K.held sink.old) (K.held sink.new) (K.faults sink.old) (K.faults sink.new) text.now wanted result }
+{
+    match write_all(sink, text.as_bytes()) {
+        Ok(()) => wanted,
+        Err(_) => Status::WriteFault,
+    }
+}
+
+/// Adds the text of the design.
+pub(crate) fn put_design<K: Sink>(sink: &mut K, design: &Design) -> Status
+    ensures { IsPut (K.held sink.old) (K.held sink.new) (K.faults sink.old) (K.faults sink.new) (text design.now) Status.Done result }
+{
+    match write_design(design, sink) {
+        Ok(()) => Status::Done,
+        Err(_) => Status::WriteFault,
+    }
+}
+
+/// Adds the line of the refusal of a design text. Want of memory has no line: the status tells it.
+pub(crate) fn put_text_refusal<K: Sink>(sink: &mut K, fault: &VFault) -> Status
+    ensures memory { fault.now ≡ text_fault.Memory → (result ≡ Status.Memory) × (K.held sink.new ≡ K.held sink.old) }
+    ensures refused { (fault.now ≡ text_fault.Memory → ⊥) → IsPut (K.held sink.old) (K.held sink.new) (K.faults sink.old) (K.faults sink.new) (refusal_line (text_reason fault.now)) Status.Refused result }
+{
+    match fault {
+        VFault::Memory => Status::Memory,
+        _ => match write_text_refusal(fault, sink) {
+            Ok(()) => Status::Refused,
+            Err(_) => Status::WriteFault,
+        },
+    }
+}
+
+/// Adds the line of the refusal of a stimulus. Want of memory has no line: the status tells it.
+pub(crate) fn put_data_refusal<K: Sink>(sink: &mut K, fault: &DataFault) -> Status
+    requires { IsOfStimulus fault.now }
+    ensures memory { fault.now ≡ data_fault.Memory → (result ≡ Status.Memory) × (K.held sink.new ≡ K.held sink.old) }
+    ensures refused { (fault.now ≡ data_fault.Memory → ⊥) → IsPut (K.held sink.old) (K.held sink.new) (K.faults sink.old) (K.faults sink.new) (refusal_line (data_reason fault.now)) Status.Refused result }
+{
+    match fault {
+        DataFault::Memory => Status::Memory,
+        _ => match write_data_refusal(fault, sink) {
+            Ok(()) => Status::Refused,
+            Err(_) => Status::WriteFault,
+        },
+    }
+}

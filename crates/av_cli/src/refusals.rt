@@ -1,0 +1,91 @@
+//! The lines of refusals.
+
+ghost use Rattle.std.specs.Prelude.{◌++◌, decimal, OnOk, OnErr, IsErr};
+ghost use Rattle.av_base.specs.Outside.{Adds, AddsPrefix, HasRisen};
+ghost use Rattle.av_page.specs.Pages.{Puts};
+ghost use Rattle.av_cli.specs.Refusals.{refusal_line, place_text, text_reason, data_reason, IsOfStimulus};
+
+use av_base::{Place, Sink, WriteFault};
+use av_data::DataFault;
+use av_page::Page;
+use av_vread::VFault;
+
+fn put_number<K: Sink>(page: &mut Page, sink: &mut K, words: &str, number: u32)
+    ensures { Puts (K.held sink.old) (K.held sink.new) (K.faults sink.old) (K.faults sink.new) page.old page.new (words.now ++ decimal number) }
+{
+    page.put(sink, words);
+    page.put_number(sink, number);
+}
+
+fn put_name<K: Sink>(page: &mut Page, sink: &mut K, words: &str, name: &str)
+    ensures { Puts (K.held sink.old) (K.held sink.new) (K.faults sink.old) (K.faults sink.new) page.old page.new (words.now ++ name.now) }
+{
+    page.put(sink, words);
+    page.put(sink, name);
+}
+
+fn put_place<K: Sink>(page: &mut Page, sink: &mut K, words: &str, place: Place)
+    ensures { Puts (K.held sink.old) (K.held sink.new) (K.faults sink.old) (K.faults sink.new) page.old page.new (words.now ++ place_text place) }
+{
+    page.put(sink, words);
+    page.put_number(sink, place.line);
+    page.put(sink, ":");
+    page.put_number(sink, place.column);
+}
+
+fn put_text_reason<K: Sink>(page: &mut Page, sink: &mut K, fault: &VFault)
+    ensures { Puts (K.held sink.old) (K.held sink.new) (K.faults sink.old) (K.faults sink.new) page.old page.new (text_reason fault.now) }
+{
+    match fault {
+        VFault::VByte(place) => put_place(page, sink, "verilog bad byte ", *place),
+        VFault::VSyntax(place) => put_place(page, sink, "verilog syntax ", *place),
+        VFault::VListing(number) => put_number(page, sink, "verilog listing ", *number),
+        VFault::VTwice(name) => put_name(page, sink, "verilog twice ", name.as_str()),
+        VFault::VName(name) => put_name(page, sink, "verilog unknown ", name.as_str()),
+        VFault::VUnassigned(name) => put_name(page, sink, "verilog unassigned ", name.as_str()),
+        VFault::VOrder(name) => put_name(page, sink, "verilog order ", name.as_str()),
+        VFault::VWidth(name) => put_name(page, sink, "verilog width ", name.as_str()),
+        VFault::Memory => page.put(sink, ""),
+    }
+}
+
+fn put_data_reason<K: Sink>(page: &mut Page, sink: &mut K, fault: &DataFault)
+    requires { IsOfStimulus fault.now }
+    ensures { Puts (K.held sink.old) (K.held sink.new) (K.faults sink.old) (K.faults sink.new) page.old page.new (data_reason fault.now) }
+{
+    match fault {
+        DataFault::DataSyntax(number) => put_number(page, sink, "data syntax ", *number),
+        DataFault::DataUnknown(number) => put_number(page, sink, "data unknown ", *number),
+        DataFault::DataOutside(number) => put_number(page, sink, "data outside ", *number),
+        DataFault::DataTwice(number) => put_number(page, sink, "data twice ", *number),
+        DataFault::DataMissing(_, _) => unreachable!(),
+        DataFault::Memory => page.put(sink, ""),
+    }
+}
+
+/// Writes the line of the refusal of a design text.
+pub(crate) fn write_text_refusal<K: Sink>(fault: &VFault, sink: &mut K) -> Result<(), WriteFault>
+    ensures added { OnOk result (Adds (K.held sink.old) (K.held sink.new) (refusal_line (text_reason fault.now))) }
+    ensures fault { IsErr result → HasRisen (K.faults sink.old) (K.faults sink.new) }
+    ensures front { OnErr result (AddsPrefix (K.held sink.old) (K.held sink.new) (refusal_line (text_reason fault.now))) }
+{
+    let mut page = Page::new();
+    page.put(sink, "refused: ");
+    put_text_reason(&mut page, sink, fault);
+    page.put(sink, "\n");
+    page.finish(sink)
+}
+
+/// Writes the line of the refusal of a stimulus.
+pub(crate) fn write_data_refusal<K: Sink>(fault: &DataFault, sink: &mut K) -> Result<(), WriteFault>
+    requires { IsOfStimulus fault.now }
+    ensures added { OnOk result (Adds (K.held sink.old) (K.held sink.new) (refusal_line (data_reason fault.now))) }
+    ensures fault { IsErr result → HasRisen (K.faults sink.old) (K.faults sink.new) }
+    ensures front { OnErr result (AddsPrefix (K.held sink.old) (K.held sink.new) (refusal_line (data_reason fault.now))) }
+{
+    let mut page = Page::new();
+    page.put(sink, "refused: ");
+    put_data_reason(&mut page, sink, fault);
+    page.put(sink, "\n");
+    page.finish(sink)
+}
