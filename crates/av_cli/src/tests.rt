@@ -135,6 +135,7 @@ const USAGE: &str =
     "usage: alphav check|schedule|table|emit|run|trace [--width W] [--box C] [NAME=VALUE ...] | sim | demo K\n";
 
 mod sims;
+mod stimuli;
 
 const WIDTH_8: &[&str] = &["emit", "--width", "8"];
 

@@ -1,10 +1,10 @@
 //! Expressions. The levels that are left go along as an argument; a form that is open, and each operator
 //! that was read in the sum or product around, take one.
 
-ghost use Rattle.std.specs.Prelude.{◌≡◌, ◌<◌, IfOk, length};
+ghost use Rattle.std.specs.Prelude.{◌≡◌, ◌<◌, IfOk, length, codes};
 ghost use Rattle.av_lex.specs.Lexing.{view as token_view, views};
 ghost use Rattle.av_tree.specs.Trees.{view, view_all};
-ghost use Rattle.av_parse.specs.Reader.{Gives};
+ghost use Rattle.av_parse.specs.Reader.{Gives, expect_symbol};
 ghost use Rattle.av_parse.specs.ExpressionReader.{readers, parenthesis_of, extreme_of, branches_of, cases_of, reduction_of, primary_of, postfix_of, unary_of, product_of, sum_of, choice_of, restriction_of, expr_of, begins_unary, begins_expr, begins_domain_rest};
 
 use crate::fault::Stop;
@@ -294,6 +294,13 @@ impl<'t, 'a> Parser<'t, 'a> {
         Ok(Expr::Case { branches, place })
     }
 
+    // The `;` behind a branch, the last one too.
+    fn branch_end(&mut self) -> Result<Token<'a>, Stop>
+        ensures { Gives (λ x. (token_view x, views self.new.rest.now)) result (expect_symbol (codes ";") (views self.old.rest.now)) }
+    {
+        self.symbol(b";")
+    }
+
     #[cycle(expression)]
     fn branches(&mut self, levels: u32) -> Result<List<Expr>, Stop>
         ensures { Gives (λ es. (view_all es, views self.new.rest.now)) result (branches_of (readers levels) (length (views self.old.rest.now)) (views self.old.rest.now)) }
@@ -302,7 +309,7 @@ impl<'t, 'a> Parser<'t, 'a> {
         let mut room = self.left();
         while room > 0 {
             let branch = self.deeper_expr(levels)?;
-            self.symbol(b";")?;
+            self.branch_end()?;
             found.push(branch)?;
             if self.is_word(b"esac") {
                 return Ok(found);

@@ -45,20 +45,20 @@ branches-returns-in_err-branch t c =
     let p = err_from_is_err_and c.from_residual.result c.from_residual.ensures.1 in
     rw (p.1, p.2) (branches_stop (readers c.args.levels) (view_all c.loop-room.found) c.loop-room.room (views c.loop-room.self.rest.now) _ c.loop-room.invariant c.in_err-branch.field-0.0 c.loop-room-test.true c.in_err-branch.ensures)
 
-pub branches-returns-in_err-symbol : goal.branches-returns-in_err-symbol
-branches-returns-in_err-symbol t c =
-    let p = err_from_is_err_and c.from_residual-in_err-symbol.result c.from_residual-in_err-symbol.ensures.1 in
-    rw (p.1, p.2) (branches_semicolon_stop (readers c.args.levels) (view_all c.loop-room.found) c.loop-room.room (views c.loop-room.self.rest.now) _ c.loop-room.invariant c.in_err-symbol.field-0.0 (view c.in_ok-branch.branch) (views c.deeper_expr.new.self.rest.now) c.loop-room-test.true c.in_ok-branch.ensures c.in_err-symbol.ensures)
+pub branches-returns-in_err-branch_end : goal.branches-returns-in_err-branch_end
+branches-returns-in_err-branch_end t c =
+    let p = err_from_is_err_and c.from_residual-in_err-branch_end.result c.from_residual-in_err-branch_end.ensures.1 in
+    rw (p.1, p.2) (branches_semicolon_stop (readers c.args.levels) (view_all c.loop-room.found) c.loop-room.room (views c.loop-room.self.rest.now) _ c.loop-room.invariant c.in_err-branch_end.field-0.0 (view c.in_ok-branch.branch) (views c.deeper_expr.new.self.rest.now) c.loop-room-test.true c.in_ok-branch.ensures c.in_err-branch_end.ensures)
 
 pub branches-returns-then-is_word : goal.branches-returns-then-is_word
 branches-returns-then-is_word t c =
-    let stop : begins_word (codes "esac") (views c.symbol.new.self.rest.now) ≡ true = sym c.is_word.ensures ∙ c.if-is_word.true in
-    rw (c.in_ok-push.ensures.ok, view_all_push) (branches_end (readers c.args.levels) (view_all c.loop-room.found) c.loop-room.room (views c.loop-room.self.rest.now) _ c.loop-room.invariant (view c.in_ok-branch.branch) (views c.deeper_expr.new.self.rest.now) (token_view c.in_ok-symbol.field-0) (views c.symbol.new.self.rest.now) c.loop-room-test.true c.in_ok-branch.ensures c.in_ok-symbol.ensures stop)
+    let stop : begins_word (codes "esac") (views c.branch_end.new.self.rest.now) ≡ true = sym c.is_word.ensures ∙ c.if-is_word.true in
+    rw (c.in_ok-push.ensures.ok, view_all_push) (branches_end (readers c.args.levels) (view_all c.loop-room.found) c.loop-room.room (views c.loop-room.self.rest.now) _ c.loop-room.invariant (view c.in_ok-branch.branch) (views c.deeper_expr.new.self.rest.now) (token_view c.in_ok-branch_end.field-0) (views c.branch_end.new.self.rest.now) c.loop-room-test.true c.in_ok-branch.ensures c.in_ok-branch_end.ensures stop)
 
 pub branches-loop-room-preserved : goal.branches-loop-room-preserved
 branches-loop-room-preserved t c =
-    let more : begins_word (codes "esac") (views c.symbol.new.self.rest.now) ≡ false = sym c.is_word.ensures ∙ c.if-is_word.false in
-    rw (c.in_ok-push.ensures.ok, view_all_push) (branches_goes (readers c.args.levels) (view_all c.loop-room.found) c.loop-room.room (views c.loop-room.self.rest.now) _ c.loop-room.invariant (view c.in_ok-branch.branch) (views c.deeper_expr.new.self.rest.now) (token_view c.in_ok-symbol.field-0) (views c.symbol.new.self.rest.now) c.loop-room-test.true c.in_ok-branch.ensures c.in_ok-symbol.ensures more)
+    let more : begins_word (codes "esac") (views c.branch_end.new.self.rest.now) ≡ false = sym c.is_word.ensures ∙ c.if-is_word.false in
+    rw (c.in_ok-push.ensures.ok, view_all_push) (branches_goes (readers c.args.levels) (view_all c.loop-room.found) c.loop-room.room (views c.loop-room.self.rest.now) _ c.loop-room.invariant (view c.in_ok-branch.branch) (views c.deeper_expr.new.self.rest.now) (token_view c.in_ok-branch_end.field-0) (views c.branch_end.new.self.rest.now) c.loop-room-test.true c.in_ok-branch.ensures c.in_ok-branch_end.ensures more)
 
 pub branches-returns : goal.branches-returns
 branches-returns t c = rw c.syntax.ensures (branches_full (readers c.args.levels) (view_all c.loop-room.found) c.loop-room.room (views c.loop-room.self.rest.now) _ c.loop-room.invariant (let z = c.loop-room-test.false in omega (arith, z)))
