@@ -7,3 +7,4 @@ pub mod Branches
 pub mod Filling
 pub mod Extents
 pub mod Counted
+pub mod Spread
