@@ -8,3 +8,4 @@ pub mod Filling
 pub mod Extents
 pub mod Counted
 pub mod Spread
+pub mod Making
