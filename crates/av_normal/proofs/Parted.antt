@@ -1,5 +1,5 @@
 -- What is known of the pieces of a well formed variable: their maps are chained, and what is read, restricted and folded fits.
-use Rattle.std.proofs.Common.{◌≡◌, ℕ, ◌+◌, ◌≤◌, ◌<◌, inl, inr, false, true, Bool, IsTrue, List, [], ◌∷◌, ◌++◌, length, map, Some, slice_get, get_or, refl, sym, ap, subst, ◌∙◌, arith, All}
+use Rattle.std.proofs.Common.{◌≡◌, ℕ, zero, suc, ◌+◌, ◌≤◌, ◌<◌, inl, inr, false, true, Bool, IsTrue, List, [], ◌∷◌, ◌++◌, length, map, Some, slice_get, get_or, refl, sym, ap, subst, ◌∙◌, arith, All}
 use Rattle.std.proofs.lemmas.List.Elements.{All-nil, All-cons, All-head, All-tail, All-map, All-weaker}
 use Rattle.std.proofs.lemmas.Option.{slice_get_cases}
 use Rattle.av_base.specs.Words.{IsWord}
@@ -16,7 +16,7 @@ use Rattle.av_flat.specs.WellFormed.{Fits, FitAll, EachPart, EachPartOfAll, HasS
 use Rattle.av_flat.specs.Pieces.{Part, rows_of, parts}
 use Rattle.av_flat.specs.Quantities.{of_map, steps, steps_under, composed_maps, composed_maps_of_all, piece_count}
 use Rattle.av_normal.specs.Searches.{AreNarrow}
-use Rattle.av_normal.specs.Counted.{pieces_counted, IsOfFew}
+use Rattle.av_normal.specs.Counted.{pieces_counted, IsOfFew, HasFew}
 use Rattle.av_normal.specs.Standing.{LeadsTo, AreChained, StandsUnder, StandUnder, FitsUnder, IsReadable, AreReadable}
 use Rattle.av_normal.specs.Filling.{IsFillable}
 use Rattle.av_normal.specs.Making.{maps_measured, held_parts, IsParted}
@@ -168,3 +168,8 @@ module _ (s : FlatSystem) (v : Variable) (g : IsWellFormedVariable s v) where
       held_fillable (signatures s) v.domain.dim v.domain.rows v.pieces
       (All-weaker (IsLaidPart (signatures s) SmallMap (IsWord v.width) v.domain.dim) P (λ p a. laid_fillable (signatures s) (IsWord v.width) v.domain.dim p.rows p.tree a)
       (parts (signatures s) [] (right_side v)) (laid_all s v g maps))
+
+pub few_at : {X : Type 0} (f : X → Variable) (xs : List X) (i : ℕ) (x : X) → i < length xs → x ≡ get_or xs i x → HasFew (map f xs) → IsOfFew (f x)
+few_at f [] i x l e h = absurd (omega (arith, l))
+few_at f (y ∷ xs) zero x l e h = subst (λ z. IsOfFew (f z)) (sym e) h.0
+few_at f (y ∷ xs) (suc i) x l e h = few_at f xs i x (omega (arith, l)) e h.1

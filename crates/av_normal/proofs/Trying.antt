@@ -155,29 +155,29 @@ module _ (vs : List Signature) (v : Variable) where
 
   pub all_narrow : IsNarrow (of_set v.domain) → AreNarrow (maps_measured v.pieces) → AreNarrow (parts_measured v.domain.dim own_parts) → AreNarrow (bodies_measured own_parts) → AreNarrow (measured vs v)
   all_narrow d m p b =
-      rw measured_are (d, both_narrow (maps_measured v.pieces ++ parts_measured v.domain.dim own_parts) (bodies_measured own_parts) (both_narrow (maps_measured v.pieces) (parts_measured v.domain.dim own_parts) m p) b)
+      subst AreNarrow (sym measured_are) (d, both_narrow (maps_measured v.pieces ++ parts_measured v.domain.dim own_parts) (bodies_measured own_parts) (both_narrow (maps_measured v.pieces) (parts_measured v.domain.dim own_parts) m p) b)
 
   pub wide_domain : (f : NormalFault) → IsWide (of_set v.domain ∷ []) f → IsWide (measured vs v) f
   wide_domain f w =
-      rw measured_are
+      subst (λ (os : List Measured). IsWide os f) (sym measured_are)
       (wide_before (of_set v.domain ∷ []) (maps_measured v.pieces ++ parts_measured v.domain.dim own_parts ++ bodies_measured own_parts) f w)
 
   pub wide_maps : (f : NormalFault) → IsNarrow (of_set v.domain) → IsWide (maps_measured v.pieces) f → IsWide (measured vs v) f
   wide_maps f d w =
-      rw measured_are
+      subst (λ (os : List Measured). IsWide os f) (sym measured_are)
       (wide_behind (of_set v.domain ∷ []) (maps_measured v.pieces ++ parts_measured v.domain.dim own_parts ++ bodies_measured own_parts) f (d, tt)
       (wide_before (maps_measured v.pieces ++ parts_measured v.domain.dim own_parts) (bodies_measured own_parts) f (wide_before (maps_measured v.pieces) (parts_measured v.domain.dim own_parts) f w)))
 
   pub wide_pieces : (f : NormalFault) → IsNarrow (of_set v.domain) → AreNarrow (maps_measured v.pieces) → IsWide (parts_measured v.domain.dim own_parts) f → IsWide (measured vs v) f
   wide_pieces f d m w =
-      rw measured_are
+      subst (λ (os : List Measured). IsWide os f) (sym measured_are)
       (wide_behind (of_set v.domain ∷ []) (maps_measured v.pieces ++ parts_measured v.domain.dim own_parts ++ bodies_measured own_parts) f (d, tt)
       (wide_before (maps_measured v.pieces ++ parts_measured v.domain.dim own_parts) (bodies_measured own_parts) f (wide_behind (maps_measured v.pieces) (parts_measured v.domain.dim own_parts) f m w)))
 
   pub wide_bodies : (f : NormalFault) → IsNarrow (of_set v.domain) → AreNarrow (maps_measured v.pieces) → AreNarrow (parts_measured v.domain.dim own_parts) → IsWide (bodies_measured own_parts) f
       → IsWide (measured vs v) f
   wide_bodies f d m p w =
-      rw measured_are
+      subst (λ (os : List Measured). IsWide os f) (sym measured_are)
       (wide_behind (of_set v.domain ∷ []) (maps_measured v.pieces ++ parts_measured v.domain.dim own_parts ++ bodies_measured own_parts) f (d, tt)
       (wide_behind (maps_measured v.pieces ++ parts_measured v.domain.dim own_parts) (bodies_measured own_parts) f (both_narrow (maps_measured v.pieces) (parts_measured v.domain.dim own_parts) m p) w))
 
