@@ -67,9 +67,11 @@ fn made_piece(
     ensures wide { IfErr result (IsWide (of_set (set_of domain.now.dim (held domain.now.rows (part_at (parts (signatures_of vars.now) [] (view tree.now)) number))) ∷ [])) }
 {
     let piece = piece_at(alloc, vars, domain, tree, number)?;
-    let Piece { domain, tree } = piece;
-    let domain = narrowed(domain)?;
-    Ok(Piece { domain, tree })
+    let domain = narrowed(piece.domain)?;
+    Ok(Piece {
+        domain,
+        tree: piece.tree,
+    })
 }
 
 // Puts all pieces of a tree behind others.

@@ -53,7 +53,7 @@ loop-number-preserved c =
       added = (
         old.0 ++ view_piece piece ∷ [],
         ap (λ (qs : List PieceMade). map view_piece qs) c.in_ok-push.ensures.ok ∙ map-append view_piece c.loop-number.pieces (piece ∷ [])
-        ∙ ap (λ (qs : List Piece). qs ++ view_piece piece ∷ []) old.1 ∙ append_assoc (map view_piece c.args.pieces.now) old.0 (view_piece piece ∷ []),
+            ∙ ap (λ (qs : List Piece). qs ++ view_piece piece ∷ []) old.1 ∙ append_assoc (map view_piece c.args.pieces.now) old.0 (view_piece piece ∷ []),
         one_made (AreMade dim) all old.0 (held rows (part_at own k)) (drop (k + 1) all) (view_piece piece) rest (λ qs a. (c.in_ok-made_piece.ensures.made, a)),
       );
     }

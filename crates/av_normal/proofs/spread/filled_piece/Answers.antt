@@ -13,5 +13,5 @@ returns-in_err-tree-clause-wide c =
     let rows = c.args.piece.now.domain.rows in
     let p = err_from_is_err_and c.from_residual.result c.from_residual.ensures.1 in
     rw (p.1, p.2) (λ dim own made.
-        let normal = subst (λ (n : ℕ). AreNormalised n own.rows rows) (sym made.domain.dim) made.domain.rows in
-        subst (λ (t : Tree). IsWide (map of_set (body_sets (filled own.rows t))) f) made.tree (c.in_err-tree.ensures.wide own.rows normal))
+    let normal = subst (λ (n : ℕ). AreNormalised n own.rows rows) (sym made.domain.dim) made.domain.rows in
+    subst (λ (t : Tree). IsWide (map of_set (body_sets (filled own.rows t))) f) made.tree (c.in_err-tree.ensures.wide own.rows normal))

@@ -27,9 +27,9 @@ returns-in_err-filled_piece-clause-wide c =
     let f = c.in_err-filled_piece.field-0.0 in
     let p = err_from_is_err_and c.from_residual.result c.from_residual.ensures.1 in
     rw (p.1, p.2) (λ dim ps made.
-        let r = made_at view_piece dim ps pieces i c.piece-item.result l c.piece-item.is made in
-        let next = subst (λ (qs : List Part). StandsFor (bodies_measured qs) (bodies_measured ps)) r.rest (c.loop-piece.invariant.left dim ps made) in
-        refused (map of_set (body_sets (filled r.part.rows r.part.tree))) (bodies_measured (drop (i + 1) ps)) (bodies_measured ps) f next (c.in_err-filled_piece.ensures.wide dim r.part r.made))
+    let r = made_at view_piece dim ps pieces i c.piece-item.result l c.piece-item.is made in
+    let next = subst (λ (qs : List Part). StandsFor (bodies_measured qs) (bodies_measured ps)) r.rest (c.loop-piece.invariant.left dim ps made) in
+    refused (map of_set (body_sets (filled r.part.rows r.part.tree))) (bodies_measured (drop (i + 1) ps)) (bodies_measured ps) f next (c.in_err-filled_piece.ensures.wide dim r.part r.made))
 
 pub loop-piece-preserved : goal.loop-piece-preserved
 loop-piece-preserved c =
