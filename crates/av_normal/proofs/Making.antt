@@ -1,14 +1,17 @@
 -- Lists of pieces that are made one after the other.
-use Rattle.std.proofs.Common.{◌≡◌, ℕ, zero, suc, ◌+◌, ◌<◌, ◌≤◌, List, [], ◌∷◌, ◌++◌, map, drop, length, get_or, refl, sym, ap, subst, arith, ◌∙◌, append_assoc, add-one, All}
-use Rattle.std.proofs.lemmas.List.{append-nil}
+use Rattle.std.proofs.Common.{◌≡◌, ℕ, zero, suc, ◌+◌, ◌-◌, ◌^◌, ◌<◌, ◌≤◌, min, List, [], ◌∷◌, ◌++◌, map, drop, length, get_or, refl, sym, ap, subst, arith, ◌∙◌, append_assoc, add-one, All}
+use Rattle.std.proofs.lemmas.List.{append-nil, length-map}
 use Rattle.std.proofs.lemmas.List.Elements.{All-nil, All-cons, All-head, All-tail, All-append, All-map}
 use Rattle.av_affine.specs.declared.form.Form.{Form}
-use Rattle.av_flat.specs.Trees.{Piece, trees_of, restriction}
+use Rattle.av_flat.specs.Trees.{Tree, Piece, trees_of, restriction}
 use Rattle.av_flat.specs.Signatures.{Signature}
 use Rattle.av_flat.specs.Pieces.{Part, parts, parts_of_all, with_rows}
+use Rattle.av_flat.specs.Quantities.{piece_count}
+use Rattle.av_flat.proofs.Parts.{length_parts}
 use Rattle.av_normal.specs.Numbered.{part_at}
 use Rattle.av_normal.specs.Filling.{IsFillable}
 use Rattle.av_normal.specs.Making.{held, held_parts, IsMade, AreMade, AreAdded, IsHolder, Continues}
+use Rattle.av_normal.proofs.Dropping.{nothing_left}
 use Rattle.av_normal.proofs.Laid.{all_parts}
 use Rattle.av_normal.proofs.Limits.{all_sources}
 
@@ -50,6 +53,16 @@ held_at rows ps k l = go ps k l ∙ ap (λ n. held rows (part_at ps k) ∷ drop 
     go [] k l = absurd (omega (arith, l))
     go (p ∷ ps) zero l = refl
     go (p ∷ ps) (suc k) l = go ps k (omega (arith, l))
+
+module _ (vs : List Signature) (t : Tree) (number count : ℕ) (e : count ≡ min (piece_count t) (2 ^ 128 - 1)) (few : piece_count t ≤ 256) where
+  pub number_below : number < count → number < length (parts vs [] t)
+  number_below l = let size = length_parts vs [] t in omega (arith, l, e, few, size)
+
+  pub numbers_end : (rows : List Form) → count ≤ number → drop number (with_rows rows (parts vs [] t)) ≡ []
+  numbers_end rows l =
+      let size = length_parts vs [] t in
+      let same = length-map (parts vs [] t) (held rows) in
+      nothing_left (with_rows rows (parts vs [] t)) number (omega (arith, l, e, few, size, same))
 
 -- ---- lists that grow
 

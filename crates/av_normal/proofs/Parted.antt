@@ -1,5 +1,5 @@
 -- What is known of the pieces of a well formed variable: their maps are chained, and what is read, restricted and folded fits.
-use Rattle.std.proofs.Common.{◌≡◌, ℕ, zero, suc, ◌+◌, ◌≤◌, ◌<◌, inl, inr, false, true, Bool, IsTrue, List, [], ◌∷◌, ◌++◌, length, map, Some, slice_get, get_or, refl, sym, ap, subst, ◌∙◌, arith, All}
+use Rattle.std.proofs.Common.{◌≡◌, ℕ, zero, suc, ◌≤◌, ◌<◌, inl, inr, IsTrue, List, [], ◌∷◌, ◌++◌, length, map, slice_get, get_or, refl, sym, ap, subst, ◌∙◌, arith, All}
 use Rattle.std.proofs.lemmas.List.Elements.{All-nil, All-cons, All-head, All-tail, All-map, All-weaker}
 use Rattle.std.proofs.lemmas.Option.{slice_get_cases}
 use Rattle.av_base.specs.Words.{IsWord}
@@ -9,12 +9,11 @@ use Rattle.av_affine.specs.declared.map.Map.{Map}
 use Rattle.av_poly.specs.Points.{Set}
 use Rattle.av_flat.specs.declared.flat.Kind.{Kind}
 use Rattle.av_flat.specs.declared.flat.Kind.TheVariants as kind
-use Rattle.av_flat.specs.declared.quantity.Quantity.{Quantity}
 use Rattle.av_flat.specs.Trees.{Tree, Trees, Piece, Variable, FlatSystem, reference, constant, binary, choice, restriction, cases, dependence, reduction, pick, none, more, right_side}
 use Rattle.av_flat.specs.Signatures.{Signature, signature, signatures, is_input, is_computed}
 use Rattle.av_flat.specs.WellFormed.{Fits, FitAll, EachPart, EachPartOfAll, HasSmallRows, IsInPlace, IsWellFormedPiece, IsWellFormedVariable, IsWellFormed}
 use Rattle.av_flat.specs.Pieces.{Part, rows_of, parts}
-use Rattle.av_flat.specs.Quantities.{of_map, steps, steps_under, composed_maps, composed_maps_of_all, piece_count}
+use Rattle.av_flat.specs.Quantities.{of_map, steps_under, composed_maps, composed_maps_of_all}
 use Rattle.av_normal.specs.Searches.{AreNarrow}
 use Rattle.av_normal.specs.Counted.{pieces_counted, IsOfFew, HasFew}
 use Rattle.av_normal.specs.Standing.{LeadsTo, AreChained, StandsUnder, StandUnder, FitsUnder, IsReadable, AreReadable}

@@ -1,18 +1,16 @@
-use Rattle.std.proofs.Common.{◌≡◌, ◌<◌, ◌≤◌, ◌+◌, List, [], ◌∷◌, ◌++◌, length, map, drop, rules, arith, sym, ap, subst, ◌∙◌, append_assoc}
-use Rattle.std.proofs.lemmas.List.{length-map, map-append}
+use Rattle.std.proofs.Common.{◌<◌, ◌≤◌, ◌+◌, List, [], ◌∷◌, ◌++◌, map, drop, rules, sym, ap, subst, ◌∙◌, append_assoc}
+use Rattle.std.proofs.lemmas.List.{map-append}
 use Rattle.std.proofs.lemmas.Result.{err_from_is_err_and}
 use Rattle.av_flat.specs.declared.flat.Piece.{Piece as PieceMade}
 use Rattle.av_flat.specs.Trees.{Piece, view, view_piece}
 use Rattle.av_flat.specs.Pieces.{Part, parts, with_rows}
 use Rattle.av_flat.specs.Quantities.{of_set}
-use Rattle.av_flat.proofs.Parts.{length_parts}
 use Rattle.av_normal.specs.NormalForm.{set_of}
 use Rattle.av_normal.specs.Numbered.{part_at, signatures_of}
 use Rattle.av_normal.specs.Searches.{AreNarrow}
 use Rattle.av_normal.specs.Making.{parts_measured, held, StandsFor, AreMade, Continues}
-use Rattle.av_normal.proofs.Dropping.{nothing_left}
 use Rattle.av_normal.proofs.Trying.{past, refused}
-use Rattle.av_normal.proofs.Making.{held_at, one_made, all_made}
+use Rattle.av_normal.proofs.Making.{held_at, number_below, numbers_end, one_made, all_made}
 use Rattle.av_normal.proofs.spread.append_pieces.Goals as goal
 
 pub returns-in_err-made_piece-clause-wide : goal.returns-in_err-made_piece-clause-wide
@@ -22,11 +20,8 @@ returns-in_err-made_piece-clause-wide c =
     let own = parts (signatures_of c.args.vars.now) [] (view c.args.tree.now) in
     let all = with_rows rows own in
     let k = c.loop-number.number in
-    let e = c.piece_count-count.ensures in
-    let few = c.requires.few in
-    let size = length_parts (signatures_of c.args.vars.now) [] (view c.args.tree.now) in
     let below : k < c.piece_count-count.result = search rules in
-    let l : k < length own = omega (arith, below, e, few, size) in
+    let l = number_below (signatures_of c.args.vars.now) (view c.args.tree.now) k c.piece_count-count.result c.piece_count-count.ensures c.requires.few below in
     let next = subst (λ (qs : List Part). StandsFor (parts_measured dim qs) (parts_measured dim all)) (held_at rows own k l) c.loop-number.invariant.left in
     let p = err_from_is_err_and c.from_residual.result c.from_residual.ensures.1 in
     rw (p.1, p.2)
@@ -39,11 +34,8 @@ loop-number-preserved c =
     let own = parts (signatures_of c.args.vars.now) [] (view c.args.tree.now) in
     let all = with_rows rows own in
     let k = c.loop-number.number in
-    let e = c.piece_count-count.ensures in
-    let few = c.requires.few in
-    let size = length_parts (signatures_of c.args.vars.now) [] (view c.args.tree.now) in
     let below : k < c.piece_count-count.result = search rules in
-    let l : k < length own = omega (arith, below, e, few, size) in
+    let l = number_below (signatures_of c.args.vars.now) (view c.args.tree.now) k c.piece_count-count.result c.piece_count-count.ensures c.requires.few below in
     let next = subst (λ (qs : List Part). StandsFor (parts_measured dim qs) (parts_measured dim all)) (held_at rows own k l) c.loop-number.invariant.left in
     let old = c.loop-number.invariant.added in
     let piece = c.in_ok-made_piece.field-0 in
@@ -65,12 +57,8 @@ returns-clause-added c =
     let own = parts (signatures_of c.args.vars.now) [] (view c.args.tree.now) in
     let all = with_rows rows own in
     let k = c.loop-number.number in
-    let e = c.piece_count-count.ensures in
-    let few = c.requires.few in
-    let size = length_parts (signatures_of c.args.vars.now) [] (view c.args.tree.now) in
-    let same = length-map own (held rows) in
     let past : c.piece_count-count.result ≤ k = search rules in
-    let none = nothing_left all k (omega (arith, past, e, few, size, same)) in
+    let none = numbers_end (signatures_of c.args.vars.now) (view c.args.tree.now) k c.piece_count-count.result c.piece_count-count.ensures c.requires.few rows past in
     let old = c.loop-number.invariant.added in
     record { added = old.0; is = old.1; made = all_made (AreMade dim) all old.0 tt (subst (λ (qs : List Part). Continues (AreMade dim) all old.0 qs) none old.2) }
 
@@ -81,10 +69,6 @@ returns-clause-narrow c =
     let own = parts (signatures_of c.args.vars.now) [] (view c.args.tree.now) in
     let all = with_rows rows own in
     let k = c.loop-number.number in
-    let e = c.piece_count-count.ensures in
-    let few = c.requires.few in
-    let size = length_parts (signatures_of c.args.vars.now) [] (view c.args.tree.now) in
-    let same = length-map own (held rows) in
     let past : c.piece_count-count.result ≤ k = search rules in
-    let none = nothing_left all k (omega (arith, past, e, few, size, same)) in
+    let none = numbers_end (signatures_of c.args.vars.now) (view c.args.tree.now) k c.piece_count-count.result c.piece_count-count.ensures c.requires.few rows past in
     c.loop-number.invariant.left.narrow (subst (λ (qs : List Part). AreNarrow (parts_measured dim qs)) (sym none) tt)

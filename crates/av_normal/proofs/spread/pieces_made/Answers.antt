@@ -1,12 +1,11 @@
-use Rattle.std.proofs.Common.{◌≡◌, ◌<◌, ◌≤◌, ◌+◌, List, [], ◌∷◌, ◌++◌, length, map, drop, rules, sym, ap, subst, ◌∙◌, All}
+use Rattle.std.proofs.Common.{◌≡◌, ◌<◌, ◌≤◌, ◌+◌, List, [], ◌++◌, length, map, drop, rules, sym, subst, All}
 use Rattle.std.proofs.lemmas.List.Elements.{All-append}
 use Rattle.std.proofs.lemmas.Result.{err_from_is_err_and}
-use Rattle.av_affine.specs.declared.form.Form.{Form}
 use Rattle.av_affine.specs.Forms.{IsWithinLimits}
 use Rattle.av_poly.specs.Points.{Set}
 use Rattle.av_flat.specs.declared.flat.Piece.{Piece as PieceMade}
-use Rattle.av_flat.specs.Trees.{Piece, view, view_piece}
-use Rattle.av_flat.specs.Pieces.{Part, parts, with_rows}
+use Rattle.av_flat.specs.Trees.{view, view_piece}
+use Rattle.av_flat.specs.Pieces.{parts, with_rows}
 use Rattle.av_flat.specs.Quantities.{Measured}
 use Rattle.av_normal.specs.Numbered.{signatures_of}
 use Rattle.av_normal.specs.Searches.{AreNarrow, IsWide}

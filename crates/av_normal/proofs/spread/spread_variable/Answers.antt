@@ -1,16 +1,13 @@
-use Rattle.std.proofs.Common.{◌≡◌, List, [], map, ap, sym, subst, ◌∙◌, All}
+use Rattle.std.proofs.Common.{List, [], map, ap, sym, subst, All}
 use Rattle.std.proofs.lemmas.Result.{err_from_is_err_and}
 use Rattle.av_base.specs.declared.width.Width.{Width}
 use Rattle.av_flat.specs.declared.flat.Piece.{Piece as PieceMade}
 use Rattle.av_flat.specs.declared.flat.Var.{Var}
 use Rattle.av_flat.specs.Trees.{Piece, view_piece, view_variable, view_system}
 use Rattle.av_flat.specs.Signatures.{signatures}
-use Rattle.av_flat.specs.Pieces.{Part}
 use Rattle.av_normal.specs.Numbered.{signatures_of}
-use Rattle.av_normal.specs.Searches.{AreNarrow, IsWide}
 use Rattle.av_normal.specs.Standing.{StandsUnder}
-use Rattle.av_normal.specs.Making.{maps_measured, parts_measured, held_parts, IsParted, IsHolder}
-use Rattle.av_normal.specs.Spread.{AreSpreadParts}
+use Rattle.av_normal.specs.Making.{held_parts, IsParted, IsHolder}
 use Rattle.av_normal.proofs.Trying.{pieces_are, all_narrow, wide_maps, wide_pieces, wide_bodies}
 use Rattle.av_normal.proofs.Making.{holders}
 use Rattle.av_normal.proofs.Parted.{equation_stands, equation_parted, parts_fillable}
