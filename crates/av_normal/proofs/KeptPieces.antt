@@ -18,7 +18,7 @@ use Rattle.av_flat.specs.Signatures.{Signature, signatures}
 use Rattle.av_flat.specs.Sets.{HasFewRows}
 use Rattle.av_flat.specs.WellFormed.{Fits, EachPart, EachPartOfAll, IsInPlace, HasSmallRows, HasWords, is_case, is_pick, IsWellFormedPiece, IsWellFormedVariable}
 use Rattle.av_flat.specs.Kept.{IsPlain, ReadsDeclared, HasFewOwnRows, IsKeptPiece}
-use Rattle.av_flat.specs.Quantities.{of_set, body_sets}
+use Rattle.av_flat.specs.Quantities.{of_set, composed_maps, body_sets}
 use Rattle.av_flat.specs.Pieces.{Part, parts}
 use Rattle.av_flat.proofs.Sets.{both_true, both_hold, equal, has_is}
 use Rattle.av_normal.specs.NormalForm.{IsNormalised, set_of, IsNormalVariable}
@@ -194,7 +194,7 @@ module _ (vs : List Signature) (width dim : ℕ) (rows : List Form) where
       (fine_pieces ps qs (All-tail (IsLaidPart vs SmallMap (IsWord width) dim) p ps a) k.1
       (All-tail FitsPart (made rows p) (map (made rows) ps) f) (All-tail FitBodies (made rows p) (map (made rows) ps) b))
 
-module _ (s : FlatSystem) (v : Variable) (g : IsWellFormedVariable s v) (fits : AllFit (signatures s) v) where
+module _ (s : FlatSystem) (v : Variable) (g : IsWellFormedVariable s v) (maps : All SmallMap (composed_maps [] (right_side v))) where
   -- any point of as many entries as there are indices
   abbrev corner : Point
   corner = replicate v.domain.dim (pos 0)
@@ -210,16 +210,17 @@ module _ (s : FlatSystem) (v : Variable) (g : IsWellFormedVariable s v) (fits : 
         (λ p k. (tt, each_both HasSmallRows (HasWords v.width) (Own SmallMap (IsWord v.width)) (own_of (signatures s) v.width) p.tree k.tree.rows k.tree.words)) v.pieces g.pieces),
   )
 
-  laid_all : All (IsLaidPart (signatures s) SmallMap (IsWord v.width) v.domain.dim) (parts (signatures s) [] (right_side v))
+  pub laid_all : All (IsLaidPart (signatures s) SmallMap (IsWord v.width) v.domain.dim) (parts (signatures s) [] (right_side v))
   laid_all =
       let P : ℕ → Type 0 = λ n. All (IsLaidPart (signatures s) SmallMap (IsWord v.width) n) (parts (signatures s) [] (right_side v)) in
       let Q : ℕ → Type 0 = λ n. Fits (signatures s) n (right_side v) in
       subst P corner_size (laid_parts (signatures s) SmallMap (IsWord v.width) [] (right_side v) corner (let few = g.indices in let e = corner_size in omega (arith, few, e))
-      (subst Q (sym corner_size) (right_fits s v g)) (right_in_place s v g) (right_no_pick s v g) (λ k. absurd (omega (arith, k))) own_parts fits.maps)
+      (subst Q (sym corner_size) (right_fits s v g)) (right_in_place s v g) (right_no_pick s v g) (λ k. absurd (omega (arith, k))) own_parts maps)
 
+module _ (s : FlatSystem) (v : Variable) (g : IsWellFormedVariable s v) (fits : AllFit (signatures s) v) where
   pub fine_variable : (w : Variable) → IsNormalVariable (signatures s) v w → All (IsFine (signatures s) v.width v.domain.dim v.domain.rows) w.pieces
   fine_variable w n =
-      fine_pieces (signatures s) v.width v.domain.dim v.domain.rows (parts (signatures s) [] (right_side v)) w.pieces laid_all (keep_is v.domain.dim n.pieces) fits.pieces fits.bodies
+      fine_pieces (signatures s) v.width v.domain.dim v.domain.rows (parts (signatures s) [] (right_side v)) w.pieces (laid_all s v g fits.maps) (keep_is v.domain.dim n.pieces) fits.pieces fits.bodies
 
 -- ---- what is asked of pieces
 

@@ -133,7 +133,7 @@ only_part P [] h e = absurd (omega (arith, e))
 only_part P (p ∷ ps) h e = All-head P p ps h
 
 -- without a case there is one piece
-caseless : (t : Tree) → EachPart (λ u. is_case u ≡ false) t → piece_count t ≡ 1
+pub caseless : (t : Tree) → EachPart (λ u. is_case u ≡ false) t → piece_count t ≡ 1
 caseless (reference place m) h = refl
 caseless (constant n) h = refl
 caseless (binary g l r) h = one_by_one _ _ (caseless l h.1) (caseless r h.2)

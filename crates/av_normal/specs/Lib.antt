@@ -7,3 +7,5 @@ pub mod Branches
 pub mod Filling
 pub mod Extents
 pub mod Counted
+pub mod Spread
+pub mod Making

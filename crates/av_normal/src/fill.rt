@@ -1,16 +1,20 @@
 //! The sets of reductions, with the rows of what holds them.
 
-ghost use Rattle.std.specs.Prelude.{List as Items, ◌≡◌, [], ◌∷◌, All, IfOk, IfErr, OnOk};
+ghost use Rattle.std.specs.Prelude.{List as Items, ◌≡◌, [], ◌∷◌, All, IfOk, IfErr, OnOk, map};
 ghost use Rattle.av_affine.specs.declared.form.Form.{Form};
 ghost use Rattle.av_affine.specs.Forms.{IsWithinLimits};
 ghost use Rattle.av_poly.specs.Normal.{AreNormalised};
-ghost use Rattle.av_flat.specs.Quantities.{of_set};
-ghost use Rattle.av_normal.specs.Searches.{IsNarrow, IsWide};
-ghost use Rattle.av_normal.specs.Filling.{inner_of, IsFoldable};
+ghost use Rattle.av_flat.specs.Trees.{view};
+ghost use Rattle.av_flat.specs.Pieces.{filled};
+ghost use Rattle.av_flat.specs.Quantities.{of_set, body_sets};
+ghost use Rattle.av_normal.specs.NormalForm.{HasNormalSets};
+ghost use Rattle.av_normal.specs.Searches.{IsNarrow, AreNarrow, IsWide};
+ghost use Rattle.av_normal.specs.Filling.{inner_of, IsFoldable, IsFillable};
 
 use crate::NormalFault;
 use crate::measure::narrowed;
 use av_affine::Map;
+use av_flat::Tree;
 use av_poly::Poly;
 use std::alloc::Global;
 
@@ -37,4 +41,15 @@ pub(crate) fn inner_set(
     let both = held.meet(alloc, set)?;
     let inner = narrowed(both)?;
     Ok(inner)
+}
+
+// The tree with the rows of its holder in the sets of its reductions.
+pub(crate) fn filled(alloc: Global, holder: &Poly, tree: &Tree) -> Result<Tree, NormalFault>
+    requires fillable { IsFillable holder.now.dim (view tree.now) }
+    requires rows { All IsWithinLimits holder.now.rows }
+    ensures same { IfOk result (λ t. (rows : Items Form) → AreNormalised holder.now.dim rows holder.now.rows → HasNormalSets (filled rows (view tree.now)) (view t)) }
+    ensures narrow { OnOk result ((rows : Items Form) → AreNormalised holder.now.dim rows holder.now.rows → AreNarrow (map of_set (body_sets (filled rows (view tree.now))))) }
+    ensures wide { IfErr result (λ fault. (rows : Items Form) → AreNormalised holder.now.dim rows holder.now.rows → IsWide (map of_set (body_sets (filled rows (view tree.now)))) fault) }
+{
+    Err(NormalFault::Memory)
 }

@@ -1,0 +1,108 @@
+-- Lists of pieces that are made one after the other.
+use Rattle.std.proofs.Common.{◌≡◌, ℕ, zero, suc, ◌+◌, ◌-◌, ◌^◌, ◌<◌, ◌≤◌, min, List, [], ◌∷◌, ◌++◌, map, drop, length, get_or, refl, sym, ap, subst, arith, ◌∙◌, append_assoc, add-one, All}
+use Rattle.std.proofs.lemmas.List.{append-nil, length-map}
+use Rattle.std.proofs.lemmas.List.Elements.{All-nil, All-cons, All-head, All-tail, All-append, All-map}
+use Rattle.av_affine.specs.declared.form.Form.{Form}
+use Rattle.av_flat.specs.Trees.{Tree, Piece, trees_of, restriction}
+use Rattle.av_flat.specs.Signatures.{Signature}
+use Rattle.av_flat.specs.Pieces.{Part, parts, parts_of_all, with_rows}
+use Rattle.av_flat.specs.Quantities.{piece_count}
+use Rattle.av_flat.proofs.Parts.{length_parts}
+use Rattle.av_normal.specs.Numbered.{part_at}
+use Rattle.av_normal.specs.Filling.{IsFillable}
+use Rattle.av_normal.specs.Making.{held, held_parts, IsMade, AreMade, AreAdded, IsHolder, Continues}
+use Rattle.av_normal.proofs.Dropping.{nothing_left}
+use Rattle.av_normal.proofs.Laid.{all_parts}
+use Rattle.av_normal.proofs.Limits.{all_sources}
+
+-- ---- lists that are gone through
+
+pub all_at : {X Y : Type 0} (P : Y → Type 0) (f : X → Y) (xs : List X) (i : ℕ) (x : X) → i < length xs → x ≡ get_or xs i x → All P (map f xs) → P (f x)
+all_at P f [] i x l e h = absurd (omega (arith, l))
+all_at P f (y ∷ xs) zero x l e h = subst (λ z. P (f z)) (sym e) (All-head P (f y) (map f xs) h)
+all_at P f (y ∷ xs) (suc i) x l e h = all_at P f xs i x (omega (arith, l)) e (All-tail P (f y) (map f xs) h)
+
+-- the part that has become the piece at this place
+pub record IsMadeOf (dim : ℕ) (ps : List Part) (i : ℕ) (q : Piece) : Type 0 where
+  pub part : Part
+  pub rest : drop i ps ≡ part ∷ drop (i + 1) ps
+  pub made : IsMade dim part q
+
+pub made_at : {X : Type 0} (f : X → Piece) (dim : ℕ) (ps : List Part) (xs : List X) (i : ℕ) (x : X) → i < length xs → x ≡ get_or xs i x → AreMade dim ps (map f xs) → IsMadeOf dim ps i (f x)
+made_at f dim ps xs i x l e h = let r = go ps xs i l e h in record { part = r.0; rest = r.1 ∙ ap (λ k. r.0 ∷ drop k ps) (sym (add-one i)); made = r.2 }
+  where
+    go : (ps : List Part) (xs : List _) (i : ℕ) → i < length xs → x ≡ get_or xs i x → AreMade dim ps (map f xs) → (p : Part) × (drop i ps ≡ p ∷ drop (suc i) ps) × IsMade dim p (f x)
+    go [] [] i l e h = absurd (omega (arith, l))
+    go [] (y ∷ xs) i l e h = absurd h
+    go (p ∷ ps) [] i l e h = absurd h
+    go (p ∷ ps) (y ∷ xs) zero l e h = (p, refl, subst (λ z. IsMade dim p (f z)) (sym e) h.0)
+    go (p ∷ ps) (y ∷ xs) (suc i) l e h = go ps xs i (omega (arith, l)) e h.1
+
+pub parts_end : {X : Type 0} (f : X → Piece) (dim : ℕ) (ps : List Part) (xs : List X) (i : ℕ) → length xs ≤ i → AreMade dim ps (map f xs) → drop i ps ≡ []
+parts_end f dim [] xs zero l h = refl
+parts_end f dim [] xs (suc i) l h = refl
+parts_end f dim (p ∷ ps) [] i l h = absurd h
+parts_end f dim (p ∷ ps) (y ∷ xs) zero l h = absurd (omega (arith, l))
+parts_end f dim (p ∷ ps) (y ∷ xs) (suc i) l h = parts_end f dim ps xs i (omega (arith, l)) h.1
+
+-- the part with this number comes next
+pub held_at : (rows : List Form) (ps : List Part) (k : ℕ) → k < length ps → drop k (with_rows rows ps) ≡ held rows (part_at ps k) ∷ drop (k + 1) (with_rows rows ps)
+held_at rows ps k l = go ps k l ∙ ap (λ n. held rows (part_at ps k) ∷ drop n (with_rows rows ps)) (sym (add-one k))
+  where
+    go : (ps : List Part) (k : ℕ) → k < length ps → drop k (with_rows rows ps) ≡ held rows (part_at ps k) ∷ drop (suc k) (with_rows rows ps)
+    go [] k l = absurd (omega (arith, l))
+    go (p ∷ ps) zero l = refl
+    go (p ∷ ps) (suc k) l = go ps k (omega (arith, l))
+
+module _ (vs : List Signature) (t : Tree) (number count : ℕ) (e : count ≡ min (piece_count t) (2 ^ 128 - 1)) (few : piece_count t ≤ 256) where
+  pub number_below : number < count → number < length (parts vs [] t)
+  number_below l = let size = length_parts vs [] t in omega (arith, l, e, few, size)
+
+  pub numbers_end : (rows : List Form) → count ≤ number → drop number (with_rows rows (parts vs [] t)) ≡ []
+  numbers_end rows l =
+      let size = length_parts vs [] t in
+      let same = length-map (parts vs [] t) (held rows) in
+      nothing_left (with_rows rows (parts vs [] t)) number (omega (arith, l, e, few, size, same))
+
+-- ---- lists that grow
+
+pub one_made : {X Y : Type 0} (A : List X → List Y → Type 0) (all : List X) (made : List Y) (x : X) (rest : List X) (y : Y) → Continues A all made (x ∷ rest)
+    → ((ys : List Y) → A rest ys → A (x ∷ rest) (y ∷ ys)) → Continues A all (made ++ y ∷ []) rest
+one_made A all made x rest y h f = λ ys a. subst (A all) (sym (append_assoc made (y ∷ []) ys)) (h (y ∷ ys) (f ys a))
+
+pub all_made : {X Y : Type 0} (A : List X → List Y → Type 0) (all : List X) (made : List Y) → A [] [] → Continues A all made [] → A all made
+all_made A all made a h = subst (A all) (append-nil made) (h [] a)
+
+pub both_made : (dim : ℕ) (ps qs : List Part) (xs ys : List Piece) → AreMade dim ps xs → AreMade dim qs ys → AreMade dim (ps ++ qs) (xs ++ ys)
+both_made dim [] qs [] ys h k = k
+both_made dim [] qs (x ∷ xs) ys h k = absurd h
+both_made dim (p ∷ ps) qs [] ys h k = absurd h
+both_made dim (p ∷ ps) qs (x ∷ xs) ys h k = (h.0, both_made dim ps qs xs ys h.1 k)
+
+pub more_made : (dim : ℕ) (all ps rest : List Part) (made new : List Piece) → AreAdded dim ps made new → Continues (AreMade dim) all made (ps ++ rest) → Continues (AreMade dim) all new rest
+more_made dim all ps rest made new a h = λ ys k.
+    subst (AreMade dim all) (sym (append_assoc made a.added ys) ∙ ap (λ zs. zs ++ ys) (sym a.is)) (h (a.added ++ ys) (both_made dim ps rest a.added ys a.made k))
+
+-- ---- pieces whose reductions can take their rows
+
+pub holders : (dim : ℕ) (ps : List Part) (qs : List Piece) → AreMade dim ps qs → All (λ p. IsFillable dim p.tree) ps → All IsHolder qs
+holders dim [] [] h f = All-nil IsHolder
+holders dim [] (q ∷ qs) h f = absurd h
+holders dim (p ∷ ps) [] h f = absurd h
+holders dim (p ∷ ps) (q ∷ qs) h f =
+    let P : Part → Type 0 = λ p. IsFillable dim p.tree in
+    let m = h.0 in
+    All-cons IsHolder q qs
+    (record { fillable = subst (λ t. IsFillable q.domain.dim t) (sym m.tree) (subst (λ (n : ℕ). IsFillable n p.tree) (sym m.domain.dim) (All-head P p ps f)); small = m.small })
+    (holders dim ps qs h.1 (All-tail P p ps f))
+
+pub held_fillable : (vs : List Signature) (dim : ℕ) (rows : List Form) (es : List Piece) → All (λ p. IsFillable dim p.tree) (parts_of_all vs [] (trees_of (map (λ e. restriction e.domain e.tree) es)))
+    → All (λ p. IsFillable dim p.tree) (held_parts vs rows es)
+held_fillable vs dim rows [] h = All-nil (λ p. IsFillable dim p.tree)
+held_fillable vs dim rows (e ∷ es) h =
+    let P : Part → Type 0 = λ p. IsFillable dim p.tree in
+    let own = parts vs [] e.tree in
+    let both = all_parts P (with_rows e.domain.rows own) (parts_of_all vs [] (trees_of (map (λ (e : Piece). restriction e.domain e.tree) es))) h in
+    All-append P (with_rows (rows ++ e.domain.rows) own) (held_parts vs rows es)
+    (All-map P (held (rows ++ e.domain.rows)) own (all_sources P (held e.domain.rows) own both.0))
+    (held_fillable vs dim rows es both.1)
