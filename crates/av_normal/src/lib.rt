@@ -10,8 +10,10 @@ mod fill;
 mod keep;
 mod laws;
 mod measure;
+mod normal;
 mod rows;
 mod spread;
 
 pub use fault::NormalFault;
 pub use laws::{normal_forms_are_kept, normal_forms_are_proper, normal_forms_show_the_same};
+pub use normal::Normal;
