@@ -8,3 +8,6 @@ pub mod Filling
 pub mod Extents
 pub mod Counted
 pub mod Spread
+pub mod Alongside
+pub mod Domains
+pub mod Sifted

@@ -12,6 +12,7 @@ mod laws;
 mod measure;
 mod normal;
 mod rows;
+mod sift;
 mod spread;
 
 pub use fault::NormalFault;
