@@ -1,5 +1,5 @@
 -- The first item of a list of which something holds, by cases on the list.
-use Rattle.std.proofs.Common.{◌≡◌, ℕ, ◌<◌, ◌≤◌, ◌-◌, ◌^◌, min, Bool, true, false, IsTrue, inl, inr, List, [], ◌∷◌, ◌++◌, refl, sym, ap, subst, ◌∙◌, arith, cond}
+use Rattle.std.proofs.Common.{◌≡◌, ℕ, ◌<◌, ◌≤◌, ◌-◌, ◌^◌, min, Bool, true, false, IsTrue, ◌⊎◌, ⊎_elim, inl, inr, length, List, [], ◌∷◌, ◌++◌, refl, sym, ap, subst, ◌∙◌, arith, cond}
 use Rattle.std.specs.List.{AllByRecursion, filter}
 use Rattle.std.proofs.lemmas.List.{append_assoc, append-nil}
 use Rattle.std.proofs.lemmas.List.Elements.{All-nil, All-cons}
@@ -111,3 +111,9 @@ one_along R x xs all y made f r rest h = subst (λ ys. Alongside R all ys) (sym 
 
 pub made_along : {X Y : Type 0} (R : X → Y → Type 0) (all : List X) (made : List Y) → ((rest : List Y) → Alongside R [] rest → Alongside R all (made ++ rest)) → Alongside R all made
 made_along R all made f = subst (λ ys. Alongside R all ys) (append-nil made) (f [] tt)
+
+-- where one of the two has ended, the first has
+pub none_left : {X Y : Type 0} (R : X → Y → Type 0) (xs : List X) (ys : List Y) → Alongside R xs ys → (length xs ≡ 0) ⊎ (length ys ≡ 0) → xs ≡ []
+none_left R [] ys a h = refl
+none_left R (x ∷ xs) [] a h = absurd a
+none_left R (x ∷ xs) (y ∷ ys) a h = ⊎_elim (λ e. absurd (omega (arith, e))) (λ e. absurd (omega (arith, e))) h

@@ -1,5 +1,5 @@
 -- Pieces that are kept where they have a point are those of the normal form.
-use Rattle.std.proofs.Common.{◌≡◌, ◌↔◌, ℕ, ◌≤◌, ◌≤ℤ◌, pos, ℤ, List, [], ◌∷◌, ◌++◌, map, max, Option, Some, None, sym, subst, ◌∙◌, arith, append_assoc}
+use Rattle.std.proofs.Common.{◌≡◌, ◌↔◌, ℕ, ◌≤◌, ◌≤ℤ◌, pos, ℤ, List, [], ◌∷◌, ◌++◌, map, max, Option, Some, None, refl, sym, ap, subst, ◌∙◌, arith, append_assoc}
 use Rattle.std.specs.List.{AllByRecursion}
 use Rattle.std.proofs.lemmas.List.{append-nil}
 use Rattle.av_affine.specs.declared.form.Form.{Form}
@@ -8,7 +8,8 @@ use Rattle.av_poly.specs.declared.poly.Bounds.{Bounds}
 use Rattle.av_poly.specs.Points.{Set, Has, HoldsAt}
 use Rattle.av_poly.proofs.Normalising.{normal_set}
 use Rattle.av_elim.proofs.Merging.{all_left}
-use Rattle.av_flat.specs.Trees.{Piece, Variable, right_side}
+use Rattle.av_flat.specs.declared.flat.Piece.{Piece as PieceMade}
+use Rattle.av_flat.specs.Trees.{Piece, Variable, right_side, view_piece}
 use Rattle.av_flat.specs.Signatures.{Signature}
 use Rattle.av_flat.specs.Pieces.{Part, part, parts, filled, pieces_of}
 use Rattle.av_normal.specs.NormalForm.{set_of, AreKeptOf, ended, dropped, kept, IsNormalVariable, AreNormalVariables}
@@ -29,6 +30,13 @@ one_left_out q qs all made f e rest h = f rest (left_out e h)
 pub one_stays : (q : Piece) (qs all made : List Piece) → ((rest : List Piece) → AreSifted (q ∷ qs) rest → AreSifted all (made ++ rest)) → (z : List ℤ) → Has q.domain z
     → (rest : List Piece) → AreSifted qs rest → AreSifted all ((made ++ q ∷ []) ++ rest)
 one_stays q qs all made f z p rest h = subst (λ (rs : List Piece). AreSifted all rs) (sym (append_assoc made (q ∷ []) rest)) (f (q ∷ rest) (stays z p h))
+
+pub sifted_all : (all made : List Piece) → ((rest : List Piece) → AreSifted [] rest → AreSifted all (made ++ rest)) → AreSifted all made
+sifted_all all made f = subst (λ (rs : List Piece). AreSifted all rs) (append-nil made) (f [] nothing)
+
+pub seen_push : (pieces : List PieceMade) (p : PieceMade) → map view_piece (pieces ++ p ∷ []) ≡ map view_piece pieces ++ view_piece p ∷ []
+seen_push [] p = refl
+seen_push (q ∷ pieces) p = ap (λ rs. view_piece q ∷ rs) (seen_push pieces p)
 
 pub all_left_out : (qs : List Piece) → AllByRecursion IsEmpty qs → AreSifted qs []
 all_left_out [] h = nothing
