@@ -9,3 +9,6 @@ pub mod Extents
 pub mod Counted
 pub mod Spread
 pub mod Making
+pub mod Alongside
+pub mod Domains
+pub mod Sifted

@@ -11,8 +11,11 @@ mod keep;
 mod laws;
 mod measure;
 mod piece;
+mod normal;
 mod rows;
+mod sift;
 mod spread;
 
 pub use fault::NormalFault;
 pub use laws::{normal_forms_are_kept, normal_forms_are_proper, normal_forms_show_the_same};
+pub use normal::Normal;
