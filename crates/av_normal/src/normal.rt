@@ -6,6 +6,10 @@ ghost use Rattle.av_flat.specs.WellFormed.{IsWellFormed};
 ghost use Rattle.av_normal.specs.NormalFaults.{IsGiven, IsFault};
 
 use crate::NormalFault;
+use crate::bounded::{boxes_fit, extents};
+use crate::count::few_pieces;
+use crate::sift::kept_variables;
+use crate::spread::spread;
 use av_flat::{Feeds, Flat, Pass};
 use std::alloc::Global;
 
@@ -15,7 +19,15 @@ fn normal_form(alloc: Global, flat: &Flat) -> Result<Flat, NormalFault>
     ensures given { IfOk result (λ to. IsGiven (view_system flat.now) (view_system to)) }
     ensures fault { IfErr result (IsFault (view_system flat.now)) }
 {
-    Err(NormalFault::Memory)
+    few_pieces(flat.vars.as_slice())?;
+    let spread = spread(alloc, flat)?;
+    let extents = extents(alloc, flat.vars.as_slice())?;
+    boxes_fit(extents.as_slice())?;
+    let vars = kept_variables(alloc, spread.as_slice(), extents.as_slice())?;
+    Ok(Flat {
+        width: flat.width,
+        vars,
+    })
 }
 
 /// Brings every variable to its kept pieces (Mauras 1989; Wilde's reports on Alpha): those of its pieces that have a point,
