@@ -8,9 +8,8 @@ use Rattle.av_flat.specs.Signatures.{signatures}
 use Rattle.av_normal.specs.Counted.{HasFew, IsOfMany}
 use Rattle.av_normal.specs.NormalForm.{IsNormalForm}
 use Rattle.av_normal.specs.Spread.{AreSpread}
-use Rattle.av_normal.specs.Alongside.{Alongside, IsFirstOf}
-use Rattle.av_normal.specs.Domains.{HasNarrowDomain, IsDeclaredExtent, IsEndless, IsSmallExtent, IsLargeExtent}
-use Rattle.av_normal.specs.Sifted.{IsSifted}
+use Rattle.av_normal.specs.Alongside.{Alongside}
+use Rattle.av_normal.specs.Domains.{HasNarrowDomain, IsDeclaredExtent, IsEndless, IsSmallExtent}
 use Rattle.av_normal.proofs.Causes.{few_indices, narrow_domains, many_fault, wide_fault, endless_fault, box_fault, no_cause, bounded_domains}
 use Rattle.av_normal.proofs.KeptSystems.{kept}
 use Rattle.av_normal.proofs.Sifting.{all_held, normal_variables}
