@@ -30,13 +30,15 @@ fn normal_form(alloc: Global, flat: &Flat) -> Result<Flat, NormalFault>
     })
 }
 
-/// Brings every variable to its kept pieces (Mauras 1989; Wilde's reports on Alpha): those of its pieces that have a point,
-/// in their order. Operators are distributed over cases and restrictions, the first operand slowest, dependences are composed
-/// away, and each piece has the rows of its references, of its restrictions at the image and of the declared domain.
+/// Brings every variable to its kept pieces: those of its pieces that have a point, in their order (Mauras 1989;
+/// Wilde's reports on Alpha). Operators are distributed over cases and restrictions, the first operand slowest,
+/// dependences are composed away, and a piece has the rows of its references, of its restrictions at the image and
+/// of the declared domain.
 ///
-/// What it refuses it refuses for the first cause that holds, in this order: more than 256 pieces in an equation, counted before
-/// any is dropped; normalised rows or a composed map above a limit, variable by variable; a declared domain without an end; a
-/// coordinate above 4,095 or a box of more than 65,536 points.
+/// What it refuses it refuses for the first of these that holds: more than 256 pieces in an equation, counted before
+/// any is dropped; a set or a composed map above a limit, variable by variable, and in each its domain, its maps,
+/// its pieces and their bodies; a declared domain without an end; a declared domain with a coordinate above 4,095 or
+/// a box of more than 65,536 points.
 #[derive(Clone, Copy, Debug, Drop)]
 pub struct Normal;
 
