@@ -1,10 +1,10 @@
 -- Two lists of normalised rows of one list have the same rational points and directions.
-use Rattle.std.proofs.Common.{◌≡◌, ℕ, ℤ, pos, ◌≤ℤ◌, List, [], ◌∷◌}
+use Rattle.std.proofs.Common.{ℕ, ℤ, pos, ◌≤ℤ◌, List, [], ◌∷◌}
 use Rattle.std.specs.List.{AllByRecursion}
 use Rattle.av_affine.specs.declared.form.Form.{Form}
 use Rattle.av_affine.specs.Numbers.{dot}
 use Rattle.av_poly.specs.Normal.{AreNormalised}
-use Rattle.av_poly.specs.Rational.{homogeneous, Satisfies, IsRationalPoint, HasRationalPoint, IsDirection, IsRationalRay, IsWithinBounds}
+use Rattle.av_poly.specs.Rational.{homogeneous, Satisfies, IsRationalPoint, HasRationalPoint, IsRationalRay, IsWithinBounds}
 use Rattle.av_normal.proofs.Once.{each_alike}
 
 abbrev AtRow : List ℤ → Form → Type 0

@@ -1,26 +1,23 @@
 -- Which causes a system has for a fault, by what was found of its pieces, sets and boxes.
-use Rattle.std.proofs.Common.{◌≡◌, ℕ, ◌≤◌, List, [], ◌∷◌, map, arith, Option, Some, None, inl, inr, ⊎_elim, refl, All}
+use Rattle.std.proofs.Common.{◌≡◌, ℕ, ◌≤◌, List, [], ◌∷◌, arith, Option, Some, None, inl, inr, ⊎_elim, refl, All}
 use Rattle.std.specs.List.{AllByRecursion, flat_map}
-use Rattle.std.proofs.lemmas.List.Elements.{All-head, All-weaker, recursion_from_All, All-from_recursion}
-use Rattle.av_tree.specs.Trees.{Text}
+use Rattle.std.proofs.lemmas.List.Elements.{All-weaker, recursion_from_All, All-from_recursion}
 use Rattle.av_poly.specs.declared.poly.Bounds.{Bounds}
 use Rattle.av_poly.specs.Points.{Set}
 use Rattle.av_flat.specs.declared.quantity.Quantity.{Quantity}
-use Rattle.av_flat.specs.Trees.{Variable, FlatSystem, right_side}
+use Rattle.av_flat.specs.Trees.{Variable, FlatSystem}
 use Rattle.av_flat.specs.Signatures.{Signature, signatures}
 use Rattle.av_flat.specs.Sets.{HasFewRows, IsUnbounded, IsBounded}
 use Rattle.av_flat.specs.WellFormed.{IsWellFormedVariable, IsWellFormed}
-use Rattle.av_flat.specs.Pieces.{Part, pieces_of}
-use Rattle.av_flat.specs.Quantities.{IsFirst, Measured, of_set, of_map, measured, composed_maps, body_sets, IsOver, IsOverBox, HasManyPieces, HasUnbounded, HasLargeBox}
+use Rattle.av_flat.specs.Quantities.{of_set, measured, IsOver, IsOverBox, HasLargeBox}
 use Rattle.av_normal.specs.declared.fault.NormalFault.{NormalFault}
 use Rattle.av_normal.specs.declared.fault.NormalFault.TheVariants as fault
 use Rattle.av_normal.specs.NormalFaults.{HasFewPieces, HasNarrowSets, HasEnds, IsFault}
-use Rattle.av_normal.specs.Searches.{IsNarrow}
 use Rattle.av_normal.specs.Counted.{HasFew, IsOfMany}
 use Rattle.av_normal.specs.Spread.{IsWideIn}
 use Rattle.av_normal.specs.Alongside.{Alongside, IsFirstOf}
 use Rattle.av_normal.specs.Domains.{HasNarrowDomain, IsDeclaredExtent, HasEnd, IsWithoutEnd, IsEndless, IsSmallExtent, IsLargeExtent}
-use Rattle.av_normal.proofs.Firsts.{IsMany, IsNumber, computed, first_with, no_first, along_first, along_all, along_each, never_first, first_of_many, none_of_many}
+use Rattle.av_normal.proofs.Firsts.{IsMany, computed, first_with, no_first, along_first, along_all, along_each, never_first, first_of_many, none_of_many}
 use Rattle.av_normal.proofs.Limits.{IsWithin, none_first, all_spread_parts, few_rows}
 use Rattle.av_normal.proofs.Ends.{has_end}
 use Rattle.av_normal.proofs.DomainBoxes.{large_box, no_large_box, bounded_domain}

@@ -1,5 +1,5 @@
 -- Declared domains with an end and without.
-use Rattle.std.proofs.Common.{◌≡◌, ◌≢◌, ℕ, ◌<◌, ℤ, pos, List, ◌∷◌, length, get_or, Option, Some, None, inr, sym, ◌∙◌, ⊎_elim, arith}
+use Rattle.std.proofs.Common.{◌≢◌, ℕ, ◌<◌, ℤ, pos, List, ◌∷◌, Option, Some, None, inr, sym, ◌∙◌, ⊎_elim, arith}
 use Rattle.std.specs.List.{Any}
 use Rattle.std.proofs.lemmas.List.{get_or_default}
 use Rattle.av_affine.specs.declared.form.Form.{Form}

@@ -1,5 +1,5 @@
 -- The first item of a list of which something holds, by cases on the list.
-use Rattle.std.proofs.Common.{◌≡◌, ℕ, ◌<◌, ◌≤◌, ◌-◌, ◌^◌, min, Bool, true, false, IsTrue, ◌⊎◌, ⊎_elim, inl, inr, length, List, [], ◌∷◌, ◌++◌, refl, sym, ap, subst, ◌∙◌, arith, cond}
+use Rattle.std.proofs.Common.{◌≡◌, ℕ, ◌<◌, ◌-◌, ◌^◌, min, Bool, true, false, IsTrue, ◌⊎◌, ⊎_elim, inl, inr, length, List, [], ◌∷◌, ◌++◌, refl, sym, ap, subst, arith, cond}
 use Rattle.std.specs.List.{AllByRecursion, filter}
 use Rattle.std.proofs.lemmas.List.{append_assoc, append-nil}
 use Rattle.std.proofs.lemmas.List.Elements.{All-nil, All-cons}
@@ -7,7 +7,7 @@ use Rattle.av_flat.specs.Trees.{Variable, right_side}
 use Rattle.av_flat.specs.Signatures.{is_computed}
 use Rattle.av_flat.specs.Quantities.{IsFirst, piece_count}
 use Rattle.av_normal.specs.Alongside.{Alongside, IsFirstOf}
-use Rattle.av_normal.specs.Counted.{IsOfFew, HasMany, HasFew, IsFirstOfMany}
+use Rattle.av_normal.specs.Counted.{IsOfFew, HasFew, IsFirstOfMany}
 
 -- Q holds of the first of which P holds
 abbrev pub FirstWith : {X : Type 0} → (X → Type 0) → (X → Type 0) → List X → Type 0

@@ -1,11 +1,9 @@
 -- Pieces that are kept where they have a point are those of the normal form.
-use Rattle.std.proofs.Common.{◌≡◌, ◌↔◌, ℕ, ◌≤◌, ◌≤ℤ◌, pos, ℤ, List, [], ◌∷◌, ◌++◌, map, max, Option, Some, None, refl, sym, ap, subst, ◌∙◌, arith, append_assoc}
+use Rattle.std.proofs.Common.{◌≡◌, ◌↔◌, ℕ, ◌≤◌, ℤ, List, [], ◌∷◌, ◌++◌, map, Option, Some, None, refl, sym, ap, subst, ◌∙◌, arith, append_assoc}
 use Rattle.std.specs.List.{AllByRecursion}
 use Rattle.std.proofs.lemmas.List.{append-nil}
-use Rattle.av_affine.specs.declared.form.Form.{Form}
-use Rattle.av_affine.specs.Numbers.{greatest}
 use Rattle.av_poly.specs.declared.poly.Bounds.{Bounds}
-use Rattle.av_poly.specs.Points.{Set, Has, HoldsAt}
+use Rattle.av_poly.specs.Points.{Has, HoldsAt}
 use Rattle.av_poly.proofs.Normalising.{normal_set}
 use Rattle.av_elim.proofs.Merging.{all_left}
 use Rattle.av_flat.specs.declared.flat.Piece.{Piece as PieceMade}
@@ -99,12 +97,12 @@ held vs v y (Some b) few s (rows, n, e, four) small =
       most_at 4095 b.low (omega (arith, g, m)),
       most_at 4095 b.high (omega (arith, g, m)),
       each_piece v (IsInside b)
-      (λ p q k. let d = k.domain.dim in record {
-        dim = omega (arith, d, few);
-        rows = k.small;
-        between = λ z h. e.1 z (normal_point v rows n z (declared_point v p q k z h));
-      })
-      (parts vs [] (right_side v)) y.pieces s.pieces,
+          (λ p q k. let d = k.domain.dim in record {
+            dim = omega (arith, d, few);
+            rows = k.small;
+            between = λ z h. e.1 z (normal_point v rows n z (declared_point v p q k z h));
+          })
+          (parts vs [] (right_side v)) y.pieces s.pieces,
     )
 
 pub all_held : (vs : List Signature) (xs ys : List Variable) (es : List (Option Bounds)) → AllByRecursion (λ v. v.domain.dim ≤ 4) xs → AreSpread vs xs ys → Alongside IsDeclaredExtent xs es → AllByRecursion IsSmallExtent es

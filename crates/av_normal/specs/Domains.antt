@@ -1,9 +1,8 @@
 -- The boxes of the declared domains of variables, and the first that is without an end or large. Only private contracts cite this.
-use Rattle.std.specs.Prelude.{◌≡◌, ℕ, ◌≤◌, ◌≤ℤ◌, pos, ◌++◌, List, length, Option, Some, None}
+use Rattle.std.specs.Prelude.{◌≡◌, ◌≤◌, ◌≤ℤ◌, pos, ◌++◌, List, length, Option, Some, None}
 use Rattle.av_affine.specs.declared.form.Form.{Form}
 use Rattle.av_affine.specs.Numbers.{greatest}
 use Rattle.av_poly.specs.declared.poly.Bounds.{Bounds}
-use Rattle.av_poly.specs.Points.{Set}
 use Rattle.av_poly.specs.Normal.{AreNormalised}
 use Rattle.av_tree.specs.Trees.{Text}
 use Rattle.av_flat.specs.Trees.{Variable}

@@ -1,5 +1,5 @@
 -- Pieces of which those without a point are left out. Only private contracts cite this.
-use Rattle.std.specs.Prelude.{◌≡◌, ℕ, ◌≤◌, ℤ, List, [], ◌∷◌, All, Option, Some, None}
+use Rattle.std.specs.Prelude.{◌≡◌, ◌≤◌, ℤ, List, [], ◌∷◌, All, Option, Some, None}
 use Rattle.std.specs.List.{AllByRecursion}
 use Rattle.av_affine.specs.Numbers.{AtMost}
 use Rattle.av_affine.specs.Forms.{IsWithinLimits}

@@ -23,11 +23,7 @@ const MOST_COORDINATE: u128 = 4095;
 const MOST_POINTS: i128 = 65_536;
 
 // The box of a variable's domain, whose rows are normalised; None where it has no box.
-fn extent(
-    alloc: Global,
-    name: &Name,
-    domain: &Poly,
-) -> Result<Option<Bounds>, NormalFault>
+fn extent(alloc: Global, name: &Name, domain: &Poly) -> Result<Option<Bounds>, NormalFault>
     requires dim { domain.now.dim ≤ 4 }
     requires rows { All IsWithinLimits domain.now.rows }
     requires few { length domain.now.rows ≤ 20 }

@@ -6,6 +6,10 @@ ghost use Rattle.av_flat.specs.WellFormed.{IsWellFormed};
 ghost use Rattle.av_normal.specs.NormalFaults.{IsGiven, IsFault};
 
 use crate::NormalFault;
+use crate::bounded::{boxes_fit, extents};
+use crate::count::few_pieces;
+use crate::sift::kept_variables;
+use crate::spread::spread;
 use av_flat::{Feeds, Flat, Pass};
 use std::alloc::Global;
 
@@ -15,16 +19,26 @@ fn normal_form(alloc: Global, flat: &Flat) -> Result<Flat, NormalFault>
     ensures given { IfOk result (λ to. IsGiven (view_system flat.now) (view_system to)) }
     ensures fault { IfErr result (IsFault (view_system flat.now)) }
 {
-    Err(NormalFault::Memory)
+    few_pieces(flat.vars.as_slice())?;
+    let spread = spread(alloc, flat)?;
+    let extents = extents(alloc, flat.vars.as_slice())?;
+    boxes_fit(extents.as_slice())?;
+    let vars = kept_variables(alloc, spread.as_slice(), extents.as_slice())?;
+    Ok(Flat {
+        width: flat.width,
+        vars,
+    })
 }
 
-/// Brings every variable to its kept pieces (Mauras 1989; Wilde's reports on Alpha): those of its pieces that have a point,
-/// in their order. Operators are distributed over cases and restrictions, the first operand slowest, dependences are composed
-/// away, and each piece has the rows of its references, of its restrictions at the image and of the declared domain.
+/// Brings every variable to its kept pieces: those of its pieces that have a point, in their order (Mauras 1989;
+/// Wilde's reports on Alpha). Operators are distributed over cases and restrictions, the first operand slowest,
+/// dependences are composed away, and a piece has the rows of its references, of its restrictions at the image and
+/// of the declared domain.
 ///
-/// What it refuses it refuses for the first cause that holds, in this order: more than 256 pieces in an equation, counted before
-/// any is dropped; normalised rows or a composed map above a limit, variable by variable; a declared domain without an end; a
-/// coordinate above 4,095 or a box of more than 65,536 points.
+/// What it refuses it refuses for the first of these that holds: more than 256 pieces in an equation, counted before
+/// any is dropped; a set or a composed map above a limit, variable by variable, and in each its domain, its maps,
+/// its pieces and their bodies; a declared domain without an end; a declared domain with a coordinate above 4,095 or
+/// a box of more than 65,536 points.
 #[derive(Clone, Copy, Debug, Drop)]
 pub struct Normal;
 

@@ -1,5 +1,4 @@
-use Rattle.std.proofs.Common.{List, refl, ap, subst, ◌∙◌}
-use Rattle.av_affine.specs.declared.form.Form.{Form}
+use Rattle.std.proofs.Common.{refl, ap, subst, ◌∙◌}
 use Rattle.av_poly.specs.Points.{Set}
 use Rattle.av_poly.specs.Normal.{AreNormalised}
 use Rattle.av_normal.specs.Extents.{IsExtent, IsEndlessOf}

@@ -1,4 +1,4 @@
-use Rattle.std.proofs.Common.{◌≡◌, ℕ, ◌<◌, ◌≤◌, ◌+◌, ◌++◌, ◌∷◌, [], length, map, drop, rules, List, Option, inl, inr, sym, subst}
+use Rattle.std.proofs.Common.{◌<◌, ◌≤◌, ◌+◌, ◌++◌, length, map, drop, rules, List, Option, sym, subst}
 use Rattle.std.specs.List.{AllByRecursion}
 use Rattle.av_poly.specs.declared.poly.Bounds.{Bounds}
 use Rattle.av_flat.specs.declared.flat.Var.{Var}

@@ -1,4 +1,4 @@
-use Rattle.std.proofs.Common.{◌≡◌, ℕ, ◌<◌, ◌≤◌, ◌+◌, ◌++◌, ◌∷◌, [], length, map, drop, rules, List, Bool, ap, sym, subst, ◌∙◌}
+use Rattle.std.proofs.Common.{◌≡◌, ◌<◌, ◌≤◌, ◌+◌, ◌++◌, ◌∷◌, [], length, map, drop, rules, List, Bool, ap, sym, subst, ◌∙◌}
 use Rattle.std.specs.List.{AllByRecursion}
 use Rattle.av_flat.specs.declared.flat.Piece.{Piece as PieceMade}
 use Rattle.av_flat.specs.Trees.{Piece, view_piece}
@@ -24,19 +24,19 @@ loop-piece-preserved c =
     let says : Bool → Type 0 = λ b. SaysPoint c.piece-item.result.domain b in
     elim c.if-branch.branch [
       | then-branch+in_ok-copy_piece+in_ok-push w ↦
-        let z = subst says w.if-branch.true c.in_ok-has_point.ensures in
-        let e : map view_piece c.if-branch.kept ≡ map view_piece kept ++ q ∷ [] =
-        ap (λ (ps : List PieceMade). map view_piece ps) (w.kept-is ∙ w.in_ok-push.ensures.ok) ∙ seen_push kept w.in_ok-copy_piece.field-0 ∙ ap (λ (r : Piece). map view_piece kept ++ r ∷ []) w.in_ok-copy_piece.ensures in
-        record {
-          inside = inside.1;
-          made = subst (λ (now : List Piece). (rs : List Piece) → AreSifted rest rs → AreSifted all (now ++ rs)) (sym e) (one_stays q rest all (map view_piece kept) made z.0 z.1);
-        }
+          let z = subst says w.if-branch.true c.in_ok-has_point.ensures in
+          let e : map view_piece c.if-branch.kept ≡ map view_piece kept ++ q ∷ [] =
+          ap (λ (ps : List PieceMade). map view_piece ps) (w.kept-is ∙ w.in_ok-push.ensures.ok) ∙ seen_push kept w.in_ok-copy_piece.field-0 ∙ ap (λ (r : Piece). map view_piece kept ++ r ∷ []) w.in_ok-copy_piece.ensures in
+          record {
+            inside = inside.1;
+            made = subst (λ (now : List Piece). (rs : List Piece) → AreSifted rest rs → AreSifted all (now ++ rs)) (sym e) (one_stays q rest all (map view_piece kept) made z.0 z.1);
+          }
       | else-branch w ↦
-        let none = subst says w.if-branch.false c.in_ok-has_point.ensures in
-        record {
-          inside = inside.1;
-          made = subst (λ (now : List PieceMade). (rs : List Piece) → AreSifted rest rs → AreSifted all (map view_piece now ++ rs)) (sym w.kept-is) (one_left_out q rest all (map view_piece kept) made none);
-        }
+          let none = subst says w.if-branch.false c.in_ok-has_point.ensures in
+          record {
+            inside = inside.1;
+            made = subst (λ (now : List PieceMade). (rs : List Piece) → AreSifted rest rs → AreSifted all (map view_piece now ++ rs)) (sym w.kept-is) (one_left_out q rest all (map view_piece kept) made none);
+          }
     ]
 
 pub returns : goal.returns
