@@ -10,7 +10,9 @@ mod fill;
 mod keep;
 mod laws;
 mod measure;
+mod normal;
 mod rows;
 
 pub use fault::NormalFault;
 pub use laws::{normal_forms_are_kept, normal_forms_are_proper, normal_forms_show_the_same};
+pub use normal::Normal;
