@@ -1,3 +1,4 @@
+ghost use Rattle.std.specs.Prelude.{◌≡◌};
 ghost use Rattle.av_compile.specs.Refusals.{of_lex, of_parse, of_names, of_normal, of_check};
 
 use av_base::{Name, Place, Point};
