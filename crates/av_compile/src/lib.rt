@@ -17,3 +17,6 @@ pub use front::checked;
 pub use law::one_form;
 pub use refusal::Refusal;
 pub use text_refusal::TextRefusal;
+
+#[cfg(test)]
+mod tests;
