@@ -4,3 +4,5 @@ pub mod Said
 pub mod Cell
 pub mod Forms
 pub mod Reading
+pub mod Refusals
+pub mod Checked

@@ -1,0 +1,52 @@
+-- What is answered of the bytes of a text, with sizes, in words of a width: five steps, of which the first that finds a fault answers.
+use Rattle.std.specs.Prelude.{◌≡◌, ℕ, List}
+use Rattle.av_base.specs.Tokens.{Token, IsText, start}
+use Rattle.av_tree.specs.Trees.{System}
+use Rattle.av_tree.specs.Grammar.{IsProgram, IsProgramText, levels}
+use Rattle.av_flat.specs.Trees.{FlatSystem}
+use Rattle.av_flat.specs.Proper.{IsProper}
+use Rattle.av_lex.specs.declared.fault.LexFault.{LexFault}
+use Rattle.av_lex.specs.Faults as lexed
+use Rattle.av_parse.specs.declared.fault.ParseFault.{ParseFault}
+use Rattle.av_names.specs.declared.size.Size.{Size}
+use Rattle.av_names.specs.declared.fault.NameFault.{NameFault}
+use Rattle.av_names.specs.Accepted.{instance_of}
+use Rattle.av_names.specs.Flattened.{flat_of}
+use Rattle.av_names.specs.Refusals.{IsAccepted, IsRefusal}
+use Rattle.av_normal.specs.declared.fault.NormalFault.{NormalFault}
+use Rattle.av_normal.specs.declared.fault.NormalFault.TheVariants as normal
+use Rattle.av_normal.specs.NormalFaults as normalised
+use Rattle.av_normal.specs.NormalFaults.{IsGiven}
+use Rattle.av_check.specs.declared.fault.CheckFault.{CheckFault}
+use Rattle.av_check.specs.CheckFaults as checked
+use Rattle.av_compile.specs.declared.text_refusal.TextRefusal.{TextRefusal}
+use Rattle.av_compile.specs.Refusals.{of_lex, of_parse, of_names, of_normal, of_check}
+
+-- the bytes spell a system that is accepted with these sizes, and this is its flat system
+pub record Flattens (bytes : List ℕ) (words : List Size) (width : ℕ) (s : FlatSystem) : Type 0 where
+  pub system : System
+  pub text : IsProgramText bytes system
+  pub accepted : IsAccepted system words
+  pub flat : s ≡ flat_of (instance_of system words width)
+
+-- nothing keeps the system from having a normal form
+abbrev pub HasNormalForm : FlatSystem → Type 0
+HasNormalForm s = (f : NormalFault) → normalised.IsFault s f → f ≡ normal.Memory
+
+-- the bytes spell a system whose equations are proper with these sizes, and t is the normal form of its flat system
+pub record IsChecked (bytes : List ℕ) (words : List Size) (width : ℕ) (t : FlatSystem) : Type 0 where
+  pub flat : FlatSystem
+  pub flattens : Flattens bytes words width flat
+  pub given : IsGiven flat t
+  pub proper : IsProper flat
+
+-- the first fault, each behind the steps that found none: of the bytes, of the tokens, which spell no program, of the names, of
+-- the pieces, of the points
+pub data IsRefused (bytes : List ℕ) (words : List Size) (width : ℕ) (r : TextRefusal) : Type 0 where
+  in_bytes : (f : LexFault) → r ≡ of_lex f → lexed.IsFault start bytes f → IsRefused bytes words width r
+  in_tokens : (f : ParseFault) → r ≡ of_parse f → (tokens : List Token) → IsText start bytes tokens → ((s : System) → IsProgram levels tokens s → ⊥)
+      → IsRefused bytes words width r
+  in_names : (f : NameFault) → r ≡ of_names f → (s : System) → IsProgramText bytes s → IsRefusal s words f → IsRefused bytes words width r
+  in_pieces : (f : NormalFault) → r ≡ of_normal f → (s : FlatSystem) → Flattens bytes words width s → normalised.IsFault s f → IsRefused bytes words width r
+  in_points : (f : CheckFault) → r ≡ of_check f → (s : FlatSystem) → Flattens bytes words width s → HasNormalForm s → checked.IsFault s f
+      → IsRefused bytes words width r

@@ -1,0 +1,51 @@
+-- As what the fault of each step is answered.
+use Rattle.av_lex.specs.declared.fault.LexFault.{LexFault}
+use Rattle.av_lex.specs.declared.fault.LexFault.TheVariants as lex
+use Rattle.av_parse.specs.declared.fault.ParseFault.{ParseFault}
+use Rattle.av_parse.specs.declared.fault.ParseFault.TheVariants as parse
+use Rattle.av_names.specs.declared.fault.NameFault.{NameFault}
+use Rattle.av_names.specs.declared.fault.NameFault.TheVariants as names
+use Rattle.av_normal.specs.declared.fault.NormalFault.{NormalFault}
+use Rattle.av_normal.specs.declared.fault.NormalFault.TheVariants as normal
+use Rattle.av_check.specs.declared.fault.CheckFault.{CheckFault}
+use Rattle.av_check.specs.declared.fault.CheckFault.TheVariants as check
+use Rattle.av_compile.specs.declared.text_refusal.TextRefusal.{TextRefusal}
+use Rattle.av_compile.specs.declared.text_refusal.TextRefusal.TheVariants as refusal
+
+abbrev pub of_lex : LexFault → TextRefusal
+of_lex (lex.BadByte place) = refusal.BadByte place
+of_lex (lex.Number place) = refusal.Number place
+of_lex lex.Memory = refusal.Memory
+
+abbrev pub of_parse : ParseFault → TextRefusal
+of_parse (parse.Syntax place) = refusal.Syntax place
+of_parse (parse.Depth place) = refusal.Depth place
+of_parse parse.Memory = refusal.Memory
+
+abbrev pub of_names : NameFault → TextRefusal
+of_names (names.Repeated name place) = refusal.Repeated name place
+of_names (names.SizeTwice name) = refusal.SizeTwice name
+of_names (names.SizeUnknown name) = refusal.SizeUnknown name
+of_names (names.SizeMissing name) = refusal.SizeMissing name
+of_names (names.Unknown name place) = refusal.Unknown name place
+of_names (names.DefinesInput name place) = refusal.DefinesInput name place
+of_names (names.SecondEquation name place) = refusal.SecondEquation name place
+of_names (names.NoEquation name place) = refusal.NoEquation name place
+of_names (names.Arity place) = refusal.Arity place
+of_names (names.Projection place) = refusal.Projection place
+of_names (names.CaseInReduce place) = refusal.CaseInReduce place
+of_names (names.DependOnReduce place) = refusal.DependOnReduce place
+of_names (names.Limit kind n) = refusal.Limit kind n
+of_names names.SizeOutside = refusal.SizeOutside
+of_names names.Memory = refusal.Memory
+
+abbrev pub of_normal : NormalFault → TextRefusal
+of_normal (normal.Pieces n) = refusal.Pieces n
+of_normal (normal.Unbounded name) = refusal.Unbounded name
+of_normal (normal.Limit kind n) = refusal.Limit kind n
+of_normal normal.Memory = refusal.Memory
+
+abbrev pub of_check : CheckFault → TextRefusal
+of_check (check.Uncovered variable point outside) = refusal.Uncovered variable point outside
+of_check (check.TwoBranches variable point) = refusal.TwoBranches variable point
+of_check check.Memory = refusal.Memory
