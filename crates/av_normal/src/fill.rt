@@ -1,16 +1,21 @@
 //! The sets of reductions, with the rows of what holds them.
 
-ghost use Rattle.std.specs.Prelude.{List as Items, ◌≡◌, [], ◌∷◌, All, IfOk, IfErr, OnOk};
+ghost use Rattle.std.specs.Prelude.{List as Items, ◌≡◌, [], ◌∷◌, All, IfOk, IfErr, OnOk, map};
 ghost use Rattle.av_affine.specs.declared.form.Form.{Form};
 ghost use Rattle.av_affine.specs.Forms.{IsWithinLimits};
 ghost use Rattle.av_poly.specs.Normal.{AreNormalised};
-ghost use Rattle.av_flat.specs.Quantities.{of_set};
-ghost use Rattle.av_normal.specs.Searches.{IsNarrow, IsWide};
-ghost use Rattle.av_normal.specs.Filling.{inner_of, IsFoldable};
+ghost use Rattle.av_flat.specs.Trees.{view};
+ghost use Rattle.av_flat.specs.Pieces.{filled};
+ghost use Rattle.av_flat.specs.Quantities.{of_set, body_sets};
+ghost use Rattle.av_normal.specs.NormalForm.{HasNormalSets};
+ghost use Rattle.av_normal.specs.Searches.{IsNarrow, AreNarrow, IsWide};
+ghost use Rattle.av_normal.specs.Filling.{inner_of, IsFoldable, IsFillable};
 
 use crate::NormalFault;
 use crate::measure::narrowed;
+use crate::rows::copy_map;
 use av_affine::Map;
+use av_flat::{Tree, copy_tree};
 use av_poly::Poly;
 use std::alloc::Global;
 
@@ -37,4 +42,58 @@ pub(crate) fn inner_set(
     let both = held.meet(alloc, set)?;
     let inner = narrowed(both)?;
     Ok(inner)
+}
+
+// The tree of a piece with the rows of what holds it in the set of each reduction, outer ones before inner ones.
+pub(crate) fn filled(alloc: Global, holder: &Poly, tree: &Tree) -> Result<Tree, NormalFault>
+    requires fillable { IsFillable holder.now.dim (view tree.now) }
+    requires rows { All IsWithinLimits holder.now.rows }
+    ensures same { IfOk result (λ t. (rows : Items Form) → AreNormalised holder.now.dim rows holder.now.rows →
+        HasNormalSets (filled rows (view tree.now)) (view t)) }
+    ensures narrow { OnOk result ((rows : Items Form) → AreNormalised holder.now.dim rows holder.now.rows →
+        AreNarrow (map of_set (body_sets (filled rows (view tree.now))))) }
+    ensures wide { IfErr result (λ fault. (rows : Items Form) → AreNormalised holder.now.dim rows holder.now.rows →
+        IsWide (map of_set (body_sets (filled rows (view tree.now)))) fault) }
+{
+    match tree {
+        Tree::Binary { sign, left, right } => {
+            let left = filled(alloc, holder, left)?;
+            let right = filled(alloc, holder, right)?;
+            Ok(Tree::Binary {
+                sign: *sign,
+                left: Box::new(alloc, left)?,
+                right: Box::new(alloc, right)?,
+            })
+        }
+        Tree::Choose {
+            left,
+            compare,
+            right,
+            yes,
+            no,
+        } => {
+            let left = filled(alloc, holder, left)?;
+            let right = filled(alloc, holder, right)?;
+            let yes = filled(alloc, holder, yes)?;
+            let no = filled(alloc, holder, no)?;
+            Ok(Tree::Choose {
+                left: Box::new(alloc, left)?,
+                compare: *compare,
+                right: Box::new(alloc, right)?,
+                yes: Box::new(alloc, yes)?,
+                no: Box::new(alloc, no)?,
+            })
+        }
+        Tree::Reduce { op, map, body, set } => {
+            let set = inner_set(alloc, holder, map, set)?;
+            let body = filled(alloc, &set, body)?;
+            Ok(Tree::Reduce {
+                op: *op,
+                map: copy_map(map),
+                body: Box::new(alloc, body)?,
+                set,
+            })
+        }
+        _ => Ok(copy_tree(alloc, tree)?),
+    }
 }
