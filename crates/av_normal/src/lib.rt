@@ -10,6 +10,7 @@ mod fill;
 mod keep;
 mod laws;
 mod measure;
+mod piece;
 mod rows;
 mod spread;
 
