@@ -114,7 +114,7 @@ fn part_of(
             append_read(alloc, vars, *var, &map, rows)?;
             Ok(Tree::Ref { var: *var, map })
         }
-        Tree::Const(_) | Tree::Pick { .. } => copy_tree(alloc, tree),
+        Tree::Const(word) => Ok(Tree::Const(*word)),
         Tree::Binary { sign, left, right } => {
             let (first, second) = two_numbers(number, right);
             let left = part_of(alloc, vars, under, left, first, rows)?;
@@ -177,5 +177,6 @@ fn part_of(
                 },
             })
         }
+        Tree::Pick { .. } => copy_tree(alloc, tree),
     }
 }

@@ -1,9 +1,12 @@
-use Rattle.std.proofs.Common.{◌≡◌, ◌<◌, ◌≤◌, length, map, drop, arith, rules, ap, sym, ◌∙◌, List, refl}
+use Rattle.std.proofs.Common.{◌≡◌, ◌<◌, ◌+◌, length, map, drop, arith, rules, ap, sym, subst, ◌∙◌, List, refl, OnOk, All}
+use Rattle.av_affine.specs.declared.form.Form.{Form}
+use Rattle.av_poly.specs.Points.{IsSmall}
 use Rattle.av_flat.specs.declared.tree.Tree.{Tree as TreeMade}
-use Rattle.av_flat.specs.Trees.{view, cases, trees_of}
+use Rattle.av_flat.specs.Trees.{view, constant, cases, trees_of}
 use Rattle.av_flat.proofs.Views.{view_case}
 use Rattle.av_normal.specs.Numbered.{signatures_of}
 use Rattle.av_normal.specs.Standing.{IsReading}
+use Rattle.av_normal.specs.Chosen.{IsPartAt}
 use Rattle.av_normal.proofs.Outcomes.{on_ok, if_ok}
 use Rattle.av_normal.proofs.Reading.{fits_read}
 use Rattle.av_normal.proofs.ChosenParts.{case_readable, next_branch_left, one_branch_more, branch_found, binary_part, choice_part, restriction_part, leaf_part}
@@ -18,31 +21,33 @@ append_read-requires-clause-fits t c =
 
 pub loop-branch-init : goal.loop-branch-init
 loop-branch-init t c =
-    record { readable = case_readable (signatures_of c.args.vars.now) c.args.under.now c.args.tree.now c.in-Case.branches c.as_slice-branch-items.result.now c.in-Case.is c.as_slice-branch-items.ensures c.requires; few = omega arith; same = λ few. refl }
+    (record { readable = case_readable (signatures_of c.args.vars.now) c.args.under.now c.args.tree.now c.in-Case.branches c.as_slice-branch-items.result.now c.in-Case.is c.as_slice-branch-items.ensures c.requires; few = omega arith; same = λ few. refl }, refl)
 
 pub loop-branch-preserved : goal.loop-branch-preserved
 loop-branch-preserved t c =
     let i = c.loop-branch.branch-index in
     let trees = c.as_slice-branch-items.result.now in
     let l : i < length trees = search rules in
-    let next = next_branch_left (signatures_of c.args.vars.now) c.args.under.now (trees_of (map view trees)) trees i c.branch-item.result c.args.number c.loop-branch.left l c.branch-item.is c.loop-branch.invariant in
-    one_branch_more (signatures_of c.args.vars.now) c.args.under.now (trees_of (map view trees)) (view c.branch-item.result) (trees_of (map view (drop (i + 1) trees))) c.args.number c.loop-branch.left c.piece_count-count.result next c.piece_count-count.ensures (omega arith)
+    let next = next_branch_left (signatures_of c.args.vars.now) c.args.under.now (trees_of (map view trees)) trees i c.branch-item.result c.args.number c.loop-branch.left l c.branch-item.is c.loop-branch.invariant.0 in
+    (one_branch_more (signatures_of c.args.vars.now) c.args.under.now (trees_of (map view trees)) (view c.branch-item.result) (trees_of (map view (drop (i + 1) trees))) c.args.number c.loop-branch.left c.piece_count-count.result next c.piece_count-count.ensures (omega arith), c.loop-branch.invariant.1)
 
 pub returns-then-left-count-clause-part : goal.returns-then-left-count-clause-part
 returns-then-left-count-clause-part t c =
     let i = c.loop-branch.branch-index in
     let trees = c.as_slice-branch-items.result.now in
     let l : i < length trees = search rules in
-    let next = next_branch_left (signatures_of c.args.vars.now) c.args.under.now (trees_of (map view trees)) trees i c.branch-item.result c.args.number c.loop-branch.left l c.branch-item.is c.loop-branch.invariant in
+    let next = next_branch_left (signatures_of c.args.vars.now) c.args.under.now (trees_of (map view trees)) trees i c.branch-item.result c.args.number c.loop-branch.left l c.branch-item.is c.loop-branch.invariant.0 in
     let e : view c.args.tree.now ≡ _ = ap view c.in-Case.is ∙ view_case c.in-Case.branches ∙ ap (λ (ts : List TreeMade). cases (trees_of (map view ts))) (sym c.as_slice-branch-items.ensures) in
     rw e
     (if_ok c.part_of-then-left-count.result c.part_of-then-left-count.ensures.part
-    (λ u p. branch_found (signatures_of c.args.vars.now) c.args.under.now (trees_of (map view trees)) (view c.branch-item.result) (trees_of (map view (drop (i + 1) trees))) c.args.number c.loop-branch.left c.piece_count-count.result next c.piece_count-count.ensures (search rules)
-    c.args.rows.now c.part_of-then-left-count.new.rows (view u) p))
+    (λ u p.
+    subst (λ (rows : List Form). IsPartAt (signatures_of c.args.vars.now) c.args.under.now (cases (trees_of (map view trees))) c.args.number rows c.part_of-then-left-count.new.rows (view u)) c.loop-branch.invariant.1
+    (branch_found (signatures_of c.args.vars.now) c.args.under.now (trees_of (map view trees)) (view c.branch-item.result) (trees_of (map view (drop (i + 1) trees))) c.args.number c.loop-branch.left c.piece_count-count.result next c.piece_count-count.ensures (search rules)
+    c.loop-branch.rows c.part_of-then-left-count.new.rows (view u) p)))
 
 pub returns-then-left-count-clause-small : goal.returns-then-left-count-clause-small
 returns-then-left-count-clause-small t c =
-    c.part_of-then-left-count.ensures.small
+    subst (λ (rows : List Form). OnOk c.part_of-then-left-count.result (All IsSmall rows → All IsSmall c.part_of-then-left-count.new.rows)) c.loop-branch.invariant.1 c.part_of-then-left-count.ensures.small
 
 -- ---- operands
 
@@ -81,4 +86,8 @@ returns-in_ok-append_under-in-Restrict-clause-small t c =
 
 pub returns-in-Const-clause-part : goal.returns-in-Const-clause-part
 returns-in-Const-clause-part t c =
-    if_ok c.copy_tree.result c.copy_tree.ensures (λ u e. leaf_part (signatures_of c.args.vars.now) c.args.under.now (view c.args.tree.now) (view u) c.args.number c.args.rows.now (rw c.in-Const.is refl) (rw c.in-Const.is refl) e)
+    leaf_part (signatures_of c.args.vars.now) c.args.under.now (view c.args.tree.now) (constant c.in-Const.word.bits) c.args.number c.args.rows.now (rw c.in-Const.is refl) (rw c.in-Const.is refl) (rw c.in-Const.is refl)
+
+pub returns-in-Pick-clause-part : goal.returns-in-Pick-clause-part
+returns-in-Pick-clause-part t c =
+    if_ok c.copy_tree.result c.copy_tree.ensures (λ u e. leaf_part (signatures_of c.args.vars.now) c.args.under.now (view c.args.tree.now) (view u) c.args.number c.args.rows.now (rw c.in-Pick.is refl) (rw c.in-Pick.is refl) e)
