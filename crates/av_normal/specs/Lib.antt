@@ -4,6 +4,7 @@ pub mod Searches
 pub mod Standing
 pub mod Numbered
 pub mod Branches
+pub mod Chosen
 pub mod Filling
 pub mod Extents
 pub mod Counted

@@ -20,7 +20,7 @@ use av_poly::Poly;
 use std::alloc::Global;
 
 // Puts the rows of a set, taken at the image under a map, behind others.
-fn append_before(alloc: Global, set: &Poly, own: &Map, rows: &mut List<Form>) -> Result<(), Memory>
+pub(crate) fn append_before(alloc: Global, set: &Poly, own: &Map, rows: &mut List<Form>) -> Result<(), Memory>
     requires fits { length own.now.rows ≡ set.now.dim }
     requires rows { All IsWithinLimits set.now.rows }
     requires map { All IsWithinLimits own.now.rows }

@@ -13,8 +13,9 @@ ghost use Rattle.av_normal.specs.Filling.{inner_of, IsFoldable, IsFillable};
 
 use crate::NormalFault;
 use crate::measure::narrowed;
+use crate::rows::copy_map;
 use av_affine::Map;
-use av_flat::Tree;
+use av_flat::{Tree, copy_tree};
 use av_poly::Poly;
 use std::alloc::Global;
 
@@ -43,13 +44,56 @@ pub(crate) fn inner_set(
     Ok(inner)
 }
 
-// The tree with the rows of its holder in the sets of its reductions.
+// The tree of a piece with the rows of what holds it in the set of each reduction, outer ones before inner ones.
 pub(crate) fn filled(alloc: Global, holder: &Poly, tree: &Tree) -> Result<Tree, NormalFault>
     requires fillable { IsFillable holder.now.dim (view tree.now) }
     requires rows { All IsWithinLimits holder.now.rows }
-    ensures same { IfOk result (λ t. (rows : Items Form) → AreNormalised holder.now.dim rows holder.now.rows → HasNormalSets (filled rows (view tree.now)) (view t)) }
-    ensures narrow { OnOk result ((rows : Items Form) → AreNormalised holder.now.dim rows holder.now.rows → AreNarrow (map of_set (body_sets (filled rows (view tree.now))))) }
-    ensures wide { IfErr result (λ fault. (rows : Items Form) → AreNormalised holder.now.dim rows holder.now.rows → IsWide (map of_set (body_sets (filled rows (view tree.now)))) fault) }
+    ensures same { IfOk result (λ t. (rows : Items Form) → AreNormalised holder.now.dim rows holder.now.rows →
+        HasNormalSets (filled rows (view tree.now)) (view t)) }
+    ensures narrow { OnOk result ((rows : Items Form) → AreNormalised holder.now.dim rows holder.now.rows →
+        AreNarrow (map of_set (body_sets (filled rows (view tree.now))))) }
+    ensures wide { IfErr result (λ fault. (rows : Items Form) → AreNormalised holder.now.dim rows holder.now.rows →
+        IsWide (map of_set (body_sets (filled rows (view tree.now)))) fault) }
 {
-    Err(NormalFault::Memory)
+    match tree {
+        Tree::Binary { sign, left, right } => {
+            let left = filled(alloc, holder, left)?;
+            let right = filled(alloc, holder, right)?;
+            Ok(Tree::Binary {
+                sign: *sign,
+                left: Box::new(alloc, left)?,
+                right: Box::new(alloc, right)?,
+            })
+        }
+        Tree::Choose {
+            left,
+            compare,
+            right,
+            yes,
+            no,
+        } => {
+            let left = filled(alloc, holder, left)?;
+            let right = filled(alloc, holder, right)?;
+            let yes = filled(alloc, holder, yes)?;
+            let no = filled(alloc, holder, no)?;
+            Ok(Tree::Choose {
+                left: Box::new(alloc, left)?,
+                compare: *compare,
+                right: Box::new(alloc, right)?,
+                yes: Box::new(alloc, yes)?,
+                no: Box::new(alloc, no)?,
+            })
+        }
+        Tree::Reduce { op, map, body, set } => {
+            let set = inner_set(alloc, holder, map, set)?;
+            let body = filled(alloc, &set, body)?;
+            Ok(Tree::Reduce {
+                op: *op,
+                map: copy_map(map),
+                body: Box::new(alloc, body)?,
+                set,
+            })
+        }
+        _ => Ok(copy_tree(alloc, tree)?),
+    }
 }

@@ -1,19 +1,28 @@
-//! The piece with a number.
+//! One piece of a tree, by its number: the first operand is slowest, the branches of a case stand in order.
 
-ghost use Rattle.std.specs.Prelude.{◌≡◌, ◌<◌, ◌≤◌, ◌++◌, [], All, IfOk};
+ghost use Rattle.std.specs.Prelude.{◌≡◌, ◌<◌, ◌≤◌, ◌/◌, ◌%◌, ◌++◌, [], All, IfOk, OnOk, Some, length, slice_get};
 ghost use Rattle.av_affine.specs.Forms.{IsWithinLimits};
+ghost use Rattle.av_poly.specs.Points.{IsSmall};
+ghost use Rattle.av_poly.specs.Preimages.{rows_before};
 ghost use Rattle.av_flat.specs.Trees.{view};
-ghost use Rattle.av_flat.specs.Pieces.{parts};
+ghost use Rattle.av_flat.specs.WellFormed.{dimension_of};
+ghost use Rattle.av_flat.specs.Pieces.{parts, rows_of};
 ghost use Rattle.av_flat.specs.Quantities.{piece_count};
-ghost use Rattle.av_normal.specs.Standing.{IsReadable};
 ghost use Rattle.av_normal.specs.Numbered.{part_at, signatures_of};
+ghost use Rattle.av_normal.specs.Standing.{IsReadable};
+ghost use Rattle.av_normal.specs.Chosen.{IsPartAt, AreFourNumbers};
 
-use av_base::Memory;
-use av_flat::{Piece, Tree, Var};
+use crate::compose::within;
+use crate::count::piece_count;
+use crate::distribute::{append_before, append_under, composed_map};
+use crate::rows::{copy_map, copy_rows};
+use av_affine::{Form, Map};
+use av_base::{List, Memory};
+use av_flat::{Piece, Tree, Var, copy_tree};
 use av_poly::Poly;
 use std::alloc::Global;
 
-// The piece of a tree with this number, whose rows stand behind those of a domain.
+// The piece of a variable's right side with this number, before its bodies' sets are filled in.
 pub(crate) fn piece_at(
     alloc: Global,
     vars: &[Var],
@@ -29,5 +38,145 @@ pub(crate) fn piece_at(
     ensures rows { IfOk result (λ p. p.domain.rows ≡ domain.now.rows ++ (part_at (parts (signatures_of vars.now) [] (view tree.now)) number).rows) }
     ensures tree { IfOk result (λ p. view p.tree ≡ (part_at (parts (signatures_of vars.now) [] (view tree.now)) number).tree) }
 {
-    Err(Memory)
+    let mut rows = copy_rows(alloc, domain.rows.as_slice())?;
+    let tree = part_of(alloc, vars, &[], tree, number, &mut rows)?;
+    let domain = Poly {
+        dim: domain.dim,
+        rows,
+    };
+    Ok(Piece { domain, tree })
+}
+
+// A number among pairs as that of the first and that of the second, of which there are this many.
+fn split(number: u128, count: u128) -> (u128, u128)
+    ensures slow { 0 < count → result.0 ≡ number / count }
+    ensures fast { 0 < count → result.1 ≡ number % count }
+{
+    let some = count.max(1);
+    (number / some, number % some)
+}
+
+// The numbers of two operands of a tree; the first is slowest.
+fn two_numbers(number: u128, right: &Tree) -> (u128, u128)
+    ensures { 0 < piece_count (view right.now) → piece_count (view right.now) ≤ 256 →
+        (result.0 ≡ number / piece_count (view right.now)) × (result.1 ≡ number % piece_count (view right.now)) }
+{
+    split(number, piece_count(right))
+}
+
+// The numbers of four operands of a tree; the first is slowest.
+fn four_numbers(number: u128, right: &Tree, yes: &Tree, no: &Tree) -> (u128, u128, u128, u128)
+    ensures { AreFourNumbers number (piece_count (view right.now)) (piece_count (view yes.now)) (piece_count (view no.now)) result.0 result.1 result.2 result.3 }
+{
+    let fourth_count = piece_count(no);
+    let third_count = piece_count(yes).saturating_mul(fourth_count);
+    let second_count = piece_count(right).saturating_mul(third_count);
+    let (first, others) = split(number, second_count);
+    let (second, others) = split(others, third_count);
+    let (third, fourth) = split(others, fourth_count);
+    (first, second, third, fourth)
+}
+
+// Puts the rows of a variable's domain, taken at the image under a map, behind others.
+fn append_read(
+    alloc: Global,
+    vars: &[Var],
+    place: u32,
+    map: &Map,
+    rows: &mut List<Form>,
+) -> Result<(), Memory>
+    requires fits { dimension_of (slice_get (signatures_of vars.now) place) ≡ Some (length map.now.rows) }
+    requires rows { All IsWithinLimits (rows_of (slice_get (signatures_of vars.now) place)) }
+    requires map { All IsWithinLimits map.now.rows }
+    ensures rows { OnOk result (rows.new ≡ rows.old ++ rows_before map.now (rows_of (slice_get (signatures_of vars.now) place))) }
+    ensures small { OnOk result (All IsSmall rows.old → All IsSmall rows.new) }
+{
+    let read = &vars[place as usize];
+    append_before(alloc, &read.domain, map, rows)
+}
+
+// The tree of the part with this number; its rows are put behind others.
+fn part_of(
+    alloc: Global,
+    vars: &[Var],
+    under: &[Map],
+    tree: &Tree,
+    number: u128,
+    rows: &mut List<Form>,
+) -> Result<Tree, Memory>
+    requires { IsReadable (signatures_of vars.now) under.now (view tree.now) }
+    ensures part { IfOk result (λ t. IsPartAt (signatures_of vars.now) under.now (view tree.now) number rows.old rows.new (view t)) }
+    ensures small { OnOk result (All IsSmall rows.old → All IsSmall rows.new) }
+{
+    match tree {
+        Tree::Ref { var, map } => {
+            let map = composed_map(map, under)?;
+            append_read(alloc, vars, *var, &map, rows)?;
+            Ok(Tree::Ref { var: *var, map })
+        }
+        Tree::Const(word) => Ok(Tree::Const(*word)),
+        Tree::Binary { sign, left, right } => {
+            let (first, second) = two_numbers(number, right);
+            let left = part_of(alloc, vars, under, left, first, rows)?;
+            let right = part_of(alloc, vars, under, right, second, rows)?;
+            Ok(Tree::Binary {
+                sign: *sign,
+                left: Box::new(alloc, left)?,
+                right: Box::new(alloc, right)?,
+            })
+        }
+        Tree::Choose {
+            left,
+            compare,
+            right,
+            yes,
+            no,
+        } => {
+            let (first, second, third, fourth) = four_numbers(number, right, yes, no);
+            let left = part_of(alloc, vars, under, left, first, rows)?;
+            let right = part_of(alloc, vars, under, right, second, rows)?;
+            let yes = part_of(alloc, vars, under, yes, third, rows)?;
+            let no = part_of(alloc, vars, under, no, fourth, rows)?;
+            Ok(Tree::Choose {
+                left: Box::new(alloc, left)?,
+                compare: *compare,
+                right: Box::new(alloc, right)?,
+                yes: Box::new(alloc, yes)?,
+                no: Box::new(alloc, no)?,
+            })
+        }
+        Tree::Restrict { domain, body } => {
+            append_under(alloc, under, domain, rows)?;
+            part_of(alloc, vars, under, body, number, rows)
+        }
+        Tree::Case { branches } => {
+            let mut left = number;
+            for branch in branches.as_slice() {
+                let count = piece_count(branch);
+                if left < count {
+                    return part_of(alloc, vars, under, branch, left, rows);
+                }
+                left -= count;
+            }
+            Err(Memory)
+        }
+        Tree::Depend { map, body } => {
+            let inner = within(alloc, map, under)?;
+            part_of(alloc, vars, inner.as_slice(), body, number, rows)
+        }
+        Tree::Reduce { op, map, body, set } => {
+            let mut inner = copy_rows(alloc, set.rows.as_slice())?;
+            let body = part_of(alloc, vars, &[], body, 0, &mut inner)?;
+            Ok(Tree::Reduce {
+                op: *op,
+                map: copy_map(map),
+                body: Box::new(alloc, body)?,
+                set: Poly {
+                    dim: map.from,
+                    rows: inner,
+                },
+            })
+        }
+        Tree::Pick { .. } => copy_tree(alloc, tree),
+    }
 }
