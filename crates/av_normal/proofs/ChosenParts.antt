@@ -1,19 +1,18 @@
 -- The part of a tree with a number, made from parts of what the tree is made from.
-use Rattle.std.proofs.Common.{◌≡◌, ℕ, zero, suc, ◌+◌, ◌-◌, ◌*◌, ◌/◌, ◌%◌, ◌^◌, ◌<◌, ◌≤◌, min, List, [], ◌∷◌, ◌++◌, map, length, drop, get_or, slice_get, refl, sym, ap, ap₂, subst, arith, ◌∙◌}
+use Rattle.std.proofs.Common.{◌≡◌, ℕ, zero, suc, ◌+◌, ◌-◌, ◌*◌, ◌/◌, ◌%◌, ◌^◌, ◌<◌, ◌≤◌, min, List, [], ◌∷◌, ◌++◌, map, length, drop, get_or, refl, sym, ap, ap₂, subst, arith, ◌∙◌}
 use Rattle.std.proofs.Math.Nat.{min-eq_left, mul_assoc}
 use Rattle.std.proofs.lemmas.List.{append_assoc, append-nil}
 use Rattle.av_base.specs.declared.word.Op.{Op}
 use Rattle.av_affine.specs.declared.form.Form.{Form}
 use Rattle.av_affine.specs.declared.map.Map.{Map}
 use Rattle.av_poly.specs.Points.{Set}
-use Rattle.av_poly.specs.Preimages.{rows_before}
 use Rattle.av_tree.specs.declared.relation.Relation.{Relation}
 use Rattle.av_tree.specs.declared.sign.Sign.{Sign}
 use Rattle.av_flat.specs.declared.tree.Tree.{Tree as TreeMade}
 use Rattle.av_flat.specs.declared.tree.Tree.TheVariants as made
-use Rattle.av_flat.specs.Trees.{Tree, Trees, reference, binary, choice, restriction, cases, dependence, reduction, more, trees_of, view}
+use Rattle.av_flat.specs.Trees.{Tree, Trees, binary, choice, restriction, cases, reduction, more, trees_of, view}
 use Rattle.av_flat.specs.Signatures.{Signature}
-use Rattle.av_flat.specs.Pieces.{Part, part, composed, rows_of, rows_under, parts, parts_of_all}
+use Rattle.av_flat.specs.Pieces.{Part, part, rows_under, parts, parts_of_all}
 use Rattle.av_flat.specs.Quantities.{piece_count, piece_count_of_all}
 use Rattle.av_flat.proofs.Parts.{length_parts}
 use Rattle.av_flat.proofs.Views.{view_case}
@@ -94,24 +93,13 @@ module _ (vs : List Signature) (ds : List Map) where
       let p = alone_part t number old (omega (arith, less, one)) in
       (p.0 ∙ ap (λ (ps : List Part). old ++ (part_at ps number).rows) (sym is), e ∙ p.1 ∙ ap (λ (ps : List Part). (part_at ps number).tree) (sym is))
 
-  pub reference_part : (place : ℕ) (m whole : Map) (number : ℕ) (old new : List Form) → whole ≡ composed m ds → new ≡ old ++ rows_before whole (rows_of (slice_get vs place))
-      → IsPartAt vs ds (reference place m) number old new (reference place whole)
-  reference_part place m whole number old new w e l few =
-      let p = part (rows_before (composed m ds) (rows_of (slice_get vs place))) (reference place (composed m ds)) in
-      let is = sym (at_alone p number l) in
-      (
-        e ∙ ap (λ (k : Map). old ++ rows_before k (rows_of (slice_get vs place))) w ∙ ap (λ (p : Part). old ++ p.rows) is,
-        ap (λ (k : Map). reference place k) w ∙ ap (λ (p : Part). p.tree) is,
-      )
-
   pub restriction_part : (d : Set) (t : Tree) (number : ℕ) (old mid new : List Form) (u : Tree) → mid ≡ old ++ rows_under ds d.rows → IsPartAt vs ds t number mid new u
       → IsPartAt vs ds (restriction d t) number old new u
   restriction_part d t number old mid new u e h l few =
       let p = h l few in
       let size = length_parts vs ds t in
       let less : number < length (parts vs ds t) = omega (arith, l, size) in
-      let is = sym (at_map (λ p. part (rows_under ds d.rows ++ p.rows) p.tree) (parts vs ds t) number less) in
-      (
+      let is = sym (at_map (λ p. part (rows_under ds d.rows ++ p.rows) p.tree) (parts vs ds t) number less) in (
         p.0 ∙ ap (λ (z : List Form). z ++ (chosen t number).rows) e ∙ append_assoc old (rows_under ds d.rows) (chosen t number).rows ∙ ap (λ (p : Part). old ++ p.rows) is,
         p.1 ∙ ap (λ (p : Part). p.tree) is,
       )
@@ -136,9 +124,8 @@ module _ (vs : List Signature) (ds : List Map) where
       let sl = length_parts vs ds l in
       let sr = length_parts vs ds r in
       let is : chosen (binary s l r) number ≡ part ((chosen l first).rows ++ (chosen r second).rows) (binary s (chosen l first).tree (chosen r second).tree) =
-          at_pairs (binary s) (parts vs ds l) (parts vs ds r) number (rw sr f.some) (rw (sl, sr) less) ∙ rw (sr, n.0, n.1) refl
-      in
-      (
+      at_pairs (binary s) (parts vs ds l) (parts vs ds r) number (rw sr f.some) (rw (sl, sr) less) ∙ rw (sr, n.0, n.1) refl
+      in (
         q.0 ∙ ap (λ (z : List Form). z ++ (chosen r second).rows) p.0 ∙ append_assoc old (chosen l first).rows (chosen r second).rows ∙ ap (λ (p : Part). old ++ p.rows) (sym is),
         ap₂ (λ v w. binary s v w) p.1 q.1 ∙ ap (λ (p : Part). p.tree) (sym is),
       )
@@ -162,14 +149,14 @@ module _ (vs : List Signature) (ds : List Map) where
 
     pub choice_part : (old a b d new : List Form) (t u v w : Tree)
         → (0 < piece_count r * (piece_count x * piece_count y) → piece_count r * (piece_count x * piece_count y) ≤ 256
-            → AreShares number (piece_count r * (piece_count x * piece_count y)) (piece_count x * piece_count y) (piece_count y) one two three four)
+        → AreShares number (piece_count r * (piece_count x * piece_count y)) (piece_count x * piece_count y) (piece_count y) one two three four)
         → IsPartAt vs ds l one old a t → IsPartAt vs ds r two a b u → IsPartAt vs ds x three b d v → IsPartAt vs ds y four d new w
         → IsPartAt vs ds (choice l c r x y) number old new (choice t c u v w)
     choice_part old a b d new t u v w shares i j k m less few =
         let third = piece_count x * piece_count y in
         let second = piece_count r * third in
         let same : piece_count l * piece_count r * piece_count x * piece_count y ≡ piece_count l * second =
-            mul_assoc (piece_count l * piece_count r) (piece_count x) (piece_count y) ∙ mul_assoc (piece_count l) (piece_count r) third
+        mul_assoc (piece_count l * piece_count r) (piece_count x) (piece_count y) ∙ mul_assoc (piece_count l) (piece_count r) third
         in
         let less_too : number < piece_count l * second = subst (λ (z : ℕ). number < z) same less in
         let few_too : piece_count l * second ≤ 256 = subst (λ (z : ℕ). z ≤ 256) same few in
@@ -181,13 +168,12 @@ module _ (vs : List Signature) (ds : List Map) where
         let q = j (subst (λ (z : ℕ). z < piece_count r) (sym n.two) g.slow) g.few_slow in
         let s = k (subst (λ (z : ℕ). z < piece_count x) (sym n.three) h.slow) h.few_slow in
         let e = m (subst (λ (z : ℕ). z < piece_count y) (sym n.four) h.fast) h.few_fast in
-        let is = sym (at_choice n f.some g.some h.some less_too) in
-        (
+        let is = sym (at_choice n f.some g.some h.some less_too) in (
           e.0 ∙ ap (λ (z : List Form). z ++ (chosen y four).rows) (s.0 ∙ ap (λ (z : List Form). z ++ (chosen x three).rows) (q.0 ∙ ap (λ (z : List Form). z ++ (chosen r two).rows) p.0))
-          ∙ four_rows old (chosen l one).rows (chosen r two).rows (chosen x three).rows (chosen y four).rows
-          ∙ ap (λ (p : Part). old ++ p.rows) is,
+              ∙ four_rows old (chosen l one).rows (chosen r two).rows (chosen x three).rows (chosen y four).rows
+              ∙ ap (λ (p : Part). old ++ p.rows) is,
           same_choice c t (chosen l one).tree u (chosen r two).tree v (chosen x three).tree w (chosen y four).tree p.1 q.1 s.1 e.1
-          ∙ ap (λ (p : Part). p.tree) is,
+              ∙ ap (λ (p : Part). p.tree) is,
         )
 
   -- ---- branches

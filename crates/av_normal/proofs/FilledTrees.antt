@@ -33,9 +33,6 @@ module _ (n : ℕ) (holder : List Form) where
   -- ---- two operands
 
   module _ (s : Sign) (l r : Tree) where
-    pub two_same : (a b : Tree) → Same l a → Same r b → Same (binary s l r) (binary s a b)
-    two_same a b h k rows e = (refl, h rows e, k rows e)
-
     pub two_narrow : Narrow l → Narrow r → Narrow (binary s l r)
     two_narrow h k rows e = narrow_append of_set (sets rows l) (sets rows r) (h rows e) (k rows e)
 
@@ -48,9 +45,6 @@ module _ (n : ℕ) (holder : List Form) where
   -- ---- four operands
 
   module _ (l : Tree) (c : Relation) (r x y : Tree) where
-    pub four_same : (a b v w : Tree) → Same l a → Same r b → Same x v → Same y w → Same (choice l c r x y) (choice a c b v w)
-    four_same a b v w h i j k rows e = (refl, h rows e, i rows e, j rows e, k rows e)
-
     narrow_three : Narrow l → Narrow r → Narrow x → (rows : List Form) → AreNormalised n rows holder → AreNarrow (map of_set (sets rows l ++ sets rows r ++ sets rows x))
     narrow_three h i j rows e = narrow_append of_set (sets rows l ++ sets rows r) (sets rows x) (narrow_append of_set (sets rows l) (sets rows r) (h rows e) (i rows e)) (j rows e)
 
@@ -115,7 +109,7 @@ pub body_refused : (n : ℕ) (holder : List Form) (o : Op) (m : Map) (t : Tree) 
     → ((rows : List Form) → AreNormalised n rows holder → IsWide (of_set (inner_of m rows set) ∷ []) f) → Wide n holder (reduction o m t set) f
 body_refused n holder o m t set h f w rows e =
     let is : inner_of m rows set ≡ record { dim = set.dim; rows = (inner_of m rows set).rows } =
-        subst (λ (k : ℕ). inner_of m rows set ≡ record { dim = k; rows = (inner_of m rows set).rows }) (sym h.dimension) refl
+    subst (λ (k : ℕ). inner_of m rows set ≡ record { dim = k; rows = (inner_of m rows set).rows }) (sym h.dimension) refl
     in
     let v = subst (λ (d : Set). IsWide (of_set d ∷ []) f) is (w rows e) in
     wide_first of_set (record { dim = set.dim; rows = (inner_of m rows set).rows } ∷ []) (sets (inner_of m rows set).rows t) f v

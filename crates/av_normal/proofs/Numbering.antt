@@ -1,20 +1,12 @@
 -- The part with a number of a tree, by the parts of what it is made from.
-use Rattle.std.proofs.Common.{◌≡◌, ℕ, zero, suc, ◌+◌, ◌-◌, ◌*◌, ◌/◌, ◌%◌, ◌<◌, ◌≤◌, ⊎_elim, List, [], ◌∷◌, ◌++◌, map, drop, length, get_or, refl, sym, ap, arith, ◌∙◌, add-one, zero-mul, mul-zero, suc-mul, mul-suc, add_comm, length-append}
+use Rattle.std.proofs.Common.{◌≡◌, ℕ, zero, suc, ◌+◌, ◌-◌, ◌*◌, ◌/◌, ◌%◌, ◌<◌, ◌≤◌, ⊎_elim, List, [], ◌∷◌, ◌++◌, map, length, refl, sym, ap, arith, ◌∙◌, add-one, zero-mul, mul-zero, suc-mul, mul-suc, add_comm, length-append}
 use Rattle.std.proofs.Math.Nat.{div-eq_of_lt, mod-eq_of_lt, div-eq-sub-div, mod-eq-sub-mod, mod-lt, div-lt_iff_lt-mul}
 use Rattle.std.specs.List.{flat_map}
 use Rattle.std.proofs.lemmas.Bool.{cases_lt}
 use Rattle.std.proofs.lemmas.List.{length-map}
-use Rattle.av_affine.specs.declared.map.Map.{Map}
-use Rattle.av_flat.specs.declared.tree.Tree.{Tree as TreeMade}
-use Rattle.av_flat.specs.Trees.{Tree, view, trees_of}
-use Rattle.av_flat.specs.Signatures.{Signature}
-use Rattle.av_flat.specs.Pieces.{Part, part, in_pairs, in_fours, parts, parts_of_all}
-use Rattle.av_flat.specs.Quantities.{piece_count}
-use Rattle.av_flat.proofs.Parts.{length_parts}
+use Rattle.av_flat.specs.Trees.{Tree}
+use Rattle.av_flat.specs.Pieces.{Part, part, in_pairs, in_fours}
 use Rattle.av_normal.specs.Numbered.{part_at}
-use Rattle.av_normal.specs.Branches.{counted, IsLeft}
-use Rattle.av_normal.specs.Standing.{IsReadable, AreReadable}
-use Rattle.av_normal.proofs.Dropping.{next_item}
 
 -- ---- lists of parts
 
@@ -115,52 +107,3 @@ below k (suc a) (suc b) l m =
     let up : suc b ≤ suc a * suc b = omega (arith, suc-mul a (suc b)) in
     let down : suc a ≤ suc a * suc b = omega (arith, mul-suc (suc a) b) in
     record { slow = (div-lt_iff_lt-mul p).1 l; fast = mod-lt k p; some = p; few_slow = omega (arith, down, m); few_fast = omega (arith, up, m) }
-
--- ---- branches
-
-counted_at : (vs : List Signature) (ds : List Map) (trees : List TreeMade) → length (parts_of_all vs ds (trees_of (map view trees))) ≡ counted trees
-counted_at vs ds [] = refl
-counted_at vs ds (t ∷ trees) = length-append (parts vs ds (view t)) (parts_of_all vs ds (trees_of (map view trees))) ∙ rw (length_parts vs ds (view t), counted_at vs ds trees) refl
-
-less_left : (trees : List TreeMade) (k : ℕ) → counted (drop k trees) ≤ counted trees
-less_left [] zero = omega arith
-less_left [] (suc k) = omega arith
-less_left (t ∷ trees) zero = omega arith
-less_left (t ∷ trees) (suc k) = let r = less_left trees k in omega (arith, r)
-
-pub branch_part : (vs : List Signature) (ds : List Map) (trees : List TreeMade) (number branch own : ℕ) (t : TreeMade) → branch < length trees → t ≡ get_or trees branch t
-    → number + counted (drop branch trees) ≡ own + counted trees → own < piece_count (view t)
-    → part_at (parts_of_all vs ds (trees_of (map view trees))) number ≡ part_at (parts vs ds (view t)) own
-branch_part vs ds [] number branch own t l is e w = absurd (omega (arith, l))
-branch_part vs ds (u ∷ trees) number zero own t l is e w =
-    let same : number ≡ own = omega (arith, e) in
-    rw (same, is) (at_first (parts vs ds (view u)) (parts_of_all vs ds (trees_of (map view trees))) own (let s = length_parts vs ds (view u) in let v = rw is at w in omega (arith, s, v)))
-branch_part vs ds (u ∷ trees) number (suc branch) own t l is e w =
-    let r = less_left trees branch in
-    let n = number - piece_count (view u) in
-    let s = length_parts vs ds (view u) in
-    let same : number ≡ length (parts vs ds (view u)) + n = omega (arith, e, r, s) in
-    let f : n + counted (drop branch trees) ≡ own + counted trees = omega (arith, e, r) in
-    ap (part_at (parts vs ds (view u) ++ parts_of_all vs ds (trees_of (map view trees)))) same
-    ∙ at_second (parts vs ds (view u)) (parts_of_all vs ds (trees_of (map view trees))) n
-    ∙ branch_part vs ds trees n branch own t (omega (arith, l)) is f w
-
-pub branch_readable : (vs : List Signature) (ds : List Map) (trees : List TreeMade) (branch : ℕ) (t : TreeMade) → branch < length trees → t ≡ get_or trees branch t
-    → AreReadable vs ds (trees_of (map view trees)) → IsReadable vs ds (view t)
-branch_readable vs ds [] branch t l is h = absurd (omega (arith, l))
-branch_readable vs ds (u ∷ trees) zero t l is h = rw is h.0
-branch_readable vs ds (u ∷ trees) (suc branch) t l is h = branch_readable vs ds trees branch t (omega (arith, l)) is h.1
-
-pub branch_few : (trees : List TreeMade) (branch : ℕ) (t : TreeMade) → branch < length trees → t ≡ get_or trees branch t → piece_count (view t) ≤ counted trees
-branch_few [] branch t l is = absurd (omega (arith, l))
-branch_few (u ∷ trees) zero t l is = rw is (omega arith)
-branch_few (u ∷ trees) (suc branch) t l is = let r = branch_few trees branch t (omega (arith, l)) is in omega (arith, r)
-
--- the number lies behind one more branch
-pub next_branch : (trees : List TreeMade) (number k left : ℕ) (t : TreeMade) → k < length trees → t ≡ get_or trees k t → IsLeft trees number k left → piece_count (view t) ≤ left
-    → IsLeft trees number (k + 1) (left - piece_count (view t))
-next_branch trees number k left t l is h below =
-    let e : counted (drop k trees) ≡ piece_count (view t) + counted (drop (k + 1) trees) = ap counted (next_item trees k t l is) in
-    let b = h.before in
-    let w = h.within in
-    record { before = omega (arith, e, b, below); within = omega (arith, e, w, below) }

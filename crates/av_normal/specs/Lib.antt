@@ -3,7 +3,6 @@ pub mod NormalFaults
 pub mod Searches
 pub mod Standing
 pub mod Numbered
-pub mod Branches
 pub mod Chosen
 pub mod Filling
 pub mod Extents

@@ -1,6 +1,6 @@
-//! What the pieces of a tree are made of: composed maps, rows at the image, and the branch in which a piece is.
+//! What the pieces of a tree are made of: composed maps and rows at the image.
 
-ghost use Rattle.std.specs.Prelude.{◌≡◌, ◌<◌, ◌≤◌, ◌++◌, ◌∷◌, All, IfOk, OnOk, length, map};
+ghost use Rattle.std.specs.Prelude.{◌≡◌, ◌++◌, ◌∷◌, All, IfOk, OnOk, length, map};
 ghost use Rattle.av_affine.specs.Forms.{IsWithinLimits};
 ghost use Rattle.av_poly.specs.Points.{IsSmall};
 ghost use Rattle.av_poly.specs.Preimages.{rows_before};
@@ -8,19 +8,21 @@ ghost use Rattle.av_flat.specs.Pieces.{composed, rows_under};
 ghost use Rattle.av_flat.specs.Quantities.{of_map, steps};
 ghost use Rattle.av_normal.specs.Searches.{AreNarrow};
 ghost use Rattle.av_normal.specs.Standing.{AreChained, IsRestricting};
-ghost use Rattle.av_normal.specs.Branches.{counted, IsBranchAt};
 
 use crate::compose::{outwards, together};
-use crate::count::piece_count;
 use crate::rows::append;
 use av_affine::{Form, Map};
 use av_base::{List, Memory};
-use av_flat::Tree;
 use av_poly::Poly;
 use std::alloc::Global;
 
 // Puts the rows of a set, taken at the image under a map, behind others.
-pub(crate) fn append_before(alloc: Global, set: &Poly, own: &Map, rows: &mut List<Form>) -> Result<(), Memory>
+pub(crate) fn append_before(
+    alloc: Global,
+    set: &Poly,
+    own: &Map,
+    rows: &mut List<Form>,
+) -> Result<(), Memory>
     requires fits { length own.now.rows ≡ set.now.dim }
     requires rows { All IsWithinLimits set.now.rows }
     requires map { All IsWithinLimits own.now.rows }
@@ -60,21 +62,4 @@ pub(crate) fn composed_map(own: &Map, under: &[Map]) -> Result<Map, Memory>
         Ok(whole) => Ok(whole),
         Err(_fault) => Err(Memory),
     }
-}
-
-// The branch in which the piece with this number is, and its number there.
-pub(crate) fn branch_at(trees: &[Tree], number: u128) -> (usize, u128)
-    requires number { number < counted trees.now }
-    requires few { counted trees.now ≤ 256 }
-    ensures { IsBranchAt trees.now number result.0 result.1 }
-{
-    let mut left = number;
-    for k in 0..trees.len() {
-        let count = piece_count(&trees[k]);
-        if left < count {
-            return (k, left);
-        }
-        left -= count;
-    }
-    (0, 0)
 }

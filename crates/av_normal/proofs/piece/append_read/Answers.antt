@@ -1,4 +1,4 @@
-use Rattle.std.proofs.Common.{◌≡◌, ◌++◌, ◌∙◌, List, length, ap, sym, subst}
+use Rattle.std.proofs.Common.{◌++◌, ◌∙◌, List, length, ap, sym, subst}
 use Rattle.std.specs.List.{All}
 use Rattle.av_affine.specs.declared.form.Form.{Form}
 use Rattle.av_affine.specs.Forms.{IsWithinLimits}
