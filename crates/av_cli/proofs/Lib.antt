@@ -5,6 +5,7 @@ pub mod Running
 pub mod Targets
 mod OptionWords
 mod SizeWords
+mod GivenSizes
 pub mod Simulating
 pub mod Sent
 pub mod Answered

@@ -51,29 +51,29 @@ unfolding third
 dashes_third w e = ap third e
 
 -- the first byte
-head : List ℕ → ℕ
+unfoldable pub head : List ℕ → ℕ
 head [] = 0
 head (b ∷ bytes) = b
 
-width_head : (w : List ℕ) (ws : List (List ℕ)) (d : List ℕ) (r : List (List ℕ)) → IsOption (codes "--width") (w ∷ ws) d r → head w ≡ 45
+pub width_head : (w : List ℕ) (ws : List (List ℕ)) (d : List ℕ) (r : List (List ℕ)) → IsOption (codes "--width") (w ∷ ws) d r → head w ≡ 45
 unfolding head
 width_head w ws d r at = elim (begins (codes "--width") w ws d r at) [ inl e ↦ ap head e | inr e ↦ ap head e ]
 
-box_head : (w : List ℕ) (ws : List (List ℕ)) (d : List ℕ) (r : List (List ℕ)) → IsOption (codes "--box") (w ∷ ws) d r → head w ≡ 45
+pub box_head : (w : List ℕ) (ws : List (List ℕ)) (d : List ℕ) (r : List (List ℕ)) → IsOption (codes "--box") (w ∷ ws) d r → head w ≡ 45
 unfolding head
 box_head w ws d r at = elim (begins (codes "--box") w ws d r at) [ inl e ↦ ap head e | inr e ↦ ap head e ]
 
-dashes_head : (w : List ℕ) → w ≡ codes "--" → head w ≡ 45
+pub dashes_head : (w : List ℕ) → w ≡ codes "--" → head w ≡ 45
 unfolding head
 dashes_head w e = ap head e
 
-letter_first : (name text w : List ℕ) → IsWord name → w ≡ name ++ text → IsTrue (is_ascii_alphabetic (head w))
+pub letter_first : (name text w : List ℕ) → IsWord name → w ≡ name ++ text → IsTrue (is_ascii_alphabetic (head w))
 unfolding head
 letter_first [] text w word e = absurd word
 letter_first (b ∷ bytes) text w word e = rw e word.0
 
 -- a size begins with a letter
-no_size : (w : List ℕ) → head w ≡ 45 → IsSize w → ⊥
+pub no_size : (w : List ℕ) → head w ≡ 45 → IsSize w → ⊥
 no_size w e is =
     let letter = letter_first is.name (codes "=" ++ is.text) w is.named.0 is.parts in
     let dash : IsTrue (is_ascii_alphabetic 45) = subst (λ (b : ℕ). IsTrue (is_ascii_alphabetic b)) e letter in

@@ -15,54 +15,6 @@ use Rattle.av_lex.proofs.Longest.{run_all}
 use Rattle.av_lex.proofs.Tables.{is_found, is_there}
 use Rattle.av_cli.specs.Commands.{IsSize, SpellsWhole}
 
--- ---- values
-
-no_dash : (digits : List ℕ) → IsDigits (45 ∷ digits) → ⊥
-no_dash digits h = absurd cc
-
-abs_neg : (n : ℕ) → unsigned_abs (neg_ℤ (pos n)) ≡ n
-abs_neg n = omega (arith, ints)
-
-abs_pos : (n : ℕ) → unsigned_abs (pos n) ≡ n
-abs_pos n = omega (arith, ints)
-
--- behind a minus sign
-pub dashed : (text digits : List ℕ) (b : Bool) → text ≡ codes "-" ++ digits → (IsTrue b ↔ (IsDigits digits × (number_of digits ≤ 1048576)))
-    → IsTrue b ↔ ((z : ℤ) × SpellsWhole text z × (unsigned_abs z ≤ 1048576))
-dashed text digits b e h = (into, outof)
-  where
-    into : IsTrue b → (z : ℤ) × SpellsWhole text z × (unsigned_abs z ≤ 1048576)
-    into t =
-        let d = h.0 t in
-        let a = abs_neg (number_of digits) in
-        (neg_ℤ (pos (number_of digits)), inr (digits, e, d.0, refl), omega (arith, a, d.1))
-
-    outof : (z : ℤ) × SpellsWhole text z × (unsigned_abs z ≤ 1048576) → IsTrue b
-    outof (z, inl (digit, v), most) = absurd (no_dash digits (subst IsDigits e digit))
-    outof (z, inr (other, e', digit, v), most) =
-        let same : other ≡ digits = let k = sym e' ∙ e in cc in
-        let a = abs_neg (number_of other) in
-        let m : unsigned_abs (neg_ℤ (pos (number_of other))) ≤ 1048576 = subst (λ (x : ℤ). unsigned_abs x ≤ 1048576) v most in
-        h.1 (subst (λ (x : List ℕ). IsDigits x × (number_of x ≤ 1048576)) same (digit, omega (arith, a, m)))
-
--- without one
-pub bare : (text : List ℕ) (b : Bool) → ((rest : List ℕ) → text ≢ codes "-" ++ rest) → (IsTrue b ↔ (IsDigits text × (number_of text ≤ 1048576)))
-    → IsTrue b ↔ ((z : ℤ) × SpellsWhole text z × (unsigned_abs z ≤ 1048576))
-bare text b none h = (into, outof)
-  where
-    into : IsTrue b → (z : ℤ) × SpellsWhole text z × (unsigned_abs z ≤ 1048576)
-    into t =
-        let d = h.0 t in
-        let a = abs_pos (number_of text) in
-        (pos (number_of text), inl (d.0, refl), omega (arith, a, d.1))
-
-    outof : (z : ℤ) × SpellsWhole text z × (unsigned_abs z ≤ 1048576) → IsTrue b
-    outof (z, inl (digit, v), most) =
-        let a = abs_pos (number_of text) in
-        let m : unsigned_abs (pos (number_of text)) ≤ 1048576 = subst (λ (x : ℤ). unsigned_abs x ≤ 1048576) v most in
-        h.1 (digit, omega (arith, a, m))
-    outof (z, inr (other, e', digit, v), most) = absurd (none other e')
-
 -- ---- names
 
 pub is_no_reserved : (text : List ℕ) (b : Bool) → b ≡ list_any (bytes_eq text) reserved_words → IsWord text → IsTrue (not b) ↔ IsSpelled kind.Name text
@@ -89,7 +41,7 @@ run_to : (name text : List ℕ) → AllByRecursion (λ b. is_word_byte b ≡ tru
 run_to [] text all = refl
 run_to (b ∷ name) text all = let r = run_to name text all.1 in rw (all.0, r) (omega arith)
 
-word_bytes : (name : List ℕ) → IsWord name → AllByRecursion (λ b. is_word_byte b ≡ true) name
+pub word_bytes : (name : List ℕ) → IsWord name → AllByRecursion (λ b. is_word_byte b ≡ true) name
 word_bytes [] word = absurd word
 word_bytes (b ∷ bytes) word = (letter b word.0, recursion_from_All (λ x. is_word_byte x ≡ true) bytes word.1)
   where
