@@ -8,3 +8,4 @@ pub mod Prepared
 pub mod Settled
 pub mod Looking
 pub mod Opposing
+pub mod Caused

@@ -122,13 +122,9 @@ fn check_variables(alloc: Global, vars: &[Var], kept: &[Var]) -> Result<(), Chec
     Ok(())
 }
 
-/// Whether each declared point of an output or local has just one word (Wilde's reports on Alpha, by the domains of
-/// expressions), where the system's normal form is at hand. Its pieces are compared as sets of rows, and no point is
-/// looked at but the one that is answered.
-///
-/// A refusal names the first variable with a point of no word, or of two, and its least such point. Where the point has
-/// no word it tells also which reference is blamed.
-pub fn check_normal(alloc: Global, flat: &Flat, normal: &Flat) -> Result<(), CheckFault>
+// Whether each declared point has just one word, where the normal form is at hand. Its pieces are compared as sets of rows,
+// and no point is looked at but the one that is answered.
+pub(crate) fn check_normal(alloc: Global, flat: &Flat, normal: &Flat) -> Result<(), CheckFault>
     requires well_formed { IsWellFormed (view_system flat.now) }
     requires ends { (name : Text) → HasUnbounded (view_system flat.now) name → ⊥ }
     requires narrow { (kind : Quantity) (n : ℕ) → HasWideSets (view_system flat.now) kind n → ⊥ }

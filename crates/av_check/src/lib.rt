@@ -2,6 +2,7 @@
 #![tactic(auto)]
 
 mod checker;
+mod checking;
 mod fault;
 mod images;
 mod judge;
@@ -15,5 +16,5 @@ mod sets;
 mod tests;
 mod verdict;
 
-pub use checker::check_normal;
+pub use checking::check;
 pub use fault::CheckFault;

@@ -14,3 +14,4 @@ pub mod Words
 pub mod Texts
 mod SpelledNames
 mod SoundDesign
+mod FirstFaults

@@ -8,8 +8,12 @@ ghost use Rattle.av_compile.specs.declared.text_refusal.TextRefusal.TheVariants 
 
 use crate::TextRefusal;
 use av_base::Width;
-use av_flat::Flat;
-use av_names::Size;
+use av_check::check;
+use av_flat::{Flat, Pass};
+use av_lex::lex;
+use av_names::{Size, resolve};
+use av_normal::Normal;
+use av_parse::parse;
 use std::alloc::Global;
 
 /// The kept pieces of the system that a text spells, with its sizes, in words of this width, where its equations give each
@@ -35,5 +39,10 @@ pub fn checked(
     // A proper system that has a normal form is not refused.
     ensures complete { (s : FlatSystem) → Flattens bytes.now sizes.now width.bits s → HasNormalForm s → IsProper s → IfErr result (λ f. f ≡ refusal.Memory) }
 {
-    Err(TextRefusal::Memory)
+    let tokens = lex(alloc, bytes)?;
+    let system = parse(alloc, tokens.as_slice())?;
+    let flat = resolve(alloc, &system, sizes, width)?;
+    let normal = Normal.run(alloc, &flat)?;
+    check(alloc, &flat)?;
+    Ok(normal)
 }

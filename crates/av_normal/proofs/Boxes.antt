@@ -36,6 +36,9 @@ fold_from : (n : ℕ) (xs : List ℤ) → fold max n (map unsigned_abs xs) ≡ m
 fold_from n [] = omega arith
 fold_from n (x ∷ xs) = let a = fold_from (max n (unsigned_abs x)) xs in let b = fold_from (max 0 (unsigned_abs x)) xs in omega (arith, a, b)
 
+pub greatest_cons : (x : ℤ) (xs : List ℤ) → greatest (x ∷ xs) ≡ max (unsigned_abs x) (greatest xs)
+greatest_cons x xs = let b = fold_from (max 0 (unsigned_abs x)) xs in omega (arith, b)
+
 pub greatest_append : (xs ys : List ℤ) → greatest (xs ++ ys) ≡ max (greatest xs) (greatest ys)
 greatest_append [] ys = omega arith
 greatest_append (x ∷ xs) ys =

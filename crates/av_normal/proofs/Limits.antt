@@ -65,7 +65,7 @@ small_map m h = small_rows m.rows (λ k n over. h (k, n, over))
 pub small_set : (set inner : Set) → IsNormalised set inner → IsWithin (of_set set) → All IsWithinLimits inner.rows
 small_set set inner e h = small_rows inner.rows (λ k n over. h (k, n, (inner.rows, e.rows, inl over)))
 
-few_rows : (set inner : Set) → IsNormalised set inner → IsWithin (of_set set) → length inner.rows ≤ 20
+pub few_rows : (set inner : Set) → IsNormalised set inner → IsWithin (of_set set) → length inner.rows ≤ 20
 few_rows set inner e h = elim (cases_lt 20 (length inner.rows)) [
   | inl l ↦ elim (cases_lt 1024 (greatest_coefficient inner.rows)) [
     | inl a ↦ absurd (h (quantity.Coefficient, greatest_coefficient inner.rows, (inner.rows, e.rows, inl (inl (refl, refl, a)))))

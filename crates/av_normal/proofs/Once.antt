@@ -185,6 +185,22 @@ alike dim rows a b (inr h) (inr k) =
     let v = no_greater (λ f. unsigned_abs f.constant) b a back in
     record { rows = omega (arith, l, m); coefficients = omega (arith, p, q); constants = omega (arith, u, v) }
 
+-- what holds of each row of the other holds of each row of the one
+holds_in : (P : Form → Type 0) (x : Form) (ys : List Form) → In x ys → AllByRecursion P ys → P x
+holds_in P x [] i h = absurd i
+holds_in P x (y ∷ ys) (inl e) h = subst P (sym e) h.0
+holds_in P x (y ∷ ys) (inr i) h = holds_in P x ys i h.1
+
+each_in : (P : Form → Type 0) (xs ys : List Form) → AreIn xs ys → AllByRecursion P ys → AllByRecursion P xs
+each_in P [] ys a h = tt
+each_in P (x ∷ xs) ys a h = (holds_in P x ys a.0 h, each_in P xs ys a.1 h)
+
+pub each_alike : (P : Form → Type 0) (dim : ℕ) (rows a b : List Form) → AreNormalised dim rows a → AreNormalised dim rows b → AllByRecursion P b → AllByRecursion P a
+each_alike P dim rows a b (inl h) (inl k) s = let Q : List Form → Type 0 = λ (xs : List Form). AllByRecursion P xs in subst Q (sym (h.1 ∙ sym k.1)) s
+each_alike P dim rows a b (inl h) (inr k) s = absurd (not_both dim rows h.0 k.0)
+each_alike P dim rows a b (inr h) (inl k) s = absurd (not_both dim rows k.0 h.0)
+each_alike P dim rows a b (inr h) (inr k) s = each_in P a b (all_found dim rows a b h.1 k.1) s
+
 -- a set with normalised rows within the limits is not above one
 pub narrow_within : (set : Set) (new : List Form) → AreNormalised set.dim set.rows new → greatest_coefficient new ≤ 1024 → greatest_constant new ≤ 2 ^ 20 → length new ≤ 20 → IsNarrow (of_set set)
 narrow_within set new s p q r kind n h =

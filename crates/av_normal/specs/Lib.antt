@@ -7,3 +7,7 @@ pub mod Branches
 pub mod Filling
 pub mod Extents
 pub mod Counted
+pub mod Spread
+pub mod Alongside
+pub mod Domains
+pub mod Sifted

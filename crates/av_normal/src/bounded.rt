@@ -1,15 +1,20 @@
 //! The boxes of declared domains.
 
-ghost use Rattle.std.specs.Prelude.{◌≡◌, ◌≤◌, ◌≤ℤ◌, ◌*ℤ◌, ◌+ℤ◌, ◌-ℤ◌, ◌^◌, ◌++◌, pos, All, IfOk, IfErr, OnOk, length, unsigned_abs};
+ghost use Rattle.std.specs.List.{AllByRecursion};
+ghost use Rattle.std.specs.Prelude.{◌≡◌, ◌≤◌, ◌≤ℤ◌, ◌*ℤ◌, ◌+ℤ◌, ◌-ℤ◌, ◌^◌, ◌++◌, pos, All, IfOk, IfErr, OnOk, length, map, unsigned_abs};
 ghost use Rattle.av_affine.specs.Numbers.{AtMost, greatest};
 ghost use Rattle.av_affine.specs.Forms.{IsWithinLimits};
+ghost use Rattle.av_flat.specs.Trees.{view_variable};
 ghost use Rattle.av_flat.specs.Sets.{box_size};
+ghost use Rattle.av_normal.specs.Alongside.{Alongside, IsFirstOf};
+ghost use Rattle.av_normal.specs.Domains.{HasNarrowDomain, HasFourEntries, IsDeclaredExtent, IsEndless, IsEndlessOne, IsSmallExtent, IsLargeExtent};
 ghost use Rattle.av_normal.specs.Extents.{IsExtent, IsEndlessOf, IsOverBounds};
 
 use crate::NormalFault;
-use av_base::Name;
+use crate::rows::copy_set;
+use av_base::{List, Name};
 use av_elim::{Elim, bounds};
-use av_flat::Quantity;
+use av_flat::{Quantity, Var};
 use av_poly::{Bounds, Poly};
 use std::alloc::Global;
 
@@ -18,7 +23,7 @@ const MOST_COORDINATE: u128 = 4095;
 const MOST_POINTS: i128 = 65_536;
 
 // The box of a variable's domain, whose rows are normalised; None where it has no box.
-pub(crate) fn extent(
+fn extent(
     alloc: Global,
     name: &Name,
     domain: &Poly,
@@ -27,6 +32,7 @@ pub(crate) fn extent(
     requires rows { All IsWithinLimits domain.now.rows }
     requires few { length domain.now.rows ≤ 20 }
     ensures found { IfOk result (IsExtent domain.now) }
+    ensures size { IfOk result HasFourEntries }
     ensures endless { IfErr result (IsEndlessOf name.now domain.now) }
 {
     match bounds(alloc, domain) {
@@ -36,6 +42,30 @@ pub(crate) fn extent(
         Err(Elim::Constraints(n)) => Err(NormalFault::Limit(Quantity::Constraints, n)),
         Err(Elim::Memory) => Err(NormalFault::Memory),
     }
+}
+
+// The box of a variable's declared domain; None where it has no box.
+fn declared_extent(alloc: Global, var: &Var) -> Result<Option<Bounds>, NormalFault>
+    requires { HasNarrowDomain (view_variable var.now) }
+    ensures found { IfOk result (IsDeclaredExtent (view_variable var.now)) }
+    ensures endless { IfErr result (IsEndlessOne (view_variable var.now)) }
+{
+    let mut domain = copy_set(alloc, &var.domain)?;
+    domain.normalise();
+    extent(alloc, &var.name, &domain)
+}
+
+// The boxes of the declared domains.
+pub(crate) fn extents(alloc: Global, vars: &[Var]) -> Result<List<Option<Bounds>>, NormalFault>
+    requires { AllByRecursion HasNarrowDomain (map view_variable vars.now) }
+    ensures found { IfOk result (Alongside IsDeclaredExtent (map view_variable vars.now)) }
+    ensures endless { IfErr result (IsEndless (map view_variable vars.now)) }
+{
+    let mut extents = List::new(alloc);
+    for var in vars {
+        extents.push(declared_extent(alloc, var)?)?;
+    }
+    Ok(extents)
 }
 
 // The greatest absolute value.
@@ -94,7 +124,7 @@ fn points_of(extent: &Bounds) -> i128
 }
 
 // Tries a box: its coordinates, and then its points.
-pub(crate) fn box_fits(extent: &Bounds) -> Result<(), NormalFault>
+fn box_fits(extent: &Bounds) -> Result<(), NormalFault>
     ensures fit { OnOk result ((greatest (extent.now.low ++ extent.now.high) ≤ 4095) × (box_size extent.now.low extent.now.high ≤ℤ pos 65536)) }
     ensures over { IfErr result (IsOverBounds extent.now) }
 {
@@ -105,6 +135,28 @@ pub(crate) fn box_fits(extent: &Bounds) -> Result<(), NormalFault>
     let points = points_of(extent);
     if points > MOST_POINTS {
         return Err(NormalFault::Limit(Quantity::BoxSize, points as u128));
+    }
+    Ok(())
+}
+
+// Tries a box where there is one.
+fn extent_fits(extent: &Option<Bounds>) -> Result<(), NormalFault>
+    ensures fit { OnOk result (IsSmallExtent extent.now) }
+    ensures over { IfErr result (λ fault. IsLargeExtent fault extent.now) }
+{
+    match extent {
+        Some(extent) => box_fits(extent),
+        None => Ok(()),
+    }
+}
+
+// Tries each box.
+pub(crate) fn boxes_fit(extents: &[Option<Bounds>]) -> Result<(), NormalFault>
+    ensures fit { OnOk result (AllByRecursion IsSmallExtent extents.now) }
+    ensures over { IfErr result (λ fault. IsFirstOf IsSmallExtent (IsLargeExtent fault) extents.now) }
+{
+    for extent in extents {
+        extent_fits(extent)?;
     }
     Ok(())
 }

@@ -12,6 +12,8 @@ mod laws;
 mod measure;
 mod normal;
 mod rows;
+mod sift;
+mod spread;
 
 pub use fault::NormalFault;
 pub use laws::{normal_forms_are_kept, normal_forms_are_proper, normal_forms_show_the_same};
