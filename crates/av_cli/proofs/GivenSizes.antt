@@ -12,8 +12,8 @@ use Rattle.av_base.specs.declared.token_kind.TokenKind.TheVariants as kind
 use Rattle.av_base.specs.Tokens.{IsDigits, IsSpelled, IsWord, is_word_byte}
 use Rattle.av_names.specs.declared.size.Size.{Size}
 use Rattle.av_cli.specs.Commands.{SpellsWhole, IsSize, size_of, GiveSizes, no_more, given, passed, SpellsUpTo, Options, Say, nothing, width, box, size, sizes, IsOption, no_options, given_or, default_width, IsCheck}
-use Rattle.av_cli.proofs.OptionWords.{head, letter_first, no_size, width_head, box_head, dashes_head, at_words}
-use Rattle.av_cli.proofs.SizeWords.{word_bytes}
+use Rattle.av_cli.proofs.OptionWords.{head, letter_first, no_size, width_head, box_head, dashes_head, at_words, one_said}
+use Rattle.av_cli.proofs.SizeWords.{word_bytes, text_is, one_size}
 
 -- ---- the parts of a size
 
@@ -128,12 +128,34 @@ other_found words found at w lt here none on = (
   on.1,
 )
 
--- ---- commands
+-- words give one list of sizes
+pub one_list : (words : List (List ℕ)) (some others : List Size) → GiveSizes words some → GiveSizes words others → some ≡ others
+one_list [] some others no_more no_more = refl
+one_list (w ∷ words) some others (given {sizes = a} is give) (given {sizes = b} other give') =
+    ap (λ x. x ∷ a) (one_size w is other) ∙ ap (λ xs. size_of other ∷ xs) (one_list words a b give give')
+one_list (w ∷ words) some others (given is give) (passed none give') = absurd (none is)
+one_list (w ∷ words) some others (passed none give) (given is give') = absurd (none is)
+one_list (w ∷ words) some others (passed none give) (passed none' give') = one_list words some others give give'
+
+-- ---- the command
+
+-- the first word is no size
+no_command : IsSize (codes "check") → ⊥
+no_command is = let k = text_is (codes "check") is in cc
 
 pub check_read : (words : List (List ℕ)) (bits : ℕ) (rest : List (List ℕ)) → words ≡ codes "check" ∷ rest → ((o : Options) × Say no_options (drop 1 words) o × (bits ≡ given_or default_width o.width))
     → (found : List Size) × IsCheck words bits found
 check_read words bits rest first (o, say, bits_are) =
     let same : drop 1 words ≡ rest = ap (λ (ws : List (List ℕ)). drop 1 ws) first in
     let say_rest : Say no_options rest o = subst (λ (ws : List (List ℕ)). Say no_options ws o) same say in
-    let (found, give) = said_give no_options o rest say_rest in
-    (found, record { rest = rest; first = first; options = o; say = say_rest; bits_are = bits_are; give = give })
+    let (found, give) = past (codes "check") rest no_command (said_give no_options o rest say_rest) in
+    (found, record { rest = rest; first = first; options = o; say = say_rest; bits_are = bits_are; give = subst (λ (ws : List (List ℕ)). GiveSizes ws found) (sym first) give })
+
+pub one_check : (words : List (List ℕ)) (m n : ℕ) (some others : List Size) → IsCheck words m some → IsCheck words n others → (m ≡ n) × (some ≡ others)
+one_check words m n some others a b =
+    let same : a.rest ≡ b.rest = let k = sym a.first ∙ b.first in cc in
+    let options : a.options ≡ b.options = one_said no_options a.options b.options b.rest (subst (λ (ws : List (List ℕ)). Say no_options ws a.options) same a.say) b.say in
+    (a.bits_are ∙ (ap (λ (o : Options). given_or default_width o.width) options ∙ sym b.bits_are), one_list words some others a.give b.give)
+
+pub with_sizes : (words : List (List ℕ)) (bits : ℕ) (found others : List Size) → IsCheck words bits found → GiveSizes words others → IsCheck words bits others
+with_sizes words bits found others is give = record { rest = is.rest; first = is.first; options = is.options; say = is.say; bits_are = is.bits_are; give = give }

@@ -150,6 +150,18 @@ sizes_steps o p w ws dashes all = (
   (λ say. subst (λ (q : Options). Say o (w ∷ ws) q) (sym (nothing_said o p say)) (sizes dashes all)),
 )
 
+-- words say one thing
+pub one_said : (o p q : Options) (words : List (List ℕ)) → Say o words p → Say o words q → p ≡ q
+one_said o p q [] nothing other = sym (nothing_said o q other)
+one_said o p q words (width {rest = rest} {digits = digits} {n = n} none option spelled say) other =
+    one_said (having_width o n) p q rest say ((width_steps o q words digits rest n option none spelled).0 other)
+one_said o p q words (box {rest = rest} {digits = digits} {n = n} none option spelled say) other =
+    one_said (having_box o n) p q rest say ((box_steps o q words digits rest n option none spelled).0 other)
+one_said o p q (w ∷ ws) (size is say) other =
+    one_said o p q ws say
+    (size_said o q w ws (λ d r at. no_size w (width_head w ws d r at) is) (λ d r at. no_size w (box_head w ws d r at) is) (λ e. no_size w (dashes_head w e) is) other).1
+one_said o p q (w ∷ ws) (sizes dashes all) other = sym (sizes_said o q w ws dashes other).1
+
 -- ---- at a place
 
 pub if_none : {A : Type 0} (x : Option A) (P : Type 0) → x ≡ None → P → IfNone x P

@@ -13,7 +13,20 @@ use Rattle.av_base.specs.declared.token_kind.TokenKind.TheVariants as kind
 use Rattle.av_base.specs.Tokens.{IsDigits, IsSpelled, IsWord, is_word_byte, number_of, reserved_words}
 use Rattle.av_lex.proofs.Longest.{run_all}
 use Rattle.av_lex.proofs.Tables.{is_found, is_there}
-use Rattle.av_cli.specs.Commands.{IsSize, SpellsWhole}
+use Rattle.av_cli.specs.Commands.{IsSize, size_of, SpellsWhole}
+
+-- ---- values
+
+no_dash : (digits : List ℕ) → IsDigits (45 ∷ digits) → ⊥
+no_dash digits h = absurd cc
+
+pub one_whole : (text : List ℕ) (y z : ℤ) → SpellsWhole text y → SpellsWhole text z → y ≡ z
+one_whole text y z (inl a) (inl b) = a.1 ∙ sym b.1
+one_whole text y z (inl a) (inr b) = absurd (no_dash b.0 (subst IsDigits b.1 a.0))
+one_whole text y z (inr a) (inl b) = absurd (no_dash a.0 (subst IsDigits a.1 b.0))
+one_whole text y z (inr a) (inr b) =
+    let same : a.0 ≡ b.0 = let k = sym a.1 ∙ b.1 in cc in
+    a.3 ∙ (ap (λ d. neg_ℤ (pos (number_of d))) same ∙ sym b.3)
 
 -- ---- names
 
@@ -64,13 +77,28 @@ size_is word named (value, z, e, spelled, most) = record {
   most = most;
 }
 
+module _ (word : List ℕ) (is : IsSize word) where
+  pub name_is : take (prefix_len is_word_byte word) word ≡ is.name
+  name_is =
+      let run : prefix_len is_word_byte word ≡ length is.name = ap (prefix_len is_word_byte) is.parts ∙ run_to is.name is.text (word_bytes is.name is.named.0) in
+      ap (λ n. take n word) run ∙ (ap (take (length is.name)) is.parts ∙ take-append_seam is.name (codes "=" ++ is.text))
+
+  pub text_is : drop (prefix_len is_word_byte word) word ≡ codes "=" ++ is.text
+  text_is =
+      let run : prefix_len is_word_byte word ≡ length is.name = ap (prefix_len is_word_byte) is.parts ∙ run_to is.name is.text (word_bytes is.name is.named.0) in
+      ap (λ n. drop n word) run ∙ (ap (drop (length is.name)) is.parts ∙ drop-append_seam is.name (codes "=" ++ is.text))
+
 pub is_size : (word : List ℕ) → IsSize word → IsSpelled kind.Name (take (prefix_len is_word_byte word) word)
     × ((value : List ℕ) × (z : ℤ) × (drop (prefix_len is_word_byte word) word ≡ codes "=" ++ value) × SpellsWhole value z × (unsigned_abs z ≤ 1048576))
-is_size word is =
-    let run : prefix_len is_word_byte word ≡ length is.name = ap (prefix_len is_word_byte) is.parts ∙ run_to is.name is.text (word_bytes is.name is.named.0) in
-    let name : take (prefix_len is_word_byte word) word ≡ is.name = ap (λ n. take n word) run ∙ (ap (take (length is.name)) is.parts ∙ take-append_seam is.name (codes "=" ++ is.text)) in
-    let rest : drop (prefix_len is_word_byte word) word ≡ codes "=" ++ is.text = ap (λ n. drop n word) run ∙ (ap (drop (length is.name)) is.parts ∙ drop-append_seam is.name (codes "=" ++ is.text)) in
-    (subst (IsSpelled kind.Name) (sym name) is.named, (is.text, is.value, rest, is.valued, is.most))
+is_size word is = (subst (IsSpelled kind.Name) (sym (name_is word is)) is.named, (is.text, is.value, text_is word is, is.valued, is.most))
+
+-- a word is one size
+pub one_size : (word : List ℕ) (a b : IsSize word) → size_of a ≡ size_of b
+one_size word a b =
+    let same_name : a.name ≡ b.name = sym (name_is word a) ∙ name_is word b in
+    let same_text : a.text ≡ b.text = let k = sym (text_is word a) ∙ text_is word b in cc in
+    let same_value : a.value ≡ b.value = one_whole b.text a.value b.value (subst (λ t. SpellsWhole t a.value) same_text a.valued) b.valued in
+    ap (λ n. record { name = n; value = a.value }) same_name ∙ ap (λ z. record { name = b.name; value = z }) same_value
 
 pub size_by : (word : List ℕ) (n : ℕ) (given : Bool) → n ≡ prefix_len is_word_byte word → IsSpelled kind.Name (take n word)
     → (IsTrue given ↔ ((value : List ℕ) × (z : ℤ) × (take (length word - n) (drop n word) ≡ codes "=" ++ value) × SpellsWhole value z × (unsigned_abs z ≤ 1048576)))

@@ -24,7 +24,7 @@ pub record GivesCheck (sizes : List Size) (bits : ℕ) (bytes out : List ℕ) : 
   pub proper : IsProper flat
   pub line : out ≡ codes "ok\n"
 
--- ---- with the words behind the command
+-- ---- with the words at hand
 
 pub record RefusesWith (words : List (List ℕ)) (bits : ℕ) (bytes reason : List ℕ) : Type 0 where
   pub sizes : List Size

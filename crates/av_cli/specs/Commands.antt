@@ -92,14 +92,14 @@ pub record IsEmit (words : List (List ℕ)) (bits : ℕ) : Type 0 where
   pub say : Say no_options rest options
   pub bits_are : bits ≡ given_or default_width options.width
 
--- `check`, then options and sizes in any order; no option has the form of a size, and no value of one
+-- `check`, then options and sizes in any order; neither `check` nor an option or its value has the form of a size
 pub record IsCheck (words : List (List ℕ)) (bits : ℕ) (sizes : List Size) : Type 0 where
   pub rest : List (List ℕ)
   pub first : words ≡ codes "check" ∷ rest
   pub options : Options
   pub say : Say no_options rest options
   pub bits_are : bits ≡ given_or default_width options.width
-  pub give : GiveSizes rest sizes
+  pub give : GiveSizes words sizes
 
 -- nothing, or `--` alone
 abbrev pub IsBare : List (List ℕ) → Type 0
