@@ -1,5 +1,5 @@
 -- How the program's clauses follow from what its steps did.
-use Rattle.std.proofs.Common.{◌≡◌, ◌≢◌, ℕ, ◌<◌, ◌≤◌, List, ◌∷◌, ◌++◌, length, length-append, codes, Option, Some, None, refl, sym, ◌∙◌, ap, subst, inl, inr, arith}
+use Rattle.std.proofs.Common.{◌≡◌, ◌≢◌, ◌⊎◌, ℕ, ◌<◌, ◌≤◌, List, ◌∷◌, ◌++◌, length, length-append, codes, Option, Some, None, refl, sym, ◌∙◌, ap, subst, inl, inr, arith}
 use Rattle.std.specs.Prelude.{IfSome}
 use Rattle.std.proofs.lemmas.List.{append-nil}
 use Rattle.av_base.specs.Outside.{Takes, TakesMore, IsAtEnd, HasRisen}
@@ -80,13 +80,18 @@ exclusive_sim bytes reason out (bad_stimulus {text} {rest} {first} {design} faul
     let stimulated = subst (λ (d : Design). SpellsStimulus d.module.inputs rest g.stimulus) one (subst (λ r. SpellsStimulus g.design.module.inputs r g.stimulus) later g.stimulated) in
     not_both_stimuli design.module.inputs (inputs_distinct text design spelled) first rest g.stimulus fault stimulated is
 
+exclude_check : (words : List (List ℕ)) (bits : ℕ) (bytes out : List ℕ) (sizes : List Size) → IsCheck words bits sizes → length bytes ≤ LIMIT → GivesCheck sizes bits bytes out → HasRefusal words bytes → ⊥
+exclude_check words bits bytes out sizes is within g (reason, inl (long, e)) = omega arith
+exclude_check words bits bytes out sizes is within g (reason, inr (inl (short, (other, emit), r))) = no_check words bits other sizes is (inl emit)
+exclude_check words bits bytes out sizes is within g (reason, inr (inr (inl (short, sim, r)))) = no_check words bits 0 sizes is (inr sim)
+exclude_check words bits bytes out sizes is within g (reason, inr (inr (inr (short, (n, others, other, r))))) =
+    let (same_bits, same_sizes) = one_check words bits n sizes others is other in
+    exclusive_check others n bytes reason out r (subst (λ (m : ℕ). GivesCheck others m bytes out) same_bits (subst (λ (xs : List Size). GivesCheck xs bits bytes out) same_sizes g))
+
 exclusive : (command : Command) (words : List (List ℕ)) (bytes out : List ℕ) → Are command words → length bytes ≤ LIMIT → Gives command words bytes out → HasRefusal words bytes → ⊥
-exclusive command words bytes out are within g (reason, inl (long, is)) = omega arith
-exclusive (Check width) words bytes out are within (sizes, is, g) (reason, inr (inl (short, (bits, other), r))) = no_check words width.bits bits sizes is (inl other)
-exclusive (Check width) words bytes out are within (sizes, is, g) (reason, inr (inr (inl (short, other, r)))) = no_check words width.bits 0 sizes is (inr other)
-exclusive (Check width) words bytes out are within (sizes, is, g) (reason, inr (inr (inr (short, (bits, others, other, r))))) =
-    let (same_bits, same_sizes) = one_check words width.bits bits sizes others is other in
-    exclusive_check others bits bytes reason out r (subst (λ (m : ℕ). GivesCheck others m bytes out) same_bits (subst (λ (xs : List Size). GivesCheck xs width.bits bytes out) same_sizes g))
+exclusive (Check width) words bytes out are within g refusal = exclude_check words width.bits bytes out g.0 g.1 within g.2 refusal
+exclusive (Emit width) words bytes out are within g (reason, inl (long, is)) = omega arith
+exclusive Sim words bytes out are within g (reason, inl (long, is)) = omega arith
 exclusive (Emit width) words bytes out are within g (reason, inr (inl (short, some, (none, is)))) = none g.computes.form g.computes.text
 exclusive (Emit width) words bytes out are within g (reason, inr (inr (inl (short, other, r)))) = no_sim words width.bits are other
 exclusive (Emit width) words bytes out are within g (reason, inr (inr (inr (short, (bits, sizes, other, r))))) = no_check words bits width.bits sizes other (inl are)

@@ -4,7 +4,7 @@ use Rattle.av_cli.specs.Refusals.{text_reason}
 use Rattle.av_cli.proofs.refusals.put_text_reason.Goals as goal
 
 pub returns-in-VTwice : goal.returns-in-VTwice
-returns-in-VTwice g c = Puts-is c.put_name-in-VTwice.ensures (ap text_reason (sym c.in-VTwice.is))
+returns-in-VTwice g c = Puts-is c.put_name.ensures (ap text_reason (sym c.in-VTwice.is))
 
 pub returns-in-VName : goal.returns-in-VName
 returns-in-VName g c = Puts-is c.put_name-in-VName.ensures (ap text_reason (sym c.in-VName.is))
