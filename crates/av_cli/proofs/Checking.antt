@@ -100,7 +100,7 @@ check_given words sizes bits bytes t give is put =
 pub check_answered : (words : List (List ℕ)) (bits : ℕ) (bytes : List ℕ) {held held' : Option (List ℕ)} {faults faults' : ℕ} {status : Status} → ((found : List Size) × IsCheck words bits found)
     → IsAnswered (RefusesWith words bits bytes) (GivesWith words bits bytes) held held' faults faults' status
     → IsAnswered (λ reason. (sizes : List Size) × IsCheck words bits sizes × RefusesCheck sizes bits bytes reason) (λ out. (sizes : List Size) × IsCheck words bits sizes × GivesCheck sizes bits bytes out)
-        held held' faults faults' status
+    held held' faults faults' status
 check_answered words bits bytes (found, is) (refused r put) = refused (r.sizes, with_sizes words bits found r.sizes is r.give, r.refuses) put
 check_answered words bits bytes (found, is) (given g put) = given (g.sizes, with_sizes words bits found g.sizes is g.give, g.gives) put
 check_answered words bits bytes (found, is) (no_memory a b) = no_memory a b

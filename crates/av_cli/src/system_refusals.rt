@@ -26,13 +26,7 @@ fn put_name_and_place<K: Sink>(
     put_place(page, sink, " ", place);
 }
 
-fn put_named_point<K: Sink>(
-    page: &mut Page,
-    sink: &mut K,
-    words: &str,
-    name: &Name,
-    point: &Point,
-)
+fn put_named_point<K: Sink>(page: &mut Page, sink: &mut K, words: &str, name: &Name, point: &Point)
     ensures { Puts (K.held sink.old) (K.held sink.new) (K.faults sink.old) (K.faults sink.new) page.old page.new (words.now ++ named_point name.now point.now) }
 {
     put_name(page, sink, words, name);

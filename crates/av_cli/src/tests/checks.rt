@@ -158,12 +158,7 @@ const ROWS: &[(&[&str], &str, Status, &str)] = &[
         Status::Refused,
         "refused: size outside\n",
     ),
-    (
-        &["check", "N=1048577"],
-        MATRIX_VECTOR,
-        Status::Words,
-        USAGE,
-    ),
+    (&["check", "N=1048577"], MATRIX_VECTOR, Status::Words, USAGE),
     (
         &["check", "--width", "8", "N=4", "--width=8"],
         MATRIX_VECTOR,
