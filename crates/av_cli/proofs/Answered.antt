@@ -1,5 +1,5 @@
 -- How the program's clauses follow from what its steps did.
-use Rattle.std.proofs.Common.{◌≡◌, ◌≢◌, ℕ, ◌<◌, ◌≤◌, List, ◌∷◌, ◌++◌, length, length-append, codes, Option, Some, None, refl, sym, ◌∙◌, ap, subst, inl, inr, arith}
+use Rattle.std.proofs.Common.{◌≡◌, ◌≢◌, ◌⊎◌, ℕ, ◌<◌, ◌≤◌, List, ◌∷◌, ◌++◌, length, length-append, codes, Option, Some, None, refl, sym, ◌∙◌, ap, subst, inl, inr, arith}
 use Rattle.std.specs.Prelude.{IfSome}
 use Rattle.std.proofs.lemmas.List.{append-nil}
 use Rattle.av_base.specs.Outside.{Takes, TakesMore, IsAtEnd, HasRisen}
@@ -11,38 +11,54 @@ use Rattle.av_vread.proofs.Faulted.{not_both, one_design}
 use Rattle.av_vread.proofs.SoundDesigns.{spelled_sound}
 use Rattle.av_data.specs.Stimuli.{SpellsStimulus}
 use Rattle.av_data.proofs.Told.{not_both as not_both_stimuli}
+use Rattle.av_names.specs.declared.size.Size.{Size}
 use Rattle.av_cli.specs.declared.status.Status.{Status}
 use Rattle.av_cli.specs.declared.status.Status.TheVariants.{Done, Refused, Words, ReadFault, WriteFault, Memory}
 use Rattle.av_cli.specs.declared.program.TheConstants.{LIMIT}
 use Rattle.av_cli.specs.declared.words.Command.{Command}
-use Rattle.av_cli.specs.declared.words.Command.TheVariants.{Emit, Sim}
-use Rattle.av_cli.specs.Commands.{IsEmit, IsSim, AreRead}
+use Rattle.av_cli.specs.declared.words.Command.TheVariants.{Check, Emit, Sim}
+use Rattle.av_cli.specs.Commands.{IsCheck, IsEmit, IsSim, AreRead}
 use Rattle.av_cli.specs.CommandsSeen.{Are}
 use Rattle.av_cli.specs.Refusals.{refusal_line}
 use Rattle.av_cli.specs.Sims.{RefusesSim, no_mark, bad_text, bad_stimulus, GivesSim}
 use Rattle.av_cli.specs.Asked.{Refuses, Gives}
 use Rattle.av_cli.specs.Program.{Writes, WritesRefusal, IsRefused, HasRefusal, AddsWhole, AddsFront, IsComplete}
 use Rattle.av_cli.specs.Written.{IsPut, IsAnswered, refused, given, no_memory}
+use Rattle.av_cli.specs.Checks.{GivesCheck}
+use Rattle.av_cli.proofs.Checking.{exclusive_check}
+use Rattle.av_cli.proofs.GivenSizes.{one_check}
 use Rattle.av_cli.proofs.Presenting.{given_distinct}
 
 pub read_of : (command : Command) (words : List (List ℕ)) → Are command words → AreRead words
+read_of (Check width) words (sizes, are) = inr (inr (width.bits, sizes, are))
 read_of (Emit width) words are = inl (width.bits, are)
-read_of Sim words are = inr are
+read_of Sim words are = inr (inl are)
 
-refusal_of : (command : Command) (words : List (List ℕ)) (bytes reason : List ℕ) → Are command words → length bytes ≤ LIMIT → Refuses command bytes reason → IsRefused words bytes reason
+refusal_of : (command : Command) (words : List (List ℕ)) (bytes reason : List ℕ) → Are command words → length bytes ≤ LIMIT → Refuses command words bytes reason → IsRefused words bytes reason
+refusal_of (Check width) words bytes reason are within (sizes, is, r) = inr (inr (inr (within, (width.bits, sizes, is, r))))
 refusal_of (Emit width) words bytes reason are within r = inr (inl (within, (width.bits, are), r))
-refusal_of Sim words bytes reason are within r = inr (inr (within, are, r))
+refusal_of Sim words bytes reason are within r = inr (inr (inl (within, are, r)))
 
-writes_output : (command : Command) (words : List (List ℕ)) (left left' : Option (List ℕ)) (bytes out : List ℕ) → Are command words → Takes left left' bytes → IsAtEnd left' → length bytes ≤ LIMIT → Gives command bytes out
+writes_output : (command : Command) (words : List (List ℕ)) (left left' : Option (List ℕ)) (bytes out : List ℕ) → Are command words → Takes left left' bytes → IsAtEnd left' → length bytes ≤ LIMIT → Gives command words bytes out
     → Writes Done words left left' out
+writes_output (Check w) words left left' bytes out are takes end within (sizes, is, g) =
+    inr (inr (record { bits = w.bits; sizes = sizes; read = is; taken = bytes; takes = takes; whole = end; within = within; gives = g }))
 writes_output (Emit w) words left left' bytes out are takes end within g = inl (record { width = w; read = are; taken = bytes; takes = takes; whole = end; within = within; gives = g })
-writes_output Sim words left left' bytes out are takes end within g = inr (record { read = are; taken = bytes; takes = takes; whole = end; within = within; gives = g })
+writes_output Sim words left left' bytes out are takes end within g = inr (inl (record { read = are; taken = bytes; takes = takes; whole = end; within = within; gives = g }))
 
 -- ---- refused or given, and not both
 
 no_sim : (words : List (List ℕ)) (bits : ℕ) → IsEmit words bits → IsSim words → ⊥
 no_sim words bits e s =
     let same : codes "emit" ∷ e.rest ≡ codes "sim" ∷ s.rest = sym e.first ∙ s.first in
+    cc
+
+no_check : (words : List (List ℕ)) (bits other : ℕ) (sizes : List Size) → IsCheck words bits sizes → (IsEmit words other) ⊎ IsSim words → ⊥
+no_check words bits other sizes c (inl e) =
+    let same : codes "check" ∷ c.rest ≡ codes "emit" ∷ e.rest = sym c.first ∙ e.first in
+    cc
+no_check words bits other sizes c (inr s) =
+    let same : codes "check" ∷ c.rest ≡ codes "sim" ∷ s.rest = sym c.first ∙ s.first in
     cc
 
 inputs_distinct : (text : List ℕ) (design : Design) → Spells text design → AreDistinct (names_of design.module.inputs)
@@ -64,12 +80,24 @@ exclusive_sim bytes reason out (bad_stimulus {text} {rest} {first} {design} faul
     let stimulated = subst (λ (d : Design). SpellsStimulus d.module.inputs rest g.stimulus) one (subst (λ r. SpellsStimulus g.design.module.inputs r g.stimulus) later g.stimulated) in
     not_both_stimuli design.module.inputs (inputs_distinct text design spelled) first rest g.stimulus fault stimulated is
 
-exclusive : (command : Command) (words : List (List ℕ)) (bytes out : List ℕ) → Are command words → length bytes ≤ LIMIT → Gives command bytes out → HasRefusal words bytes → ⊥
-exclusive command words bytes out are within g (reason, inl (long, is)) = omega arith
+exclude_check : (words : List (List ℕ)) (bits : ℕ) (bytes out : List ℕ) (sizes : List Size) → IsCheck words bits sizes → length bytes ≤ LIMIT → GivesCheck sizes bits bytes out → HasRefusal words bytes → ⊥
+exclude_check words bits bytes out sizes is within g (reason, inl (long, e)) = omega arith
+exclude_check words bits bytes out sizes is within g (reason, inr (inl (short, (other, emit), r))) = no_check words bits other sizes is (inl emit)
+exclude_check words bits bytes out sizes is within g (reason, inr (inr (inl (short, sim, r)))) = no_check words bits 0 sizes is (inr sim)
+exclude_check words bits bytes out sizes is within g (reason, inr (inr (inr (short, (n, others, other, r))))) =
+    let (same_bits, same_sizes) = one_check words bits n sizes others is other in
+    exclusive_check others n bytes reason out r (subst (λ (m : ℕ). GivesCheck others m bytes out) same_bits (subst (λ (xs : List Size). GivesCheck xs bits bytes out) same_sizes g))
+
+exclusive : (command : Command) (words : List (List ℕ)) (bytes out : List ℕ) → Are command words → length bytes ≤ LIMIT → Gives command words bytes out → HasRefusal words bytes → ⊥
+exclusive (Check width) words bytes out are within g refusal = exclude_check words width.bits bytes out g.0 g.1 within g.2 refusal
+exclusive (Emit width) words bytes out are within g (reason, inl (long, is)) = omega arith
+exclusive Sim words bytes out are within g (reason, inl (long, is)) = omega arith
 exclusive (Emit width) words bytes out are within g (reason, inr (inl (short, some, (none, is)))) = none g.computes.form g.computes.text
-exclusive (Emit width) words bytes out are within g (reason, inr (inr (short, other, r))) = no_sim words width.bits are other
+exclusive (Emit width) words bytes out are within g (reason, inr (inr (inl (short, other, r)))) = no_sim words width.bits are other
+exclusive (Emit width) words bytes out are within g (reason, inr (inr (inr (short, (bits, sizes, other, r))))) = no_check words bits width.bits sizes other (inl are)
 exclusive Sim words bytes out are within g (reason, inr (inl (short, (bits, other), r))) = no_sim words bits other are
-exclusive Sim words bytes out are within g (reason, inr (inr (short, other, r))) = exclusive_sim bytes reason out r g
+exclusive Sim words bytes out are within g (reason, inr (inr (inl (short, other, r)))) = exclusive_sim bytes reason out r g
+exclusive Sim words bytes out are within g (reason, inr (inr (inr (short, (bits, sizes, other, r))))) = no_check words bits 0 sizes other (inr are)
 
 -- ---- what was put
 
@@ -137,7 +165,7 @@ writes_too_long command words left left' are (taken, takes, long) = record {
 }
 
 writes_refusal : (command : Command) (words : List (List ℕ)) (left left' : Option (List ℕ)) (bytes reason : List ℕ) → Are command words → Takes left left' bytes → IsAtEnd left' → length bytes ≤ LIMIT
-    → Refuses command bytes reason → WritesRefusal words left left' (refusal_line reason)
+    → Refuses command words bytes reason → WritesRefusal words left left' (refusal_line reason)
 writes_refusal command words left left' bytes reason are takes end within r = record {
   read = read_of command words are;
   taken = bytes;
@@ -183,14 +211,14 @@ complete_memory words left status read is = record {
 
 -- ---- the answer of a command to the bytes of the source
 
-pub by_command : (command other : Command) (bytes : List ℕ) {held held' : Option (List ℕ)} {faults faults' : ℕ} {status : Status} → command ≡ other
-    → IsAnswered (Refuses other bytes) (Gives other bytes) held held' faults faults' status → IsAnswered (Refuses command bytes) (Gives command bytes) held held' faults faults' status
-by_command command other bytes {held} {held'} {faults} {faults'} {status} e answered =
-    subst (λ x. IsAnswered (Refuses x bytes) (Gives x bytes) held held' faults faults' status) (sym e) answered
+pub by_command : (command other : Command) (words : List (List ℕ)) (bytes : List ℕ) {held held' : Option (List ℕ)} {faults faults' : ℕ} {status : Status} → command ≡ other
+    → IsAnswered (Refuses other words bytes) (Gives other words bytes) held held' faults faults' status → IsAnswered (Refuses command words bytes) (Gives command words bytes) held held' faults faults' status
+by_command command other words bytes {held} {held'} {faults} {faults'} {status} e answered =
+    subst (λ x. IsAnswered (Refuses x words bytes) (Gives x words bytes) held held' faults faults' status) (sym e) answered
 
 pub answered_refused : (command : Command) (words : List (List ℕ)) (left left' : Option (List ℕ)) (bytes : List ℕ) {held held' : Option (List ℕ)} {faults faults' : ℕ} {status : Status}
     → Are command words → Takes left left' bytes → IsAtEnd left' → length bytes ≤ LIMIT
-    → IsAnswered (Refuses command bytes) (Gives command bytes) held held' faults faults' status → status ≡ Refused → AddsWhole Refused words left left' held held'
+    → IsAnswered (Refuses command words bytes) (Gives command words bytes) held held' faults faults' status → status ≡ Refused → AddsWhole Refused words left left' held held'
 answered_refused command words left left' bytes are takes end within (refused {reason} r put) e =
     whole Refused words left left' (writes_refusal command words left left' bytes reason are takes end within r) put (λ x. cc) e
 answered_refused command words left left' bytes are takes end within (given g put) e = absurd (no_other Refused put (λ x. cc) (λ x. cc) e)
@@ -198,7 +226,7 @@ answered_refused command words left left' bytes are takes end within (no_memory 
 
 pub answered_done : (command : Command) (words : List (List ℕ)) (left left' : Option (List ℕ)) (bytes : List ℕ) {held held' : Option (List ℕ)} {faults faults' : ℕ} {status : Status}
     → Are command words → Takes left left' bytes → IsAtEnd left' → length bytes ≤ LIMIT
-    → IsAnswered (Refuses command bytes) (Gives command bytes) held held' faults faults' status → status ≡ Done → AddsWhole Done words left left' held held'
+    → IsAnswered (Refuses command words bytes) (Gives command words bytes) held held' faults faults' status → status ≡ Done → AddsWhole Done words left left' held held'
 answered_done command words left left' bytes are takes end within (refused r put) e = absurd (no_other Done put (λ x. cc) (λ x. cc) e)
 answered_done command words left left' bytes are takes end within (given {out} g put) e =
     whole Done words left left' (writes_output command words left left' bytes out are takes end within g) put (λ x. cc) e
@@ -206,7 +234,7 @@ answered_done command words left left' bytes are takes end within (no_memory a b
 
 pub answered_fault : (command : Command) (words : List (List ℕ)) (left left' : Option (List ℕ)) (bytes : List ℕ) {held held' : Option (List ℕ)} {faults faults' : ℕ} {status : Status}
     → Are command words → Takes left left' bytes → IsAtEnd left' → length bytes ≤ LIMIT
-    → IsAnswered (Refuses command bytes) (Gives command bytes) held held' faults faults' status → status ≡ WriteFault
+    → IsAnswered (Refuses command words bytes) (Gives command words bytes) held held' faults faults' status → status ≡ WriteFault
     → HasRisen faults faults' × AddsFront words left left' held held'
 answered_fault command words left left' bytes are takes end within (refused {reason} r put) e =
     front Refused words left left' (writes_refusal command words left left' bytes reason are takes end within r) put (λ x. cc) e
@@ -232,7 +260,7 @@ never_read_fault (no_memory a b) e = cc
 
 pub answered_complete : (command : Command) (words : List (List ℕ)) (left left' : Option (List ℕ)) (bytes : List ℕ) {held held' : Option (List ℕ)} {faults faults' : ℕ} {status : Status}
     → Are command words → Takes left left' bytes → IsAtEnd left' → length bytes ≤ LIMIT
-    → IsAnswered (Refuses command bytes) (Gives command bytes) held held' faults faults' status → (HasRisen faults faults' → ⊥) → IsComplete words left status
+    → IsAnswered (Refuses command words bytes) (Gives command words bytes) held held' faults faults' status → (HasRisen faults faults' → ⊥) → IsComplete words left status
 answered_complete command words left left' bytes {status = status} are takes end within (refused {reason} r put) none =
     complete_refused words left status (read_of command words are)
     (all_taken left left' bytes (HasRefusal words) takes end (reason, refusal_of command words bytes reason are within r)) (as_wanted put none)

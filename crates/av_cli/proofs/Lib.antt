@@ -5,6 +5,8 @@ pub mod Running
 pub mod Targets
 mod OptionWords
 mod SizeWords
+pub mod GivenSizes
+pub mod Checking
 pub mod Simulating
 pub mod Sent
 pub mod Answered

@@ -51,29 +51,29 @@ unfolding third
 dashes_third w e = ap third e
 
 -- the first byte
-head : List ℕ → ℕ
+unfoldable pub head : List ℕ → ℕ
 head [] = 0
 head (b ∷ bytes) = b
 
-width_head : (w : List ℕ) (ws : List (List ℕ)) (d : List ℕ) (r : List (List ℕ)) → IsOption (codes "--width") (w ∷ ws) d r → head w ≡ 45
+pub width_head : (w : List ℕ) (ws : List (List ℕ)) (d : List ℕ) (r : List (List ℕ)) → IsOption (codes "--width") (w ∷ ws) d r → head w ≡ 45
 unfolding head
 width_head w ws d r at = elim (begins (codes "--width") w ws d r at) [ inl e ↦ ap head e | inr e ↦ ap head e ]
 
-box_head : (w : List ℕ) (ws : List (List ℕ)) (d : List ℕ) (r : List (List ℕ)) → IsOption (codes "--box") (w ∷ ws) d r → head w ≡ 45
+pub box_head : (w : List ℕ) (ws : List (List ℕ)) (d : List ℕ) (r : List (List ℕ)) → IsOption (codes "--box") (w ∷ ws) d r → head w ≡ 45
 unfolding head
 box_head w ws d r at = elim (begins (codes "--box") w ws d r at) [ inl e ↦ ap head e | inr e ↦ ap head e ]
 
-dashes_head : (w : List ℕ) → w ≡ codes "--" → head w ≡ 45
+pub dashes_head : (w : List ℕ) → w ≡ codes "--" → head w ≡ 45
 unfolding head
 dashes_head w e = ap head e
 
-letter_first : (name text w : List ℕ) → IsWord name → w ≡ name ++ text → IsTrue (is_ascii_alphabetic (head w))
+pub letter_first : (name text w : List ℕ) → IsWord name → w ≡ name ++ text → IsTrue (is_ascii_alphabetic (head w))
 unfolding head
 letter_first [] text w word e = absurd word
 letter_first (b ∷ bytes) text w word e = rw e word.0
 
 -- a size begins with a letter
-no_size : (w : List ℕ) → head w ≡ 45 → IsSize w → ⊥
+pub no_size : (w : List ℕ) → head w ≡ 45 → IsSize w → ⊥
 no_size w e is =
     let letter = letter_first is.name (codes "=" ++ is.text) w is.named.0 is.parts in
     let dash : IsTrue (is_ascii_alphabetic 45) = subst (λ (b : ℕ). IsTrue (is_ascii_alphabetic b)) e letter in
@@ -149,6 +149,18 @@ sizes_steps o p w ws dashes all = (
   (λ say. let s = sizes_said o p w ws dashes say in subst (λ (q : Options). Say o [] q) (sym s.1) nothing),
   (λ say. subst (λ (q : Options). Say o (w ∷ ws) q) (sym (nothing_said o p say)) (sizes dashes all)),
 )
+
+-- words say one thing
+pub one_said : (o p q : Options) (words : List (List ℕ)) → Say o words p → Say o words q → p ≡ q
+one_said o p q [] nothing other = sym (nothing_said o q other)
+one_said o p q words (width {rest = rest} {digits = digits} {n = n} none option spelled say) other =
+    one_said (having_width o n) p q rest say ((width_steps o q words digits rest n option none spelled).0 other)
+one_said o p q words (box {rest = rest} {digits = digits} {n = n} none option spelled say) other =
+    one_said (having_box o n) p q rest say ((box_steps o q words digits rest n option none spelled).0 other)
+one_said o p q (w ∷ ws) (size is say) other =
+    one_said o p q ws say
+    (size_said o q w ws (λ d r at. no_size w (width_head w ws d r at) is) (λ d r at. no_size w (box_head w ws d r at) is) (λ e. no_size w (dashes_head w e) is) other).1
+one_said o p q (w ∷ ws) (sizes dashes all) other = sym (sizes_said o q w ws dashes other).1
 
 -- ---- at a place
 

@@ -13,55 +13,20 @@ use Rattle.av_base.specs.declared.token_kind.TokenKind.TheVariants as kind
 use Rattle.av_base.specs.Tokens.{IsDigits, IsSpelled, IsWord, is_word_byte, number_of, reserved_words}
 use Rattle.av_lex.proofs.Longest.{run_all}
 use Rattle.av_lex.proofs.Tables.{is_found, is_there}
-use Rattle.av_cli.specs.Commands.{IsSize, SpellsWhole}
+use Rattle.av_cli.specs.Commands.{IsSize, size_of, SpellsWhole}
 
 -- ---- values
 
 no_dash : (digits : List ℕ) → IsDigits (45 ∷ digits) → ⊥
 no_dash digits h = absurd cc
 
-abs_neg : (n : ℕ) → unsigned_abs (neg_ℤ (pos n)) ≡ n
-abs_neg n = omega (arith, ints)
-
-abs_pos : (n : ℕ) → unsigned_abs (pos n) ≡ n
-abs_pos n = omega (arith, ints)
-
--- behind a minus sign
-pub dashed : (text digits : List ℕ) (b : Bool) → text ≡ codes "-" ++ digits → (IsTrue b ↔ (IsDigits digits × (number_of digits ≤ 1048576)))
-    → IsTrue b ↔ ((z : ℤ) × SpellsWhole text z × (unsigned_abs z ≤ 1048576))
-dashed text digits b e h = (into, outof)
-  where
-    into : IsTrue b → (z : ℤ) × SpellsWhole text z × (unsigned_abs z ≤ 1048576)
-    into t =
-        let d = h.0 t in
-        let a = abs_neg (number_of digits) in
-        (neg_ℤ (pos (number_of digits)), inr (digits, e, d.0, refl), omega (arith, a, d.1))
-
-    outof : (z : ℤ) × SpellsWhole text z × (unsigned_abs z ≤ 1048576) → IsTrue b
-    outof (z, inl (digit, v), most) = absurd (no_dash digits (subst IsDigits e digit))
-    outof (z, inr (other, e', digit, v), most) =
-        let same : other ≡ digits = let k = sym e' ∙ e in cc in
-        let a = abs_neg (number_of other) in
-        let m : unsigned_abs (neg_ℤ (pos (number_of other))) ≤ 1048576 = subst (λ (x : ℤ). unsigned_abs x ≤ 1048576) v most in
-        h.1 (subst (λ (x : List ℕ). IsDigits x × (number_of x ≤ 1048576)) same (digit, omega (arith, a, m)))
-
--- without one
-pub bare : (text : List ℕ) (b : Bool) → ((rest : List ℕ) → text ≢ codes "-" ++ rest) → (IsTrue b ↔ (IsDigits text × (number_of text ≤ 1048576)))
-    → IsTrue b ↔ ((z : ℤ) × SpellsWhole text z × (unsigned_abs z ≤ 1048576))
-bare text b none h = (into, outof)
-  where
-    into : IsTrue b → (z : ℤ) × SpellsWhole text z × (unsigned_abs z ≤ 1048576)
-    into t =
-        let d = h.0 t in
-        let a = abs_pos (number_of text) in
-        (pos (number_of text), inl (d.0, refl), omega (arith, a, d.1))
-
-    outof : (z : ℤ) × SpellsWhole text z × (unsigned_abs z ≤ 1048576) → IsTrue b
-    outof (z, inl (digit, v), most) =
-        let a = abs_pos (number_of text) in
-        let m : unsigned_abs (pos (number_of text)) ≤ 1048576 = subst (λ (x : ℤ). unsigned_abs x ≤ 1048576) v most in
-        h.1 (digit, omega (arith, a, m))
-    outof (z, inr (other, e', digit, v), most) = absurd (none other e')
+pub one_whole : (text : List ℕ) (y z : ℤ) → SpellsWhole text y → SpellsWhole text z → y ≡ z
+one_whole text y z (inl a) (inl b) = a.1 ∙ sym b.1
+one_whole text y z (inl a) (inr b) = absurd (no_dash b.0 (subst IsDigits b.1 a.0))
+one_whole text y z (inr a) (inl b) = absurd (no_dash a.0 (subst IsDigits a.1 b.0))
+one_whole text y z (inr a) (inr b) =
+    let same : a.0 ≡ b.0 = let k = sym a.1 ∙ b.1 in cc in
+    a.3 ∙ (ap (λ d. neg_ℤ (pos (number_of d))) same ∙ sym b.3)
 
 -- ---- names
 
@@ -89,7 +54,7 @@ run_to : (name text : List ℕ) → AllByRecursion (λ b. is_word_byte b ≡ tru
 run_to [] text all = refl
 run_to (b ∷ name) text all = let r = run_to name text all.1 in rw (all.0, r) (omega arith)
 
-word_bytes : (name : List ℕ) → IsWord name → AllByRecursion (λ b. is_word_byte b ≡ true) name
+pub word_bytes : (name : List ℕ) → IsWord name → AllByRecursion (λ b. is_word_byte b ≡ true) name
 word_bytes [] word = absurd word
 word_bytes (b ∷ bytes) word = (letter b word.0, recursion_from_All (λ x. is_word_byte x ≡ true) bytes word.1)
   where
@@ -112,13 +77,28 @@ size_is word named (value, z, e, spelled, most) = record {
   most = most;
 }
 
+module _ (word : List ℕ) (is : IsSize word) where
+  pub name_is : take (prefix_len is_word_byte word) word ≡ is.name
+  name_is =
+      let run : prefix_len is_word_byte word ≡ length is.name = ap (prefix_len is_word_byte) is.parts ∙ run_to is.name is.text (word_bytes is.name is.named.0) in
+      ap (λ n. take n word) run ∙ (ap (take (length is.name)) is.parts ∙ take-append_seam is.name (codes "=" ++ is.text))
+
+  pub text_is : drop (prefix_len is_word_byte word) word ≡ codes "=" ++ is.text
+  text_is =
+      let run : prefix_len is_word_byte word ≡ length is.name = ap (prefix_len is_word_byte) is.parts ∙ run_to is.name is.text (word_bytes is.name is.named.0) in
+      ap (λ n. drop n word) run ∙ (ap (drop (length is.name)) is.parts ∙ drop-append_seam is.name (codes "=" ++ is.text))
+
 pub is_size : (word : List ℕ) → IsSize word → IsSpelled kind.Name (take (prefix_len is_word_byte word) word)
     × ((value : List ℕ) × (z : ℤ) × (drop (prefix_len is_word_byte word) word ≡ codes "=" ++ value) × SpellsWhole value z × (unsigned_abs z ≤ 1048576))
-is_size word is =
-    let run : prefix_len is_word_byte word ≡ length is.name = ap (prefix_len is_word_byte) is.parts ∙ run_to is.name is.text (word_bytes is.name is.named.0) in
-    let name : take (prefix_len is_word_byte word) word ≡ is.name = ap (λ n. take n word) run ∙ (ap (take (length is.name)) is.parts ∙ take-append_seam is.name (codes "=" ++ is.text)) in
-    let rest : drop (prefix_len is_word_byte word) word ≡ codes "=" ++ is.text = ap (λ n. drop n word) run ∙ (ap (drop (length is.name)) is.parts ∙ drop-append_seam is.name (codes "=" ++ is.text)) in
-    (subst (IsSpelled kind.Name) (sym name) is.named, (is.text, is.value, rest, is.valued, is.most))
+is_size word is = (subst (IsSpelled kind.Name) (sym (name_is word is)) is.named, (is.text, is.value, text_is word is, is.valued, is.most))
+
+-- a word is one size
+pub one_size : (word : List ℕ) (a b : IsSize word) → size_of a ≡ size_of b
+one_size word a b =
+    let same_name : a.name ≡ b.name = sym (name_is word a) ∙ name_is word b in
+    let same_text : a.text ≡ b.text = let k = sym (text_is word a) ∙ text_is word b in cc in
+    let same_value : a.value ≡ b.value = one_whole b.text a.value b.value (subst (λ t. SpellsWhole t a.value) same_text a.valued) b.valued in
+    ap (λ n. record { name = n; value = a.value }) same_name ∙ ap (λ z. record { name = b.name; value = z }) same_value
 
 pub size_by : (word : List ℕ) (n : ℕ) (given : Bool) → n ≡ prefix_len is_word_byte word → IsSpelled kind.Name (take n word)
     → (IsTrue given ↔ ((value : List ℕ) × (z : ℤ) × (take (length word - n) (drop n word) ≡ codes "=" ++ value) × SpellsWhole value z × (unsigned_abs z ≤ 1048576)))

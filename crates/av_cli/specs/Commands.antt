@@ -4,6 +4,7 @@ use Rattle.std.specs.List.{AllByRecursion}
 use Rattle.std.proofs.Math.IntN.{neg_ℤ}
 use Rattle.av_base.specs.declared.token_kind.TokenKind.TheVariants as kind
 use Rattle.av_base.specs.Tokens.{IsDigits, IsSpelled, number_of}
+use Rattle.av_names.specs.declared.size.Size.{Size}
 
 -- ---- numbers
 
@@ -31,6 +32,16 @@ pub record IsSize (word : List ℕ) : Type 0 where
   pub named : IsSpelled kind.Name name
   pub valued : SpellsWhole text value
   pub most : unsigned_abs value ≤ 1048576
+
+-- the size of such a word
+abbrev pub size_of : {word : List ℕ} → IsSize word → Size
+size_of is = record { name = is.name; value = is.value }
+
+-- the words of this form give these sizes, in the order of the words
+pub data GiveSizes : List (List ℕ) → List Size → Type 0 where
+  no_more : GiveSizes [] []
+  given : {word : List ℕ} {rest : List (List ℕ)} {sizes : List Size} → (is : IsSize word) → GiveSizes rest sizes → GiveSizes (word ∷ rest) (size_of is ∷ sizes)
+  passed : {word : List ℕ} {rest : List (List ℕ)} {sizes : List Size} → (IsSize word → ⊥) → GiveSizes rest sizes → GiveSizes (word ∷ rest) sizes
 
 -- ---- options
 
@@ -81,6 +92,15 @@ pub record IsEmit (words : List (List ℕ)) (bits : ℕ) : Type 0 where
   pub say : Say no_options rest options
   pub bits_are : bits ≡ given_or default_width options.width
 
+-- `check`, then options and sizes in any order; neither `check` nor an option or its value has the form of a size
+pub record IsCheck (words : List (List ℕ)) (bits : ℕ) (sizes : List Size) : Type 0 where
+  pub rest : List (List ℕ)
+  pub first : words ≡ codes "check" ∷ rest
+  pub options : Options
+  pub say : Say no_options rest options
+  pub bits_are : bits ≡ given_or default_width options.width
+  pub give : GiveSizes words sizes
+
 -- nothing, or `--` alone
 abbrev pub IsBare : List (List ℕ) → Type 0
 IsBare words = (words ≡ []) ⊎ (words ≡ codes "--" ∷ [])
@@ -92,7 +112,7 @@ pub record IsSim (words : List (List ℕ)) : Type 0 where
   pub bare : IsBare rest
 
 abbrev pub AreRead : List (List ℕ) → Type 0
-AreRead words = ((bits : ℕ) × IsEmit words bits) ⊎ IsSim words
+AreRead words = ((bits : ℕ) × IsEmit words bits) ⊎ IsSim words ⊎ ((bits : ℕ) × (sizes : List Size) × IsCheck words bits sizes)
 
 abbrev pub usage_line : List ℕ
 usage_line = codes "usage: alphav check|schedule|table|emit|run|trace [--width W] [--box C] [NAME=VALUE ...] | sim | demo K\n"

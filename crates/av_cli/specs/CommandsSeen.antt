@@ -2,13 +2,15 @@
 use Rattle.std.specs.Prelude.{List, ℕ, option_map}
 use Rattle.av_cli.specs.declared.options.Options.{Options as Kept}
 use Rattle.av_cli.specs.declared.words.Command.{Command}
-use Rattle.av_cli.specs.declared.words.Command.TheVariants.{Emit, Sim}
-use Rattle.av_cli.specs.Commands.{Options, IsEmit, IsSim}
+use Rattle.av_cli.specs.declared.words.Command.TheVariants.{Check, Emit, Sim}
+use Rattle.av_names.specs.declared.size.Size.{Size}
+use Rattle.av_cli.specs.Commands.{Options, IsCheck, IsEmit, IsSim}
 
 abbrev pub seen : Kept → Options
 seen o = record { width = option_map (λ w. w.bits) o.width; box = o.box_size }
 
 -- the words are this command
 abbrev pub Are : Command → List (List ℕ) → Type 0
+Are (Check w) words = (sizes : List Size) × IsCheck words w.bits sizes
 Are (Emit w) words = IsEmit words w.bits
 Are Sim words = IsSim words

@@ -1,10 +1,12 @@
 pub mod Commands
 pub mod CommandsSeen
 pub mod Refusals
+pub mod SystemRefusals
 pub mod Simulated
 pub mod Clocking
 pub mod Emits
 pub mod Sims
+pub mod Checks
 pub mod Asked
 pub mod Written
 pub mod Program

@@ -3,11 +3,13 @@
 use Rattle.std.specs.Prelude.{◌≡◌, ◌⊎◌, ℕ, ◌<◌, ◌≤◌, List, codes, length, Option, IfSome}
 use Rattle.av_base.specs.declared.width.Width.{Width}
 use Rattle.av_base.specs.Outside.{Takes, Adds, AddsPrefix, IsAtEnd}
+use Rattle.av_names.specs.declared.size.Size.{Size}
 use Rattle.av_cli.specs.declared.status.Status.{Status}
 use Rattle.av_cli.specs.declared.status.Status.TheVariants.{Done, Refused, Words, ReadFault, WriteFault, Memory}
 use Rattle.av_cli.specs.declared.program.TheConstants.{LIMIT}
-use Rattle.av_cli.specs.Commands.{IsEmit, IsSim, AreRead, usage_line}
+use Rattle.av_cli.specs.Commands.{IsCheck, IsEmit, IsSim, AreRead, usage_line}
 use Rattle.av_cli.specs.Refusals.{refusal_line}
+use Rattle.av_cli.specs.Checks.{RefusesCheck, GivesCheck}
 use Rattle.av_cli.specs.Emits.{RefusesEmit, GivesEmit}
 use Rattle.av_cli.specs.Sims.{RefusesSim, GivesSim}
 
@@ -19,6 +21,7 @@ IsRefused words bytes reason =
     ((LIMIT < length bytes) × (reason ≡ codes "too long"))
     ⊎ ((length bytes ≤ LIMIT) × ((bits : ℕ) × IsEmit words bits) × RefusesEmit bytes reason)
     ⊎ ((length bytes ≤ LIMIT) × IsSim words × RefusesSim bytes reason)
+    ⊎ ((length bytes ≤ LIMIT) × ((bits : ℕ) × (sizes : List Size) × IsCheck words bits sizes × RefusesCheck sizes bits bytes reason))
 
 -- ---- what is written
 
@@ -57,11 +60,22 @@ pub record WritesRun (words : List (List ℕ)) (left left' : Option (List ℕ)) 
   pub within : length taken ≤ LIMIT
   pub gives : GivesSim taken out
 
+-- the output of `check`: that the text which the source gave up to its end has each declared point just once
+pub record WritesVerdict (words : List (List ℕ)) (left left' : Option (List ℕ)) (out : List ℕ) : Type 0 where
+  pub bits : ℕ
+  pub sizes : List Size
+  pub read : IsCheck words bits sizes
+  pub taken : List ℕ
+  pub takes : Takes left left' taken
+  pub whole : IsAtEnd left'
+  pub within : length taken ≤ LIMIT
+  pub gives : GivesCheck sizes bits taken out
+
 -- what a status writes, where it writes something whole
 abbrev pub Writes : Status → List (List ℕ) → Option (List ℕ) → Option (List ℕ) → List ℕ → Type 0
 Writes Words words left left' out = WritesUsage words left left' out
 Writes Refused words left left' out = WritesRefusal words left left' out
-Writes Done words left left' out = WritesDesign words left left' out ⊎ WritesRun words left left' out
+Writes Done words left left' out = WritesDesign words left left' out ⊎ WritesRun words left left' out ⊎ WritesVerdict words left left' out
 Writes ReadFault words left left' out = ⊥
 Writes WriteFault words left left' out = ⊥
 Writes Memory words left left' out = ⊥

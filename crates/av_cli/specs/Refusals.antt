@@ -1,4 +1,4 @@
--- The lines of refusals.
+-- The lines of refusals, and why a design text and a stimulus are refused.
 use Rattle.std.specs.Prelude.{ℕ, List, [], ◌++◌, codes, decimal}
 use Rattle.av_base.specs.declared.place.Place.{Place}
 use Rattle.av_vread.specs.declared.fault.VFault.{VFault}

@@ -2,6 +2,7 @@
 //! that computes it to standard output.
 #![tactic(auto)]
 
+mod check;
 mod emit;
 mod numbers;
 mod options;
@@ -11,8 +12,10 @@ mod refusals;
 mod sim;
 mod simulation;
 mod size_word;
+mod sizes;
 mod standard;
 mod status;
+mod system_refusals;
 #[cfg(test)]
 mod tests;
 mod words;

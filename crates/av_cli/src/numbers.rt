@@ -7,35 +7,29 @@ ghost use Rattle.av_cli.specs.Commands.{SpellsUpTo};
 
 use av_base::decimal_value;
 
-/// The number from 1 to the greatest that the digits spell.
-pub(crate) fn number_up_to(greatest: u32, digits: &[u8]) -> Option<u32>
-    ensures spelled { IfSome result (λ n. SpellsUpTo greatest digits.now n) }
-    ensures not_spelled { IfNone result ((n : ℕ) → SpellsUpTo greatest digits.now n → ⊥) }
+/// The number that the digits spell, where it is not above the greatest.
+pub(crate) fn number_at_most(greatest: u32, digits: &[u8]) -> Option<u32>
+    ensures spelled { IfSome result (λ n. IsDigits digits.now × (n ≡ number_of digits.now) × (n ≤ greatest)) }
+    ensures not_spelled { IfNone result (IsDigits digits.now → number_of digits.now ≤ greatest → ⊥) }
 {
     if !are_digits(digits) {
         return None;
     }
     let number = u32::try_from(decimal_value(digits)?).ok()?;
-    if number == 0 || number > greatest {
-        return None;
+    if number <= greatest {
+        Some(number)
+    } else {
+        None
     }
-    Some(number)
 }
 
-/// Whether these are digits, of a number that is not above the greatest.
-pub(crate) fn is_at_most(greatest: u64, digits: &[u8]) -> bool
-    ensures { IsTrue result ↔ (IsDigits digits.now × (number_of digits.now ≤ greatest)) }
+/// The number from 1 to the greatest that the digits spell.
+pub(crate) fn number_up_to(greatest: u32, digits: &[u8]) -> Option<u32>
+    ensures spelled { IfSome result (λ n. SpellsUpTo greatest digits.now n) }
+    ensures not_spelled { IfNone result ((n : ℕ) → SpellsUpTo greatest digits.now n → ⊥) }
 {
-    are_digits(digits) && has_value_at_most(greatest, digits)
-}
-
-fn has_value_at_most(greatest: u64, digits: &[u8]) -> bool
-    ensures { IsTrue result ↔ (number_of digits.now ≤ greatest) }
-{
-    match decimal_value(digits) {
-        Some(value) => value <= greatest,
-        None => false,
-    }
+    let number = number_at_most(greatest, digits)?;
+    if number == 0 { None } else { Some(number) }
 }
 
 fn are_digits(bytes: &[u8]) -> bool

@@ -3,7 +3,9 @@ ghost use Rattle.av_base.specs.Outside.{HasRisen};
 ghost use Rattle.av_cli.specs.Program.{AddsWhole, AddsFront, IsComplete};
 ghost use Rattle.av_cli.specs.Written.{IsAnswered};
 ghost use Rattle.av_cli.specs.Asked.{Refuses, Gives};
+ghost use Rattle.av_cli.specs.CommandsSeen.{Are};
 
+use crate::check::check;
 use crate::emit::emit;
 use crate::put::put;
 use crate::sim::sim;
@@ -47,16 +49,24 @@ pub fn alphav<S: Source, K: Sink>(
         Err(ReadAll::ReadFault) => Status::ReadFault,
         Err(ReadAll::Memory) => Status::Memory,
         Err(ReadAll::TooLong) => put(sink, TOO_LONG, Status::Refused),
-        Ok(bytes) => answer(alloc, command, bytes.as_slice(), sink),
+        Ok(bytes) => answer(alloc, words, command, bytes.as_slice(), sink),
     }
 }
 
-// Answers the bytes of an input.
-fn answer<K: Sink>(alloc: Global, command: Command, bytes: &[u8], sink: &mut K) -> Status
-    requires { length bytes.now ≤ LIMIT }
-    ensures { IsAnswered (Refuses command bytes.now) (Gives command bytes.now) (K.held sink.old) (K.held sink.new) (K.faults sink.old) (K.faults sink.new) result }
+// Answers the bytes of an input. The words are those that the command was read from.
+fn answer<K: Sink>(
+    alloc: Global,
+    words: &[Name],
+    command: Command,
+    bytes: &[u8],
+    sink: &mut K,
+) -> Status
+    requires read { Are command words.now }
+    requires within { length bytes.now ≤ LIMIT }
+    ensures { IsAnswered (Refuses command words.now bytes.now) (Gives command words.now bytes.now) (K.held sink.old) (K.held sink.new) (K.faults sink.old) (K.faults sink.new) result }
 {
     match command {
+        Command::Check { width } => check(alloc, words, bytes, width, sink),
         Command::Emit { width } => emit(alloc, bytes, width, sink),
         Command::Sim => sim(alloc, bytes, sink),
     }

@@ -4,12 +4,16 @@ ghost use Rattle.std.specs.Prelude.{◌≡◌};
 ghost use Rattle.av_net.specs.Texts.{text};
 ghost use Rattle.av_vread.specs.declared.fault.VFault.TheVariants as text_fault;
 ghost use Rattle.av_data.specs.declared.fault.DataFault.TheVariants as data_fault;
+ghost use Rattle.av_compile.specs.declared.text_refusal.TextRefusal.TheVariants as system_refusal;
 ghost use Rattle.av_cli.specs.Refusals.{refusal_line, text_reason, data_reason, IsOfStimulus};
+ghost use Rattle.av_cli.specs.SystemRefusals.{system_reason};
 ghost use Rattle.av_cli.specs.Written.{IsPut};
 
 use crate::refusals::{write_data_refusal, write_text_refusal};
 use crate::status::Status;
+use crate::system_refusals::write_system_refusal;
 use av_base::{Sink, write_all};
+use av_compile::TextRefusal;
 use av_data::DataFault;
 use av_net::Design;
 use av_vread::VFault;
@@ -58,6 +62,20 @@ pub(crate) fn put_data_refusal<K: Sink>(sink: &mut K, fault: &DataFault) -> Stat
     match fault {
         DataFault::Memory => Status::Memory,
         _ => match write_data_refusal(fault, sink) {
+            Ok(()) => Status::Refused,
+            Err(_) => Status::WriteFault,
+        },
+    }
+}
+
+/// Adds the line of the refusal of an Alpha text. Want of memory has no line: the status tells it.
+pub(crate) fn put_system_refusal<K: Sink>(sink: &mut K, refusal: &TextRefusal) -> Status
+    ensures memory { refusal.now ≡ system_refusal.Memory → (result ≡ Status.Memory) × (K.held sink.new ≡ K.held sink.old) }
+    ensures refused { (refusal.now ≡ system_refusal.Memory → ⊥) → IsPut (K.held sink.old) (K.held sink.new) (K.faults sink.old) (K.faults sink.new) (refusal_line (system_reason refusal.now)) Status.Refused result }
+{
+    match refusal {
+        TextRefusal::Memory => Status::Memory,
+        _ => match write_system_refusal(refusal, sink) {
             Ok(()) => Status::Refused,
             Err(_) => Status::WriteFault,
         },

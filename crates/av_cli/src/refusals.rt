@@ -1,11 +1,11 @@
-//! The lines of refusals.
+//! The lines of refusals of design texts and stimuli.
 
 ghost use Rattle.std.specs.Prelude.{◌++◌, decimal, OnOk, OnErr, IsErr};
 ghost use Rattle.av_base.specs.Outside.{Adds, AddsPrefix, HasRisen};
 ghost use Rattle.av_page.specs.Pages.{Puts};
 ghost use Rattle.av_cli.specs.Refusals.{refusal_line, place_text, text_reason, data_reason, IsOfStimulus};
 
-use av_base::{Place, Sink, WriteFault};
+use av_base::{Name, Place, Sink, WriteFault};
 use av_data::DataFault;
 use av_page::Page;
 use av_vread::VFault;
@@ -17,14 +17,16 @@ fn put_number<K: Sink>(page: &mut Page, sink: &mut K, words: &str, number: u32)
     page.put_number(sink, number);
 }
 
-fn put_name<K: Sink>(page: &mut Page, sink: &mut K, words: &str, name: &str)
+/// Puts the words and then the name on the page.
+pub(crate) fn put_name<K: Sink>(page: &mut Page, sink: &mut K, words: &str, name: &Name)
     ensures { Puts (K.held sink.old) (K.held sink.new) (K.faults sink.old) (K.faults sink.new) page.old page.new (words.now ++ name.now) }
 {
     page.put(sink, words);
-    page.put(sink, name);
+    page.put(sink, name.as_str());
 }
 
-fn put_place<K: Sink>(page: &mut Page, sink: &mut K, words: &str, place: Place)
+/// Puts the words and then the place on the page.
+pub(crate) fn put_place<K: Sink>(page: &mut Page, sink: &mut K, words: &str, place: Place)
     ensures { Puts (K.held sink.old) (K.held sink.new) (K.faults sink.old) (K.faults sink.new) page.old page.new (words.now ++ place_text place) }
 {
     page.put(sink, words);
@@ -40,11 +42,11 @@ fn put_text_reason<K: Sink>(page: &mut Page, sink: &mut K, fault: &VFault)
         VFault::VByte(place) => put_place(page, sink, "verilog bad byte ", *place),
         VFault::VSyntax(place) => put_place(page, sink, "verilog syntax ", *place),
         VFault::VListing(number) => put_number(page, sink, "verilog listing ", *number),
-        VFault::VTwice(name) => put_name(page, sink, "verilog twice ", name.as_str()),
-        VFault::VName(name) => put_name(page, sink, "verilog unknown ", name.as_str()),
-        VFault::VUnassigned(name) => put_name(page, sink, "verilog unassigned ", name.as_str()),
-        VFault::VOrder(name) => put_name(page, sink, "verilog order ", name.as_str()),
-        VFault::VWidth(name) => put_name(page, sink, "verilog width ", name.as_str()),
+        VFault::VTwice(name) => put_name(page, sink, "verilog twice ", name),
+        VFault::VName(name) => put_name(page, sink, "verilog unknown ", name),
+        VFault::VUnassigned(name) => put_name(page, sink, "verilog unassigned ", name),
+        VFault::VOrder(name) => put_name(page, sink, "verilog order ", name),
+        VFault::VWidth(name) => put_name(page, sink, "verilog width ", name),
         VFault::Memory => page.put(sink, ""),
     }
 }

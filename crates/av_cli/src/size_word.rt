@@ -1,6 +1,6 @@
 //! Sizes in words: NAME=VALUE.
 
-ghost use Rattle.std.specs.Prelude.{◌≡◌, ◌≤◌, ◌↔◌, ℤ, ◌++◌, List as Items, ℕ, unsigned_abs, codes, IsTrue, length, take};
+ghost use Rattle.std.specs.Prelude.{◌≡◌, ◌≤◌, ◌↔◌, ℤ, ◌++◌, List as Items, ℕ, unsigned_abs, codes, IsTrue, IfSome, IfNone, length, take};
 ghost use Rattle.std.specs.List.{prefix_len, list_any, AllByRecursion};
 ghost use Rattle.std.specs.Str.{bytes_eq};
 ghost use Rattle.std.specs.Char.{is_ascii_alphabetic};
@@ -8,7 +8,7 @@ ghost use Rattle.av_base.specs.declared.token_kind.TokenKind.TheVariants as kind
 ghost use Rattle.av_base.specs.Tokens.{IsSpelled, IsWord, is_word_byte, reserved_words};
 ghost use Rattle.av_cli.specs.Commands.{IsSize, SpellsWhole};
 
-use crate::numbers::is_at_most;
+use crate::numbers::number_at_most;
 
 // Words that an Alpha text keeps for itself.
 const RESERVED_WORDS: [&str; 16] = [
@@ -17,7 +17,7 @@ const RESERVED_WORDS: [&str; 16] = [
 ];
 
 // The greatest absolute value of a size.
-const GREATEST: u64 = 1_048_576;
+const GREATEST: u32 = 1_048_576;
 
 /// Whether the word is NAME=VALUE.
 pub(crate) fn is_size(word: &[u8]) -> bool
@@ -85,17 +85,24 @@ fn is_given(text: &[u8]) -> bool
     ensures { IsTrue result ↔ ((value : Items ℕ) × (z : ℤ) × (text.now ≡ codes "=" ++ value) × SpellsWhole value z × (unsigned_abs z ≤ 1048576)) }
 {
     match text.strip_prefix(b"=") {
-        Some(value) => is_value(value),
+        Some(value) => size_value(value).is_some(),
         None => false,
     }
 }
 
-// Whether a value stands here: digits, with a minus sign before them or without.
-fn is_value(text: &[u8]) -> bool
-    ensures { IsTrue result ↔ ((z : ℤ) × SpellsWhole text.now z × (unsigned_abs z ≤ 1048576)) }
+/// The value that stands here: digits, with a minus sign before them or without.
+pub(crate) fn size_value(text: &[u8]) -> Option<i64>
+    ensures value { IfSome result (λ z. SpellsWhole text.now z × (unsigned_abs z ≤ 1048576)) }
+    ensures none { IfNone result ((z : ℤ) → SpellsWhole text.now z → unsigned_abs z ≤ 1048576 → ⊥) }
 {
     match text.strip_prefix(b"-") {
-        Some(digits) => is_at_most(GREATEST, digits),
-        None => is_at_most(GREATEST, text),
+        Some(digits) => {
+            let number = number_at_most(GREATEST, digits)?;
+            Some(-i64::from(number))
+        }
+        None => {
+            let number = number_at_most(GREATEST, text)?;
+            Some(i64::from(number))
+        }
     }
 }

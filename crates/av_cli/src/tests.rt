@@ -134,6 +134,7 @@ cycles 3
 const USAGE: &str =
     "usage: alphav check|schedule|table|emit|run|trace [--width W] [--box C] [NAME=VALUE ...] | sim | demo K\n";
 
+mod checks;
 mod sims;
 mod stimuli;
 

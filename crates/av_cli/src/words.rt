@@ -1,5 +1,5 @@
-ghost use Rattle.std.specs.Prelude.{◌<◌, ◌↔◌, drop, length, IsTrue, IfSome, IfNone};
-ghost use Rattle.av_cli.specs.Commands.{AreRead, IsBare};
+ghost use Rattle.std.specs.Prelude.{◌≡◌, ◌<◌, ◌↔◌, drop, length, IsTrue, IfSome, IfNone};
+ghost use Rattle.av_cli.specs.Commands.{Options as Said, Say, AreRead, IsBare, no_options, given_or, default_width};
 ghost use Rattle.av_cli.specs.CommandsSeen.{Are};
 
 use crate::options::read_options;
@@ -8,6 +8,8 @@ use av_base::{Name, Width};
 /// What the words ask for.
 #[derive(Clone, Copy, Debug)]
 pub enum Command {
+    /// Whether a system has each declared point exactly once. Its sizes stand in the words.
+    Check { width: Width },
     /// The text of a design, whose words have this width.
     Emit { width: Width },
     /// The run of a module under a stimulus.
@@ -21,15 +23,24 @@ pub fn read_words(words: &[Name]) -> Option<Command>
 {
     let first = words.first()?;
     match first.as_str() {
-        "emit" => {
-            let options = read_options(words, 1)?;
-            Some(Command::Emit {
-                width: options.width_or_default()?,
-            })
-        }
+        "check" => Some(Command::Check {
+            width: read_width(words)?,
+        }),
+        "emit" => Some(Command::Emit {
+            width: read_width(words)?,
+        }),
         "sim" if is_bare(words) => Some(Command::Sim),
         _ => None,
     }
+}
+
+// The width of words that the options behind the first word give.
+fn read_width(words: &[Name]) -> Option<Width>
+    requires { 0 < length words.now }
+    ensures read { IfSome result (λ width. (o : Said) × Say no_options (drop 1 words.now) o × (width.bits ≡ given_or default_width o.width)) }
+    ensures unread { IfNone result ((o : Said) → Say no_options (drop 1 words.now) o → ⊥) }
+{
+    read_options(words, 1)?.width_or_default()
 }
 
 // Nothing but `--` stands behind the first word.

@@ -46,7 +46,8 @@ fn write_entry<K: Sink>(page: &mut Page, sink: &mut K, kind: &str, entry: &Entry
     page.put_number(sink, entry.cycle);
 }
 
-fn write_point<K: Sink>(page: &mut Page, sink: &mut K, point: &Point)
+/// Puts a point on the page, as `(1,-2)`.
+pub fn write_point<K: Sink>(page: &mut Page, sink: &mut K, point: &Point)
     ensures { Puts (K.held sink.old) (K.held sink.new) (K.faults sink.old) (K.faults sink.new) page.old page.new (point_text point.now) }
 {
     page.put(sink, "(");

@@ -1,16 +1,19 @@
-use Rattle.std.proofs.Common.{◌++◌, ap, sym, ◌∙◌, codes}
+use Rattle.std.proofs.Common.{sym, ap}
 use Rattle.av_page.proofs.Putting.{Puts-is}
 use Rattle.av_cli.specs.Refusals.{text_reason}
 use Rattle.av_cli.proofs.refusals.put_text_reason.Goals as goal
 
+pub returns-in-VTwice : goal.returns-in-VTwice
+returns-in-VTwice g c = Puts-is c.put_name.ensures (ap text_reason (sym c.in-VTwice.is))
+
 pub returns-in-VName : goal.returns-in-VName
-returns-in-VName g c = Puts-is c.put_name-in-VName.ensures (ap (λ n. codes "verilog unknown " ++ n) c.as_str-in-VName.ensures ∙ ap text_reason (sym c.in-VName.is))
+returns-in-VName g c = Puts-is c.put_name-in-VName.ensures (ap text_reason (sym c.in-VName.is))
 
 pub returns-in-VUnassigned : goal.returns-in-VUnassigned
-returns-in-VUnassigned g c = Puts-is c.put_name-in-VUnassigned.ensures (ap (λ n. codes "verilog unassigned " ++ n) c.as_str-in-VUnassigned.ensures ∙ ap text_reason (sym c.in-VUnassigned.is))
+returns-in-VUnassigned g c = Puts-is c.put_name-in-VUnassigned.ensures (ap text_reason (sym c.in-VUnassigned.is))
 
 pub returns-in-VOrder : goal.returns-in-VOrder
-returns-in-VOrder g c = Puts-is c.put_name-in-VOrder.ensures (ap (λ n. codes "verilog order " ++ n) c.as_str-in-VOrder.ensures ∙ ap text_reason (sym c.in-VOrder.is))
+returns-in-VOrder g c = Puts-is c.put_name-in-VOrder.ensures (ap text_reason (sym c.in-VOrder.is))
 
 pub returns-in-VWidth : goal.returns-in-VWidth
-returns-in-VWidth g c = Puts-is c.put_name-in-VWidth.ensures (ap (λ n. codes "verilog width " ++ n) c.as_str-in-VWidth.ensures ∙ ap text_reason (sym c.in-VWidth.is))
+returns-in-VWidth g c = Puts-is c.put_name-in-VWidth.ensures (ap text_reason (sym c.in-VWidth.is))

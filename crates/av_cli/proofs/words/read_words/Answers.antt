@@ -1,0 +1,12 @@
+use Rattle.std.proofs.Common.{◌≡◌, ◌∷◌, ◌∙◌, drop, ap, refl, sym}
+use Rattle.std.specs.Prelude.{codes}
+use Rattle.av_cli.proofs.OptionWords.{at_words}
+use Rattle.av_cli.proofs.GivenSizes.{check_read}
+use Rattle.av_cli.proofs.words.read_words.Goals as goal
+
+pub returns-in_ok-read_width-in-check-clause-read : goal.returns-in_ok-read_width-in-check-clause-read
+returns-in_ok-read_width-in-check-clause-read c =
+    let words = c.args.words.now in
+    let item = c.in_ok-first.ensures.item in
+    let first : words ≡ c.in_ok-first.first.now ∷ drop 1 words = at_words words 0 1 c.in_ok-first.first.now item.3.0 refl item.1 in
+    check_read words c.in_ok-read_width-in-check.field-0.bits (drop 1 words) (first ∙ ap (λ w. w ∷ drop 1 words) (sym c.as_str.ensures ∙ c.in-check.is)) c.in_ok-read_width-in-check.ensures.read

@@ -1,0 +1,148 @@
+//! The lines of refusals of Alpha texts.
+
+ghost use Rattle.std.specs.Prelude.{◌≡◌, ◌++◌, codes, decimal, OnOk, OnErr, IsErr};
+ghost use Rattle.av_base.specs.Outside.{Adds, AddsPrefix, HasRisen};
+ghost use Rattle.av_page.specs.Pages.{Puts};
+ghost use Rattle.av_cli.specs.Refusals.{refusal_line, place_text};
+ghost use Rattle.av_cli.specs.SystemRefusals.{quantity_text, named_point, blame_text, system_reason};
+
+use crate::refusals::{put_name, put_place};
+use av_base::{Name, Place, Point, Sink, WriteFault};
+use av_compile::TextRefusal;
+use av_flat::Quantity;
+use av_page::Page;
+use av_vtext::write_point;
+
+fn put_name_and_place<K: Sink>(
+    page: &mut Page,
+    sink: &mut K,
+    words: &str,
+    name: &Name,
+    place: Place,
+)
+    ensures { Puts (K.held sink.old) (K.held sink.new) (K.faults sink.old) (K.faults sink.new) page.old page.new (words.now ++ name.now ++ codes " " ++ place_text place) }
+{
+    put_name(page, sink, words, name);
+    put_place(page, sink, " ", place);
+}
+
+fn put_named_point<K: Sink>(page: &mut Page, sink: &mut K, words: &str, name: &Name, point: &Point)
+    ensures { Puts (K.held sink.old) (K.held sink.new) (K.faults sink.old) (K.faults sink.new) page.old page.new (words.now ++ named_point name.now point.now) }
+{
+    put_name(page, sink, words, name);
+    page.put(sink, " ");
+    write_point(page, sink, point);
+}
+
+fn put_blame<K: Sink>(page: &mut Page, sink: &mut K, outside: &Option<(Name, Point)>)
+    ensures { Puts (K.held sink.old) (K.held sink.new) (K.faults sink.old) (K.faults sink.new) page.old page.new (blame_text outside.now) }
+{
+    match outside {
+        Some((name, point)) => put_named_point(page, sink, " at ", name, point),
+        None => page.put(sink, ""),
+    }
+}
+
+fn put_uncovered<K: Sink>(
+    page: &mut Page,
+    sink: &mut K,
+    variable: &Name,
+    point: &Point,
+    outside: &Option<(Name, Point)>,
+)
+    ensures { Puts (K.held sink.old) (K.held sink.new) (K.faults sink.old) (K.faults sink.new) page.old page.new (codes "uncovered " ++ named_point variable.now point.now ++ blame_text outside.now) }
+{
+    put_named_point(page, sink, "uncovered ", variable, point);
+    put_blame(page, sink, outside);
+}
+
+fn quantity_word(kind: Quantity) -> &'static str
+    ensures { result.now ≡ quantity_text kind }
+{
+    match kind {
+        Quantity::Variables => "variables",
+        Quantity::Indices => "indices",
+        Quantity::Nodes => "nodes",
+        Quantity::Coefficient => "coefficient",
+        Quantity::Constant => "constant",
+        Quantity::Constraints => "constraints",
+        Quantity::Coordinate => "coordinate",
+        Quantity::BoxSize => "box",
+        Quantity::Reductions => "reductions",
+    }
+}
+
+fn put_amount<K: Sink>(page: &mut Page, sink: &mut K, words: &str, amount: u128)
+    ensures { Puts (K.held sink.old) (K.held sink.new) (K.faults sink.old) (K.faults sink.new) page.old page.new (words.now ++ decimal amount) }
+{
+    page.put(sink, words);
+    page.put_number(sink, amount);
+}
+
+fn put_limit<K: Sink>(page: &mut Page, sink: &mut K, kind: Quantity, amount: u128)
+    ensures { Puts (K.held sink.old) (K.held sink.new) (K.faults sink.old) (K.faults sink.new) page.old page.new (codes "limit " ++ quantity_text kind ++ codes " " ++ decimal amount) }
+{
+    page.put(sink, "limit ");
+    page.put(sink, quantity_word(kind));
+    put_amount(page, sink, " ", amount);
+}
+
+fn put_reason<K: Sink>(page: &mut Page, sink: &mut K, refusal: &TextRefusal)
+    ensures { Puts (K.held sink.old) (K.held sink.new) (K.faults sink.old) (K.faults sink.new) page.old page.new (system_reason refusal.now) }
+{
+    match refusal {
+        TextRefusal::BadByte(place) => put_place(page, sink, "bad byte ", *place),
+        TextRefusal::Number(place) => put_place(page, sink, "number ", *place),
+        TextRefusal::Syntax(place) => put_place(page, sink, "syntax ", *place),
+        TextRefusal::Depth(place) => put_place(page, sink, "depth ", *place),
+        TextRefusal::Repeated(name, at) => put_name_and_place(page, sink, "repeated ", name, *at),
+        TextRefusal::SizeTwice(name) => put_name(page, sink, "size twice ", name),
+        TextRefusal::SizeUnknown(name) => put_name(page, sink, "size unknown ", name),
+        TextRefusal::SizeMissing(name) => put_name(page, sink, "size missing ", name),
+        TextRefusal::Unknown(name, at) => put_name_and_place(page, sink, "unknown ", name, *at),
+        TextRefusal::DefinesInput(name, at) => {
+            put_name_and_place(page, sink, "defines input ", name, *at)
+        }
+        TextRefusal::SecondEquation(name, at) => {
+            put_name_and_place(page, sink, "second equation ", name, *at)
+        }
+        TextRefusal::NoEquation(name, at) => {
+            put_name_and_place(page, sink, "no equation ", name, *at)
+        }
+        TextRefusal::Arity(place) => put_place(page, sink, "arity ", *place),
+        TextRefusal::Projection(place) => put_place(page, sink, "projection ", *place),
+        TextRefusal::CaseInReduce(place) => put_place(page, sink, "case in reduce ", *place),
+        TextRefusal::DependOnReduce(place) => {
+            put_place(page, sink, "dependence on reduce ", *place)
+        }
+        TextRefusal::Limit(kind, amount) => put_limit(page, sink, *kind, *amount),
+        TextRefusal::SizeOutside => page.put(sink, "size outside"),
+        TextRefusal::Pieces(amount) => put_amount(page, sink, "pieces ", *amount),
+        TextRefusal::Unbounded(name) => put_name(page, sink, "unbounded ", name),
+        TextRefusal::Uncovered {
+            variable,
+            point,
+            outside,
+        } => put_uncovered(page, sink, variable, point, outside),
+        TextRefusal::TwoBranches { variable, point } => {
+            put_named_point(page, sink, "two branches ", variable, point)
+        }
+        TextRefusal::Memory => page.put(sink, ""),
+    }
+}
+
+/// Writes the line of the refusal of an Alpha text.
+pub(crate) fn write_system_refusal<K: Sink>(
+    refusal: &TextRefusal,
+    sink: &mut K,
+) -> Result<(), WriteFault>
+    ensures added { OnOk result (Adds (K.held sink.old) (K.held sink.new) (refusal_line (system_reason refusal.now))) }
+    ensures fault { IsErr result → HasRisen (K.faults sink.old) (K.faults sink.new) }
+    ensures front { OnErr result (AddsPrefix (K.held sink.old) (K.held sink.new) (refusal_line (system_reason refusal.now))) }
+{
+    let mut page = Page::new();
+    page.put(sink, "refused: ");
+    put_reason(&mut page, sink, refusal);
+    page.put(sink, "\n");
+    page.finish(sink)
+}
