@@ -135,6 +135,7 @@ const USAGE: &str =
     "usage: alphav check|schedule|table|emit|run|trace [--width W] [--box C] [NAME=VALUE ...] | sim | demo K\n";
 
 mod checks;
+mod pieces;
 mod sims;
 mod stimuli;
 
@@ -313,6 +314,13 @@ fn bytes(alloc: Global, text: &str) -> Result<List<u8>, Fail> {
         list.push(*byte)?;
     }
     Ok(list)
+}
+
+fn extend(list: &mut List<u8>, text: &str) -> Result<(), Fail> {
+    for byte in text.as_bytes() {
+        list.push(*byte)?;
+    }
+    Ok(())
 }
 
 fn numbers(alloc: Global, calls: &[u64]) -> Result<List<u64>, Fail> {

@@ -156,7 +156,7 @@ const ROWS: &[(&[&str], &str, Status, &str)] = &[
         &["check", "N=-1048576"],
         MATRIX_VECTOR,
         Status::Refused,
-        "refused: size outside\n",
+        "refused: limit constant 1048578\n",
     ),
     (&["check", "N=1048577"], MATRIX_VECTOR, Status::Words, USAGE),
     (

@@ -1,6 +1,6 @@
-use super::{answer, bytes, numbers};
+use super::{answer, bytes, extend, numbers};
 use crate::Status;
-use av_base::{List, MemSink, MemSource};
+use av_base::{MemSink, MemSource};
 use std::test::Fail;
 
 const SWAP: &str = "module swap(input clk, input rst, output [3:0] o0, output [3:0] o1);
@@ -262,13 +262,6 @@ fn the_module_and_the_stimulus_fix_status_and_output(rt: HostRuntime) -> Result<
         let answer = answer(alloc, &["sim"], &mut source, &mut sink)?;
         assert_eq!(rt; sink.held(), out.as_bytes(), "{rest:?} on {module}");
         assert_eq!(rt; answer, *status, "{rest:?} on {module}");
-    }
-    Ok(())
-}
-
-fn extend(list: &mut List<u8>, text: &str) -> Result<(), Fail> {
-    for byte in text.as_bytes() {
-        list.push(*byte)?;
     }
     Ok(())
 }

@@ -17,7 +17,7 @@ const MOST_BYTES: usize = 1000;
 
 // Whether the lines were read, or their fault with its line.
 #[derive(Clone, Copy, Debug, PartialEq, Eq)]
-enum Told {
+enum Outcome {
     Read,
     Syntax(u32),
     Unknown(u32),
@@ -27,15 +27,15 @@ enum Told {
     Memory,
 }
 
-fn told(answer: &Result<Stimulus, DataFault>) -> Told {
+fn outcome_of(answer: &Result<Stimulus, DataFault>) -> Outcome {
     match answer {
-        Ok(_) => Told::Read,
-        Err(DataFault::DataSyntax(line)) => Told::Syntax(*line),
-        Err(DataFault::DataUnknown(line)) => Told::Unknown(*line),
-        Err(DataFault::DataOutside(line)) => Told::Outside(*line),
-        Err(DataFault::DataTwice(line)) => Told::Twice(*line),
-        Err(DataFault::DataMissing(_, _)) => Told::Missing,
-        Err(DataFault::Memory) => Told::Memory,
+        Ok(_) => Outcome::Read,
+        Err(DataFault::DataSyntax(line)) => Outcome::Syntax(*line),
+        Err(DataFault::DataUnknown(line)) => Outcome::Unknown(*line),
+        Err(DataFault::DataOutside(line)) => Outcome::Outside(*line),
+        Err(DataFault::DataTwice(line)) => Outcome::Twice(*line),
+        Err(DataFault::DataMissing(_, _)) => Outcome::Missing,
+        Err(DataFault::Memory) => Outcome::Memory,
     }
 }
 
@@ -100,16 +100,16 @@ const READ: [(&str, u32, &[Given]); 5] = [
     ),
 ];
 
-const REFUSED: [(&str, Told); 9] = [
-    ("", Told::Syntax(7)),
-    ("\n\n", Told::Syntax(9)),
-    ("cycles 4097\n", Told::Syntax(7)),
-    ("cycles 2\ncycles 2\n", Told::Syntax(8)),
-    ("cycles 2\nat 0 clk 0\n", Told::Unknown(8)),
-    ("cycles 2\nat 0 a 256\n", Told::Outside(8)),
-    ("cycles 2\nat 2 a 0\n", Told::Outside(8)),
-    ("cycles 2\n\nat 0 a 1\nat 0 a 1\n", Told::Twice(10)),
-    ("cycles 2\nat 0 o 1\nat 9 a 1\n", Told::Unknown(8)),
+const REFUSED: [(&str, Outcome); 9] = [
+    ("", Outcome::Syntax(7)),
+    ("\n\n", Outcome::Syntax(9)),
+    ("cycles 4097\n", Outcome::Syntax(7)),
+    ("cycles 2\ncycles 2\n", Outcome::Syntax(8)),
+    ("cycles 2\nat 0 clk 0\n", Outcome::Unknown(8)),
+    ("cycles 2\nat 0 a 256\n", Outcome::Outside(8)),
+    ("cycles 2\nat 2 a 0\n", Outcome::Outside(8)),
+    ("cycles 2\n\nat 0 a 1\nat 0 a 1\n", Outcome::Twice(10)),
+    ("cycles 2\nat 0 o 1\nat 9 a 1\n", Outcome::Unknown(8)),
 ];
 
 #[test]
@@ -123,12 +123,12 @@ fn lines_give_values_in_the_order_of_cycle_and_port(rt: HostRuntime) -> Result<(
     };
     for (lines, cycles, values) in READ {
         let answer = read(alloc, lines, &design.module);
-        assert_eq!(rt; told(&answer), Told::Read);
+        assert_eq!(rt; outcome_of(&answer), Outcome::Read);
         assert!(rt; is_read(&answer, cycles, values));
     }
     for (lines, fault) in REFUSED {
         let answer = read(alloc, lines, &design.module);
-        assert_eq!(rt; told(&answer), fault);
+        assert_eq!(rt; outcome_of(&answer), fault);
     }
     Ok(())
 }
