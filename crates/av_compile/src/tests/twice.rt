@@ -43,8 +43,9 @@ fn matrix_vector(alloc: Global) -> Result<Option<Flat>, Fail>
     let mut text = String::from_str(alloc, MATRIX_VECTOR)?;
     text.push_str(STEPS)?;
     text.push_str(" tel;")?;
+    let text = text.as_str();
     match Width::new(8) {
-        Some(width) if text.len() <= 1000 => Ok(flat_of(alloc, text.as_str(), sizes.as_slice(), width)),
+        Some(width) if text.len() <= 1000 => Ok(flat_of(alloc, text, sizes.as_slice(), width)),
         _ => Ok(None),
     }
 }
