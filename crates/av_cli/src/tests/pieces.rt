@@ -6,7 +6,13 @@ use av_base::{MemSink, MemSource};
 use std::test::Fail;
 
 /// What a text begins with, what comes then so many times, how it ends, and the line that is written for it.
-type Row = (&'static str, &'static str, usize, &'static str, &'static str);
+type Row = (
+    &'static str,
+    &'static str,
+    usize,
+    &'static str,
+    &'static str,
+);
 
 const ROWS: &[Row] = &[
     // Pieces, counted before any is dropped.
@@ -221,7 +227,11 @@ fn quantities_at_their_limits_and_one_above(rt: HostRuntime) -> Result<(), Fail>
         let mut sink = MemSink::new(alloc, 200, 200, numbers(alloc, &[])?)?;
         let status = answer(alloc, &["check"], &mut source, &mut sink)?;
         assert_eq!(rt; sink.held(), line.as_bytes(), "{after:?} behind {before:?}");
-        assert_eq!(rt; status == Status::Done, *line == "ok\n", "{after:?} behind {before:?}");
+        assert_eq!(rt;
+            status == Status::Done,
+            *line == "ok\n",
+            "{after:?} behind {before:?}"
+        );
     }
     Ok(())
 }
