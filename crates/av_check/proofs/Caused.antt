@@ -1,8 +1,12 @@
 -- Systems that nothing keeps from having a normal form.
 use Rattle.std.proofs.Common.{◌≡◌, inl}
 use Rattle.av_flat.specs.Trees.{FlatSystem}
+use Rattle.av_normal.specs.declared.fault.NormalFault.{NormalFault}
 use Rattle.av_normal.specs.declared.fault.NormalFault.TheVariants as cause
-use Rattle.av_normal.specs.NormalFaults.{HasFewPieces, HasNarrowSets, HasEnds, HasNoCause}
+use Rattle.av_normal.specs.NormalFaults.{HasFewPieces, HasNarrowSets, HasEnds, IsFault}
+
+abbrev pub HasNoCause : FlatSystem → Type 0
+HasNoCause s = (f : NormalFault) → IsFault s f → f ≡ cause.Memory
 
 few_pieces : (s : FlatSystem) → HasNoCause s → HasFewPieces s
 few_pieces s none = λ n many.

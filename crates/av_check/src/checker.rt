@@ -10,7 +10,11 @@ ghost use Rattle.av_check.specs.Wrong.{IsLeastWrong};
 ghost use Rattle.av_check.specs.CheckFaults.{IsFaultOf, IsFault};
 ghost use Rattle.av_check.specs.Standing.{StandsInside};
 ghost use Rattle.av_check.specs.Ready.{IsReady, AreReady, HasNoWrong};
-ghost use Rattle.av_normal.specs.NormalFaults.{IsGiven};
+ghost use Rattle.av_tree.specs.Trees.{Text};
+ghost use Rattle.av_flat.specs.declared.quantity.Quantity.{Quantity};
+ghost use Rattle.av_flat.specs.Quantities.{HasWideSets, HasUnbounded};
+ghost use Rattle.av_flat.specs.Kept.{IsKept};
+ghost use Rattle.av_normal.specs.NormalForm.{IsNormalForm};
 ghost use Rattle.av_check.specs.declared.fault.CheckFault.{CheckFault as FaultSeen};
 
 use crate::CheckFault;
@@ -118,17 +122,16 @@ fn check_variables(alloc: Global, vars: &[Var], kept: &[Var]) -> Result<(), Chec
     Ok(())
 }
 
-/// What `check` answers, where the system's normal form is at hand.
-pub fn check_normal(alloc: Global, flat: &Flat, normal: &Flat) -> Result<(), CheckFault>
-    // The second system is what the pass to the normal form gives of the first.
+// Whether each declared point has just one word, where the normal form is at hand. Its pieces are compared as sets of rows,
+// and no point is looked at but the one that is answered.
+pub(crate) fn check_normal(alloc: Global, flat: &Flat, normal: &Flat) -> Result<(), CheckFault>
     requires well_formed { IsWellFormed (view_system flat.now) }
-    requires given { IsGiven (view_system flat.now) (view_system normal.now) }
-
-    // The first is passed exactly where it is proper, but for want of memory.
+    requires ends { (name : Text) → HasUnbounded (view_system flat.now) name → ⊥ }
+    requires narrow { (kind : Quantity) (n : ℕ) → HasWideSets (view_system flat.now) kind n → ⊥ }
+    requires normal { IsNormalForm (view_system flat.now) (view_system normal.now) }
+    requires kept { IsKept (view_system normal.now) }
     ensures proper { OnOk result (IsProper (view_system flat.now)) }
     ensures complete { IsProper (view_system flat.now) → IfErr result (λ f. f ≡ fault.Memory) }
-
-    // Else the fault is that of its first wrong variable's least wrong point.
     ensures fault { IfErr result (IsFault (view_system flat.now)) }
     ensures refused { (f : FaultSeen) → IsFault (view_system flat.now) f → f ≢ fault.Memory → (result ≡ Err f) ⊎ (result ≡ Err fault.Memory) }
 {

@@ -2,7 +2,9 @@ ghost use Rattle.std.specs.Prelude.{◌≡◌, ◌≢◌, ◌⊎◌, Err, IfErr,
 ghost use Rattle.av_flat.specs.Trees.{view_system};
 ghost use Rattle.av_flat.specs.WellFormed.{IsWellFormed};
 ghost use Rattle.av_flat.specs.Proper.{IsProper};
-ghost use Rattle.av_normal.specs.NormalFaults.{HasNoCause};
+ghost use Rattle.av_normal.specs.declared.fault.NormalFault.{NormalFault as Cause};
+ghost use Rattle.av_normal.specs.declared.fault.NormalFault.TheVariants as cause;
+ghost use Rattle.av_normal.specs.NormalFaults as normalised;
 ghost use Rattle.av_check.specs.declared.fault.CheckFault.{CheckFault as FaultSeen};
 ghost use Rattle.av_check.specs.declared.fault.CheckFault.TheVariants as fault;
 ghost use Rattle.av_check.specs.CheckFaults.{IsFault};
@@ -22,7 +24,7 @@ use std::alloc::Global;
 pub fn check(alloc: Global, flat: &Flat) -> Result<(), CheckFault>
     // The system has a normal form.
     requires well_formed { IsWellFormed (view_system flat.now) }
-    requires has_form { HasNoCause (view_system flat.now) }
+    requires has_form { (f : Cause) → normalised.IsFault (view_system flat.now) f → f ≡ cause.Memory }
 
     // It is passed exactly where it is proper, but for want of memory.
     ensures proper { OnOk result (IsProper (view_system flat.now)) }

@@ -16,6 +16,5 @@ mod sets;
 mod tests;
 mod verdict;
 
-pub use checker::check_normal;
 pub use checking::check;
 pub use fault::CheckFault;

@@ -5,8 +5,7 @@ use Rattle.av_flat.specs.Proper.{IsProper}
 use Rattle.av_names.specs.declared.size.Size.{Size}
 use Rattle.av_compile.specs.declared.text_refusal.TextRefusal.{TextRefusal}
 use Rattle.av_compile.specs.declared.text_refusal.TextRefusal.TheVariants as refusal
-use Rattle.av_normal.specs.NormalFaults.{HasNoCause}
-use Rattle.av_compile.specs.Checked.{Flattens, IsRefused}
+use Rattle.av_compile.specs.Checked.{Flattens, HasNormalForm, IsRefused}
 use Rattle.av_cli.specs.Commands.{GiveSizes}
 use Rattle.av_cli.specs.SystemRefusals.{system_reason}
 
@@ -21,7 +20,7 @@ pub record RefusesCheck (sizes : List Size) (bits : ℕ) (bytes reason : List �
 pub record GivesCheck (sizes : List Size) (bits : ℕ) (bytes out : List ℕ) : Type 0 where
   pub flat : FlatSystem
   pub flattens : Flattens bytes sizes bits flat
-  pub normal : HasNoCause flat
+  pub normal : HasNormalForm flat
   pub proper : IsProper flat
   pub line : out ≡ codes "ok\n"
 

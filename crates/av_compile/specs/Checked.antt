@@ -14,8 +14,9 @@ use Rattle.av_names.specs.Accepted.{instance_of}
 use Rattle.av_names.specs.Flattened.{flat_of}
 use Rattle.av_names.specs.Refusals.{IsAccepted, IsRefusal}
 use Rattle.av_normal.specs.declared.fault.NormalFault.{NormalFault}
+use Rattle.av_normal.specs.declared.fault.NormalFault.TheVariants as normal
 use Rattle.av_normal.specs.NormalFaults as normalised
-use Rattle.av_normal.specs.NormalFaults.{IsGiven, HasNoCause}
+use Rattle.av_normal.specs.NormalFaults.{IsGiven}
 use Rattle.av_check.specs.declared.fault.CheckFault.{CheckFault}
 use Rattle.av_check.specs.CheckFaults as checked
 use Rattle.av_compile.specs.declared.text_refusal.TextRefusal.{TextRefusal}
@@ -27,6 +28,10 @@ pub record Flattens (bytes : List ℕ) (words : List Size) (width : ℕ) (s : Fl
   pub text : IsProgramText bytes system
   pub accepted : IsAccepted system words
   pub flat : s ≡ flat_of (instance_of system words width)
+
+-- nothing keeps the system from having a normal form
+abbrev pub HasNormalForm : FlatSystem → Type 0
+HasNormalForm s = (f : NormalFault) → normalised.IsFault s f → f ≡ normal.Memory
 
 -- the bytes spell a system whose equations are proper with these sizes, and t is the normal form of its flat system
 pub record IsChecked (bytes : List ℕ) (words : List Size) (width : ℕ) (t : FlatSystem) : Type 0 where
@@ -43,5 +48,5 @@ pub data IsRefused (bytes : List ℕ) (words : List Size) (width : ℕ) (r : Tex
       → IsRefused bytes words width r
   in_names : (f : NameFault) → r ≡ of_names f → (s : System) → IsProgramText bytes s → IsRefusal s words f → IsRefused bytes words width r
   in_pieces : (f : NormalFault) → r ≡ of_normal f → (s : FlatSystem) → Flattens bytes words width s → normalised.IsFault s f → IsRefused bytes words width r
-  in_points : (f : CheckFault) → r ≡ of_check f → (s : FlatSystem) → Flattens bytes words width s → HasNoCause s → checked.IsFault s f
+  in_points : (f : CheckFault) → r ≡ of_check f → (s : FlatSystem) → Flattens bytes words width s → HasNormalForm s → checked.IsFault s f
       → IsRefused bytes words width r

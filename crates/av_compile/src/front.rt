@@ -2,14 +2,13 @@ ghost use Rattle.std.specs.Prelude.{◌≡◌, ◌≢◌, ◌<◌, length, IfOk,
 ghost use Rattle.av_flat.specs.Trees.{FlatSystem, view_system};
 ghost use Rattle.av_flat.specs.Proper.{IsProper};
 ghost use Rattle.av_names.specs.Texts.{AreSmall};
-ghost use Rattle.av_normal.specs.NormalFaults.{HasNoCause};
-ghost use Rattle.av_compile.specs.Checked.{Flattens, IsChecked, IsRefused};
+ghost use Rattle.av_compile.specs.Checked.{Flattens, HasNormalForm, IsChecked, IsRefused};
 ghost use Rattle.av_compile.specs.declared.text_refusal.TextRefusal.{TextRefusal as Refused};
 ghost use Rattle.av_compile.specs.declared.text_refusal.TextRefusal.TheVariants as refusal;
 
 use crate::TextRefusal;
 use av_base::Width;
-use av_check::check_normal;
+use av_check::check;
 use av_flat::{Flat, Pass};
 use av_lex::lex;
 use av_names::{Size, resolve};
@@ -38,12 +37,12 @@ pub fn checked(
     ensures refused { (f : Refused) → result ≡ Err f → f ≢ refusal.Memory → IsRefused bytes.now sizes.now width.bits f }
 
     // A proper system that has a normal form is not refused.
-    ensures complete { (s : FlatSystem) → Flattens bytes.now sizes.now width.bits s → HasNoCause s → IsProper s → IfErr result (λ f. f ≡ refusal.Memory) }
+    ensures complete { (s : FlatSystem) → Flattens bytes.now sizes.now width.bits s → HasNormalForm s → IsProper s → IfErr result (λ f. f ≡ refusal.Memory) }
 {
     let tokens = lex(alloc, bytes)?;
     let system = parse(alloc, tokens.as_slice())?;
     let flat = resolve(alloc, &system, sizes, width)?;
     let normal = Normal.run(alloc, &flat)?;
-    check_normal(alloc, &flat, &normal)?;
+    check(alloc, &flat)?;
     Ok(normal)
 }

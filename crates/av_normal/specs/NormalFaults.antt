@@ -31,14 +31,10 @@ IsFault s (fault.Limit kind n) = HasFewPieces s × (HasWideSets s kind n ⊎ (Ha
 IsFault s (fault.Unbounded name) = HasFewPieces s × HasNarrowSets s × HasUnbounded s name
 IsFault s fault.Memory = Unit {0}
 
--- nothing keeps the system from having a normal form
-abbrev pub HasNoCause : FlatSystem → Type 0
-HasNoCause s = (f : NormalFault) → IsFault s f → f ≡ fault.Memory
-
 -- t is the normal form of s and shows what s shows, and s has no cause for a fault
 pub record IsGiven (s t : FlatSystem) : Type 0 where
   pub form : IsNormalForm s t
   pub same : SameMeaning (shows_of s) (declares_of s) (shows_of t) (declares_of t)
   pub kept : IsKept t
   pub proper : IsProper s → IsProper t
-  pub no_cause : HasNoCause s
+  pub no_cause : (f : NormalFault) → IsFault s f → f ≡ fault.Memory

@@ -6,8 +6,7 @@ use Rattle.av_lex.specs.Lexing.{views}
 use Rattle.av_tree.specs.Trees as tree
 use Rattle.av_flat.specs.Proper.{IsProper}
 use Rattle.av_flat.specs.Trees.{view_system}
-use Rattle.av_normal.specs.NormalFaults.{HasNoCause}
-use Rattle.av_compile.specs.Checked.{Flattens, in_pieces, in_points}
+use Rattle.av_compile.specs.Checked.{Flattens, HasNormalForm, in_pieces, in_points}
 use Rattle.av_compile.specs.Refusals.{of_lex, of_parse, of_names, of_normal, of_check}
 use Rattle.av_compile.proofs.FirstFaults.{told, memory_only, bytes_refused, tokens_refused, names_refused, text_of, program_of, same_flat, accepted_names}
 use Rattle.av_compile.proofs.front.checked.Goals as goal
@@ -46,15 +45,15 @@ returns-in_err-normal-clause-refused c = λ f is not_memory.
     record { system = s; text = text; accepted = c.in_ok-flat.ensures.accepted; flat = c.in_ok-flat.ensures.found } in
     in_pieces fault e (view_system c.in_ok-flat.flat) flattens c.in_err-normal.ensures.refuses
 
-pub returns-in_err-check_normal-clause-refused : goal.returns-in_err-check_normal-clause-refused
-returns-in_err-check_normal-clause-refused c = λ f is not_memory.
-    let fault = c.in_err-check_normal.field-0.0 in
-    let e : f ≡ of_check fault = told c.from_residual-in_err-check_normal.result (of_check fault) f c.from_residual-in_err-check_normal.ensures.1 is in
+pub returns-in_err-check-clause-refused : goal.returns-in_err-check-clause-refused
+returns-in_err-check-clause-refused c = λ f is not_memory.
+    let fault = c.in_err-check.field-0.0 in
+    let e : f ≡ of_check fault = told c.from_residual-in_err-check.result (of_check fault) f c.from_residual-in_err-check.ensures.1 is in
     let s = tree.view_system c.in_ok-system.system in
     let text = text_of c.args.bytes.now c.in_ok-tokens.tokens c.as_slice.result.now c.as_slice.ensures c.in_ok-tokens.ensures.found s c.in_ok-system.ensures.found in
     let flattens : Flattens c.args.bytes.now c.args.sizes.now c.args.width.bits (view_system c.in_ok-flat.flat) =
     record { system = s; text = text; accepted = c.in_ok-flat.ensures.accepted; flat = c.in_ok-flat.ensures.found } in
-    in_points fault e (view_system c.in_ok-flat.flat) flattens c.in_ok-normal.ensures.gives.no_cause c.in_err-check_normal.ensures.fault
+    in_points fault e (view_system c.in_ok-flat.flat) flattens c.in_ok-normal.ensures.gives.no_cause c.in_err-check.ensures.fault
 
 -- ---- none where there is none
 
@@ -80,13 +79,13 @@ returns-in_err-normal-clause-complete c = λ s h has_form proper.
     let same : tree.view_system c.in_ok-system.system ≡ h.system = c.in_ok-system.ensures.only h.system program in
     let flat = same_flat c.args.sizes.now c.args.width.bits h.system (tree.view_system c.in_ok-system.system) s (view_system c.in_ok-flat.flat) h.flat c.in_ok-flat.ensures.found same in
     memory_only c.from_residual-in_err-normal.result (of_normal fault) c.from_residual-in_err-normal.ensures.1
-    (ap of_normal (subst HasNoCause (sym flat) has_form fault c.in_err-normal.ensures.refuses))
+    (ap of_normal (subst HasNormalForm (sym flat) has_form fault c.in_err-normal.ensures.refuses))
 
-pub returns-in_err-check_normal-clause-complete : goal.returns-in_err-check_normal-clause-complete
-returns-in_err-check_normal-clause-complete c = λ s h has_form proper.
-    let fault = c.in_err-check_normal.field-0.0 in
+pub returns-in_err-check-clause-complete : goal.returns-in_err-check-clause-complete
+returns-in_err-check-clause-complete c = λ s h has_form proper.
+    let fault = c.in_err-check.field-0.0 in
     let program = program_of c.args.bytes.now c.args.sizes.now c.args.width.bits s c.in_ok-tokens.tokens c.as_slice.result.now c.as_slice.ensures c.in_ok-tokens.ensures.only h in
     let same : tree.view_system c.in_ok-system.system ≡ h.system = c.in_ok-system.ensures.only h.system program in
     let flat = same_flat c.args.sizes.now c.args.width.bits h.system (tree.view_system c.in_ok-system.system) s (view_system c.in_ok-flat.flat) h.flat c.in_ok-flat.ensures.found same in
-    memory_only c.from_residual-in_err-check_normal.result (of_check fault) c.from_residual-in_err-check_normal.ensures.1
-    (ap of_check (c.in_err-check_normal.ensures.complete (subst IsProper (sym flat) proper)))
+    memory_only c.from_residual-in_err-check.result (of_check fault) c.from_residual-in_err-check.ensures.1
+    (ap of_check (c.in_err-check.ensures.complete (subst IsProper (sym flat) proper)))
