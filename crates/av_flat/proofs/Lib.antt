@@ -6,3 +6,8 @@ pub mod PieceValues
 mod Examples
 mod WellFormedSystem
 mod PieceExamples
+pub mod Evaluated
+pub mod Solving
+pub mod Cycles
+pub mod Chaining
+pub mod Unhelped

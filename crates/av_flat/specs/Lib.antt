@@ -12,3 +12,12 @@ pub mod Kept
 pub mod Proper
 pub mod Pieces
 pub mod Quantities
+pub mod Nodes
+pub mod Reads
+pub mod Schedules
+pub mod Broadcasts
+pub mod Chained
+pub mod OneSolution
+pub mod Helped
+pub mod Legal
+pub mod Unreduced

@@ -1,4 +1,4 @@
-//! Systems and trees once more, in memory of their own.
+//! Systems and their parts once more, in memory of their own.
 
 ghost use Rattle.std.specs.Prelude.{◌≡◌, IfOk, map};
 ghost use Rattle.av_flat.specs.Trees.{view, view_piece, view_variable, view_system};
@@ -141,7 +141,8 @@ fn copy_variables(alloc: Global, vars: &[Var]) -> Result<List<Var>, Memory>
     Ok(to)
 }
 
-fn copy_variable(alloc: Global, var: &Var) -> Result<Var, Memory>
+/// The same variable.
+pub fn copy_variable(alloc: Global, var: &Var) -> Result<Var, Memory>
     ensures { IfOk result (λ to. view_variable to ≡ view_variable var.now) }
 {
     let name = Name::new(alloc, var.name.as_str())?;
@@ -156,7 +157,8 @@ fn copy_variable(alloc: Global, var: &Var) -> Result<Var, Memory>
     })
 }
 
-fn copy_pieces(alloc: Global, pieces: &[Piece]) -> Result<List<Piece>, Memory>
+/// The same pieces.
+pub fn copy_pieces(alloc: Global, pieces: &[Piece]) -> Result<List<Piece>, Memory>
     ensures { IfOk result (λ to. map view_piece to ≡ map view_piece pieces.now) }
 {
     let mut to = List::new(alloc);
@@ -169,7 +171,8 @@ fn copy_pieces(alloc: Global, pieces: &[Piece]) -> Result<List<Piece>, Memory>
     Ok(to)
 }
 
-fn copy_set(alloc: Global, set: &Poly) -> Result<Poly, Memory>
+/// The same set, row by row.
+pub fn copy_set(alloc: Global, set: &Poly) -> Result<Poly, Memory>
     ensures { IfOk result (λ to. to ≡ set.now) }
 {
     let rows = copy_rows(alloc, set.rows.as_slice())?;
@@ -186,7 +189,8 @@ fn copy_rows(alloc: Global, rows: &[Form]) -> Result<List<Form>, Memory>
     Ok(to)
 }
 
-fn copy_map(map: &Map) -> Map
+/// The same map.
+pub fn copy_map(map: &Map) -> Map
     ensures { result ≡ map.now }
 {
     Map {

@@ -1,3 +1,8 @@
+ghost use Rattle.std.specs.Prelude.{◌≡◌};
+ghost use Rattle.av_flat.specs.Nodes.{is_node};
+ghost use Rattle.av_flat.specs.Signatures.{is_computed};
+ghost use Rattle.av_flat.specs.Trees.{view_variable};
+
 use crate::pass::Meant;
 use crate::tree::Tree;
 use av_base::{List, Name, Width};
@@ -10,6 +15,18 @@ pub enum Kind {
     Output,
     Local,
     Partial,
+}
+
+impl Kind {
+    /// Whether a variable of this kind has an equation.
+    pub fn is_computed(self) -> bool
+        ensures { result ≡ is_computed self }
+    {
+        match self {
+            Kind::Input => false,
+            Kind::Output | Kind::Local | Kind::Partial => true,
+        }
+    }
 }
 
 /// A right side that holds at the points of a set.
@@ -29,6 +46,15 @@ pub struct Var {
     pub width: Width,
     pub domain: Poly,
     pub pieces: List<Piece>,
+}
+
+impl Var {
+    /// Whether the variable is a node of the dependence graph: it has an equation and a piece.
+    pub fn is_node(&self) -> bool
+        ensures { result ≡ is_node (view_variable self.now) }
+    {
+        self.kind.is_computed() && self.pieces.as_slice().len() > 0
+    }
 }
 
 /// A system of affine recurrence equations with its sizes put in: inputs, outputs and locals, each in the order

@@ -59,7 +59,7 @@ module _ (s t : FlatSystem) (g : IsWellFormed s) (n : IsNormalForm s t) where
   pub signatures_are : signatures t ≡ signatures s
   signatures_are = same_signatures (signatures s) s.variables t.variables n.variables
 
-  declared_same : (test : Kind → Bool) (name : Text) (z : Point) → is_declared test (signatures t) name z ≡ is_declared test (signatures s) name z
+  pub declared_same : (test : Kind → Bool) (name : Text) (z : Point) → is_declared test (signatures t) name z ≡ is_declared test (signatures s) name z
   declared_same test name z = ap (λ l. is_declared test l name z) signatures_are
 
   scene_same : (u : Assignment) (v w : Variable) → IsNormalVariable vs v w → scene t u w ≡ scene s u v
@@ -106,7 +106,7 @@ module _ (s t : FlatSystem) (g : IsWellFormed s) (n : IsNormalForm s t) where
   words_back : (u : Assignment) (v w : Variable) → IsNormalVariable vs v w → HasWords u w → HasWords u v
   words_back u v w p h z x e = let P : ℕ → Type 0 = λ k. IsWord k x in subst P p.width (h z x (ap (λ a. u a z) p.name ∙ e))
 
-  solution_forth : (x u : Assignment) → IsSolution s x u → IsSolution t x u
+  pub solution_forth : (x u : Assignment) → IsSolution s x u → IsSolution t x u
   solution_forth x u p = record {
     declared = λ name z. ((λ a. declared_same is_any name z ∙ (p.declared name z).0 a), (λ a. (p.declared name z).1 (sym (declared_same is_any name z) ∙ a)));
     words = along vs (HasWords u) (HasWords u) (λ v w k. words_forth u v w k) s.variables t.variables n.variables p.words;
@@ -114,7 +114,7 @@ module _ (s t : FlatSystem) (g : IsWellFormed s) (n : IsNormalForm s t) where
     equations = (at_each (Satisfies s u) (Satisfies t u) (satisfied u)).0 p.equations;
   }
 
-  solution_back : (x u : Assignment) → IsSolution t x u → IsSolution s x u
+  pub solution_back : (x u : Assignment) → IsSolution t x u → IsSolution s x u
   solution_back x u p = record {
     declared = λ name z. ((λ a. sym (declared_same is_any name z) ∙ (p.declared name z).0 a), (λ a. (p.declared name z).1 (declared_same is_any name z ∙ a)));
     words = against vs (IsWellFormedVariable s) (HasWords u) (HasWords u) (λ v w k a. words_back u v w k) s.variables t.variables n.variables g.each p.words;

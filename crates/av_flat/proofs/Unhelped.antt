@@ -1,0 +1,123 @@
+-- Without helpers a timed system has the solutions of its flat system.
+use Rattle.std.proofs.Common.{◌≡◌, ◌↔◌, ◌≤◌, ℕ, zero, suc, ◌+◌, false, IsTrue, if◌then◌else◌, ◌&&◌, nat_eq, ◌⊎◌, inl, inr, Option, Some, None, List, [], ◌∷◌, map, length, slice_get, refl, subst, All}
+use Rattle.std.specs.List.{AllByRecursion}
+use Rattle.std.proofs.lemmas.List.Elements.{All-from_recursion, recursion_from_All}
+use Rattle.av_affine.specs.declared.map.Map.{Map}
+use Rattle.av_affine.specs.Maps.{image}
+use Rattle.av_tree.specs.Points.{Point}
+use Rattle.av_tree.specs.Values.{Assignment, IsCombined, IsChosen}
+use Rattle.av_flat.specs.Trees.{Tree, Piece, Variable, FlatSystem, reference, constant, binary, choice, restriction, cases, dependence, reduction, pick, right_side, trees_of}
+use Rattle.av_flat.specs.Points.{has}
+use Rattle.av_flat.specs.Signatures.{is_computed}
+use Rattle.av_flat.specs.Values.{Scene, HasValue, IsOfBranch, IsWordAt}
+use Rattle.av_flat.specs.Shown.{SameMeaning}
+use Rattle.av_flat.specs.Solutions.{scene, Satisfies, IsSolution, shows_of, declares_of}
+use Rattle.av_flat.specs.Broadcasts.{references}
+use Rattle.av_flat.specs.Helped.{PointWords, HelperWords, HasRead, HasHelped, IsOfPiece, helped_at, HelpedSatisfies, IsHelpedSolution, helped_shows_of}
+
+combined_same : (R S X Y : ℕ → Type 0) (f : ℕ → ℕ → ℕ) (w : ℕ) → ((a : ℕ) → R a ↔ X a) → ((a : ℕ) → S a ↔ Y a) → IsCombined R S f w ↔ IsCombined X Y f w
+combined_same R S X Y f w p q = (
+  (λ v. record { left = v.left; right = v.right; left_has = (p v.left).0 v.left_has; right_has = (q v.right).0 v.right_has; is = v.is }),
+  (λ v. record { left = v.left; right = v.right; left_has = (p v.left).1 v.left_has; right_has = (q v.right).1 v.right_has; is = v.is }),
+)
+
+chosen_same : (A B C D E F G H : ℕ → Type 0) (test : ℕ → ℕ → _) (w : ℕ) → ((a : ℕ) → A a ↔ E a) → ((a : ℕ) → B a ↔ F a) → ((a : ℕ) → C a ↔ G a) → ((a : ℕ) → D a ↔ H a)
+    → IsChosen A B C D test w ↔ IsChosen E F G H test w
+chosen_same A B C D E F G H test w p q r s = (
+  (λ v. record {
+    left = v.left;
+    right = v.right;
+    first = v.first;
+    second = v.second;
+    left_has = (p v.left).0 v.left_has;
+    right_has = (q v.right).0 v.right_has;
+    first_has = (r v.first).0 v.first_has;
+    second_has = (s v.second).0 v.second_has;
+    is = v.is;
+  }),
+  (λ v. record {
+    left = v.left;
+    right = v.right;
+    first = v.first;
+    second = v.second;
+    left_has = (p v.left).1 v.left_has;
+    right_has = (q v.right).1 v.right_has;
+    first_has = (r v.first).1 v.first_has;
+    second_has = (s v.second).1 v.second_has;
+    is = v.is;
+  }),
+)
+
+unhelped_tree : (s : Scene) (n : ℕ) (t : Tree) (z : Point) (w : ℕ) → HasValue s t z w ↔ HasHelped s (λ i. None) n t z w
+unhelped_tree s n (reference place m) z w = ((λ p. p), (λ p. p))
+unhelped_tree s n (constant k) z w = ((λ p. p), (λ p. p))
+unhelped_tree s n (binary g l q) z w =
+    combined_same _ _ _ _ _ w (λ v. unhelped_tree s n l z v) (λ v. unhelped_tree s (n + length (references l)) q z v)
+unhelped_tree s n (choice l c q x y) z w =
+    chosen_same _ _ _ _ _ _ _ _ _ w
+    (λ v. unhelped_tree s n l z v)
+    (λ v. unhelped_tree s (n + length (references l)) q z v)
+    (λ v. unhelped_tree s (n + length (references l) + length (references q)) x z v)
+    (λ v. unhelped_tree s (n + length (references l) + length (references q) + length (references x)) y z v)
+unhelped_tree s n (restriction d t) z w = ((λ p. p), (λ p. p))
+unhelped_tree s n (cases ts) z w = ((λ p. p), (λ p. p))
+unhelped_tree s n (dependence m t) z w = ((λ p. p), (λ p. p))
+unhelped_tree s n (reduction o m t inner) z w = ((λ p. p), (λ p. p))
+unhelped_tree s n (pick place choices k) z w = ((λ p. p), (λ p. p))
+
+unhelped_pieces : (s : Scene) (g : HelperWords) (place i : ℕ) (ps : List Piece) (z : Point) (w : ℕ)
+    → IsOfBranch s (trees_of (map (λ p. restriction p.domain p.tree) ps)) z w ↔ IsOfPiece s (helped_at [] g 0 place) i ps z w
+unhelped_pieces s g place i [] z w = ((λ p. p), (λ p. p))
+unhelped_pieces s g place i (p ∷ ps) z w =
+    let here = unhelped_tree s 0 p.tree z w in
+    let rest = unhelped_pieces s g place (suc i) ps z w in (
+      (λ h. elim h [ inl a ↦ inl (a.0, here.0 a.1) | inr b ↦ inr (rest.0 b) ]),
+      (λ h. elim h [ inl a ↦ inl (a.0, here.1 a.1) | inr b ↦ inr (rest.1 b) ]),
+    )
+
+satisfied : (s : FlatSystem) (u : Assignment) (g : HelperWords) (place : ℕ) (v : Variable) (z : Point) → Satisfies s u v z ↔ HelpedSatisfies s [] u g place v z
+satisfied s u g place v z = (
+  (λ h. (h.0, h.1, h.2.0, (unhelped_pieces (scene s u v) g place 0 v.pieces z h.0).0 h.2.1)),
+  (λ h. (h.0, h.1, (h.2, (unhelped_pieces (scene s u v) g place 0 v.pieces z h.0).1 h.3))),
+)
+
+all_at : {X : Type 0} (P : X → Type 0) (xs : List X) (i : ℕ) (x : X) → AllByRecursion P xs → slice_get xs i ≡ Some x → P x
+all_at P [] i x h e = absurd cc
+all_at P (y ∷ xs) zero x h e = let same : y ≡ x = cc in subst (λ k. P k) same h.0
+all_at P (y ∷ xs) (suc i) x h e = all_at P xs i x h.1 e
+
+from_places : {X : Type 0} (P : X → Type 0) (xs : List X) → ((i : ℕ) (x : X) → slice_get xs i ≡ Some x → P x) → AllByRecursion P xs
+from_places P [] h = tt
+from_places P (x ∷ xs) h = (h 0 x refl, from_places P xs (λ i y e. h (suc i) y e))
+
+pub helped : (s : FlatSystem) (x u : Assignment) (g : HelperWords) → IsSolution s x u → IsHelpedSolution s [] x u (λ j z. None)
+helped s x u g p = record {
+  declared = p.declared;
+  words = p.words;
+  inputs = p.inputs;
+  equations = λ place v e c z here.
+      (satisfied s u (λ j y. None) place v z).0
+      (all_at (λ y. IsTrue (is_computed y.kind) → (k : Point) → IsTrue (has y.domain k) → Satisfies s u y k) s.variables place v
+      (recursion_from_All (λ y. IsTrue (is_computed y.kind) → (k : Point) → IsTrue (has y.domain k) → Satisfies s u y k) s.variables p.equations) e c z here);
+  helpers = λ j h e. absurd cc;
+  others = λ j l z. refl;
+}
+
+pub unhelped : (s : FlatSystem) (x u : Assignment) (g : HelperWords) → IsHelpedSolution s [] x u g → IsSolution s x u
+unhelped s x u g p = record {
+  declared = p.declared;
+  words = p.words;
+  inputs = p.inputs;
+  equations = All-from_recursion (λ v. IsTrue (is_computed v.kind) → (z : Point) → IsTrue (has v.domain z) → Satisfies s u v z) s.variables
+      (from_places (λ v. IsTrue (is_computed v.kind) → (z : Point) → IsTrue (has v.domain z) → Satisfies s u v z) s.variables
+      (λ place v e c z here. (satisfied s u g place v z).1 (p.equations place v e c z here)));
+}
+
+pub same_meaning : (s : FlatSystem) → SameMeaning (shows_of s) (declares_of s) (helped_shows_of s []) (declares_of s)
+same_meaning s = record {
+  shown = λ x name z w. (
+    (λ p. record { solution = p.solution; helper_words = _; solves = helped s x p.solution (λ j y. None) p.solves; shown = p.shown; word = p.word }),
+    (λ p. record { solution = p.solution; solves = unhelped s x p.solution p.helper_words p.solves; shown = p.shown; word = p.word }),
+  );
+  declared = λ k h name z. ((λ q. q), (λ q. q));
+}
