@@ -30,12 +30,12 @@ use Rattle.av_pipe.proofs.HelpedTrees.{same_some, reads_at, fits_at, IsRight, ri
 
 -- ---- by place
 
-all_at : {X : Type 0} (P : X → Type 0) (xs : List X) (i : ℕ) (x : X) → AllByRecursion P xs → slice_get xs i ≡ Some x → P x
+pub all_at : {X : Type 0} (P : X → Type 0) (xs : List X) (i : ℕ) (x : X) → AllByRecursion P xs → slice_get xs i ≡ Some x → P x
 all_at P [] i x h e = absurd cc
 all_at P (y ∷ xs) zero x h e = subst P (same_some y x e) h.0
 all_at P (y ∷ xs) (suc i) x h e = all_at P xs i x h.1 e
 
-filtered_at : {X : Type 0} (p : X → Bool) (xs : List X) (i : ℕ) (x : X) → slice_get xs i ≡ Some x → IsTrue (p x) → slice_get (filter p xs) (length (filter p (take i xs))) ≡ Some x
+pub filtered_at : {X : Type 0} (p : X → Bool) (xs : List X) (i : ℕ) (x : X) → slice_get xs i ≡ Some x → IsTrue (p x) → slice_get (filter p xs) (length (filter p (take i xs))) ≡ Some x
 filtered_at p [] i x e t = absurd cc
 filtered_at p (y ∷ xs) zero x e t = let same = same_some y x e in let k : p y ≡ true = ap p same ∙ t in rw k e
 filtered_at p (y ∷ xs) (suc i) x e t = go (p y) (filtered_at p xs i x e t)
@@ -78,14 +78,14 @@ not_computed kind.Local e = absurd cc
 not_computed kind.Partial e = absurd cc
 
 module _ (s : FlatSystem) (times : List Time) (chained : IsChained s) (sched : IsSchedule s 4 times) where
-  variable_at : (place : ℕ) (v : Variable) → slice_get s.variables place ≡ Some v → IsChainedVariable s v
+  pub variable_at : (place : ℕ) (v : Variable) → slice_get s.variables place ≡ Some v → IsChainedVariable s v
   variable_at place v e = all_at (IsChainedVariable s) s.variables place v (recursion_from_All (IsChainedVariable s) s.variables chained.each) e
 
   piece_at : (v : Variable) (i : ℕ) (p : Piece) → IsChainedVariable s v → slice_get v.pieces i ≡ Some p → IsChainedPiece (signatures s) v p
   piece_at v i p c e = all_at (IsChainedPiece (signatures s) v) v.pieces i p (recursion_from_All (IsChainedPiece (signatures s) v) v.pieces c.pieces) e
 
   -- a variable with a piece is a node
-  node_is : (v : Variable) (i : ℕ) (p : Piece) → IsChainedVariable s v → slice_get v.pieces i ≡ Some p → IsTrue (is_node v)
+  pub node_is : (v : Variable) (i : ℕ) (p : Piece) → IsChainedVariable s v → slice_get v.pieces i ≡ Some p → IsTrue (is_node v)
   node_is v i p c e = go (is_computed v.kind) refl v.pieces refl e
     where
       go : (b : Bool) → is_computed v.kind ≡ b → (ps : List Piece) → v.pieces ≡ ps → slice_get ps i ≡ Some p → IsTrue (b && nat_lt 0 (length ps))

@@ -9,7 +9,7 @@ use Rattle.av_flat.specs.declared.timed.Time.{Time}
 use Rattle.av_flat.specs.declared.timed.Helper.{Helper}
 use Rattle.av_flat.specs.declared.timed.Timed.{Timed}
 use Rattle.av_flat.specs.Nodes.{number_at}
-use Rattle.av_flat.specs.Legal.{IsLegal}
+use Rattle.av_flat.specs.Legal.{IsLegal, HasAllHelpers}
 use Rattle.av_flat.specs.Helped.{helped_shows_of}
 use Rattle.av_flat.specs.Broadcasts.{Reference, references, first_moving}
 
@@ -37,10 +37,11 @@ of_variables s times place (v ∷ vs) = of_variable place (slice_get times (numb
 abbrev pub pipelines : FlatSystem → List Time → List Helper
 pipelines s times = of_variables s times 0 s.variables
 
--- the answer: the same system and times, and a helper for each moved reference; it shows the same and is legal
+-- the answer: the same system and times, and a helper for each moved reference; it shows the same, is legal, and no helper is missing
 pub record IsPiped (from to : Timed) : Type 0 where
   pub flat : view_system to.flat ≡ view_system from.flat
   pub times : to.times ≡ from.times
   pub helpers : to.helpers ≡ pipelines (view_system from.flat) from.times
   pub legal : IsLegal to
+  pub all : HasAllHelpers to
   pub same : SameMeaning (helped_shows_of (view_system from.flat) from.helpers) (declares_of (view_system from.flat)) (helped_shows_of (view_system to.flat) to.helpers) (declares_of (view_system to.flat))

@@ -1,6 +1,6 @@
 //! Laws of pipelines, each the contract of a function that does nothing.
 
-ghost use Rattle.std.specs.Prelude.{◌≡◌, ◌+ℤ◌, ◌≤ℤ◌, pos, All, IsTrue, List, []};
+ghost use Rattle.std.specs.Prelude.{◌≡◌, ◌≢◌, ◌<◌, ◌⊎◌, ℕ, ℤ, ◌+ℤ◌, ◌≤ℤ◌, pos, All, AllPairs, Contains, IsTrue, List, []};
 ghost use Rattle.av_tree.specs.Points.{Point};
 ghost use Rattle.av_flat.specs.Trees.{FlatSystem, view_system};
 ghost use Rattle.av_flat.specs.Points.{has};
@@ -12,6 +12,7 @@ ghost use Rattle.av_flat.specs.Chained.{IsChained};
 ghost use Rattle.av_flat.specs.Schedules.{cycle, IsSchedule};
 ghost use Rattle.av_flat.specs.Legal.{IsMoving, IsLegal};
 ghost use Rattle.av_flat.specs.Helped.{before, helped_shows_of};
+ghost use Rattle.av_pipe.specs.Ranks.{Computed, StandsIn, NeedsWord};
 ghost use Rattle.av_pipe.specs.Pipelines.{pipelines, IsPiped};
 ghost use Rattle.av_flat.specs.declared.timed.Timed.{Timed};
 
@@ -37,4 +38,17 @@ pub fn helpers_read_earlier()
 pub fn pipelines_are_given()
     ensures { (from to : Timed) → IsLegal from → from.helpers ≡ [] → view_system to.flat ≡ view_system from.flat → to.times ≡ from.times →
         to.helpers ≡ pipelines (view_system from.flat) from.times → IsPiped from to }
+{}
+
+/// A law on pipelines: these helpers are all that the times ask for, and no two of them are equal.
+pub fn pipelines_are_all()
+    ensures each { (s : FlatSystem) (times : List Time) (h : Helper) → IsMoving s times h → Contains (pipelines s times) h }
+    ensures once { (s : FlatSystem) (times : List Time) → AllPairs (λ a b. a ≢ b) (pipelines s times) }
+{}
+
+/// A law on legal systems: each word stands behind those that it is computed from, a cycle later or in the same cycle at a
+/// higher rank.
+pub fn words_come_in_order()
+    ensures { (t : Timed) → IsLegal t → (a b : Computed) (c d : ℤ) (i j : ℕ) → NeedsWord t a b → StandsIn t a c i → StandsIn t b d j →
+        ((d +ℤ pos 1) ≤ℤ c) ⊎ ((d ≡ c) × (j < i)) }
 {}

@@ -9,6 +9,7 @@ mod site;
 mod whole;
 
 pub use laws::{
-    helped_systems_show_the_same, helpers_read_earlier, pipelines_are_given, pipelines_move,
+    helped_systems_show_the_same, helpers_read_earlier, pipelines_are_all, pipelines_are_given,
+    pipelines_move, words_come_in_order,
 };
 pub use pipe::Pipe;
