@@ -62,7 +62,7 @@ fn append_longer(x: i64, ws: &[Point], to: &mut List<Point>) -> Result<(), Memor
     Ok(())
 }
 
-// All points of so many entries 0, 1 and -1, in this order.
+/// All points of so many entries 0, 1 and -1, in this order.
 pub(crate) fn lists_of(alloc: Global, size: usize) -> Result<List<Point>, Memory>
     requires { size ≤ 4 }
     ensures { IfOk result (λ points. points ≡ lists_of (pos 0 ∷ pos 1 ∷ negsuc 0 ∷ []) size) }
@@ -147,8 +147,8 @@ fn first_of(linear: &Point, map: &Map, points: &[Point]) -> Option<Point>
     None
 }
 
-// The first direction along which the map reads one point and the linear part goes up. The points are all of as many
-// entries as the map has indices.
+/// The first direction along which the map reads one point and the linear part goes up. The points are all of as many
+/// entries as the map has indices.
 pub(crate) fn first_moving(linear: &Point, map: &Map, points: &[Point]) -> Option<Point>
     requires linear { AtMost 4 linear.now }
     requires rows { All IsWithinLimits map.now.rows }

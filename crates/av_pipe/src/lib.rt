@@ -6,6 +6,8 @@ mod direction;
 mod laws;
 mod pipe;
 mod site;
+#[cfg(test)]
+mod tests;
 mod whole;
 
 pub use laws::{

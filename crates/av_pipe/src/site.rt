@@ -97,7 +97,7 @@ fn tree_helpers(
     }
 }
 
-// Puts the helpers of the references of a variable's pieces behind others.
+/// Puts the helpers of the references of a variable's pieces behind others.
 pub(crate) fn piece_helpers(
     place: usize,
     linear: &Point,

@@ -23,8 +23,8 @@ fn number_after(number: usize, var: &Var) -> usize
     if var.is_node() { number + 1 } else { number }
 }
 
-// Puts the helpers of a variable behind others, where there is a time for the node of this number.
-fn variable_helpers(
+/// Puts the helpers of a variable behind others, where there is a time for the node of this number.
+pub(crate) fn variable_helpers(
     alloc: Global,
     place: usize,
     times: &[Time],
@@ -75,7 +75,7 @@ fn copy_times(alloc: Global, times: &[Time]) -> Result<List<Time>, Memory>
     Ok(to)
 }
 
-// The system with its times and a helper for each moved reference.
+/// The system with its times and a helper for each moved reference.
 pub(crate) fn piped(alloc: Global, from: &Timed) -> Result<Timed, Memory>
     requires legal { IsLegal from.now }
     requires none { from.now.helpers ≡ [] }
