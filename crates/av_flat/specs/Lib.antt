@@ -12,6 +12,7 @@ pub mod Kept
 pub mod Proper
 pub mod Pieces
 pub mod Quantities
+pub mod Order
 pub mod Nodes
 pub mod Reads
 pub mod Schedules
