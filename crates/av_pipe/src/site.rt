@@ -61,8 +61,8 @@ fn reference_helper(
     next(site)
 }
 
-// Puts the helpers of the references in a tree behind others; the number of the next reference.
-fn tree_helpers(
+/// Puts the helpers of the references in a tree behind others; the number of the next reference.
+pub(crate) fn tree_helpers(
     place: usize,
     piece: usize,
     linear: &Point,

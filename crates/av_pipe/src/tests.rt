@@ -1,19 +1,17 @@
 //! The helpers of worked systems: a matrix times a vector, a matrix product, a convolution, forward substitution.
 
-ghost use Rattle.std.specs.Prelude.{◌≡◌, ◌≤◌, ◌∷◌, [], pos, negsuc, All, IsTrue, map};
-ghost use Rattle.std.specs.List.{AllByRecursion};
+ghost use Rattle.std.specs.Prelude.{◌≤◌, ◌∷◌, [], pos, negsuc, length, All, IsTrue};
 ghost use Rattle.av_affine.specs.Numbers.{AtMost};
 ghost use Rattle.av_affine.specs.Forms.{IsWithinLimits};
-ghost use Rattle.av_poly.specs.Points.{IsSmall};
 ghost use Rattle.av_flat.specs.Broadcasts.{lists_of};
-ghost use Rattle.av_flat.specs.Trees.{view, view_piece, view_variable};
-ghost use Rattle.av_pipe.specs.inner.Helping.{HasFineMaps, HasFinePieces};
+ghost use Rattle.av_flat.specs.Trees.{view};
+ghost use Rattle.av_pipe.specs.inner.Helping.{HasFineMaps};
 
-use crate::whole::variable_helpers;
+use crate::direction::lists_of;
+use crate::site::tree_helpers;
 use av_affine::{Form, Map, Rows};
-use av_base::{List, Memory, Name, Point, Width, Word};
-use av_flat::{Helper, Kind, Piece, Time, Tree, Var};
-use av_poly::Poly;
+use av_base::{List, Memory, Point};
+use av_flat::{Helper, Tree};
 use av_tree::{Relation, Sign};
 use std::alloc::Global;
 use std::test::Fail;
@@ -24,7 +22,9 @@ fn form(coef: [i64; 4], constant: i64) -> Form {
     Form { coef, constant }
 }
 
-fn reference(var: u32, from: u8, rows: &[Form]) -> Tree {
+fn reference(var: u32, from: u8, rows: &[Form]) -> Tree
+    requires { length rows.now ≤ 4 }
+{
     Tree::Ref {
         var,
         map: Map {
@@ -42,45 +42,14 @@ fn binary(alloc: Global, sign: Sign, left: Tree, right: Tree) -> Result<Tree, Me
     })
 }
 
-// The set of all points: helpers do not depend on sets.
-fn everywhere(alloc: Global, dim: u8) -> Poly {
-    Poly {
-        dim,
-        rows: List::new(alloc),
-    }
-}
-
-fn piece(alloc: Global, dim: u8, tree: Tree) -> Piece {
-    Piece {
-        domain: everywhere(alloc, dim),
-        tree,
-    }
-}
-
-fn local(alloc: Global, dim: u8, width: Width, pieces: List<Piece>) -> Result<Var, Memory> {
-    Ok(Var {
-        name: Name::new(alloc, "s")?,
-        kind: Kind::Local,
-        width,
-        domain: everywhere(alloc, dim),
-        pieces,
-    })
-}
-
 // ---- what the calls ask for
-
-fn is_within(row: &Form) -> bool
-    ensures { IsTrue result → IsWithinLimits row.now }
-{
-    let coefficients = row.coef.iter().all(|x| x.unsigned_abs() <= 1024);
-    coefficients && row.constant.unsigned_abs() <= 1 << 20
-}
 
 fn are_within(rows: &[Form]) -> bool
     ensures { IsTrue result → All IsWithinLimits rows.now }
 {
     for row in rows {
-        if !is_within(row) {
+        let coefficients = row.coef.iter().all(|x| x.unsigned_abs() <= 1024);
+        if !coefficients || row.constant.unsigned_abs() > 1 << 20 {
             return false;
         }
     }
@@ -109,54 +78,30 @@ fn has_fine_maps(dim: u8, tree: &Tree) -> bool
     }
 }
 
-fn are_fine(dim: u8, pieces: &[Piece]) -> bool
-    ensures { IsTrue result → AllByRecursion (λ p. HasFineMaps (lists_of (pos 0 ∷ pos 1 ∷ negsuc 0 ∷ []) dim) p.tree) (map view_piece pieces.now) }
-{
-    match pieces.split_first() {
-        Some((first, rest)) => has_fine_maps(dim, &first.tree) && are_fine(dim, rest),
-        None => true,
-    }
-}
-
-fn is_fine(var: &Var) -> bool
-    ensures { IsTrue result → HasFinePieces (view_variable var.now) }
-{
-    var.domain.dim <= 4 && are_fine(var.domain.dim, var.pieces.as_slice())
-}
-
 fn is_small(linear: &[i64]) -> bool
     ensures { IsTrue result → AtMost 4 linear.now }
 {
     linear.iter().all(|x| x.unsigned_abs() <= 4)
 }
 
-// The helpers of a variable at place 2 with this linear part.
-fn helpers_of(alloc: Global, var: &Var, linear: &[i64]) -> Result<List<Helper>, Fail> {
-    if !is_fine(var) || linear.len() > 4 || !is_small(linear) {
-        return Err(Fail::new("the system or its linear part is out of range"));
+// The helpers of the second piece of the variable at place 2, with this linear part.
+fn helpers_of(alloc: Global, dim: u8, tree: &Tree, linear: &[i64]) -> Result<List<Helper>, Fail> {
+    if dim > 4 || !has_fine_maps(dim, tree) || linear.len() > 4 || !is_small(linear) {
+        return Err(Fail::new("the tree or the linear part is out of range"));
     }
-    let times = [Time {
-        linear: Point::from_slice(linear),
-        offset: 0,
-    }];
+    let points = lists_of(alloc, dim as usize)?;
+    let linear = Point::from_slice(linear);
     let mut helpers = List::new(alloc);
-    variable_helpers(alloc, 2, &times, 0, var, &mut helpers)?;
+    tree_helpers(2, 1, &linear, points.as_slice(), 0, tree, &mut helpers)?;
     Ok(helpers)
 }
 
-fn is(helper: Option<&Helper>, piece: u32, site: u32, direction: &[i64]) -> bool {
+fn is(helper: Option<&Helper>, site: u32, direction: &[i64]) -> bool {
     match helper {
         Some(h) => {
-            h.var == 2 && h.piece == piece && h.site == site && h.direction.as_slice() == direction
+            h.var == 2 && h.piece == 1 && h.site == site && h.direction.as_slice() == direction
         }
         None => false,
-    }
-}
-
-fn width_of(bits: u32) -> Result<Width, Fail> {
-    match Width::new(bits) {
-        Some(width) => Ok(width),
-        None => Err(Fail::new("no width")),
     }
 }
 
@@ -166,7 +111,7 @@ const SECOND: [i64; 4] = [0, 1, 0, 0];
 
 const THIRD: [i64; 4] = [0, 0, 1, 0];
 
-// s[i,j] = 0, and s[i,j-1] + M[i,j] * V[j]: of three references the last alone reads one value along a line.
+// s[i,j-1] + M[i,j] * V[j]: of three references the last alone reads one value along a line.
 #[test]
 fn the_vector_goes_down_the_rows(rt: HostRuntime) -> Result<(), Fail> {
     let alloc = rt.alloc();
@@ -174,13 +119,10 @@ fn the_vector_goes_down_the_rows(rt: HostRuntime) -> Result<(), Fail> {
     let matrix = reference(0, 2, &[form(FIRST, 0), form(SECOND, 0)]);
     let vector = reference(1, 2, &[form(SECOND, 0)]);
     let product = binary(alloc, Sign::Mul, matrix, vector)?;
-    let mut pieces = List::new(alloc);
-    pieces.push(piece(alloc, 2, Tree::Const(Word { bits: 0 })))?;
-    pieces.push(piece(alloc, 2, binary(alloc, Sign::Add, before, product)?))?;
-    let var = local(alloc, 2, width_of(32)?, pieces)?;
-    let helpers = helpers_of(alloc, &var, &[1, 1])?;
+    let tree = binary(alloc, Sign::Add, before, product)?;
+    let helpers = helpers_of(alloc, 2, &tree, &[1, 1])?;
     assert!(rt; helpers.as_slice().len() == 1);
-    assert!(rt; is(helpers.as_slice().get(0), 1, 2, &[1, 0]));
+    assert!(rt; is(helpers.as_slice().get(0), 2, &[1, 0]));
     Ok(())
 }
 
@@ -190,13 +132,11 @@ fn a_product_has_two_pipelines(rt: HostRuntime) -> Result<(), Fail> {
     let alloc = rt.alloc();
     let a = reference(0, 3, &[form(FIRST, 0), form(THIRD, 0)]);
     let b = reference(1, 3, &[form(THIRD, 0), form(SECOND, 0)]);
-    let mut pieces = List::new(alloc);
-    pieces.push(piece(alloc, 3, binary(alloc, Sign::Mul, a, b)?))?;
-    let var = local(alloc, 3, width_of(32)?, pieces)?;
-    let helpers = helpers_of(alloc, &var, &[1, 1, 1])?;
+    let tree = binary(alloc, Sign::Mul, a, b)?;
+    let helpers = helpers_of(alloc, 3, &tree, &[1, 1, 1])?;
     assert!(rt; helpers.as_slice().len() == 2);
-    assert!(rt; is(helpers.as_slice().get(0), 0, 0, &[0, 1, 0]));
-    assert!(rt; is(helpers.as_slice().get(1), 0, 1, &[1, 0, 0]));
+    assert!(rt; is(helpers.as_slice().get(0), 0, &[0, 1, 0]));
+    assert!(rt; is(helpers.as_slice().get(1), 1, &[1, 0, 0]));
     Ok(())
 }
 
@@ -206,13 +146,11 @@ fn a_convolution_hands_on_along_the_diagonal(rt: HostRuntime) -> Result<(), Fail
     let alloc = rt.alloc();
     let w = reference(0, 2, &[form(SECOND, 0)]);
     let x = reference(1, 2, &[form([1, -1, 0, 0], 0)]);
-    let mut pieces = List::new(alloc);
-    pieces.push(piece(alloc, 2, binary(alloc, Sign::Mul, w, x)?))?;
-    let var = local(alloc, 2, width_of(32)?, pieces)?;
-    let helpers = helpers_of(alloc, &var, &[1, 1])?;
+    let tree = binary(alloc, Sign::Mul, w, x)?;
+    let helpers = helpers_of(alloc, 2, &tree, &[1, 1])?;
     assert!(rt; helpers.as_slice().len() == 2);
-    assert!(rt; is(helpers.as_slice().get(0), 0, 0, &[1, 0]));
-    assert!(rt; is(helpers.as_slice().get(1), 0, 1, &[1, 1]));
+    assert!(rt; is(helpers.as_slice().get(0), 0, &[1, 0]));
+    assert!(rt; is(helpers.as_slice().get(1), 1, &[1, 1]));
     Ok(())
 }
 
@@ -222,12 +160,10 @@ fn a_computed_word_is_handed_on(rt: HostRuntime) -> Result<(), Fail> {
     let alloc = rt.alloc();
     let l = reference(0, 2, &[form(FIRST, 0), form(SECOND, 0)]);
     let x = reference(2, 2, &[form(SECOND, 0)]);
-    let mut pieces = List::new(alloc);
-    pieces.push(piece(alloc, 2, binary(alloc, Sign::Mul, l, x)?))?;
-    let var = local(alloc, 2, width_of(32)?, pieces)?;
-    let helpers = helpers_of(alloc, &var, &[1, 1])?;
+    let tree = binary(alloc, Sign::Mul, l, x)?;
+    let helpers = helpers_of(alloc, 2, &tree, &[1, 1])?;
     assert!(rt; helpers.as_slice().len() == 1);
-    assert!(rt; is(helpers.as_slice().get(0), 0, 1, &[1, 0]));
+    assert!(rt; is(helpers.as_slice().get(0), 1, &[1, 0]));
     Ok(())
 }
 
@@ -236,15 +172,13 @@ fn a_computed_word_is_handed_on(rt: HostRuntime) -> Result<(), Fail> {
 #[test]
 fn the_first_of_several_directions_is_taken(rt: HostRuntime) -> Result<(), Fail> {
     let alloc = rt.alloc();
-    let mut pieces = List::new(alloc);
-    pieces.push(piece(alloc, 2, reference(0, 2, &[])))?;
-    let var = local(alloc, 2, width_of(8)?, pieces)?;
-    let up = helpers_of(alloc, &var, &[1, 1])?;
-    assert!(rt; up.as_slice().len() == 1 && is(up.as_slice().get(0), 0, 0, &[0, 1]));
-    let down = helpers_of(alloc, &var, &[1, -1])?;
-    assert!(rt; down.as_slice().len() == 1 && is(down.as_slice().get(0), 0, 0, &[0, -1]));
-    let back = helpers_of(alloc, &var, &[-1, 0])?;
-    assert!(rt; back.as_slice().len() == 1 && is(back.as_slice().get(0), 0, 0, &[-1, 0]));
+    let tree = reference(0, 2, &[]);
+    let up = helpers_of(alloc, 2, &tree, &[1, 1])?;
+    assert!(rt; up.as_slice().len() == 1 && is(up.as_slice().get(0), 0, &[0, 1]));
+    let down = helpers_of(alloc, 2, &tree, &[1, -1])?;
+    assert!(rt; down.as_slice().len() == 1 && is(down.as_slice().get(0), 0, &[0, -1]));
+    let back = helpers_of(alloc, 2, &tree, &[-1, 0])?;
+    assert!(rt; back.as_slice().len() == 1 && is(back.as_slice().get(0), 0, &[-1, 0]));
     Ok(())
 }
 
@@ -257,21 +191,15 @@ fn what_is_not_moved_has_no_helper(rt: HostRuntime) -> Result<(), Fail> {
     let bare = reference(0, 2, &[form([1, 1, 0, 0], 0), form(SECOND, 0)]);
     let moved = reference(0, 2, &[form(SECOND, 0)]);
     let last = reference(0, 2, &[form(FIRST, 3)]);
-    let mut pieces = List::new(alloc);
-    pieces.push(piece(
-        alloc,
-        2,
-        Tree::Choose {
-            left: Box::new(alloc, still)?,
-            compare: Relation::Less,
-            right: Box::new(alloc, bare)?,
-            yes: Box::new(alloc, moved)?,
-            no: Box::new(alloc, last)?,
-        },
-    ))?;
-    let var = local(alloc, 2, width_of(8)?, pieces)?;
-    let helpers = helpers_of(alloc, &var, &[1, 0])?;
+    let tree = Tree::Choose {
+        left: Box::new(alloc, still)?,
+        compare: Relation::Less,
+        right: Box::new(alloc, bare)?,
+        yes: Box::new(alloc, moved)?,
+        no: Box::new(alloc, last)?,
+    };
+    let helpers = helpers_of(alloc, 2, &tree, &[1, 0])?;
     assert!(rt; helpers.as_slice().len() == 1);
-    assert!(rt; is(helpers.as_slice().get(0), 0, 2, &[1, 0]));
+    assert!(rt; is(helpers.as_slice().get(0), 2, &[1, 0]));
     Ok(())
 }

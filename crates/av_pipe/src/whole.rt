@@ -23,8 +23,8 @@ fn number_after(number: usize, var: &Var) -> usize
     if var.is_node() { number + 1 } else { number }
 }
 
-/// Puts the helpers of a variable behind others, where there is a time for the node of this number.
-pub(crate) fn variable_helpers(
+// Puts the helpers of a variable behind others, where there is a time for the node of this number.
+fn variable_helpers(
     alloc: Global,
     place: usize,
     times: &[Time],
