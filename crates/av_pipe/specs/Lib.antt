@@ -1,0 +1,3 @@
+pub mod Pipelines
+pub mod Ranks
+pub mod inner

@@ -1,0 +1,92 @@
+//! The helpers of a scheduled system.
+
+ghost use Rattle.std.specs.Prelude.{ℕ, ◌≡◌, ◌≤◌, ◌<◌, ◌+◌, ◌++◌, All, IfOk, OnOk, if◌then◌else◌, map, slice_get, []};
+ghost use Rattle.std.specs.List.{AllByRecursion};
+ghost use Rattle.av_affine.specs.Numbers.{AtMost};
+ghost use Rattle.av_flat.specs.Trees.{view_piece, view_variable, view_system};
+ghost use Rattle.av_flat.specs.Nodes.{is_node};
+ghost use Rattle.av_flat.specs.Legal.{IsLegal};
+ghost use Rattle.av_pipe.specs.Pipelines.{of_variable, pipelines, IsPiped};
+ghost use Rattle.av_pipe.specs.inner.Helping.{HasFineMaps, HasFinePieces};
+
+use crate::direction::lists_of;
+use crate::site::piece_helpers;
+use av_base::{List, Memory, Point};
+use av_flat::{Flat, Helper, Time, Timed, Var, copy_flat};
+use std::alloc::Global;
+
+// The number of the next node, behind a variable.
+fn number_after(number: usize, var: &Var) -> usize
+    requires { number < 18446744073709551615 }
+    ensures { result ≡ number + (if is_node (view_variable var.now) then 1 else 0) }
+{
+    if var.is_node() { number + 1 } else { number }
+}
+
+// Puts the helpers of a variable behind others, where there is a time for the node of this number.
+fn variable_helpers(
+    alloc: Global,
+    place: usize,
+    times: &[Time],
+    number: usize,
+    var: &Var,
+    helpers: &mut List<Helper>,
+) -> Result<(), Memory>
+    requires linear { All (λ t. AtMost 4 t.linear) times.now }
+    requires maps { HasFinePieces (view_variable var.now) }
+    ensures { OnOk result (helpers.new ≡ helpers.old ++ of_variable place (slice_get times.now number) (view_variable var.now)) }
+{
+    match times.get(number) {
+        Some(time) => {
+            let points = lists_of(alloc, var.domain.dim as usize)?;
+            let pieces = var.pieces.as_slice();
+            piece_helpers(place, &time.linear, points.as_slice(), pieces, helpers)
+        }
+        None => Ok(()),
+    }
+}
+
+// The helpers of all variables, in order.
+fn all_helpers(alloc: Global, flat: &Flat, times: &[Time]) -> Result<List<Helper>, Memory>
+    requires linear { All (λ t. AtMost 4 t.linear) times.now }
+    requires maps { AllByRecursion HasFinePieces (map view_variable flat.now.vars) }
+    ensures { IfOk result (λ helpers. helpers ≡ pipelines (view_system flat.now) times.now) }
+{
+    let vars = flat.vars.as_slice();
+    let mut helpers = List::new(alloc);
+    let mut number: usize = 0;
+    for (place, var) in vars.iter().enumerate() {
+        variable_helpers(alloc, place, times, number, var, &mut helpers)?;
+        number = number_after(number, var);
+    }
+    Ok(helpers)
+}
+
+fn copy_times(alloc: Global, times: &[Time]) -> Result<List<Time>, Memory>
+    ensures { IfOk result (λ to. to ≡ times.now) }
+{
+    let mut to = List::new(alloc);
+    for time in times {
+        to.push(Time {
+            linear: Point::from_slice(time.linear.as_slice()),
+            offset: time.offset,
+        })?;
+    }
+    Ok(to)
+}
+
+/// The system with its times and a helper for each moved reference.
+pub(crate) fn piped(alloc: Global, from: &Timed) -> Result<Timed, Memory>
+    requires legal { IsLegal from.now }
+    requires none { from.now.helpers ≡ [] }
+    ensures { IfOk result (λ to. IsPiped from.now to) }
+{
+    let helpers = all_helpers(alloc, &from.flat, from.times.as_slice())?;
+    let flat = copy_flat(alloc, &from.flat)?;
+    let times = copy_times(alloc, from.times.as_slice())?;
+    Ok(Timed {
+        flat,
+        times,
+        helpers,
+    })
+}
