@@ -1,0 +1,6 @@
+pub mod Between
+pub mod Inverse
+pub mod OneCell
+pub mod Completed
+pub mod Placed
+pub mod Streams

@@ -1,0 +1,10 @@
+pub mod Coordinates
+pub mod Standing
+pub mod Taps
+pub mod Links
+pub mod Ports
+pub mod Listings
+pub mod Quantities
+pub mod Arrays
+pub mod Whole
+pub mod ArrayForm

@@ -1,0 +1,37 @@
+//! Laws of cells and listings, each the contract of a function that does nothing.
+
+ghost use Rattle.std.specs.Prelude.{◌≡◌, ◌≤◌, ◌≤ℤ◌, IsTrue, length};
+ghost use Rattle.av_poly.specs.Points.{Set};
+ghost use Rattle.av_tree.specs.Points.{Point};
+ghost use Rattle.av_tree.specs.Values.{Assignment};
+ghost use Rattle.av_flat.specs.declared.timed.Timed.{Timed};
+ghost use Rattle.av_flat.specs.Trees.{view_system};
+ghost use Rattle.av_flat.specs.Points.{has};
+ghost use Rattle.av_flat.specs.Chained.{IsChained};
+ghost use Rattle.av_flat.specs.Schedules.{cycle};
+ghost use Rattle.av_flat.specs.OneSolution.{AreInputs};
+ghost use Rattle.av_net.specs.declared.design.Design.{Design};
+ghost use Rattle.av_net.specs.Presented.{IsPresentable};
+ghost use Rattle.av_space.specs.declared.cells.Cells.{Cells};
+ghost use Rattle.av_space.specs.Coordinates.{Placing, IsPlacing, along};
+ghost use Rattle.av_space.specs.Whole.{HasWholeListing};
+
+/// A law on coordinates: of one node, two points with equal coordinates and equal cycle are one point.
+pub fn one_point()
+    ensures { (p : Placing) → IsPlacing p → length p.time.linear ≤ 4 → (y z : Point) → length y ≡ length p.time.linear → length z ≡ length p.time.linear →
+        along p.rows y ≡ along p.rows z → cycle p.time y ≡ cycle p.time z → y ≡ z }
+{}
+
+/// A law on coordinates: on one cell, a set that has two points has each point of the cell at a cycle between theirs.
+pub fn between_points()
+    ensures { (p : Placing) → IsPlacing p → length p.time.linear ≤ 4 → (set : Set) (x y z : Point) →
+        length x ≡ length p.time.linear → length y ≡ length p.time.linear → length z ≡ length p.time.linear →
+        along p.rows x ≡ along p.rows y → along p.rows z ≡ along p.rows y → cycle p.time x ≤ℤ cycle p.time y → cycle p.time y ≤ℤ cycle p.time z →
+        IsTrue (has set x) → IsTrue (has set z) → IsTrue (has set y) }
+{}
+
+/// A law on listings: a design with a whole listing can be given every input.
+pub fn presenting_streams()
+    ensures { (t : Timed) (a : Cells) (d : Design) → IsChained (view_system t.flat) → HasWholeListing t a d →
+        (x : Assignment) → AreInputs (view_system t.flat) x → IsPresentable d x }
+{}
