@@ -4,3 +4,5 @@ pub mod OneCell
 pub mod Completed
 pub mod Placed
 pub mod Streams
+pub mod Diagonal
+mod RowSums
