@@ -31,4 +31,5 @@ pub mod Sites
 pub mod Counted
 pub mod OnePiece
 pub mod Top
+pub mod Connected
 pub mod InLines

@@ -93,17 +93,17 @@ own_place s place v is node = place_at 0 s.variables place v is node ∙ omega a
 -- ---- helpers
 
 -- the helper that is found
-record IsFound (hs : List Helper) (j place piece site : ℕ) (h : Handing) : Type 0 where
-  at : ℕ
-  number_is : h.number ≡ j + at
-  helper : Helper
-  is_helper : slice_get hs at ≡ Some helper
-  var_is : helper.var ≡ place
-  piece_is : helper.piece ≡ piece
-  site_is : helper.site ≡ site
-  direction_is : helper.direction ≡ h.direction
+pub record IsFound (hs : List Helper) (j place piece site : ℕ) (h : Handing) : Type 0 where
+  pub at : ℕ
+  pub number_is : h.number ≡ j + at
+  pub helper : Helper
+  pub is_helper : slice_get hs at ≡ Some helper
+  pub var_is : helper.var ≡ place
+  pub piece_is : helper.piece ≡ piece
+  pub site_is : helper.site ≡ site
+  pub direction_is : helper.direction ≡ h.direction
 
-found_helper : (hs : List Helper) (j place piece site : ℕ) (h : Handing) → helper_from j hs place piece site ≡ Some h → IsFound hs j place piece site h
+pub found_helper : (hs : List Helper) (j place piece site : ℕ) (h : Handing) → helper_from j hs place piece site ≡ Some h → IsFound hs j place piece site h
 found_helper [] j place piece site h e = absurd cc
 found_helper (x ∷ hs) j place piece site h e = by_test (λ f. found_helper hs (suc j) place piece site h f) (nat_eq x.var place && nat_eq x.piece piece && nat_eq x.site site) refl e
   where
