@@ -29,6 +29,13 @@ inverts time rows a few =
       keeps = subst (λ (n : ℕ). Keeps (a.vector ∷ rows) i.0 n) (sym size) i.1;
     }
 
+pub has_inverse_rows : (linear : List ℤ) (rows : List (List ℤ)) → (a : AreSpaceRows linear rows) → length linear ≤ 4
+    → (inverse : List (List ℤ)) × ((z : Point) → length z ≡ length linear → along inverse (along (a.vector ∷ rows) z) ≡ z)
+has_inverse_rows linear rows a few =
+    let size : length linear ≡ length a.vector = ap (λ (l : List ℤ). length l) a.divided ∙ length-map a.vector (λ x. a.gcd *ℤ x) in
+    let i = has_inverse a.vector (a.vector ∷ rows) (let l = size in omega (arith, few, l)) a.rule in
+    (i.0, subst (λ (n : ℕ). (z : Point) → length z ≡ n → along i.0 (along (a.vector ∷ rows) z) ≡ z) (sym size) i.1)
+
 rises : (g o t u : ℤ) → pos 0 <ℤ g → (g *ℤ t +ℤ o) ≤ℤ (g *ℤ u +ℤ o) → t ≤ℤ u
 rises g o t u positive le =
     let s = spread g t u in

@@ -30,14 +30,14 @@ all_at P [] i x h e = absurd cc
 all_at P (y ∷ xs) zero x h e = let same : y ≡ x = cc in subst (λ k. P k) same h.0
 all_at P (y ∷ xs) (suc i) x h e = all_at P xs i x h.1 e
 
-module _ (t : Timed) (a : Cells) (d : Design) (chained : IsChained (view_system t.flat)) (h : HasWholeListing t a d) (x : Assignment) (inputs : AreInputs (view_system t.flat) x) where
+module _ (t : Timed) (a : Cells) (d : Design) (h : HasWholeListing t a d) (x : Assignment) (inputs : AreInputs (view_system t.flat) x) where
   abbrev own : FlatSystem
   own = view_system t.flat
 
   -- a word of a declared input point fits the width of the system
   fits : (v : Variable) (p : ℕ) → slice_get own.variables p ≡ Some v → (z : Point) (w : ℕ) → x v.name z ≡ Some w → IsWord own.width w
   fits v p at z w e =
-      let width : v.width ≡ own.width = (all_at (IsChainedVariable own) own.variables p v (recursion_from_All (IsChainedVariable own) own.variables chained.each) at).width in
+      let width : v.width ≡ own.width = (all_at (IsChainedVariable own) own.variables p v (recursion_from_All (IsChainedVariable own) own.variables h.whole.legal.chained.each) at).width in
       subst (λ (n : ℕ). IsWord n w) width
       (all_at (λ (y : Variable). (k : Point) (m : ℕ) → x y.name k ≡ Some m → IsWord y.width m) own.variables p v
       (recursion_from_All (λ (y : Variable). (k : Point) (m : ℕ) → x y.name k ≡ Some m → IsWord y.width m) own.variables inputs.words) at z w e)

@@ -1,20 +1,25 @@
 //! Laws of cells and listings, each the contract of a function that does nothing.
 
-ghost use Rattle.std.specs.Prelude.{◌≡◌, ◌≤◌, ◌≤ℤ◌, IsTrue, length};
+ghost use Rattle.std.specs.Prelude.{◌≡◌, ◌≤◌, ◌≤ℤ◌, ℤ, IsTrue, List, ◌∷◌, length};
 ghost use Rattle.av_poly.specs.Points.{Set};
 ghost use Rattle.av_tree.specs.Points.{Point};
 ghost use Rattle.av_tree.specs.Values.{Assignment};
 ghost use Rattle.av_flat.specs.declared.timed.Timed.{Timed};
 ghost use Rattle.av_flat.specs.Trees.{view_system};
 ghost use Rattle.av_flat.specs.Points.{has};
-ghost use Rattle.av_flat.specs.Chained.{IsChained};
 ghost use Rattle.av_flat.specs.Schedules.{cycle};
 ghost use Rattle.av_flat.specs.OneSolution.{AreInputs};
 ghost use Rattle.av_net.specs.declared.design.Design.{Design};
 ghost use Rattle.av_net.specs.Presented.{IsPresentable};
 ghost use Rattle.av_space.specs.declared.cells.Cells.{Cells};
-ghost use Rattle.av_space.specs.Coordinates.{Placing, IsPlacing, along};
+ghost use Rattle.av_space.specs.Coordinates.{AreSpaceRows, Placing, IsPlacing, along};
 ghost use Rattle.av_space.specs.Whole.{HasWholeListing};
+
+/// A law on coordinates: the linear part's primitive vector with the rows below it has a whole inverse.
+pub fn coordinates_have_inverses()
+    ensures { (linear : List ℤ) (rows : List (List ℤ)) → (a : AreSpaceRows linear rows) → length linear ≤ 4 →
+        (inverse : List (List ℤ)) × ((z : Point) → length z ≡ length linear → along inverse (along (a.vector ∷ rows) z) ≡ z) }
+{}
 
 /// A law on coordinates: of one node, two points with equal coordinates and equal cycle are one point.
 pub fn one_point()
@@ -32,6 +37,6 @@ pub fn between_points()
 
 /// A law on listings: a design with a whole listing can be given every input.
 pub fn presenting_streams()
-    ensures { (t : Timed) (a : Cells) (d : Design) → IsChained (view_system t.flat) → HasWholeListing t a d →
+    ensures { (t : Timed) (a : Cells) (d : Design) → HasWholeListing t a d →
         (x : Assignment) → AreInputs (view_system t.flat) x → IsPresentable d x }
 {}

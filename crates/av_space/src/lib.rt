@@ -3,7 +3,9 @@
 #![tactic(auto)]
 
 mod cells;
+mod fault;
 mod laws;
 
 pub use cells::{Cell, Cells, InPort, Link};
-pub use laws::{between_points, one_point, presenting_streams};
+pub use fault::SpaceFault;
+pub use laws::{between_points, coordinates_have_inverses, one_point, presenting_streams};

@@ -1,0 +1,16 @@
+/// Why a scheduled system has no array: the first quantity of the whole array, in this order, that is above its limit, with its
+/// value; or memory ran out.
+#[derive(Clone, Copy, Debug, PartialEq, Eq)]
+pub enum SpaceFault {
+    /// Above 4,096 cycles.
+    Cycles(u128),
+    /// Above 2,048 cells.
+    Cells(u128),
+    /// Above 32,768 registers of delay lines.
+    Delays(u128),
+    /// Above 16,384 links.
+    Links(u128),
+    /// Above 1,048,576 operators.
+    Operators(u128),
+    Memory,
+}
