@@ -21,7 +21,7 @@ use Rattle.av_serial.specs.inner.Building.{AreMade, ArePiecesMade, IsVariableMad
 
 -- ---- how many
 
-sizes : (width : ℕ) (old new : List Var) (cs : List Chain) → map view_variable new ≡ map view_variable old ++ map (chain_variable width) cs → length new ≡ length old + length cs
+pub sizes : (width : ℕ) (old new : List Var) (cs : List Chain) → map view_variable new ≡ map view_variable old ++ map (chain_variable width) cs → length new ≡ length old + length cs
 sizes width old new cs e =
     let a = length-map new view_variable in
     let b = ap length e in

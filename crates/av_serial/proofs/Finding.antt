@@ -1,15 +1,20 @@
 -- The first reduction with a cause for a fault, and the number of chains, of lists that are put together.
-use Rattle.std.proofs.Common.{◌≡◌, ℕ, ◌+◌, List, [], ◌∷◌, ◌++◌, inl, inr, refl, subst, arith}
+use Rattle.std.proofs.Common.{◌≡◌, ℕ, suc, ◌+◌, ◌-◌, ◌^◌, min, List, [], ◌∷◌, ◌++◌, inl, inr, refl, subst, arith}
+use Rattle.std.proofs.lemmas.Grind.{common_steps}
 use Rattle.std.specs.List.{AllByRecursion}
 use Rattle.av_poly.specs.Points.{Set, Has}
 use Rattle.av_poly.proofs.Normalising.{normal_set}
+use Rattle.av_base.specs.declared.word.Op.{Op}
 use Rattle.av_affine.specs.declared.map.Map.{Map}
+use Rattle.av_flat.specs.Trees.{Tree, reduction}
 use Rattle.av_normal.specs.Alongside.{IsFirstOf}
 use Rattle.av_normal.proofs.Filled.{same_set}
 use Rattle.av_serial.specs.declared.fault.SerialFault.{SerialFault}
 use Rattle.av_serial.specs.declared.fault.SerialFault.TheVariants as fault
-use Rattle.av_serial.specs.SerialFaults.{Reduced, IsCauseOf, HasPoint, HaveNodes}
+use Rattle.av_serial.specs.SerialFaults.{Reduced, IsCauseOf, IsSum, HasPoint, HasNodes, HaveNodes}
+use Rattle.av_serial.specs.inner.Counted.{IsCapped}
 use Rattle.av_serial.specs.inner.Tries.{IsClean, IsFaultOf, IsFaultOfFirst, IsDomain}
+use Rattle.av_serial.proofs.Capped.{sum_of}
 
 abbrev pub AreClean : List Reduced → Type 0
 AreClean rs = AllByRecursion IsClean rs
@@ -90,13 +95,37 @@ walk_bad all a rest w f h = w.bad f (fault_first a rest f h)
 abbrev pub IsCount : {X : Type 0} → (X → ℕ → Type 0) → List X → List X → ℕ → Type 0
 IsCount P all rest count = (n : ℕ) → HaveNodes P rest n → HaveNodes P all (count + n)
 
-pub count_more : {X : Type 0} (P : X → ℕ → Type 0) (all : List X) (x : X) (rest : List X) (count one new : ℕ) → IsCount P all (x ∷ rest) count → P x one → new ≡ count + one → IsCount P all rest new
+count_more : {X : Type 0} (P : X → ℕ → Type 0) (all : List X) (x : X) (rest : List X) (count one new : ℕ) → IsCount P all (x ∷ rest) count → P x one → new ≡ count + one → IsCount P all rest new
 count_more P all x rest count one new h p e n k =
     let r = h (one + n) (one, n, p, k, refl) in
     let same : count + (one + n) ≡ new + n = omega (arith, e) in subst (λ (i : ℕ). HaveNodes P all i) same r
 
-pub count_all : {X : Type 0} (P : X → ℕ → Type 0) (all : List X) (count : ℕ) → IsCount P all [] count → HaveNodes P all count
+count_all : {X : Type 0} (P : X → ℕ → Type 0) (all : List X) (count : ℕ) → IsCount P all [] count → HaveNodes P all count
 count_all P all count h = let same : count + 0 ≡ count = omega arith in subst (λ (i : ℕ). HaveNodes P all i) same (h 0 refl)
+
+-- ---- what 128 bits hold of a number
+
+pub capped_start : {X : Type 0} (P : X → ℕ → Type 0) (all : List X) → IsCapped (IsCount P all all) 0
+capped_start P all = record { number = 0; counted = λ n k. let same : n ≡ 0 + n = omega arith in subst (λ (i : ℕ). HaveNodes P all i) same k; is = refl }
+
+pub capped_more : {X : Type 0} (P : X → ℕ → Type 0) (all : List X) (x : X) (rest : List X) (count one new : ℕ) → IsCapped (IsCount P all (x ∷ rest)) count → IsCapped (P x) one → new ≡ min (count + one) (2 ^ 128 - 1) → IsCapped (IsCount P all rest) new
+capped_more P all x rest count one new h p e = record {
+  number = h.number + p.number;
+  counted = count_more P all x rest h.number p.number (h.number + p.number) h.counted p.counted refl;
+  is = sum_of h.number p.number count one new h.is p.is e;
+}
+
+pub capped_all : {X : Type 0} (P : X → ℕ → Type 0) (all : List X) (count : ℕ) → IsCapped (IsCount P all []) count → IsCapped (HaveNodes P all) count
+capped_all P all count h = record { number = h.number; counted = count_all P all h.number h.counted; is = h.is }
+
+pub capped_two : (P Q : ℕ → Type 0) (m n k : ℕ) → IsCapped P m → IsCapped Q n → k ≡ min (m + n) (2 ^ 128 - 1) → IsCapped (IsSum P Q) k
+capped_two P Q m n k a b e = record { number = a.number + b.number; counted = (a.number, b.number, a.counted, b.counted, refl); is = sum_of a.number b.number m n k a.is b.is e }
+
+pub capped_next : (o : Op) (m : Map) (t : Tree) (set : Set) (n k : ℕ) → IsCapped (HasNodes t) n → HasPoint set → k ≡ min (n + 1) (2 ^ 128 - 1) → IsCapped (HasNodes (reduction o m t set)) k
+capped_next o m t set n k h p e = record { number = suc h.number; counted = inl (p, h.number, h.counted, refl); is = (let f = h.is in grind (arith, common_steps, e, f)) }
+
+pub capped_none : (o : Op) (m : Map) (t : Tree) (set : Set) → (HasPoint set → ⊥) → IsCapped (HasNodes (reduction o m t set)) 0
+capped_none o m t set none = record { number = 0; counted = inr (none, refl); is = refl }
 
 -- ---- points
 

@@ -1,7 +1,7 @@
 -- Why the reductions of a kept system cannot be made into chains: each reduction in the order of nodes is tried for three
 -- causes before the next one is, and at the end they are counted; and what the pass gives (the limits and their order are
 -- this project's).
-use Rattle.std.specs.Prelude.{◌≡◌, ℕ, suc, ◌+◌, ◌<◌, ◌⊎◌, Any, List, [], ◌∷◌, ◌++◌}
+use Rattle.std.specs.Prelude.{◌≡◌, ℕ, suc, ◌+◌, ◌-◌, ◌^◌, ◌<◌, ◌⊎◌, min, Any, List, [], ◌∷◌, ◌++◌}
 use Rattle.std.specs.List.{flat_map}
 use Rattle.av_affine.specs.declared.form.Form.{Form}
 use Rattle.av_affine.specs.declared.map.Map.{Map}
@@ -89,10 +89,13 @@ HaveNodes P (x ∷ xs) n = IsSum (P x) (HaveNodes P xs) n
 abbrev pub HasNodesIn : Variable → ℕ → Type 0
 HasNodesIn v n = HaveNodes (λ p. HasNodes p.tree) v.pieces n
 
+-- they are more than 16; a number that 128 bits do not hold counts as the greatest that they do
 pub record HasMany (s : FlatSystem) (kind : Quantity) (n : ℕ) : Type 0 where
   pub kind_is : kind ≡ quantity.Reductions
-  pub nodes : HaveNodes HasNodesIn s.variables n
-  pub many : 16 < n
+  pub number : ℕ
+  pub nodes : HaveNodes HasNodesIn s.variables number
+  pub many : 16 < number
+  pub is : n ≡ min number (2 ^ 128 - 1)
 
 -- ---- faults
 

@@ -6,9 +6,11 @@ ghost use Rattle.av_affine.specs.Forms.{IsWithinLimits};
 ghost use Rattle.av_poly.specs.Points.{Set};
 ghost use Rattle.av_flat.specs.WellFormed.{IsProjection};
 ghost use Rattle.av_flat.specs.Trees.{view, view_piece, view_variable, reduction};
-ghost use Rattle.av_serial.specs.inner.Tries.{IsTriable, IsDomain, IsDomainOf, CanTry, CanTryPieces, CanTryAll};
+ghost use Rattle.av_serial.specs.inner.Tries.{IsTriable, IsClean, IsDomain, IsDomainOf};
+ghost use Rattle.av_serial.specs.inner.Ready.{IsReady, AreReadyPieces, AreReady};
 ghost use Rattle.av_serial.specs.inner.Building.{AreMade, IsPlaced, ArePiecesMade, IsVariableMade, AreVariablesMade};
 
+use crate::SerialFault;
 use crate::chain::{chain, name_at, placeholder};
 use crate::choices::choices_of;
 use crate::tries::reduction_domain;
@@ -18,17 +20,17 @@ use av_flat::{Piece, Tree, Var, copy_set, copy_tree};
 use av_poly::Poly;
 use std::alloc::Global;
 
-const MOST_CHAINS: usize = 16;
-
 // The set that a reduction's chain has, or None where it has no point.
 fn domain_of(alloc: Global, name: &Name, map: &Map, set: &Poly) -> Result<Option<Poly>, Memory>
-    requires { IsTriable map.now set.now }
+    requires can { IsTriable map.now set.now }
+    requires clean { IsClean (record { name = name.now; map = map.now; set = set.now }) }
     ensures { IfOk result (IsDomainOf map.now set.now) }
 {
     match reduction_domain(alloc, name, map, set) {
         Ok(domain) => Ok(domain),
-        // All were tried before, so that memory alone can be wanted.
-        Err(_) => Err(Memory),
+        Err(SerialFault::Memory) => Err(Memory),
+        // Never, since it has no cause for another fault.
+        Err(_) => Ok(None),
     }
 }
 
@@ -85,14 +87,13 @@ fn chained(
     tree: &Tree,
     chains: &mut List<Var>,
 ) -> Result<Tree, Memory>
-    requires can { CanTry (view tree.now) }
+    requires ready { IsReady name.now (length chains.old) (view tree.now) }
     requires base { equation.base ≤ 2 ^ 31 }
     requires first { equation.first ≤ equation.base + length chains.old }
     ensures { IfOk result (λ made.
         AreMade name.now equation.first equation.width.bits equation.base chains.old chains.new (view tree.now) (view made)) }
 {
     match tree {
-        Tree::Ref { .. } | Tree::Const(_) => copy_tree(alloc, tree),
         Tree::Binary { sign, left, right } => {
             let left = boxed(alloc, name, equation, left, chains)?;
             let right = boxed(alloc, name, equation, right, chains)?;
@@ -125,7 +126,7 @@ fn chained(
             Some(domain) => reduced(alloc, name, equation, *op, map, domain, body, chains),
             None => Ok(Tree::Const(Word::identity(*op, equation.width))),
         },
-        _ => Err(Memory),
+        _ => copy_tree(alloc, tree),
     }
 }
 
@@ -137,7 +138,7 @@ fn boxed(
     tree: &Tree,
     chains: &mut List<Var>,
 ) -> Result<Box<Tree>, Memory>
-    requires can { CanTry (view tree.now) }
+    requires ready { IsReady name.now (length chains.old) (view tree.now) }
     requires base { equation.base ≤ 2 ^ 31 }
     requires first { equation.first ≤ equation.base + length chains.old }
     ensures { IfOk result (λ made.
@@ -159,7 +160,7 @@ fn reduced(
     body: &Tree,
     chains: &mut List<Var>,
 ) -> Result<Tree, Memory>
-    requires can { CanTry (view body.now) }
+    requires ready { IsReady name.now (length chains.old + 1) (view body.now) }
     requires projection { IsProjection map.now }
     requires from { map.now.from ≤ 4 }
     requires dimension { domain.dim ≡ map.now.from }
@@ -170,9 +171,6 @@ fn reduced(
         AreMade name.now equation.first equation.width.bits equation.base chains.old chains.new (reduction op map.now (view body.now) set) (view made)) }
 {
     let index = chains.as_slice().len();
-    if index >= MOST_CHAINS {
-        return Err(Memory);
-    }
     chains.push(placeholder(alloc, equation.width)?)?;
     let body = chained(alloc, name, equation, body, chains)?;
     placed(alloc, name, equation, op, map, domain, index, body, chains)
@@ -186,7 +184,7 @@ fn pieces_chained(
     pieces: &[Piece],
     chains: &mut List<Var>,
 ) -> Result<List<Piece>, Memory>
-    requires can { CanTryPieces (map view_piece pieces.now) }
+    requires ready { AreReadyPieces name.now (length chains.old) (map view_piece pieces.now) }
     requires base { equation.base ≤ 2 ^ 31 }
     requires first { equation.first ≤ equation.base + length chains.old }
     ensures { IfOk result (λ made. ArePiecesMade name.now equation.first equation.width.bits equation.base chains.old chains.new
@@ -208,14 +206,11 @@ fn variable_chained(
     var: &Var,
     chains: &mut List<Var>,
 ) -> Result<Var, Memory>
-    requires can { CanTryPieces (view_variable var.now).pieces }
+    requires ready { AreReadyPieces var.now.name (length chains.old) (view_variable var.now).pieces }
     requires base { base ≤ 2 ^ 31 }
     ensures { IfOk result (λ made. IsVariableMade base chains.old chains.new (view_variable var.now) (view_variable made)) }
 {
     let count = chains.as_slice().len();
-    if count > MOST_CHAINS {
-        return Err(Memory);
-    }
     let equation = Equation {
         width: var.width,
         first: base + count as u32,
@@ -240,7 +235,7 @@ pub(crate) fn variables_chained(
     vars: &[Var],
     chains: &mut List<Var>,
 ) -> Result<List<Var>, Memory>
-    requires can { CanTryAll (map view_variable vars.now) }
+    requires ready { AreReady (length chains.old) (map view_variable vars.now) }
     requires base { base ≤ 2 ^ 31 }
     ensures { IfOk result (λ made. (width : ℕ) → AllByRecursion (λ v. v.width ≡ width) (map view_variable vars.now) →
         AreVariablesMade width base chains.old chains.new (map view_variable vars.now) (map view_variable made)) }

@@ -2,9 +2,9 @@ use Rattle.std.proofs.Common.{◌≡◌, suc, Option, inl, subst, arith}
 use Rattle.std.proofs.lemmas.Result.{err_from_is_err_and}
 use Rattle.av_poly.specs.Points.{Set}
 use Rattle.av_flat.specs.Trees.{view}
-use Rattle.av_serial.specs.SerialFaults.{reductions_in}
+use Rattle.av_serial.specs.SerialFaults.{reductions_in, IsSum, HasNodes}
 use Rattle.av_serial.specs.inner.Tries.{IsDomainOf}
-use Rattle.av_serial.proofs.Finding.{fault_first, fault_second, fault_here, fault_after, four_first, four_second, four_third, four_fourth, set_point}
+use Rattle.av_serial.proofs.Finding.{fault_first, fault_second, fault_here, fault_after, four_first, four_second, four_third, four_fourth, capped_two, capped_next, capped_none, set_point}
 use Rattle.av_serial.proofs.walk.+tree_nodes.Goals as goal
 
 -- ---- two operands
@@ -60,10 +60,32 @@ returns-in_err-inside-in-Reduce-clause-bad t c =
     rw (p.1, p.2, c.in-Reduce.is)
     (fault_after (record { name = c.args.name.now; map = c.in-Reduce.map; set = c.in-Reduce.set }) (reductions_in c.args.name.now (view c.in-Reduce.body.value)) c.in_ok-domain-in-Reduce.ensures.clean c.in_err-inside-in-Reduce.field-0.0 (rw c.deref-in-Reduce.ensures at c.in_err-inside-in-Reduce.ensures.bad))
 
-pub returns-in_ok-sum-in-Some-clause-nodes : goal.returns-in_ok-sum-in-Some-clause-nodes
-returns-in_ok-sum-in-Some-clause-nodes t c =
+pub returns-in-Some-clause-nodes : goal.returns-in-Some-clause-nodes
+returns-in-Some-clause-nodes t c =
     let d = subst (λ (o : Option Set). IsDomainOf c.in-Reduce.map c.in-Reduce.set o) c.in-Some.is c.in_ok-domain-in-Reduce.ensures.domain in
-    let e = c.in_ok-sum-in-Some.ensures in
-    let n : c.in_ok-sum-in-Some.field-0 ≡ suc c.in_ok-inside-in-Reduce.inside = omega (arith, e) in
     rw c.in-Reduce.is
-    (inl (set_point c.in-Reduce.map c.in-Reduce.set c.in-Some._domain d, c.in_ok-inside-in-Reduce.inside, (rw c.deref-in-Reduce.ensures at c.in_ok-inside-in-Reduce.ensures.nodes), n))
+    (capped_next c.in-Reduce.op c.in-Reduce.map (view c.in-Reduce.body.value) c.in-Reduce.set c.in_ok-inside-in-Reduce.inside _ (rw c.deref-in-Reduce.ensures at c.in_ok-inside-in-Reduce.ensures.nodes) (set_point c.in-Reduce.map c.in-Reduce.set c.in-Some._domain d) c.saturating_add-in-Some.ensures)
+
+pub returns-in-None-clause-nodes : goal.returns-in-None-clause-nodes
+returns-in-None-clause-nodes t c =
+    let none = subst (λ (o : Option Set). IsDomainOf c.in-Reduce.map c.in-Reduce.set o) c.in-None.is c.in_ok-domain-in-Reduce.ensures.domain in
+    rw c.in-Reduce.is (capped_none c.in-Reduce.op c.in-Reduce.map (view c.in-Reduce.body.value) c.in-Reduce.set none)
+
+-- ---- how many there are in operands
+
+pub returns-in_ok-right-in-Binary-clause-nodes : goal.returns-in_ok-right-in-Binary-clause-nodes
+returns-in_ok-right-in-Binary-clause-nodes t c =
+    rw c.in-Binary.is
+    (capped_two (HasNodes (view c.in-Binary.left.value)) (HasNodes (view c.in-Binary.right.value)) c.in_ok-left-in-Binary.left c.in_ok-right-in-Binary.right _
+    (rw c.deref.ensures at c.in_ok-left-in-Binary.ensures.nodes) (rw c.deref-in-Binary.ensures at c.in_ok-right-in-Binary.ensures.nodes) c.saturating_add.ensures)
+
+pub returns-in_ok-no-in-Choose-clause-nodes : goal.returns-in_ok-no-in-Choose-clause-nodes
+returns-in_ok-no-in-Choose-clause-nodes t c =
+    let L = HasNodes (view c.in-Choose.left.value) in
+    let R = HasNodes (view c.in-Choose.right.value) in
+    let X = HasNodes (view c.in-Choose.yes.value) in
+    let Y = HasNodes (view c.in-Choose.no.value) in
+    let branches = capped_two X Y c.in_ok-yes-in-Choose.yes c.in_ok-no-in-Choose.no _ (rw c.deref-in-Choose-3.ensures at c.in_ok-yes-in-Choose.ensures.nodes) (rw c.deref-in-Choose-4.ensures at c.in_ok-no-in-Choose.ensures.nodes) c.saturating_add-branches.ensures in
+    let others = capped_two R (IsSum X Y) c.in_ok-right-in-Choose.right _ _ (rw c.deref-in-Choose-2.ensures at c.in_ok-right-in-Choose.ensures.nodes) branches c.saturating_add-others.ensures in
+    rw c.in-Choose.is
+    (capped_two L (IsSum R (IsSum X Y)) c.in_ok-left-in-Choose.left _ _ (rw c.deref-in-Choose.ensures at c.in_ok-left-in-Choose.ensures.nodes) others c.saturating_add-in-Choose.ensures)

@@ -6,11 +6,12 @@ use Rattle.av_flat.specs.Trees.{Piece, Variable, view_piece, view_variable}
 use Rattle.av_normal.proofs.Dropping.{next_item, nothing_left}
 use Rattle.av_serial.specs.SerialFaults.{reductions_in, HasNodesIn}
 use Rattle.av_serial.specs.inner.Tries.{CanTryAll}
-use Rattle.av_serial.proofs.Finding.{IsWalk, IsCount, walk_more, walk_bad, count_more, count_all}
+use Rattle.av_serial.specs.inner.Counted.{IsCapped}
+use Rattle.av_serial.proofs.Finding.{IsWalk, IsCount, walk_more, walk_bad, capped_more, capped_all}
 use Rattle.av_serial.proofs.walk.all_nodes.Goals as goal
 
-pub returns-in_err-pieces_nodes-clause-bad : goal.returns-in_err-pieces_nodes-clause-bad
-returns-in_err-pieces_nodes-clause-bad c =
+pub returns-in_err-more-clause-bad : goal.returns-in_err-more-clause-bad
+returns-in_err-more-clause-bad c =
     let vars = c.args.vars.now in
     let i = c.loop-var.var-index in
     let l : i < length vars = search rules in
@@ -19,7 +20,7 @@ returns-in_err-pieces_nodes-clause-bad c =
     let p = err_from_is_err_and c.from_residual.result c.from_residual.ensures.1 in
     rw (p.1, p.2)
     (walk_bad (f vars) (flat_map (λ (p : Piece). reductions_in c.var-item.result.name p.tree) (map view_piece c.var-item.result.pieces)) (f (drop (i + 1) vars)) (subst (λ (ps : List Var). IsWalk (f vars) (f ps)) next c.loop-var.invariant.walk)
-    c.in_err-pieces_nodes.field-0.0 (rw c.as_slice.ensures at c.in_err-pieces_nodes.ensures.bad))
+    c.in_err-more.field-0.0 (rw c.as_slice.ensures at c.in_err-more.ensures.bad))
 
 pub loop-var-preserved : goal.loop-var-preserved
 loop-var-preserved c =
@@ -31,9 +32,9 @@ loop-var-preserved c =
     let P : Variable → ℕ → Type 0 = HasNodesIn in
     record {
       can = (subst (λ (ps : List Var). CanTryAll (map view_variable ps)) next c.loop-var.invariant.can).1;
-      walk = walk_more (f vars) (flat_map (λ (p : Piece). reductions_in c.var-item.result.name p.tree) (map view_piece c.var-item.result.pieces)) (f (drop (i + 1) vars)) (subst (λ (ps : List Var). IsWalk (f vars) (f ps)) next c.loop-var.invariant.walk) (rw c.as_slice.ensures at c.in_ok-pieces_nodes.ensures.clean);
-      count = count_more P (map view_variable vars) (view_variable c.var-item.result) (map view_variable (drop (i + 1) vars)) c.loop-var.count c.in_ok-pieces_nodes.field-0 c.in_ok-count.count
-          (subst (λ (ps : List Var). IsCount P (map view_variable vars) (map view_variable ps) c.loop-var.count) next c.loop-var.invariant.count) (rw c.as_slice.ensures at c.in_ok-pieces_nodes.ensures.nodes) c.in_ok-count.ensures;
+      walk = walk_more (f vars) (flat_map (λ (p : Piece). reductions_in c.var-item.result.name p.tree) (map view_piece c.var-item.result.pieces)) (f (drop (i + 1) vars)) (subst (λ (ps : List Var). IsWalk (f vars) (f ps)) next c.loop-var.invariant.walk) (rw c.as_slice.ensures at c.in_ok-more.ensures.clean);
+      count = capped_more P (map view_variable vars) (view_variable c.var-item.result) (map view_variable (drop (i + 1) vars)) c.loop-var.count c.in_ok-more.more c.saturating_add-count.result
+          (subst (λ (ps : List Var). IsCapped (IsCount P (map view_variable vars) (map view_variable ps)) c.loop-var.count) next c.loop-var.invariant.count) (rw c.as_slice.ensures at c.in_ok-more.ensures.nodes) c.saturating_add-count.ensures;
     }
 
 pub returns-clause-nodes : goal.returns-clause-nodes
@@ -41,5 +42,5 @@ returns-clause-nodes c =
     let vars = c.args.vars.now in
     let l : length vars ≤ c.loop-var.var-index = search rules in
     let P : Variable → ℕ → Type 0 = HasNodesIn in
-    count_all P (map view_variable vars) c.loop-var.count
-    (subst (λ (ps : List Var). IsCount P (map view_variable vars) (map view_variable ps) c.loop-var.count) (nothing_left vars c.loop-var.var-index l) c.loop-var.invariant.count)
+    capped_all P (map view_variable vars) c.loop-var.count
+    (subst (λ (ps : List Var). IsCapped (IsCount P (map view_variable vars) (map view_variable ps)) c.loop-var.count) (nothing_left vars c.loop-var.var-index l) c.loop-var.invariant.count)
