@@ -14,7 +14,8 @@ use std::alloc::Global;
 
 const MOST_REDUCTIONS: u128 = 16;
 
-// So many variables leave places for the chains among numbers of 32 bits. No text names as many.
+// So many variables leave places for the chains among numbers of 32 bits. Nothing bounds the number of a system's variables
+// but memory; no text names as many.
 const MOST_VARIABLES: usize = 1 << 31;
 
 // The system with its reductions as chains, or the first cause that holds against it.
@@ -45,6 +46,13 @@ fn serial_form(alloc: Global, flat: &Flat) -> Result<Flat, SerialFault>
 /// one of these holds, for the first that does: a normalised row of its set with another coefficient at the dropped
 /// index than -1, 0 and 1; a set without an end; a coordinate above 4,095 or a box of more than 65,536 points. At the
 /// end it refuses more than 16 reductions with a point.
+///
+/// The chains stand behind the variables given, equation by equation and there in the order of the text, an outer one before
+/// those in its body. The name of each is that of the equation's variable, `#` and a number from 1. A reduction without a point
+/// becomes its operator's identity. All other parts stay.
+///
+/// Want of memory is answered where a request for memory failed, and of a system with more than 2^31 variables, which no text
+/// names.
 #[derive(Clone, Copy, Debug, Drop)]
 pub struct Serial;
 

@@ -1,15 +1,15 @@
 //! What becomes of texts: the equations of a serial form at some points, the points of its chains, and faults.
 
+ghost use Rattle.std.specs.Prelude.{◌<◌, ◌≤◌, length, unsigned_abs, IfOk, OnOk};
+ghost use Rattle.av_flat.specs.Trees.{view_system};
+ghost use Rattle.av_flat.specs.WellFormed.{IsWellFormed};
+ghost use Rattle.av_names.specs.Texts.{AreSmall};
+
 mod faults;
 mod forms;
 mod passes;
 mod show;
 mod texts;
-
-ghost use Rattle.std.specs.Prelude.{◌<◌, ◌≤◌, length, unsigned_abs, IfOk, OnOk};
-ghost use Rattle.av_flat.specs.Trees.{view_system};
-ghost use Rattle.av_flat.specs.WellFormed.{IsWellFormed};
-ghost use Rattle.av_names.specs.Texts.{AreSmall};
 
 use av_base::{List, Memory, Name, Width};
 use av_flat::Flat;
@@ -31,25 +31,33 @@ fn sizes_of(alloc: Global, value: i64) -> Result<List<Size>, Memory>
     Ok(sizes)
 }
 
-/// The system of a text of less than 4 GB, in words of 8 bits.
+/// The system of a text, in words of 8 bits.
 fn flat_of(alloc: Global, text: &str, sizes: &[Size]) -> Result<Flat, Fail>
     requires text { length text.now < 4294967295 }
     requires sizes { AreSmall sizes.now }
     ensures { IfOk result (λ flat. IsWellFormed (view_system flat)) }
 {
-    let tokens = lex(alloc, text.as_bytes()).ok().ok_or("tokens")?;
-    let system = parse(alloc, tokens.as_slice()).ok().ok_or("system")?;
-    let width = Width::new(8).ok_or("width")?;
-    let flat = resolve(alloc, &system, sizes, width).ok().ok_or("flat")?;
-    Ok(flat)
+    let Ok(tokens) = lex(alloc, text.as_bytes()) else {
+        return Err(Fail::new("tokens"));
+    };
+    let Ok(system) = parse(alloc, tokens.as_slice()) else {
+        return Err(Fail::new("system"));
+    };
+    let Some(width) = Width::new(8) else {
+        return Err(Fail::new("width"));
+    };
+    match resolve(alloc, &system, sizes, width) {
+        Ok(flat) => Ok(flat),
+        Err(_) => Err(Fail::new("flat")),
+    }
 }
 
-/// The system of a text with N, where that is above 0.
+/// The system of a short text with N, where that is above 0.
 fn system(alloc: Global, text: &str, n: i64) -> Result<Flat, Fail>
     ensures { IfOk result (λ flat. IsWellFormed (view_system flat)) }
 {
     let sizes = sizes_of(alloc, n)?;
-    if text.len() > 1_000_000 {
+    if text.len() > 100_000 {
         return Err(Fail::new("long"));
     }
     flat_of(alloc, text, sizes.as_slice())

@@ -27,7 +27,9 @@ fn push_fault(out: &mut String, fault: &SerialFault) -> Result<(), Fail> {
 /// How many chains the text has, or why it has no serial form.
 fn answer(alloc: Global, text: &str) -> Result<String, Fail> {
     let flat = system(alloc, text, 0)?;
-    let normal = Normal.run(alloc, &flat).ok().ok_or("normal")?;
+    let Ok(normal) = Normal.run(alloc, &flat) else {
+        return Err(Fail::new("normal"));
+    };
     let mut out = String::new(alloc);
     match Serial.run(alloc, &normal) {
         Ok(serial) => {

@@ -17,9 +17,13 @@ type Row = (&'static str, &'static [i64], &'static str);
 
 fn serial_form(alloc: Global, text: &str, n: i64) -> Result<Flat, Fail> {
     let flat = system(alloc, text, n)?;
-    let normal = Normal.run(alloc, &flat).ok().ok_or("normal")?;
-    let serial = Serial.run(alloc, &normal).ok().ok_or("serial")?;
-    Ok(serial)
+    let Ok(normal) = Normal.run(alloc, &flat) else {
+        return Err(Fail::new("normal"));
+    };
+    match Serial.run(alloc, &normal) {
+        Ok(serial) => Ok(serial),
+        Err(_) => Err(Fail::new("serial")),
+    }
 }
 
 fn assert_variables(
