@@ -1,0 +1,4 @@
+pub mod Lines
+pub mod SerialForm
+pub mod SerialFaults
+pub mod inner

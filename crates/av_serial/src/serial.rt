@@ -1,0 +1,85 @@
+//! The pass from a kept system to its serial form.
+
+ghost use Rattle.std.specs.Prelude.{IfOk, IfErr};
+ghost use Rattle.av_flat.specs.Trees.{view_system};
+ghost use Rattle.av_flat.specs.Kept.{IsKept};
+ghost use Rattle.av_serial.specs.SerialFaults.{IsGiven, IsFault};
+
+use crate::SerialFault;
+use crate::walk::all_nodes;
+use crate::whole::whole;
+use av_flat::{Feeds, Flat, Pass, Quantity};
+use av_normal::Normal;
+use std::alloc::Global;
+
+const MOST_REDUCTIONS: u128 = 16;
+
+// So many variables leave places for the chains among numbers of 32 bits. Nothing bounds the number of a system's variables
+// but memory; no text names as many.
+const MOST_VARIABLES: usize = 1 << 31;
+
+// The system with its reductions as chains, or the first cause that holds against it.
+fn serial_form(alloc: Global, flat: &Flat) -> Result<Flat, SerialFault>
+    requires { IsKept (view_system flat.now) }
+    ensures given { IfOk result (λ to. IsGiven (view_system flat.now) (view_system to)) }
+    ensures fault { IfErr result (IsFault (view_system flat.now)) }
+{
+    let given = flat.vars.as_slice();
+    let nodes = all_nodes(alloc, given)?;
+    if nodes > MOST_REDUCTIONS {
+        return Err(SerialFault::Limit(Quantity::Reductions, nodes));
+    }
+    if given.len() > MOST_VARIABLES {
+        return Err(SerialFault::Memory);
+    }
+    let vars = whole(alloc, given)?;
+    Ok(Flat {
+        width: flat.width,
+        vars,
+    })
+}
+
+/// Makes every reduction a chain: a partial variable that is folded from point to point along the index that the
+/// reduction drops, and in the reduction's place a read of the last point of the chain.
+///
+/// It tries each reduction in the order of nodes, an outer one before those in its body, and refuses the first of which
+/// one of these holds, for the first that does: a normalised row of its set with another coefficient at the dropped
+/// index than -1, 0 and 1; a set without an end; a coordinate above 4,095 or a box of more than 65,536 points. At the
+/// end it refuses more than 16 reductions with a point.
+///
+/// The chains stand behind the variables given, equation by equation and there in the order of the text, an outer one before
+/// those in its body. The name of each is that of the equation's variable, `#` and a number from 1. A reduction without a point
+/// becomes its operator's identity. All other parts stay.
+///
+/// Want of memory is answered where a request for memory failed, and of a system with more than 2^31 variables, which no text
+/// names.
+#[derive(Clone, Copy, Debug, Drop)]
+pub struct Serial;
+
+impl Pass for Serial {
+    ghost use Rattle.av_flat.specs.Trees.{view_system};
+    ghost use Rattle.av_flat.specs.Kept.{IsKept};
+    ghost use Rattle.av_serial.specs.SerialFaults.{IsGiven, IsFault};
+
+    type In = Flat;
+
+    type Out = Flat;
+
+    type Fault = SerialFault;
+
+    ghost takes = { λ from. IsKept (view_system from) };
+
+    ghost gives = { λ from to. IsGiven (view_system from) (view_system to) };
+
+    ghost refuses = { λ from fault. IsFault (view_system from) fault };
+
+    fn run(&self, alloc: Global, from: &Flat) -> Result<Flat, SerialFault> {
+        serial_form(alloc, from)
+    }
+
+    ghost same = { λ from to takes gives. gives.same };
+}
+
+impl Feeds<Serial> for Normal {
+    ghost fits = { λ from to takes gives. gives.kept };
+}
