@@ -12,6 +12,7 @@ use Rattle.av_flat.specs.Points.{has}
 use Rattle.av_flat.proofs.Sets.{has_is}
 use Rattle.av_depend.specs.Edges.{IsBefore, IsMiddle, IsGenerator, AreGenerators}
 use Rattle.av_depend.specs.inner.Generating.{mirrored, AreAllPoints, HasMirrored, AreGeneratorsTo}
+use Rattle.av_depend.proofs.Among.{last_among}
 use Rattle.av_depend.proofs.Generators.{before_chain, before_itself}
 
 -- ---- midpoints and mirror images
@@ -137,10 +138,6 @@ take_more xs i d l = rw add-one (go xs i d l)
     go (a ∷ xs) (suc i) d l = ap (λ ys. a ∷ ys) (go xs i d (omega (arith, l)))
 
 -- ---- the generators among the first points
-
-last_among : {X : Type 0} (xs : List X) (x : X) → Contains (xs ++ x ∷ []) x
-last_among [] x = (0, omega arith, refl)
-last_among (y ∷ xs) x = let r = last_among xs x in (suc r.0, (let l = r.1 in omega (arith, l)), r.2)
 
 taken_at : (xs : List Point) (k i : ℕ) (d : Point) → i < length (take k xs) → (i < k) × (get_or (take k xs) i d ≡ get_or xs i d)
 taken_at [] zero i d l = absurd (omega (arith, l))

@@ -1,2 +1,4 @@
 pub mod Clipped
 pub mod Generating
+pub mod Reaching
+pub mod Listing

@@ -56,14 +56,14 @@ fn is_middle(set: &Poly, points: &[Point], at: usize) -> bool
     false
 }
 
-// The same point.
-fn same(point: &Point) -> Point
+/// The same point.
+pub(crate) fn same(point: &Point) -> Point
     ensures { result ≡ point.now }
 {
     Point::from_slice(point.as_slice())
 }
 
-// Of all points of a set its generators.
+/// Of all points of a set its generators.
 pub(crate) fn generators(alloc: Global, set: &Poly, points: &[Point]) -> Result<List<Point>, Memory>
     requires points { All (IsPointOf set.now) points.now }
     requires all { AreAllPoints set.now points.now }
