@@ -1,10 +1,10 @@
 -- Points between bounds, one first entry at a time.
-use Rattle.std.proofs.Common.{◌≡◌, ℕ, zero, suc, ◌+◌, ◌<◌, ◌≤◌, ℤ, pos, ◌+ℤ◌, ◌≤ℤ◌, ◌<ℤ◌, Bool, true, false, IsTrue, List, [], ◌∷◌, ◌++◌, length, append_assoc, get_or, take, inl, inr, ◌⊎◌, ⊎_elim, refl, sym, ap, subst, ◌∙◌, arith, All}
+use Rattle.std.proofs.Common.{◌≡◌, ℕ, zero, suc, ◌+◌, ◌<◌, ◌≤◌, ℤ, pos, ◌+ℤ◌, ◌≤ℤ◌, ◌<ℤ◌, Bool, true, false, IsTrue, if◌then◌else◌, List, [], ◌∷◌, ◌++◌, length, append_assoc, get_or, take, inl, inr, ◌⊎◌, ⊎_elim, refl, sym, ap, subst, ◌∙◌, arith, All}
 use Rattle.std.specs.Prelude.{Contains, AllPairs, filter}
 use Rattle.std.proofs.lemmas.Int.{ints, by_lt_z}
 use Rattle.std.proofs.lemmas.List.{append-nil, nil_from_length}
-use Rattle.std.proofs.lemmas.List.Elements.{Contains-append_left, Contains-append_right, Contains-append_cases, All-filter}
-use Rattle.std.proofs.lemmas.List.Kept.{AllPairs-filter}
+use Rattle.std.proofs.lemmas.List.Elements.{Contains-append_left, Contains-append_right, Contains-append_cases, filter-append}
+use Rattle.std.specs.Int.Signed.{lt_z}
 use Rattle.av_affine.specs.declared.form.Form.{Form}
 use Rattle.av_poly.specs.Points.{Set, Has, Holds}
 use Rattle.av_poly.specs.Search.{IsBetween, CanFollow}
@@ -18,6 +18,7 @@ use Rattle.av_depend.specs.Extents.{IsInside}
 use Rattle.av_depend.specs.inner.Generating.{AreAllPoints}
 use Rattle.av_depend.specs.inner.Listing.{AreListed, HasListed}
 use Rattle.av_depend.proofs.Among.{first_among, more_among, among_cases, none_among}
+use Rattle.av_depend.proofs.Mirrors.{take_more}
 
 -- ---- joined lists in order
 
@@ -105,19 +106,61 @@ listed_through rows fixed low high value points some past h = record {
     every [] f = (let n = f.size in absurd (omega (arith, n, some)))
     every (x ∷ rest) f = (let b = (first_between low high rest x f.between).1 in h.all x rest (omega (arith, ints, b, past)) f)
 
+pub record HasListedTo (set : Set) (fixed low high : Point) (value : ℤ) (old new : List Point) : Type 0 where
+  pub added : List Point
+  pub new_is : new ≡ old ++ added
+  pub are : AreListedTo set.rows fixed low high value added
+
+pub added_none : (set : Set) (fixed low high : Point) (value : ℤ) (old : List Point) → value ≡ get_or low 0 (pos 0) → HasListedTo set fixed low high value old old
+added_none set fixed low high value old e = record { added = []; new_is = sym (append-nil old); are = listed_none set.rows fixed low high value e }
+
+pub added_next : (set : Set) (fixed low high : Point) (value : ℤ) (old middle new : List Point) → 0 < length low → length high ≡ length low → get_or low 0 (pos 0) ≤ℤ value → value ≤ℤ get_or high 0 (pos 0)
+    → HasListedTo set fixed low high value old middle → HasListed set (fixed ++ value ∷ []) (later low) (later high) middle new → HasListedTo set fixed low high (value +ℤ pos 1) old new
+added_next set fixed low high value old middle new some size above within h k = record {
+  added = h.added ++ k.added;
+  new_is = k.new_is ∙ ap (λ (xs : List Point). xs ++ k.added) h.new_is ∙ append_assoc old h.added k.added;
+  are = listed_next set.rows fixed low high value some size above within h.added k.added h.are k.are;
+}
+
+pub added_through : (set : Set) (fixed low high : Point) (value : ℤ) (old new : List Point) → 0 < length low → get_or high 0 (pos 0) <ℤ value → HasListedTo set fixed low high value old new → HasListed set fixed low high old new
+added_through set fixed low high value old new some past h = record { added = h.added; new_is = h.new_is; are = listed_through set.rows fixed low high value h.added some past h.are }
+
 -- ---- the last entry
+
+pub filter_kept : {X : Type 0} (p : X → Bool) (x : X) → IsTrue (p x) → filter p (x ∷ []) ≡ x ∷ []
+filter_kept p x t = ap (λ b. if b then x ∷ [] else []) t
+
+pub filter_left : {X : Type 0} (p : X → Bool) (x : X) → p x ≡ false → filter p (x ∷ []) ≡ []
+filter_left p x f = ap (λ b. if b then x ∷ [] else []) f
+
+-- one more of the elements
+pub filter_more : {X : Type 0} (p : X → Bool) (xs : List X) (k : ℕ) (x : X) → k < length xs → x ≡ get_or xs k x → IsTrue (p x) → filter p (take (k + 1) xs) ≡ filter p (take k xs) ++ x ∷ []
+filter_more p xs k x l e t = ap (filter p) (take_more xs k x l) ∙ filter-append p (take k xs) (get_or xs k x ∷ []) ∙ ap (λ ys. filter p (take k xs) ++ ys) (ap (λ y. filter p (y ∷ [])) (sym e) ∙ filter_kept p x t)
+
+pub filter_same : {X : Type 0} (p : X → Bool) (xs : List X) (k : ℕ) (x : X) → k < length xs → x ≡ get_or xs k x → p x ≡ false → filter p (take (k + 1) xs) ≡ filter p (take k xs)
+filter_same p xs k x l e f =
+    ap (filter p) (take_more xs k x l) ∙ filter-append p (take k xs) (get_or xs k x ∷ []) ∙ ap (λ ys. filter p (take k xs) ++ ys) (ap (λ y. filter p (y ∷ [])) (sym e) ∙ filter_left p x f) ∙ append-nil (filter p (take k xs))
+
+-- where a test means that the set has the point
+pub has_true : (set : Set) (z : Point) → Has set z → IsTrue (has set z)
+has_true set z h = (has_is set z).1 h
+
+pub has_false : (set : Set) (z : Point) → (Has set z → ⊥) → has set z ≡ false
+has_false set z n = by_test (has set z) (λ t. absurd (n ((has_is set z).0 t))) (λ f. f)
+
+-- ---- ends of walks
+
+pub at_most_end : (v h : ℤ) → lt_z v (h +ℤ pos 1) ≡ true → v ≤ℤ h
+at_most_end v h t = grind (arith, ints)
+
+pub past_end : (v h : ℤ) → lt_z v (h +ℤ pos 1) ≡ false → h <ℤ v
+past_end v h t = grind (arith, ints)
 
 pub listed_here : (set : Set) (fixed low high : Point) → length low ≡ 0 → length fixed ≡ set.dim → AreListed set.rows fixed low high (filter (has set) (fixed ∷ []))
 listed_here set fixed low high none size = by_test (has set fixed)
-    (λ t. subst (AreListed set.rows fixed low high) (sym (kept t)) (found t))
-    (λ f. subst (AreListed set.rows fixed low high) (sym (left f)) (missed f))
+    (λ t. subst (AreListed set.rows fixed low high) (sym (filter_kept (has set) fixed t)) (found t))
+    (λ f. subst (AreListed set.rows fixed low high) (sym (filter_left (has set) fixed f)) (missed f))
   where
-    kept : IsTrue (has set fixed) → filter (has set) (fixed ∷ []) ≡ fixed ∷ []
-    kept t = ?
-
-    left : has set fixed ≡ false → filter (has set) (fixed ∷ []) ≡ []
-    left f = ?
-
     empty : (rest : Point) → CanFollow set.rows fixed low high rest → rest ≡ []
     empty rest h = let n = h.size in nil_from_length rest (n ∙ none)
 

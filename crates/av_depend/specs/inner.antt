@@ -1,3 +1,4 @@
+pub mod Adding
 pub mod Clipped
 pub mod Generating
 pub mod Reaching
