@@ -1,6 +1,6 @@
 //! Edges of the sites of one piece.
 
-ghost use Rattle.std.specs.Prelude.{◌≡◌, ◌≤◌, ◌<◌, ◌↔◌, [], ◌∷◌, map, length, IfOk, OnOk, IsTrue};
+ghost use Rattle.std.specs.Prelude.{◌≡◌, ◌≤◌, [], ◌∷◌, map, length, All, IfOk, OnOk, IsTrue};
 ghost use Rattle.av_affine.specs.Numbers.{AtMost};
 ghost use Rattle.av_flat.specs.Trees.{view, view_system};
 ghost use Rattle.av_flat.specs.Nodes.{number_at};
@@ -68,10 +68,12 @@ fn is_computed_at(flat: &Flat, place: u32) -> bool
     ensures yes { IsTrue result → IsComputedAt (view_system flat.now) place }
     ensures no { IsComputedAt (view_system flat.now) place → IsTrue result }
 {
-    match flat.vars.as_slice().get(place as usize) {
-        Some(var) => var.kind.is_computed(),
-        None => false,
+    let vars = flat.vars.as_slice();
+    let at = place as usize;
+    if at >= vars.len() {
+        return false;
     }
+    vars[at].kind.is_computed()
 }
 
 // The number of the node at a place of the variables.
@@ -160,10 +162,10 @@ pub(crate) fn add_tree(alloc: Global, flat: &Flat, node: u32, tree: &Tree, readi
         Tree::Pick { var, choices, .. } => {
             add_choices(alloc, flat, node, *var, choices.as_slice(), reading, edges)
         }
-        Tree::Const(_)
-        | Tree::Restrict { .. }
-        | Tree::Case { .. }
-        | Tree::Depend { .. }
-        | Tree::Reduce { .. } => Ok(()),
+        Tree::Const(_) => Ok(()),
+        Tree::Restrict { .. } => Ok(()),
+        Tree::Case { .. } => Ok(()),
+        Tree::Depend { .. } => Ok(()),
+        Tree::Reduce { .. } => Ok(()),
     }
 }
