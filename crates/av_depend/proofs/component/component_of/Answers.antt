@@ -1,0 +1,8 @@
+use Rattle.std.proofs.Common.{rules, sym, subst, ◌≡◌, ◌+◌, ◌++◌, ◌∷◌, [], ℕ, List, IsTrue}
+use Rattle.av_depend.proofs.Together.{IsPart, part_more}
+use Rattle.av_depend.proofs.component.component_of.Goals as goal
+
+pub loop-other-preserved : goal.loop-other-preserved
+loop-other-preserved c =
+    let t : IsTrue c.are_together.result = search rules in
+    subst (IsPart c.args.rows.now c.args.node (c.loop-other.other + 1)) (sym c.in_ok-push.ensures.ok) (part_more c.args.rows.now c.args.node c.loop-other.other c.loop-other.list c.loop-other.invariant (c.are_together.ensures.0 t))

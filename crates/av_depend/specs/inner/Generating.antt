@@ -1,0 +1,35 @@
+-- Generators found among all points of a set by mirror images of earlier points.
+use Rattle.std.specs.Prelude.{◌≡◌, ℕ, ◌<◌, ◌≤◌, ◌+ℤ◌, ◌-ℤ◌, List, [], ◌∷◌, length, take, All, AllPairs, Contains, IsTrue, slice_index_or}
+use Rattle.av_affine.specs.Numbers.{AtMost}
+use Rattle.av_poly.specs.Points.{Set, Has}
+use Rattle.av_tree.specs.Points.{Point}
+use Rattle.av_flat.specs.Points.{has}
+use Rattle.av_depend.specs.Edges.{IsBefore, IsGenerator}
+
+-- the point of which z is the midpoint with x
+abbrev pub mirrored : Point → Point → Point
+mirrored (z ∷ zs) (x ∷ xs) = (z +ℤ z -ℤ x) ∷ mirrored zs xs
+mirrored _ _ = []
+
+-- all points of the set, ascending
+pub record AreAllPoints (set : Set) (points : List Point) : Type 0 where
+  pub ascending : AllPairs IsBefore points
+  pub each : All (λ z. IsTrue (has set z)) points
+  pub all : (z : Point) → IsTrue (has set z) → Contains points z
+
+-- one entry for each index of the set, at most four, within the limit on coordinates
+pub record IsPointOf (set : Set) (z : Point) : Type 0 where
+  pub size : length z ≡ set.dim
+  pub few : length z ≤ 4
+  pub entries : AtMost 4095 z
+
+-- the set has the point of which the one at this place is the midpoint with an earlier one
+abbrev pub HasMirrored : Set → List Point → ℕ → Type 0
+HasMirrored set points at = (k : ℕ) × (k < at) × Has set (mirrored (slice_index_or points at []) (slice_index_or points k []))
+
+-- the generators among the first k points
+pub record AreGeneratorsTo (set : Set) (points : List Point) (k : ℕ) (list : List Point) : Type 0 where
+  pub ascending : AllPairs IsBefore list
+  pub among : (z : Point) → Contains list z → Contains (take k points) z
+  pub each : All (IsGenerator set) list
+  pub all : (z : Point) → Contains (take k points) z → IsGenerator set z → Contains list z

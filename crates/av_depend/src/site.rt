@@ -1,0 +1,171 @@
+//! Edges of the sites of one piece.
+
+ghost use Rattle.std.specs.Prelude.{◌≡◌, ◌≤◌, [], ◌∷◌, map, length, All, IfOk, OnOk, IsTrue};
+ghost use Rattle.av_affine.specs.Numbers.{AtMost};
+ghost use Rattle.av_flat.specs.Trees.{view, view_system};
+ghost use Rattle.av_flat.specs.Nodes.{number_at};
+ghost use Rattle.av_flat.specs.Signatures.{signatures};
+ghost use Rattle.av_flat.specs.WellFormed.{Fits};
+ghost use Rattle.av_depend.specs.Sites.{sites_in, both};
+ghost use Rattle.av_depend.specs.Extents.{IsInside};
+ghost use Rattle.av_depend.specs.inner.Adding.{IsReadingSet, IsComputedAt, HasAdded, site_at, site_of};
+
+use crate::edge::Edge;
+use crate::generator::{generators, same};
+use crate::listing::{all_points, points_within};
+use av_affine::Map;
+use av_base::{List, Memory, Point};
+use av_flat::{Choice, Flat, Tree, copy_map, copy_set};
+use av_poly::{Bounds, Poly};
+use std::alloc::Global;
+
+/// A set of points at which something is read, with all of its points in order, and those of them that are generators.
+#[derive(Drop)]
+pub(crate) struct ReadingSet {
+    pub(crate) set: Poly,
+    pub(crate) points: List<Point>,
+    pub(crate) generators: List<Point>,
+}
+
+/// The reading set of a piece with this domain.
+pub(crate) fn reading_set(alloc: Global, domain: &Poly, extent: &Bounds) -> Result<ReadingSet, Memory>
+    requires few { domain.now.dim ≤ 4 }
+    requires low { AtMost 4095 extent.now.low }
+    requires high { AtMost 4095 extent.now.high }
+    requires inside { IsInside domain.now.dim extent.now domain.now }
+    ensures reading { IfOk result IsReadingSet }
+    ensures set { IfOk result (λ to. to.set ≡ domain.now) }
+{
+    let points = all_points(alloc, domain, extent)?;
+    let generators = generators(alloc, domain, points.as_slice())?;
+    let set = copy_set(alloc, domain)?;
+    Ok(ReadingSet {
+        set,
+        points,
+        generators,
+    })
+}
+
+// The points of the reading set that are in this one too.
+fn narrowed(alloc: Global, reading: &ReadingSet, set: &Poly) -> Result<ReadingSet, Memory>
+    requires reading { IsReadingSet reading.now }
+    requires dim { set.now.dim ≡ reading.now.set.dim }
+    ensures reading { IfOk result IsReadingSet }
+    ensures set { IfOk result (λ to. to.set ≡ both reading.now.set set.now) }
+{
+    let points = points_within(alloc, set, reading.points.as_slice())?;
+    let set = reading.set.meet(alloc, set)?;
+    let generators = generators(alloc, &set, points.as_slice())?;
+    Ok(ReadingSet {
+        set,
+        points,
+        generators,
+    })
+}
+
+// Whether the variable at this place is computed.
+fn is_computed_at(flat: &Flat, place: u32) -> bool
+    ensures yes { IsTrue result → IsComputedAt (view_system flat.now) place }
+    ensures no { IsComputedAt (view_system flat.now) place → IsTrue result }
+{
+    let vars = flat.vars.as_slice();
+    let at = place as usize;
+    if at >= vars.len() {
+        return false;
+    }
+    vars[at].kind.is_computed()
+}
+
+// The number of the node at a place of the variables.
+fn number_of(flat: &Flat, place: u32) -> u32
+    requires { place ≤ length flat.now.vars }
+    ensures { result ≡ number_at (view_system flat.now) place }
+{
+    let vars = flat.vars.as_slice();
+    let mut number = 0;
+    for k in 0..place as usize {
+        if vars[k].is_node() {
+            number += 1;
+        }
+    }
+    number
+}
+
+// The same points.
+fn copy_points(alloc: Global, points: &[Point]) -> Result<List<Point>, Memory>
+    ensures { IfOk result (λ to. to ≡ points.now) }
+{
+    let mut to = List::new(alloc);
+    for point in points {
+        to.push(same(point))?;
+    }
+    Ok(to)
+}
+
+// Adds the edge of a site, if it has a pair.
+fn add_site(alloc: Global, flat: &Flat, node: u32, place: u32, map: &Map, reading: &ReadingSet, edges: &mut List<Edge>) -> Result<(), Memory>
+    requires reading { IsReadingSet reading.now }
+    ensures { OnOk result (HasAdded (view_system flat.now) (site_at node place map.now reading.now.set ∷ []) edges.old edges.new) }
+{
+    if reading.points.as_slice().is_empty() {
+        return Ok(());
+    }
+    if !is_computed_at(flat, place) {
+        return Ok(());
+    }
+    let edge = Edge {
+        consumer: node,
+        producer: number_of(flat, place),
+        map: copy_map(map),
+        points: copy_points(alloc, reading.generators.as_slice())?,
+    };
+    edges.push(edge)
+}
+
+// Adds the edge of each choice that has a pair.
+fn add_choices(alloc: Global, flat: &Flat, node: u32, place: u32, choices: &[Choice], reading: &ReadingSet, edges: &mut List<Edge>) -> Result<(), Memory>
+    requires reading { IsReadingSet reading.now }
+    requires dims { All (λ c. c.set.dim ≡ reading.now.set.dim) choices.now }
+    ensures { OnOk result (HasAdded (view_system flat.now) (map (site_of node place reading.now.set) choices.now) edges.old edges.new) }
+{
+    for choice in choices {
+        let own = narrowed(alloc, reading, &choice.set)?;
+        add_site(alloc, flat, node, place, &choice.map, &own, edges)?;
+    }
+    Ok(())
+}
+
+/// Adds the edge of each site of a tree that has a pair, in the order of the text.
+pub(crate) fn add_tree(alloc: Global, flat: &Flat, node: u32, tree: &Tree, reading: &ReadingSet, edges: &mut List<Edge>) -> Result<(), Memory>
+    requires reading { IsReadingSet reading.now }
+    requires fits { Fits (signatures (view_system flat.now)) reading.now.set.dim (view tree.now) }
+    ensures { OnOk result (HasAdded (view_system flat.now) (sites_in node reading.now.set (view tree.now)) edges.old edges.new) }
+{
+    match tree {
+        Tree::Ref { var, map } => add_site(alloc, flat, node, *var, map, reading, edges),
+        Tree::Binary { left, right, .. } => {
+            add_tree(alloc, flat, node, left, reading, edges)?;
+            add_tree(alloc, flat, node, right, reading, edges)
+        }
+        Tree::Choose {
+            left,
+            right,
+            yes,
+            no,
+            ..
+        } => {
+            add_tree(alloc, flat, node, left, reading, edges)?;
+            add_tree(alloc, flat, node, right, reading, edges)?;
+            add_tree(alloc, flat, node, yes, reading, edges)?;
+            add_tree(alloc, flat, node, no, reading, edges)
+        }
+        Tree::Pick { var, choices, .. } => {
+            add_choices(alloc, flat, node, *var, choices.as_slice(), reading, edges)
+        }
+        Tree::Const(_) => Ok(()),
+        Tree::Restrict { .. } => Ok(()),
+        Tree::Case { .. } => Ok(()),
+        Tree::Depend { .. } => Ok(()),
+        Tree::Reduce { .. } => Ok(()),
+    }
+}
