@@ -1,17 +1,19 @@
 //! The helpers of worked systems: a matrix times a vector, a matrix product, a convolution, forward substitution.
 
-ghost use Rattle.std.specs.Prelude.{◌≤◌, ◌∷◌, [], pos, negsuc, length, All, IsTrue};
+ghost use Rattle.std.specs.Prelude.{◌≡◌, ◌≤◌, ◌∷◌, [], pos, negsuc, length, All, IsTrue};
 ghost use Rattle.av_affine.specs.Numbers.{AtMost};
 ghost use Rattle.av_affine.specs.Forms.{IsWithinLimits};
 ghost use Rattle.av_flat.specs.Broadcasts.{lists_of};
+ghost use Rattle.av_flat.specs.Legal.{IsLegal};
 ghost use Rattle.av_flat.specs.Trees.{view};
 ghost use Rattle.av_pipe.specs.inner.Helping.{HasFineMaps};
 
+use crate::Pipe;
 use crate::direction::lists_of;
 use crate::site::tree_helpers;
 use av_affine::{Form, Map, Rows};
-use av_base::{List, Memory, Point};
-use av_flat::{Helper, Tree};
+use av_base::{List, Memory, Point, Width};
+use av_flat::{Flat, Helper, Pass, Timed, Tree};
 use av_tree::{Relation, Sign};
 use std::alloc::Global;
 use std::test::Fail;
@@ -201,5 +203,34 @@ fn what_is_not_moved_has_no_helper(rt: HostRuntime) -> Result<(), Fail> {
     let helpers = helpers_of(alloc, 2, &tree, &[1, 0])?;
     assert!(rt; helpers.as_slice().len() == 1);
     assert!(rt; is(helpers.as_slice().get(0), 2, &[1, 0]));
+    Ok(())
+}
+
+// A system without variables, which is legal with no times.
+fn nothing(alloc: Global, width: Width) -> Timed
+    ensures legal { IsLegal result }
+    ensures none { result.helpers ≡ [] }
+{
+    Timed {
+        flat: Flat {
+            width,
+            vars: List::new(alloc),
+        },
+        times: List::new(alloc),
+        helpers: List::new(alloc),
+    }
+}
+
+// The pass answers with a system of its own.
+#[test]
+fn the_pass_can_succeed(rt: HostRuntime) -> Result<(), Fail> {
+    let alloc = rt.alloc();
+    let Some(width) = Width::new(8) else {
+        return Err(Fail::new("8 is a width"));
+    };
+    let from = nothing(alloc, width);
+    let to = Pipe.run(alloc, &from)?;
+    assert!(rt; to.flat.vars.as_slice().is_empty() && to.flat.width == width);
+    assert!(rt; to.times.as_slice().is_empty() && to.helpers.as_slice().is_empty());
     Ok(())
 }
