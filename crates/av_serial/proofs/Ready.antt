@@ -1,5 +1,5 @@
 -- What is ready stays so in its parts, and while the parts before are made.
-use Rattle.std.proofs.Common.{◌≡◌, ℕ, suc, ◌+◌, ◌<◌, ◌≤◌, List, [], ◌∷◌, ◌++◌, length, inl, inr, sym, arith, ◌∙◌}
+use Rattle.std.proofs.Common.{◌≡◌, ℕ, ◌+◌, List, ◌∷◌, ◌++◌, length, inl, inr, arith}
 use Rattle.std.specs.List.{AllByRecursion, flat_map}
 use Rattle.av_base.specs.declared.word.Op.{Op}
 use Rattle.av_affine.specs.declared.map.Map.{Map}
@@ -11,7 +11,7 @@ use Rattle.av_flat.specs.declared.flat.Var.{Var}
 use Rattle.av_flat.specs.Trees.{Tree, Piece, Variable, binary, choice, reduction}
 use Rattle.av_serial.specs.SerialForm.{chain_name}
 use Rattle.av_serial.specs.SerialFaults.{Reduced, reductions_in, HasPoint, HasNodes}
-use Rattle.av_serial.specs.inner.Tries.{IsTriable, IsClean, CanTry}
+use Rattle.av_serial.specs.inner.Tries.{IsClean}
 use Rattle.av_serial.specs.inner.Ready.{IsReady, AreReadyPieces, AreReady}
 use Rattle.av_serial.specs.inner.Building.{AreMade, IsVariableMade}
 use Rattle.av_serial.proofs.Counting.{long_tree, long_pieces}

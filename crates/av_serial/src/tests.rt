@@ -11,7 +11,7 @@ mod passes;
 mod show;
 mod texts;
 
-use av_base::{List, Memory, Name, Width};
+use av_base::{Memory, Name, Width};
 use av_flat::Flat;
 use av_lex::lex;
 use av_names::{Size, resolve};
@@ -19,14 +19,23 @@ use av_parse::parse;
 use std::alloc::Global;
 use std::test::Fail;
 
-/// The size N, where it is above 0 and small.
-fn sizes_of(alloc: Global, value: i64) -> Result<List<Size>, Memory>
-    ensures { IfOk result (λ sizes. AreSmall sizes) }
+// Puts a size behind others, where it is small as they are.
+fn push_small(sizes: &mut Vec<Size>, name: Name, value: i64) -> Result<(), Memory>
+    requires before { AreSmall sizes.old.items }
+    requires small { unsigned_abs value ≤ 1048576 }
+    ensures { OnOk result (AreSmall sizes.new.items) }
 {
-    let mut sizes = List::new(alloc);
-    if 0 < value && value <= 1_048_576 {
-        let name = Name::new(alloc, "N")?;
-        sizes.push(Size { name, value })?;
+    sizes.push(Size { name, value })?;
+    Ok(())
+}
+
+/// The size N, where it is not 0 and small.
+fn sizes_of(alloc: Global, value: i64) -> Result<Vec<Size>, Memory>
+    ensures { IfOk result (λ sizes. AreSmall sizes.items) }
+{
+    let mut sizes = Vec::new(alloc);
+    if value != 0 && value.unsigned_abs() <= 1_048_576 {
+        push_small(&mut sizes, Name::new(alloc, "N")?, value)?;
     }
     Ok(sizes)
 }
@@ -52,7 +61,7 @@ fn flat_of(alloc: Global, text: &str, sizes: &[Size]) -> Result<Flat, Fail>
     }
 }
 
-/// The system of a short text with N, where that is above 0.
+/// The system of a short text with N, where that is not 0.
 fn system(alloc: Global, text: &str, n: i64) -> Result<Flat, Fail>
     ensures { IfOk result (λ flat. IsWellFormed (view_system flat)) }
 {

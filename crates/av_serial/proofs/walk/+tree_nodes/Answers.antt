@@ -1,4 +1,4 @@
-use Rattle.std.proofs.Common.{◌≡◌, suc, Option, inl, subst, arith}
+use Rattle.std.proofs.Common.{Option, subst}
 use Rattle.std.proofs.lemmas.Result.{err_from_is_err_and}
 use Rattle.av_poly.specs.Points.{Set}
 use Rattle.av_flat.specs.Trees.{view}
