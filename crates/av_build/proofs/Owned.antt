@@ -253,8 +253,12 @@ good_stay w a lanes ins program g few words at own is_own node number is_variabl
     let R : ℕ → ℕ → Tree → Type 0 = λ k i t. (site : Site) × (slice_get stay.work.sites k ≡ Some site) × IsSiteFor a at (λ z c source. IsPlaceSource a lanes at z c i t source) site in
     let each : (k : ℕ) → 0 ≤ k → k < 0 + site_count at.piece.tree → (site : Site) × (slice_get stay.work.sites k ≡ Some site) × GoodSite Q site =
     numbered (λ k i t. R k i t × FitsTree w.bits t) (λ k. (site : Site) × (slice_get stay.work.sites k ≡ Some site) × GoodSite Q site)
-    (λ k i t r. (r.0.0, r.0.1, good_site a at (λ z c source. IsPlaceSource a lanes at z c i t source) Q few is_variable is_piece (pow_pos w.bits, tt)
-    (λ c z source reading is. place_own w a lanes ins program g at c z reading own is_own node number i t r.1 source is) r.0.0 r.0.2)) 0 0 at.piece.tree (with_words w.bits R 0 0 at.piece.tree h.sites fits) in
+    (λ k i t r. (
+      r.0.0,
+      r.0.1,
+      good_site a at (λ z c source. IsPlaceSource a lanes at z c i t source) Q few is_variable is_piece (pow_pos w.bits, tt)
+          (λ c z source reading is. place_own w a lanes ins program g at c z reading own is_own node number i t r.1 source is) r.0.0 r.0.2,
+    )) 0 0 at.piece.tree (with_words w.bits R 0 0 at.piece.tree h.sites fits) in
     let all : AllByRecursion (GoodSite Q) stay.work.sites = each_found (GoodSite Q) stay.work.sites (λ k lt. each k (omega arith) (omega (arith, h.many))) in
     record {
       sources = each_weaker (GoodSite Q) (EachOfSite Q) (λ site g. g.0) stay.work.sites all;

@@ -65,7 +65,6 @@ source_at c [] i site is = absurd cc
 source_at c (t ∷ sites) zero site is = ap (source_in c) (some_is t site is)
 source_at c (t ∷ sites) (suc i) site is = source_at c sites i site is
 
-
 -- what is no node is passed over
 passed : (a n : ℕ) (w : Variable) (vs : List Variable) → is_node w ≡ false → place_from a n (w ∷ vs) ≡ place_from (suc a) n vs
 passed a zero w vs t = rw t refl
@@ -435,17 +434,20 @@ hand_brought a lanes ins program g j h v piece read is p c z r true e source (pr
     let n = number_at a.system h.var in
     let y = before z h.direction in
     let f = linked a lanes ins program g (spot_of a h v piece p) c z r h.site (reference read.place read.map) (handed j h.direction) producer delay l n y (refl, refl, e) in
-    inr (e, record {
-      of_lane = record {
-        lane = lanes.of_helper j producer;
-        delay = delay;
-        cycle = f.cycle;
-        from_line = from;
-        at = record { helper = h; variable = v; piece = piece; reference = read; is = is; within = e; cell = producer; lane_is = refl; computes = f.computes };
-        later = f.later;
-      };
-      some = f.some;
-    })
+    inr (
+      e,
+      record {
+        of_lane = record {
+          lane = lanes.of_helper j producer;
+          delay = delay;
+          cycle = f.cycle;
+          from_line = from;
+          at = record { helper = h; variable = v; piece = piece; reference = read; is = is; within = e; cell = producer; lane_is = refl; computes = f.computes };
+          later = f.later;
+        };
+        some = f.some;
+      },
+    )
 hand_brought a lanes ins program g j h v piece read is p c z r false e source brought =
     let n = number_at a.system h.var in
     let outside : has piece.domain (before z h.direction) ≡ true → ⊥ = λ f. both_tests (sym f ∙ e) in

@@ -223,12 +223,12 @@ one_rank w program s hs listing At Hand x u g n stream run t c lt few earlier ha
     let on_wire : v ((labels program).value p) ≡ word = shown ∙ ap (λ (t : Tree). value_by w.bits (words_in (labels program) w v c work) 0 t) h.tree in
     let is_word : g j z ≡ Some word = elim h.brought [
       | inl e ↦ (let r = is.entry z (subst (λ (q : Piece). IsEntry q.domain h.helper.direction z) (sym same_piece) e.0) in
-        let read : IsWordAt (scene s u is.variable) h.read.place (image h.read.map.rows z) r.0 = subst (λ (y : Reference). IsWordAt (scene s u is.variable) y.place (image y.map.rows z) r.0) same_site r.2 in
-        r.1 ∙ ap Some (source_word w program s hs listing At Hand x u g n stream run t c lt earlier p source source_placed is.variable.width h.read.place 0 (Some (image h.read.map.rows z)) r.0 e.1 read))
+          let read : IsWordAt (scene s u is.variable) h.read.place (image h.read.map.rows z) r.0 = subst (λ (y : Reference). IsWordAt (scene s u is.variable) y.place (image y.map.rows z) r.0) same_site r.2 in
+          r.1 ∙ ap Some (source_word w program s hs listing At Hand x u g n stream run t c lt earlier p source source_placed is.variable.width h.read.place 0 (Some (image h.read.map.rows z)) r.0 e.1 read))
       | inr e ↦ (let l = e.1.of_lane in
-        let known = handed l.cycle (omega (arith, e.1.some, l.later)) j (before z h.helper.direction) l.lane l.at in
-        let step = is.handed z (subst (λ (q : Piece). has q.domain z ≡ true) (sym same_piece) h.within) (subst (λ (q : Piece). has q.domain (before z h.helper.direction) ≡ true) (sym same_piece) e.0) in
-        step ∙ known ∙ ap Some (lane_word w program n stream run t.is_run Hand c lt p source source_placed j (before z h.helper.direction) l))
+          let known = handed l.cycle (omega (arith, e.1.some, l.later)) j (before z h.helper.direction) l.lane l.at in
+          let step = is.handed z (subst (λ (q : Piece). has q.domain z ≡ true) (sym same_piece) h.within) (subst (λ (q : Piece). has q.domain (before z h.helper.direction) ≡ true) (sym same_piece) e.0) in
+          step ∙ known ∙ ap Some (lane_word w program n stream run t.is_run Hand c lt p source source_placed j (before z h.helper.direction) l))
     ] in
     is_word ∙ ap Some (sym on_wire)
   where

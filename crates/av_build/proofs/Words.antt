@@ -45,7 +45,7 @@ pub piece_value : (i : Scene) (g : ℕ → ℕ → Option PointWords) (z : Point
 piece_value i g z number t w j [] one h = absurd h
 piece_value i g z number t w j (piece ∷ pieces) one h = elim h [
   | inl here ↦ (let o = one 0 piece refl here.0 in
-    let e : j ≡ number = omega (arith, o.0) in
-    subst (λ k. HasHelped i (g k) 0 t z w) e (subst (λ (u : Tree). HasHelped i (g j) 0 u z w) o.1 here.1))
+      let e : j ≡ number = omega (arith, o.0) in
+      subst (λ k. HasHelped i (g k) 0 t z w) e (subst (λ (u : Tree). HasHelped i (g j) 0 u z w) o.1 here.1))
   | inr later ↦ piece_value i g z number t w (suc j) pieces (λ k q at inside. let o = one (suc k) q at inside in (omega (arith, o.0), o.1)) later
 ]
