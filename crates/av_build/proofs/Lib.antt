@@ -32,4 +32,5 @@ pub mod Counted
 pub mod OnePiece
 pub mod Top
 pub mod Connected
+pub mod Headline
 pub mod InLines

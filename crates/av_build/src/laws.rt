@@ -8,11 +8,14 @@ ghost use Rattle.av_flat.specs.declared.timed.Timed.{Timed};
 ghost use Rattle.av_flat.specs.Trees.{view_system};
 ghost use Rattle.av_flat.specs.Helped.{HelperWords, IsHelpedSolution};
 ghost use Rattle.av_flat.specs.Legal.{IsLegal};
+ghost use Rattle.av_flat.specs.OneSolution.{AreInputs, HasOneSolution};
 ghost use Rattle.av_net.specs.Sound.{IsSound};
 ghost use Rattle.av_net.specs.Shown.{Shows};
+ghost use Rattle.av_net.specs.Presented.{IsPresentable};
 ghost use Rattle.av_space.specs.declared.cells.Cells.{Cells};
 ghost use Rattle.av_space.specs.Standing.{Computes};
 ghost use Rattle.av_space.specs.Arrays.{IsArrayOf};
+ghost use Rattle.av_space.specs.Whole.{IsWhole, HasWholeListing};
 ghost use Rattle.av_build.specs.Programs.{Program};
 ghost use Rattle.av_build.specs.Modules.{module_of};
 ghost use Rattle.av_build.specs.Built.{IsProgramOf, design_of};
@@ -33,4 +36,13 @@ pub fn programs_are_sound()
 pub fn programs_show_solutions()
     ensures { (w : Width) (t : Timed) (a : Cells) (program : Program) → IsProgramOf w t a program →
         (x u : Assignment) (g : HelperWords) → IsHelpedSolution (view_system t.flat) t.helpers x u g → Shows (design_of w a program) x u }
+{}
+
+/// A law on arrays: a design that is made of a program of a whole array carries the listing on its ports, and for every input the
+/// system has exactly one solution, the input can be presented, and the design shows the solution.
+pub fn whole_arrays_show_the_solution()
+    ensures carries { (w : Width) (t : Timed) (a : Cells) (program : Program) → IsProgramOf w t a program → IsWhole t a → HasWholeListing t a (design_of w a program) }
+    ensures shows { (w : Width) (t : Timed) (a : Cells) (program : Program) → IsProgramOf w t a program → IsWhole t a →
+        (x : Assignment) → AreInputs (view_system t.flat) x →
+        (one : HasOneSolution (view_system t.flat) x) × IsPresentable (design_of w a program) x × Shows (design_of w a program) x one.solution }
 {}
