@@ -83,13 +83,13 @@ pub among_filter : {X : Type 0} (p : X → Bool) (xs : List X) (x : X) → Conta
 among_filter p [] x h t = absurd (none_among x h)
 among_filter p (y ∷ xs) x h t = by_test (p y)
     (λ k. subst (λ (ys : List _). Contains ys x) (sym (ap (λ b. if b then y ∷ filter p xs else filter p xs) k)) (⊎_elim
-        (λ e. subst (Contains (y ∷ filter p xs)) e (first_among y (filter p xs)))
-        (λ r. more_among y x (filter p xs) (among_filter p xs x r t))
-        (among_cases y x xs h)))
+    (λ e. subst (Contains (y ∷ filter p xs)) e (first_among y (filter p xs)))
+    (λ r. more_among y x (filter p xs) (among_filter p xs x r t))
+    (among_cases y x xs h)))
     (λ f. subst (λ (ys : List _). Contains ys x) (sym (ap (λ b. if b then y ∷ filter p xs else filter p xs) f)) (⊎_elim
-        (λ e. absurd (let g = sym f ∙ ap p e ∙ t in cc))
-        (λ r. among_filter p xs x r t)
-        (among_cases y x xs h)))
+    (λ e. absurd (let g = sym f ∙ ap p e ∙ t in cc))
+    (λ r. among_filter p xs x r t)
+    (among_cases y x xs h)))
 
 pub all_points_of_both : (a b : Set) (points : List Point) → b.dim ≡ a.dim → AreAllPoints a points → AreAllPoints (both a b) (filter (has b) points)
 all_points_of_both a b points e h = record {

@@ -82,10 +82,10 @@ module _ (rows : List Form) (fixed low high : Point) (value : ℤ) (some : 0 < l
     all = λ x rest l f. by_lt_z x value
         (λ less. Contains-append_left old more (fixed ++ x ∷ rest) (h.all x rest less f))
         (λ most.
-            let same : x ≡ value = omega (arith, ints, l, most) in
-            let g : CanFollow rows fixed low high (value ∷ rest) = subst (λ (y : ℤ). CanFollow rows fixed low high (y ∷ rest)) same f in
-            let i = k.all rest (follow_rest rows fixed low high rest value g) in
-            Contains-append_right old more (fixed ++ x ∷ rest) (subst (Contains more) (joined fixed rest value ∙ ap (λ y. fixed ++ y ∷ rest) (sym same)) i));
+        let same : x ≡ value = omega (arith, ints, l, most) in
+        let g : CanFollow rows fixed low high (value ∷ rest) = subst (λ (y : ℤ). CanFollow rows fixed low high (y ∷ rest)) same f in
+        let i = k.all rest (follow_rest rows fixed low high rest value g) in
+        Contains-append_right old more (fixed ++ x ∷ rest) (subst (Contains more) (joined fixed rest value ∙ ap (λ y. fixed ++ y ∷ rest) (sym same)) i));
   }
     where
       in_order : (a b : Point) → Contains old a → Contains more b → IsBefore a b
@@ -179,9 +179,9 @@ listed_here set fixed low high none size = by_test (has set fixed)
       ascending = λ i j d l m. absurd (omega (arith, m));
       each = λ z c. absurd (none_among z c);
       all = λ rest h. absurd (
-        let there : Has set fixed = record { dimension = size; holds = subst (Holds set.rows) (ap (λ (r : Point). fixed ++ r) (empty rest h) ∙ append-nil fixed) h.holds } in
-        let t = (has_is set fixed).1 there in
-        let g = sym f ∙ t in cc);
+          let there : Has set fixed = record { dimension = size; holds = subst (Holds set.rows) (ap (λ (r : Point). fixed ++ r) (empty rest h) ∙ append-nil fixed) h.holds } in
+          let t = (has_is set fixed).1 there in
+          let g = sym f ∙ t in cc);
     }
 
 -- ---- all points of a set

@@ -104,4 +104,3 @@ closed_by edges marks h u v (k, e, l, at, ends) m =
 
 pub open_by : (edges : List Edge) (marks : List Bool) (e : Edge) → Contains edges e → IsTrue (is_marked marks e.consumer) → is_marked marks e.producer ≡ false → IsOpen edges marks e.producer
 open_by edges marks e (k, l, at) m f = record { from = e.consumer; marked = m; joined = (k, e, l, at, (refl, refl)); free = f }
-

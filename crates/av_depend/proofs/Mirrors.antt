@@ -51,14 +51,14 @@ one_earlier (x ∷ xs) (y ∷ ys) (z ∷ zs) h n =
     by_lt_z x z
     (λ less. inl (inl less))
     (λ most. by_lt_z z x
-        (λ more. inr (inl (omega (arith, ints, m, more))))
-        (λ least.
-            let e : x ≡ z = omega (arith, ints, most, least) in
-            let f : y ≡ z = omega (arith, ints, most, least, m) in
-            elim (one_earlier xs ys zs h.1 (λ g. n (ap₂ (λ a b. a ∷ b) e g))) [
-              | inl l ↦ inl (inr (e, l))
-              | inr l ↦ inr (inr (f, l))
-            ]))
+    (λ more. inr (inl (omega (arith, ints, m, more))))
+    (λ least.
+    let e : x ≡ z = omega (arith, ints, most, least) in
+    let f : y ≡ z = omega (arith, ints, most, least, m) in
+    elim (one_earlier xs ys zs h.1 (λ g. n (ap₂ (λ a b. a ∷ b) e g))) [
+      | inl l ↦ inl (inr (e, l))
+      | inr l ↦ inr (inr (f, l))
+    ]))
 
 -- ---- places in ascending lists
 
@@ -74,9 +74,9 @@ stands_before points x k up l (j, m, e) b =
     ⊎_elim
     (λ less. (j, less, at))
     (λ more. ⊎_elim
-        (λ same. absurd (before_itself x (subst (λ (y : Point). IsBefore x y) (sym (ap (λ i. get_or points i []) same) ∙ at) b)))
-        (λ differ. absurd (before_itself x (before_chain x (get_or points k []) x b (subst (λ (y : Point). IsBefore (get_or points k []) y) at (up k j [] (omega (arith, more, differ)) m)))))
-        (cases_eq j k))
+    (λ same. absurd (before_itself x (subst (λ (y : Point). IsBefore x y) (sym (ap (λ i. get_or points i []) same) ∙ at) b)))
+    (λ differ. absurd (before_itself x (before_chain x (get_or points k []) x b (subst (λ (y : Point). IsBefore (get_or points k []) y) at (up k j [] (omega (arith, more, differ)) m)))))
+    (cases_eq j k))
     (cases_lt j k)
 
 module _ (set : Set) (points : List Point) (all : AreAllPoints set points) (k : ℕ) (l : k < length points) where

@@ -22,7 +22,12 @@ fn are_together(rows: &[List<bool>], one: u32, other: u32) -> bool
 }
 
 // The nodes that are reached from this one and from which it is reached.
-fn component_of(alloc: Global, rows: &[List<bool>], nodes: u32, node: u32) -> Result<List<u32>, Memory>
+fn component_of(
+    alloc: Global,
+    rows: &[List<bool>],
+    nodes: u32,
+    node: u32,
+) -> Result<List<u32>, Memory>
     requires size { length rows.now ≡ nodes }
     requires square { IsSquare nodes rows.now }
     requires node { node < nodes }

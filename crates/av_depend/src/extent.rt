@@ -15,8 +15,8 @@ use av_flat::copy_set;
 use av_poly::{Bounds, Poly};
 use std::alloc::Global;
 
-// The set with normalised rows, in memory of its own.
-fn normalised(alloc: Global, set: &Poly) -> Result<Poly, Memory>
+/// The set with normalised rows, in memory of its own.
+pub(crate) fn normalised(alloc: Global, set: &Poly) -> Result<Poly, Memory>
     ensures points { IfOk result (λ to. (z : Items ℤ) → Has to z ↔ Has set.now z) }
     ensures dim { IfOk result (λ to. to.dim ≡ set.now.dim) }
     ensures rows { IfOk result (λ to. AreNormalised set.now.dim set.now.rows to.rows) }

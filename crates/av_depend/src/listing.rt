@@ -55,7 +55,13 @@ fn add_point(set: &Poly, entries: &[i64], points: &mut List<Point>) -> Result<()
 
 // Puts those points of the set behind the others, in order, that begin with the fixed entries and have each other entry
 // between its bounds.
-fn add_points(set: &Poly, fixed: &[i64], low: &[i64], high: &[i64], points: &mut List<Point>) -> Result<(), Memory>
+fn add_points(
+    set: &Poly,
+    fixed: &[i64],
+    low: &[i64],
+    high: &[i64],
+    points: &mut List<Point>,
+) -> Result<(), Memory>
     requires size { length fixed.now + length low.now ≡ set.now.dim }
     requires few { set.now.dim ≤ 4 }
     requires same { length high.now ≡ length low.now }
@@ -90,7 +96,11 @@ pub(crate) fn all_points(alloc: Global, set: &Poly, extent: &Bounds) -> Result<L
 }
 
 /// Of the points those that the set has, in order.
-pub(crate) fn points_within(alloc: Global, set: &Poly, points: &[Point]) -> Result<List<Point>, Memory>
+pub(crate) fn points_within(
+    alloc: Global,
+    set: &Poly,
+    points: &[Point],
+) -> Result<List<Point>, Memory>
     requires { All (IsPointOf set.now) points.now }
     ensures { IfOk result (λ to. to ≡ filter (has set.now) points.now) }
 {

@@ -65,7 +65,11 @@ fn reached(alloc: Global, edges: &[Edge], nodes: u32, from: u32) -> Result<List<
 }
 
 /// The nodes that are reached from each node.
-pub(crate) fn each_reached(alloc: Global, edges: &[Edge], nodes: u32) -> Result<List<List<bool>>, Memory>
+pub(crate) fn each_reached(
+    alloc: Global,
+    edges: &[Edge],
+    nodes: u32,
+) -> Result<List<List<bool>>, Memory>
     requires consumers { All (λ e. e.consumer < nodes) edges.now }
     requires producers { All (λ e. e.producer < nodes) edges.now }
     ensures { IfOk result (AreReached nodes (IsJoined edges.now)) }

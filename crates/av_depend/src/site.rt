@@ -28,7 +28,11 @@ pub(crate) struct ReadingSet {
 }
 
 /// The reading set of a piece with this domain.
-pub(crate) fn reading_set(alloc: Global, domain: &Poly, extent: &Bounds) -> Result<ReadingSet, Memory>
+pub(crate) fn reading_set(
+    alloc: Global,
+    domain: &Poly,
+    extent: &Bounds,
+) -> Result<ReadingSet, Memory>
     requires few { domain.now.dim ≤ 4 }
     requires low { AtMost 4095 extent.now.low }
     requires high { AtMost 4095 extent.now.high }
@@ -103,7 +107,15 @@ fn copy_points(alloc: Global, points: &[Point]) -> Result<List<Point>, Memory>
 }
 
 // Adds the edge of a site, if it has a pair.
-fn add_site(alloc: Global, flat: &Flat, node: u32, place: u32, map: &Map, reading: &ReadingSet, edges: &mut List<Edge>) -> Result<(), Memory>
+fn add_site(
+    alloc: Global,
+    flat: &Flat,
+    node: u32,
+    place: u32,
+    map: &Map,
+    reading: &ReadingSet,
+    edges: &mut List<Edge>,
+) -> Result<(), Memory>
     requires reading { IsReadingSet reading.now }
     ensures { OnOk result (HasAdded (view_system flat.now) (site_at node place map.now reading.now.set ∷ []) edges.old edges.new) }
 {
@@ -123,7 +135,15 @@ fn add_site(alloc: Global, flat: &Flat, node: u32, place: u32, map: &Map, readin
 }
 
 // Adds the edge of each choice that has a pair.
-fn add_choices(alloc: Global, flat: &Flat, node: u32, place: u32, choices: &[Choice], reading: &ReadingSet, edges: &mut List<Edge>) -> Result<(), Memory>
+fn add_choices(
+    alloc: Global,
+    flat: &Flat,
+    node: u32,
+    place: u32,
+    choices: &[Choice],
+    reading: &ReadingSet,
+    edges: &mut List<Edge>,
+) -> Result<(), Memory>
     requires reading { IsReadingSet reading.now }
     requires dims { All (λ c. c.set.dim ≡ reading.now.set.dim) choices.now }
     ensures { OnOk result (HasAdded (view_system flat.now) (map (site_of node place reading.now.set) choices.now) edges.old edges.new) }
@@ -136,7 +156,14 @@ fn add_choices(alloc: Global, flat: &Flat, node: u32, place: u32, choices: &[Cho
 }
 
 /// Adds the edge of each site of a tree that has a pair, in the order of the text.
-pub(crate) fn add_tree(alloc: Global, flat: &Flat, node: u32, tree: &Tree, reading: &ReadingSet, edges: &mut List<Edge>) -> Result<(), Memory>
+pub(crate) fn add_tree(
+    alloc: Global,
+    flat: &Flat,
+    node: u32,
+    tree: &Tree,
+    reading: &ReadingSet,
+    edges: &mut List<Edge>,
+) -> Result<(), Memory>
     requires reading { IsReadingSet reading.now }
     requires fits { Fits (signatures (view_system flat.now)) reading.now.set.dim (view tree.now) }
     ensures { OnOk result (HasAdded (view_system flat.now) (sites_in node reading.now.set (view tree.now)) edges.old edges.new) }

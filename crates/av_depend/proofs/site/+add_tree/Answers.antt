@@ -19,7 +19,7 @@ returns-in_ok-add_tree-in-Binary t c =
     let new = c.add_tree-in-Binary.new.edges in
     on_ok_weaker c.add_tree-in-Binary.result
     (λ h. subst (λ (xs : List Site). HasAdded s xs c.args.edges.now new) whole
-        (added_both s (places c.in-Binary.left.value) (places c.in-Binary.right.value) c.args.edges.now c.add_tree.new.edges new left (subst (λ (u : TreeMade). HasAdded s (places u) c.add_tree.new.edges new) b h)))
+    (added_both s (places c.in-Binary.left.value) (places c.in-Binary.right.value) c.args.edges.now c.add_tree.new.edges new left (subst (λ (u : TreeMade). HasAdded s (places u) c.add_tree.new.edges new) b h)))
     c.add_tree-in-Binary.ensures
 
 pub returns-in_ok-add_tree-in-Choose-3 : goal.returns-in_ok-add_tree-in-Choose-3
