@@ -21,7 +21,8 @@ use Rattle.av_flat.specs.Points.{has}
 use Rattle.av_flat.proofs.Solving.{by_test}
 use Rattle.av_depend.specs.declared.edge.Edge.{Edge}
 use Rattle.av_depend.specs.Sites.{Site, both, HasPair, sites_of, sites_from}
-use Rattle.av_depend.specs.Edges.{IsBefore, AreGenerators, IsEdge, AreEdges, ended, without, with_pair}
+use Rattle.av_flat.specs.Order.{IsBefore}
+use Rattle.av_depend.specs.Edges.{AreGenerators, IsEdge, AreEdges, ended, without, with_pair}
 use Rattle.av_depend.specs.Extents.{IsInside}
 use Rattle.av_depend.specs.inner.Generating.{AreAllPoints, IsPointOf}
 use Rattle.av_depend.specs.inner.Adding.{IsComputedAt, HasAdded, site_at}

@@ -13,7 +13,7 @@ use Rattle.av_tree.specs.Points.{Point}
 use Rattle.av_flat.specs.Points.{has}
 use Rattle.av_flat.proofs.Sets.{has_is}
 use Rattle.av_flat.proofs.Solving.{by_test}
-use Rattle.av_depend.specs.Edges.{IsBefore}
+use Rattle.av_flat.specs.Order.{IsBefore}
 use Rattle.av_depend.specs.Extents.{IsInside}
 use Rattle.av_depend.specs.inner.Generating.{AreAllPoints}
 use Rattle.av_depend.specs.inner.Listing.{AreListed, HasListed}

@@ -10,7 +10,8 @@ use Rattle.av_poly.specs.Points.{Set, Has}
 use Rattle.av_tree.specs.Points.{Point}
 use Rattle.av_flat.specs.Points.{has}
 use Rattle.av_flat.proofs.Sets.{has_is}
-use Rattle.av_depend.specs.Edges.{IsBefore, IsMiddle, IsGenerator, AreGenerators}
+use Rattle.av_flat.specs.Order.{IsBefore}
+use Rattle.av_depend.specs.Edges.{IsMiddle, IsGenerator, AreGenerators}
 use Rattle.av_depend.specs.inner.Generating.{mirrored, AreAllPoints, HasMirrored, AreGeneratorsTo}
 use Rattle.av_depend.proofs.Among.{last_among}
 use Rattle.av_depend.proofs.Generators.{before_chain, before_itself}

@@ -4,7 +4,8 @@ use Rattle.av_affine.specs.Numbers.{AtMost}
 use Rattle.av_poly.specs.Points.{Set, Has}
 use Rattle.av_tree.specs.Points.{Point}
 use Rattle.av_flat.specs.Points.{has}
-use Rattle.av_depend.specs.Edges.{IsBefore, IsGenerator}
+use Rattle.av_flat.specs.Order.{IsBefore}
+use Rattle.av_depend.specs.Edges.{IsGenerator}
 
 -- the point of which z is the midpoint with x
 abbrev pub mirrored : Point → Point → Point

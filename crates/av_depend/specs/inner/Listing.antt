@@ -4,7 +4,7 @@ use Rattle.av_affine.specs.declared.form.Form.{Form}
 use Rattle.av_poly.specs.Points.{Set}
 use Rattle.av_poly.specs.Search.{CanFollow}
 use Rattle.av_tree.specs.Points.{Point}
-use Rattle.av_depend.specs.Edges.{IsBefore}
+use Rattle.av_flat.specs.Order.{IsBefore}
 
 -- the fixed entries with all that may follow them, ascending
 pub record AreListed (rows : List Form) (fixed low high : Point) (points : List Point) : Type 0 where
