@@ -1,11 +1,11 @@
 -- Edges put behind others, site by site.
-use Rattle.std.proofs.Common.{◌≡◌, ℕ, zero, suc, ◌+◌, ◌<◌, ◌≤◌, Bool, true, false, IsTrue, if◌then◌else◌, List, [], ◌∷◌, ◌++◌, length, map, append_assoc, get_or, take, inl, inr, ◌⊎◌, ⊎_elim, refl, sym, ap, ap₂, subst, ◌∙◌, arith, All, Some, add-one}
-use Rattle.std.specs.Prelude.{Contains, AllPairs, filter, slice_get}
+use Rattle.std.proofs.Common.{◌≡◌, ℕ, zero, suc, ◌+◌, ◌<◌, ◌≤◌, Bool, IsTrue, if◌then◌else◌, List, [], ◌∷◌, ◌++◌, length, map, append_assoc, get_or, take, ⊎_elim, refl, sym, ap, ap₂, subst, ◌∙◌, arith, All, Some, add-one}
+use Rattle.std.specs.Prelude.{Contains, filter, slice_get}
 use Rattle.std.specs.List.{flat_map}
 use Rattle.std.proofs.lemmas.List.{append-nil, length-map}
 use Rattle.std.proofs.lemmas.Option.{slice_get-map, slice_get-get_or, slice_get_within}
 use Rattle.std.specs.Option.{option_map}
-use Rattle.std.proofs.lemmas.List.Elements.{All-filter, All-contains, filter_passes, Contains-get_or}
+use Rattle.std.proofs.lemmas.List.Elements.{All-filter, filter_passes}
 use Rattle.std.proofs.lemmas.List.Kept.{AllPairs-filter}
 use Rattle.av_affine.specs.declared.form.Form.{Form}
 use Rattle.av_affine.specs.declared.map.Map.{Map}
@@ -22,7 +22,7 @@ use Rattle.av_flat.proofs.Solving.{by_test}
 use Rattle.av_depend.specs.declared.edge.Edge.{Edge}
 use Rattle.av_depend.specs.Sites.{Site, both, HasPair, sites_of, sites_from}
 use Rattle.av_flat.specs.Order.{IsBefore}
-use Rattle.av_depend.specs.Edges.{AreGenerators, IsEdge, AreEdges, ended, without, with_pair}
+use Rattle.av_depend.specs.Edges.{IsEdge, AreEdges, ended, without, with_pair}
 use Rattle.av_depend.specs.Extents.{IsInside}
 use Rattle.av_depend.specs.inner.Generating.{AreAllPoints, IsPointOf}
 use Rattle.av_depend.specs.inner.Adding.{IsComputedAt, HasAdded, site_at}

@@ -1,5 +1,5 @@
 -- Points between bounds, one first entry at a time.
-use Rattle.std.proofs.Common.{◌≡◌, ℕ, zero, suc, ◌+◌, ◌<◌, ◌≤◌, ℤ, pos, ◌+ℤ◌, ◌≤ℤ◌, ◌<ℤ◌, Bool, true, false, IsTrue, if◌then◌else◌, List, [], ◌∷◌, ◌++◌, length, append_assoc, get_or, take, inl, inr, ◌⊎◌, ⊎_elim, refl, sym, ap, subst, ◌∙◌, arith, All}
+use Rattle.std.proofs.Common.{◌≡◌, ℕ, zero, suc, ◌+◌, ◌<◌, ℤ, pos, ◌+ℤ◌, ◌≤ℤ◌, ◌<ℤ◌, Bool, true, false, IsTrue, if◌then◌else◌, List, [], ◌∷◌, ◌++◌, length, append_assoc, get_or, take, inl, inr, ⊎_elim, refl, sym, ap, subst, ◌∙◌, arith}
 use Rattle.std.specs.Prelude.{Contains, AllPairs, filter}
 use Rattle.std.proofs.lemmas.Int.{ints, by_lt_z}
 use Rattle.std.proofs.lemmas.List.{append-nil, nil_from_length}
@@ -14,7 +14,6 @@ use Rattle.av_flat.specs.Points.{has}
 use Rattle.av_flat.proofs.Sets.{has_is}
 use Rattle.av_flat.proofs.Solving.{by_test}
 use Rattle.av_flat.specs.Order.{IsBefore}
-use Rattle.av_depend.specs.Extents.{IsInside}
 use Rattle.av_depend.specs.inner.Generating.{AreAllPoints}
 use Rattle.av_depend.specs.inner.Listing.{AreListed, HasListed}
 use Rattle.av_depend.proofs.Among.{first_among, more_among, among_cases, none_among}

@@ -1,13 +1,13 @@
 -- Marks spread along edges until none leads out of them: then those nodes are marked that are reached.
-use Rattle.std.proofs.Common.{◌≡◌, ◌↔◌, ℕ, zero, suc, ◌+◌, ◌<◌, ◌≤◌, Bool, true, false, IsTrue, List, [], ◌∷◌, ◌++◌, length, get_or, inl, inr, ◌⊎◌, ⊎_elim, refl, sym, ap, subst, ◌∙◌, arith, All, Any}
-use Rattle.std.specs.Prelude.{Contains, replicate, sum_by, slice_set}
+use Rattle.std.proofs.Common.{◌≡◌, ℕ, ◌<◌, Bool, true, false, IsTrue, List, length, get_or, inl, inr, ◌⊎◌, ⊎_elim, refl, sym, ap, subst, ◌∙◌, arith, All}
+use Rattle.std.specs.Prelude.{Contains, replicate, sum_by}
 use Rattle.std.proofs.Math.ListN.{set}
 use Rattle.std.proofs.lemmas.Bool.{cases_eq, cases_lt}
 use Rattle.std.proofs.lemmas.List.{get_or-set_same, get_or-set_other, get_or-replicate, get_or_past, length-set, length-replicate}
 use Rattle.std.proofs.lemmas.List.Sums.{sum_by-set}
 use Rattle.av_depend.specs.declared.edge.Edge.{Edge}
 use Rattle.av_depend.specs.Components.{Reaches, itself, onward, IsJoined}
-use Rattle.av_depend.specs.inner.Reaching.{is_marked, IsOpen, IsClosed, IsReached, AreReached}
+use Rattle.av_depend.specs.inner.Reaching.{is_marked, IsOpen, IsClosed, IsReached}
 
 -- ---- reaching
 

@@ -1,17 +1,15 @@
 -- The nodes of a system and their pieces, one after the other.
-use Rattle.std.proofs.Common.{◌≡◌, ℕ, zero, suc, ◌+◌, ◌<◌, ◌≤◌, Bool, true, false, IsTrue, List, [], ◌∷◌, ◌++◌, length, length-append, map, get_or, take, refl, sym, ap, subst, ◌∙◌, arith, zero-add, All}
+use Rattle.std.proofs.Common.{◌≡◌, ℕ, ◌+◌, ◌<◌, false, IsTrue, List, [], ◌∷◌, ◌++◌, length, length-append, map, get_or, take, refl, sym, ap, subst, ◌∙◌, arith, zero-add, All}
 use Rattle.std.specs.Prelude.{filter}
 use Rattle.std.specs.List.{flat_map}
 use Rattle.std.proofs.lemmas.List.{append-nil}
 use Rattle.std.proofs.lemmas.List.Elements.{filter-append}
-use Rattle.av_affine.specs.Numbers.{AtMost}
 use Rattle.av_poly.specs.declared.poly.Bounds.{Bounds}
 use Rattle.av_poly.specs.Points.{Set, Has}
 use Rattle.av_tree.specs.Points.{Point}
 use Rattle.av_flat.specs.declared.flat.Var.{Var}
 use Rattle.av_flat.specs.declared.flat.Piece.{Piece as PieceMade}
 use Rattle.av_flat.specs.Trees.{Piece, Variable, FlatSystem, view, view_piece, view_variable}
-use Rattle.av_flat.specs.Points.{has}
 use Rattle.av_flat.specs.Signatures.{signatures}
 use Rattle.av_flat.specs.WellFormed.{Fits}
 use Rattle.av_flat.specs.Chained.{IsChainedVariable, IsChainedPiece}

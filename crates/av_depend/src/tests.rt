@@ -7,6 +7,8 @@ ghost use Rattle.av_poly.specs.Points.{IsSmall};
 ghost use Rattle.av_depend.specs.Extents.{IsInside};
 ghost use Rattle.av_depend.specs.inner.Adding.{IsReadingSet};
 
+mod trees;
+
 use crate::extent::normalised;
 use crate::site::{ReadingSet, reading_set};
 use crate::{Edge, components};

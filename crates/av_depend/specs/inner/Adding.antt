@@ -1,5 +1,5 @@
 -- Edges put behind others, one for each site that has a pair.
-use Rattle.std.specs.Prelude.{◌≡◌, ℕ, ◌<◌, ◌≤◌, List, ◌++◌, length, All, IsTrue, Some, slice_get}
+use Rattle.std.specs.Prelude.{◌≡◌, ℕ, List, ◌++◌, All, IsTrue, Some, slice_get}
 use Rattle.av_affine.specs.declared.map.Map.{Map}
 use Rattle.av_poly.specs.Points.{Set}
 use Rattle.av_flat.specs.declared.tree.Choice.{Choice}

@@ -1,5 +1,5 @@
 -- Points between bounds that begin with fixed entries, in order.
-use Rattle.std.specs.Prelude.{◌≡◌, ℤ, List, ◌++◌, AllPairs, Contains}
+use Rattle.std.specs.Prelude.{◌≡◌, List, ◌++◌, AllPairs, Contains}
 use Rattle.av_affine.specs.declared.form.Form.{Form}
 use Rattle.av_poly.specs.Points.{Set}
 use Rattle.av_poly.specs.Search.{CanFollow}

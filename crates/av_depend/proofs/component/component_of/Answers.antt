@@ -1,4 +1,4 @@
-use Rattle.std.proofs.Common.{rules, sym, subst, ◌≡◌, ◌+◌, ◌++◌, ◌∷◌, [], ℕ, List, IsTrue}
+use Rattle.std.proofs.Common.{rules, sym, subst, ◌+◌, IsTrue}
 use Rattle.av_depend.proofs.Together.{IsPart, part_more}
 use Rattle.av_depend.proofs.component.component_of.Goals as goal
 

@@ -1,7 +1,7 @@
-use Rattle.std.proofs.Common.{rules, sym, ap, subst, ◌≡◌, ◌≢◌, ◌∙◌, ◌<◌, ◌≤◌, ◌+◌, ◌++◌, ◌∷◌, [], ℕ, Bool, List, length, arith}
+use Rattle.std.proofs.Common.{rules, sym, ap, subst, ◌∙◌, ◌<◌, ◌≤◌, ◌+◌, Bool, List, length, arith}
 use Rattle.av_depend.specs.Components.{first_node, IsJoined}
 use Rattle.av_depend.specs.inner.Reaching.{IsComponentIn}
-use Rattle.av_depend.proofs.Together.{IsComponentOf, component_is, some, AreComponentsTo, components_more, components_skip, components_all}
+use Rattle.av_depend.proofs.Together.{component_is, some, AreComponentsTo, components_more, components_skip, components_all}
 use Rattle.av_depend.proofs.component.components.Goals as goal
 
 pub first_of-requires : goal.first_of-requires

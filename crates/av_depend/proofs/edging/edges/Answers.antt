@@ -1,16 +1,10 @@
-use Rattle.std.proofs.Common.{rules, ◌≡◌, ◌∙◌, ◌<◌, ◌≤◌, ◌+◌, [], List, length, get_or, take, map, refl, sym, ap, subst, arith, IsTrue, false}
-use Rattle.std.specs.Prelude.{filter}
-use Rattle.std.specs.Option.{IfSome}
+use Rattle.std.proofs.Common.{rules, ◌≡◌, ◌∙◌, ◌<◌, ◌+◌, [], List, length, get_or, refl, sym, ap, subst, arith, IsTrue}
 use Rattle.av_flat.specs.declared.flat.Var.{Var}
-use Rattle.av_flat.specs.Trees.{Variable, view_system, view_variable}
+use Rattle.av_flat.specs.Trees.{view_system, view_variable}
 use Rattle.av_flat.specs.Chained.{IsChainedVariable}
 use Rattle.av_flat.specs.Nodes.{is_node}
-use Rattle.av_depend.specs.declared.edge.Edge.{Edge}
-use Rattle.av_depend.specs.Sites.{sites_from}
-use Rattle.av_depend.specs.Edges.{AreEdges}
-use Rattle.av_depend.proofs.Mirrors.{take_whole}
-use Rattle.av_depend.proofs.Adds.{added_nothing, added_are, at_mapped}
-use Rattle.av_depend.proofs.Walked.{AreWalked, walked_same, walked_more}
+use Rattle.av_depend.proofs.Adds.{added_nothing, at_mapped}
+use Rattle.av_depend.proofs.Walked.{AreWalked, walked_more}
 use Rattle.av_depend.proofs.edging.edges.Goals as goal
 
 pub loop-var-init : goal.loop-var-init

@@ -1,6 +1,5 @@
-use Rattle.std.proofs.Common.{rules, ◌≡◌, ◌∙◌, ◌<◌, ◌≤◌, refl, sym, ap, length, arith, [], subst, List, ◌+◌, ◌++◌, ◌∷◌}
+use Rattle.std.proofs.Common.{rules, ◌≡◌, ◌∙◌, ◌<◌, ◌≤◌, sym, length, [], subst, ◌+◌, ◌++◌, ◌∷◌}
 use Rattle.std.specs.Prelude.{slice_index_or}
-use Rattle.av_tree.specs.Points.{Point}
 use Rattle.av_depend.specs.inner.Generating.{AreGeneratorsTo}
 use Rattle.av_depend.proofs.Mirrors.{same_there, listed_skip, listed_more, listed_all}
 use Rattle.av_depend.proofs.generator.generators.Goals as goal

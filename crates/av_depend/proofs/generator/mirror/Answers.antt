@@ -1,4 +1,4 @@
-use Rattle.std.proofs.Common.{rules, ◌≡◌, ◌∙◌, ◌<◌, ◌≤◌, ◌^◌, refl, sym, ap, ap₂, subst, length, take, List, All, unsigned_abs, ◌++◌, ◌∷◌, [], FitsSigned, w64, to_z-of_z, ℤ, pos}
+use Rattle.std.proofs.Common.{rules, ◌≡◌, ◌∙◌, ◌<◌, ◌≤◌, ◌^◌, sym, ap, ap₂, length, unsigned_abs, FitsSigned, w64, to_z-of_z, ℤ, pos}
 use Rattle.std.specs.Prelude.{slice_index_or}
 use Rattle.std.proofs.lemmas.List.Elements.{All-push}
 use Rattle.av_depend.specs.inner.Generating.{mirrored}

@@ -1,4 +1,4 @@
-use Rattle.std.proofs.Common.{◌≡◌, take, All, unsigned_abs, ◌≤◌, ◌^◌}
+use Rattle.std.proofs.Common.{◌≡◌, take, ◌^◌}
 use Rattle.av_affine.specs.Numbers.{AtMost}
 use Rattle.av_depend.specs.inner.Generating.{mirrored}
 use Rattle.av_depend.proofs.generator.mirror.Given as goal

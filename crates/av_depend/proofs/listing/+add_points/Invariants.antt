@@ -1,4 +1,4 @@
-use Rattle.std.proofs.Common.{length, get_or, ℤ, pos, ◌≤ℤ◌}
+use Rattle.std.proofs.Common.{length, get_or, pos, ◌≤ℤ◌}
 use Rattle.av_depend.proofs.Listed.{HasListedTo}
 use Rattle.av_depend.proofs.listing.+add_points.Given as goal
 

@@ -1,4 +1,4 @@
-use Rattle.std.proofs.Common.{rules, ◌≡◌, ◌∙◌, ◌++◌, ◌∷◌, [], sym, ap, subst, List, false, IsTrue}
+use Rattle.std.proofs.Common.{◌∙◌, ◌++◌, ◌∷◌, [], sym, ap, subst, List}
 use Rattle.std.proofs.lemmas.List.{append-nil}
 use Rattle.av_poly.specs.Points.{Has}
 use Rattle.av_tree.specs.Points.{Point}

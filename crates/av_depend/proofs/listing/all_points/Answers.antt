@@ -1,6 +1,5 @@
-use Rattle.std.proofs.Common.{rules, ◌≡◌, ◌∙◌, ◌++◌, sym, ap, subst, ℤ, List, [], length, length-take-le, take, arith}
+use Rattle.std.proofs.Common.{rules, ◌≡◌, ◌∙◌, sym, subst, [], length, length-take-le, take, arith}
 use Rattle.av_tree.specs.Points.{Point}
-use Rattle.av_flat.specs.Order.{IsBefore}
 use Rattle.av_depend.specs.inner.Generating.{AreAllPoints}
 use Rattle.av_depend.specs.inner.Listing.{AreListed}
 use Rattle.av_depend.proofs.Listed.{listed_are_all}

@@ -1,4 +1,4 @@
-use Rattle.std.proofs.Common.{rules, ◌≡◌, ◌∙◌, ◌<◌, ◌++◌, ◌∷◌, [], sym, ap, length, List, true, false, IsTrue}
+use Rattle.std.proofs.Common.{rules, ◌≡◌, ◌∙◌, ◌<◌, ◌++◌, ◌∷◌, [], sym, ap, length, List, false, IsTrue}
 use Rattle.av_poly.specs.Points.{Has}
 use Rattle.av_tree.specs.Points.{Point}
 use Rattle.av_flat.specs.Points.{has}

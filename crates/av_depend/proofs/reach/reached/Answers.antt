@@ -1,4 +1,4 @@
-use Rattle.std.proofs.Common.{sym, subst, Bool, List, IsTrue, length, ◌<◌}
+use Rattle.std.proofs.Common.{sym, subst, Bool, List, length, ◌<◌}
 use Rattle.av_depend.specs.Components.{IsJoined}
 use Rattle.av_depend.specs.inner.Reaching.{IsOpen, IsClosed}
 use Rattle.av_depend.proofs.Marks.{IsSpread, spread_start, spread_more, spread_closed}

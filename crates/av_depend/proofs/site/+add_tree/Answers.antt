@@ -1,8 +1,7 @@
-use Rattle.std.proofs.Common.{rules, ◌≡◌, ◌∙◌, ◌++◌, [], List, sym, ap, subst}
+use Rattle.std.proofs.Common.{rules, ◌≡◌, ◌++◌, List, sym, ap, subst}
 use Rattle.std.proofs.lemmas.Result.{on_ok_weaker}
 use Rattle.av_flat.specs.declared.tree.Tree.{Tree as TreeMade}
 use Rattle.av_flat.specs.Trees.{view, view_system}
-use Rattle.av_depend.specs.declared.edge.Edge.{Edge}
 use Rattle.av_depend.specs.Sites.{Site, sites_in}
 use Rattle.av_depend.specs.inner.Adding.{HasAdded}
 use Rattle.av_depend.proofs.Adds.{added_none_of, added_both}

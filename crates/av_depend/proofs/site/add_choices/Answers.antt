@@ -1,4 +1,4 @@
-use Rattle.std.proofs.Common.{rules, ◌≡◌, ◌<◌, ◌+◌, ◌∷◌, [], List, length, map, take, sym, ap, subst}
+use Rattle.std.proofs.Common.{rules, ◌<◌, ◌∷◌, [], List, length, map, take, sym, subst}
 use Rattle.av_poly.specs.Points.{Set}
 use Rattle.av_flat.specs.Trees.{view_system}
 use Rattle.av_depend.specs.Sites.{Site}

@@ -1,11 +1,10 @@
-use Rattle.std.proofs.Common.{rules, ◌≡◌, ◌∙◌, ◌<◌, ◌≤◌, ◌∷◌, [], List, length, false, true, refl, sym, ap, subst, arith}
+use Rattle.std.proofs.Common.{rules, ◌≡◌, ◌∙◌, ◌<◌, ◌∷◌, [], length, false, true, refl, sym, ap, subst, arith}
 use Rattle.std.proofs.lemmas.List.{nil_from_length}
 use Rattle.std.proofs.lemmas.Result.{on_ok_weaker}
-use Rattle.av_tree.specs.Points.{Point}
 use Rattle.av_flat.specs.Trees.{view_system}
 use Rattle.av_depend.specs.declared.edge.Edge.{Edge}
 use Rattle.av_depend.specs.Edges.{AreGenerators, IsEdge}
-use Rattle.av_depend.specs.inner.Adding.{IsComputedAt, HasAdded, site_at}
+use Rattle.av_depend.specs.inner.Adding.{HasAdded, site_at}
 use Rattle.av_depend.proofs.Adds.{added_without, added_with, no_point_no_pair, not_computed_no_pair, has_pair, place_within}
 use Rattle.av_depend.proofs.site.add_site.Goals as goal
 

@@ -1,6 +1,5 @@
-use Rattle.std.proofs.Common.{rules, ◌≡◌, ◌∙◌, List, sym, ap, subst, All}
+use Rattle.std.proofs.Common.{◌∙◌, sym, ap, subst, All}
 use Rattle.std.specs.Prelude.{filter}
-use Rattle.av_tree.specs.Points.{Point}
 use Rattle.av_flat.specs.Points.{has}
 use Rattle.av_depend.specs.inner.Generating.{IsPointOf, AreAllPoints}
 use Rattle.av_depend.proofs.Adds.{small_made, all_made}

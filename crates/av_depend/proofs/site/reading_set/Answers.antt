@@ -1,6 +1,5 @@
-use Rattle.std.proofs.Common.{rules, ◌≡◌, ◌∙◌, List, sym, ap, subst, All}
+use Rattle.std.proofs.Common.{sym, subst, All}
 use Rattle.av_poly.specs.Points.{Set}
-use Rattle.av_tree.specs.Points.{Point}
 use Rattle.av_depend.specs.declared.site.ReadingSet.{ReadingSet}
 use Rattle.av_depend.specs.inner.Generating.{IsPointOf}
 use Rattle.av_depend.specs.inner.Adding.{IsReadingSet}

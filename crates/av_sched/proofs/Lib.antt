@@ -1,0 +1,27 @@
+mod Examples
+pub mod Rounds
+pub mod Leading
+pub mod Bridge
+pub mod Usable
+pub mod Settling
+pub mod Walking
+pub mod Halving
+pub mod Started
+pub mod Starting
+pub mod Tries
+pub mod Steps
+pub mod Inside
+pub mod Witnesses
+pub mod Choosing
+pub mod Costing
+pub mod Vectoring
+pub mod Listing
+pub mod Parting
+pub mod Counting
+pub mod Faulting
+pub mod Leaves
+pub mod Schedule
+pub mod Shifted
+pub mod Pricing
+pub mod Ways
+pub mod Whole

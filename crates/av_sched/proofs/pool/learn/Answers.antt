@@ -1,0 +1,25 @@
+use Rattle.std.proofs.Common.{◌<◌, ◌≡◌, ◌∙◌, ◌++◌, ◌∷◌, [], sym, ap, subst, length, arith, All}
+use Rattle.std.proofs.lemmas.List.Elements.{All-push}
+use Rattle.av_sched.specs.inner.Walk.{IsPlace}
+use Rattle.av_sched.proofs.Bridge.{arcs_length}
+use Rattle.av_sched.proofs.pool.learn.Goals.{then-not-is_listed+in_ok-push, else-not-is_listed}
+use Rattle.av_sched.proofs.pool.learn.Goals as goal
+
+pub is_outdone-requires : goal.is_outdone-requires
+is_outdone-requires c =
+    let t : c.loop-k.k < length c.args.edges.now = c.loop-k-test.true in
+    let same = arcs_length c.args.linear.now c.args.edges.now c.in_ok-arcs.arcs.items c.in_ok-arcs.ensures in
+    let e = ap length c.deref.ensures.value in
+    omega (arith, t, same, e)
+
+pub loop-k-preserved : goal.loop-k-preserved
+loop-k-preserved c =
+    let P = IsPlace c.args.edges.now c.args.component.now in
+    elim c.if-not-is_listed.branch [
+      | then-not-is_listed+in_ok-push w ↦
+          let e : c.if-not-is_listed.pool.items ≡ c.loop-k.pool.items ++ c.place_of_edge-place.result ∷ [] = ap (λ v. v.items) w.pool-is ∙ w.in_ok-push.ensures.items in
+          subst (All P) (sym e) (All-push P c.loop-k.pool.items c.place_of_edge-place.result c.loop-k.invariant c.place_of_edge-place.ensures)
+      | else-not-is_listed w ↦
+          let e : c.if-not-is_listed.pool.items ≡ c.loop-k.pool.items = ap (λ v. v.items) w.pool-is in
+          subst (All P) (sym e) c.loop-k.invariant
+    ]

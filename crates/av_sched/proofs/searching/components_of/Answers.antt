@@ -1,0 +1,34 @@
+use Rattle.std.proofs.Common.{◌<◌, subst, ℕ, length, IfOk}
+use Rattle.std.proofs.lemmas.Result.{IfOk-weaker}
+use Rattle.std.proofs.lemmas.List.Elements.{All-weaker}
+use Rattle.av_flat.specs.Trees.{view_system}
+use Rattle.av_flat.specs.Nodes.{nodes}
+use Rattle.av_depend.specs.declared.edge.Edge.{Edge}
+use Rattle.av_depend.specs.Components.{ReadsNode, IsJoined, AreComponents}
+use Rattle.av_depend.proofs.Unique.{components_so}
+use Rattle.av_sched.specs.inner.Leads.{IsUsable}
+use Rattle.av_sched.proofs.Usable.{usable}
+use Rattle.av_sched.proofs.Inside.{vectors_of}
+use Rattle.av_sched.proofs.searching.components_of.Goals as goal
+
+pub components-requires-clause-consumers : goal.components-requires-clause-consumers
+components-requires-clause-consumers c =
+    let s = view_system c.args.flat.now in
+    All-weaker (IsUsable c.args.linear.now) (λ (e : Edge). e.consumer < length c.args.linear.now) (λ e u. u.consumer_within) c.args.edges.now
+    (usable s c.args.edges.now c.args.linear.now c.requires.chained c.requires.proper c.requires.edges (vectors_of s c.args._reach.size c.args.linear.now c.args._reach.most c.requires.linear))
+
+pub components-requires-clause-producers : goal.components-requires-clause-producers
+components-requires-clause-producers c =
+    let s = view_system c.args.flat.now in
+    All-weaker (IsUsable c.args.linear.now) (λ (e : Edge). e.producer < length c.args.linear.now) (λ e u. u.producer_within) c.args.edges.now
+    (usable s c.args.edges.now c.args.linear.now c.requires.chained c.requires.proper c.requires.edges (vectors_of s c.args._reach.size c.args.linear.now c.args._reach.most c.requires.linear))
+
+pub returns : goal.returns
+returns c =
+    let s = view_system c.args.flat.now in
+    let edges = c.args.edges.now in
+    let h : IfOk c.components.result (AreComponents (length (nodes s)) (IsJoined edges)) = subst (λ (n : ℕ). IfOk c.components.result (AreComponents n (IsJoined edges))) c.requires.linear.one_each c.components.ensures in
+    IfOk-weaker c.components.result (AreComponents (length (nodes s)) (IsJoined edges)) (AreComponents (length (nodes s)) (ReadsNode s))
+    (λ cs are. components_so (length (nodes s)) (IsJoined edges) (ReadsNode s) cs
+    (λ u v a. (c.edges_join_nodes.ensures s edges u v c.requires.chained c.requires.edges).1 a)
+    (λ u v a. (c.edges_join_nodes.ensures s edges u v c.requires.chained c.requires.edges).0 a) are) h

@@ -1,0 +1,92 @@
+use Rattle.std.proofs.Common.{rules, ◌≡◌, ◌≤◌, sym, ap, subst, ℤ, List, map, length, All, arith, inl, Option, IfNone}
+use Rattle.av_flat.specs.Trees.{FlatSystem, view_system}
+use Rattle.av_flat.specs.Nodes.{nodes}
+use Rattle.av_flat.specs.Chained.{IsChained}
+use Rattle.av_flat.specs.Proper.{IsProper}
+use Rattle.av_flat.specs.Schedules.{IsSchedule}
+use Rattle.av_depend.specs.Components.{ReadsNode, AreComponents}
+use Rattle.av_sched.specs.Offsets.{AreOffsets, AreVectors, AreLeastOffsets}
+use Rattle.av_sched.specs.Choices.{candidates, IsFeasible}
+use Rattle.av_sched.specs.First.{IsFirstChoice}
+use Rattle.av_tree.specs.Points.{Point}
+use Rattle.std.proofs.lemmas.List.Elements.{All-weaker}
+use Rattle.av_sched.proofs.Whole.{not_none}
+use Rattle.av_sched.specs.inner.Chosen.{AreFirstChoices}
+use Rattle.av_sched.specs.SchedFaults.{HasManyCandidates, HasNoSchedule}
+use Rattle.av_sched.proofs.Inside.{vectors_of}
+use Rattle.av_sched.proofs.Schedule.{is_schedule}
+use Rattle.av_sched.proofs.Faulting.{first_schedule, no_fault, stuck_only, wide_only}
+use Rattle.av_sched.proofs.searching.search.Goals as goal
+
+pub returns-in-Some-clause-refused : goal.returns-in-Some-clause-refused
+returns-in-Some-clause-refused c = λ f is other.
+    let s = view_system c.args.flat.now in
+    let h : HasManyCandidates s c.args.reach.size c.in-Some.number = search rules in
+    let e = wide_only s c.args.reach.size c.in-Some.number h f is other in
+    inl cc
+
+pub returns-in-Stuck-clause-refused : goal.returns-in-Stuck-clause-refused
+returns-in-Stuck-clause-refused c = λ f is other.
+    let s = view_system c.args.flat.now in
+    let cs = c.in_ok-components.components in
+    let are : AreComponents (length (nodes s)) (ReadsNode s) cs = search rules in
+    let few : All (λ d. candidates s c.args.reach.size d ≤ 4194304) cs = search rules in
+    let h : HasNoSchedule s c.args.reach.size c.in_ok-name-in-Stuck.name = search rules in
+    let e = stuck_only s c.args.reach.size cs c.in_ok-name-in-Stuck.name are few h f is other in
+    inl cc
+
+pub offsets-requires-clause-linear : goal.offsets-requires-clause-linear
+offsets-requires-clause-linear c =
+    let s = view_system c.args.flat.now in
+    let cs = c.in_ok-components.components in
+    let chosen : AreFirstChoices s c.args.reach.size cs c.in-All.linear.items = search rules in
+    subst (AreVectors s 4) (sym c.deref-in-All.ensures.value) (vectors_of s c.args.reach.size c.in-All.linear.items c.args.reach.most chosen.are)
+
+-- the components are feasible, so offsets exist
+pub unreachable-requires : goal.unreachable-requires
+unreachable-requires c =
+    let s = view_system c.args.flat.now in
+    let cs = c.in_ok-components.components in
+    let linear = c.in-All.linear.items in
+    let are : AreComponents (length (nodes s)) (ReadsNode s) cs = search rules in
+    let chosen : AreFirstChoices s c.args.reach.size cs linear = search rules in
+    let vectors = vectors_of s c.args.reach.size linear c.args.reach.most chosen.are in
+    let feasible = All-weaker (λ d. IsFirstChoice s c.args.reach.size d linear) (λ d. IsFeasible s d linear) (λ d h. h.feasible) cs chosen.first in
+    let none = subst (λ (o : Option (List ℤ)). IfNone o ((x : List ℤ) → AreOffsets s c.deref-in-All.result.now x → ⊥)) c.in-None-2.is c.in_ok-found-in-All.ensures.none in
+    not_none s c.args.edges.now linear c.requires.chained c.requires.proper c.requires.edges vectors cs are feasible
+    (λ x h. none x (subst (λ (ps : List Point). AreOffsets s ps x) (sym c.deref-in-All.ensures.value) h))
+
+pub returns-in-Some-2-clause-first : goal.returns-in-Some-2-clause-first
+returns-in-Some-2-clause-first c =
+    let s = view_system c.args.flat.now in
+    let cs = c.in_ok-components.components in
+    let linear = c.in-All.linear.items in
+    let times = c.in_ok-timed_of-in-Some-2.field-0.times in
+    let are : AreComponents (length (nodes s)) (ReadsNode s) cs = search rules in
+    let chosen : AreFirstChoices s c.args.reach.size cs linear = search rules in
+    let le : map (λ t. t.linear) times ≡ linear = search rules in
+    let oe : map (λ t. t.offset) times ≡ c.in-Some-2.found = search rules in
+    let least : AreLeastOffsets s linear c.in-Some-2.found = search rules in
+    first_schedule s c.args.reach.size cs times linear are le chosen (subst (AreLeastOffsets s linear) (sym oe) least)
+
+pub returns-in-Some-2-clause-legal : goal.returns-in-Some-2-clause-legal
+returns-in-Some-2-clause-legal c =
+    let s = view_system c.args.flat.now in
+    let t = c.in_ok-timed_of-in-Some-2.field-0 in
+    let same : view_system t.flat ≡ s = search rules in
+    let none : length t.helpers ≡ 0 = ap length c.in_ok-timed_of-in-Some-2.ensures.helpers in
+    record {
+      chained = subst IsChained (sym same) c.requires.chained;
+      proper = subst IsProper (sym same) c.requires.proper;
+      schedule = subst (λ (z : FlatSystem). IsSchedule z 4 t.times) (sym same) (is_schedule s c.args.reach.size 4 t.times c.args.reach.most (returns-in-Some-2-clause-first c));
+      helpers = λ k d l. absurd (omega (arith, l, none));
+    }
+
+pub returns-in-Some-2-clause-refused : goal.returns-in-Some-2-clause-refused
+returns-in-Some-2-clause-refused c = λ f is other.
+    let s = view_system c.args.flat.now in
+    let cs = c.in_ok-components.components in
+    let are : AreComponents (length (nodes s)) (ReadsNode s) cs = search rules in
+    let few : All (λ d. candidates s c.args.reach.size d ≤ 4194304) cs = search rules in
+    let chosen : AreFirstChoices s c.args.reach.size cs c.in-All.linear.items = search rules in
+    absurd (no_fault s c.args.reach.size cs c.in-All.linear.items c.requires.chained c.args.reach.most are few chosen f is other)

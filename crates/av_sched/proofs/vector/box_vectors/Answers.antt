@@ -1,0 +1,10 @@
+use Rattle.std.proofs.Common.{subst, List}
+use Rattle.av_tree.specs.Points.{Point}
+use Rattle.av_sched.specs.inner.Vectors.{ArePrepended}
+use Rattle.av_sched.proofs.Vectoring.{more_vectors}
+use Rattle.av_sched.proofs.vector.box_vectors.Goals as goal
+
+pub loop-k-preserved : goal.loop-k-preserved
+loop-k-preserved c =
+    more_vectors c.args.reach.size c.loop-k._k c.loop-k.all.items c.in_ok-all.all.items c.loop-k.invariant
+    (subst (λ (xs : List Point). ArePrepended xs c.args.reach.size c.in_ok-all.all.items) c.deref.ensures.value c.in_ok-all.ensures)

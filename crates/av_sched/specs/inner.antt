@@ -1,0 +1,7 @@
+pub mod Arcs
+pub mod Leads
+pub mod Starts
+pub mod Vectors
+pub mod Walk
+pub mod Chosen
+pub mod Prices

@@ -1,0 +1,123 @@
+//! Least offsets under lower bounds and differences.
+
+ghost use Rattle.std.specs.Prelude.{◌≡◌, ◌≤◌, ◌<◌, ◌*◌, ◌+◌, ◌^◌, ℤ, List as Items, length, unsigned_abs, IsTrue, ◌↔◌, All, IfOk, IfSome, IfNone};
+ghost use Rattle.av_sched.specs.inner.Arcs.{IsLate, Solves, IsLeastSolution, raised, raised_all, IsArc, AreSmall, zeros};
+
+use av_base::{List, Memory};
+use std::alloc::Global;
+
+// The reader's offset is at least that of what it reads and the weight.
+#[derive(Clone, Copy, Debug)]
+pub(crate) struct Arc {
+    pub reader: usize,
+    pub read: usize,
+    pub weight: i64,
+}
+
+const MOST_NODES: usize = 1 << 30;
+
+// Whether the reader is late enough.
+fn is_late(off: &[i64], arc: Arc) -> bool
+    requires arc { IsArc (length off.now) arc }
+    requires off { AreSmall (2 ^ 62) off.now }
+    ensures { IsTrue result ↔ IsLate off.now arc }
+{
+    off[arc.read] + arc.weight <= off[arc.reader]
+}
+
+// Whether each reader is late enough.
+fn all_late(off: &[i64], arcs: &[Arc]) -> bool
+    requires arcs { All (IsArc (length off.now)) arcs.now }
+    requires off { AreSmall (2 ^ 62) off.now }
+    ensures { IsTrue result ↔ All (IsLate off.now) arcs.now }
+{
+    for arc in arcs {
+        if !is_late(off, *arc) {
+            return false;
+        }
+    }
+    true
+}
+
+// Makes one reader late enough for what it read before.
+fn raise(off: &mut Vec<i64>, old: &[i64], arc: Arc)
+    requires size { length old.now ≡ length off.old.items }
+    requires arc { IsArc (length old.now) arc }
+    requires old { AreSmall (2 ^ 62) old.now }
+    ensures { off.new.items ≡ raised old.now arc off.old.items }
+{
+    let wanted = old[arc.read] + arc.weight;
+    if off[arc.reader] < wanted {
+        off[arc.reader] = wanted;
+    }
+}
+
+// One round over the arcs.
+fn raise_all(off: &mut Vec<i64>, old: &[i64], arcs: &[Arc])
+    requires size { length old.now ≡ length off.old.items }
+    requires arcs { All (IsArc (length old.now)) arcs.now }
+    requires old { AreSmall (2 ^ 62) old.now }
+    ensures { off.new.items ≡ raised_all old.now arcs.now off.old.items }
+{
+    for arc in arcs {
+        raise(off, old, *arc);
+    }
+}
+
+// The least offsets that are at least `low` and have each reader late enough, if there are any. Offsets of more nodes than a
+// number of 30 bits tells have no room.
+pub(crate) fn least(alloc: Global, arcs: &[Arc], low: &[i64]) -> Result<Option<Vec<i64>>, Memory>
+    requires arcs { All (IsArc (length low.now)) arcs.now }
+    requires low { AreSmall 1073741824 low.now }
+    ensures some { IfOk result (λ r. IfSome r (λ off. IsLeastSolution arcs.now low.now off.items)) }
+    ensures none { IfOk result (λ r. IfNone r ((x : Items ℤ) → Solves arcs.now low.now x → ⊥)) }
+{
+    if low.len() > MOST_NODES {
+        return Err(Memory);
+    }
+    let mut off = low.to_vec(alloc)?;
+    for round in 0..low.len() + 1 {
+        if all_late(&off, arcs) {
+            return Ok(Some(off));
+        }
+        let old = off.to_vec(alloc)?;
+        raise_all(&mut off, &old, arcs);
+    }
+    Ok(None)
+}
+
+// Makes them so many zeros.
+fn clear(numbers: &mut Vec<i64>, many: usize) -> Result<(), Memory>
+    ensures { IfOk result (λ done. numbers.new.items ≡ zeros many) }
+{
+    numbers.clear();
+    for _k in 0..many {
+        numbers.push(0)?;
+    }
+    Ok(())
+}
+
+// Whether offsets from 0 on make each reader late enough. Of very many nodes it is not tried.
+pub(crate) fn settles(
+    arcs: &[Arc],
+    off: &mut Vec<i64>,
+    old: &mut Vec<i64>,
+    many: usize,
+) -> Result<bool, Memory>
+    requires { All (IsArc many) arcs.now }
+    ensures { IfOk result (λ settled. (IsTrue settled → ⊥) → (x : Items ℤ) → Solves arcs.now (zeros many) x → ⊥) }
+{
+    if many > MOST_NODES {
+        return Ok(true);
+    }
+    clear(off, many)?;
+    clear(old, many)?;
+    for round in 0..many + 1 {
+        if all_late(off, arcs) {
+            return Ok(true);
+        }
+        old.copy_from_slice(off);
+        raise_all(off, old, arcs);
+    }
+    Ok(false)
+}

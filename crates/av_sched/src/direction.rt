@@ -1,0 +1,142 @@
+//! Directions along which references read one point, and linear parts that go up along them.
+
+ghost use Rattle.std.specs.Prelude.{◌≡◌, ◌++◌, ◌∷◌, [], ◌≤◌, ◌<◌, ◌&&◌, ◌||◌, ◌*ℤ◌, pos, negsuc, map, length, unsigned_abs, All, IfOk};
+ghost use Rattle.std.specs.List.{flat_map, list_any};
+ghost use Rattle.av_affine.specs.Forms.{IsWithinLimits};
+ghost use Rattle.av_affine.specs.Numbers.{dot, AtMost};
+ghost use Rattle.av_flat.specs.Broadcasts.{lists_of, directions, along, is_zero, stays, moves};
+ghost use Rattle.av_sched.specs.inner.Prices.{IsSmallDirection};
+
+use crate::vector::prepend_all;
+use av_affine::Map;
+use av_base::{List, Memory, Point};
+use std::alloc::Global;
+
+fn both(a: bool, b: bool) -> bool
+    ensures { result ≡ (a && b) }
+{
+    a && b
+}
+
+fn either(a: bool, b: bool) -> bool
+    ensures { result ≡ (a || b) }
+{
+    a || b
+}
+
+// The product of a small number and an entry of a direction.
+fn step(a: i64, b: i64) -> i64
+    requires first { unsigned_abs a ≤ 1024 }
+    requires second { unsigned_abs b ≤ 1 }
+    ensures value { result ≡ a *ℤ b }
+    ensures small { unsigned_abs result ≤ 1024 }
+{
+    a * b
+}
+
+// How far numbers go up along a direction.
+fn rise(numbers: &[i64], direction: &[i64]) -> i64
+    requires numbers { AtMost 1024 numbers.now }
+    requires direction { AtMost 1 direction.now }
+    requires fits { length direction.now ≤ 4 }
+    requires sizes { length direction.now ≤ length numbers.now }
+    ensures { result ≡ dot numbers.now direction.now }
+{
+    let mut sum: i64 = 0;
+    for k in 0..direction.len() {
+        let term = step(numbers[k], direction[k]);
+        sum += term;
+    }
+    sum
+}
+
+fn is_zero_point(point: &Point) -> bool
+    ensures { result ≡ is_zero point.now }
+{
+    point.as_slice().iter().all(|x| *x == 0)
+}
+
+// Whether the map sends the direction to 0.
+fn stays_at(map: &Map, direction: &Point) -> bool
+    requires rows { All IsWithinLimits map.now.rows }
+    requires direction { AtMost 1 direction.now }
+    requires fits { length direction.now ≤ 4 }
+    ensures { result ≡ stays map.now direction.now }
+{
+    let mut all = true;
+    for form in map.rows.as_slice() {
+        let value = rise(&form.coef, direction.as_slice());
+        all = both(all, value == 0);
+    }
+    all
+}
+
+// All that have 0, 1 or -1 before one of the points.
+fn longer(alloc: Global, shorter: &[Point]) -> Result<Vec<Point>, Memory>
+    requires { All (λ y. length y < 4) shorter.now }
+    ensures { IfOk result (λ to. to.items ≡ flat_map (λ x. map (λ w. x ∷ w) shorter.now) (pos 0 ∷ pos 1 ∷ negsuc 0 ∷ [])) }
+{
+    let mut to = Vec::new(alloc);
+    prepend_all(&mut to, 0, shorter)?;
+    prepend_all(&mut to, 1, shorter)?;
+    prepend_all(&mut to, -1, shorter)?;
+    Ok(to)
+}
+
+fn lists(alloc: Global, size: u8) -> Result<Vec<Point>, Memory>
+    requires { size ≤ 4 }
+    ensures { IfOk result (λ to. to.items ≡ lists_of (pos 0 ∷ pos 1 ∷ negsuc 0 ∷ []) size) }
+{
+    let mut all = Vec::new(alloc);
+    all.push(Point::from_slice(&[]))?;
+    for _k in 0..size {
+        all = longer(alloc, &all)?;
+    }
+    Ok(all)
+}
+
+fn directions_of(alloc: Global, size: u8) -> Result<Vec<Point>, Memory>
+    requires { size ≤ 4 }
+    ensures { IfOk result (λ to. to.items ≡ directions size) }
+{
+    let all = lists(alloc, size)?;
+    let mut to = Vec::new(alloc);
+    for point in &all {
+        if is_zero_point(point) {
+            continue;
+        }
+        to.push(Point::from_slice(point.as_slice()))?;
+    }
+    Ok(to)
+}
+
+// The directions along which a reference reads one point.
+pub(crate) fn along_of(alloc: Global, map: &Map) -> Result<List<Point>, Memory>
+    requires from { map.now.from ≤ 4 }
+    requires rows { All IsWithinLimits map.now.rows }
+    ensures { IfOk result (λ to. to ≡ along map.now) }
+{
+    let all = directions_of(alloc, map.from)?;
+    let mut to = List::new(alloc);
+    for point in &all {
+        if !stays_at(map, point) {
+            continue;
+        }
+        to.push(Point::from_slice(point.as_slice()))?;
+    }
+    Ok(to)
+}
+
+// Whether the linear part goes up along some of the directions.
+pub(crate) fn moves_some(linear: &Point, ways: &[Point]) -> bool
+    requires linear { AtMost 4 linear.now }
+    requires ways { All (IsSmallDirection (length linear.now)) ways.now }
+    ensures { result ≡ list_any (moves linear.now) ways.now }
+{
+    let mut some = false;
+    for way in ways {
+        let value = rise(linear.as_slice(), way.as_slice());
+        some = either(some, value > 0);
+    }
+    some
+}

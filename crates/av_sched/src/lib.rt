@@ -1,0 +1,28 @@
+//! The first schedule of a chained system in a box, and least offsets.
+#![tactic(auto)]
+
+mod arc;
+mod choose;
+mod cost;
+mod direction;
+mod fault;
+mod lead;
+mod leaf;
+mod limit;
+mod node;
+mod part;
+mod place;
+mod placing;
+mod pool;
+mod price;
+mod searching;
+mod start;
+mod vector;
+mod walk;
+
+pub use fault::SchedFault;
+pub use placing::offsets;
+pub use searching::search;
+
+#[cfg(test)]
+mod tests;

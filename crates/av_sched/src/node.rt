@@ -1,0 +1,67 @@
+//! The dimensions of the nodes.
+
+ghost use Rattle.std.specs.Prelude.{◌≡◌, ◌≤◌, ◌<◌, length, map, All, IfOk, slice_get};
+ghost use Rattle.av_flat.specs.Trees.{view_system};
+ghost use Rattle.av_flat.specs.Nodes.{nodes};
+ghost use Rattle.av_flat.specs.Chained.{IsChained};
+ghost use Rattle.av_sched.specs.inner.Walk.{AreAllParts};
+
+use crate::placing::is_node;
+use crate::vector::vectors;
+use av_base::{List, Memory, Point};
+use av_flat::{Flat, Reach};
+use std::alloc::Global;
+
+// How many indices each node has.
+pub(crate) fn dimensions(alloc: Global, flat: &Flat) -> Result<Vec<u8>, Memory>
+    ensures { IfOk result (λ dims. dims.items ≡ map (λ v. v.domain.dim) (nodes (view_system flat.now))) }
+{
+    let mut dims = Vec::new(alloc);
+    for var in flat.vars.as_slice() {
+        if is_node(var) {
+            dims.push(var.domain.dim)?;
+        }
+    }
+    Ok(dims)
+}
+
+// The linear parts that each node of the component can have.
+pub(crate) fn lists_of(
+    alloc: Global,
+    flat: &Flat,
+    reach: Reach,
+    component: &[u32],
+) -> Result<List<List<Point>>, Memory>
+    requires chained { IsChained (view_system flat.now) }
+    requires within { All (λ n. n < length (nodes (view_system flat.now))) component.now }
+    ensures { IfOk result (AreAllParts (view_system flat.now) reach.size component.now) }
+{
+    let dims = dimensions(alloc, flat)?;
+    let mut lists = List::new(alloc);
+    for k in 0..component.len() {
+        let node = component[k] as usize;
+        let list = vectors(alloc, dims[node], reach)?;
+        lists.push(list)?;
+    }
+    Ok(lists)
+}
+
+// The place of a node among the variables.
+pub(crate) fn place_of(flat: &Flat, node: usize) -> usize
+    requires { node < length (nodes (view_system flat.now)) }
+    ensures fits { result < length flat.now.vars }
+    ensures is { slice_get (nodes (view_system flat.now)) node ≡ slice_get (view_system flat.now).variables result }
+{
+    let vars = flat.vars.as_slice();
+    let mut count: usize = 0;
+    for k in 0..vars.len() {
+        if !is_node(&vars[k]) {
+            continue;
+        }
+        if count == node {
+            return k;
+        }
+        count += 1;
+    }
+    unreachable!()
+}

@@ -1,0 +1,215 @@
+//! Witnesses: listed points of edges inside the component, by which most choices are seen not to be feasible.
+
+ghost use Rattle.std.specs.Prelude.{◌≡◌, ◌<◌, length, All, Contains, IfOk, IfSome, IsTrue, slice_index_or};
+ghost use Rattle.av_flat.specs.Trees.{view_system};
+ghost use Rattle.av_flat.specs.Chained.{IsChained};
+ghost use Rattle.av_flat.specs.Proper.{IsProper};
+ghost use Rattle.av_depend.specs.Edges.{AreEdgesOf};
+ghost use Rattle.av_sched.specs.inner.Leads.{IsUsable};
+ghost use Rattle.av_sched.specs.Choices.{AreLinearParts};
+ghost use Rattle.av_sched.specs.inner.Walk.{IsPlace, IsUsablePlace, IsArcAt, IsWitnessAt, IsForbidden};
+
+use crate::arc::{Arc, settles};
+use crate::lead::{lead_at, products};
+use crate::place::Place;
+use crate::placing::arcs_of;
+use av_base::{Memory, Point};
+use av_depend::Edge;
+use av_flat::{Flat, Reach};
+use std::alloc::Global;
+
+// Memory that the tests use again and again.
+#[derive(Debug, Drop)]
+pub(crate) struct Room {
+    pub arcs: Vec<Arc>,
+    pub off: Vec<i64>,
+    pub old: Vec<i64>,
+}
+
+// What one witness asks for.
+fn arc_at(component: &[u32], linear: &[Point], place: &Place) -> Arc
+    requires { IsUsablePlace component.now linear.now place.now }
+    ensures { IsArcAt component.now linear.now place.now result }
+{
+    let reader = &linear[component[place.reader] as usize];
+    let read = &linear[component[place.read] as usize];
+    let ahead = products(reader.as_slice(), place.point.as_slice());
+    let behind = products(read.as_slice(), place.image.as_slice());
+    Arc {
+        reader: place.reader,
+        read: place.read,
+        weight: 1 - (ahead - behind),
+    }
+}
+
+// What the witnesses ask for whose nodes are all among the first.
+fn witness_arcs(
+    _edges: &[Edge],
+    component: &[u32],
+    level: usize,
+    linear: &[Point],
+    pool: &[Place],
+    arcs: &mut Vec<Arc>,
+) -> Result<(), Memory>
+    requires usable { All (IsUsablePlace component.now linear.now) pool.now }
+    requires pool { All (IsPlace _edges.now component.now) pool.now }
+    ensures { IfOk result (λ done. All (IsWitnessAt _edges.now component.now level linear.now) arcs.new.items) }
+{
+    arcs.clear();
+    for place in pool {
+        if place.reader >= level {
+            continue;
+        }
+        if place.read >= level {
+            continue;
+        }
+        arcs.push(arc_at(component, linear, place))?;
+    }
+    Ok(())
+}
+
+// Whether the witnesses forbid the parts of the first nodes.
+pub(crate) fn is_forbidden(
+    _flat: &Flat,
+    edges: &[Edge],
+    _reach: Reach,
+    component: &[u32],
+    level: usize,
+    linear: &[Point],
+    pool: &[Place],
+    room: &mut Room,
+) -> Result<bool, Memory>
+    requires chained { IsChained (view_system _flat.now) }
+    requires proper { IsProper (view_system _flat.now) }
+    requires edges { AreEdgesOf (view_system _flat.now) edges.now }
+    requires linear { AreLinearParts (view_system _flat.now) _reach.size linear.now }
+    requires pool { All (IsPlace edges.now component.now) pool.now }
+    ensures { IfOk result (λ b. IsTrue b → IsForbidden (view_system _flat.now) component.now level linear.now) }
+{
+    witness_arcs(edges, component, level, linear, pool, &mut room.arcs)?;
+    let settled = settles(&room.arcs, &mut room.off, &mut room.old, level)?;
+    Ok(!settled)
+}
+
+// The place of a node in the component.
+fn place_in(component: &[u32], node: u32) -> Option<usize>
+    ensures within { IfSome result (λ k. k < length component.now) }
+    ensures is { IfSome result (λ k. slice_index_or component.now k 0 ≡ node) }
+{
+    for k in 0..component.len() {
+        if component[k] == node {
+            return Some(k);
+        }
+    }
+    None
+}
+
+// The number of a point at which the lead is least. Nothing is told of which.
+fn least_place(edge: &Edge, linear: &[Point]) -> usize
+    requires { IsUsable linear.now edge.now }
+    ensures { result < length edge.now.points }
+{
+    let consumer = edge.consumer as usize;
+    let producer = edge.producer as usize;
+    let points = edge.points.as_slice();
+    let mut place = 0;
+    let mut least = lead_at(&linear[consumer], &linear[producer], &edge.map, &points[0]);
+    for k in 1..points.len() {
+        let next = lead_at(&linear[consumer], &linear[producer], &edge.map, &points[k]);
+        if next < least {
+            least = next;
+            place = k;
+        }
+    }
+    place
+}
+
+// A place of the edge between these nodes of the component.
+fn place_of_edge(
+    _edges: &[Edge],
+    edge: &Edge,
+    _component: &[u32],
+    reader: usize,
+    read: usize,
+    linear: &[Point],
+) -> Place
+    requires usable { IsUsable linear.now edge.now }
+    requires among { Contains _edges.now edge.now }
+    requires reader_within { reader < length _component.now }
+    requires read_within { read < length _component.now }
+    requires reader { slice_index_or _component.now reader 0 ≡ edge.now.consumer }
+    requires read { slice_index_or _component.now read 0 ≡ edge.now.producer }
+    ensures { IsPlace _edges.now _component.now result }
+{
+    let k = least_place(edge, linear);
+    let point = &edge.points.as_slice()[k];
+    Place {
+        reader,
+        read,
+        point: Point::from_slice(point.as_slice()),
+        image: edge.map.apply(point),
+    }
+}
+
+// Whether another arc between the same nodes asks for more, or an earlier one for as much. Nothing is told of it.
+fn is_outdone(arcs: &[Arc], k: usize) -> bool
+    requires { k < length arcs.now }
+{
+    let own = arcs[k];
+    for j in 0..arcs.len() {
+        let other = arcs[j];
+        if other.reader != own.reader || other.read != own.read {
+            continue;
+        }
+        if other.weight > own.weight || (other.weight == own.weight && j < k) {
+            return true;
+        }
+    }
+    false
+}
+
+// Whether the place is among them. Nothing is told of it.
+fn is_listed(pool: &[Place], place: &Place) -> bool {
+    for other in pool {
+        if other.reader == place.reader
+            && other.read == place.read
+            && other.point == place.point
+            && other.image == place.image
+        {
+            return true;
+        }
+    }
+    false
+}
+
+// Adds, where the choice is not feasible, places that show it: for two nodes one that asks for most. Nothing is told of which.
+pub(crate) fn learn(
+    alloc: Global,
+    edges: &[Edge],
+    component: &[u32],
+    linear: &[Point],
+    pool: &mut Vec<Place>,
+) -> Result<(), Memory>
+    requires usable { All (IsUsable linear.now) edges.now }
+    requires pool { All (IsPlace edges.now component.now) pool.old.items }
+    ensures { IfOk result (λ done. All (IsPlace edges.now component.now) pool.new.items) }
+{
+    let arcs = arcs_of(alloc, edges, linear)?;
+    for k in 0..edges.len() {
+        if is_outdone(&arcs, k) {
+            continue;
+        }
+        let edge = &edges[k];
+        let Some(reader) = place_in(component, edge.consumer) else {
+            continue;
+        };
+        let Some(read) = place_in(component, edge.producer) else {
+            continue;
+        };
+        let place = place_of_edge(edges, edge, component, reader, read, linear);
+        if !is_listed(pool, &place) {
+            pool.push(place)?;
+        }
+    }
+    Ok(())
+}
