@@ -66,18 +66,19 @@ pub(crate) fn is_node(var: &Var) -> bool
     }
 }
 
-// The offset with which the first cycle of a node is 0. That a node has no point never happens.
+// The offset with which the first cycle of a node is 0.
 fn start_of(alloc: Global, var: &Var, linear: &Point) -> Result<i64, Memory>
     requires ordinary { IsOrdinary var.now.domain.dim var.now.domain }
     requires dim { var.now.domain.dim ≤ 4 }
     requires size { length linear.now ≡ var.now.domain.dim }
     requires linear { AtMost 4 linear.now }
     requires points { (z : Items ℤ) → Has var.now.domain z → AtMost 4095 z }
+    requires some { ((z : Items ℤ) → Has var.now.domain z → ⊥) → ⊥ }
     ensures { IfOk result (λ y. IsSpanned var.now.domain linear.now (neg_ℤ y) (neg_ℤ y)) }
 {
     match least_value(alloc, &var.domain, linear)? {
         Some(value) => Ok(-value),
-        None => Err(Memory),
+        None => unreachable!(),
     }
 }
 

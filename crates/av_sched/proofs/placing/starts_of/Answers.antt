@@ -44,6 +44,15 @@ start_of-requires-clause-dim c =
     let r = ready c.args.flat.now c.as_slice-vars.result.now linear c.loop-k.k c.index-vars-k.result b c.is_node.result low c.as_slice-vars.ensures l c.index-vars-k.is c.index-vars-k-in-loop-k.is c.is_node.ensures c.if-not-is_node.false c.requires.chained c.requires.linear c.loop-k.invariant in
     r.few
 
+pub start_of-requires-clause-some : goal.start_of-requires-clause-some
+start_of-requires-clause-some c =
+    let l : c.loop-k.k < length c.as_slice-vars.result.now = search rules in
+    let b = c.index-vars-k-in-loop-k.result in
+    let low = c.loop-k.low.items in
+    let linear = c.args.linear.now in
+    let r = ready c.args.flat.now c.as_slice-vars.result.now linear c.loop-k.k c.index-vars-k.result b c.is_node.result low c.as_slice-vars.ensures l c.index-vars-k.is c.index-vars-k-in-loop-k.is c.is_node.ensures c.if-not-is_node.false c.requires.chained c.requires.linear c.loop-k.invariant in
+    r.some
+
 pub start_of-requires-clause-size : goal.start_of-requires-clause-size
 start_of-requires-clause-size c =
     let l : c.loop-k.k < length c.as_slice-vars.result.now = search rules in
