@@ -15,7 +15,7 @@ IsFaultOf vs v (fault.Uncovered name z outside) =
 IsFaultOf vs v (fault.TwoBranches name z) = IsLeastWrong vs v z × (name ≡ v.name) × (1 < count vs (right_side v) z)
 IsFaultOf vs v fault.Memory = Unit {0}
 
--- the same of the first variable with a wrong point; want of memory has no cause
+-- the same of the first variable with a wrong point; out of memory has no cause
 abbrev pub IsFault : FlatSystem → CheckFault → Type 0
 IsFault s (fault.Uncovered name z outside) = (v : Variable) × IsFirstWrong s v z × IsFaultOf (signatures s) v (fault.Uncovered name z outside)
 IsFault s (fault.TwoBranches name z) = (v : Variable) × IsFirstWrong s v z × IsFaultOf (signatures s) v (fault.TwoBranches name z)

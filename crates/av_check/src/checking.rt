@@ -26,7 +26,7 @@ pub fn check(alloc: Global, flat: &Flat) -> Result<(), CheckFault>
     requires well_formed { IsWellFormed (view_system flat.now) }
     requires has_form { (f : Cause) → normalised.IsFault (view_system flat.now) f → f ≡ cause.Memory }
 
-    // It is passed exactly where it is proper, but for want of memory.
+    // It is passed exactly where it is proper, unless memory runs out.
     ensures proper { OnOk result (IsProper (view_system flat.now)) }
     ensures complete { IsProper (view_system flat.now) → IfErr result (λ f. f ≡ fault.Memory) }
 

@@ -19,7 +19,7 @@ pub enum CheckFault {
         variable: Name,
         point: Point,
     },
-    /// Want of memory. No contract says when it comes.
+    /// Out of memory. No contract says when it comes.
     Memory,
 }
 

@@ -1,5 +1,5 @@
 -- How the program's clauses follow from what its steps did.
-use Rattle.std.proofs.Common.{◌≡◌, ◌≢◌, ◌⊎◌, ℕ, ◌<◌, ◌≤◌, List, ◌∷◌, ◌++◌, length, length-append, codes, Option, Some, None, refl, sym, ◌∙◌, ap, subst, inl, inr, arith}
+use Rattle.std.proofs.Common.{◌≡◌, ◌≢◌, ℕ, ◌<◌, ◌≤◌, List, ◌∷◌, ◌++◌, length, length-append, codes, Option, Some, None, refl, sym, ◌∙◌, ap, subst, inl, inr, arith}
 use Rattle.std.specs.Prelude.{IfSome}
 use Rattle.std.proofs.lemmas.List.{append-nil}
 use Rattle.av_base.specs.Outside.{Takes, TakesMore, IsAtEnd, HasRisen}
@@ -16,49 +16,61 @@ use Rattle.av_cli.specs.declared.status.Status.{Status}
 use Rattle.av_cli.specs.declared.status.Status.TheVariants.{Done, Refused, Words, ReadFault, WriteFault, Memory}
 use Rattle.av_cli.specs.declared.program.TheConstants.{LIMIT}
 use Rattle.av_cli.specs.declared.words.Command.{Command}
-use Rattle.av_cli.specs.declared.words.Command.TheVariants.{Check, Emit, Sim}
-use Rattle.av_cli.specs.Commands.{IsCheck, IsEmit, IsSim, AreRead}
+use Rattle.av_cli.specs.declared.words.Command.TheVariants.{Check, Schedule, Emit, Sim}
+use Rattle.av_cli.specs.Commands.{Asks, IsCheck, IsSchedule, IsEmit, IsSim, AreRead}
 use Rattle.av_cli.specs.CommandsSeen.{Are}
 use Rattle.av_cli.specs.Refusals.{refusal_line}
 use Rattle.av_cli.specs.Sims.{RefusesSim, no_mark, bad_text, bad_stimulus, GivesSim}
 use Rattle.av_cli.specs.Asked.{Refuses, Gives}
 use Rattle.av_cli.specs.Program.{Writes, WritesRefusal, IsRefused, HasRefusal, AddsWhole, AddsFront, IsComplete}
 use Rattle.av_cli.specs.Written.{IsPut, IsAnswered, refused, given, no_memory}
-use Rattle.av_cli.specs.Checks.{GivesCheck}
+use Rattle.av_cli.specs.Checks.{RefusesCheck, GivesCheck}
+use Rattle.av_cli.specs.Emits.{RefusesEmit}
+use Rattle.av_cli.specs.Schedules.{RefusesSchedule, GivesSchedule}
 use Rattle.av_cli.proofs.Checking.{exclusive_check}
-use Rattle.av_cli.proofs.GivenSizes.{one_check}
+use Rattle.av_cli.proofs.Scheduling.{exclusive_schedule}
+use Rattle.av_cli.proofs.GivenSizes.{one_asked}
 use Rattle.av_cli.proofs.Presenting.{given_distinct}
 
 pub read_of : (command : Command) (words : List (List ℕ)) → Are command words → AreRead words
-read_of (Check width) words (sizes, are) = inr (inr (width.bits, sizes, are))
+read_of (Check width) words (sizes, are) = inr (inr (inl (width.bits, sizes, are)))
+read_of (Schedule width reach) words (sizes, are) = inr (inr (inr (width.bits, reach.size, sizes, are)))
 read_of (Emit width) words are = inl (width.bits, are)
 read_of Sim words are = inr (inl are)
 
 refusal_of : (command : Command) (words : List (List ℕ)) (bytes reason : List ℕ) → Are command words → length bytes ≤ LIMIT → Refuses command words bytes reason → IsRefused words bytes reason
-refusal_of (Check width) words bytes reason are within (sizes, is, r) = inr (inr (inr (within, (width.bits, sizes, is, r))))
+refusal_of (Check width) words bytes reason are within (sizes, is, r) = inr (inr (inr (inl (within, (width.bits, sizes, is, r)))))
+refusal_of (Schedule width reach) words bytes reason are within (sizes, is, r) = inr (inr (inr (inr (within, (width.bits, reach.size, sizes, is, r)))))
 refusal_of (Emit width) words bytes reason are within r = inr (inl (within, (width.bits, are), r))
 refusal_of Sim words bytes reason are within r = inr (inr (inl (within, are, r)))
 
 writes_output : (command : Command) (words : List (List ℕ)) (left left' : Option (List ℕ)) (bytes out : List ℕ) → Are command words → Takes left left' bytes → IsAtEnd left' → length bytes ≤ LIMIT → Gives command words bytes out
     → Writes Done words left left' out
 writes_output (Check w) words left left' bytes out are takes end within (sizes, is, g) =
-    inr (inr (record { bits = w.bits; sizes = sizes; read = is; taken = bytes; takes = takes; whole = end; within = within; gives = g }))
+    inr (inr (inl (record { bits = w.bits; sizes = sizes; read = is; taken = bytes; takes = takes; whole = end; within = within; gives = g })))
+writes_output (Schedule w r) words left left' bytes out are takes end within (sizes, is, g) =
+    inr (inr (inr (record { bits = w.bits; box = r.size; sizes = sizes; read = is; taken = bytes; takes = takes; whole = end; within = within; gives = g })))
 writes_output (Emit w) words left left' bytes out are takes end within g = inl (record { width = w; read = are; taken = bytes; takes = takes; whole = end; within = within; gives = g })
 writes_output Sim words left left' bytes out are takes end within g = inr (inl (record { read = are; taken = bytes; takes = takes; whole = end; within = within; gives = g }))
 
 -- ---- refused or given, and not both
 
-no_sim : (words : List (List ℕ)) (bits : ℕ) → IsEmit words bits → IsSim words → ⊥
-no_sim words bits e s =
-    let same : codes "emit" ∷ e.rest ≡ codes "sim" ∷ s.rest = sym e.first ∙ s.first in
-    cc
+-- words begin with one name
+abbrev Begins : List ℕ → List (List ℕ) → Type 0
+Begins name words = (rest : List (List ℕ)) × (words ≡ name ∷ rest)
 
-no_check : (words : List (List ℕ)) (bits other : ℕ) (sizes : List Size) → IsCheck words bits sizes → (IsEmit words other) ⊎ IsSim words → ⊥
-no_check words bits other sizes c (inl e) =
-    let same : codes "check" ∷ c.rest ≡ codes "emit" ∷ e.rest = sym c.first ∙ e.first in
-    cc
-no_check words bits other sizes c (inr s) =
-    let same : codes "check" ∷ c.rest ≡ codes "sim" ∷ s.rest = sym c.first ∙ s.first in
+begins : (name : List ℕ) (words : List (List ℕ)) (bits box : ℕ) (sizes : List Size) → Asks name words bits box sizes → Begins name words
+begins name words bits box sizes is = (is.rest, is.first)
+
+begins_emit : (words : List (List ℕ)) (bits : ℕ) → IsEmit words bits → Begins (codes "emit") words
+begins_emit words bits is = (is.rest, is.first)
+
+begins_sim : (words : List (List ℕ)) → IsSim words → Begins (codes "sim") words
+begins_sim words is = (is.rest, is.first)
+
+same_name : (a b : List ℕ) (words : List (List ℕ)) → Begins a words → Begins b words → a ≡ b
+same_name a b words (rest, p) (more, q) =
+    let same : a ∷ rest ≡ b ∷ more = sym p ∙ q in
     cc
 
 inputs_distinct : (text : List ℕ) (design : Design) → Spells text design → AreDistinct (names_of design.module.inputs)
@@ -80,24 +92,48 @@ exclusive_sim bytes reason out (bad_stimulus {text} {rest} {first} {design} faul
     let stimulated = subst (λ (d : Design). SpellsStimulus d.module.inputs rest g.stimulus) one (subst (λ r. SpellsStimulus g.design.module.inputs r g.stimulus) later g.stimulated) in
     not_both_stimuli design.module.inputs (inputs_distinct text design spelled) first rest g.stimulus fault stimulated is
 
+-- what words of a command refuse, each command by its name
+exclude : (name : List ℕ) (words : List (List ℕ)) (bytes : List ℕ) → Begins name words → length bytes ≤ LIMIT
+    → (codes "emit" ≡ name → (bits : ℕ) → IsEmit words bits → (reason : List ℕ) → RefusesEmit bytes reason → ⊥)
+    → (codes "sim" ≡ name → (reason : List ℕ) → RefusesSim bytes reason → ⊥)
+    → (codes "check" ≡ name → (bits : ℕ) (sizes : List Size) → IsCheck words bits sizes → (reason : List ℕ) → RefusesCheck sizes bits bytes reason → ⊥)
+    → (codes "schedule" ≡ name → (bits box : ℕ) (sizes : List Size) → IsSchedule words bits box sizes → (reason : List ℕ) → RefusesSchedule sizes bits box bytes reason → ⊥)
+    → HasRefusal words bytes → ⊥
+exclude name words bytes is within emit sim check schedule (reason, inl (long, e)) = omega arith
+exclude name words bytes is within emit sim check schedule (reason, inr (inl (short, (bits, other), r))) =
+    emit (same_name (codes "emit") name words (begins_emit words bits other) is) bits other reason r
+exclude name words bytes is within emit sim check schedule (reason, inr (inr (inl (short, other, r)))) = sim (same_name (codes "sim") name words (begins_sim words other) is) reason r
+exclude name words bytes is within emit sim check schedule (reason, inr (inr (inr (inl (short, (bits, sizes, other, r)))))) =
+    check (same_name (codes "check") name words (begins (codes "check") words bits other.0 sizes other.1) is) bits sizes other reason r
+exclude name words bytes is within emit sim check schedule (reason, inr (inr (inr (inr (short, (bits, box, sizes, other, r)))))) =
+    schedule (same_name (codes "schedule") name words (begins (codes "schedule") words bits box sizes other) is) bits box sizes other reason r
+
 exclude_check : (words : List (List ℕ)) (bits : ℕ) (bytes out : List ℕ) (sizes : List Size) → IsCheck words bits sizes → length bytes ≤ LIMIT → GivesCheck sizes bits bytes out → HasRefusal words bytes → ⊥
-exclude_check words bits bytes out sizes is within g (reason, inl (long, e)) = omega arith
-exclude_check words bits bytes out sizes is within g (reason, inr (inl (short, (other, emit), r))) = no_check words bits other sizes is (inl emit)
-exclude_check words bits bytes out sizes is within g (reason, inr (inr (inl (short, sim, r)))) = no_check words bits 0 sizes is (inr sim)
-exclude_check words bits bytes out sizes is within g (reason, inr (inr (inr (short, (n, others, other, r))))) =
-    let (same_bits, same_sizes) = one_check words bits n sizes others is other in
-    exclusive_check others n bytes reason out r (subst (λ (m : ℕ). GivesCheck others m bytes out) same_bits (subst (λ (xs : List Size). GivesCheck xs bits bytes out) same_sizes g))
+exclude_check words bits bytes out sizes is within g refusal =
+    exclude (codes "check") words bytes (begins (codes "check") words bits is.0 sizes is.1) within (λ e. cc) (λ e. cc)
+    (λ _ n others other reason r.
+    let (same_bits, _, same_sizes) = one_asked (codes "check") words bits n is.0 other.0 sizes others is.1 other.1 in
+    exclusive_check others n bytes reason out r (subst (λ (m : ℕ). GivesCheck others m bytes out) same_bits (subst (λ (xs : List Size). GivesCheck xs bits bytes out) same_sizes g)))
+    (λ e. cc)
+    refusal
+
+exclude_schedule : (words : List (List ℕ)) (bits box : ℕ) (bytes out : List ℕ) (sizes : List Size) → IsSchedule words bits box sizes → length bytes ≤ LIMIT → GivesSchedule sizes bits box bytes out → HasRefusal words bytes
+    → ⊥
+exclude_schedule words bits box bytes out sizes is within g refusal =
+    exclude (codes "schedule") words bytes (begins (codes "schedule") words bits box sizes is) within (λ e. cc) (λ e. cc) (λ e. cc)
+    (λ _ n c others other reason r.
+    let (same_bits, same_box, same_sizes) = one_asked (codes "schedule") words bits n box c sizes others is other in
+    exclusive_schedule others n c bytes reason out r
+    (subst (λ (m : ℕ). GivesSchedule others m c bytes out) same_bits (subst (λ (m : ℕ). GivesSchedule others bits m bytes out) same_box (subst (λ (xs : List Size). GivesSchedule xs bits box bytes out) same_sizes g))))
+    refusal
 
 exclusive : (command : Command) (words : List (List ℕ)) (bytes out : List ℕ) → Are command words → length bytes ≤ LIMIT → Gives command words bytes out → HasRefusal words bytes → ⊥
 exclusive (Check width) words bytes out are within g refusal = exclude_check words width.bits bytes out g.0 g.1 within g.2 refusal
-exclusive (Emit width) words bytes out are within g (reason, inl (long, is)) = omega arith
-exclusive Sim words bytes out are within g (reason, inl (long, is)) = omega arith
-exclusive (Emit width) words bytes out are within g (reason, inr (inl (short, some, (none, is)))) = none g.computes.form g.computes.text
-exclusive (Emit width) words bytes out are within g (reason, inr (inr (inl (short, other, r)))) = no_sim words width.bits are other
-exclusive (Emit width) words bytes out are within g (reason, inr (inr (inr (short, (bits, sizes, other, r))))) = no_check words bits width.bits sizes other (inl are)
-exclusive Sim words bytes out are within g (reason, inr (inl (short, (bits, other), r))) = no_sim words bits other are
-exclusive Sim words bytes out are within g (reason, inr (inr (inl (short, other, r)))) = exclusive_sim bytes reason out r g
-exclusive Sim words bytes out are within g (reason, inr (inr (inr (short, (bits, sizes, other, r))))) = no_check words bits 0 sizes other (inr are)
+exclusive (Schedule width reach) words bytes out are within g refusal = exclude_schedule words width.bits reach.size bytes out g.0 g.1 within g.2 refusal
+exclusive (Emit width) words bytes out are within g refusal =
+    exclude (codes "emit") words bytes (begins_emit words width.bits are) within (λ _ bits other reason r. r.0 g.computes.form g.computes.text) (λ e. cc) (λ e. cc) (λ e. cc) refusal
+exclusive Sim words bytes out are within g refusal =
+    exclude (codes "sim") words bytes (begins_sim words are) within (λ e. cc) (λ _ reason r. exclusive_sim bytes reason out r g) (λ e. cc) (λ e. cc) refusal
 
 -- ---- what was put
 
@@ -202,7 +238,7 @@ complete_done words left status read unrefused is = record {
   done = λ _. if_some_weaker left (λ bytes. HasRefusal words bytes → ⊥) _ (λ bytes h. λ _. inl is) unrefused;
 }
 
-complete_memory : (words : List (List ℕ)) (left : Option (List ℕ)) (status : Status) → AreRead words → status ≡ Memory → IsComplete words left status
+pub complete_memory : (words : List (List ℕ)) (left : Option (List ℕ)) (status : Status) → AreRead words → status ≡ Memory → IsComplete words left status
 complete_memory words left status read is = record {
   unread = λ unread. absurd (unread read);
   refused = λ _. if_some_all left _ (λ bytes. λ _. inr is);

@@ -1,5 +1,5 @@
 -- How the answers of `check` follow from what its steps did.
-use Rattle.std.proofs.Common.{◌≡◌, ◌≢◌, ◌⊎◌, ℕ, List, ◌∷◌, Option, refl, sym, ap, subst, ◌∙◌, inl, inr}
+use Rattle.std.proofs.Common.{◌≡◌, ◌≢◌, ◌⊎◌, ℕ, List, Option, refl, sym, ap, subst, ◌∙◌, inl, inr}
 use Rattle.std.specs.Prelude.{codes}
 use Rattle.av_base.specs.Tokens.{Token, start}
 use Rattle.av_tree.specs.Trees.{System}
@@ -14,8 +14,8 @@ use Rattle.av_names.specs.Refusals.{IsRefusal}
 use Rattle.av_normal.specs.NormalFaults as normalised
 use Rattle.av_check.specs.CheckFaults as pointed
 use Rattle.av_check.proofs.Settled.{no_fault}
-use Rattle.av_compile.specs.declared.text_refusal.TextRefusal.{TextRefusal}
-use Rattle.av_compile.specs.declared.text_refusal.TextRefusal.TheVariants as refusal
+use Rattle.av_compile.specs.declared.refusal.Refusal.{Refusal}
+use Rattle.av_compile.specs.declared.refusal.Refusal.TheVariants as refusal
 use Rattle.av_compile.specs.Refusals.{of_normal, of_check}
 use Rattle.av_compile.specs.Checked.{Flattens, IsChecked, IsRefused, in_bytes, in_tokens, in_names, in_pieces, in_points}
 use Rattle.av_cli.specs.declared.status.Status.{Status}
@@ -29,11 +29,11 @@ use Rattle.av_cli.proofs.GivenSizes.{with_sizes}
 
 -- ---- refused or given, and not both
 
-one_flat : (bytes : List ℕ) (sizes : List Size) (bits : ℕ) (s t : FlatSystem) → Flattens bytes sizes bits s → Flattens bytes sizes bits t → s ≡ t
+pub one_flat : (bytes : List ℕ) (sizes : List Size) (bits : ℕ) (s t : FlatSystem) → Flattens bytes sizes bits s → Flattens bytes sizes bits t → s ≡ t
 one_flat bytes sizes bits s t a b =
     a.flat ∙ (ap (λ (x : System). flat_of (instance_of x sizes bits)) (one_text bytes a.system b.system a.text b.text) ∙ sym b.flat)
 
-exclusive : (sizes : List Size) (bits : ℕ) (bytes out : List ℕ) (cause : TextRefusal) → IsRefused bytes sizes bits cause → cause ≢ refusal.Memory → GivesCheck sizes bits bytes out → ⊥
+pub exclusive : (sizes : List Size) (bits : ℕ) (bytes out : List ℕ) (cause : Refusal) → IsRefused bytes sizes bits cause → cause ≢ refusal.Memory → GivesCheck sizes bits bytes out → ⊥
 exclusive sizes bits bytes out cause (in_bytes f e is) some g = lexed.not_both start bytes g.flattens.text.tokens f g.flattens.text.spelled is
 exclusive sizes bits bytes out cause (in_tokens f e tokens text none) some g =
     let same = lexed.one_list start bytes g.flattens.text.tokens tokens g.flattens.text.spelled text in
@@ -55,7 +55,7 @@ exclusive_check sizes bits bytes reason out r g = exclusive sizes bits bytes out
 
 -- ---- answers
 
-memory_or_not : (f : TextRefusal) → (f ≡ refusal.Memory) ⊎ (f ≢ refusal.Memory)
+pub memory_or_not : (f : Refusal) → (f ≡ refusal.Memory) ⊎ (f ≢ refusal.Memory)
 memory_or_not refusal.Memory = inl refl
 memory_or_not (refusal.BadByte p) = inr (λ e. cc)
 memory_or_not (refusal.Number p) = inr (λ e. cc)
@@ -79,8 +79,11 @@ memory_or_not (refusal.Pieces n) = inr (λ e. cc)
 memory_or_not (refusal.Unbounded n) = inr (λ e. cc)
 memory_or_not (refusal.Uncovered v z o) = inr (λ e. cc)
 memory_or_not (refusal.TwoBranches v z) = inr (λ e. cc)
+memory_or_not (refusal.NonUnit n) = inr (λ e. cc)
+memory_or_not (refusal.Candidates n) = inr (λ e. cc)
+memory_or_not (refusal.NoSchedule n) = inr (λ e. cc)
 
-pub check_refused : (words : List (List ℕ)) (sizes : List Size) (bits : ℕ) (bytes : List ℕ) (f : TextRefusal) {held held' : Option (List ℕ)} {faults faults' : ℕ} {status : Status}
+pub check_refused : (words : List (List ℕ)) (sizes : List Size) (bits : ℕ) (bytes : List ℕ) (f : Refusal) {held held' : Option (List ℕ)} {faults faults' : ℕ} {status : Status}
     → GiveSizes words sizes → (f ≢ refusal.Memory → IsRefused bytes sizes bits f) → (f ≡ refusal.Memory → (status ≡ Memory) × (held' ≡ held))
     → ((f ≡ refusal.Memory → ⊥) → IsPut held held' faults faults' (refusal_line (system_reason f)) Refused status)
     → IsAnswered (RefusesWith words bits bytes) (GivesWith words bits bytes) held held' faults faults' status
@@ -101,6 +104,6 @@ pub check_answered : (words : List (List ℕ)) (bits : ℕ) (bytes : List ℕ) {
     → IsAnswered (RefusesWith words bits bytes) (GivesWith words bits bytes) held held' faults faults' status
     → IsAnswered (λ reason. (sizes : List Size) × IsCheck words bits sizes × RefusesCheck sizes bits bytes reason) (λ out. (sizes : List Size) × IsCheck words bits sizes × GivesCheck sizes bits bytes out)
     held held' faults faults' status
-check_answered words bits bytes (found, is) (refused r put) = refused (r.sizes, with_sizes words bits found r.sizes is r.give, r.refuses) put
-check_answered words bits bytes (found, is) (given g put) = given (g.sizes, with_sizes words bits found g.sizes is g.give, g.gives) put
-check_answered words bits bytes (found, is) (no_memory a b) = no_memory a b
+check_answered words bits bytes (found, (box, is)) (refused r put) = refused (r.sizes, (box, with_sizes (codes "check") words bits box found r.sizes is r.give), r.refuses) put
+check_answered words bits bytes (found, (box, is)) (given g put) = given (g.sizes, (box, with_sizes (codes "check") words bits box found g.sizes is g.give), g.gives) put
+check_answered words bits bytes found (no_memory a b) = no_memory a b

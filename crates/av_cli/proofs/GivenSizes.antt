@@ -1,5 +1,5 @@
 -- Words that are sizes, and the sizes that they give.
-use Rattle.std.proofs.Common.{◌≡◌, ◌≢◌, ◌⊎◌, inl, inr, ℕ, zero, suc, ◌<◌, ◌≤◌, ℤ, true, Bor, List, [], ◌∷◌, ◌++◌, Option, Some, None, get_or, length, drop, append_assoc, unsigned_abs, ◌+◌, All, IsTrue, refl, sym, ap, subst, ◌∙◌, arith}
+use Rattle.std.proofs.Common.{◌≡◌, ◌≢◌, inl, inr, ℕ, zero, suc, ◌<◌, ◌≤◌, ℤ, true, Bor, List, [], ◌∷◌, ◌++◌, Option, Some, None, get_or, length, drop, append_assoc, unsigned_abs, ◌+◌, All, IsTrue, refl, sym, ap, subst, ◌∙◌, arith}
 use Rattle.std.specs.Prelude.{codes}
 use Rattle.std.specs.Char.{is_ascii_alphabetic, is_ascii_digit}
 use Rattle.std.specs.List.{AllByRecursion}
@@ -9,9 +9,9 @@ use Rattle.std.proofs.lemmas.List.Elements.{All-append, All-cons}
 use Rattle.std.proofs.lemmas.Str.Pattern.{IsSplitOnceResult, split_after}
 use Rattle.std.specs.Prelude.{MatchOption}
 use Rattle.av_base.specs.declared.token_kind.TokenKind.TheVariants as kind
-use Rattle.av_base.specs.Tokens.{IsDigits, IsSpelled, IsWord, is_word_byte}
+use Rattle.av_base.specs.Tokens.{IsDigits, IsSpelled, is_word_byte}
 use Rattle.av_names.specs.declared.size.Size.{Size}
-use Rattle.av_cli.specs.Commands.{SpellsWhole, IsSize, size_of, GiveSizes, no_more, given, passed, SpellsUpTo, Options, Say, nothing, width, box, size, sizes, IsOption, no_options, given_or, default_width, IsCheck}
+use Rattle.av_cli.specs.Commands.{SpellsWhole, IsSize, size_of, GiveSizes, no_more, given, passed, Options, Say, nothing, width, box, size, sizes, IsOption, no_options, given_or, default_width, default_box, Asks, IsCheck}
 use Rattle.av_cli.proofs.OptionWords.{head, letter_first, no_size, width_head, box_head, dashes_head, at_words, one_said}
 use Rattle.av_cli.proofs.SizeWords.{word_bytes, text_is, one_size}
 
@@ -139,23 +139,35 @@ one_list (w ∷ words) some others (passed none give) (passed none' give') = one
 
 -- ---- the command
 
--- the first word is no size
-no_command : IsSize (codes "check") → ⊥
-no_command is = let k = text_is (codes "check") is in cc
+-- the names of commands are no sizes
+pub check_is_no_size : IsSize (codes "check") → ⊥
+check_is_no_size is = let k = text_is (codes "check") is in cc
+
+pub schedule_is_no_size : IsSize (codes "schedule") → ⊥
+schedule_is_no_size is = let k = text_is (codes "schedule") is in cc
+
+pub asked : (name : List ℕ) (words : List (List ℕ)) (bits reach : ℕ) (rest : List (List ℕ)) → (IsSize name → ⊥) → words ≡ name ∷ rest
+    → ((o : Options) × Say no_options (drop 1 words) o × (bits ≡ given_or default_width o.width) × (reach ≡ given_or default_box o.box)) → (found : List Size) × Asks name words bits reach found
+asked name words bits reach rest none first (o, say, bits_are, box_is) =
+    let same : drop 1 words ≡ rest = ap (λ (ws : List (List ℕ)). drop 1 ws) first in
+    let say_rest : Say no_options rest o = subst (λ (ws : List (List ℕ)). Say no_options ws o) same say in
+    let (found, give) = past name rest none (said_give no_options o rest say_rest) in
+    (found, record { rest = rest; first = first; options = o; say = say_rest; bits_are = bits_are; box_is = box_is; give = subst (λ (ws : List (List ℕ)). GiveSizes ws found) (sym first) give })
 
 pub check_read : (words : List (List ℕ)) (bits : ℕ) (rest : List (List ℕ)) → words ≡ codes "check" ∷ rest → ((o : Options) × Say no_options (drop 1 words) o × (bits ≡ given_or default_width o.width))
     → (found : List Size) × IsCheck words bits found
 check_read words bits rest first (o, say, bits_are) =
-    let same : drop 1 words ≡ rest = ap (λ (ws : List (List ℕ)). drop 1 ws) first in
-    let say_rest : Say no_options rest o = subst (λ (ws : List (List ℕ)). Say no_options ws o) same say in
-    let (found, give) = past (codes "check") rest no_command (said_give no_options o rest say_rest) in
-    (found, record { rest = rest; first = first; options = o; say = say_rest; bits_are = bits_are; give = subst (λ (ws : List (List ℕ)). GiveSizes ws found) (sym first) give })
+    let (found, is) = asked (codes "check") words bits (given_or default_box o.box) rest check_is_no_size first (o, say, bits_are, refl) in
+    (found, (given_or default_box o.box, is))
 
-pub one_check : (words : List (List ℕ)) (m n : ℕ) (some others : List Size) → IsCheck words m some → IsCheck words n others → (m ≡ n) × (some ≡ others)
-one_check words m n some others a b =
-    let same : a.rest ≡ b.rest = let k = sym a.first ∙ b.first in cc in
-    let options : a.options ≡ b.options = one_said no_options a.options b.options b.rest (subst (λ (ws : List (List ℕ)). Say no_options ws a.options) same a.say) b.say in
-    (a.bits_are ∙ (ap (λ (o : Options). given_or default_width o.width) options ∙ sym b.bits_are), one_list words some others a.give b.give)
+pub one_asked : (name : List ℕ) (words : List (List ℕ)) (m n b c : ℕ) (some others : List Size) → Asks name words m b some → Asks name words n c others → (m ≡ n) × (b ≡ c) × (some ≡ others)
+one_asked name words m n b c some others x y =
+    let same : x.rest ≡ y.rest = let k = sym x.first ∙ y.first in cc in
+    let options : x.options ≡ y.options = one_said no_options x.options y.options y.rest (subst (λ (ws : List (List ℕ)). Say no_options ws x.options) same x.say) y.say in (
+      x.bits_are ∙ (ap (λ (o : Options). given_or default_width o.width) options ∙ sym y.bits_are),
+      x.box_is ∙ (ap (λ (o : Options). given_or default_box o.box) options ∙ sym y.box_is),
+      one_list words some others x.give y.give,
+    )
 
-pub with_sizes : (words : List (List ℕ)) (bits : ℕ) (found others : List Size) → IsCheck words bits found → GiveSizes words others → IsCheck words bits others
-with_sizes words bits found others is give = record { rest = is.rest; first = is.first; options = is.options; say = is.say; bits_are = is.bits_are; give = give }
+pub with_sizes : (name : List ℕ) (words : List (List ℕ)) (bits reach : ℕ) (found others : List Size) → Asks name words bits reach found → GiveSizes words others → Asks name words bits reach others
+with_sizes name words bits reach found others is give = record { rest = is.rest; first = is.first; options = is.options; say = is.say; bits_are = is.bits_are; box_is = is.box_is; give = give }

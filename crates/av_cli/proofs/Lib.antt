@@ -10,3 +10,4 @@ pub mod Checking
 pub mod Simulating
 pub mod Sent
 pub mod Answered
+pub mod Scheduling

@@ -3,15 +3,15 @@ use Rattle.std.specs.Prelude.{◌≡◌, ◌≢◌, ℕ, List, codes}
 use Rattle.av_flat.specs.Trees.{FlatSystem}
 use Rattle.av_flat.specs.Proper.{IsProper}
 use Rattle.av_names.specs.declared.size.Size.{Size}
-use Rattle.av_compile.specs.declared.text_refusal.TextRefusal.{TextRefusal}
-use Rattle.av_compile.specs.declared.text_refusal.TextRefusal.TheVariants as refusal
+use Rattle.av_compile.specs.declared.refusal.Refusal.{Refusal}
+use Rattle.av_compile.specs.declared.refusal.Refusal.TheVariants as refusal
 use Rattle.av_compile.specs.Checked.{Flattens, HasNormalForm, IsRefused}
 use Rattle.av_cli.specs.Commands.{GiveSizes}
 use Rattle.av_cli.specs.SystemRefusals.{system_reason}
 
 -- the first fault of the bytes with these sizes
 pub record RefusesCheck (sizes : List Size) (bits : ℕ) (bytes reason : List ℕ) : Type 0 where
-  pub cause : TextRefusal
+  pub cause : Refusal
   pub first : IsRefused bytes sizes bits cause
   pub some : cause ≢ refusal.Memory
   pub told : reason ≡ system_reason cause

@@ -76,6 +76,10 @@ pub data Say : Options → List (List ℕ) → Options → Type 0 where
 abbrev pub default_width : ℕ
 default_width = 32
 
+-- where no option gives the size of the box
+abbrev pub default_box : ℕ
+default_box = 2
+
 abbrev pub given_or : ℕ → Option ℕ → ℕ
 given_or default None = default
 given_or default (Some n) = n
@@ -92,14 +96,22 @@ pub record IsEmit (words : List (List ℕ)) (bits : ℕ) : Type 0 where
   pub say : Say no_options rest options
   pub bits_are : bits ≡ given_or default_width options.width
 
--- `check`, then options and sizes in any order; neither `check` nor an option or its value has the form of a size
-pub record IsCheck (words : List (List ℕ)) (bits : ℕ) (sizes : List Size) : Type 0 where
+-- the name of a command, then options and sizes in any order; neither a command nor an option or its value has the form of a size
+pub record Asks (name : List ℕ) (words : List (List ℕ)) (bits box : ℕ) (sizes : List Size) : Type 0 where
   pub rest : List (List ℕ)
-  pub first : words ≡ codes "check" ∷ rest
+  pub first : words ≡ name ∷ rest
   pub options : Options
   pub say : Say no_options rest options
   pub bits_are : bits ≡ given_or default_width options.width
+  pub box_is : box ≡ given_or default_box options.box
   pub give : GiveSizes words sizes
+
+-- of `check` the box says nothing
+abbrev pub IsCheck : List (List ℕ) → ℕ → List Size → Type 0
+IsCheck words bits found = (reach : ℕ) × Asks (codes "check") words bits reach found
+
+abbrev pub IsSchedule : List (List ℕ) → ℕ → ℕ → List Size → Type 0
+IsSchedule words bits reach found = Asks (codes "schedule") words bits reach found
 
 -- nothing, or `--` alone
 abbrev pub IsBare : List (List ℕ) → Type 0
@@ -112,7 +124,11 @@ pub record IsSim (words : List (List ℕ)) : Type 0 where
   pub bare : IsBare rest
 
 abbrev pub AreRead : List (List ℕ) → Type 0
-AreRead words = ((bits : ℕ) × IsEmit words bits) ⊎ IsSim words ⊎ ((bits : ℕ) × (sizes : List Size) × IsCheck words bits sizes)
+AreRead words =
+    ((bits : ℕ) × IsEmit words bits)
+    ⊎ IsSim words
+    ⊎ ((bits : ℕ) × (found : List Size) × IsCheck words bits found)
+    ⊎ ((bits : ℕ) × (reach : ℕ) × (found : List Size) × IsSchedule words bits reach found)
 
 abbrev pub usage_line : List ℕ
 usage_line = codes "usage: alphav check|schedule|table|emit|run|trace [--width W] [--box C] [NAME=VALUE ...] | sim | demo K\n"

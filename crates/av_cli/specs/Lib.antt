@@ -10,3 +10,4 @@ pub mod Checks
 pub mod Asked
 pub mod Written
 pub mod Program
+pub mod Schedules

@@ -7,9 +7,10 @@ use Rattle.av_names.specs.declared.size.Size.{Size}
 use Rattle.av_cli.specs.declared.status.Status.{Status}
 use Rattle.av_cli.specs.declared.status.Status.TheVariants.{Done, Refused, Words, ReadFault, WriteFault, Memory}
 use Rattle.av_cli.specs.declared.program.TheConstants.{LIMIT}
-use Rattle.av_cli.specs.Commands.{IsCheck, IsEmit, IsSim, AreRead, usage_line}
+use Rattle.av_cli.specs.Commands.{IsCheck, IsSchedule, IsEmit, IsSim, AreRead, usage_line}
 use Rattle.av_cli.specs.Refusals.{refusal_line}
 use Rattle.av_cli.specs.Checks.{RefusesCheck, GivesCheck}
+use Rattle.av_cli.specs.Schedules.{RefusesSchedule, GivesSchedule}
 use Rattle.av_cli.specs.Emits.{RefusesEmit, GivesEmit}
 use Rattle.av_cli.specs.Sims.{RefusesSim, GivesSim}
 
@@ -22,6 +23,7 @@ IsRefused words bytes reason =
     ⊎ ((length bytes ≤ LIMIT) × ((bits : ℕ) × IsEmit words bits) × RefusesEmit bytes reason)
     ⊎ ((length bytes ≤ LIMIT) × IsSim words × RefusesSim bytes reason)
     ⊎ ((length bytes ≤ LIMIT) × ((bits : ℕ) × (sizes : List Size) × IsCheck words bits sizes × RefusesCheck sizes bits bytes reason))
+    ⊎ ((length bytes ≤ LIMIT) × ((bits : ℕ) × (box : ℕ) × (sizes : List Size) × IsSchedule words bits box sizes × RefusesSchedule sizes bits box bytes reason))
 
 -- ---- what is written
 
@@ -71,11 +73,23 @@ pub record WritesVerdict (words : List (List ℕ)) (left left' : Option (List �
   pub within : length taken ≤ LIMIT
   pub gives : GivesCheck sizes bits taken out
 
+-- the output of `schedule`: the lines of the first schedule of the text which the source gave up to its end
+pub record WritesSchedule (words : List (List ℕ)) (left left' : Option (List ℕ)) (out : List ℕ) : Type 0 where
+  pub bits : ℕ
+  pub box : ℕ
+  pub sizes : List Size
+  pub read : IsSchedule words bits box sizes
+  pub taken : List ℕ
+  pub takes : Takes left left' taken
+  pub whole : IsAtEnd left'
+  pub within : length taken ≤ LIMIT
+  pub gives : GivesSchedule sizes bits box taken out
+
 -- what a status writes, where it writes something whole
 abbrev pub Writes : Status → List (List ℕ) → Option (List ℕ) → Option (List ℕ) → List ℕ → Type 0
 Writes Words words left left' out = WritesUsage words left left' out
 Writes Refused words left left' out = WritesRefusal words left left' out
-Writes Done words left left' out = WritesDesign words left left' out ⊎ WritesRun words left left' out ⊎ WritesVerdict words left left' out
+Writes Done words left left' out = WritesDesign words left left' out ⊎ WritesRun words left left' out ⊎ WritesVerdict words left left' out ⊎ WritesSchedule words left left' out
 Writes ReadFault words left left' out = ⊥
 Writes WriteFault words left left' out = ⊥
 Writes Memory words left left' out = ⊥
@@ -93,7 +107,7 @@ AddsFront words left left' held held' = (status : Status) × (out : List ℕ) ×
 abbrev pub HasRefusal : List (List ℕ) → List ℕ → Type 0
 HasRefusal words bytes = (reason : List ℕ) × IsRefused words bytes reason
 
--- with no fault, the status is that of the words and of the source's bytes, or want of memory
+-- with no fault, the status is that of the words and of the source's bytes, or out of memory
 pub record IsComplete (words : List (List ℕ)) (left : Option (List ℕ)) (status : Status) : Type 0 where
   pub unread : (AreRead words → ⊥) → status ≡ Words
   pub refused : AreRead words → IfSome left (λ bytes. HasRefusal words bytes → (status ≡ Refused) ⊎ (status ≡ Memory))

@@ -14,7 +14,7 @@ refusal_line reason = codes "refused: " ++ reason ++ codes "\n"
 abbrev pub place_text : Place → List ℕ
 place_text p = decimal p.line ++ codes ":" ++ decimal p.column
 
--- why a design text is refused; want of memory has no line
+-- why a design text is refused; out of memory has no line
 abbrev pub text_reason : VFault → List ℕ
 text_reason (VByte p) = codes "verilog bad byte " ++ place_text p
 text_reason (VSyntax p) = codes "verilog syntax " ++ place_text p

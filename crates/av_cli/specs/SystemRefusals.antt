@@ -3,8 +3,8 @@ use Rattle.std.specs.Prelude.{ℕ, ℤ, List, [], ◌++◌, Option, Some, None, 
 use Rattle.av_net.specs.Texts.{point_text}
 use Rattle.av_flat.specs.declared.quantity.Quantity.{Quantity}
 use Rattle.av_flat.specs.declared.quantity.Quantity.TheVariants as quantity
-use Rattle.av_compile.specs.declared.text_refusal.TextRefusal.{TextRefusal}
-use Rattle.av_compile.specs.declared.text_refusal.TextRefusal.TheVariants as refusal
+use Rattle.av_compile.specs.declared.refusal.Refusal.{Refusal}
+use Rattle.av_compile.specs.declared.refusal.Refusal.TheVariants as refusal
 use Rattle.av_cli.specs.Refusals.{place_text}
 
 abbrev pub quantity_text : Quantity → List ℕ
@@ -27,8 +27,8 @@ abbrev pub blame_text : Option (List ℕ × List ℤ) → List ℕ
 blame_text None = []
 blame_text (Some (name, point)) = codes " at " ++ named_point name point
 
--- want of memory has no line
-abbrev pub system_reason : TextRefusal → List ℕ
+-- out of memory has no line
+abbrev pub system_reason : Refusal → List ℕ
 system_reason (refusal.BadByte place) = codes "bad byte " ++ place_text place
 system_reason (refusal.Number place) = codes "number " ++ place_text place
 system_reason (refusal.Syntax place) = codes "syntax " ++ place_text place
@@ -51,4 +51,7 @@ system_reason (refusal.Pieces n) = codes "pieces " ++ decimal n
 system_reason (refusal.Unbounded name) = codes "unbounded " ++ name
 system_reason (refusal.Uncovered variable point outside) = codes "uncovered " ++ named_point variable point ++ blame_text outside
 system_reason (refusal.TwoBranches variable point) = codes "two branches " ++ named_point variable point
+system_reason (refusal.NonUnit name) = codes "non unit " ++ name
+system_reason (refusal.Candidates n) = codes "candidates " ++ decimal n
+system_reason (refusal.NoSchedule name) = codes "no schedule " ++ name
 system_reason refusal.Memory = []

@@ -8,7 +8,7 @@ ghost use Rattle.av_cli.specs.Written.{IsAnswered};
 use crate::put::{put, put_design};
 use crate::status::Status;
 use av_base::{Sink, Width};
-use av_compile::{Refusal, compile};
+use av_compile::{FormRefusal, compile};
 use std::alloc::Global;
 
 const NOT_THIS_FORM: &str = "refused: not this form\n";
@@ -19,8 +19,8 @@ pub(crate) fn emit<K: Sink>(alloc: Global, bytes: &[u8], width: Width, sink: &mu
     ensures { IsAnswered (RefusesEmit bytes.now) (GivesEmit width bytes.now) (K.held sink.old) (K.held sink.new) (K.faults sink.old) (K.faults sink.new) result }
 {
     match compile(alloc, bytes, width) {
-        Err(Refusal::Memory) => Status::Memory,
-        Err(Refusal::NotThisForm) => put(sink, NOT_THIS_FORM, Status::Refused),
+        Err(FormRefusal::Memory) => Status::Memory,
+        Err(FormRefusal::NotThisForm) => put(sink, NOT_THIS_FORM, Status::Refused),
         Ok(design) => put_design(sink, &design),
     }
 }

@@ -9,6 +9,7 @@ mod options;
 mod program;
 mod put;
 mod refusals;
+mod schedule;
 mod sim;
 mod simulation;
 mod size_word;

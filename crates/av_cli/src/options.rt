@@ -2,15 +2,19 @@
 
 ghost use Rattle.std.specs.Prelude.{◌≡◌, ◌<◌, ◌≤◌, ◌↔◌, ℕ, List, Some, None, codes, drop, length, IsTrue, IfSome, IfNone};
 ghost use Rattle.std.specs.List.{AllByRecursion};
-ghost use Rattle.av_cli.specs.Commands.{Options as Said, Say, IsOption, IsSize, SpellsUpTo, no_options, having_width, having_box, given_or, default_width};
+ghost use Rattle.av_cli.specs.Commands.{Options as Said, Say, IsOption, IsSize, SpellsUpTo, no_options, having_width, having_box, given_or, default_width, default_box};
 ghost use Rattle.av_cli.specs.CommandsSeen.{seen};
 
 use crate::numbers::number_up_to;
 use crate::size_word::is_size;
 use av_base::{Name, Width};
+use av_flat::Reach;
 
 // Bits of a word where no option gives them.
 const DEFAULT_BITS: u32 = 32;
+
+// The box where no option gives it.
+const DEFAULT_BOX: u32 = 2;
 
 const MOST_BITS: u32 = 64;
 
@@ -20,7 +24,7 @@ const LARGEST_BOX: u32 = 4;
 #[derive(Clone, Copy, Debug)]
 pub(crate) struct Options {
     pub(crate) width: Option<Width>,
-    pub(crate) box_size: Option<u32>,
+    pub(crate) reach: Option<Reach>,
 }
 
 /// The options of the words from this place on, among which sizes may stand. `None` says that the words are not read.
@@ -31,7 +35,7 @@ pub(crate) fn read_options(words: &[Name], from: usize) -> Option<Options>
 {
     let mut options = Options {
         width: None,
-        box_size: None,
+        reach: None,
     };
     let mut at = from;
     while at < words.len() {
@@ -124,7 +128,7 @@ impl Options {
         let width = Width::new(bits)?;
         Some(Options {
             width: Some(width),
-            box_size: self.box_size,
+            reach: self.reach,
         })
     }
 
@@ -133,13 +137,14 @@ impl Options {
         ensures with { IfSome result (λ o. ((seen self).box ≡ None) × ((n : ℕ) × SpellsUpTo 4 digits.now n × (seen o ≡ having_box (seen self) n))) }
         ensures none { IfNone result ((n : ℕ) → (seen self).box ≡ None → SpellsUpTo 4 digits.now n → ⊥) }
     {
-        if self.box_size.is_some() {
+        if self.reach.is_some() {
             return None;
         }
         let size = number_up_to(LARGEST_BOX, digits)?;
+        let reach = Reach::new(size)?;
         Some(Options {
             width: self.width,
-            box_size: Some(size),
+            reach: Some(reach),
         })
     }
 
@@ -151,6 +156,17 @@ impl Options {
         match self.width {
             Some(width) => Some(width),
             None => Width::new(DEFAULT_BITS),
+        }
+    }
+
+    /// The box that is given, or that of size 2.
+    pub(crate) fn reach_or_default(self) -> Option<Reach>
+        ensures given { IfSome result (λ reach. reach.size ≡ given_or default_box (seen self).box) }
+        ensures some { IfNone result ⊥ }
+    {
+        match self.reach {
+            Some(reach) => Some(reach),
+            None => Reach::new(DEFAULT_BOX),
         }
     }
 }

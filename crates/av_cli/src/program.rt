@@ -8,6 +8,7 @@ ghost use Rattle.av_cli.specs.CommandsSeen.{Are};
 use crate::check::check;
 use crate::emit::emit;
 use crate::put::put;
+use crate::schedule::schedule;
 use crate::sim::sim;
 use crate::status::Status;
 use crate::words::{Command, read_words};
@@ -38,7 +39,7 @@ pub fn alphav<S: Source, K: Sink>(
     ensures write_fault { result ≡ Status.WriteFault → HasRisen (K.faults sink.old) (K.faults sink.new) × AddsFront words.now (S.left source.old) (S.left source.new) (K.held sink.old) (K.held sink.new) }
     ensures memory { result ≡ Status.Memory → K.held sink.new ≡ K.held sink.old }
 
-    // With no fault the words and the source's bytes fix the status, but for want of memory.
+    // With no fault the words and the source's bytes fix the status, unless memory runs out.
     ensures complete { (HasRisen (S.faults source.old) (S.faults source.new) → ⊥) → (HasRisen (K.faults sink.old) (K.faults sink.new) → ⊥)
         → IsComplete words.now (S.left source.old) result }
 {
@@ -67,6 +68,7 @@ fn answer<K: Sink>(
 {
     match command {
         Command::Check { width } => check(alloc, words, bytes, width, sink),
+        Command::Schedule { width, reach } => { schedule(alloc, words, bytes, width, reach, sink) }
         Command::Emit { width } => emit(alloc, bytes, width, sink),
         Command::Sim => sim(alloc, bytes, sink),
     }

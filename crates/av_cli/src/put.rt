@@ -2,9 +2,11 @@
 
 ghost use Rattle.std.specs.Prelude.{◌≡◌};
 ghost use Rattle.av_net.specs.Texts.{text};
+ghost use Rattle.av_flat.specs.Legal.{IsLegal};
+ghost use Rattle.av_data.specs.Schedules.{schedule_text};
 ghost use Rattle.av_vread.specs.declared.fault.VFault.TheVariants as text_fault;
 ghost use Rattle.av_data.specs.declared.fault.DataFault.TheVariants as data_fault;
-ghost use Rattle.av_compile.specs.declared.text_refusal.TextRefusal.TheVariants as system_refusal;
+ghost use Rattle.av_compile.specs.declared.refusal.Refusal.TheVariants as system_refusal;
 ghost use Rattle.av_cli.specs.Refusals.{refusal_line, text_reason, data_reason, IsOfStimulus};
 ghost use Rattle.av_cli.specs.SystemRefusals.{system_reason};
 ghost use Rattle.av_cli.specs.Written.{IsPut};
@@ -13,8 +15,9 @@ use crate::refusals::{write_data_refusal, write_text_refusal};
 use crate::status::Status;
 use crate::system_refusals::write_system_refusal;
 use av_base::{Sink, write_all};
-use av_compile::TextRefusal;
-use av_data::DataFault;
+use av_compile::Refusal;
+use av_data::{DataFault, write_schedule};
+use av_flat::Timed;
 use av_net::Design;
 use av_vread::VFault;
 use av_vtext::write_design;
@@ -39,7 +42,18 @@ pub(crate) fn put_design<K: Sink>(sink: &mut K, design: &Design) -> Status
     }
 }
 
-/// Adds the line of the refusal of a design text. Want of memory has no line: the status tells it.
+/// Adds the lines of the schedule.
+pub(crate) fn put_schedule<K: Sink>(sink: &mut K, timed: &Timed) -> Status
+    requires { IsLegal timed.now }
+    ensures { IsPut (K.held sink.old) (K.held sink.new) (K.faults sink.old) (K.faults sink.new) (schedule_text timed.now) Status.Done result }
+{
+    match write_schedule(timed, sink) {
+        Ok(()) => Status::Done,
+        Err(_) => Status::WriteFault,
+    }
+}
+
+/// Adds the line of the refusal of a design text. Out of memory has no line: the status tells it.
 pub(crate) fn put_text_refusal<K: Sink>(sink: &mut K, fault: &VFault) -> Status
     ensures memory { fault.now ≡ text_fault.Memory → (result ≡ Status.Memory) × (K.held sink.new ≡ K.held sink.old) }
     ensures refused { (fault.now ≡ text_fault.Memory → ⊥) → IsPut (K.held sink.old) (K.held sink.new) (K.faults sink.old) (K.faults sink.new) (refusal_line (text_reason fault.now)) Status.Refused result }
@@ -53,7 +67,7 @@ pub(crate) fn put_text_refusal<K: Sink>(sink: &mut K, fault: &VFault) -> Status
     }
 }
 
-/// Adds the line of the refusal of a stimulus. Want of memory has no line: the status tells it.
+/// Adds the line of the refusal of a stimulus. Out of memory has no line: the status tells it.
 pub(crate) fn put_data_refusal<K: Sink>(sink: &mut K, fault: &DataFault) -> Status
     requires { IsOfStimulus fault.now }
     ensures memory { fault.now ≡ data_fault.Memory → (result ≡ Status.Memory) × (K.held sink.new ≡ K.held sink.old) }
@@ -68,13 +82,13 @@ pub(crate) fn put_data_refusal<K: Sink>(sink: &mut K, fault: &DataFault) -> Stat
     }
 }
 
-/// Adds the line of the refusal of an Alpha text. Want of memory has no line: the status tells it.
-pub(crate) fn put_system_refusal<K: Sink>(sink: &mut K, refusal: &TextRefusal) -> Status
+/// Adds the line of the refusal of an Alpha text. Out of memory has no line: the status tells it.
+pub(crate) fn put_system_refusal<K: Sink>(sink: &mut K, refusal: &Refusal) -> Status
     ensures memory { refusal.now ≡ system_refusal.Memory → (result ≡ Status.Memory) × (K.held sink.new ≡ K.held sink.old) }
     ensures refused { (refusal.now ≡ system_refusal.Memory → ⊥) → IsPut (K.held sink.old) (K.held sink.new) (K.faults sink.old) (K.faults sink.new) (refusal_line (system_reason refusal.now)) Status.Refused result }
 {
     match refusal {
-        TextRefusal::Memory => Status::Memory,
+        Refusal::Memory => Status::Memory,
         _ => match write_system_refusal(refusal, sink) {
             Ok(()) => Status::Refused,
             Err(_) => Status::WriteFault,

@@ -60,7 +60,7 @@ fn targets(alloc: Global, drives: &[Drive]) -> Result<Places<'_>, Memory>
     Ok(targets)
 }
 
-// The place of a name, as a number of 32 bits. So many names that it is greater count as want of memory.
+// The place of a name, as a number of 32 bits. With so many names that it is greater the answer is out of memory.
 fn place_of(targets: &Places, name: &Name) -> Result<u32, Memory>
     requires { Contains targets.now name.now }
     ensures { IfOk result (λ place. slice_get targets.now place ≡ Some name.now) }

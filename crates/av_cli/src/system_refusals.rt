@@ -8,7 +8,7 @@ ghost use Rattle.av_cli.specs.SystemRefusals.{quantity_text, named_point, blame_
 
 use crate::refusals::{put_name, put_place};
 use av_base::{Name, Place, Point, Sink, WriteFault};
-use av_compile::TextRefusal;
+use av_compile::Refusal;
 use av_flat::Quantity;
 use av_page::Page;
 use av_vtext::write_point;
@@ -87,53 +87,54 @@ fn put_limit<K: Sink>(page: &mut Page, sink: &mut K, kind: Quantity, amount: u12
     put_amount(page, sink, " ", amount);
 }
 
-fn put_reason<K: Sink>(page: &mut Page, sink: &mut K, refusal: &TextRefusal)
+fn put_reason<K: Sink>(page: &mut Page, sink: &mut K, refusal: &Refusal)
     ensures { Puts (K.held sink.old) (K.held sink.new) (K.faults sink.old) (K.faults sink.new) page.old page.new (system_reason refusal.now) }
 {
     match refusal {
-        TextRefusal::BadByte(place) => put_place(page, sink, "bad byte ", *place),
-        TextRefusal::Number(place) => put_place(page, sink, "number ", *place),
-        TextRefusal::Syntax(place) => put_place(page, sink, "syntax ", *place),
-        TextRefusal::Depth(place) => put_place(page, sink, "depth ", *place),
-        TextRefusal::Repeated(name, at) => put_name_and_place(page, sink, "repeated ", name, *at),
-        TextRefusal::SizeTwice(name) => put_name(page, sink, "size twice ", name),
-        TextRefusal::SizeUnknown(name) => put_name(page, sink, "size unknown ", name),
-        TextRefusal::SizeMissing(name) => put_name(page, sink, "size missing ", name),
-        TextRefusal::Unknown(name, at) => put_name_and_place(page, sink, "unknown ", name, *at),
-        TextRefusal::DefinesInput(name, at) => {
+        Refusal::BadByte(place) => put_place(page, sink, "bad byte ", *place),
+        Refusal::Number(place) => put_place(page, sink, "number ", *place),
+        Refusal::Syntax(place) => put_place(page, sink, "syntax ", *place),
+        Refusal::Depth(place) => put_place(page, sink, "depth ", *place),
+        Refusal::Repeated(name, at) => put_name_and_place(page, sink, "repeated ", name, *at),
+        Refusal::SizeTwice(name) => put_name(page, sink, "size twice ", name),
+        Refusal::SizeUnknown(name) => put_name(page, sink, "size unknown ", name),
+        Refusal::SizeMissing(name) => put_name(page, sink, "size missing ", name),
+        Refusal::Unknown(name, at) => put_name_and_place(page, sink, "unknown ", name, *at),
+        Refusal::DefinesInput(name, at) => {
             put_name_and_place(page, sink, "defines input ", name, *at)
         }
-        TextRefusal::SecondEquation(name, at) => {
+        Refusal::SecondEquation(name, at) => {
             put_name_and_place(page, sink, "second equation ", name, *at)
         }
-        TextRefusal::NoEquation(name, at) => {
+        Refusal::NoEquation(name, at) => {
             put_name_and_place(page, sink, "no equation ", name, *at)
         }
-        TextRefusal::Arity(place) => put_place(page, sink, "arity ", *place),
-        TextRefusal::Projection(place) => put_place(page, sink, "projection ", *place),
-        TextRefusal::CaseInReduce(place) => put_place(page, sink, "case in reduce ", *place),
-        TextRefusal::DependOnReduce(place) => {
-            put_place(page, sink, "dependence on reduce ", *place)
-        }
-        TextRefusal::Limit(kind, amount) => put_limit(page, sink, *kind, *amount),
-        TextRefusal::SizeOutside => page.put(sink, "size outside"),
-        TextRefusal::Pieces(amount) => put_amount(page, sink, "pieces ", *amount),
-        TextRefusal::Unbounded(name) => put_name(page, sink, "unbounded ", name),
-        TextRefusal::Uncovered {
+        Refusal::Arity(place) => put_place(page, sink, "arity ", *place),
+        Refusal::Projection(place) => put_place(page, sink, "projection ", *place),
+        Refusal::CaseInReduce(place) => put_place(page, sink, "case in reduce ", *place),
+        Refusal::DependOnReduce(place) => { put_place(page, sink, "dependence on reduce ", *place) }
+        Refusal::Limit(kind, amount) => put_limit(page, sink, *kind, *amount),
+        Refusal::SizeOutside => page.put(sink, "size outside"),
+        Refusal::Pieces(amount) => put_amount(page, sink, "pieces ", *amount),
+        Refusal::Unbounded(name) => put_name(page, sink, "unbounded ", name),
+        Refusal::Uncovered {
             variable,
             point,
             outside,
         } => put_uncovered(page, sink, variable, point, outside),
-        TextRefusal::TwoBranches { variable, point } => {
+        Refusal::TwoBranches { variable, point } => {
             put_named_point(page, sink, "two branches ", variable, point)
         }
-        TextRefusal::Memory => page.put(sink, ""),
+        Refusal::NonUnit(name) => put_name(page, sink, "non unit ", name),
+        Refusal::Candidates(amount) => put_amount(page, sink, "candidates ", *amount),
+        Refusal::NoSchedule(name) => put_name(page, sink, "no schedule ", name),
+        Refusal::Memory => page.put(sink, ""),
     }
 }
 
 /// Writes the line of the refusal of an Alpha text.
 pub(crate) fn write_system_refusal<K: Sink>(
-    refusal: &TextRefusal,
+    refusal: &Refusal,
     sink: &mut K,
 ) -> Result<(), WriteFault>
     ensures added { OnOk result (Adds (K.held sink.old) (K.held sink.new) (refusal_line (system_reason refusal.now))) }

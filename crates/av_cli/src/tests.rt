@@ -136,6 +136,7 @@ const USAGE: &str =
 
 mod checks;
 mod pieces;
+mod schedules;
 mod sims;
 mod stimuli;
 

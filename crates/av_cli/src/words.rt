@@ -1,15 +1,18 @@
 ghost use Rattle.std.specs.Prelude.{◌≡◌, ◌<◌, ◌↔◌, drop, length, IsTrue, IfSome, IfNone};
-ghost use Rattle.av_cli.specs.Commands.{Options as Said, Say, AreRead, IsBare, no_options, given_or, default_width};
+ghost use Rattle.av_cli.specs.Commands.{Options as Said, Say, AreRead, IsBare, no_options, given_or, default_width, default_box};
 ghost use Rattle.av_cli.specs.CommandsSeen.{Are};
 
 use crate::options::read_options;
 use av_base::{Name, Width};
+use av_flat::Reach;
 
 /// What the words ask for.
 #[derive(Clone, Copy, Debug)]
 pub enum Command {
     /// Whether a system has each declared point exactly once. Its sizes stand in the words.
     Check { width: Width },
+    /// The first schedule of a system in a box. Its sizes stand in the words.
+    Schedule { width: Width, reach: Reach },
     /// The text of a design, whose words have this width.
     Emit { width: Width },
     /// The run of a module under a stimulus.
@@ -26,6 +29,10 @@ pub fn read_words(words: &[Name]) -> Option<Command>
         "check" => Some(Command::Check {
             width: read_width(words)?,
         }),
+        "schedule" => {
+            let (width, reach) = read_width_and_reach(words)?;
+            Some(Command::Schedule { width, reach })
+        }
         "emit" => Some(Command::Emit {
             width: read_width(words)?,
         }),
@@ -41,6 +48,16 @@ fn read_width(words: &[Name]) -> Option<Width>
     ensures unread { IfNone result ((o : Said) → Say no_options (drop 1 words.now) o → ⊥) }
 {
     read_options(words, 1)?.width_or_default()
+}
+
+// The width of words and the box that the options behind the first word give.
+fn read_width_and_reach(words: &[Name]) -> Option<(Width, Reach)>
+    requires { 0 < length words.now }
+    ensures read { IfSome result (λ x. (o : Said) × Say no_options (drop 1 words.now) o × (x.0.bits ≡ given_or default_width o.width) × (x.1.size ≡ given_or default_box o.box)) }
+    ensures unread { IfNone result ((o : Said) → Say no_options (drop 1 words.now) o → ⊥) }
+{
+    let options = read_options(words, 1)?;
+    Some((options.width_or_default()?, options.reach_or_default()?))
 }
 
 // Nothing but `--` stands behind the first word.

@@ -31,7 +31,7 @@ pub record IsFor (m : Module) (n : ℕ) (flip_flop : FlipFlop) : Type 0 where
   pub stepped : IsStepped m step flip_flop
 
 -- the n-th flip-flop is for the n-th step
-is_for : (m : Module) (n : ℕ) (flip_flops : List FlipFlop) (flip_flop : FlipFlop) → AreStepped m (length m.steps) flip_flops → n < length flip_flops → flip_flop ≡ get_or flip_flops n flip_flop → IsFor m n flip_flop
+pub is_for : (m : Module) (n : ℕ) (flip_flops : List FlipFlop) (flip_flop : FlipFlop) → AreStepped m (length m.steps) flip_flops → n < length flip_flops → flip_flop ≡ get_or flip_flops n flip_flop → IsFor m n flip_flop
 is_for m n flip_flops flip_flop are lt at = elim (slice_get_cases m.steps n).1 [
   | inl (step, within, found, here) ↦ record {
     step = step;
@@ -55,6 +55,13 @@ past_items m m' items flip_flops n view same are past =
     let long : length items ≡ length flip_flops = ap length same in
     let steps : length m'.steps ≡ length m.steps = ap (λ (m : Module). length m.steps) view in
     omega arith
+
+-- the same, of one that was read by its place
+pub for_place : (m m' : Module) (flip_flops : List FlipFlop) (n : ℕ) (flip_flop : FlipFlop) → m' ≡ m → AreStepped m' (length m'.steps) flip_flops → n < length m.steps → flip_flop ≡ get_or flip_flops n flip_flop → IsFor m n flip_flop
+for_place m m' flip_flops n flip_flop view are lt at =
+    let P : Module → Type 0 = λ m. AreStepped m (length m.steps) flip_flops in
+    let are' = subst P view are in
+    is_for m n flip_flops flip_flop are' (rw are'.count lt) at
 
 -- what a flip-flop reads is there
 pub next_within : (m : Module) (words : List ℕ) (n : ℕ) (flip_flop : FlipFlop) → length words ≡ length (all_names m) → IsFor m n flip_flop → IsWithin (length words) flip_flop.next
@@ -116,7 +123,7 @@ pub record Stores (m : Module) (before words next : List ℕ) (n : ℕ) : Type 0
   pub fit : AllFit m words
 
 -- two steps have two registers
-registers_apart : (m : Module) (k n : ℕ) (d e : Step) → IsSound m → k < n → n < length m.steps → (get_or m.steps k d).register ≢ (get_or m.steps n e).register
+pub registers_apart : (m : Module) (k n : ℕ) (d e : Step) → IsSound m → k < n → n < length m.steps → (get_or m.steps k d).register ≢ (get_or m.steps n e).register
 registers_apart m k n d e sound lt within same =
     let names = registers_of m.steps in
     let register = (get_or m.steps n e).register in
@@ -173,3 +180,10 @@ no_flip_flop = record { register = 0; reset = 0; next = At 0 }
 -- a flip-flop that was read by its place
 pub for_read : (m m' : Module) (items flip_flops : List FlipFlop) (n : ℕ) → m' ≡ m → items ≡ flip_flops → AreStepped m' (length m'.steps) flip_flops → n < length items → IsFor m n (get_or items n no_flip_flop)
 for_read m m' items flip_flops n view same are lt = for_item m m' items flip_flops n (get_or items n no_flip_flop) view same are lt (get_or_default items n no_flip_flop (get_or items n no_flip_flop) lt)
+
+-- each step is taken at its own place
+pub taken_itself : (taken : List ℕ) (n : ℕ) → n < length taken → ((j : ℕ) → j < n → get_or taken j 0 ≡ j) → (j : ℕ) → j < n + 1 → get_or (set taken n n) j 0 ≡ j
+taken_itself taken n lt so_far j below = elim (cases_lt j n) [
+  | inl before ↦ let other : j ≢ n = omega arith in get_or-set_other taken n j n 0 other ∙ so_far j before
+  | inr now ↦ let same : j ≡ n = omega arith in ap (λ i. get_or (set taken n n) i 0) same ∙ get_or-set_same taken n n 0 lt ∙ sym same
+]

@@ -6,3 +6,7 @@ pub mod Edges
 pub mod Views
 pub mod SampleSound
 pub mod Runs
+pub mod Marking
+pub mod Reading
+pub mod Held
+pub mod Taking

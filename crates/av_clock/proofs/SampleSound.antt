@@ -1,4 +1,4 @@
--- The module of the tests is sound.
+-- The modules of the tests are sound.
 use Rattle.std.proofs.Common.{◌≡◌, ℕ, ◌<◌, ◌^◌, List, [], ◌∷◌, ◌++◌, refl, sym, subst, arith, Bool, true, false, ◌&&◌}
 use Rattle.std.specs.Prelude.{All, Contains, codes}
 use Rattle.std.specs.List.{AllByRecursion}
@@ -13,7 +13,7 @@ use Rattle.av_net.specs.Meaning.{EachOperand, operand_width}
 use Rattle.av_net.specs.Names.{clk, rst, names_of, given_names, wire_names, all_names, targets_of, registers_of, IsAmong, width_of}
 use Rattle.av_net.specs.Sound.{IsSound, IsFitting, SuitsWidth, ComparesByOrder}
 use Rattle.av_net.proofs.Tested.{is_among, contains_tested, distinct_tested}
-use Rattle.av_clock.specs.Sample.{sample_inputs, sample_wires, sample_outputs, sample_registers, sample_drives, sample_steps, sample_module}
+use Rattle.av_clock.specs.Sample.{sample_inputs, sample_wires, sample_outputs, sample_registers, sample_drives, sample_steps, sample_module, still_ports, still_drives, still_steps, still_module}
 
 -- whether each of some names is among others
 are_among : List (List ℕ) → List (List ℕ) → Bool
@@ -115,3 +115,33 @@ pub made_sound : (one four eight : Width) (name : List ℕ) (inputs outputs wire
 made_sound one four eight name inputs outputs wires registers drives steps e1 e4 e8 n i o w r d s =
     let same : IsModule (record { name = name; inputs = inputs; outputs = outputs; wires = wires; registers = registers; drives = drives; steps = steps }) (sample_module one four eight) = rw (n, i, o, w, r, d, s) refl in
     subst IsSound (sym same) (sample_sound one four eight e1 e4 e8)
+
+pub still_sound : (four : Width) → four.bits ≡ 4 → IsSound (still_module four)
+unfolding are_among
+still_sound four e4 =
+    let m = still_module four in
+    let f3 : 3 < 2 ^ four.bits = rw e4 (omega arith) in
+    record {
+      declared_once = distinct_tested (clk ∷ rst ∷ all_names m) refl;
+      driven_once = distinct_tested (targets_of m.drives ++ registers_of m.steps) refl;
+      drives_wires = all_tested (wire_names m) (targets_of m.drives) refl;
+      steps_registers = all_tested (names_of m.registers) (registers_of m.steps) refl;
+      drives_read = All-from_recursion (λ (drive : Drive). EachOperand (IsAmong (all_names m)) drive.operation) m.drives (contains_tested (all_names m) (codes "a") refl, tt);
+      steps_read = All-from_recursion (λ (step : Step). IsAmong (all_names m) step.next) m.steps (contains_tested (all_names m) (codes "a") refl, tt);
+      wires_driven = all_tested (targets_of m.drives) (wire_names m) refl;
+      registers_stepped = all_tested (registers_of m.steps) (names_of m.registers) refl;
+      in_order = (contains_tested (given_names m) (codes "a") refl, tt);
+      drive_widths = All-from_recursion (λ (drive : Drive). SuitsWidth (width_of m) (width_of m drive.target) drive.operation) m.drives (refl, tt);
+      step_widths = All-from_recursion (λ (step : Step). operand_width (width_of m) step.next ≡ width_of m step.register) m.steps (refl, tt);
+      drives_fit = All-from_recursion (λ (drive : Drive). EachOperand IsFitting drive.operation) m.drives (tt, tt);
+      steps_fit = All-from_recursion (λ (step : Step). IsFitting step.next) m.steps (tt, tt);
+      resets_fit = All-from_recursion (λ (step : Step). IsWord (width_of m step.register) step.reset) m.steps (f3, tt);
+      orders = All-from_recursion (λ (drive : Drive). ComparesByOrder drive.operation) m.drives (tt, tt);
+    }
+
+pub made_still : (four : Width) (name : List ℕ) (inputs outputs wires registers : List Port) (drives : List Drive) (steps : List Step) → four.bits ≡ 4
+    → name ≡ codes "still" → inputs ≡ [] → outputs ≡ still_ports (codes "o0") four → wires ≡ [] → registers ≡ still_ports (codes "a") four → drives ≡ still_drives → steps ≡ still_steps
+    → IsSound (record { name = name; inputs = inputs; outputs = outputs; wires = wires; registers = registers; drives = drives; steps = steps })
+made_still four name inputs outputs wires registers drives steps e4 n i o w r d s =
+    let same : IsModule (record { name = name; inputs = inputs; outputs = outputs; wires = wires; registers = registers; drives = drives; steps = steps }) (still_module four) = rw (n, i, o, w, r, d, s) refl in
+    subst IsSound (sym same) (still_sound four e4)

@@ -127,6 +127,13 @@ for_item m m' items assignments n assignment view same are lt at =
     let P : Module → Type 0 = λ m. AreAssigned m (length m.drives) assignments in
     is_for m n assignments assignment (subst P view are) (rw same at lt) (rw same at at)
 
+-- the same, of one that was read by its place
+pub for_read : (m m' : Module) (assignments : List Assignment) (n : ℕ) (assignment : Assignment) → m' ≡ m → AreAssigned m' (length m'.drives) assignments → n < length m.drives → assignment ≡ get_or assignments n assignment → IsFor m n assignment
+for_read m m' assignments n assignment view are lt at =
+    let P : Module → Type 0 = λ m. AreAssigned m (length m.drives) assignments in
+    let are' = subst P view are in
+    is_for m n assignments assignment are' (rw are'.count lt) at
+
 -- after the last of them
 pub past_items : (m m' : Module) (items assignments : List Assignment) (n : ℕ) → m' ≡ m → items ≡ assignments → AreAssigned m' (length m'.drives) assignments → length items ≤ n → length m.drives ≤ n
 past_items m m' items assignments n view same are past =

@@ -1,6 +1,6 @@
 -- From the fields of a clock to what is seen of it.
-use Rattle.std.proofs.Common.{◌≡◌, ◌≢◌, ℕ, ◌<◌, List, ◌++◌, length, get_or, set, slice_get, Option, Some, None, refl, sym, ◌∙◌, ap, subst, arith, Bool, true, false, Vec, inl, inr, replicate, length-append}
-use Rattle.std.specs.Prelude.{IfSome, IsTrue}
+use Rattle.std.proofs.Common.{◌≡◌, ◌≢◌, ℕ, ◌+◌, ◌-◌, ◌^◌, ◌<◌, ◌≤◌, min, List, ◌++◌, length, get_or, set, slice_get, Option, Some, None, refl, sym, ◌∙◌, ap, subst, arith, Bool, true, false, Vec, inl, inr, replicate, length-append}
+use Rattle.std.specs.Prelude.{Contains, IfSome, IsTrue}
 use Rattle.std.specs.Option.{ForSome}
 use Rattle.std.specs.declared.alloc.Global.{Global}
 use Rattle.std.specs.Vec.{with_items}
@@ -9,7 +9,7 @@ use Rattle.std.proofs.lemmas.Bool.{cases_lt}
 use Rattle.std.proofs.lemmas.Nat.{pow_pos}
 use Rattle.std.proofs.lemmas.Grind.{get_or_default_zero}
 use Rattle.std.proofs.lemmas.List.{with_items_is, get_or-map, length-map, get_or-replicate, length-replicate, get_or_past}
-use Rattle.std.proofs.lemmas.List.Elements.{All-contains}
+use Rattle.std.proofs.lemmas.List.Elements.{All-contains, Contains-append_left}
 use Rattle.std.proofs.lemmas.Option.{slice_get-get_or, slice_get_within, slice_get_cases, get_or_from_slice_get}
 use Rattle.av_base.specs.Words.{IsWord}
 use Rattle.av_net.specs.declared.netlist.Port.{Port}
@@ -17,15 +17,20 @@ use Rattle.av_net.specs.declared.netlist.Drive.{Drive}
 use Rattle.av_net.specs.declared.netlist.Step.{Step}
 use Rattle.av_net.specs.declared.netlist.Module.{Module}
 use Rattle.av_net.specs.Meaning.{Words}
-use Rattle.av_net.specs.Names.{names_of, wire_names, all_names, width_of}
+use Rattle.av_net.specs.Names.{AreDistinct, names_of, given_names, wire_names, all_names, width_of}
 use Rattle.av_net.specs.Settled.{Settled, Agree}
 use Rattle.av_net.specs.Clocked.{Edge}
 use Rattle.av_net.specs.Sound.{IsSound}
+use Rattle.av_net.proofs.Cycles.{is_declared, register_contained}
 use Rattle.av_net.proofs.Declared.{declared_width, input_declared}
+use Rattle.av_net.proofs.Distinct.{apart, front_distinct}
 use Rattle.av_net.proofs.Settles.{with_word, with_word_same, with_word_other, names_distinct}
 use Rattle.av_clock.specs.Named.{named, AllFit}
 use Rattle.av_clock.specs.Gates.{AreTaken, FitRegisters}
 use Rattle.av_clock.specs.Seen.{Seen, carried}
+use Rattle.av_clock.specs.Marked.{IsClear, AreHeld, ReadTheSame}
+use Rattle.av_clock.proofs.Held.{given_apart}
+use Rattle.av_clock.proofs.Marking.{none_clear}
 use Rattle.av_clock.proofs.Lookup.{look_at, look_set, look_zero, contains_at}
 use Rattle.av_clock.proofs.Settling.{fit_with}
 use Rattle.av_clock.proofs.Edges.{next_fits, reset_fits}
@@ -41,7 +46,7 @@ zeros_fit m n k d lt =
     rw word (pow_pos (width_of m name))
 
 -- the words after a call that was lent them as a slice
-new_items : (v : Vec ℕ Global) (before new : List ℕ) → length new ≡ length before → before ≡ v.items → (with_items v new).items ≡ new
+pub new_items : (v : Vec ℕ Global) (before new : List ℕ) → length new ≡ length before → before ≡ v.items → (with_items v new).items ≡ new
 new_items v before new same is = with_items_is v new (same ∙ ap length is ∙ sym v.ok.0)
 
 -- there are as many
@@ -53,9 +58,9 @@ pub settled_call : (m : Module) (v : Vec ℕ Global) (before new : List ℕ) →
 settled_call m v before new same is h = let P : List ℕ → Type 0 = λ words. Settled m (named m words) in subst P (sym (new_items v before new same is)) h
 
 -- and what it says of both
-pub agree_call : (s : Seen) (m : Module) (v : Vec ℕ Global) (before new : List ℕ) (names : List (List ℕ)) (b : Bool) → record { of = m; words = v.items; settled = b } ≡ s → length new ≡ length before → before ≡ v.items
+pub agree_call : (s : Seen) (m : Module) (v : Vec ℕ Global) (before new : List ℕ) (names : List (List ℕ)) (b : Bool) (w : ℕ) → record { of = m; words = v.items; settled = b; work = w } ≡ s → length new ≡ length before → before ≡ v.items
     → Agree names (named m before) (named m new) → Agree names (carried s) (named m (with_items v new).items)
-agree_call s m v before new names b view same is h =
+agree_call s m v before new names b w view same is h =
     let P : List ℕ → Type 0 = λ words. Agree names (named m v.items) (named m words) in
     let Q : Seen → Type 0 = λ t. Agree names (carried t) (named m (with_items v new).items) in
     let R : List ℕ → Type 0 = λ words. Agree names (named m words) (named m new) in
@@ -74,6 +79,16 @@ port_at m k port at =
     let name : (get_or m.inputs k port).name ≡ port.name = ap (λ (port : Port). port.name) (get_or_from_slice_get m.inputs k port port at) in
     slice_get-get_or (all_names m) k port.name lt''
     ∙ ap Some (get_or-append (inputs ++ registers) (wire_names m) port.name k lt' ∙ get_or-append inputs registers port.name k (omega arith) ∙ here ∙ name)
+
+-- and among the names of the inputs
+input_at : (m : Module) (k : ℕ) (port : Port) → slice_get m.inputs k ≡ Some port → slice_get (names_of m.inputs) k ≡ Some port.name
+input_at m k port at =
+    let lt : k < length m.inputs = slice_get_within m.inputs k port at in
+    let inputs = names_of m.inputs in
+    let count : length inputs ≡ length m.inputs = length-map m.inputs (λ (port : Port). port.name) in
+    let here : get_or inputs k port.name ≡ (get_or m.inputs k port).name = get_or-map (λ (port : Port). port.name) m.inputs k port port.name lt in
+    let name : (get_or m.inputs k port).name ≡ port.name = ap (λ (port : Port). port.name) (get_or_from_slice_get m.inputs k port port at) in
+    slice_get-get_or inputs k port.name (omega arith) ∙ ap Some (here ∙ name)
 
 -- a word at a port
 port_set : (m : Module) (words : List ℕ) (k value : ℕ) (port : Port) → IsSound m → length words ≡ length (all_names m) → slice_get m.inputs k ≡ Some port → named m (set words k value) ≡ with_word (named m words) port.name value
@@ -95,30 +110,30 @@ if_some None P h = tt
 if_some (Some x) P h = h x refl
 
 -- the port has the word
-pub set_port : (s : Seen) (m : Module) (words : List ℕ) (b : Bool) (k value : ℕ) → record { of = m; words = words; settled = b } ≡ s → IsSound m → length words ≡ length (all_names m) → IfSome (slice_get s.of.inputs k) (λ port. named m (set words k value) port.name ≡ value)
-set_port s m words b k value view sound same =
+pub set_port : (s : Seen) (m : Module) (words : List ℕ) (b : Bool) (w : ℕ) (k value : ℕ) → record { of = m; words = words; settled = b; work = w } ≡ s → IsSound m → length words ≡ length (all_names m) → IfSome (slice_get s.of.inputs k) (λ port. named m (set words k value) port.name ≡ value)
+set_port s m words b w k value view sound same =
     let of : m ≡ s.of = ap (λ (s : Seen). s.of) view in
     if_some (slice_get s.of.inputs k) (λ port. named m (set words k value) port.name ≡ value) (λ port at.
     let wrote = port_set m words k value port sound same (rw of at) in
     rw wrote (with_word_same (named m words) port.name value))
 
 -- and every other name its own
-pub set_others : (s : Seen) (m : Module) (words : List ℕ) (b : Bool) (k value : ℕ) → record { of = m; words = words; settled = b } ≡ s → IsSound m → length words ≡ length (all_names m)
+pub set_others : (s : Seen) (m : Module) (words : List ℕ) (b : Bool) (w : ℕ) (k value : ℕ) → record { of = m; words = words; settled = b; work = w } ≡ s → IsSound m → length words ≡ length (all_names m)
     → IfSome (slice_get s.of.inputs k) (λ port. (name : List ℕ) → name ≢ port.name → named m (set words k value) name ≡ carried s name)
-set_others s m words b k value view sound same =
+set_others s m words b w k value view sound same =
     let of : m ≡ s.of = ap (λ (s : Seen). s.of) view in
     if_some (slice_get s.of.inputs k) (λ port. (name : List ℕ) → name ≢ port.name → named m (set words k value) name ≡ carried s name) (λ port at name other.
     let wrote = port_set m words k value port sound same (rw of at) in
     rw wrote (with_word_other (named m words) port.name value name other ∙ ap (λ (s : Seen). carried s name) view))
 
 -- the words after an edge: `given` are the words that the registers take, `read` the same in the clock's own room
-pub edge_call : (s : Seen) (m : Module) (v u : Vec ℕ Global) (reset b : Bool) (seen given room read lent new : List ℕ) → record { of = m; words = v.items; settled = b } ≡ s
+pub edge_call : (s : Seen) (m : Module) (v u : Vec ℕ Global) (reset b : Bool) (w : ℕ) (seen given room read lent new : List ℕ) → record { of = m; words = v.items; settled = b; work = w } ≡ s
     → seen ≡ v.items → AreTaken m reset (named m seen) (length m.steps) given
     → length given ≡ length room → room ≡ u.items → read ≡ (with_items u given).items
     → length new ≡ length lent → lent ≡ v.items
     → ((k : ℕ) → k < length m.steps → (d : Step) → named m new (get_or m.steps k d).register ≡ get_or read k 0)
     → Edge m reset (carried s) (named m (with_items v new).items)
-edge_call s m v u reset b seen given room read lent new view same taken long own is same' own' stored k d lt =
+edge_call s m v u reset b w seen given room read lent new view same taken long own is same' own' stored k d lt =
     let register = (get_or m.steps k d).register in
     let P : List ℕ → Type 0 = λ words. AreTaken m reset (named m words) (length m.steps) given in
     let Q : Seen → Type 0 = λ t. AreTaken m reset (carried t) (length m.steps) given in
@@ -154,36 +169,137 @@ value_within m v k place same lt at = elim (slice_get_cases m.drives k).1 [
 ]
 
 -- its word is the one that is seen
-pub value_word : (s : Seen) (m : Module) (items : List ℕ) (b : Bool) (k place word : ℕ) → record { of = m; words = items; settled = b } ≡ s → IsSound m → length items ≡ length (all_names m)
+pub value_word : (s : Seen) (m : Module) (items : List ℕ) (b : Bool) (w : ℕ) (k place word : ℕ) → record { of = m; words = items; settled = b; work = w } ≡ s → IsSound m → length items ≡ length (all_names m)
     → ((d : Drive) → slice_get (all_names m) place ≡ Some (get_or m.drives k d).target) → word ≡ get_or items place word → (d : Drive) → word ≡ carried s (get_or s.of.drives k d).target
-value_word s m items b k place word view sound same at is d =
+value_word s m items b w k place word view sound same at is d =
     let P : Seen → Type 0 = λ t. word ≡ carried t (get_or t.of.drives k d).target in
     let target = (get_or m.drives k d).target in
     let within : place < length items = rw same (slice_get_within (all_names m) place target (at d)) in
     subst P view (is ∙ get_or_default_zero items place word within ∙ sym (look_at (all_names m) items place target (names_distinct m sound) same (at d)))
 
 -- and fits
-pub value_fits : (s : Seen) (m : Module) (items : List ℕ) (b : Bool) (k place word : ℕ) → record { of = m; words = items; settled = b } ≡ s → AllFit m items
+pub value_fits : (s : Seen) (m : Module) (items : List ℕ) (b : Bool) (w : ℕ) (k place word : ℕ) → record { of = m; words = items; settled = b; work = w } ≡ s → AllFit m items
     → ((d : Drive) → slice_get (all_names m) place ≡ Some (get_or m.drives k d).target) → ((d : Drive) → word ≡ carried s (get_or s.of.drives k d).target) → (d : Drive) → IsWord (width_of s.of (get_or s.of.drives k d).target) word
-value_fits s m items b k place word view fit at is d =
+value_fits s m items b w k place word view fit at is d =
     let P : Seen → Type 0 = λ t. IsWord (width_of t.of (get_or t.of.drives k d).target) (carried t (get_or t.of.drives k d).target) in
     let target = (get_or m.drives k d).target in
     rw (is d) (subst P view (All-contains (λ name. IsWord (width_of m name) (named m items name)) (all_names m) target fit (contains_at (all_names m) place target (at d))))
 
 -- a clock that says so is settled
-pub value_settled : (s : Seen) (m : Module) (items : List ℕ) (b : Bool) → record { of = m; words = items; settled = b } ≡ s → (IsTrue b → Settled m (named m items)) → IsTrue s.settled → Settled s.of (carried s)
-value_settled s m items b view settled flag =
+pub value_settled : (s : Seen) (m : Module) (items : List ℕ) (b : Bool) (w : ℕ) → record { of = m; words = items; settled = b; work = w } ≡ s → (IsTrue b → Settled m (named m items)) → IsTrue s.settled → Settled s.of (carried s)
+value_settled s m items b w view settled flag =
     let P : Seen → Type 0 = λ t. Settled t.of (carried t) in
     subst P view (settled (ap (λ (t : Seen). t.settled) view ∙ flag))
 
 -- the place of a drive, as it is seen
-pub drive_seen : (s : Seen) (m : Module) (items : List ℕ) (b : Bool) (k : ℕ) → record { of = m; words = items; settled = b } ≡ s → k < length s.of.drives → k < length m.drives
-drive_seen s m items b k view lt = let P : Seen → Type 0 = λ t. k < length t.of.drives in subst P (sym view) lt
+pub drive_seen : (s : Seen) (m : Module) (items : List ℕ) (b : Bool) (w : ℕ) (k : ℕ) → record { of = m; words = items; settled = b; work = w } ≡ s → k < length s.of.drives → k < length m.drives
+drive_seen s m items b w k view lt = let P : Seen → Type 0 = λ t. k < length t.of.drives in subst P (sym view) lt
 
 -- the place of a port, as it is seen
-pub port_seen : (s : Seen) (m : Module) (items : List ℕ) (b : Bool) (k : ℕ) → record { of = m; words = items; settled = b } ≡ s → k < length s.of.inputs → k < length m.inputs
-port_seen s m items b k view lt = let P : Seen → Type 0 = λ t. k < length t.of.inputs in subst P (sym view) lt
+pub port_seen : (s : Seen) (m : Module) (items : List ℕ) (b : Bool) (w : ℕ) (k : ℕ) → record { of = m; words = items; settled = b; work = w } ≡ s → k < length s.of.inputs → k < length m.inputs
+port_seen s m items b w k view lt = let P : Seen → Type 0 = λ t. k < length t.of.inputs in subst P (sym view) lt
 
 -- and that a value fits it
-pub fits_seen : (s : Seen) (m : Module) (items : List ℕ) (b : Bool) (k value : ℕ) → record { of = m; words = items; settled = b } ≡ s → ForSome (slice_get s.of.inputs k) (λ port. IsWord port.width.bits value) → ForSome (slice_get m.inputs k) (λ port. IsWord port.width.bits value)
-fits_seen s m items b k value view fits = let P : Seen → Type 0 = λ t. ForSome (slice_get t.of.inputs k) (λ port. IsWord port.width.bits value) in subst P (sym view) fits
+pub fits_seen : (s : Seen) (m : Module) (items : List ℕ) (b : Bool) (w : ℕ) (k value : ℕ) → record { of = m; words = items; settled = b; work = w } ≡ s → ForSome (slice_get s.of.inputs k) (λ port. IsWord port.width.bits value) → ForSome (slice_get m.inputs k) (λ port. IsWord port.width.bits value)
+fits_seen s m items b w k value view fits = let P : Seen → Type 0 = λ t. ForSome (slice_get t.of.inputs k) (λ port. IsWord port.width.bits value) in subst P (sym view) fits
+
+-- the words after one was written
+written_call : (v : Vec ℕ Global) (before new : List ℕ) (k value : ℕ) → length new ≡ length before → before ≡ v.items → new ≡ set before k value → (with_items v new).items ≡ set v.items k value
+written_call v before new k value same is wrote = new_items v before new same is ∙ wrote ∙ ap (λ ws. set ws k value) is
+
+-- what is seen after a word was set
+pub set_call : (s : Seen) (m : Module) (v : Vec ℕ Global) (before new : List ℕ) (b : Bool) (w : ℕ) (k value : ℕ) → record { of = m; words = v.items; settled = b; work = w } ≡ s
+    → length new ≡ length before → before ≡ v.items → new ≡ set before k value
+    → record { of = m; words = (with_items v new).items; settled = false; work = w } ≡ record s { words = set s.words k value; settled = false }
+set_call s m v before new b w k value view same is wrote =
+    let P : Seen → Type 0 = λ t. record { of = m; words = (with_items v new).items; settled = false; work = w } ≡ record t { words = set t.words k value; settled = false } in
+    let F : List ℕ → Seen = λ ws. record { of = m; words = ws; settled = false; work = w } in
+    subst P view (ap F (written_call v before new k value same is wrote))
+
+-- the port has the word after it was
+pub set_port_call : (s : Seen) (m : Module) (v : Vec ℕ Global) (before new : List ℕ) (b : Bool) (w : ℕ) (k value : ℕ) → record { of = m; words = v.items; settled = b; work = w } ≡ s → IsSound m → length v.items ≡ length (all_names m)
+    → length new ≡ length before → before ≡ v.items → new ≡ set before k value → IfSome (slice_get s.of.inputs k) (λ port. named m (with_items v new).items port.name ≡ value)
+set_port_call s m v before new b w k value view sound size same is wrote =
+    let P : List ℕ → Type 0 = λ ws. IfSome (slice_get s.of.inputs k) (λ port. named m ws port.name ≡ value) in
+    subst P (sym (written_call v before new k value same is wrote)) (set_port s m v.items b w k value view sound size)
+
+-- and every other name its own
+pub set_others_call : (s : Seen) (m : Module) (v : Vec ℕ Global) (before new : List ℕ) (b : Bool) (w : ℕ) (k value : ℕ) → record { of = m; words = v.items; settled = b; work = w } ≡ s → IsSound m → length v.items ≡ length (all_names m)
+    → length new ≡ length before → before ≡ v.items → new ≡ set before k value
+    → IfSome (slice_get s.of.inputs k) (λ port. (name : List ℕ) → name ≢ port.name → named m (with_items v new).items name ≡ carried s name)
+set_others_call s m v before new b w k value view sound size same is wrote =
+    let P : List ℕ → Type 0 = λ ws. IfSome (slice_get s.of.inputs k) (λ port. (name : List ℕ) → name ≢ port.name → named m ws name ≡ carried s name) in
+    subst P (sym (written_call v before new k value same is wrote)) (set_others s m v.items b w k value view sound size)
+
+-- the words fit after it was
+pub set_fits_call : (m : Module) (v : Vec ℕ Global) (before new : List ℕ) (k value : ℕ) → IsSound m → length v.items ≡ length (all_names m) → k < length m.inputs → ForSome (slice_get m.inputs k) (λ port. IsWord port.width.bits value) → AllFit m v.items
+    → length new ≡ length before → before ≡ v.items → new ≡ set before k value → AllFit m (with_items v new).items
+set_fits_call m v before new k value sound size lt fits fit same is wrote =
+    let P : List ℕ → Type 0 = AllFit m in
+    subst P (sym (written_call v before new k value same is wrote)) (set_fits m v.items k value sound size lt fits fit)
+
+-- what is not marked holds after it was
+set_held : (m : Module) (words : List ℕ) (k value : ℕ) (stale stale' due due' : List Bool) → IsSound m → length words ≡ length (all_names m) → k < length m.inputs
+    → ReadTheSame m words (set words k value) stale stale' due due' → AreHeld m words stale due → AreHeld m (set words k value) stale' due'
+set_held m words k value stale stale' due due' sound size lt reads held = elim (slice_get_cases m.inputs k).1 [
+  | inl (port, within, found, here) ↦
+      let wrote = port_set m words k value port sound size found in
+      let at : Contains (names_of m.inputs) port.name = contains_at (names_of m.inputs) k port.name (input_at m k port found) in
+      let given : AreDistinct (given_names m) = front_distinct (given_names m) (wire_names m) (names_distinct m sound) in
+      let same : (name : List ℕ) → name ≢ port.name → named m (set words k value) name ≡ named m words name = λ name other. rw wrote (with_word_other (named m words) port.name value name other) in
+      record {
+        drives = λ i d below clear.
+            let both = reads.drives i d below clear in
+            same (get_or m.drives i d).target (given_apart m i d port.name sound below (Contains-append_left (names_of m.inputs) (names_of m.registers) port.name at)) ∙ held.drives i d below both.0 ∙ sym both.1;
+        steps = λ i d below clear.
+            let both = reads.steps i d below clear in
+            let register = (get_or m.steps i d).register in
+            same register (λ e. apart (names_of m.inputs) (names_of m.registers) port.name given at (subst (Contains (names_of m.registers)) e (is_declared m sound register (register_contained m i d below)))) ∙ held.steps i d below both.0 ∙ sym both.1;
+      }
+  | inr (past, none) ↦ absurd (omega arith)
+]
+
+pub set_held_call : (m : Module) (v : Vec ℕ Global) (before new : List ℕ) (k value : ℕ) (stale stale' due due' : List Bool) → IsSound m → length v.items ≡ length (all_names m) → k < length m.inputs
+    → length new ≡ length before → before ≡ v.items → new ≡ set before k value → ReadTheSame m before new stale stale' due due' → AreHeld m v.items stale due → AreHeld m (with_items v new).items stale' due'
+set_held_call m v before new k value stale stale' due due' sound size lt same is wrote reads held =
+    let P : List ℕ → Type 0 = λ ws. AreHeld m ws stale' due' in
+    let Q : List ℕ → Type 0 = λ ws. ReadTheSame m v.items ws stale stale' due due' in
+    let R : List ℕ → Type 0 = λ ws. ReadTheSame m ws new stale stale' due due' in
+    let new' : new ≡ set v.items k value = wrote ∙ ap (λ ws. set ws k value) is in
+    subst P (sym (written_call v before new k value same is wrote)) (set_held m v.items k value stale stale' due due' sound size lt (subst Q new' (subst R is reads)) held)
+
+-- what is not marked holds of the words that a call leaves
+pub held_call : (m : Module) (v : Vec ℕ Global) (before new : List ℕ) (stale due : List Bool) → length new ≡ length before → before ≡ v.items → AreHeld m new stale due → AreHeld m (with_items v new).items stale due
+held_call m v before new stale due same is held = let P : List ℕ → Type 0 = λ ws. AreHeld m ws stale due in subst P (sym (new_items v before new same is)) held
+
+-- and of those that it is lent
+pub held_lent : (m : Module) (v : Vec ℕ Global) (before : List ℕ) (stale due : List Bool) → before ≡ v.items → AreHeld m v.items stale due → AreHeld m before stale due
+held_lent m v before stale due is held = let P : List ℕ → Type 0 = λ ws. AreHeld m ws stale due in subst P (sym is) held
+
+-- all holds of settled words where all steps are marked
+pub settled_held : (m : Module) (words : List ℕ) (stale due : List Bool) (n : ℕ) → due ≡ replicate n true → Settled m (named m words) → AreHeld m words stale due
+settled_held m words stale due n filled settled = record {
+  drives = λ k d lt clear. settled k d lt;
+  steps = λ k d lt clear. absurd (none_clear n k (subst (λ ms. IsClear ms k) filled clear));
+}
+
+-- an edge, of what is seen
+pub edge_seen : (s : Seen) (m : Module) (v : Vec ℕ Global) (before new : List ℕ) (reset b : Bool) (w : ℕ) → record { of = m; words = v.items; settled = b; work = w } ≡ s → length new ≡ length before → before ≡ v.items
+    → Edge m reset (named m before) (named m new) → Edge m reset (carried s) (named m (with_items v new).items)
+edge_seen s m v before new reset b w view same is edge =
+    let P : List ℕ → Type 0 = λ words. Edge m reset (named m v.items) (named m words) in
+    let Q : Seen → Type 0 = λ t. Edge m reset (carried t) (named m (with_items v new).items) in
+    let R : List ℕ → Type 0 = λ words. Edge m reset (named m words) (named m new) in
+    subst Q view (subst P (sym (new_items v before new same is)) (subst R is edge))
+
+-- a count that is added to none
+pub first_count : (old count new : ℕ) → new ≡ min (old + count) (2 ^ 64 - 1) → new ≡ 0 → count ≡ 0
+first_count old count new is zero' = omega arith
+
+-- none is counted before
+pub first_none : (old count new : ℕ) → new ≡ min (old + count) (2 ^ 64 - 1) → new ≡ 0 → old ≡ 0
+first_none old count new is zero' = omega arith
+
+-- nor where there is none to count
+pub first_empty : (old count new n : ℕ) → new ≡ min (old + count) (2 ^ 64 - 1) → count ≤ n → old ≡ 0 → n ≡ 0 → new ≡ n
+first_empty old count new n is few zero' none = omega arith

@@ -1,19 +1,28 @@
 -- What a clock keeps.
-use Rattle.std.specs.Prelude.{◌≡◌, IsTrue, length}
+use Rattle.std.specs.Prelude.{◌≡◌, IsTrue, false, length}
 use Rattle.av_net.specs.Names.{all_names}
 use Rattle.av_net.specs.Settled.{Settled}
 use Rattle.av_net.specs.Sound.{IsSound}
 use Rattle.av_clock.specs.declared.clock.Clock.TheInside.{Inside}
 use Rattle.av_clock.specs.Named.{named, AllFit}
 use Rattle.av_clock.specs.Seen.{Seen}
+use Rattle.av_clock.specs.Marked.{AreHeld}
 
 abbrev pub seen : Inside → Seen
-seen c = record { of = c.circuit; words = c.words.items; settled = c.settled }
+seen c = record { of = c.circuit; words = c.words.items; settled = c.settled; work = c.work }
 
--- a word for each name, within its width, settled where the clock says so, and room for the next words
+-- a word for each name, within its width, settled where the clock says so, room for the next words and their steps, and a
+-- mark for each drive and each step
 pub record IsKept (c : Inside) : Type 0 where
   pub sound : IsSound c.circuit
   pub size : length c.words.items ≡ length (all_names c.circuit)
   pub fit : AllFit c.circuit c.words.items
   pub settled : IsTrue c.settled → Settled c.circuit (named c.circuit c.words.items)
   pub next : length c.next.items ≡ length c.circuit.steps
+  pub taken : length c.taken.items ≡ length c.circuit.steps
+  pub stale : length c.stale ≡ length c.circuit.drives
+  pub due : length c.due ≡ length c.circuit.steps
+  -- what is not marked holds, where not all is to be computed; a settled clock is not one where it is, nor one that has settled
+  pub held : c.every ≡ false → AreHeld c.circuit c.words.items c.stale c.due
+  pub marked : IsTrue c.settled → c.every ≡ false
+  pub first : c.work ≡ 0 → c.every ≡ false → length c.circuit.drives ≡ 0

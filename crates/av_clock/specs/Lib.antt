@@ -6,3 +6,5 @@ pub mod Circuit
 pub mod Seen
 pub mod Clock
 pub mod Sample
+pub mod Marked
+pub mod Readers

@@ -1,5 +1,6 @@
--- A module for the tests: two registers that take each other, an increment, and a counter with a selection.
-use Rattle.std.specs.Prelude.{List, [], ◌∷◌, codes}
+-- Modules for the tests: one of two registers that take each other, an increment, and a counter with a selection, and one
+-- of a register that takes itself.
+use Rattle.std.specs.Prelude.{ℕ, List, [], ◌∷◌, codes}
 use Rattle.av_base.specs.declared.width.Width.{Width}
 use Rattle.av_net.specs.declared.operation.Symbol.TheVariants.{Add, Less}
 use Rattle.av_net.specs.declared.operation.Operand.TheVariants.{Name, Literal}
@@ -50,4 +51,26 @@ sample_module one four eight = record {
   registers = sample_registers four eight;
   drives = sample_drives eight;
   steps = sample_steps;
+}
+
+abbrev pub still_ports : List ℕ → Width → List Port
+still_ports name width = record { name = name; width = width } ∷ []
+
+-- `o0 = a`
+abbrev pub still_drives : List Drive
+still_drives = record { target = codes "o0"; operation = Plain (Name (codes "a")) } ∷ []
+
+-- `a` takes itself
+abbrev pub still_steps : List Step
+still_steps = record { register = codes "a"; reset = 3; next = Name (codes "a") } ∷ []
+
+abbrev pub still_module : Width → Module
+still_module four = record {
+  name = codes "still";
+  inputs = [];
+  outputs = still_ports (codes "o0") four;
+  wires = [];
+  registers = still_ports (codes "a") four;
+  drives = still_drives;
+  steps = still_steps;
 }

@@ -5,11 +5,12 @@ use Rattle.av_net.specs.Meaning.{Words}
 use Rattle.av_clock.specs.Named.{named}
 
 -- its module, the words of all names in the order of declarations (input ports, registers, outputs and
--- wires), and whether it is settled
+-- wires), whether it is settled, and how many drives were computed
 pub record Seen : Type 0 where
   pub of : Module
   pub words : List ℕ
   pub settled : Bool
+  pub work : ℕ
 
 -- the words by name
 abbrev pub carried : Seen → Words

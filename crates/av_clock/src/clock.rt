@@ -1,4 +1,4 @@
-ghost use Rattle.std.specs.Prelude.{◌≡◌, ◌≢◌, ◌<◌, ℕ, List as Items, length, false, true, replicate, IfOk, IfSome, IsTrue, slice_get, slice_set, slice_index_or};
+ghost use Rattle.std.specs.Prelude.{◌≡◌, ◌≢◌, ◌<◌, ◌≤◌, ◌+◌, ℕ, List as Items, length, false, true, replicate, IfOk, IfSome, IsTrue, slice_get, slice_set, slice_index_or};
 ghost use Rattle.std.specs.Option.{ForSome};
 ghost use Rattle.av_base.specs.Words.{IsWord};
 ghost use Rattle.av_net.specs.Names.{all_names, given_names, names_of, width_of};
@@ -8,6 +8,7 @@ ghost use Rattle.av_net.specs.Sound.{IsSound};
 ghost use Rattle.av_clock.specs.Seen.{carried};
 
 use crate::circuit::Circuit;
+use crate::marks::Marks;
 use av_base::Memory;
 use av_net::Module;
 use std::alloc::Global;
@@ -17,9 +18,21 @@ use std::marker::Model;
 #[derive(Drop)]
 pub struct Clock<'a> {
     circuit: Circuit<'a>,
+    // The words of all names, in the order of declarations.
     words: Vec<u64>,
+    // Room for the registers' next words, and for the steps that are taken.
     next: Vec<u64>,
+    taken: Vec<usize>,
+    // The drives and the steps of which an operand changed.
+    stale: Marks,
+    due: Marks,
+    // Every drive is to be computed, marked or not.
+    every: bool,
+    // The last settle computed more than half of the drives.
+    dense: bool,
     settled: bool,
+    // The drives computed so far.
+    work: u64,
 }
 
 impl<'a> Model for Clock<'a> {
@@ -41,15 +54,25 @@ impl<'a> Clock<'a> {
         ensures of { IfOk result (λ clock. clock.of ≡ of.now) }
         ensures words { IfOk result (λ clock. clock.words ≡ replicate (length (all_names of.now)) 0) }
         ensures flag { IfOk result (λ clock. clock.settled ≡ false) }
+        ensures work { IfOk result (λ clock. clock.work ≡ 0) }
     {
         let circuit = Circuit::new(alloc, of)?;
         let words = vec![in alloc; 0u64; circuit.size()]?;
         let next = vec![in alloc; 0u64; circuit.steps()]?;
+        let taken = vec![in alloc; 0usize; circuit.steps()]?;
+        let stale = Marks::new(alloc, circuit.drives())?;
+        let due = Marks::new(alloc, circuit.steps())?;
         Ok(Clock {
             circuit,
             words,
             next,
+            taken,
+            stale,
+            due,
+            every: true,
+            dense: true,
             settled: false,
+            work: 0,
         })
     }
 
@@ -59,9 +82,46 @@ impl<'a> Clock<'a> {
         ensures settled { Settled self.new.of (carried self.new) }
         ensures given { Agree (given_names self.new.of) (carried self.old) (carried self.new) }
         ensures flag { IsTrue self.new.settled }
+        ensures work { self.old.work ≤ self.new.work }
+        ensures first { self.old.work ≡ 0 → self.new.work ≡ length self.new.of.drives }
+        ensures most { self.new.work ≤ self.old.work + length self.new.of.drives }
+    {
+        if self.every {
+            self.settle_all();
+            return;
+        }
+        let computed = self
+            .circuit
+            .settle_marked(&mut self.words, &mut self.stale, &mut self.due);
+        self.dense = computed > self.circuit.drives() / 2;
+        self.work = self.work.saturating_add(computed as u64);
+        self.settled = true;
+    }
+
+    // Settles by all drives, whatever is marked.
+    fn settle_all(&mut self)
+        ensures of { self.new.of ≡ self.old.of }
+        ensures settled { Settled self.new.of (carried self.new) }
+        ensures given { Agree (given_names self.new.of) (carried self.old) (carried self.new) }
+        ensures flag { IsTrue self.new.settled }
+        ensures work { self.old.work ≤ self.new.work }
+        ensures first { self.old.work ≡ 0 → self.new.work ≡ length self.new.of.drives }
+        ensures most { self.new.work ≤ self.old.work + length self.new.of.drives }
     {
         self.circuit.settle(&mut self.words);
+        self.stale.fill(false);
+        self.due.fill(true);
+        self.every = false;
+        self.dense = true;
+        self.work = self.work.saturating_add(self.circuit.drives() as u64);
         self.settled = true;
+    }
+
+    /// The number of drives that were computed since the clock was made. At the greatest number it stays.
+    pub fn work(&self) -> u64
+        ensures { result ≡ self.now.work }
+    {
+        self.work
     }
 
     /// The word of a wire or output, by its place in the module's `drives`.
@@ -84,7 +144,13 @@ impl<'a> Clock<'a> {
         ensures others { IfSome (slice_get self.old.of.inputs port) (λ p. (name : Items ℕ) → name ≢ p.name
             → carried self.new name ≡ carried self.old name) }
     {
-        self.words[port as usize] = value;
+        self.circuit.write(
+            port as usize,
+            value,
+            &mut self.words,
+            &mut self.stale,
+            &mut self.due,
+        );
         self.settled = false;
     }
 
@@ -95,10 +161,52 @@ impl<'a> Clock<'a> {
         ensures edge { Edge self.new.of false (carried self.old) (carried self.new) }
         ensures ports { Agree (names_of self.new.of.inputs) (carried self.old) (carried self.new) }
         ensures flag { self.new.settled ≡ false }
+        ensures work { self.new.work ≡ self.old.work }
     {
-        self.circuit.next_words(&self.words, &mut self.next);
-        self.circuit.store(&self.next, &mut self.words);
+        if self.dense && self.tick_all() {
+            return;
+        }
+        self.tick_marked();
+    }
+
+    // The same by the marked steps alone.
+    fn tick_marked(&mut self)
+        requires { IsTrue self.old.settled }
+        ensures of { self.new.of ≡ self.old.of }
+        ensures edge { Edge self.new.of false (carried self.old) (carried self.new) }
+        ensures ports { Agree (names_of self.new.of.inputs) (carried self.old) (carried self.new) }
+        ensures flag { self.new.settled ≡ false }
+        ensures work { self.new.work ≡ self.old.work }
+    {
+        self.circuit.tick_marked(
+            &mut self.words,
+            &mut self.next,
+            &mut self.taken,
+            &mut self.stale,
+            &mut self.due,
+        );
         self.settled = false;
+    }
+
+    // The same where that changes more than half of the registers: every drive is marked at once. Else
+    // nothing is done.
+    fn tick_all(&mut self) -> bool
+        requires { IsTrue self.old.settled }
+        ensures of { self.new.of ≡ self.old.of }
+        ensures edge { IsTrue result → Edge self.new.of false (carried self.old) (carried self.new) }
+        ensures ports { IsTrue result → Agree (names_of self.new.of.inputs) (carried self.old) (carried self.new) }
+        ensures flag { IsTrue result → self.new.settled ≡ false }
+        ensures work { self.new.work ≡ self.old.work }
+        ensures kept { result ≡ false → self.new ≡ self.old }
+    {
+        let changed = self.circuit.next_words(&self.words, &mut self.next);
+        if changed <= self.circuit.steps() / 2 {
+            return false;
+        }
+        self.circuit.store(&self.next, &mut self.words);
+        self.every = true;
+        self.settled = false;
+        true
     }
 
     /// One edge with `rst` 1: all registers take their literals.
@@ -107,9 +215,15 @@ impl<'a> Clock<'a> {
         ensures edge { Edge self.new.of true (carried self.old) (carried self.new) }
         ensures ports { Agree (names_of self.new.of.inputs) (carried self.old) (carried self.new) }
         ensures flag { self.new.settled ≡ false }
+        ensures work { self.new.work ≡ self.old.work }
     {
-        self.circuit.reset_words(&mut self.next);
-        self.circuit.store(&self.next, &mut self.words);
+        self.circuit.reset(
+            &mut self.words,
+            &mut self.next,
+            &mut self.taken,
+            &mut self.stale,
+            &mut self.due,
+        );
         self.settled = false;
     }
 }

@@ -5,6 +5,8 @@
 mod circuit;
 mod clock;
 mod gate;
+mod marks;
+mod readers;
 mod resolver;
 
 pub use clock::Clock;

@@ -8,7 +8,8 @@ ghost use Rattle.av_net.specs.Names.{AreDistinct, IsAmong, names_of, all_names, 
 ghost use Rattle.av_net.specs.Sound.{IsSound};
 
 use crate::gate::{Assignment, FlipFlop, Gate, Reading};
-use av_base::{Memory, Name, Width};
+use crate::readers::{enter_operand, enter_operation, no_readers};
+use av_base::{List, Memory, Name, Width};
 use av_net::{Module, Operand, Operation, Port};
 use std::alloc::Global;
 use std::collections::BTreeMap;
@@ -43,6 +44,7 @@ impl<'a> Model for Resolver<'a> {
 
 impl<'a> Resolver<'a> {
     ghost use Rattle.av_clock.specs.Gates.{IsRead, IsResolved, AreAssigned, AreStepped};
+    ghost use Rattle.av_clock.specs.Readers.{HaveDrives, HaveSteps};
 
     pub(crate) fn new(alloc: Global, of: &'a Module) -> Result<Resolver<'a>, Memory>
         requires { IsSound of.now }
@@ -60,7 +62,7 @@ impl<'a> Resolver<'a> {
         Ok(Resolver { of, table })
     }
 
-    fn declared(&self, name: &Name) -> Declared
+    pub(crate) fn declared(&self, name: &Name) -> Declared
         requires { Contains (all_names self.now) name.now }
         ensures place { slice_get (all_names self.now) result.place ≡ Some name.now }
         ensures width { result.width.bits ≡ width_of self.now name.now }
@@ -152,6 +154,36 @@ impl<'a> Resolver<'a> {
         }
         Ok(flip_flops)
     }
+
+    /// The drives that name each declaration.
+    pub(crate) fn drives_reading(&self, alloc: Global) -> Result<Vec<List<usize>>, Memory>
+        ensures { IfOk result (λ v. HaveDrives self.now (length self.now.drives) v.items) }
+    {
+        let mut lists = no_readers(alloc, size_of_module(self.of))?;
+        for (i, drive) in self.of.drives.as_slice().iter().enumerate() {
+            enter_operation(self, &drive.operation, i, &mut lists)?;
+        }
+        Ok(lists)
+    }
+
+    /// The steps that name each declaration.
+    pub(crate) fn steps_reading(&self, alloc: Global) -> Result<Vec<List<usize>>, Memory>
+        ensures { IfOk result (λ v. HaveSteps self.now (length self.now.steps) v.items) }
+    {
+        let mut lists = no_readers(alloc, size_of_module(self.of))?;
+        for (i, step) in self.of.steps.as_slice().iter().enumerate() {
+            enter_operand(self, &step.next, i, &mut lists)?;
+        }
+        Ok(lists)
+    }
+}
+
+/// The number of a module's declarations.
+pub(crate) fn size_of_module(of: &Module) -> usize
+    ensures { result ≡ length (all_names of.now) }
+{
+    let state = of.inputs.as_slice().len() + of.registers.as_slice().len();
+    state + of.outputs.as_slice().len() + of.wires.as_slice().len()
 }
 
 ghost use Rattle.av_clock.specs.Found.{Finds};

@@ -3,7 +3,7 @@ ghost use Rattle.std.specs.Option.{ForSome};
 ghost use Rattle.av_base.specs.Words.{IsWord};
 ghost use Rattle.av_net.specs.declared.operation.Operand.TheVariants.{Name as Named};
 ghost use Rattle.av_net.specs.Sound.{IsSound};
-ghost use Rattle.av_clock.specs.Sample.{sample_inputs, sample_wires, sample_outputs, sample_registers, sample_drives, sample_steps, sample_module};
+ghost use Rattle.av_clock.specs.Sample.{sample_inputs, sample_wires, sample_outputs, sample_registers, sample_drives, sample_steps, sample_module, still_ports, still_drives, still_steps};
 
 use crate::Clock;
 use av_base::{List, Memory, Name, Width};
@@ -160,6 +160,55 @@ fn sample(alloc: Global, one: Width, four: Width, eight: Width) -> Result<Module
     })
 }
 
+fn one_port(alloc: Global, name: &str, width: Width) -> Result<List<Port>, Memory>
+    ensures { IfOk result (λ ports. ports ≡ still_ports name.now width) }
+{
+    let mut ports = List::new(alloc);
+    ports.push(port(alloc, name, width)?)?;
+    Ok(ports)
+}
+
+fn still_drives(alloc: Global) -> Result<List<Drive>, Memory>
+    ensures { IfOk result (λ drives. drives ≡ still_drives) }
+{
+    let mut drives = List::new(alloc);
+    let a = Operation::Plain(operand(alloc, "a")?);
+    drives.push(drive(alloc, "o0", a)?)?;
+    Ok(drives)
+}
+
+fn still_steps(alloc: Global) -> Result<List<Step>, Memory>
+    ensures { IfOk result (λ steps. steps ≡ still_steps) }
+{
+    let mut steps = List::new(alloc);
+    steps.push(step(alloc, "a", 3, "a")?)?;
+    Ok(steps)
+}
+
+// One register that takes itself, and `o0`, which shows it.
+fn still(alloc: Global, four: Width) -> Result<Module, Memory>
+    requires { four.bits ≡ 4 }
+    ensures sound { IfOk result (λ m. IsSound m) }
+    ensures drives { IfOk result (λ m. length m.drives ≡ 1) }
+{
+    let name = Name::new(alloc, "still")?;
+    let inputs = List::new(alloc);
+    let outputs = one_port(alloc, "o0", four)?;
+    let wires = List::new(alloc);
+    let registers = one_port(alloc, "a", four)?;
+    let drives = still_drives(alloc)?;
+    let steps = still_steps(alloc)?;
+    Ok(Module {
+        name,
+        inputs,
+        outputs,
+        wires,
+        registers,
+        drives,
+        steps,
+    })
+}
+
 // The words of `o0`, `o1`, `o2` and `o3` in one cycle with this word at the port.
 fn cycle(clock: &mut Clock<'_>, input: u64) -> [u64; 4]
     requires input { input < 256 }
@@ -193,5 +242,22 @@ fn a_sample_is_clocked(rt: HostRuntime) -> Result<(), Fail> {
     assert_eq!(rt; cycle(&mut clock, 0), [2, 1, 1, 3]);
     clock.reset();
     assert_eq!(rt; cycle(&mut clock, 4), [1, 2, 5, 4]);
+    Ok(())
+}
+
+#[test]
+fn a_register_that_takes_itself_is_no_work(rt: HostRuntime) -> Result<(), Fail> {
+    let alloc = rt.alloc();
+    let module = still(alloc, Width { bits: 4 })?;
+    let mut clock = Clock::new(alloc, &module)?;
+    clock.settle();
+    assert_eq!(rt; clock.work(), 1);
+    clock.reset();
+    clock.settle();
+    let before = clock.work();
+    clock.tick();
+    clock.settle();
+    assert_eq!(rt; clock.work(), before);
+    assert_eq!(rt; clock.value(0), 3);
     Ok(())
 }

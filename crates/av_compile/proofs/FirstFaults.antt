@@ -20,24 +20,24 @@ use Rattle.av_names.specs.Accepted.{instance_of}
 use Rattle.av_names.specs.Flattened.{flat_of}
 use Rattle.av_names.specs.Refusals.{IsAccepted, IsRefusal}
 use Rattle.av_flat.specs.Trees.{FlatSystem}
-use Rattle.av_compile.specs.declared.text_refusal.TextRefusal.{TextRefusal}
-use Rattle.av_compile.specs.declared.text_refusal.TextRefusal.TheVariants as refusal
+use Rattle.av_compile.specs.declared.refusal.Refusal.{Refusal}
+use Rattle.av_compile.specs.declared.refusal.Refusal.TheVariants as refusal
 use Rattle.av_compile.specs.Refusals.{of_lex, of_parse, of_names}
 use Rattle.av_compile.specs.Checked.{Flattens, IsRefused, in_bytes, in_tokens, in_names}
 
 -- ---- what is answered where a step has found a fault
 
-pub told : {T : Type 0} (r : Result T TextRefusal) (e f : TextRefusal) → IsErrAnd r (λ y. y ≡ e) → r ≡ Err f → f ≡ e
+pub told : {T : Type 0} (r : Result T Refusal) (e f : Refusal) → IsErrAnd r (λ y. y ≡ e) → r ≡ Err f → f ≡ e
 told (Ok t) e f h is = absurd cc
 told (Err y) e f h is = let same : y ≡ f = cc in sym same ∙ h
 
-pub memory_only : {T : Type 0} (r : Result T TextRefusal) (e : TextRefusal) → IsErrAnd r (λ y. y ≡ e) → e ≡ refusal.Memory → IfErr r (λ f. f ≡ refusal.Memory)
+pub memory_only : {T : Type 0} (r : Result T Refusal) (e : Refusal) → IsErrAnd r (λ y. y ≡ e) → e ≡ refusal.Memory → IfErr r (λ f. f ≡ refusal.Memory)
 memory_only (Ok t) e h is = tt
 memory_only (Err y) e h is = h ∙ is
 
 -- ---- the first faults of bytes, tokens and names
 
-pub bytes_refused : {T : Type 0} (bytes : List ℕ) (words : List Size) (width : ℕ) (r : TextRefusal) (f : LexFault) (found : Result T LexFault)
+pub bytes_refused : {T : Type 0} (bytes : List ℕ) (words : List Size) (width : ℕ) (r : Refusal) (f : LexFault) (found : Result T LexFault)
     → ((p : Place) → found ≡ Err (lex.BadByte p) → lexed.IsFault start bytes (lex.BadByte p))
     → ((p : Place) → found ≡ Err (lex.Number p) → lexed.IsFault start bytes (lex.Number p))
     → found ≡ Err f → r ≡ of_lex f → r ≢ refusal.Memory → IsRefused bytes words width r
@@ -45,13 +45,13 @@ bytes_refused bytes words width r (lex.BadByte p) found bad number was e not_mem
 bytes_refused bytes words width r (lex.Number p) found bad number was e not_memory = in_bytes (lex.Number p) e (number p was)
 bytes_refused bytes words width r lex.Memory found bad number was e not_memory = absurd (not_memory e)
 
-pub tokens_refused : (bytes : List ℕ) (words : List Size) (width : ℕ) (r : TextRefusal) (f : ParseFault) (tokens : List Token)
+pub tokens_refused : (bytes : List ℕ) (words : List Size) (width : ℕ) (r : Refusal) (f : ParseFault) (tokens : List Token)
     → IsText start bytes tokens → ((s : System) → IsProgram levels tokens s → f ≡ parse.Memory) → r ≡ of_parse f → r ≢ refusal.Memory
     → IsRefused bytes words width r
 tokens_refused bytes words width r f tokens text only_memory e not_memory =
     in_tokens f e tokens text (λ s program. not_memory (e ∙ ap of_parse (only_memory s program)))
 
-pub names_refused : (bytes : List ℕ) (words : List Size) (width : ℕ) (r : TextRefusal) (f : NameFault) (s : System)
+pub names_refused : (bytes : List ℕ) (words : List Size) (width : ℕ) (r : Refusal) (f : NameFault) (s : System)
     → IsProgramText bytes s → (f ≡ names.Memory) ⊎ IsRefusal s words f → r ≡ of_names f → r ≢ refusal.Memory → IsRefused bytes words width r
 names_refused bytes words width r f s text (inl memory) e not_memory = absurd (not_memory (e ∙ ap of_names memory))
 names_refused bytes words width r f s text (inr refused) e not_memory = in_names f e s text refused

@@ -15,3 +15,6 @@ pub mod Texts
 mod SpelledNames
 mod SoundDesign
 mod FirstFaults
+mod OneChain
+mod OnlySolution
+mod Unscheduled

@@ -19,7 +19,7 @@ use Rattle.av_normal.specs.NormalFaults as normalised
 use Rattle.av_normal.specs.NormalFaults.{IsGiven}
 use Rattle.av_check.specs.declared.fault.CheckFault.{CheckFault}
 use Rattle.av_check.specs.CheckFaults as checked
-use Rattle.av_compile.specs.declared.text_refusal.TextRefusal.{TextRefusal}
+use Rattle.av_compile.specs.declared.refusal.Refusal.{Refusal}
 use Rattle.av_compile.specs.Refusals.{of_lex, of_parse, of_names, of_normal, of_check}
 
 -- the bytes spell a system that is accepted with these sizes, and this is its flat system
@@ -42,7 +42,7 @@ pub record IsChecked (bytes : List ℕ) (words : List Size) (width : ℕ) (t : F
 
 -- the first fault, each behind the steps that found none: of the bytes, of the tokens, which spell no program, of the names, of
 -- the pieces, of the points
-pub data IsRefused (bytes : List ℕ) (words : List Size) (width : ℕ) (r : TextRefusal) : Type 0 where
+pub data IsRefused (bytes : List ℕ) (words : List Size) (width : ℕ) (r : Refusal) : Type 0 where
   in_bytes : (f : LexFault) → r ≡ of_lex f → lexed.IsFault start bytes f → IsRefused bytes words width r
   in_tokens : (f : ParseFault) → r ≡ of_parse f → (tokens : List Token) → IsText start bytes tokens → ((s : System) → IsProgram levels tokens s → ⊥)
       → IsRefused bytes words width r

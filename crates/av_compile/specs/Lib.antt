@@ -6,3 +6,5 @@ pub mod Forms
 pub mod Reading
 pub mod Refusals
 pub mod Checked
+pub mod Scheduled
+pub mod inner

@@ -9,20 +9,24 @@ use Rattle.av_normal.specs.declared.fault.NormalFault.{NormalFault}
 use Rattle.av_normal.specs.declared.fault.NormalFault.TheVariants as normal
 use Rattle.av_check.specs.declared.fault.CheckFault.{CheckFault}
 use Rattle.av_check.specs.declared.fault.CheckFault.TheVariants as check
-use Rattle.av_compile.specs.declared.text_refusal.TextRefusal.{TextRefusal}
-use Rattle.av_compile.specs.declared.text_refusal.TextRefusal.TheVariants as refusal
+use Rattle.av_serial.specs.declared.fault.SerialFault.{SerialFault}
+use Rattle.av_serial.specs.declared.fault.SerialFault.TheVariants as serial
+use Rattle.av_sched.specs.declared.fault.SchedFault.{SchedFault}
+use Rattle.av_sched.specs.declared.fault.SchedFault.TheVariants as sched
+use Rattle.av_compile.specs.declared.refusal.Refusal.{Refusal}
+use Rattle.av_compile.specs.declared.refusal.Refusal.TheVariants as refusal
 
-abbrev pub of_lex : LexFault → TextRefusal
+abbrev pub of_lex : LexFault → Refusal
 of_lex (lex.BadByte place) = refusal.BadByte place
 of_lex (lex.Number place) = refusal.Number place
 of_lex lex.Memory = refusal.Memory
 
-abbrev pub of_parse : ParseFault → TextRefusal
+abbrev pub of_parse : ParseFault → Refusal
 of_parse (parse.Syntax place) = refusal.Syntax place
 of_parse (parse.Depth place) = refusal.Depth place
 of_parse parse.Memory = refusal.Memory
 
-abbrev pub of_names : NameFault → TextRefusal
+abbrev pub of_names : NameFault → Refusal
 of_names (names.Repeated name place) = refusal.Repeated name place
 of_names (names.SizeTwice name) = refusal.SizeTwice name
 of_names (names.SizeUnknown name) = refusal.SizeUnknown name
@@ -39,13 +43,24 @@ of_names (names.Limit kind n) = refusal.Limit kind n
 of_names names.SizeOutside = refusal.SizeOutside
 of_names names.Memory = refusal.Memory
 
-abbrev pub of_normal : NormalFault → TextRefusal
+abbrev pub of_normal : NormalFault → Refusal
 of_normal (normal.Pieces n) = refusal.Pieces n
 of_normal (normal.Unbounded name) = refusal.Unbounded name
 of_normal (normal.Limit kind n) = refusal.Limit kind n
 of_normal normal.Memory = refusal.Memory
 
-abbrev pub of_check : CheckFault → TextRefusal
+abbrev pub of_check : CheckFault → Refusal
 of_check (check.Uncovered variable point outside) = refusal.Uncovered variable point outside
 of_check (check.TwoBranches variable point) = refusal.TwoBranches variable point
 of_check check.Memory = refusal.Memory
+
+abbrev pub of_serial : SerialFault → Refusal
+of_serial (serial.NonUnit name) = refusal.NonUnit name
+of_serial (serial.Unbounded name) = refusal.Unbounded name
+of_serial (serial.Limit kind n) = refusal.Limit kind n
+of_serial serial.Memory = refusal.Memory
+
+abbrev pub of_sched : SchedFault → Refusal
+of_sched (sched.Candidates n) = refusal.Candidates n
+of_sched (sched.NoSchedule name) = refusal.NoSchedule name
+of_sched sched.Memory = refusal.Memory

@@ -2,7 +2,7 @@ ghost use Rattle.std.specs.Prelude.{◌≡◌, ◌<◌, length, IfOk, Err};
 ghost use Rattle.av_tree.specs.FirstForm.{Form, IsText};
 ghost use Rattle.av_compile.specs.Headline.{Headline};
 
-use crate::Refusal;
+use crate::FormRefusal;
 use crate::cell::module;
 use crate::listing::listing;
 use crate::text::read_form;
@@ -16,10 +16,10 @@ use std::alloc::Global;
 /// points at the output `o0`, in ascending order. The module is named `array`.
 ///
 /// `NotThisForm` comes exactly where the bytes are no text of the first form, unless memory runs out.
-pub fn compile(alloc: Global, bytes: &[u8], width: Width) -> Result<Design, Refusal>
+pub fn compile(alloc: Global, bytes: &[u8], width: Width) -> Result<Design, FormRefusal>
     requires { length bytes.now < 4294967295 }
     ensures headline { IfOk result (Headline bytes.now width) }
-    ensures refused { result ≡ Err Refusal.NotThisForm → (form : Form) → IsText bytes.now form → ⊥ }
+    ensures refused { result ≡ Err FormRefusal.NotThisForm → (form : Form) → IsText bytes.now form → ⊥ }
 {
     let form = read_form(alloc, bytes)?;
     let listing = listing(alloc, &form)?;

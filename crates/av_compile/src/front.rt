@@ -1,12 +1,13 @@
 ghost use Rattle.std.specs.Prelude.{◌≡◌, ◌≢◌, ◌<◌, length, IfOk, IfErr, Err};
 ghost use Rattle.av_flat.specs.Trees.{FlatSystem, view_system};
 ghost use Rattle.av_flat.specs.Proper.{IsProper};
+ghost use Rattle.av_flat.specs.WellFormed.{IsWellFormed};
 ghost use Rattle.av_names.specs.Texts.{AreSmall};
 ghost use Rattle.av_compile.specs.Checked.{Flattens, HasNormalForm, IsChecked, IsRefused};
-ghost use Rattle.av_compile.specs.declared.text_refusal.TextRefusal.{TextRefusal as Refused};
-ghost use Rattle.av_compile.specs.declared.text_refusal.TextRefusal.TheVariants as refusal;
+ghost use Rattle.av_compile.specs.declared.refusal.Refusal.{Refusal as Refused};
+ghost use Rattle.av_compile.specs.declared.refusal.Refusal.TheVariants as refusal;
 
-use crate::TextRefusal;
+use crate::Refusal;
 use av_base::Width;
 use av_check::check;
 use av_flat::{Flat, Pass};
@@ -16,32 +17,44 @@ use av_normal::Normal;
 use av_parse::parse;
 use std::alloc::Global;
 
+// The flat system of what a text spells, with its sizes, in words of this width.
+pub(crate) fn flattened(
+    alloc: Global,
+    bytes: &[u8],
+    sizes: &[Size],
+    width: Width,
+) -> Result<Flat, Refusal>
+    requires short { length bytes.now < 4294967295 }
+    requires small { AreSmall sizes.now }
+    ensures found { IfOk result (λ to. Flattens bytes.now sizes.now width.bits (view_system to)) }
+    ensures well_formed { IfOk result (λ to. IsWellFormed (view_system to)) }
+    ensures refused { (f : Refused) → result ≡ Err f → f ≢ refusal.Memory → IsRefused bytes.now sizes.now width.bits f }
+    ensures complete { (s : FlatSystem) → Flattens bytes.now sizes.now width.bits s → IfErr result (λ f. f ≡ refusal.Memory) }
+{
+    let tokens = lex(alloc, bytes)?;
+    let system = parse(alloc, tokens.as_slice())?;
+    Ok(resolve(alloc, &system, sizes, width)?)
+}
+
 /// The kept pieces of the system that a text spells, with its sizes, in words of this width, where its equations give each
 /// declared point just one word.
 ///
 /// Else it answers the first fault: of the bytes, of the grammar, of names and sizes, of pieces, sets and boxes, and last the
 /// first variable's least point that has no word, or two.
-pub fn checked(
-    alloc: Global,
-    bytes: &[u8],
-    sizes: &[Size],
-    width: Width,
-) -> Result<Flat, TextRefusal>
+pub fn checked(alloc: Global, bytes: &[u8], sizes: &[Size], width: Width) -> Result<Flat, Refusal>
     requires short { length bytes.now < 4294967295 }
     requires small { AreSmall sizes.now }
 
     // What is answered is the normal form of what the bytes spell, and that is proper.
     ensures found { IfOk result (λ to. IsChecked bytes.now sizes.now width.bits (view_system to)) }
 
-    // A text is refused for its first fault, but for want of memory.
+    // A text is refused for its first fault, unless memory runs out.
     ensures refused { (f : Refused) → result ≡ Err f → f ≢ refusal.Memory → IsRefused bytes.now sizes.now width.bits f }
 
     // A proper system that has a normal form is not refused.
     ensures complete { (s : FlatSystem) → Flattens bytes.now sizes.now width.bits s → HasNormalForm s → IsProper s → IfErr result (λ f. f ≡ refusal.Memory) }
 {
-    let tokens = lex(alloc, bytes)?;
-    let system = parse(alloc, tokens.as_slice())?;
-    let flat = resolve(alloc, &system, sizes, width)?;
+    let flat = flattened(alloc, bytes, sizes, width)?;
     let normal = Normal.run(alloc, &flat)?;
     check(alloc, &flat)?;
     Ok(normal)

@@ -4,19 +4,21 @@
 mod cell;
 mod compiler;
 mod form;
+mod form_refusal;
 mod front;
 mod law;
 mod listing;
 mod reader;
 mod refusal;
+mod schedule;
 mod text;
-mod text_refusal;
 
 pub use compiler::compile;
+pub use form_refusal::FormRefusal;
 pub use front::checked;
 pub use law::one_form;
 pub use refusal::Refusal;
-pub use text_refusal::TextRefusal;
+pub use schedule::scheduled;
 
 #[cfg(test)]
 mod tests;

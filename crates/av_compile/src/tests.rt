@@ -3,9 +3,10 @@
 ghost use Rattle.std.specs.Prelude.{◌<◌, ◌≤◌, length, unsigned_abs, IfOk, OnOk};
 ghost use Rattle.av_names.specs.Texts.{AreSmall};
 
+mod schedules;
 mod twice;
 
-use crate::{TextRefusal, checked};
+use crate::{Refusal, checked};
 use av_base::{Memory, Name, Place, Point, Width};
 use av_flat::Quantity;
 use av_names::Size;
@@ -216,6 +217,11 @@ fn push_pieces(out: &mut String, number: u128) -> Result<(), Fail> {
     Ok(())
 }
 
+fn push_candidates(out: &mut String, number: u128) -> Result<(), Fail> {
+    write!(out, "candidates {number}")?;
+    Ok(())
+}
+
 fn push_outside(out: &mut String, outside: &Option<(Name, Point)>) -> Result<(), Fail> {
     match outside {
         Some((name, point)) => push_point(out, " at", name, point),
@@ -223,29 +229,29 @@ fn push_outside(out: &mut String, outside: &Option<(Name, Point)>) -> Result<(),
     }
 }
 
-fn push_refusal(out: &mut String, refusal: &TextRefusal) -> Result<(), Fail> {
+fn push_refusal(out: &mut String, refusal: &Refusal) -> Result<(), Fail> {
     match refusal {
-        TextRefusal::BadByte(place) => push_place(out, "bad byte", *place),
-        TextRefusal::Number(place) => push_place(out, "number", *place),
-        TextRefusal::Syntax(place) => push_place(out, "syntax", *place),
-        TextRefusal::Depth(place) => push_place(out, "depth", *place),
-        TextRefusal::Repeated(name, place) => push_both(out, "repeated", name, *place),
-        TextRefusal::SizeTwice(name) => push_named(out, "size twice", name),
-        TextRefusal::SizeUnknown(name) => push_named(out, "size unknown", name),
-        TextRefusal::SizeMissing(name) => push_named(out, "size missing", name),
-        TextRefusal::Unknown(name, place) => push_both(out, "unknown", name, *place),
-        TextRefusal::DefinesInput(name, place) => push_both(out, "defines input", name, *place),
-        TextRefusal::SecondEquation(name, place) => push_both(out, "second equation", name, *place),
-        TextRefusal::NoEquation(name, place) => push_both(out, "no equation", name, *place),
-        TextRefusal::Arity(place) => push_place(out, "arity", *place),
-        TextRefusal::Projection(place) => push_place(out, "projection", *place),
-        TextRefusal::CaseInReduce(place) => push_place(out, "case in reduce", *place),
-        TextRefusal::DependOnReduce(place) => push_place(out, "dependence on reduce", *place),
-        TextRefusal::Limit(quantity, number) => push_limit(out, *quantity, *number),
-        TextRefusal::SizeOutside => push_words(out, "size outside"),
-        TextRefusal::Pieces(number) => push_pieces(out, *number),
-        TextRefusal::Unbounded(name) => push_named(out, "unbounded", name),
-        TextRefusal::Uncovered {
+        Refusal::BadByte(place) => push_place(out, "bad byte", *place),
+        Refusal::Number(place) => push_place(out, "number", *place),
+        Refusal::Syntax(place) => push_place(out, "syntax", *place),
+        Refusal::Depth(place) => push_place(out, "depth", *place),
+        Refusal::Repeated(name, place) => push_both(out, "repeated", name, *place),
+        Refusal::SizeTwice(name) => push_named(out, "size twice", name),
+        Refusal::SizeUnknown(name) => push_named(out, "size unknown", name),
+        Refusal::SizeMissing(name) => push_named(out, "size missing", name),
+        Refusal::Unknown(name, place) => push_both(out, "unknown", name, *place),
+        Refusal::DefinesInput(name, place) => push_both(out, "defines input", name, *place),
+        Refusal::SecondEquation(name, place) => push_both(out, "second equation", name, *place),
+        Refusal::NoEquation(name, place) => push_both(out, "no equation", name, *place),
+        Refusal::Arity(place) => push_place(out, "arity", *place),
+        Refusal::Projection(place) => push_place(out, "projection", *place),
+        Refusal::CaseInReduce(place) => push_place(out, "case in reduce", *place),
+        Refusal::DependOnReduce(place) => push_place(out, "dependence on reduce", *place),
+        Refusal::Limit(quantity, number) => push_limit(out, *quantity, *number),
+        Refusal::SizeOutside => push_words(out, "size outside"),
+        Refusal::Pieces(number) => push_pieces(out, *number),
+        Refusal::Unbounded(name) => push_named(out, "unbounded", name),
+        Refusal::Uncovered {
             variable,
             point,
             outside,
@@ -253,13 +259,16 @@ fn push_refusal(out: &mut String, refusal: &TextRefusal) -> Result<(), Fail> {
             push_point(out, "uncovered", variable, point)?;
             push_outside(out, outside)
         }
-        TextRefusal::TwoBranches { variable, point } => push_point(
+        Refusal::TwoBranches { variable, point } => push_point(
             out,
             "two branches",
             variable,
             point,
         ),
-        TextRefusal::Memory => push_words(out, "memory"),
+        Refusal::NonUnit(name) => push_named(out, "non unit", name),
+        Refusal::Candidates(number) => push_candidates(out, *number),
+        Refusal::NoSchedule(name) => push_named(out, "no schedule", name),
+        Refusal::Memory => push_words(out, "memory"),
     }
 }
 

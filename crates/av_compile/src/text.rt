@@ -6,7 +6,7 @@ ghost use Rattle.av_tree.specs.FirstForm.{Form as FirstForm, IsText, HasNoCommen
 ghost use Rattle.av_compile.specs.Forms.{Says};
 ghost use Rattle.av_compile.specs.Reading.{program_view};
 
-use crate::Refusal;
+use crate::FormRefusal;
 use crate::form::Form;
 use crate::reader::{Program, read_program};
 use av_base::{Memory, Name};
@@ -19,10 +19,10 @@ const MOST: u64 = 4095;
 
 /// What the compiler keeps of a program text. `NotThisForm` says that it is not a text of the first
 /// form, whatever it is instead.
-pub(crate) fn read_form(alloc: Global, bytes: &[u8]) -> Result<Form, Refusal>
+pub(crate) fn read_form(alloc: Global, bytes: &[u8]) -> Result<Form, FormRefusal>
     requires { length bytes.now < 4294967295 }
     ensures found { IfOk result (λ form. (f : FirstForm) × IsText bytes.now f × Says form f) }
-    ensures refused { result ≡ Err Refusal.NotThisForm → (f : FirstForm) → IsText bytes.now f → ⊥ }
+    ensures refused { result ≡ Err FormRefusal.NotThisForm → (f : FirstForm) → IsText bytes.now f → ⊥ }
 {
     let program = read_text(alloc, bytes)?;
     Ok(Form {
@@ -35,15 +35,15 @@ pub(crate) fn read_form(alloc: Global, bytes: &[u8]) -> Result<Form, Refusal>
 }
 
 // All that the text says.
-fn read_text<'a>(alloc: Global, bytes: &'a [u8]) -> Result<Program<'a>, Refusal>
+fn read_text<'a>(alloc: Global, bytes: &'a [u8]) -> Result<Program<'a>, FormRefusal>
     requires { length bytes.now < 4294967295 }
     ensures found { IfOk result (λ program. IsText bytes.now (program_view program)) }
-    ensures refused { result ≡ Err Refusal.NotThisForm → (f : FirstForm) → IsText bytes.now f → ⊥ }
+    ensures refused { result ≡ Err FormRefusal.NotThisForm → (f : FirstForm) → IsText bytes.now f → ⊥ }
 {
     let tokens = lex(alloc, bytes)?;
     match read_program(tokens.as_slice()) {
         Some(program) if is_plain(bytes) && is_allowed(&program) => Ok(program),
-        _ => Err(Refusal::NotThisForm),
+        _ => Err(FormRefusal::NotThisForm),
     }
 }
 

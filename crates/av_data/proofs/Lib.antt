@@ -11,3 +11,4 @@ pub mod Lined
 pub mod Told
 pub mod Divided
 pub mod Fits
+pub mod Timeds

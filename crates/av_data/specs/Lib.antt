@@ -6,3 +6,4 @@ pub mod Said
 pub mod Kept
 pub mod Named
 pub mod Divisions
+pub mod Schedules

@@ -1,4 +1,4 @@
-//! Data for a module: the lines that a run is told with.
+//! Data for a module, the lines that a run is told with, and the lines of a schedule.
 #![tactic(auto)]
 
 mod cycle;
@@ -9,6 +9,7 @@ mod inputs;
 mod lines;
 mod places;
 mod reader;
+mod schedule;
 mod spelling;
 mod stimulus;
 mod timeline;
@@ -17,6 +18,7 @@ pub use cycle::write_cycle;
 pub use division::{Division, divide};
 pub use fault::DataFault;
 pub use places::Places;
+pub use schedule::write_schedule;
 pub use stimulus::{Given, Stimulus, read_stimulus};
 
 #[cfg(test)]

@@ -5,7 +5,7 @@ use Rattle.av_poly.specs.Rational.{IsFirstEndless, HasNoBounds}
 use Rattle.av_elim.specs.declared.answer.Elim.{Elim}
 use Rattle.av_elim.specs.declared.answer.Elim.TheVariants.{Constraints, Unbounded, Empty, Memory}
 
--- the cause of an answer: above 20 rows their number; else as the rational set has it; want of memory has none
+-- the cause of an answer: above 20 rows their number; else as the rational set has it; out of memory has none
 abbrev pub IsCause : Set → Elim → Type 0
 IsCause set (Constraints n) = (n ≡ length set.rows) × (20 < n)
 IsCause set (Unbounded index) = (length set.rows ≤ 20) × IsFirstEndless set index

@@ -15,7 +15,7 @@ pub fn rays()
         ((index : ℕ) × (index < set.dim) × IsEndless set.dim (homogeneous set.rows) index) ↔ HasRationalRay set.dim (homogeneous set.rows) }
 {}
 
-/// A law: but for want of memory, a set has one answer. Bounds of one set have the same entries, no set
+/// A law: unless memory runs out, a set has one answer. Bounds of one set have the same entries, no set
 /// of at most 20 rows has bounds and a cause of another answer, and two causes are one.
 pub fn one_answer()
     ensures bounds { (set : Set) (some other : Bounds) (index : ℕ) → AreBounds set some → AreBounds set other →

@@ -1,7 +1,9 @@
 -- Kept systems: each piece has a point and reads declared points alone, and no case, restriction or dependence is left.
-use Rattle.std.specs.Prelude.{◌≡◌, false, All, IsTrue, List}
+use Rattle.std.specs.Prelude.{◌≡◌, false, All, IsTrue, List, ◌++◌}
 use Rattle.av_affine.specs.Maps.{image}
 use Rattle.av_poly.specs.Points.{Set}
+use Rattle.av_poly.specs.Normal.{AreNormalised}
+use Rattle.av_poly.specs.Preimages.{rows_before}
 use Rattle.av_tree.specs.Points.{Point}
 use Rattle.av_flat.specs.Trees.{Tree, Piece, Variable, FlatSystem, reference, binary, choice, reduction}
 use Rattle.av_flat.specs.Points.{has}
@@ -27,6 +29,14 @@ abbrev pub HasFewOwnRows : Tree → Type 0
 HasFewOwnRows (reduction o m t set) = HasFewRows set
 HasFewOwnRows _ = Unit {0}
 
+-- the set of each reduction lies over that of what holds it, which is the piece's or that of the reduction around it: with
+-- the holder's rows at the kept indices put before its own, its normalised rows are the same
+abbrev pub LiesOver : Set → Tree → Type 0
+LiesOver holder (binary s l r) = LiesOver holder l × LiesOver holder r
+LiesOver holder (choice l c r x y) = LiesOver holder l × LiesOver holder r × LiesOver holder x × LiesOver holder y
+LiesOver holder (reduction o m t set) = AreNormalised set.dim (rows_before m holder.rows ++ set.rows) set.rows × LiesOver set t
+LiesOver holder _ = Unit {0}
+
 pub record IsKeptPiece (vs : List Signature) (v : Variable) (p : Piece) : Type 0 where
   pub plain : EachPart IsPlain p.tree
   pub within : (z : Point) → IsTrue (has p.domain z) → IsTrue (has v.domain z)
@@ -35,6 +45,7 @@ pub record IsKeptPiece (vs : List Signature) (v : Variable) (p : Piece) : Type 0
   pub reads : ReadsDeclared vs p.domain p.tree
   pub few : HasFewRows p.domain
   pub few_inside : EachPart HasFewOwnRows p.tree
+  pub over : LiesOver p.domain p.tree
 
 pub record IsKeptVariable (vs : List Signature) (v : Variable) : Type 0 where
   pub few : HasFewRows v.domain

@@ -17,6 +17,7 @@ use Rattle.av_flat.specs.Signatures as flat
 use Rattle.av_flat.specs.Counts as flat_count
 use Rattle.av_flat.specs.Shown.{SameMeaning}
 use Rattle.av_flat.specs.Solutions as flat_solution
+use Rattle.av_flat.specs.OneSolution as flat_one
 use Rattle.av_names.specs.Flattened.{flat_of, input_of, computed_of, equation_of}
 use Rattle.av_names.specs.Regular.{IsRegular, IsRegularEquation}
 use Rattle.av_names.specs.Same.{SameCounts, declared_as, shows_in, declares_in}
@@ -107,6 +108,14 @@ module _ (i : Instance) (g : IsRegular i) where
     );
     declared = λ k h name z. (λ p. declared_by k h name z ∙ p, λ p. sym (declared_by k h name z) ∙ p);
   }
+
+  -- ---- one solution
+
+  pub same_inputs : (x : Assignment) → text_solution.AreInputs i x → flat_one.AreInputs (flat_of i) x
+  same_inputs x h = record { declared = λ name z. along _ _ (sym (declared_inputs i g name z)) (h.declared name z); words = flat_words x h.words }
+
+  pub one_solution : (x : Assignment) → flat_one.HasOneSolution (flat_of i) x → text_solution.HasOneSolution i x
+  one_solution x h = record { solution = h.solution; solves = (solved x h.solution).0 h.solves; only = λ u p. h.only u ((solved x u).1 p) }
 
   -- ---- counts
 

@@ -40,7 +40,7 @@ pub enum NameFault {
     Limit(Quantity, u128),
     /// The sizes break a constraint of the parameter domain.
     SizeOutside,
-    /// Want of memory.
+    /// Out of memory.
     Memory,
 }
 

@@ -34,7 +34,7 @@ mod written;
 pub use fault::NameFault;
 pub use laws::{
     accepted_systems_are_regular, accepted_texts_say_the_same, flat_systems_are_well_formed,
-    flat_systems_say_the_same,
+    flat_systems_say_the_same, one_solution_of_accepted_texts,
 };
 pub use resolver::resolve;
 pub use size::Size;

@@ -34,7 +34,7 @@ pub fn resolve(
     requires text { IsOfText (view_system system.now) }
     requires small { AreSmall sizes.now }
 
-    // It is refused for the first rule that holds, but for want of memory.
+    // It is refused for the first rule that holds, unless memory runs out.
     ensures refused { (f : Fault) → result ≡ Err f → (f ≡ fault.Memory) ⊎ IsRefusal (view_system system.now) sizes.now f }
     ensures complete { (f : Fault) → IsRefusal (view_system system.now) sizes.now f → (result ≡ Err f) ⊎ (result ≡ Err fault.Memory) }
     ensures accepted { IfOk result (λ to. IsAccepted (view_system system.now) sizes.now) }

@@ -17,12 +17,13 @@ use Rattle.av_flat.specs.Points.{has, holds}
 use Rattle.av_flat.specs.Signatures.{Signature, signatures}
 use Rattle.av_flat.specs.Sets.{HasFewRows}
 use Rattle.av_flat.specs.WellFormed.{Fits, EachPart, EachPartOfAll, IsInPlace, HasSmallRows, HasWords, is_case, is_pick, IsWellFormedPiece, IsWellFormedVariable}
-use Rattle.av_flat.specs.Kept.{IsPlain, ReadsDeclared, HasFewOwnRows, IsKeptPiece}
+use Rattle.av_flat.specs.Kept.{IsPlain, ReadsDeclared, HasFewOwnRows, LiesOver, IsKeptPiece}
 use Rattle.av_flat.specs.Quantities.{of_set, composed_maps, body_sets}
 use Rattle.av_flat.specs.Pieces.{Part, parts}
 use Rattle.av_flat.proofs.Sets.{both_true, both_hold, equal, has_is}
 use Rattle.av_normal.specs.NormalForm.{IsNormalised, set_of, IsNormalVariable}
 use Rattle.av_normal.proofs.Laid.{both_of, IsReduced, IsLaid, IsLaidPart, Anything, looser, Own, laid_parts}
+use Rattle.av_normal.proofs.HeldSets.{lies_over}
 use Rattle.av_normal.proofs.PieceWords.{hold_normal, has_normal, laid_normal}
 use Rattle.av_normal.proofs.RightSides.{IsKeptAs, Keep, keep_is, made, restricted, each_branch, right_fits, right_in_place, right_no_pick}
 use Rattle.av_normal.proofs.Limits.{IsWithin, AllFit, small_set, few_set}
@@ -151,6 +152,7 @@ pub record IsFine (vs : List Signature) (width dim : ℕ) (rows : List Form) (q 
   pub point : Point
   pub has_point : IsTrue (has q.domain point)
   pub laid : IsLaid vs SmallMap (IsWord width) SmallSet q.domain.dim q.domain.rows q.tree
+  pub over : LiesOver q.domain q.tree
 
 module _ (vs : List Signature) (width dim : ℕ) (rows : List Form) where
   abbrev FitsPart : Part → Type 0
@@ -178,6 +180,7 @@ module _ (vs : List Signature) (width dim : ℕ) (rows : List Form) where
         point = k.point;
         has_point = has_normal (set_of dim (made rows p)) q.domain k.point n ∙ (has_is (set_of dim (made rows p)) k.point).1 k.has_point;
         laid = (let P : ℕ → Type 0 = λ d. IsLaid vs SmallMap (IsWord width) SmallSet d q.domain.rows q.tree in subst P (sym n.dim) own);
+        over = lies_over vs SmallMap (IsWord width) Anything dim p.rows all q.domain p.tree q.tree a n.rows k.same;
       }
 
   fine_pieces : (ps : List Part) (qs : List Piece) → All (IsLaidPart vs SmallMap (IsWord width) dim) ps → Keep dim (map (made rows) ps) qs
@@ -253,4 +256,5 @@ module _ (vs : List Signature) (v : Variable) where
         reads = laid_reads vs SmallMap (IsWord v.width) SmallSet q.domain q.tree f.laid;
         few = f.few;
         few_inside = laid_few vs v.width d rows q.tree f.laid;
+        over = f.over;
       }

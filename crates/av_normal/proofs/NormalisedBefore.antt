@@ -1,5 +1,5 @@
 -- Rows that were normalised before a projection takes them to a body: its columns are unit columns and columns of 0.
-use Rattle.std.proofs.Common.{◌≡◌, ◌≢◌, ℕ, zero, suc, ◌<◌, ◌≤◌, ◌⊎◌, inl, inr, Bool, true, false, arith, nat_lt, if◌then◌else◌, ℤ, pos, ◌≤ℤ◌, List, [], ◌∷◌, ◌++◌, length, map, get_or, refl, sym, ap, subst, ◌∙◌, All, Any}
+use Rattle.std.proofs.Common.{◌≡◌, ◌≢◌, ℕ, zero, suc, ◌<◌, ◌≤◌, ◌⊎◌, inl, inr, Bool, true, false, arith, nat_lt, if◌then◌else◌, IsTrue, ℤ, pos, ◌≤ℤ◌, List, [], ◌∷◌, ◌++◌, length, map, get_or, refl, sym, ap, subst, ◌∙◌, All, Any}
 use Rattle.std.proofs.Math.Nat.{zero-div}
 use Rattle.std.specs.Int.{int_div_euclid}
 use Rattle.std.specs.Int.RustNames.{unsigned_abs}
@@ -15,9 +15,11 @@ use Rattle.av_affine.specs.Numbers.{dot, four}
 use Rattle.av_affine.specs.Maps.{coefficients_of, constants_of, through}
 use Rattle.av_poly.specs.Normal.{counted, IsConstant, IsNever, IsDivided, Tightens, AreNormalised}
 use Rattle.av_poly.specs.Preimages.{rows_before}
+use Rattle.av_poly.proofs.Dividing.{divided_once}
 use Rattle.av_flat.specs.WellFormed.{IsIndex, IsProjection}
 use Rattle.av_normal.proofs.Projecting.{unit_here, unit_elsewhere, coefficient_at, AreIndices, AreOnce}
-use Rattle.av_normal.proofs.Normalised.{StandFor, stand_for, normalised_among}
+use Rattle.av_normal.proofs.Meeting.{met_mapped, mapped_met}
+use Rattle.av_normal.proofs.Normalised.{Shows, ShowsFirst, StandFor, stand_for, normalised_among}
 
 -- ---- columns
 
@@ -254,6 +256,42 @@ module _ (m : Map) (is : IsProjection m) (few : m.from ≤ 4) where
       fours : (a b : ℕ → ℤ) (f : ℤ → ℤ) → ((j : ℕ) → a j ≡ f (b j)) → four a ≡ map f (four b)
       fours a b f e = rw (e 0, e 1, e 2, e 3) refl
 
+  -- the row that is divided before it is moved
+  divided_before : (f : Form) (new : Form) → IsDivided m.from (moved f) new → (g : Form) × IsDivided d f g × (moved g ≡ new)
+  divided_before f new s =
+      let k = s.divisor in
+      let g : Form = record { coef = map (λ x. int_div_euclid x (pos k)) (counted d f.coef); constant = int_div_euclid f.constant (pos k) } in
+      let is : IsDivided d f g =
+      record {
+        divisor = k;
+        positive = s.positive;
+        gcd = record {
+          divides = each_moved (λ x. k ∣ unsigned_abs x) f (dvd-zero k) s.gcd.divides;
+          greatest = λ c h. s.gcd.greatest c (moved_each (λ x. c ∣ unsigned_abs x) f (dvd-zero c) h);
+        };
+        coef = refl;
+        constant = refl;
+      }
+      in
+      (g, is, divided_once m.from (moved f) (moved g) new (divided_moved f g is) s)
+
+  -- what a moved row shows, the row shows by the coefficients that it has when it is moved
+  abbrev before : (List ℤ → Bool) → List ℤ → Bool
+  before test xs = test (four (entry xs))
+
+  moved_shows : (test : List ℤ → Bool) (f : Form) → Shows d (before test) f → Shows m.from test (moved f)
+  moved_shows test f (g, is, t) = (moved g, divided_moved f g is, t)
+
+  shows_moved : (test : List ℤ → Bool) (f : Form) → Shows m.from test (moved f) → Shows d (before test) f
+  shows_moved test f (new, s, t) = let (g, is, e) = divided_before f new s in (g, is, subst (λ (r : Form). IsTrue (test r.coef)) (sym e) t)
+
+  order_moved : (xs new : List Form) → ((one other : List ℤ → Bool) → ShowsFirst d one other new → ShowsFirst d one other xs)
+      → (one other : List ℤ → Bool) → ShowsFirst m.from one other (rows_before m new) → ShowsFirst m.from one other (rows_before m xs)
+  order_moved xs new order one other h =
+      met_mapped moved (Shows d (before one)) (Shows d (before other)) (Shows m.from one) (Shows m.from other) (moved_shows one) (shows_moved other) xs
+      (order (before one) (before other)
+      (mapped_met moved (Shows d (before one)) (Shows d (before other)) (Shows m.from one) (Shows m.from other) (shows_moved one) (moved_shows other) new h))
+
   tightens_moved : (f g : Form) → Tightens d f g → Tightens m.from (moved f) (moved g)
   tightens_moved f g s =
       let a = moved_constant g in
@@ -272,7 +310,7 @@ module _ (m : Map) (is : IsProjection m) (few : m.from ≤ 4) where
   any_moved P Q h (f ∷ xs) (suc k, x, l, e, p) =
       let r = any_moved P Q h xs (k, x, (omega (arith, l)), e, p) in (suc r.0, r.1, (let n = r.2 in omega (arith, n)), r.3, r.4)
 
-  stand_before : (xs new : List Form) → StandFor d xs new → StandFor m.from (rows_before m xs) (rows_before m new)
+  pub stand_before : (xs new : List Form) → StandFor d xs new → StandFor m.from (rows_before m xs) (rows_before m new)
   stand_before xs new (inl (w, v)) = inl (any_moved (IsNever d) (IsNever m.from) never_moved xs w, any_moved (IsNever d) (IsNever m.from) never_moved new v)
   stand_before xs new (inr t) = inr (record {
     none_false = All-map (λ row. IsConstant m.from row → pos 0 ≤ℤ row.constant) moved xs (λ k e l c.
@@ -283,6 +321,7 @@ module _ (m : Map) (is : IsProjection m) (few : m.from ≤ 4) where
       | inl c ↦ inl (constant_moved (get_or xs k e) c)
       | inr a ↦ inr (any_moved (Tightens d (get_or xs k e)) (Tightens m.from (moved (get_or xs k e))) (λ g s. tightens_moved (get_or xs k e) g s) new a)
     ]);
+    order = order_moved xs new t.order;
   })
 
   -- normalising a holder's rows before they are taken to a body changes nothing

@@ -12,6 +12,7 @@ use Rattle.av_flat.specs.Signatures.{Signature, signature, signatures, is_any, i
 use Rattle.av_flat.specs.Counts.{count}
 use Rattle.av_flat.specs.Values.{Scene, HasValue}
 use Rattle.av_flat.specs.Shown.{SameMeaning}
+use Rattle.av_flat.specs.OneSolution.{AreInputs, HasOneSolution}
 use Rattle.av_flat.specs.Solutions.{scene, AtEachPoint, Satisfies, IsSolution, shows_of, declares_of}
 use Rattle.av_flat.specs.Sets.{IsUnbounded}
 use Rattle.av_flat.specs.Proper.{IsProper}
@@ -121,6 +122,15 @@ module _ (s t : FlatSystem) (g : IsWellFormed s) (n : IsNormalForm s t) where
     inputs = λ name z a. p.inputs name z (declared_same is_input name z ∙ a);
     equations = (at_each (Satisfies s u) (Satisfies t u) (satisfied u)).1 p.equations;
   }
+
+  pub same_inputs : (x : Assignment) → AreInputs s x → AreInputs t x
+  same_inputs x p = record {
+    declared = λ name z. ((λ a. declared_same is_input name z ∙ (p.declared name z).0 a), (λ a. (p.declared name z).1 (sym (declared_same is_input name z) ∙ a)));
+    words = along vs (HasWords x) (HasWords x) (λ v w k. words_forth x v w k) s.variables t.variables n.variables p.words;
+  }
+
+  pub one_solution : (x : Assignment) → HasOneSolution t x → HasOneSolution s x
+  one_solution x h = record { solution = h.solution; solves = solution_back x h.solution h.solves; only = λ u p. h.only u (solution_forth x u p) }
 
   pub same_meaning : SameMeaning (shows_of s) (declares_of s) (shows_of t) (declares_of t)
   same_meaning = record {

@@ -36,14 +36,14 @@ HasEnd v = IsUnbounded v.domain → ⊥
 abbrev pub IsWithoutEnd : Text → Variable → Type 0
 IsWithoutEnd name v = (name ≡ v.name) × IsUnbounded v.domain
 
--- the fault is of the first variable without an end, or want of memory
+-- the fault is of the first variable without an end, or out of memory
 abbrev pub IsEndless : List Variable → NormalFault → Type 0
 IsEndless vs (fault.Unbounded name) = IsFirstOf HasEnd (IsWithoutEnd name) vs
 IsEndless vs (fault.Pieces n) = ⊥
 IsEndless vs (fault.Limit kind n) = ⊥
 IsEndless vs fault.Memory = Unit {0}
 
--- the fault is of this variable, or want of memory
+-- the fault is of this variable, or out of memory
 abbrev pub IsEndlessOne : Variable → NormalFault → Type 0
 IsEndlessOne v (fault.Unbounded name) = IsWithoutEnd name v
 IsEndlessOne v (fault.Pieces n) = ⊥

@@ -24,7 +24,7 @@ HasNarrowSets s = (kind : Quantity) (n : ℕ) → HasWideSets s kind n → ⊥
 abbrev pub HasEnds : FlatSystem → Type 0
 HasEnds s = (name : Text) → HasUnbounded s name → ⊥
 
--- the fault is of the first cause that holds: pieces, sets, ends, boxes; want of memory has none
+-- the fault is of the first cause that holds: pieces, sets, ends, boxes; out of memory has none
 abbrev pub IsFault : FlatSystem → NormalFault → Type 0
 IsFault s (fault.Pieces n) = HasManyPieces s n
 IsFault s (fault.Limit kind n) = HasFewPieces s × (HasWideSets s kind n ⊎ (HasNarrowSets s × HasEnds s × HasLargeBox s kind n))

@@ -20,7 +20,7 @@ abbrev pub IsFirstWide : List Measured → Quantity → ℕ → Type 0
 IsFirstWide [] kind n = ⊥
 IsFirstWide (o ∷ os) kind n = IsOver o kind n ⊎ (IsNarrow o × IsFirstWide os kind n)
 
--- the fault is of the first that is above a limit, or want of memory
+-- the fault is of the first that is above a limit, or out of memory
 abbrev pub IsWide : List Measured → NormalFault → Type 0
 IsWide os (fault.Limit kind n) = IsFirstWide os kind n
 IsWide os (fault.Pieces n) = ⊥

@@ -33,7 +33,7 @@ AreSpread vs [] [] = Unit {0}
 AreSpread vs (v ∷ variables) (w ∷ others) = IsSpread vs v w × AreSpread vs variables others
 AreSpread vs _ _ = ⊥
 
--- the fault is of the first set or map of the system that is above a limit, or want of memory
+-- the fault is of the first set or map of the system that is above a limit, or out of memory
 abbrev pub IsWideIn : FlatSystem → NormalFault → Type 0
 IsWideIn s (fault.Limit kind n) = HasWideSets s kind n
 IsWideIn s (fault.Pieces n) = ⊥

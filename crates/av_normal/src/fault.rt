@@ -16,7 +16,7 @@ pub enum NormalFault {
     Unbounded(Name),
     /// A quantity that is above its limit: of sets and composed maps, or, behind `Unbounded`, of a domain's box.
     Limit(Quantity, u128),
-    /// Want of memory. No contract says when it comes.
+    /// Out of memory. No contract says when it comes.
     Memory,
 }
 

@@ -17,5 +17,8 @@ mod sift;
 mod spread;
 
 pub use fault::NormalFault;
-pub use laws::{normal_forms_are_kept, normal_forms_are_proper, normal_forms_show_the_same};
+pub use laws::{
+    normal_forms_are_kept, normal_forms_are_proper, normal_forms_are_unique,
+    normal_forms_show_the_same, one_solution_of_normal_forms,
+};
 pub use normal::Normal;

@@ -1,5 +1,5 @@
 -- A row divided by the greatest common divisor of its coefficients.
-use Rattle.std.proofs.Common.{◌≡◌, ℕ, zero, suc, ◌<◌, ◌≤◌, ◌/◌, ◌^◌, ◌↔◌, arith, ℤ, pos, ◌+ℤ◌, ◌*ℤ◌, ◌≤ℤ◌, List, [], ◌∷◌, length, refl, ap, sym, ◌∙◌, subst}
+use Rattle.std.proofs.Common.{◌≡◌, ℕ, zero, suc, ◌<◌, ◌≤◌, ◌/◌, ◌^◌, ◌↔◌, arith, ℤ, pos, ◌+ℤ◌, ◌*ℤ◌, ◌≤ℤ◌, List, [], ◌∷◌, length, map, refl, ap, ap₂, sym, ◌∙◌, subst}
 use Rattle.std.proofs.Math.IntN.{negsuc}
 use Rattle.std.specs.List.{All, AllByRecursion}
 use Rattle.std.specs.Int.{int_div_euclid}
@@ -7,6 +7,7 @@ use Rattle.std.specs.Int.RustNames.{unsigned_abs}
 use Rattle.std.proofs.Math.Nat.{eq-zero_of_zero-dvd, div-le_self, dvd-zero}
 use Rattle.std.proofs.lemmas.Int.{ints}
 use Rattle.std.proofs.lemmas.List.Elements.{All-from_recursion, recursion_from_All, All-weaker}
+use Rattle.std.proofs.lemmas.Nat.Gcd.{dvd_antisymm}
 use Prim.Native.Nat.{◌∣◌}
 use Rattle.av_affine.specs.declared.form.Form.{Form}
 use Rattle.av_affine.specs.Numbers.{dot, AtMost, IsGcdOf}
@@ -107,3 +108,13 @@ not_constant dim row new s h =
     let e = eq-zero_of_zero-dvd d in
     let p = s.positive in
     omega (arith, e, p)
+
+-- ---- one division
+
+-- what a row is divided to is one row
+pub divided_once : (dim : ℕ) (row a b : Form) → IsDivided dim row a → IsDivided dim row b → a ≡ b
+divided_once dim row a b p q =
+    let e : p.divisor ≡ q.divisor = dvd_antisymm (q.gcd.greatest p.divisor p.gcd.divides) (p.gcd.greatest q.divisor q.gcd.divides) in
+    ap₂ (λ coef constant. record { coef = coef; constant = constant })
+    (p.coef ∙ ap (λ g. map (λ x. int_div_euclid x (pos g)) (counted dim row.coef)) e ∙ sym q.coef)
+    (p.constant ∙ ap (λ g. int_div_euclid row.constant (pos g)) e ∙ sym q.constant)

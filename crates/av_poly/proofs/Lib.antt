@@ -4,8 +4,10 @@ pub mod Parting
 pub mod Fours
 pub mod Dividing
 pub mod Lowering
+pub mod Meeting
 pub mod Tightening
 pub mod Sofar
+pub mod Uniqueness
 pub mod Normalising
 pub mod Intervals
 pub mod Searching

@@ -9,8 +9,9 @@ use Rattle.std.proofs.lemmas.List.{get_or-set_same, get_or-set_other, get_or_def
 use Rattle.std.proofs.lemmas.List.Elements.{All-nil, All-push, All-weaker, All-set}
 use Rattle.std.proofs.lemmas.List.Quantifiers.{all_pairs_push}
 use Rattle.av_affine.specs.declared.form.Form.{Form}
-use Rattle.av_poly.specs.Normal.{IsConstant, IsDivided, Tightens, AreTightest}
+use Rattle.av_poly.specs.Normal.{IsConstant, IsDivided, Tightens, IsMetBefore, AreTightest}
 use Rattle.av_poly.proofs.Anys.{any_before, any_last, any_set}
+use Rattle.av_poly.proofs.Meeting.{met_more, met_alike, met_last}
 
 -- a row with its constant lowered to another's
 abbrev pub lower : Form → ℤ → Form
@@ -27,7 +28,7 @@ lower_cases row other e =
     (λ h. inl (same_form (lower row other.constant) row refl (omega (arith, ints, clamps, h))))
 
 pub tight_none : (dim : ℕ) → AreTightest dim [] []
-tight_none dim = record { divided = All-nil _; least = All-nil _; distinct = λ i j d l m. absurd (omega arith) }
+tight_none dim = record { divided = All-nil _; least = All-nil _; distinct = λ i j d l m. absurd (omega arith); order = λ i j d l m. absurd (omega arith) }
 
 -- a row without coefficients
 pub tight_constant : (dim : ℕ) (old new : List Form) (row : Form) → AreTightest dim old new → IsConstant dim row → AreTightest dim (old ++ row ∷ []) new
@@ -35,6 +36,7 @@ tight_constant dim old new row h k = record {
   divided = All-weaker (λ r. Any (λ o. IsDivided dim o r) old) (λ r. Any (λ o. IsDivided dim o r) (old ++ row ∷ [])) (λ r. any_before (λ o. IsDivided dim o r) old row) new h.divided;
   least = All-push (λ r. IsConstant dim r ⊎ Any (Tightens dim r) new) old row h.least (inl k);
   distinct = h.distinct;
+  order = λ i j d l m. met_more dim old row (get_or new i d) (get_or new j d) (h.order i j d l m);
 }
 
 tightens_itself : (dim : ℕ) (row divided : Form) → IsDivided dim row divided → Tightens dim row divided
@@ -52,6 +54,9 @@ tight_pushed dim old new row divided h s n = record {
       (λ r w. elim w [ inl c ↦ inl c | inr a ↦ inr (any_before (Tightens dim r) new divided a) ]) old h.least)
       (inr (any_last (Tightens dim row) new divided (tightens_itself dim row divided s)));
   distinct = all_pairs_push (λ a b. a.coef ≢ b.coef) new divided h.distinct n;
+  order = all_pairs_push (IsMetBefore dim (old ++ row ∷ [])) new divided
+      (λ i j d l m. met_more dim old row (get_or new i d) (get_or new j d) (h.order i j d l m))
+      (λ k d l. met_last dim old new row (get_or new k d) divided (h.divided k d l) h.least n);
 }
 
 coef_set : (new : List Form) (j : ℕ) (v : Form) (i : ℕ) (d : Form) → j < length new → v.coef ≡ (get_or new j v).coef → (get_or (set new j v) i d).coef ≡ (get_or new i d).coef
@@ -71,6 +76,8 @@ tight_lowered dim old new row divided at j h s l g e = record {
       (λ r w. elim w [ inl c ↦ inl c | inr a ↦ inr (any_set (Tightens dim r) new j v l (keep r) a) ]) old h.least)
       (inr (j, v, omega (arith, l, length-set new j v), get_or-set_same new j v v l, record { divided = divided; is_divided = s; coef = e; constant = omega (arith, ints, clamps) }));
   distinct = λ i k d m n q. h.distinct i k d m (omega (arith, n, length-set new j v)) (sym (coef_set new j v i d l same) ∙ q ∙ coef_set new j v k d l same);
+  order = λ i k d m n. met_alike dim (old ++ row ∷ []) (get_or new i d) (get_or new k d) (get_or (set new j v) i d) (get_or (set new j v) k d) (sym (coef_set new j v i d l same)) (sym (coef_set new j v k d l same))
+      (met_more dim old row (get_or new i d) (get_or new k d) (h.order i k d m (omega (arith, n, length-set new j v))));
 }
   where
     v : Form

@@ -36,12 +36,23 @@ pub record Tightens (dim : ℕ) (row new : Form) : Type 0 where
   pub coef : new.coef ≡ divided.coef
   pub constant : new.constant ≤ℤ divided.constant
 
--- of rows none of which is false: each new row is a divided one, each row with coefficients is tightened, and no two
--- new rows have equal coefficients
+-- once it is divided, the row has these coefficients
+abbrev pub HasDirection : ℕ → List ℤ → Form → Type 0
+HasDirection dim coef row = (divided : Form) × IsDivided dim row divided × (divided.coef ≡ coef)
+
+-- going down the rows, one meets the coefficients of the one form before those of the other
+pub record IsMetBefore (dim : ℕ) (rows : List Form) (one other : Form) : Type 0 where
+  pub count : ℕ
+  pub met : Any (HasDirection dim one.coef) (take count rows)
+  pub not_met : All (λ row. HasDirection dim other.coef row → ⊥) (take count rows)
+
+-- of rows none of which is false: each new row is a divided one, each row with coefficients is tightened, no two new rows
+-- have equal coefficients, and they stand in the order in which the rows first show their coefficients
 pub record AreTightest (dim : ℕ) (rows new : List Form) : Type 0 where
   pub divided : All (λ row. Any (λ old. IsDivided dim old row) rows) new
   pub least : All (λ row. IsConstant dim row ⊎ Any (Tightens dim row) new) rows
   pub distinct : AllPairs (λ a b. a.coef ≢ b.coef) new
+  pub order : AllPairs (IsMetBefore dim rows) new
 
 -- the row 0 >= 1
 abbrev pub impossible : Form

@@ -3,6 +3,7 @@
 
 mod before;
 mod interval;
+mod laws;
 mod normal;
 mod parts;
 mod poly;
@@ -11,4 +12,5 @@ mod search;
 #[cfg(test)]
 mod tests;
 
+pub use laws::normalised_rows_are_unique;
 pub use poly::{Bounds, Poly};

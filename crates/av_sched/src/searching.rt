@@ -100,7 +100,7 @@ pub fn search(alloc: Global, flat: &Flat, edges: &[Edge], reach: Reach) -> Resul
     ensures helpers { IfOk result (λ t. t.helpers ≡ []) }
     ensures legal { IfOk result IsLegal }
 
-    // Else the fault is the first that the system has, and where it has one it is answered, but for want of memory.
+    // Else the fault is the first that the system has, and where it has one it is answered, unless memory runs out.
     ensures fault { IfErr result (IsFault (view_system flat.now) reach.size) }
     ensures refused { (f : FaultSeen) → IsFault (view_system flat.now) reach.size f → f ≢ fault.Memory → (result ≡ Err f) ⊎ (result ≡ Err fault.Memory) }
 {

@@ -10,7 +10,7 @@ use Rattle.av_normal.proofs.Filled.{same_set}
 use Rattle.av_serial.specs.SerialForm.{Chain, AreOfTwo, IsSerialTree, AreSerialPieces, chain_name, IsSerialVariable, AreSerialVariables}
 use Rattle.av_serial.specs.SerialFaults.{IsSum, HasPoint, HasNodes, HaveNodes, HasNodesIn}
 
-point_of : (set domain : Set) → domain.dim ≡ set.dim → AreNormalised set.dim set.rows domain.rows → HasPoint domain → HasPoint set
+pub point_of : (set domain : Set) → domain.dim ≡ set.dim → AreNormalised set.dim set.rows domain.rows → HasPoint domain → HasPoint set
 point_of set domain e s p =
     let own : Set = record { dim = set.dim; rows = domain.rows } in
     (p.0, (normal_set own set p.0 refl s).0 (subst (λ (d : Set). Has d p.0) (same_set domain own e refl) p.1))

@@ -99,7 +99,7 @@ pub record HasMany (s : FlatSystem) (kind : Quantity) (n : ℕ) : Type 0 where
 
 -- ---- faults
 
--- of the first reduction that is refused, and of their number where none is; want of memory has no cause
+-- of the first reduction that is refused, and of their number where none is; out of memory has no cause
 abbrev pub IsFault : FlatSystem → SerialFault → Type 0
 IsFault s (fault.NonUnit name) = IsFirstCause s (fault.NonUnit name)
 IsFault s (fault.Unbounded name) = IsFirstCause s (fault.Unbounded name)

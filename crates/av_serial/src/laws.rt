@@ -15,7 +15,7 @@ ghost use Rattle.av_flat.specs.Solutions.{shows_of, declares_of};
 ghost use Rattle.av_serial.specs.declared.fault.SerialFault.{SerialFault};
 ghost use Rattle.av_serial.specs.declared.fault.SerialFault.TheVariants as fault;
 ghost use Rattle.av_flat.specs.Chained.{IsChained};
-ghost use Rattle.av_flat.specs.OneSolution.{HasOneSolution};
+ghost use Rattle.av_flat.specs.OneSolution.{AreInputs, HasOneSolution};
 ghost use Rattle.av_serial.specs.Lines.{choice_before, choices_of, IsLined, IsLastOver};
 ghost use Rattle.av_serial.specs.SerialForm.{IsSerialForm};
 ghost use Rattle.av_serial.specs.SerialFaults.{IsFault, IsGiven};
@@ -36,14 +36,21 @@ pub fn serial_forms_are_chained()
     ensures { (s t : FlatSystem) → 1 ≤ s.width → IsKept s → IsSerialForm s t → IsChained t }
 {}
 
+/// A law on serial forms: a system has at most one.
+pub fn serial_forms_are_unique()
+    ensures { (s t u : FlatSystem) → IsSerialForm s t → IsSerialForm s u → t ≡ u }
+{}
+
 /// A law on serial forms: where a kept system has no cause for a fault, its serial form is what the pass gives.
 pub fn serial_forms_are_given()
     ensures { (s t : FlatSystem) → 1 ≤ s.width → IsKept s → IsSerialForm s t → ((f : SerialFault) → IsFault s f → f ≡ fault.Memory) → IsGiven s t }
 {}
 
-/// A law on serial forms: where that of a kept system has just one solution for some inputs, the system has.
+/// A law on serial forms: the inputs of a kept system are inputs of its serial form, and where that has just one solution for
+/// them, the system has.
 pub fn one_solution_of_serial_forms()
-    ensures { (s t : FlatSystem) → 1 ≤ s.width → IsKept s → IsSerialForm s t → (x : Assignment) → HasOneSolution t x → HasOneSolution s x }
+    ensures inputs { (s t : FlatSystem) → 1 ≤ s.width → IsKept s → IsSerialForm s t → (x : Assignment) → AreInputs s x → AreInputs t x }
+    ensures one { (s t : FlatSystem) → 1 ≤ s.width → IsKept s → IsSerialForm s t → (x : Assignment) → HasOneSolution t x → HasOneSolution s x }
 {}
 
 /// A law on the read of a chain by its holder: at each point it is of the chain's last point over it, and of none where there is

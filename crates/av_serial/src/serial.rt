@@ -51,7 +51,7 @@ fn serial_form(alloc: Global, flat: &Flat) -> Result<Flat, SerialFault>
 /// those in its body. The name of each is that of the equation's variable, `#` and a number from 1. A reduction without a point
 /// becomes its operator's identity. All other parts stay.
 ///
-/// Want of memory is answered where a request for memory failed, and of a system with more than 2^31 variables, which no text
+/// Out of memory is answered where a request for memory failed, and for a system with more than 2^31 variables, which no text
 /// names.
 #[derive(Clone, Copy, Debug, Drop)]
 pub struct Serial;

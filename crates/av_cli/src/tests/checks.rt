@@ -3,7 +3,7 @@ use crate::Status;
 use av_base::{List, MemSink, MemSource};
 use std::test::Fail;
 
-const MATRIX_VECTOR: &str = "system matvect :{N | N>1}
+pub(super) const MATRIX_VECTOR: &str = "system matvect :{N | N>1}
   (M : {i,j | 1<=i<=N; 1<=j<=N} of integer;
    V : {i | 1<=i<=N} of integer)
   returns (C : {i | 1<=i<=N} of integer);
@@ -17,7 +17,7 @@ let
 tel;
 ";
 
-const UNCOVERED: &str = "system matvect :{N | N>1}
+pub(super) const UNCOVERED: &str = "system matvect :{N | N>1}
   (M : {i,j | 1<=i<=N; 1<=j<=N} of integer;
    V : {i | 1<=i<=N} of integer)
   returns (C : {i | 1<=i<=N} of integer);
@@ -39,7 +39,7 @@ let
 tel;
 ";
 
-const UNBOUNDED: &str =
+pub(super) const UNBOUNDED: &str =
     "system inc (X : {i | i>=1} of integer)\n  returns (Y : {i | i>=1} of integer);\nlet Y[i] = X[i] + 1; tel;\n";
 
 const LARGEST_BOX: &str =
@@ -57,7 +57,7 @@ const BAD_BYTE: &str =
 const SECOND_EQUATION: &str =
     "system t (A : {i | 0<=i<=2} of integer) returns (Y : {i | 0<=i<=2} of integer);\nlet Y[i] = A[i]; Y[i] = 1; tel;\n";
 
-const HALVES: &str =
+pub(super) const HALVES: &str =
     "system halves (X : {i | 0<=i<=2} of integer)\n  returns (Y : {i | 0<=i<=4} of integer);\nlet Y[i] = reduce(+, (i,j -> i), {i,j | 0<=j; 2j<=i} : X[j]); tel;\n";
 
 // The words, the input, the status and the output.

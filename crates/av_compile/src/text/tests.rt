@@ -1,5 +1,5 @@
 use super::read_form;
-use crate::Refusal;
+use crate::FormRefusal;
 use std::alloc::Global;
 use std::test::Fail;
 
@@ -16,8 +16,8 @@ fn shown(alloc: Global, text: &str) -> Result<String, Fail> {
             let (low, high, right) = (form.low, form.high, form.right);
             Ok(format!(in alloc; "{input} {output} {low} {high} {right:?}")?)
         }
-        Err(Refusal::NotThisForm) => Ok(format!(in alloc; "{REFUSED}")?),
-        Err(Refusal::Memory) => Ok(format!(in alloc; "memory")?),
+        Err(FormRefusal::NotThisForm) => Ok(format!(in alloc; "{REFUSED}")?),
+        Err(FormRefusal::Memory) => Ok(format!(in alloc; "memory")?),
     }
 }
 

@@ -1,6 +1,6 @@
-use Rattle.std.proofs.Common.{Err, ap}
+use Rattle.std.proofs.Common.{Err, ap, refl}
 use Rattle.av_cli.specs.declared.status.Status.TheVariants.{Refused}
-use Rattle.av_cli.proofs.Answered.{read_of, whole, front, as_wanted, too_long_left, writes_too_long, complete_refused, answered_refused, answered_done, answered_fault, answered_complete}
+use Rattle.av_cli.proofs.Answered.{read_of, whole, front, as_wanted, too_long_left, writes_too_long, complete_refused, complete_memory, answered_refused, answered_done, answered_fault, answered_complete}
 use Rattle.av_cli.proofs.program.alphav.Goals as goal
 
 -- ---- too long
@@ -43,3 +43,8 @@ returns-in-Ok-clause-complete g c =
     λ _ no_fault.
     let answered = rw c.as_slice.ensures at c.answer.ensures in
     answered_complete c.in-Some.command _ _ _ _ c.in-Some.ensures.read c.in-Ok.ensures.bytes c.in-Ok.ensures.end c.in-Ok.ensures.within answered no_fault
+
+-- ---- no memory for the bytes
+
+pub returns-in-Err-Memory-clause-complete : goal.returns-in-Err-Memory-clause-complete
+returns-in-Err-Memory-clause-complete g c = λ _ _. complete_memory _ _ _ (read_of c.in-Some.command _ c.in-Some.ensures.read) refl

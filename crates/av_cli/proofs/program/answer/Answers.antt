@@ -1,9 +1,10 @@
 use Rattle.std.proofs.Common.{subst}
 use Rattle.av_cli.specs.declared.words.Command.{Command}
-use Rattle.av_cli.specs.declared.words.Command.TheVariants.{Check, Emit, Sim}
+use Rattle.av_cli.specs.declared.words.Command.TheVariants.{Check, Schedule, Emit, Sim}
 use Rattle.av_cli.specs.CommandsSeen.{Are}
 use Rattle.av_cli.proofs.Answered.{by_command}
 use Rattle.av_cli.proofs.Checking.{check_answered}
+use Rattle.av_cli.proofs.Scheduling.{schedule_answered}
 use Rattle.av_cli.proofs.program.answer.Goals as goal
 
 pub returns-in-Check : goal.returns-in-Check
@@ -12,6 +13,15 @@ returns-in-Check g c =
     let bytes = c.args.bytes.now in
     by_command c.args.command (Check c.in-Check.width) words bytes c.in-Check.is
     (check_answered words c.in-Check.width.bits bytes (subst (λ (x : Command). Are x words) c.in-Check.is c.requires.read) c.check.ensures)
+
+pub returns-in-Schedule : goal.returns-in-Schedule
+returns-in-Schedule g c =
+    let words = c.args.words.now in
+    let bytes = c.args.bytes.now in
+    let width = c.in-Schedule.width in
+    let reach = c.in-Schedule.reach in
+    by_command c.args.command (Schedule width reach) words bytes c.in-Schedule.is
+    (schedule_answered words width.bits reach.size bytes (subst (λ (x : Command). Are x words) c.in-Schedule.is c.requires.read) c.schedule.ensures)
 
 pub returns-in-Emit : goal.returns-in-Emit
 returns-in-Emit g c = by_command c.args.command (Emit c.in-Emit.width) c.args.words.now c.args.bytes.now c.in-Emit.is c.emit.ensures

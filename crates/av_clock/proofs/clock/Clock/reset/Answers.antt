@@ -1,25 +1,25 @@
-use Rattle.std.proofs.Common.{◌≡◌, ◌∙◌, true, false, refl}
-use Rattle.av_clock.specs.Named.{named}
-use Rattle.av_clock.proofs.Views.{agree_call, edge_call, reset_call, fit_call, size_call}
+use Rattle.std.proofs.Common.{◌≡◌, ◌∙◌, true, false}
+use Rattle.av_clock.proofs.Views.{agree_call, edge_seen, size_call, fit_call, held_lent, held_call}
 use Rattle.av_clock.proofs.clock.Clock.reset.Goals as goal
 
-pub store-requires-clause-fitting : goal.store-requires-clause-fitting
-store-requires-clause-fitting c =
-    reset_call c.self.inside.circuit c.self.inside.next c.reset_words.new.next _ c.deref.result.now c.self.invariant.sound c.reset_words.ensures c.reset_words.auto.next c.deref_mut.ensures.value c.deref.ensures.value
-
 pub returns-clause-edge : goal.returns-clause-edge
-returns-clause-edge c =
-    edge_call c.args.self.now c.self.inside.circuit c.self.inside.words c.self.inside.next true c.self.inside.settled c.self.inside.words.items c.reset_words.new.next _ c.deref.result.now _ c.store.new.words c.self.view_is
-    refl (c.reset_words.ensures (named c.self.inside.circuit c.self.inside.words.items)) c.reset_words.auto.next c.deref_mut.ensures.value c.deref.ensures.value c.store.auto.words c.deref_mut-2.ensures.value c.store.ensures.registers
+returns-clause-edge c = edge_seen c.args.self.now c.self.inside.circuit c.self.inside.words _ c.reset.new.words true c.self.inside.settled c.self.inside.work c.self.view_is c.reset.auto.words c.deref_mut.ensures.value c.reset.ensures.edge
 
 pub returns-clause-ports : goal.returns-clause-ports
-returns-clause-ports c = agree_call c.args.self.now c.self.inside.circuit c.self.inside.words _ c.store.new.words _ c.self.inside.settled c.self.view_is c.store.auto.words c.deref_mut-2.ensures.value c.store.ensures.ports
+returns-clause-ports c = agree_call c.args.self.now c.self.inside.circuit c.self.inside.words _ c.reset.new.words _ c.self.inside.settled c.self.inside.work c.self.view_is c.reset.auto.words c.deref_mut.ensures.value c.reset.ensures.ports
 
 pub invariant_of-self : goal.invariant_of-self
 invariant_of-self c = record {
   sound = c.self.invariant.sound;
-  size = size_call c.self.inside.words _ c.store.new.words c.store.auto.words c.deref_mut-2.ensures.value ∙ c.self.invariant.size;
-  fit = fit_call c.self.inside.circuit c.self.inside.words _ c.store.new.words c.store.auto.words c.deref_mut-2.ensures.value c.store.ensures.fit;
+  size = size_call c.self.inside.words _ c.reset.new.words c.reset.auto.words c.deref_mut.ensures.value ∙ c.self.invariant.size;
+  fit = fit_call c.self.inside.circuit c.self.inside.words _ c.reset.new.words c.reset.auto.words c.deref_mut.ensures.value c.reset.ensures.fit;
   settled = λ flag. absurd (let e : false ≡ true = flag in cc);
-  next = size_call c.self.inside.next _ c.reset_words.new.next c.reset_words.auto.next c.deref_mut.ensures.value ∙ c.self.invariant.next;
+  next = size_call c.self.inside.next _ c.reset.new.next c.reset.auto.next c.deref_mut-2.ensures.value ∙ c.self.invariant.next;
+  taken = size_call c.self.inside.taken _ c.reset.new.taken c.reset.auto.taken c.deref_mut-3.ensures.value ∙ c.self.invariant.taken;
+  stale = c.reset.ensures.stale ∙ c.self.invariant.stale;
+  due = c.reset.ensures.due ∙ c.self.invariant.due;
+  held = λ some. held_call c.self.inside.circuit c.self.inside.words _ c.reset.new.words c.reset.new.stale c.reset.new.due c.reset.auto.words c.deref_mut.ensures.value
+      (c.reset.ensures.held (held_lent c.self.inside.circuit c.self.inside.words _ c.self.inside.stale c.self.inside.due c.deref_mut.ensures.value (c.self.invariant.held some)));
+  marked = λ flag. absurd (let e : false ≡ true = flag in cc);
+  first = c.self.invariant.first;
 }

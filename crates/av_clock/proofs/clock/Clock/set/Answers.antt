@@ -1,21 +1,38 @@
 use Rattle.std.proofs.Common.{◌≡◌, false, true, ◌∙◌}
-use Rattle.std.proofs.Math.ListN.{length-set}
-use Rattle.av_clock.proofs.Views.{set_fits, set_port, set_others, port_seen, fits_seen}
+use Rattle.av_clock.proofs.Views.{set_call, set_port_call, set_others_call, set_fits_call, set_held_call, size_call, port_seen, fits_seen}
 use Rattle.av_clock.proofs.clock.Clock.set.Goals as goal
 
+pub returns-clause-words : goal.returns-clause-words
+returns-clause-words c =
+    set_call c.args.self.now c.self.inside.circuit c.self.inside.words _ c.write.new.words c.self.inside.settled c.self.inside.work c.args.port c.args.value c.self.view_is c.write.auto.words c.deref_mut.ensures.value c.write.ensures.words
+
 pub returns-clause-port : goal.returns-clause-port
-returns-clause-port c = set_port c.args.self.now c.self.inside.circuit c.self.inside.words.items c.self.inside.settled c.args.port c.args.value c.self.view_is c.self.invariant.sound c.self.invariant.size
+returns-clause-port c =
+    set_port_call c.args.self.now c.self.inside.circuit c.self.inside.words _ c.write.new.words c.self.inside.settled c.self.inside.work c.args.port c.args.value c.self.view_is c.self.invariant.sound c.self.invariant.size
+    c.write.auto.words c.deref_mut.ensures.value c.write.ensures.words
 
 pub returns-clause-others : goal.returns-clause-others
-returns-clause-others c = set_others c.args.self.now c.self.inside.circuit c.self.inside.words.items c.self.inside.settled c.args.port c.args.value c.self.view_is c.self.invariant.sound c.self.invariant.size
+returns-clause-others c =
+    set_others_call c.args.self.now c.self.inside.circuit c.self.inside.words _ c.write.new.words c.self.inside.settled c.self.inside.work c.args.port c.args.value c.self.view_is c.self.invariant.sound c.self.invariant.size
+    c.write.auto.words c.deref_mut.ensures.value c.write.ensures.words
 
 pub invariant_of-self : goal.invariant_of-self
 invariant_of-self c = record {
   sound = c.self.invariant.sound;
-  size = length-set c.self.inside.words.items c.args.port c.args.value ∙ c.self.invariant.size;
-  fit = set_fits c.self.inside.circuit c.self.inside.words.items c.args.port c.args.value c.self.invariant.sound c.self.invariant.size
-      (port_seen c.args.self.now c.self.inside.circuit c.self.inside.words.items c.self.inside.settled c.args.port c.self.view_is c.requires.port)
-      (fits_seen c.args.self.now c.self.inside.circuit c.self.inside.words.items c.self.inside.settled c.args.port c.args.value c.self.view_is c.requires.fits) c.self.invariant.fit;
+  size = size_call c.self.inside.words _ c.write.new.words c.write.auto.words c.deref_mut.ensures.value ∙ c.self.invariant.size;
+  fit = set_fits_call c.self.inside.circuit c.self.inside.words _ c.write.new.words c.args.port c.args.value c.self.invariant.sound c.self.invariant.size
+      (port_seen c.args.self.now c.self.inside.circuit c.self.inside.words.items c.self.inside.settled c.self.inside.work c.args.port c.self.view_is c.requires.port)
+      (fits_seen c.args.self.now c.self.inside.circuit c.self.inside.words.items c.self.inside.settled c.self.inside.work c.args.port c.args.value c.self.view_is c.requires.fits) c.self.invariant.fit
+      c.write.auto.words c.deref_mut.ensures.value c.write.ensures.words;
   settled = λ flag. absurd (let e : false ≡ true = flag in cc);
   next = c.self.invariant.next;
+  taken = c.self.invariant.taken;
+  stale = c.write.ensures.stale ∙ c.self.invariant.stale;
+  due = c.write.ensures.due ∙ c.self.invariant.due;
+  held = λ some.
+      set_held_call c.self.inside.circuit c.self.inside.words _ c.write.new.words c.args.port c.args.value c.self.inside.stale c.write.new.stale c.self.inside.due c.write.new.due c.self.invariant.sound c.self.invariant.size
+      (port_seen c.args.self.now c.self.inside.circuit c.self.inside.words.items c.self.inside.settled c.self.inside.work c.args.port c.self.view_is c.requires.port)
+      c.write.auto.words c.deref_mut.ensures.value c.write.ensures.words c.write.ensures.same (c.self.invariant.held some);
+  marked = λ flag. absurd (let e : false ≡ true = flag in cc);
+  first = c.self.invariant.first;
 }

@@ -1,8 +1,34 @@
-use Rattle.av_clock.proofs.Views.{agree_call, settled_call}
+use Rattle.std.proofs.Common.{◌≡◌, ◌∙◌, ap}
+use Rattle.av_clock.specs.Seen.{Seen}
+use Rattle.av_clock.proofs.Views.{agree_call, settled_call, size_call, fit_call, held_lent, held_call, first_none, first_empty}
 use Rattle.av_clock.proofs.clock.Clock.settle.Goals as goal
 
+pub settle_marked-computed-requires-clause-held : goal.settle_marked-computed-requires-clause-held
+settle_marked-computed-requires-clause-held c = held_lent c.self.inside.circuit c.self.inside.words _ c.self.inside.stale c.self.inside.due c.deref_mut.ensures.value (c.self.invariant.held c.if-self.false)
+
 pub returns-clause-settled : goal.returns-clause-settled
-returns-clause-settled c = settled_call c.self.inside.circuit c.self.inside.words _ c.settle.new.words c.settle.auto.words c.deref_mut.ensures.value c.settle.ensures.settled
+returns-clause-settled c = settled_call c.self.inside.circuit c.self.inside.words _ c.settle_marked-computed.new.words c.settle_marked-computed.auto.words c.deref_mut.ensures.value c.settle_marked-computed.ensures.settled
 
 pub returns-clause-given : goal.returns-clause-given
-returns-clause-given c = agree_call c.args.self.now c.self.inside.circuit c.self.inside.words _ c.settle.new.words _ c.self.inside.settled c.self.view_is c.settle.auto.words c.deref_mut.ensures.value c.settle.ensures.given
+returns-clause-given c =
+    agree_call c.args.self.now c.self.inside.circuit c.self.inside.words _ c.settle_marked-computed.new.words _ c.self.inside.settled c.self.inside.work c.self.view_is c.settle_marked-computed.auto.words c.deref_mut.ensures.value c.settle_marked-computed.ensures.given
+
+pub returns-clause-first : goal.returns-clause-first
+returns-clause-first c = λ none.
+    let none' = ap (λ (s : Seen). s.work) c.self.view_is ∙ none in
+    first_empty c.self.inside.work c.settle_marked-computed.result c.saturating_add-self-inside.result _ c.saturating_add-self-inside.ensures c.settle_marked-computed.ensures.most none' (c.self.invariant.first none' c.if-self.false)
+
+pub invariant_of-self : goal.invariant_of-self
+invariant_of-self c = record {
+  sound = c.self.invariant.sound;
+  size = size_call c.self.inside.words _ c.settle_marked-computed.new.words c.settle_marked-computed.auto.words c.deref_mut.ensures.value ∙ c.self.invariant.size;
+  fit = fit_call c.self.inside.circuit c.self.inside.words _ c.settle_marked-computed.new.words c.settle_marked-computed.auto.words c.deref_mut.ensures.value c.settle_marked-computed.ensures.fit;
+  settled = λ flag. settled_call c.self.inside.circuit c.self.inside.words _ c.settle_marked-computed.new.words c.settle_marked-computed.auto.words c.deref_mut.ensures.value c.settle_marked-computed.ensures.settled;
+  next = c.self.invariant.next;
+  taken = c.self.invariant.taken;
+  stale = c.settle_marked-computed.ensures.stale ∙ c.self.invariant.stale;
+  due = c.settle_marked-computed.ensures.due ∙ c.self.invariant.due;
+  held = λ some. held_call c.self.inside.circuit c.self.inside.words _ c.settle_marked-computed.new.words c.settle_marked-computed.new.stale c.settle_marked-computed.new.due c.settle_marked-computed.auto.words c.deref_mut.ensures.value c.settle_marked-computed.ensures.held;
+  marked = λ flag. c.if-self.false;
+  first = λ none some. c.self.invariant.first (first_none c.self.inside.work c.settle_marked-computed.result c.saturating_add-self-inside.result c.saturating_add-self-inside.ensures none) some;
+}

@@ -1,0 +1,82 @@
+-- How the answers of `schedule` follow from what its steps did.
+use Rattle.std.proofs.Common.{◌≡◌, ◌≢◌, ℕ, List, Option, refl, ap, subst, ◌∙◌, inl, inr}
+use Rattle.std.specs.Prelude.{codes}
+use Rattle.av_flat.specs.declared.timed.Timed.{Timed}
+use Rattle.av_flat.specs.Trees.{FlatSystem, view_system}
+use Rattle.av_names.specs.declared.size.Size.{Size}
+use Rattle.av_normal.specs.NormalFaults as normalised
+use Rattle.av_normal.proofs.Unique as normal
+use Rattle.av_serial.specs.SerialFaults as serialised
+use Rattle.av_serial.proofs.Unique as serial
+use Rattle.av_sched.specs.SchedFaults as searched
+use Rattle.av_data.specs.Schedules.{schedule_text}
+use Rattle.av_compile.specs.declared.refusal.Refusal.{Refusal}
+use Rattle.av_compile.specs.declared.refusal.Refusal.TheVariants as refusal
+use Rattle.av_compile.specs.Refusals.{of_serial, of_sched}
+use Rattle.av_compile.specs.Scheduled.{Normalises, Serialises, IsScheduled, HasOneSolutionEach, IsUnscheduled, in_text, in_reductions, in_search}
+use Rattle.av_cli.specs.declared.status.Status.{Status}
+use Rattle.av_cli.specs.declared.status.Status.TheVariants.{Done, Refused, Memory}
+use Rattle.av_cli.specs.Commands.{GiveSizes, IsSchedule}
+use Rattle.av_cli.specs.Refusals.{refusal_line}
+use Rattle.av_cli.specs.SystemRefusals.{system_reason}
+use Rattle.av_cli.specs.Schedules.{RefusesSchedule, GivesSchedule, RefusesScheduleWith, GivesScheduleWith}
+use Rattle.av_cli.specs.Written.{IsPut, IsAnswered, refused, given, no_memory}
+use Rattle.av_cli.proofs.Checking.{one_flat, exclusive, memory_or_not}
+use Rattle.av_cli.proofs.GivenSizes.{with_sizes}
+
+-- ---- refused or given, and not both
+
+one_normal : (bytes : List ℕ) (sizes : List Size) (bits : ℕ) (s t : FlatSystem) → Normalises bytes sizes bits s → Normalises bytes sizes bits t → s ≡ t
+one_normal bytes sizes bits s t a b =
+    let same = one_flat bytes sizes bits a.flat b.flat a.flattens b.flattens in
+    normal.unique b.flat s t (subst (λ (x : FlatSystem). normalised.IsGiven x s) same a.given).form b.given.form
+
+one_serial : (bytes : List ℕ) (sizes : List Size) (bits : ℕ) (s t : FlatSystem) → Serialises bytes sizes bits s → Serialises bytes sizes bits t → s ≡ t
+one_serial bytes sizes bits s t a b =
+    let same = one_normal bytes sizes bits a.normal b.normal a.normalises b.normalises in
+    serial.unique b.normal s t (subst (λ (x : FlatSystem). serialised.IsGiven x s) same a.given).form b.given.form
+
+pub exclusive_schedule : (sizes : List Size) (bits box : ℕ) (bytes reason out : List ℕ) → RefusesSchedule sizes bits box bytes reason → GivesSchedule sizes bits box bytes out → ⊥
+exclusive_schedule sizes bits box bytes reason out r g = go r.first
+  where
+    is : Serialises bytes sizes bits (view_system g.timed.flat)
+    is = g.scheduled.serialises
+
+    go : IsUnscheduled bytes sizes bits box r.cause → ⊥
+    go (in_text h) =
+        let n = is.normalises in
+        exclusive sizes bits bytes (codes "ok\n") r.cause h r.some (record { flat = n.flat; flattens = n.flattens; normal = n.given.no_cause; proper = n.proper; line = refl })
+    go (in_reductions f e s normalises fault) =
+        let same = one_normal bytes sizes bits s is.normal normalises is.normalises in
+        r.some (e ∙ ap of_serial (is.given.no_cause f (subst (λ (x : FlatSystem). serialised.IsFault x f) same fault)))
+    go (in_search f e s serialises fault) =
+        let same = one_serial bytes sizes bits s (view_system g.timed.flat) serialises is in
+        r.some (e ∙ ap of_sched (g.scheduled.no_cause f (subst (λ (x : FlatSystem). searched.IsFault x box f) same fault)))
+
+-- ---- answers
+
+pub schedule_refused : (words : List (List ℕ)) (sizes : List Size) (bits box : ℕ) (bytes : List ℕ) (f : Refusal) {held held' : Option (List ℕ)} {faults faults' : ℕ} {status : Status}
+    → GiveSizes words sizes → (f ≢ refusal.Memory → IsUnscheduled bytes sizes bits box f) → (f ≡ refusal.Memory → (status ≡ Memory) × (held' ≡ held))
+    → ((f ≡ refusal.Memory → ⊥) → IsPut held held' faults faults' (refusal_line (system_reason f)) Refused status)
+    → IsAnswered (RefusesScheduleWith words bits box bytes) (GivesScheduleWith words bits box bytes) held held' faults faults' status
+schedule_refused words sizes bits box bytes f give first none put =
+    elim (memory_or_not f) [
+      | inl memory ↦ (let (a, b) = none memory in no_memory a b)
+      | inr some ↦ refused (record { sizes = sizes; give = give; refuses = record { cause = f; first = first some; some = some; told = refl } }) (put some)
+    ]
+
+pub schedule_given : (words : List (List ℕ)) (sizes : List Size) (bits box : ℕ) (bytes : List ℕ) (t : Timed) {held held' : Option (List ℕ)} {faults faults' : ℕ} {status : Status}
+    → GiveSizes words sizes → IsScheduled bytes sizes bits box t → HasOneSolutionEach bytes sizes bits → IsPut held held' faults faults' (schedule_text t) Done status
+    → IsAnswered (RefusesScheduleWith words bits box bytes) (GivesScheduleWith words bits box bytes) held held' faults faults' status
+schedule_given words sizes bits box bytes t give is one put =
+    given (record { sizes = sizes; give = give; gives = record { timed = t; scheduled = is; one_solution = one; lines = refl } }) put
+
+-- the words are those that the command was read from
+pub schedule_answered : (words : List (List ℕ)) (bits box : ℕ) (bytes : List ℕ) {held held' : Option (List ℕ)} {faults faults' : ℕ} {status : Status} → ((found : List Size) × IsSchedule words bits box found)
+    → IsAnswered (RefusesScheduleWith words bits box bytes) (GivesScheduleWith words bits box bytes) held held' faults faults' status
+    → IsAnswered (λ reason. (sizes : List Size) × IsSchedule words bits box sizes × RefusesSchedule sizes bits box bytes reason)
+    (λ out. (sizes : List Size) × IsSchedule words bits box sizes × GivesSchedule sizes bits box bytes out)
+    held held' faults faults' status
+schedule_answered words bits box bytes (found, is) (refused r put) = refused (r.sizes, with_sizes (codes "schedule") words bits box found r.sizes is r.give, r.refuses) put
+schedule_answered words bits box bytes (found, is) (given g put) = given (g.sizes, with_sizes (codes "schedule") words bits box found g.sizes is g.give, g.gives) put
+schedule_answered words bits box bytes found (no_memory a b) = no_memory a b

@@ -1,0 +1,9 @@
+use Rattle.std.proofs.Common.{◌-◌, length}
+use Rattle.av_clock.proofs.Held.{SettlesMarked}
+use Rattle.av_clock.proofs.circuit.Circuit.settle_marked.Given as goal
+
+abbrev pub invariant-loop-drive : goal.invariant-loop-drive
+invariant-loop-drive l = SettlesMarked l.self l.fn.words l.words l.stale l.due l.drive l.computed
+
+abbrev pub decreases-loop-drive : goal.decreases-loop-drive
+decreases-loop-drive l = length l.self.drives - l.drive

@@ -1,0 +1,26 @@
+use Rattle.std.proofs.Common.{◌≡◌, length, ◌∙◌, ap, refl, sym, false, true}
+use Rattle.std.proofs.lemmas.List.{length-replicate}
+use Rattle.av_clock.proofs.Views.{agree_call, settled_call, size_call, fit_call, settled_held, first_count}
+use Rattle.av_clock.proofs.clock.Clock.settle_all.Goals as goal
+
+pub returns-clause-settled : goal.returns-clause-settled
+returns-clause-settled c = settled_call c.self.inside.circuit c.self.inside.words _ c.settle.new.words c.settle.auto.words c.deref_mut.ensures.value c.settle.ensures.settled
+
+pub returns-clause-given : goal.returns-clause-given
+returns-clause-given c =
+    agree_call c.args.self.now c.self.inside.circuit c.self.inside.words _ c.settle.new.words _ c.self.inside.settled c.self.inside.work c.self.view_is c.settle.auto.words c.deref_mut.ensures.value c.settle.ensures.given
+
+pub invariant_of-self : goal.invariant_of-self
+invariant_of-self c = record {
+  sound = c.self.invariant.sound;
+  size = size_call c.self.inside.words _ c.settle.new.words c.settle.auto.words c.deref_mut.ensures.value ∙ c.self.invariant.size;
+  fit = fit_call c.self.inside.circuit c.self.inside.words _ c.settle.new.words c.settle.auto.words c.deref_mut.ensures.value c.settle.ensures.fit;
+  settled = λ flag. settled_call c.self.inside.circuit c.self.inside.words _ c.settle.new.words c.settle.auto.words c.deref_mut.ensures.value c.settle.ensures.settled;
+  next = c.self.invariant.next;
+  taken = c.self.invariant.taken;
+  stale = ap length c.fill.ensures ∙ length-replicate _ false ∙ c.self.invariant.stale;
+  due = ap length c.fill-2.ensures ∙ length-replicate _ true ∙ c.self.invariant.due;
+  held = λ some. settled_held c.self.inside.circuit _ c.fill.new.self c.fill-2.new.self _ c.fill-2.ensures (settled_call c.self.inside.circuit c.self.inside.words _ c.settle.new.words c.settle.auto.words c.deref_mut.ensures.value c.settle.ensures.settled);
+  marked = λ flag. refl;
+  first = λ none some. sym c.drives.ensures ∙ first_count c.self.inside.work c.drives.result c.saturating_add-self-inside.result c.saturating_add-self-inside.ensures none;
+}
