@@ -8,6 +8,7 @@ ghost use Rattle.av_flat.specs.Proper.{IsProper};
 ghost use Rattle.av_names.specs.Texts.{AreSmall};
 
 mod limits;
+mod listed;
 mod placed;
 mod rows;
 mod texts;
@@ -118,6 +119,24 @@ fn lines(alloc: Global, timed: &Timed) -> Result<String, Fail> {
         push_point(&mut to, &time.linear)?;
         write!(&mut to, ") {}", time.offset)?;
         node = node.wrapping_add(1);
+    }
+    Ok(to)
+}
+
+/// The edges of a text as pairs of nodes with their points, joined by semicolons.
+fn edge_lines(alloc: Global, text: &str, n: i64) -> Result<String, Fail> {
+    let flat = chained(alloc, text, n)?;
+    let mut to = String::new(alloc);
+    for edge in edges(alloc, &flat)?.as_slice() {
+        if !to.as_str().is_empty() {
+            to.push_str("; ")?;
+        }
+        write!(&mut to, "{} reads {} at", edge.consumer, edge.producer)?;
+        for point in edge.points.as_slice() {
+            to.push_str(" (")?;
+            push_point(&mut to, point)?;
+            to.push_str(")")?;
+        }
     }
     Ok(to)
 }

@@ -1,4 +1,5 @@
 pub mod Lines
 pub mod SerialForm
 pub mod SerialFaults
+pub mod Dependences
 pub mod inner

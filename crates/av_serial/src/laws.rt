@@ -1,13 +1,16 @@
 //! Laws of serial forms, each the contract of a function that does nothing.
 
-ghost use Rattle.std.specs.Prelude.{ℤ, pos, ◌-ℤ◌, ◌≡◌, ◌≤◌, [], ◌∷◌, length, if◌then◌else◌, Some, None};
+ghost use Rattle.std.specs.Prelude.{ℕ, ℤ, pos, ◌-ℤ◌, ◌≡◌, ◌≤◌, ◌↔◌, IsTrue, Contains, List, [], ◌∷◌, length, slice_get, if◌then◌else◌, Some, None};
 ghost use Rattle.av_affine.specs.declared.map.Map.{Map};
 ghost use Rattle.av_poly.specs.Points.{Set, Has};
 ghost use Rattle.av_tree.specs.Points.{Point};
 ghost use Rattle.av_tree.specs.Values.{Assignment};
-ghost use Rattle.av_flat.specs.Trees.{FlatSystem};
+ghost use Rattle.av_flat.specs.Trees.{Tree, Piece, Variable, FlatSystem};
 ghost use Rattle.av_flat.specs.Points.{has, point_over};
 ghost use Rattle.av_flat.specs.Values.{picked};
+ghost use Rattle.av_flat.specs.Nodes.{nodes, IsComputation};
+ghost use Rattle.av_flat.specs.Reads.{IsPair};
+ghost use Rattle.av_flat.specs.Broadcasts.{Reference, references};
 ghost use Rattle.av_flat.specs.Kept.{IsKept};
 ghost use Rattle.av_flat.specs.Proper.{IsProper};
 ghost use Rattle.av_flat.specs.Shown.{SameMeaning};
@@ -19,6 +22,7 @@ ghost use Rattle.av_flat.specs.OneSolution.{AreInputs, HasOneSolution};
 ghost use Rattle.av_serial.specs.Lines.{choice_before, choices_of, IsLined, IsLastOver};
 ghost use Rattle.av_serial.specs.SerialForm.{IsSerialForm};
 ghost use Rattle.av_serial.specs.SerialFaults.{IsFault, IsGiven};
+ghost use Rattle.av_serial.specs.Dependences.{IsComputedBy, IsKeptComputation, IsKeptPair};
 
 /// A law on serial forms: what a kept system shows its serial form shows, and nothing else.
 pub fn serial_forms_show_the_same()
@@ -51,6 +55,16 @@ pub fn serial_forms_are_given()
 pub fn one_solution_of_serial_forms()
     ensures inputs { (s t : FlatSystem) → 1 ≤ s.width → IsKept s → IsSerialForm s t → (x : Assignment) → AreInputs s x → AreInputs t x }
     ensures one { (s t : FlatSystem) → 1 ≤ s.width → IsKept s → IsSerialForm s t → (x : Assignment) → HasOneSolution t x → HasOneSolution s x }
+{}
+
+/// A law on serial forms: the nodes of one compute and read what the system's variables and reductions do, and refer to the same
+/// variables by the same maps.
+pub fn serial_forms_keep_dependences()
+    ensures computations { (s t : FlatSystem) → 1 ≤ s.width → IsKept s → IsSerialForm s t → (n : ℕ) (z : Point) → IsKeptComputation s n z ↔ IsComputation t n z }
+    ensures pairs { (s t : FlatSystem) → 1 ≤ s.width → IsKept s → IsSerialForm s t → (n : ℕ) (z : Point) (k : ℕ) (y : Point) → IsKeptPair s n z k y ↔ IsPair t n z k y }
+    ensures references { (s t : FlatSystem) → 1 ≤ s.width → IsKept s → IsSerialForm s t → (n : ℕ) (z : Point) (sites : List Reference) →
+        ((first : ℕ) × (tree : Tree) × IsComputedBy s n z first tree × (references tree ≡ sites))
+        ↔ ((v : Variable) × (piece : Piece) × (slice_get (nodes t) n ≡ Some v) × Contains v.pieces piece × IsTrue (has piece.domain z) × (references piece.tree ≡ sites)) }
 {}
 
 /// A law on the read of a chain by its holder: at each point it is of the chain's last point over it, and of none where there is

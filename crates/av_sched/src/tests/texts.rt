@@ -57,3 +57,7 @@ returns (X : {i,j,k | 0<=i<=3; 0<=j<=3; 0<=k<=3} of integer; \
 Y : {i,j,k | 0<=i<=3; 0<=j<=3; 0<=k<=3} of integer; \
 Z : {i,j,k | 0<=i<=3; 0<=j<=3; 0<=k<=3} of integer); \
 let X[i,j,k] = Y[i,j,k]; Y[i,j,k] = Z[i,j,k]; Z[i,j,k] = X[i,j,k]; tel;";
+
+pub(super) const SWEEP: &str = "system sweep (A : {j | 0<=j<=255} of integer) \
+    returns (S : {i,j | 0<=i<=255; 0<=j<=255} of integer); \
+    let S[i,j] = case {| i=0} : A[j]; {| i>=1} : S[i-1,j] + 1; esac; tel;";
