@@ -25,3 +25,4 @@ pub mod Shifted
 pub mod Pricing
 pub mod Ways
 pub mod Whole
+pub mod OneSchedule

@@ -6,6 +6,7 @@ mod choose;
 mod cost;
 mod direction;
 mod fault;
+mod laws;
 mod lead;
 mod leaf;
 mod limit;
@@ -21,6 +22,7 @@ mod vector;
 mod walk;
 
 pub use fault::SchedFault;
+pub use laws::first_schedules_are_unique;
 pub use placing::offsets;
 pub use searching::search;
 
