@@ -9,4 +9,4 @@ pub mod SpaceFaults
 pub mod Arrays
 pub mod Whole
 pub mod ArrayForm
-mod inner
+pub mod inner
