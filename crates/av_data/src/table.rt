@@ -1,6 +1,5 @@
-ghost use Rattle.std.specs.Prelude.{◌≡◌, ◌≤◌, ◌++◌, map, filter, slice_get, codes, IsErr, OnOk, OnErr};
+ghost use Rattle.std.specs.Prelude.{◌≡◌, ◌≤◌, map, filter, slice_get, IsErr, OnOk, OnErr};
 ghost use Rattle.std.specs.List.{flat_map};
-ghost use Rattle.std.specs.Option.{option_map};
 ghost use Rattle.av_base.specs.Outside.{Adds, AddsPrefix, HasRisen};
 ghost use Rattle.av_page.specs.Pages.{Puts};
 ghost use Rattle.av_flat.specs.Trees.{view_variable};
@@ -49,24 +48,17 @@ fn write_cell<K: Sink>(page: &mut Page, sink: &mut K, vars: &[Var], number: usiz
     page.put(sink, "cell ");
     page.put_number(sink, number);
     page.put(sink, " ");
-    page.put(sink, name_of(node(vars, cell.node)));
+    page.put(sink, node_name(vars, cell.node));
     page.put(sink, " ");
     write_point(page, sink, &cell.at);
     page.put(sink, "\n");
 }
 
-// The variable that is the node with this number.
-fn node(vars: &[Var], number: u32) -> Option<&Var>
-    ensures { option_map (λ var. view_variable var.now) result ≡ slice_get (filter is_node (map view_variable vars.now)) number }
+// The name of the node with this number; nothing where there is no such node.
+fn node_name(vars: &[Var], number: u32) -> &str
+    ensures { result.now ≡ name_of (slice_get (filter is_node (map view_variable vars.now)) number) }
 {
-    vars.iter().filter(|var| var.is_node()).nth(number as usize)
-}
-
-// The name of a variable; nothing where there is none.
-fn name_of(var: Option<&Var>) -> &str
-    ensures { result.now ≡ name_of (option_map (λ v. view_variable v.now) var) }
-{
-    match var {
+    match vars.iter().filter(|var| var.is_node()).nth(number as usize) {
         Some(var) => var.name.as_str(),
         None => "",
     }
