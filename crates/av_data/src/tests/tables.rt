@@ -293,13 +293,7 @@ fn assert_table(
 fn the_table_of_a_matrix_product(rt: HostRuntime) -> Result<(), Fail> {
     let alloc = rt.alloc();
     let timed = timed(alloc, PRODUCT_VARIABLES)?;
-    let cells = array(
-        alloc,
-        PRODUCT_CELLS,
-        PRODUCT_INS,
-        PRODUCT_ATS,
-        [5, 10, 12],
-    )?;
+    let cells = array(alloc, PRODUCT_CELLS, PRODUCT_INS, PRODUCT_ATS, [5, 10, 12])?;
     assert_table(&rt, alloc, &timed, &cells, PRODUCT)
 }
 
@@ -321,13 +315,7 @@ fn the_table_of_a_convolution(rt: HostRuntime) -> Result<(), Fail> {
 fn the_table_of_a_triangular_system(rt: HostRuntime) -> Result<(), Fail> {
     let alloc = rt.alloc();
     let timed = timed(alloc, FORWARD_VARIABLES)?;
-    let cells = array(
-        alloc,
-        FORWARD_CELLS,
-        FORWARD_INS,
-        FORWARD_ATS,
-        [5, 4, 6],
-    )?;
+    let cells = array(alloc, FORWARD_CELLS, FORWARD_INS, FORWARD_ATS, [5, 4, 6])?;
     assert_table(&rt, alloc, &timed, &cells, FORWARD)
 }
 
@@ -344,13 +332,7 @@ fn the_table_of_a_text_without_points(rt: HostRuntime) -> Result<(), Fail> {
 fn a_sink_may_be_full_at_each_byte_of_a_table(rt: HostRuntime) -> Result<(), Fail> {
     let alloc = rt.alloc();
     let timed = timed(alloc, FORWARD_VARIABLES)?;
-    let cells = array(
-        alloc,
-        FORWARD_CELLS,
-        FORWARD_INS,
-        FORWARD_ATS,
-        [5, 4, 6],
-    )?;
+    let cells = array(alloc, FORWARD_CELLS, FORWARD_INS, FORWARD_ATS, [5, 4, 6])?;
     for room in 0..FORWARD.len() {
         let mut sink = MemSink::new(alloc, room, 7, List::new(alloc))?;
         assert_eq!(rt; write_table(&timed, &cells, &mut sink), Err(WriteFault));

@@ -1,8 +1,7 @@
-use Rattle.std.proofs.Common.{◌≡◌, Option, slice_get, filter, rules, tests, sym, ◌∙◌, ap}
+use Rattle.std.proofs.Common.{◌≡◌, slice_get, filter, rules, tests, sym, ◌∙◌, ap}
 use Rattle.std.specs.Option.{option_map}
 use Rattle.std.proofs.lemmas.Iterator.{YieldsList-from_slice}
 use Rattle.std.proofs.lemmas.Iterator.Consumers.{YieldsList-from_filter, nth_from_yields_List}
-use Rattle.av_flat.specs.declared.flat.Var.{Var}
 use Rattle.av_flat.specs.Trees.{view_variable}
 use Rattle.av_flat.specs.Nodes.{is_node}
 use Rattle.av_data.specs.Tables.{name_of}
