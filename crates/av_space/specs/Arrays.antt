@@ -20,5 +20,5 @@ pub record IsArrayOf (t : Timed) (a : Cells) : Type 0 where
   pub outputs : a.outputs ≡ output_cells (view_system t.flat) a.cells
   pub ins : AreInLines (view_system t.flat) t.helpers placings a.cells a.inputs a.listing.ins
   pub ats : AreAtLines (view_system t.flat) placings a.cells a.outputs a.listing.ats
-  pub cycles : IsCycleCount (view_system t.flat) placings a.cells a.cycles
+  pub cycles : IsCycleCount (view_system t.flat) t.times a.cycles
   pub delays : a.delays ≡ delay_count (view_system t.flat) t.helpers a.cells a.links

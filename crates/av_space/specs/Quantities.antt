@@ -1,17 +1,19 @@
 -- The quantities that an array is bounded by.
-use Rattle.std.specs.Prelude.{◌≡◌, ◌≢◌, ℕ, suc, ◌+◌, ◌<◌, ◌≤◌, List, AllPairs, Contains, IsTrue, Some, slice_get, length, map, sum}
+use Rattle.std.specs.Prelude.{◌≡◌, ◌≢◌, ℕ, suc, ◌+◌, pos, ◌<ℤ◌, ◌≤◌, List, AllPairs, Contains, IsTrue, Some, slice_get, length, map, sum}
 use Rattle.av_tree.specs.Points.{Point}
 use Rattle.av_flat.specs.Trees.{Tree, Piece, Variable, FlatSystem, reference, constant, binary, choice, pick}
 use Rattle.av_flat.specs.Points.{has}
 use Rattle.av_space.specs.Coordinates.{Placing}
 use Rattle.av_space.specs.declared.cells.Cell.{Cell}
-use Rattle.av_flat.specs.Nodes.{nodes}
+use Rattle.av_flat.specs.declared.timed.Time.{Time}
+use Rattle.av_flat.specs.Nodes.{nodes, IsComputation}
+use Rattle.av_flat.specs.Schedules.{cycle}
 use Rattle.av_space.specs.Standing.{Computes}
 
 -- n is above each cycle of a computation, and the least such number
-pub record IsCycleCount (s : FlatSystem) (times : List Placing) (cells : List Cell) (n : ℕ) : Type 0 where
-  pub above : (p c k : ℕ) (z : Point) → Computes s times cells p c k z → c < n
-  pub least : (m : ℕ) → ((p c k : ℕ) (z : Point) → Computes s times cells p c k z → c < m) → n ≤ m
+pub record IsCycleCount (s : FlatSystem) (times : List Time) (n : ℕ) : Type 0 where
+  pub above : (k : ℕ) (z : Point) (t : Time) → IsComputation s k z → slice_get times k ≡ Some t → cycle t z <ℤ pos n
+  pub least : (m : ℕ) → ((k : ℕ) (z : Point) (t : Time) → IsComputation s k z → slice_get times k ≡ Some t → cycle t z <ℤ pos m) → n ≤ m
 
 -- references, constants, operators, choices and picks
 abbrev pub size : Tree → ℕ

@@ -5,6 +5,8 @@
 mod cells;
 mod fault;
 mod laws;
+mod placement;
+mod slot;
 
 pub use cells::{Cell, Cells, InPort, Link};
 pub use fault::SpaceFault;
