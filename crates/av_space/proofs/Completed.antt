@@ -1,10 +1,8 @@
 -- The rows of a completion are those of a matrix with a whole inverse. The matrices are av_affine's, cell by cell.
 use Rattle.std.proofs.Common.{◌≡◌, ◌≢◌, ℕ, zero, suc, ◌<◌, ◌≤◌, refl, arith, List, [], ◌∷◌, length, map, ℤ, pos, ◌*ℤ◌, ◌⊎◌, inl, inr, sym, ap, subst, ◌∙◌}
-use Rattle.std.specs.Prelude.{unsigned_abs, Contains}
-use Rattle.std.proofs.lemmas.Int.{ints}
-use Rattle.av_affine.specs.declared.square.Square.{Square}
+use Rattle.std.specs.Prelude.{unsigned_abs}
 use Rattle.av_affine.specs.Squares.{square_of, product, identity}
-use Rattle.av_affine.specs.Completion.{rows_of, entry, unit_row, positions_but, signs_at, IsLastOf, HasNone, IsCompletion}
+use Rattle.av_affine.specs.Completion.{rows_of, entry, unit_row, positions_but, signs_at, IsLastOf, IsCompletion}
 use Rattle.av_affine.specs.Completion.IsCompletion.{beside_one, beside_two}
 use Rattle.av_affine.specs.Cells.{skip, one_cell, one_inverse, two_cell, two_inverse}
 use Rattle.av_affine.proofs.Sums.{skip_after}

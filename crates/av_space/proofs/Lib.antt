@@ -6,3 +6,4 @@ pub mod Placed
 pub mod Streams
 pub mod Diagonal
 mod RowSums
+pub mod WholeListing

@@ -1,6 +1,6 @@
 -- The array of a scheduled system: its cells, links, ports and listing, all of them and in their order (textbook: processing
 -- elements and their links by space-time mapping, Rao, Kailath 1988; order and numbers are this project's).
-use Rattle.std.specs.Prelude.{◌≡◌, ℕ, List}
+use Rattle.std.specs.Prelude.{◌≡◌, List}
 use Rattle.av_flat.specs.declared.timed.Timed.{Timed}
 use Rattle.av_flat.specs.Trees.{view_system}
 use Rattle.av_space.specs.declared.cells.Cells.{Cells}

@@ -1,6 +1,6 @@
 //! Laws of cells and listings, each the contract of a function that does nothing.
 
-ghost use Rattle.std.specs.Prelude.{◌≡◌, ◌≤◌, ◌≤ℤ◌, ℤ, IsTrue, List, ◌∷◌, length};
+ghost use Rattle.std.specs.Prelude.{◌≡◌, ◌≤◌, ◌^◌, ◌≤ℤ◌, ℤ, IsTrue, List, ◌∷◌, length};
 ghost use Rattle.av_poly.specs.Points.{Set};
 ghost use Rattle.av_tree.specs.Points.{Point};
 ghost use Rattle.av_tree.specs.Values.{Assignment};
@@ -8,12 +8,14 @@ ghost use Rattle.av_flat.specs.declared.timed.Timed.{Timed};
 ghost use Rattle.av_flat.specs.Trees.{view_system};
 ghost use Rattle.av_flat.specs.Points.{has};
 ghost use Rattle.av_flat.specs.Schedules.{cycle};
+ghost use Rattle.av_flat.specs.Legal.{IsLegal, HasAllHelpers};
 ghost use Rattle.av_flat.specs.OneSolution.{AreInputs};
 ghost use Rattle.av_net.specs.declared.design.Design.{Design};
 ghost use Rattle.av_net.specs.Presented.{IsPresentable};
 ghost use Rattle.av_space.specs.declared.cells.Cells.{Cells};
 ghost use Rattle.av_space.specs.Coordinates.{AreSpaceRows, Placing, IsPlacing, along};
-ghost use Rattle.av_space.specs.Whole.{HasWholeListing};
+ghost use Rattle.av_space.specs.Arrays.{IsArrayOf};
+ghost use Rattle.av_space.specs.Whole.{IsWhole, HasWholeListing};
 
 /// A law on coordinates: the linear part's primitive vector with the rows below it has a whole inverse.
 pub fn coordinates_have_inverses()
@@ -33,6 +35,13 @@ pub fn between_points()
         length x ≡ length p.time.linear → length y ≡ length p.time.linear → length z ≡ length p.time.linear →
         along p.rows x ≡ along p.rows y → along p.rows z ≡ along p.rows y → cycle p.time x ≤ℤ cycle p.time y → cycle p.time y ≤ℤ cycle p.time z →
         IsTrue (has set x) → IsTrue (has set z) → IsTrue (has set y) }
+{}
+
+/// A law on listings: that of a legal system's array, with one helper for each reference that is moved, is whole, where ports and
+/// cells have numbers of 64 bits.
+pub fn whole_listings()
+    ensures { (t : Timed) (a : Cells) → IsLegal t → HasAllHelpers t → IsArrayOf t a → length a.inputs ≤ 2 ^ 64 → length a.outputs ≤ 2 ^ 64 → length a.cells ≤ 2 ^ 64 →
+        IsWhole t a }
 {}
 
 /// A law on listings: a design with a whole listing can be given every input.

@@ -10,4 +10,6 @@ mod slot;
 
 pub use cells::{Cell, Cells, InPort, Link};
 pub use fault::SpaceFault;
-pub use laws::{between_points, coordinates_have_inverses, one_point, presenting_streams};
+pub use laws::{
+    between_points, coordinates_have_inverses, one_point, presenting_streams, whole_listings,
+};
