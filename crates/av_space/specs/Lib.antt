@@ -9,4 +9,3 @@ pub mod SpaceFaults
 pub mod Arrays
 pub mod Whole
 pub mod ArrayForm
-pub mod inner

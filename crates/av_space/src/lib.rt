@@ -5,8 +5,6 @@
 mod cells;
 mod fault;
 mod laws;
-mod placement;
-mod slot;
 
 pub use cells::{Cell, Cells, InPort, Link};
 pub use fault::SpaceFault;

@@ -1,8 +1,9 @@
 -- Generators found among all points of a set by mirror images of earlier points.
-use Rattle.std.specs.Prelude.{◌≡◌, ℕ, ◌<◌, ◌≤◌, ◌+ℤ◌, ◌-ℤ◌, List, [], ◌∷◌, length, take, All, AllPairs, Contains, slice_index_or}
+use Rattle.std.specs.Prelude.{◌≡◌, ℕ, ◌<◌, ◌≤◌, ◌+ℤ◌, ◌-ℤ◌, List, [], ◌∷◌, length, take, All, AllPairs, Contains, IsTrue, slice_index_or}
 use Rattle.av_affine.specs.Numbers.{AtMost}
 use Rattle.av_poly.specs.Points.{Set, Has}
 use Rattle.av_tree.specs.Points.{Point}
+use Rattle.av_flat.specs.Points.{has}
 use Rattle.av_flat.specs.Order.{IsBefore}
 use Rattle.av_depend.specs.Edges.{IsGenerator}
 
@@ -10,6 +11,12 @@ use Rattle.av_depend.specs.Edges.{IsGenerator}
 abbrev pub mirrored : Point → Point → Point
 mirrored (z ∷ zs) (x ∷ xs) = (z +ℤ z -ℤ x) ∷ mirrored zs xs
 mirrored _ _ = []
+
+-- all points of the set, ascending
+pub record AreAllPoints (set : Set) (points : List Point) : Type 0 where
+  pub ascending : AllPairs IsBefore points
+  pub each : All (λ z. IsTrue (has set z)) points
+  pub all : (z : Point) → IsTrue (has set z) → Contains points z
 
 -- one entry for each index of the set, at most four, within the limit on coordinates
 pub record IsPointOf (set : Set) (z : Point) : Type 0 where
