@@ -12,4 +12,3 @@ pub mod Told
 pub mod Divided
 pub mod Fits
 pub mod Timeds
-pub mod Tabled

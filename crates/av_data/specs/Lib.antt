@@ -7,4 +7,3 @@ pub mod Kept
 pub mod Named
 pub mod Divisions
 pub mod Schedules
-pub mod Tables

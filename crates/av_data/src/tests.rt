@@ -1,7 +1,5 @@
 ghost use Rattle.std.specs.Prelude.{◌≡◌, length, IfOk};
 
-mod tables;
-
 use crate::write_cycle;
 use av_base::{List, MemSink, Name, Width, WriteFault};
 use av_net::Port;

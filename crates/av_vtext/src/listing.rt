@@ -32,8 +32,7 @@ fn write_entry_line<K: Sink>(page: &mut Page, sink: &mut K, kind: &str, entry: &
     page.put(sink, "\n");
 }
 
-/// Puts an entry of a listing on the page, as `in X (1,-2) i0 3`.
-pub fn write_entry<K: Sink>(page: &mut Page, sink: &mut K, kind: &str, entry: &Entry)
+fn write_entry<K: Sink>(page: &mut Page, sink: &mut K, kind: &str, entry: &Entry)
     ensures { Puts (K.held sink.old) (K.held sink.new) (K.faults sink.old) (K.faults sink.new) page.old page.new (entry_text kind.now entry.now) }
 {
     page.put(sink, kind);
