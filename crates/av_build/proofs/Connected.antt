@@ -1,6 +1,7 @@
 -- A legal timed system and its array give what the proof of the netlist asks for.
-use Rattle.std.proofs.Common.{◌≡◌, ℕ, zero, suc, ◌+◌, ◌<◌, ◌≤◌, ℤ, pos, ◌+ℤ◌, ◌≤ℤ◌, ◌⊎◌, inl, inr, Bool, true, IsTrue, List, [], ◌∷◌, length, map, refl, sym, subst, arith, ◌∙◌, ap, Some, All}
+use Rattle.std.proofs.Common.{◌≡◌, ℕ, zero, suc, ◌+◌, ◌<◌, ◌≤◌, ℤ, pos, ◌+ℤ◌, ◌≤ℤ◌, ◌<ℤ◌, ◌⊎◌, inl, inr, Bool, true, IsTrue, List, [], ◌∷◌, length, map, refl, sym, subst, arith, ◌∙◌, ap, Some, All}
 use Rattle.std.specs.Prelude.{slice_get, Contains}
+use Rattle.std.proofs.lemmas.Int.{ints}
 use Rattle.std.proofs.lemmas.List.Elements.{All-contains, All-weaker}
 use Rattle.av_base.specs.declared.width.Width.{Width}
 use Rattle.av_tree.specs.Points.{Point}
@@ -12,7 +13,7 @@ use Rattle.av_flat.specs.Trees.{Piece, Variable, FlatSystem, view_system}
 use Rattle.av_flat.specs.Points.{has}
 use Rattle.av_flat.specs.Signatures.{signatures}
 use Rattle.av_flat.specs.WellFormed.{EachPart, HasWords}
-use Rattle.av_flat.specs.Nodes.{is_node, nodes, number_at}
+use Rattle.av_flat.specs.Nodes.{is_node, nodes, number_at, IsComputation}
 use Rattle.av_flat.specs.Chained.{IsChained, IsChainedVariable, IsChainedPiece}
 use Rattle.av_flat.specs.Schedules.{cycle, IsSchedule}
 use Rattle.av_flat.specs.Helped.{HelperWords, IsHelpedSolution, before}
@@ -120,6 +121,11 @@ module _ (w : Width) (t : Timed) (a : Cells) (program : Program) (g : IsProgramO
   widths : All (λ (v : Variable). v.width ≡ w.bits) (view_system t.flat).variables
   widths = All-weaker (IsChainedVariable (view_system t.flat)) (λ (v : Variable). v.width ≡ w.bits) (λ v h. h.width ∙ g.width_is) (view_system t.flat).variables g.legal.chained.each
 
+  cycles_above : (n : ℕ) (z : Point) → IsComputation (view_system t.flat) n z → (p : Placing) → slice_get g.array.placings n ≡ Some p → cycle p.time z <ℤ pos a.cycles
+  cycles_above n z computation p at =
+      let time = ap (λ (ts : List Time). slice_get ts n) (sym g.array.are_placings.times_are) ∙ time_at t a g.legal g.array g.array.placings n p at in
+      g.array.cycles.above n z p.time computation time
+
   given : Given w (array_of t a g.array.placings) g.lanes a.listing program
   given = record {
     arranged = arranged (array_of t a g.array.placings) (legal_array t a g.legal g.array) g.lanes a.listing.ins program g.array.links g.array.ins g.is_program;
@@ -127,7 +133,11 @@ module _ (w : Width) (t : Timed) (a : Cells) (program : Program) (g : IsProgramO
     are_ats = subst (λ (l : List ℕ). AreAtLines (view_system t.flat) g.array.placings a.cells l a.listing.ats) g.array.outputs g.array.ats;
     outputs_are = g.outputs_are ∙ ap (λ (l : List ℕ). map g.lanes.of_value l) g.array.outputs;
     widths = widths;
-    few = λ p c n z h. let l = g.array.cycles.above p c n z h in let m = g.few in omega (arith, l, m);
+    few = λ p c n z h.
+        let l = cycles_above n z h.stands.computation h.stands.placing h.stands.is_placing in
+        let m = g.few in
+        let e = h.stands.in_cycle in
+        omega (arith, ints, l, m, e);
     words = words_fit;
     ports = g.small.ports;
     outputs = g.small.outputs;
