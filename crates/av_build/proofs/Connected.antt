@@ -28,17 +28,17 @@ use Rattle.av_space.specs.Listings.{AreAtLines}
 use Rattle.av_space.specs.Arrays.{IsArrayOf}
 use Rattle.av_space.proofs.OneCell.{Inverts}
 use Rattle.av_space.proofs.Placed.{inverts}
-use Rattle.av_pipe.proofs.Piped.{later}
 use Rattle.av_build.specs.Programs.{Program}
 use Rattle.av_build.specs.Modules.{module_of}
 use Rattle.av_build.specs.Built.{array_of, HasSmallNumbers, IsProgramOf, design_of}
-use Rattle.av_build.proofs.Lists.{some_is}
 use Rattle.av_build.proofs.Fine.{FitsTree}
-use Rattle.av_build.proofs.Serving.{found_helper}
 use Rattle.av_build.proofs.Owned.{AreFew, AreWords}
 use Rattle.av_build.proofs.Joined.{Legal, arranged, fits_words, one_point}
 use Rattle.av_build.proofs.Listed.{place_of}
-use Rattle.av_build.proofs.Whole.{Given, at_index, module_sound, module_shows}
+use Rattle.av_build.proofs.Whole.{Given, module_sound, module_shows}
+use Rattle.av_space.proofs.Elements.{some_is, at_index}
+use Rattle.av_space.proofs.Helpers.{found_helper}
+use Rattle.av_space.proofs.Scheduling.{chained_variable, chained_piece, scheduled}
 
 contains_at : {X : Type 0} (xs : List X) (k : ℕ) (x : X) → slice_get xs k ≡ Some x → Contains xs x
 contains_at [] k x is = absurd cc
@@ -49,29 +49,8 @@ module _ (t : Timed) (a : Cells) (legal : IsLegal t) (array : IsArrayOf t a) whe
   abbrev own : FlatSystem
   own = view_system t.flat
 
-  chained_variable : (v : Variable) → Contains own.variables v → IsChainedVariable own v
-  chained_variable v among = All-contains (IsChainedVariable own) own.variables v legal.chained.each among
-
-  chained_piece : (v : Variable) (k : ℕ) (piece : Piece) → Contains own.variables v → slice_get v.pieces k ≡ Some piece → IsChainedPiece (signatures own) v piece
-  chained_piece v k piece among is = at_index (IsChainedPiece (signatures own) v) v.pieces (chained_variable v among).pieces k piece is
-
   times_of : map (λ (p : Placing). p.time) array.placings ≡ t.times
   times_of = array.are_placings.times_are
-
-  helped_later : (place piece site : ℕ) (h : Handing) (v : Variable) (q : Piece) (time : Time) → slice_get own.variables place ≡ Some v → slice_get v.pieces piece ≡ Some q
-      → helper_at t.helpers place piece site ≡ Some h → slice_get (map (λ (p : Placing). p.time) array.placings) (number_at own place) ≡ Some time → (z : Point) → has q.domain z ≡ true
-      → (cycle time (before z h.direction) +ℤ pos 1) ≤ℤ cycle time z
-  helped_later place piece site h v q time is_variable is_piece found is_time z here =
-      let f = found_helper t.helpers 0 place piece site h found in
-      let m = at_index (IsMoving own t.times) t.helpers legal.helpers f.at f.helper f.is_helper in
-      let variable : m.variable ≡ v = some_is m.variable v (sym m.is ∙ ap (λ (n : ℕ). slice_get own.variables n) f.var_is ∙ is_variable) in
-      let same : m.piece ≡ q = some_is m.piece q (sym m.is_piece ∙ ap (λ (n : ℕ). slice_get m.variable.pieces n) f.piece_is ∙ ap (λ (u : Variable). slice_get u.pieces piece) variable ∙ is_piece) in
-      let given : slice_get t.times (number_at own place) ≡ Some time = subst (λ (l : List Time). slice_get l (number_at own place) ≡ Some time) times_of is_time in
-      let now : m.time ≡ time = some_is m.time time (sym m.is_time ∙ ap (λ (n : ℕ). slice_get t.times (number_at own n)) f.var_is ∙ given) in
-      let l : (cycle m.time (before z f.helper.direction) +ℤ pos 1) ≤ℤ cycle m.time z =
-      later own t.times legal.chained legal.schedule f.helper m z (subst (λ (p : Piece). IsTrue (has p.domain z)) (sym same) here) in
-      subst (λ (w : Point). (cycle time (before z w) +ℤ pos 1) ≤ℤ cycle time z) f.direction_is
-      (subst (λ (u : Time). (cycle u (before z f.helper.direction) +ℤ pos 1) ≤ℤ cycle u z) now l)
 
   time_at : (placings : List Placing) (n : ℕ) (p : Placing) → slice_get placings n ≡ Some p → slice_get (map (λ (q : Placing). q.time) placings) n ≡ Some p.time
   time_at [] n p is = absurd cc
@@ -85,23 +64,14 @@ module _ (t : Timed) (a : Cells) (legal : IsLegal t) (array : IsArrayOf t a) whe
   inverted : (n : ℕ) (v : Variable) (p : Placing) → slice_get (nodes own) n ≡ Some v → slice_get array.placings n ≡ Some p → (v.domain.dim ≡ 0) ⊎ Inverts p v.domain.dim
   inverted n v p is_variable is_placing =
       let here = place_of own.variables n v is_variable in
-      let variable = chained_variable v (contains_at own.variables here.place v here.is_variable) in
+      let variable = chained_variable t array.placings a.cells legal array.are_placings array.cells v (contains_at own.variables here.place v here.is_variable) in
       let time : slice_get t.times n ≡ Some p.time = subst (λ (l : List Time). slice_get l n ≡ Some p.time) times_of (time_at array.placings n p is_placing) in
       let part = legal.schedule.linear n v p.time is_variable time in
       inverse_of v.domain.dim p part.size variable.indices (at_index IsPlacing array.placings array.are_placings.each n p is_placing)
 
   pub legal_array : Legal (array_of t a array.placings)
   legal_array = record {
-    scheduled = record {
-      schedule = subst (λ (l : List Time). IsSchedule own 4 l) (sym times_of) legal.schedule;
-      are_cells = array.cells;
-      within = λ v k piece among is. (chained_piece v k piece among is).within;
-      reads = λ v k piece among is. (chained_piece v k piece among is).reads;
-      plain = λ v k piece among is. (chained_piece v k piece among is).tree.plain;
-      no_reduction = λ v k piece among is. (chained_piece v k piece among is).tree.no_reduction;
-      proper = legal.proper;
-      handed_later = helped_later;
-    };
+    scheduled = scheduled t array.placings a.cells legal array.are_placings array.cells;
     inverts = inverted;
   }
 
@@ -113,8 +83,8 @@ module _ (w : Width) (t : Timed) (a : Cells) (program : Program) (g : IsProgramO
   words_fit n v k piece is_variable is_piece =
       let here = place_of (view_system t.flat).variables n v is_variable in
       let among = contains_at (view_system t.flat).variables here.place v here.is_variable in
-      let variable = chained_variable t a g.legal g.array v among in
-      let tree = (chained_piece t a g.legal g.array v k piece among is_piece).tree in
+      let variable = chained_variable t g.array.placings a.cells g.legal g.array.are_placings g.array.cells v among in
+      let tree = (chained_piece t g.array.placings a.cells g.legal g.array.are_placings g.array.cells v k piece among is_piece).tree in
       let width : v.width ≡ w.bits = variable.width ∙ g.width_is in
       fits_words w.bits piece.tree tree.plain (subst (λ (m : ℕ). EachPart (HasWords m) piece.tree) width tree.words)
 

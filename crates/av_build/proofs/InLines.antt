@@ -9,10 +9,8 @@ use Rattle.av_space.specs.declared.cells.Cell.{Cell as CellMade}
 use Rattle.av_space.specs.declared.cells.InPort.{InPort}
 use Rattle.av_space.specs.Coordinates.{Placing}
 use Rattle.av_space.specs.Listings.{InLine, IsInLine, AreInLines, input_name}
-use Rattle.av_build.proofs.Lists.{some_is}
 use Rattle.av_build.proofs.NameParts.{numbered_injective}
-use Rattle.av_build.proofs.Owned.{in_range}
-use Rattle.av_build.proofs.Whole.{at_index}
+use Rattle.av_space.proofs.Elements.{some_is, in_range, at_index}
 
 unmapped : {X Y : Type 0} (f : X → Y) (xs : List X) (k : ℕ) (y : Y) → slice_get (map f xs) k ≡ Some y → (x : X) × (slice_get xs k ≡ Some x) × (f x ≡ y)
 unmapped f [] k y is = absurd cc

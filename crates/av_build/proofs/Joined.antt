@@ -17,11 +17,11 @@ use Rattle.av_space.specs.Listings.{AreInLines}
 use Rattle.av_space.proofs.OneCell.{one_node, Inverts, between_cycles, same_point}
 use Rattle.av_build.specs.Programs.{Program}
 use Rattle.av_build.specs.Programmed.{Array, Lanes, IsProgramFor}
-use Rattle.av_build.proofs.Lists.{some_is}
 use Rattle.av_build.proofs.Fine.{FitsTree}
 use Rattle.av_build.proofs.Serving.{own_place, Arranged}
-use Rattle.av_build.proofs.Timely.{Scheduled, some_piece_of, one_piece_of, earlier}
+use Rattle.av_space.proofs.Timely.{Scheduled, some_piece_of, one_piece_of, earlier}
 use Rattle.av_build.proofs.Listed.{place_of}
+use Rattle.av_space.proofs.Elements.{some_is}
 
 pub record Legal (a : Array) : Type 0 where
   pub scheduled : Scheduled a.system a.helpers a.times a.cells

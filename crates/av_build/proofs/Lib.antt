@@ -22,14 +22,12 @@ mod Examples
 pub mod Added
 pub mod ArrayForm
 pub mod Owned
-pub mod Timely
 pub mod Joined
 pub mod Whole
 pub mod Form
 pub mod Sizes
 pub mod Sites
 pub mod Counted
-pub mod OnePiece
 pub mod Top
 pub mod Connected
 pub mod Headline

@@ -26,9 +26,10 @@ use Rattle.av_build.specs.Labels.{label_in, lane_value, labels}
 use Rattle.av_build.specs.Programs.{Lane, Program, IsProgram}
 use Rattle.av_build.specs.Modules.{of_lanes, cell_drives, output_drives, if_counted, next_drive, module_of}
 use Rattle.av_build.specs.Programmed.{Array, Lanes, IsPlacedAt, IsHandedAt}
-use Rattle.av_build.proofs.Lists.{front_each, back_each, some_is, each_weaker}
+use Rattle.av_build.proofs.Lists.{front_each, back_each}
 use Rattle.av_build.proofs.Shown.{Setting, computed, signature_at}
 use Rattle.av_build.proofs.Serving.{Arranged, serves}
+use Rattle.av_space.proofs.Elements.{some_is, each_weaker}
 
 -- ---- places of nodes
 

@@ -29,11 +29,12 @@ use Rattle.av_build.specs.Selections.{Run, site_by, Stay, stretch_of, shifts_by,
 use Rattle.av_build.specs.Trees.{site_count}
 use Rattle.av_build.specs.Serving.{EachPlace}
 use Rattle.av_build.specs.Programmed.{Array, Lanes, Spot, IsLinked, IsReferenceSource, by_port, by_link, IsHelpedSource, IsPickSource, IsPlaceSource, IsHandSource, IsSiteFor, IsStayFor, IsValueLane, IsHelperLane, IsHelper}
-use Rattle.av_build.proofs.Lists.{some_is, each_weaker}
 use Rattle.av_build.proofs.ArrayForm.{IsOwn}
 use Rattle.av_build.proofs.Fine.{FitsTree}
 use Rattle.av_build.proofs.SoundProgram.{FitsStretch, FitsWork, FitsCell}
-use Rattle.av_build.proofs.Serving.{got, node_at, own_place, get_contained, contained_map, Arranged, Reading, linked, here}
+use Rattle.av_build.proofs.Serving.{own_place, contained_map, Arranged, Reading, linked, here}
+use Rattle.av_space.proofs.Elements.{some_is, each_weaker, got, get_contained, in_range}
+use Rattle.av_space.proofs.NodePlaces.{node_at}
 
 -- ---- lengths of lines
 
@@ -95,11 +96,6 @@ link_own : (w : Width) (a : Array) (program : Program) (at : Spot) (q c : ℕ) (
 link_own w a program at q c z r site tree way producer zero l some t target is home long = absurd (omega arith)
 link_own w a program at q c z r site tree way producer (suc d) l some t target is home long =
     ((target, is, omega (arith, long, long_enough a at c z r site tree way producer (suc d) l), inl some), (target, is, inr (l.link, l.is_link, l.in_link.0, sym l.producer_is ∙ sym home)))
-
-pub in_range : {X : Type 0} (xs : List X) (k : ℕ) (x : X) → slice_get xs k ≡ Some x → k < length xs
-in_range [] k x is = absurd cc
-in_range (y ∷ xs) zero x is = omega arith
-in_range (y ∷ xs) (suc k) x is = omega (arith, in_range xs k x is)
 
 -- the value of the computed point that is read
 value_own : (w : Width) (a : Array) (lanes : Lanes) (ins : List Entry) (program : Program) → Arranged a lanes ins program → (at : Spot) (q c : ℕ) (z : Point) → Reading a at c z → (site : ℕ) (tree : Tree) (way : Way) (producer delay : ℕ) → IsLinked a at c site tree way producer delay

@@ -24,38 +24,16 @@ use Rattle.av_build.specs.Programs.{Source, word, line, Site, Work, Lane, Progra
 use Rattle.av_build.specs.Selections.{Stay, shifts_by, last_work}
 use Rattle.av_build.specs.Serving.{Placement, at_point, read_of, read_by, read_at, EachPlace, IsEarlier, IsBrought, IsHandedOn, IsWorked, IsHandled, Serves}
 use Rattle.av_build.specs.Programmed.{Array, Lanes, Spot, IsLinked, IsReferenceSource, by_port, by_link, IsHelpedSource, IsPickSource, IsPlaceSource, IsHandSource, IsSiteFor, IsStayFor, IsValueLane, IsPlacedAt, IsHelper, IsHandedAt, IsProgramFor}
-use Rattle.av_build.proofs.Lists.{some_is}
 use Rattle.av_build.proofs.Words.{place_weaker}
 use Rattle.av_build.proofs.Selections.{run_taken, stay_taken, IsElsewhere}
 use Rattle.av_build.proofs.Shown.{signature_at}
+use Rattle.av_space.proofs.Elements.{some_is, got, get_contained, mapped}
+use Rattle.av_space.proofs.NodePlaces.{node_at}
+use Rattle.av_space.proofs.Helpers.{found_helper, both_of}
 
 -- ---- lists
 
-pub got : {X : Type 0} (xs : List X) (x : X) → Contains xs x → (k : ℕ) × (slice_get xs k ≡ Some x)
-got [] x at = absurd (omega (arith, at.1))
-got (y ∷ xs) x (zero, lt, is) = (0, ap Some is)
-got (y ∷ xs) x (suc k, lt, is) = let r = got xs x (k, omega arith, is) in (suc r.0, r.1)
-
-both_of : (a b : Bool) → (a && b) ≡ true → (a ≡ true) × (b ≡ true)
-both_of true b e = (refl, e)
-both_of false b e = absurd cc
-
-equal : (m n : ℕ) → nat_eq m n ≡ true → m ≡ n
-equal m n h = grind arith
-
 -- ---- nodes
-
-pub node_at : (vs : List Variable) (place : ℕ) (v : Variable) → slice_get vs place ≡ Some v → is_node v ≡ true → slice_get (filter is_node vs) (length (filter is_node (take place vs))) ≡ Some v
-node_at [] place v is node = absurd cc
-node_at (w ∷ vs) zero v is node =
-    let e = some_is w v is in
-    let t : is_node w ≡ true = subst (λ (x : Variable). is_node x ≡ true) (sym e) node in
-    rw t (ap Some e)
-node_at (w ∷ vs) (suc place) v is node = by_test (is_node w) (node_at vs place v is node)
-  where
-    by_test : (b : Bool) → slice_get (filter is_node vs) (length (filter is_node (take place vs))) ≡ Some v → slice_get (if b then w ∷ filter is_node vs else filter is_node vs) (length (if b then w ∷ filter is_node (take place vs) else filter is_node (take place vs))) ≡ Some v
-    by_test true rest = rest
-    by_test false rest = rest
 
 pub computed_node : (v : Variable) → is_node v ≡ true → is_computed v.kind ≡ true
 computed_node v h = (both_of (is_computed v.kind) _ h).0
@@ -91,40 +69,6 @@ own_place s place v is node = place_at 0 s.variables place v is node ∙ omega a
 
 -- ---- helpers
 
--- the helper that is found
-pub record IsFound (hs : List Helper) (j place piece site : ℕ) (h : Handing) : Type 0 where
-  pub at : ℕ
-  pub number_is : h.number ≡ j + at
-  pub helper : Helper
-  pub is_helper : slice_get hs at ≡ Some helper
-  pub var_is : helper.var ≡ place
-  pub piece_is : helper.piece ≡ piece
-  pub site_is : helper.site ≡ site
-  pub direction_is : helper.direction ≡ h.direction
-
-pub found_helper : (hs : List Helper) (j place piece site : ℕ) (h : Handing) → helper_from j hs place piece site ≡ Some h → IsFound hs j place piece site h
-found_helper [] j place piece site h e = absurd cc
-found_helper (x ∷ hs) j place piece site h e = by_test (λ f. found_helper hs (suc j) place piece site h f) (nat_eq x.var place && nat_eq x.piece piece && nat_eq x.site site) refl e
-  where
-    by_test : (helper_from (suc j) hs place piece site ≡ Some h → IsFound hs (suc j) place piece site h) → (b : Bool) → (nat_eq x.var place && nat_eq x.piece piece && nat_eq x.site site) ≡ b → (if b then Some (record { number = j; direction = x.direction }) else helper_from (suc j) hs place piece site) ≡ Some h → IsFound (x ∷ hs) j place piece site h
-    by_test later true t f =
-        let is = some_is (record { number = j; direction = x.direction }) h f in
-        let l = both_of (nat_eq x.var place && nat_eq x.piece piece) (nat_eq x.site site) t in
-        let m = both_of (nat_eq x.var place) (nat_eq x.piece piece) l.0 in
-        record {
-          at = 0;
-          number_is = sym (ap (λ (y : Handing). y.number) is) ∙ omega arith;
-          helper = x;
-          is_helper = refl;
-          var_is = equal x.var place m.0;
-          piece_is = equal x.piece piece m.1;
-          site_is = equal x.site site l.1;
-          direction_is = ap (λ (y : Handing). y.direction) is;
-        }
-    by_test later false t f =
-        let r = later f in
-        record { at = suc r.at; number_is = r.number_is ∙ omega arith; helper = r.helper; is_helper = r.is_helper; var_is = r.var_is; piece_is = r.piece_is; site_is = r.site_is; direction_is = r.direction_is }
-
 -- ---- what a system gives to its array
 
 pub record Arranged (a : Array) (lanes : Lanes) (ins : List Entry) (program : Program) : Type 0 where
@@ -145,16 +89,6 @@ pub record Arranged (a : Array) (lanes : Lanes) (ins : List Entry) (program : Pr
   pub one_node : (p c b n k : ℕ) (z y : Point) → Computes a.system a.times a.cells p c n z → Computes a.system a.times a.cells p b k y → n ≡ k
 
 -- ---- one place that reads
-
-pub get_contained : {X : Type 0} (xs : List X) (k : ℕ) (x : X) → slice_get xs k ≡ Some x → Contains xs x
-get_contained [] k x is = absurd cc
-get_contained (y ∷ xs) zero x is = (0, omega arith, some_is y x is)
-get_contained (y ∷ xs) (suc k) x is = let r = get_contained xs k x is in (suc r.0, omega (arith, r.1), r.2)
-
-pub mapped : {X Y : Type 0} (f : X → Y) (ys : List X) (k : ℕ) (x : X) → slice_get ys k ≡ Some x → slice_get (map f ys) k ≡ Some (f x)
-mapped f [] k x is = absurd cc
-mapped f (y ∷ ys) zero x is = ap (λ z. Some (f z)) (some_is y x is)
-mapped f (y ∷ ys) (suc k) x is = mapped f ys k x is
 
 pub contained_map : {X Y : Type 0} (f : X → Y) (xs : List X) (x : X) → Contains xs x → Contains (map f xs) (f x)
 contained_map f xs x at = let r = got xs x at in get_contained (map f xs) r.0 (f x) (mapped f xs r.0 x r.1)

@@ -42,10 +42,10 @@ use Rattle.av_build.specs.Programs.{Source, word, line, Site, Link, Work, Shift,
 use Rattle.av_build.specs.Modules.{operand_of, input_ports, port, module_of}
 use Rattle.av_build.specs.Serving.{Placement, read_of, read_by, read_at, IsOfLane, IsBrought, Serves}
 use Rattle.av_build.proofs.Plans.{words_in}
-use Rattle.av_build.proofs.Lists.{each_at, some_is}
 use Rattle.av_build.proofs.Lines.{line_has}
 use Rattle.av_build.proofs.Values.{cell_value}
 use Rattle.av_build.proofs.Words.{place_weaker, value_is, piece_value}
+use Rattle.av_space.proofs.Elements.{some_is, each_at}
 
 -- ---- what holds of each source holds of the one that is taken
 

@@ -19,14 +19,14 @@ use Rattle.av_build.specs.Labels.{number_in, labels}
 use Rattle.av_build.specs.Programs.{Source, Link, Site, Shift, Lane, Program, EachOfSite, EachOfWork, EachOfCell, IsPlaced, IsProgram}
 use Rattle.av_build.specs.Modules.{cell_built, module_of}
 use Rattle.av_build.specs.Programmed.{Array, Lanes, IsLaneFor, of_value, of_helper, IsProgramFor}
-use Rattle.av_build.proofs.Lists.{some_is, each_weaker}
 use Rattle.av_build.proofs.Declared.{declared_once}
 use Rattle.av_build.proofs.Fine.{FineBuilt}
 use Rattle.av_build.proofs.ArrayForm.{IsOwn, MayRead, cell_reads}
 use Rattle.av_build.proofs.SoundProgram.{FitsCell, IsFit, are_wide, is_sound}
 use Rattle.av_build.proofs.Serving.{computed_node, Arranged}
-use Rattle.av_build.proofs.Owned.{AreFew, AreWords, GoodLane, good_value, good_helper, in_range, each_found}
+use Rattle.av_build.proofs.Owned.{AreFew, AreWords, GoodLane, good_value, good_helper, each_found}
 use Rattle.av_build.proofs.Listed.{place_of, Made, shows}
+use Rattle.av_space.proofs.Elements.{some_is, each_weaker, in_range, at_index}
 
 pub record Given (w : Width) (a : Array) (lanes : Lanes) (listing : Listing) (program : Program) : Type 0 where
   pub arranged : Arranged a lanes listing.ins program
@@ -75,14 +75,6 @@ there_is : {X : Type 0} (xs : List X) (k : ℕ) → k < length xs → (x : X) ×
 there_is [] k lt = absurd (omega arith)
 there_is (x ∷ xs) zero lt = (x, refl)
 there_is (x ∷ xs) (suc k) lt = there_is xs k (omega arith)
-
-pub at_index : {X : Type 0} (P : X → Type 0) (xs : List X) → All P xs → (k : ℕ) (x : X) → slice_get xs k ≡ Some x → P x
-at_index P xs all k x is = All-contains P xs x all (contained xs k x is)
-  where
-    contained : {X : Type 0} (xs : List X) (k : ℕ) (x : X) → slice_get xs k ≡ Some x → Contains xs x
-    contained [] k x is = absurd cc
-    contained (y ∷ xs) zero x is = (0, omega arith, some_is y x is)
-    contained (y ∷ xs) (suc k) x is = let r = contained xs k x is in (suc r.0, omega (arith, r.1), r.2)
 
 -- each cell has a lane
 cell_lane : (a : Array) (lanes : Lanes) (program : Program) → IsProgramFor a lanes program → AreCells a.system a.times a.cells → (p : ℕ) → p < length a.cells → lanes.of_value p < length program.lanes

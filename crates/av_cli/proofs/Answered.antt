@@ -1,6 +1,6 @@
 -- How the program's clauses follow from what its steps did.
 use Rattle.std.proofs.Common.{◌≡◌, ◌≢◌, ℕ, ◌<◌, ◌≤◌, List, ◌∷◌, ◌++◌, length, length-append, codes, Option, Some, None, refl, sym, ◌∙◌, ap, subst, inl, inr, arith}
-use Rattle.std.specs.Prelude.{IfSome}
+use Rattle.std.specs.Prelude.{IfSome, slice_index_or}
 use Rattle.std.proofs.lemmas.List.{append-nil}
 use Rattle.av_base.specs.Outside.{Takes, TakesMore, IsAtEnd, HasRisen}
 use Rattle.av_net.specs.declared.design.Design.{Design}
@@ -16,8 +16,8 @@ use Rattle.av_cli.specs.declared.status.Status.{Status}
 use Rattle.av_cli.specs.declared.status.Status.TheVariants.{Done, Refused, Words, ReadFault, WriteFault, Memory}
 use Rattle.av_cli.specs.declared.program.TheConstants.{LIMIT}
 use Rattle.av_cli.specs.declared.words.Command.{Command}
-use Rattle.av_cli.specs.declared.words.Command.TheVariants.{Check, Schedule, Emit, Sim}
-use Rattle.av_cli.specs.Commands.{Asks, IsCheck, IsSchedule, IsEmit, IsSim, AreRead}
+use Rattle.av_cli.specs.declared.words.Command.TheVariants.{Check, Schedule, Table, Emit, Sim}
+use Rattle.av_cli.specs.Commands.{Asks, IsCheck, IsSchedule, IsTable, IsEmit, IsSim, AreRead}
 use Rattle.av_cli.specs.CommandsSeen.{Are}
 use Rattle.av_cli.specs.Refusals.{refusal_line}
 use Rattle.av_cli.specs.Sims.{RefusesSim, no_mark, bad_text, bad_stimulus, GivesSim}
@@ -27,20 +27,24 @@ use Rattle.av_cli.specs.Written.{IsPut, IsAnswered, refused, given, no_memory}
 use Rattle.av_cli.specs.Checks.{RefusesCheck, GivesCheck}
 use Rattle.av_cli.specs.Emits.{RefusesEmit}
 use Rattle.av_cli.specs.Schedules.{RefusesSchedule, GivesSchedule}
+use Rattle.av_cli.specs.Tables.{RefusesTable, GivesTable}
 use Rattle.av_cli.proofs.Checking.{exclusive_check}
 use Rattle.av_cli.proofs.Scheduling.{exclusive_schedule}
+use Rattle.av_cli.proofs.Tabling.{exclusive_table}
 use Rattle.av_cli.proofs.GivenSizes.{one_asked}
 use Rattle.av_cli.proofs.Presenting.{given_distinct}
 
 pub read_of : (command : Command) (words : List (List ℕ)) → Are command words → AreRead words
 read_of (Check width) words (sizes, are) = inr (inr (inl (width.bits, sizes, are)))
-read_of (Schedule width reach) words (sizes, are) = inr (inr (inr (width.bits, reach.size, sizes, are)))
+read_of (Schedule width reach) words (sizes, are) = inr (inr (inr (inl (width.bits, reach.size, sizes, are))))
+read_of (Table width reach) words (sizes, are) = inr (inr (inr (inr (width.bits, reach.size, sizes, are))))
 read_of (Emit width) words are = inl (width.bits, are)
 read_of Sim words are = inr (inl are)
 
 refusal_of : (command : Command) (words : List (List ℕ)) (bytes reason : List ℕ) → Are command words → length bytes ≤ LIMIT → Refuses command words bytes reason → IsRefused words bytes reason
 refusal_of (Check width) words bytes reason are within (sizes, is, r) = inr (inr (inr (inl (within, (width.bits, sizes, is, r)))))
-refusal_of (Schedule width reach) words bytes reason are within (sizes, is, r) = inr (inr (inr (inr (within, (width.bits, reach.size, sizes, is, r)))))
+refusal_of (Schedule width reach) words bytes reason are within (sizes, is, r) = inr (inr (inr (inr (inl (within, (width.bits, reach.size, sizes, is, r))))))
+refusal_of (Table width reach) words bytes reason are within (sizes, is, r) = inr (inr (inr (inr (inr (within, (width.bits, reach.size, sizes, is, r))))))
 refusal_of (Emit width) words bytes reason are within r = inr (inl (within, (width.bits, are), r))
 refusal_of Sim words bytes reason are within r = inr (inr (inl (within, are, r)))
 
@@ -49,7 +53,9 @@ writes_output : (command : Command) (words : List (List ℕ)) (left left' : Opti
 writes_output (Check w) words left left' bytes out are takes end within (sizes, is, g) =
     inr (inr (inl (record { bits = w.bits; sizes = sizes; read = is; taken = bytes; takes = takes; whole = end; within = within; gives = g })))
 writes_output (Schedule w r) words left left' bytes out are takes end within (sizes, is, g) =
-    inr (inr (inr (record { bits = w.bits; box = r.size; sizes = sizes; read = is; taken = bytes; takes = takes; whole = end; within = within; gives = g })))
+    inr (inr (inr (inl (record { bits = w.bits; box = r.size; sizes = sizes; read = is; taken = bytes; takes = takes; whole = end; within = within; gives = g }))))
+writes_output (Table w r) words left left' bytes out are takes end within (sizes, is, g) =
+    inr (inr (inr (inr (record { bits = w.bits; box = r.size; sizes = sizes; read = is; taken = bytes; takes = takes; whole = end; within = within; gives = g }))))
 writes_output (Emit w) words left left' bytes out are takes end within g = inl (record { width = w; read = are; taken = bytes; takes = takes; whole = end; within = within; gives = g })
 writes_output Sim words left left' bytes out are takes end within g = inr (inl (record { read = are; taken = bytes; takes = takes; whole = end; within = within; gives = g }))
 
@@ -98,15 +104,25 @@ exclude : (name : List ℕ) (words : List (List ℕ)) (bytes : List ℕ) → Beg
     → (codes "sim" ≡ name → (reason : List ℕ) → RefusesSim bytes reason → ⊥)
     → (codes "check" ≡ name → (bits : ℕ) (sizes : List Size) → IsCheck words bits sizes → (reason : List ℕ) → RefusesCheck sizes bits bytes reason → ⊥)
     → (codes "schedule" ≡ name → (bits box : ℕ) (sizes : List Size) → IsSchedule words bits box sizes → (reason : List ℕ) → RefusesSchedule sizes bits box bytes reason → ⊥)
+    → (codes "table" ≡ name → (bits box : ℕ) (sizes : List Size) → IsTable words bits box sizes → (reason : List ℕ) → RefusesTable sizes bits box bytes reason → ⊥)
     → HasRefusal words bytes → ⊥
-exclude name words bytes is within emit sim check schedule (reason, inl (long, e)) = omega arith
-exclude name words bytes is within emit sim check schedule (reason, inr (inl (short, (bits, other), r))) =
+exclude name words bytes is within emit sim check schedule table (reason, inl (long, e)) = omega arith
+exclude name words bytes is within emit sim check schedule table (reason, inr (inl (short, (bits, other), r))) =
     emit (same_name (codes "emit") name words (begins_emit words bits other) is) bits other reason r
-exclude name words bytes is within emit sim check schedule (reason, inr (inr (inl (short, other, r)))) = sim (same_name (codes "sim") name words (begins_sim words other) is) reason r
-exclude name words bytes is within emit sim check schedule (reason, inr (inr (inr (inl (short, (bits, sizes, other, r)))))) =
+exclude name words bytes is within emit sim check schedule table (reason, inr (inr (inl (short, other, r)))) = sim (same_name (codes "sim") name words (begins_sim words other) is) reason r
+exclude name words bytes is within emit sim check schedule table (reason, inr (inr (inr (inl (short, (bits, sizes, other, r)))))) =
     check (same_name (codes "check") name words (begins (codes "check") words bits other.0 sizes other.1) is) bits sizes other reason r
-exclude name words bytes is within emit sim check schedule (reason, inr (inr (inr (inr (short, (bits, box, sizes, other, r)))))) =
+exclude name words bytes is within emit sim check schedule table (reason, inr (inr (inr (inr (inl (short, (bits, box, sizes, other, r))))))) =
     schedule (same_name (codes "schedule") name words (begins (codes "schedule") words bits box sizes other) is) bits box sizes other reason r
+exclude name words bytes is within emit sim check schedule table (reason, inr (inr (inr (inr (inr (short, (bits, box, sizes, other, r))))))) =
+    table (same_name (codes "table") name words (begins (codes "table") words bits box sizes other) is) bits box sizes other reason r
+
+-- the names of two commands differ in their first letter
+table_no_check : codes "table" ≡ codes "check" → ⊥
+table_no_check e = let f : 116 ≡ 99 = ap (λ (l : List ℕ). slice_index_or l 0 0) e in omega arith
+
+check_no_table : codes "check" ≡ codes "table" → ⊥
+check_no_table e = table_no_check (sym e)
 
 exclude_check : (words : List (List ℕ)) (bits : ℕ) (bytes out : List ℕ) (sizes : List Size) → IsCheck words bits sizes → length bytes ≤ LIMIT → GivesCheck sizes bits bytes out → HasRefusal words bytes → ⊥
 exclude_check words bits bytes out sizes is within g refusal =
@@ -114,7 +130,7 @@ exclude_check words bits bytes out sizes is within g refusal =
     (λ _ n others other reason r.
     let (same_bits, _, same_sizes) = one_asked (codes "check") words bits n is.0 other.0 sizes others is.1 other.1 in
     exclusive_check others n bytes reason out r (subst (λ (m : ℕ). GivesCheck others m bytes out) same_bits (subst (λ (xs : List Size). GivesCheck xs bits bytes out) same_sizes g)))
-    (λ e. cc)
+    (λ e. cc) check_no_table
     refusal
 
 exclude_schedule : (words : List (List ℕ)) (bits box : ℕ) (bytes out : List ℕ) (sizes : List Size) → IsSchedule words bits box sizes → length bytes ≤ LIMIT → GivesSchedule sizes bits box bytes out → HasRefusal words bytes
@@ -125,15 +141,27 @@ exclude_schedule words bits box bytes out sizes is within g refusal =
     let (same_bits, same_box, same_sizes) = one_asked (codes "schedule") words bits n box c sizes others is other in
     exclusive_schedule others n c bytes reason out r
     (subst (λ (m : ℕ). GivesSchedule others m c bytes out) same_bits (subst (λ (m : ℕ). GivesSchedule others bits m bytes out) same_box (subst (λ (xs : List Size). GivesSchedule xs bits box bytes out) same_sizes g))))
+    (λ e. cc)
+    refusal
+
+exclude_table : (words : List (List ℕ)) (bits box : ℕ) (bytes out : List ℕ) (sizes : List Size) → IsTable words bits box sizes → length bytes ≤ LIMIT → GivesTable sizes bits box bytes out → HasRefusal words bytes
+    → ⊥
+exclude_table words bits box bytes out sizes is within g refusal =
+    exclude (codes "table") words bytes (begins (codes "table") words bits box sizes is) within (λ e. cc) (λ e. cc) table_no_check (λ e. cc)
+    (λ _ n c others other reason r.
+    let (same_bits, same_box, same_sizes) = one_asked (codes "table") words bits n box c sizes others is other in
+    exclusive_table others n c bytes reason out r
+    (subst (λ (m : ℕ). GivesTable others m c bytes out) same_bits (subst (λ (m : ℕ). GivesTable others bits m bytes out) same_box (subst (λ (xs : List Size). GivesTable xs bits box bytes out) same_sizes g))))
     refusal
 
 exclusive : (command : Command) (words : List (List ℕ)) (bytes out : List ℕ) → Are command words → length bytes ≤ LIMIT → Gives command words bytes out → HasRefusal words bytes → ⊥
 exclusive (Check width) words bytes out are within g refusal = exclude_check words width.bits bytes out g.0 g.1 within g.2 refusal
 exclusive (Schedule width reach) words bytes out are within g refusal = exclude_schedule words width.bits reach.size bytes out g.0 g.1 within g.2 refusal
+exclusive (Table width reach) words bytes out are within g refusal = exclude_table words width.bits reach.size bytes out g.0 g.1 within g.2 refusal
 exclusive (Emit width) words bytes out are within g refusal =
-    exclude (codes "emit") words bytes (begins_emit words width.bits are) within (λ _ bits other reason r. r.0 g.computes.form g.computes.text) (λ e. cc) (λ e. cc) (λ e. cc) refusal
+    exclude (codes "emit") words bytes (begins_emit words width.bits are) within (λ _ bits other reason r. r.0 g.computes.form g.computes.text) (λ e. cc) (λ e. cc) (λ e. cc) (λ e. cc) refusal
 exclusive Sim words bytes out are within g refusal =
-    exclude (codes "sim") words bytes (begins_sim words are) within (λ e. cc) (λ _ reason r. exclusive_sim bytes reason out r g) (λ e. cc) (λ e. cc) refusal
+    exclude (codes "sim") words bytes (begins_sim words are) within (λ e. cc) (λ _ reason r. exclusive_sim bytes reason out r g) (λ e. cc) (λ e. cc) (λ e. cc) refusal
 
 -- ---- what was put
 

@@ -82,6 +82,11 @@ memory_or_not (refusal.TwoBranches v z) = inr (λ e. cc)
 memory_or_not (refusal.NonUnit n) = inr (λ e. cc)
 memory_or_not (refusal.Candidates n) = inr (λ e. cc)
 memory_or_not (refusal.NoSchedule n) = inr (λ e. cc)
+memory_or_not (refusal.Cycles n) = inr (λ e. cc)
+memory_or_not (refusal.Cells n) = inr (λ e. cc)
+memory_or_not (refusal.Delays n) = inr (λ e. cc)
+memory_or_not (refusal.Links n) = inr (λ e. cc)
+memory_or_not (refusal.Operators n) = inr (λ e. cc)
 
 pub check_refused : (words : List (List ℕ)) (sizes : List Size) (bits : ℕ) (bytes : List ℕ) (f : Refusal) {held held' : Option (List ℕ)} {faults faults' : ℕ} {status : Status}
     → GiveSizes words sizes → (f ≢ refusal.Memory → IsRefused bytes sizes bits f) → (f ≡ refusal.Memory → (status ≡ Memory) × (held' ≡ held))

@@ -11,3 +11,4 @@ pub mod Simulating
 pub mod Sent
 pub mod Answered
 pub mod Scheduling
+pub mod Tabling

@@ -13,7 +13,7 @@ use Rattle.av_data.specs.Schedules.{schedule_text}
 use Rattle.av_compile.specs.declared.refusal.Refusal.{Refusal}
 use Rattle.av_compile.specs.declared.refusal.Refusal.TheVariants as refusal
 use Rattle.av_compile.specs.Refusals.{of_serial, of_sched}
-use Rattle.av_compile.specs.Scheduled.{Normalises, Serialises, IsScheduled, HasOneSolutionEach, IsUnscheduled, in_text, in_reductions, in_search}
+use Rattle.av_compile.specs.Scheduled.{Normalises, Serialises, HasFirstSchedule, IsScheduled, HasOneSolutionEach, IsUnscheduled, in_text, in_reductions, in_search}
 use Rattle.av_cli.specs.declared.status.Status.{Status}
 use Rattle.av_cli.specs.declared.status.Status.TheVariants.{Done, Refused, Memory}
 use Rattle.av_cli.specs.Commands.{GiveSizes, IsSchedule}
@@ -36,22 +36,24 @@ one_serial bytes sizes bits s t a b =
     let same = one_normal bytes sizes bits a.normal b.normal a.normalises b.normalises in
     serial.unique b.normal s t (subst (λ (x : FlatSystem). serialised.IsGiven x s) same a.given).form b.given.form
 
-pub exclusive_schedule : (sizes : List Size) (bits box : ℕ) (bytes reason out : List ℕ) → RefusesSchedule sizes bits box bytes reason → GivesSchedule sizes bits box bytes out → ⊥
-exclusive_schedule sizes bits box bytes reason out r g = go r.first
+-- a system that has a first schedule is not refused before it
+pub not_unscheduled : (sizes : List Size) (bits box : ℕ) (bytes : List ℕ) (cause : Refusal) → IsUnscheduled bytes sizes bits box cause → cause ≢ refusal.Memory → (t : Timed) → Serialises bytes sizes bits (view_system t.flat)
+    → HasFirstSchedule (view_system t.flat) box → ⊥
+not_unscheduled sizes bits box bytes cause first some t is none = go first
   where
-    is : Serialises bytes sizes bits (view_system g.timed.flat)
-    is = g.scheduled.serialises
-
-    go : IsUnscheduled bytes sizes bits box r.cause → ⊥
+    go : IsUnscheduled bytes sizes bits box cause → ⊥
     go (in_text h) =
         let n = is.normalises in
-        exclusive sizes bits bytes (codes "ok\n") r.cause h r.some (record { flat = n.flat; flattens = n.flattens; normal = n.given.no_cause; proper = n.proper; line = refl })
+        exclusive sizes bits bytes (codes "ok\n") cause h some (record { flat = n.flat; flattens = n.flattens; normal = n.given.no_cause; proper = n.proper; line = refl })
     go (in_reductions f e s normalises fault) =
         let same = one_normal bytes sizes bits s is.normal normalises is.normalises in
-        r.some (e ∙ ap of_serial (is.given.no_cause f (subst (λ (x : FlatSystem). serialised.IsFault x f) same fault)))
+        some (e ∙ ap of_serial (is.given.no_cause f (subst (λ (x : FlatSystem). serialised.IsFault x f) same fault)))
     go (in_search f e s serialises fault) =
-        let same = one_serial bytes sizes bits s (view_system g.timed.flat) serialises is in
-        r.some (e ∙ ap of_sched (g.scheduled.no_cause f (subst (λ (x : FlatSystem). searched.IsFault x box f) same fault)))
+        let same = one_serial bytes sizes bits s (view_system t.flat) serialises is in
+        some (e ∙ ap of_sched (none f (subst (λ (x : FlatSystem). searched.IsFault x box f) same fault)))
+
+pub exclusive_schedule : (sizes : List Size) (bits box : ℕ) (bytes reason out : List ℕ) → RefusesSchedule sizes bits box bytes reason → GivesSchedule sizes bits box bytes out → ⊥
+exclusive_schedule sizes bits box bytes reason out r g = not_unscheduled sizes bits box bytes r.cause r.first r.some g.timed g.scheduled.serialises g.scheduled.no_cause
 
 -- ---- answers
 

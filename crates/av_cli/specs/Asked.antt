@@ -2,21 +2,24 @@
 use Rattle.std.specs.Prelude.{ℕ, List}
 use Rattle.av_names.specs.declared.size.Size.{Size}
 use Rattle.av_cli.specs.declared.words.Command.{Command}
-use Rattle.av_cli.specs.declared.words.Command.TheVariants.{Check, Schedule, Emit, Sim}
-use Rattle.av_cli.specs.Commands.{IsCheck, IsSchedule}
+use Rattle.av_cli.specs.declared.words.Command.TheVariants.{Check, Schedule, Table, Emit, Sim}
+use Rattle.av_cli.specs.Commands.{IsCheck, IsSchedule, IsTable}
 use Rattle.av_cli.specs.Checks.{RefusesCheck, GivesCheck}
 use Rattle.av_cli.specs.Schedules.{RefusesSchedule, GivesSchedule}
+use Rattle.av_cli.specs.Tables.{RefusesTable, GivesTable}
 use Rattle.av_cli.specs.Emits.{RefusesEmit, GivesEmit}
 use Rattle.av_cli.specs.Sims.{RefusesSim, GivesSim}
 
 abbrev pub Refuses : Command → List (List ℕ) → List ℕ → List ℕ → Type 0
 Refuses (Check width) words bytes reason = (sizes : List Size) × IsCheck words width.bits sizes × RefusesCheck sizes width.bits bytes reason
 Refuses (Schedule width reach) words bytes reason = (sizes : List Size) × IsSchedule words width.bits reach.size sizes × RefusesSchedule sizes width.bits reach.size bytes reason
+Refuses (Table width reach) words bytes reason = (sizes : List Size) × IsTable words width.bits reach.size sizes × RefusesTable sizes width.bits reach.size bytes reason
 Refuses (Emit width) words bytes reason = RefusesEmit bytes reason
 Refuses Sim words bytes reason = RefusesSim bytes reason
 
 abbrev pub Gives : Command → List (List ℕ) → List ℕ → List ℕ → Type 0
 Gives (Check width) words bytes out = (sizes : List Size) × IsCheck words width.bits sizes × GivesCheck sizes width.bits bytes out
 Gives (Schedule width reach) words bytes out = (sizes : List Size) × IsSchedule words width.bits reach.size sizes × GivesSchedule sizes width.bits reach.size bytes out
+Gives (Table width reach) words bytes out = (sizes : List Size) × IsTable words width.bits reach.size sizes × GivesTable sizes width.bits reach.size bytes out
 Gives (Emit width) words bytes out = GivesEmit width bytes out
 Gives Sim words bytes out = GivesSim bytes out

@@ -113,6 +113,9 @@ IsCheck words bits found = (reach : ℕ) × Asks (codes "check") words bits reac
 abbrev pub IsSchedule : List (List ℕ) → ℕ → ℕ → List Size → Type 0
 IsSchedule words bits reach found = Asks (codes "schedule") words bits reach found
 
+abbrev pub IsTable : List (List ℕ) → ℕ → ℕ → List Size → Type 0
+IsTable words bits reach found = Asks (codes "table") words bits reach found
+
 -- nothing, or `--` alone
 abbrev pub IsBare : List (List ℕ) → Type 0
 IsBare words = (words ≡ []) ⊎ (words ≡ codes "--" ∷ [])
@@ -129,6 +132,7 @@ AreRead words =
     ⊎ IsSim words
     ⊎ ((bits : ℕ) × (found : List Size) × IsCheck words bits found)
     ⊎ ((bits : ℕ) × (reach : ℕ) × (found : List Size) × IsSchedule words bits reach found)
+    ⊎ ((bits : ℕ) × (reach : ℕ) × (found : List Size) × IsTable words bits reach found)
 
 abbrev pub usage_line : List ℕ
 usage_line = codes "usage: alphav check|schedule|table|emit|run|trace [--width W] [--box C] [NAME=VALUE ...] | sim | demo K\n"

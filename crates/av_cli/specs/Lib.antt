@@ -11,3 +11,4 @@ pub mod Asked
 pub mod Written
 pub mod Program
 pub mod Schedules
+pub mod Tables

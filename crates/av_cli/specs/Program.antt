@@ -7,10 +7,11 @@ use Rattle.av_names.specs.declared.size.Size.{Size}
 use Rattle.av_cli.specs.declared.status.Status.{Status}
 use Rattle.av_cli.specs.declared.status.Status.TheVariants.{Done, Refused, Words, ReadFault, WriteFault, Memory}
 use Rattle.av_cli.specs.declared.program.TheConstants.{LIMIT}
-use Rattle.av_cli.specs.Commands.{IsCheck, IsSchedule, IsEmit, IsSim, AreRead, usage_line}
+use Rattle.av_cli.specs.Commands.{IsCheck, IsSchedule, IsTable, IsEmit, IsSim, AreRead, usage_line}
 use Rattle.av_cli.specs.Refusals.{refusal_line}
 use Rattle.av_cli.specs.Checks.{RefusesCheck, GivesCheck}
 use Rattle.av_cli.specs.Schedules.{RefusesSchedule, GivesSchedule}
+use Rattle.av_cli.specs.Tables.{RefusesTable, GivesTable}
 use Rattle.av_cli.specs.Emits.{RefusesEmit, GivesEmit}
 use Rattle.av_cli.specs.Sims.{RefusesSim, GivesSim}
 
@@ -24,6 +25,7 @@ IsRefused words bytes reason =
     ⊎ ((length bytes ≤ LIMIT) × IsSim words × RefusesSim bytes reason)
     ⊎ ((length bytes ≤ LIMIT) × ((bits : ℕ) × (sizes : List Size) × IsCheck words bits sizes × RefusesCheck sizes bits bytes reason))
     ⊎ ((length bytes ≤ LIMIT) × ((bits : ℕ) × (box : ℕ) × (sizes : List Size) × IsSchedule words bits box sizes × RefusesSchedule sizes bits box bytes reason))
+    ⊎ ((length bytes ≤ LIMIT) × ((bits : ℕ) × (box : ℕ) × (sizes : List Size) × IsTable words bits box sizes × RefusesTable sizes bits box bytes reason))
 
 -- ---- what is written
 
@@ -85,11 +87,23 @@ pub record WritesSchedule (words : List (List ℕ)) (left left' : Option (List �
   pub within : length taken ≤ LIMIT
   pub gives : GivesSchedule sizes bits box taken out
 
+-- the output of `table`: the lines of the array of the text which the source gave up to its end
+pub record WritesTable (words : List (List ℕ)) (left left' : Option (List ℕ)) (out : List ℕ) : Type 0 where
+  pub bits : ℕ
+  pub box : ℕ
+  pub sizes : List Size
+  pub read : IsTable words bits box sizes
+  pub taken : List ℕ
+  pub takes : Takes left left' taken
+  pub whole : IsAtEnd left'
+  pub within : length taken ≤ LIMIT
+  pub gives : GivesTable sizes bits box taken out
+
 -- what a status writes, where it writes something whole
 abbrev pub Writes : Status → List (List ℕ) → Option (List ℕ) → Option (List ℕ) → List ℕ → Type 0
 Writes Words words left left' out = WritesUsage words left left' out
 Writes Refused words left left' out = WritesRefusal words left left' out
-Writes Done words left left' out = WritesDesign words left left' out ⊎ WritesRun words left left' out ⊎ WritesVerdict words left left' out ⊎ WritesSchedule words left left' out
+Writes Done words left left' out = WritesDesign words left left' out ⊎ WritesRun words left left' out ⊎ WritesVerdict words left left' out ⊎ WritesSchedule words left left' out ⊎ WritesTable words left left' out
 Writes ReadFault words left left' out = ⊥
 Writes WriteFault words left left' out = ⊥
 Writes Memory words left left' out = ⊥

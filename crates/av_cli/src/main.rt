@@ -17,6 +17,7 @@ mod sizes;
 mod standard;
 mod status;
 mod system_refusals;
+mod table;
 #[cfg(test)]
 mod tests;
 mod words;

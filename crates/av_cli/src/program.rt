@@ -11,6 +11,7 @@ use crate::put::put;
 use crate::schedule::schedule;
 use crate::sim::sim;
 use crate::status::Status;
+use crate::table::table;
 use crate::words::{Command, read_words};
 use av_base::{Name, ReadAll, Sink, Source, read_all};
 use std::alloc::Global;
@@ -69,6 +70,7 @@ fn answer<K: Sink>(
     match command {
         Command::Check { width } => check(alloc, words, bytes, width, sink),
         Command::Schedule { width, reach } => { schedule(alloc, words, bytes, width, reach, sink) }
+        Command::Table { width, reach } => table(alloc, words, bytes, width, reach, sink),
         Command::Emit { width } => emit(alloc, bytes, width, sink),
         Command::Sim => sim(alloc, bytes, sink),
     }

@@ -4,6 +4,8 @@ ghost use Rattle.std.specs.Prelude.{◌≡◌};
 ghost use Rattle.av_net.specs.Texts.{text};
 ghost use Rattle.av_flat.specs.Legal.{IsLegal};
 ghost use Rattle.av_data.specs.Schedules.{schedule_text};
+ghost use Rattle.av_data.specs.Tables.{table_text};
+ghost use Rattle.av_space.specs.Arrays.{IsArrayOf};
 ghost use Rattle.av_vread.specs.declared.fault.VFault.TheVariants as text_fault;
 ghost use Rattle.av_data.specs.declared.fault.DataFault.TheVariants as data_fault;
 ghost use Rattle.av_compile.specs.declared.refusal.Refusal.TheVariants as system_refusal;
@@ -15,8 +17,8 @@ use crate::refusals::{write_data_refusal, write_text_refusal};
 use crate::status::Status;
 use crate::system_refusals::write_system_refusal;
 use av_base::{Sink, write_all};
-use av_compile::Refusal;
-use av_data::{DataFault, write_schedule};
+use av_compile::{Array, Refusal};
+use av_data::{DataFault, write_schedule, write_table};
 use av_flat::Timed;
 use av_net::Design;
 use av_vread::VFault;
@@ -48,6 +50,17 @@ pub(crate) fn put_schedule<K: Sink>(sink: &mut K, timed: &Timed) -> Status
     ensures { IsPut (K.held sink.old) (K.held sink.new) (K.faults sink.old) (K.faults sink.new) (schedule_text timed.now) Status.Done result }
 {
     match write_schedule(timed, sink) {
+        Ok(()) => Status::Done,
+        Err(_) => Status::WriteFault,
+    }
+}
+
+/// Adds the lines of the array.
+pub(crate) fn put_table<K: Sink>(sink: &mut K, array: &Array) -> Status
+    requires { IsArrayOf array.now.timed array.now.cells }
+    ensures { IsPut (K.held sink.old) (K.held sink.new) (K.faults sink.old) (K.faults sink.new) (table_text array.now.timed array.now.cells) Status.Done result }
+{
+    match write_table(&array.timed, &array.cells, sink) {
         Ok(()) => Status::Done,
         Err(_) => Status::WriteFault,
     }

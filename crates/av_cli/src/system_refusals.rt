@@ -128,6 +128,11 @@ fn put_reason<K: Sink>(page: &mut Page, sink: &mut K, refusal: &Refusal)
         Refusal::NonUnit(name) => put_name(page, sink, "non unit ", name),
         Refusal::Candidates(amount) => put_amount(page, sink, "candidates ", *amount),
         Refusal::NoSchedule(name) => put_name(page, sink, "no schedule ", name),
+        Refusal::Cycles(amount) => put_amount(page, sink, "cycles ", *amount),
+        Refusal::Cells(amount) => put_amount(page, sink, "cells ", *amount),
+        Refusal::Delays(amount) => put_amount(page, sink, "delays ", *amount),
+        Refusal::Links(amount) => put_amount(page, sink, "links ", *amount),
+        Refusal::Operators(amount) => put_amount(page, sink, "operators ", *amount),
         Refusal::Memory => page.put(sink, ""),
     }
 }

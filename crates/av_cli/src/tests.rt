@@ -136,9 +136,11 @@ const USAGE: &str =
 
 mod checks;
 mod pieces;
+mod quantities;
 mod schedules;
 mod sims;
 mod stimuli;
+mod tables;
 
 const WIDTH_8: &[&str] = &["emit", "--width", "8"];
 

@@ -13,6 +13,8 @@ pub enum Command {
     Check { width: Width },
     /// The first schedule of a system in a box. Its sizes stand in the words.
     Schedule { width: Width, reach: Reach },
+    /// The array of a system by its first schedule in a box. Its sizes stand in the words.
+    Table { width: Width, reach: Reach },
     /// The text of a design, whose words have this width.
     Emit { width: Width },
     /// The run of a module under a stimulus.
@@ -32,6 +34,10 @@ pub fn read_words(words: &[Name]) -> Option<Command>
         "schedule" => {
             let (width, reach) = read_width_and_reach(words)?;
             Some(Command::Schedule { width, reach })
+        }
+        "table" => {
+            let (width, reach) = read_width_and_reach(words)?;
+            Some(Command::Table { width, reach })
         }
         "emit" => Some(Command::Emit {
             width: read_width(words)?,

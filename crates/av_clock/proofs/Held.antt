@@ -1,10 +1,9 @@
 -- What holds of drives and steps that are not marked.
-use Rattle.std.proofs.Common.{◌≡◌, ◌≢◌, ◌⊎◌, ℕ, ◌+◌, ◌<◌, ◌≤◌, List, ◌++◌, length, get_or, set, take, slice_get, Some, replicate, refl, sym, ◌∙◌, ap, subst, arith, Bool, true, false, inl, inr}
-use Rattle.std.specs.Prelude.{All, Contains}
+use Rattle.std.proofs.Common.{◌≡◌, ◌≢◌, ℕ, ◌+◌, ◌<◌, ◌≤◌, List, length, get_or, set, slice_get, Some, refl, sym, ◌∙◌, ap, subst, arith, Bool, true, false, inl, inr}
+use Rattle.std.specs.Prelude.{Contains}
 use Rattle.std.proofs.lemmas.Bool.{cases_eq, cases_lt}
 use Rattle.std.proofs.lemmas.List.{set-get_or, get_or-map, length-map, get_or_default, get_or-set_other}
 use Rattle.std.proofs.lemmas.List.Elements.{Contains-append_right}
-use Rattle.std.proofs.lemmas.Option.{slice_get-get_or, slice_get_within}
 use Rattle.av_base.specs.Words.{IsWord}
 use Rattle.av_net.specs.declared.operation.Operand.{Operand}
 use Rattle.av_net.specs.declared.operation.Operand.TheVariants.{Name, Literal}
@@ -13,23 +12,22 @@ use Rattle.av_net.specs.declared.operation.Operation.TheVariants.{Plain, Binary,
 use Rattle.av_net.specs.declared.netlist.Drive.{Drive}
 use Rattle.av_net.specs.declared.netlist.Step.{Step}
 use Rattle.av_net.specs.declared.netlist.Module.{Module}
-use Rattle.av_net.specs.Meaning.{Words, Widths, word_of, operand_width, result_of, EachOperand}
+use Rattle.av_net.specs.Meaning.{Words, Widths, word_of, result_of, EachOperand}
 use Rattle.av_net.specs.Names.{AreDistinct, IsAmong, names_of, given_names, wire_names, all_names, targets_of, registers_of, width_of}
-use Rattle.av_net.specs.Settled.{Settled, Holds, Agree}
-use Rattle.av_net.specs.Clocked.{Edge}
+use Rattle.av_net.specs.Settled.{Settled, Agree}
 use Rattle.av_net.specs.Sound.{IsSound, IsFitting, SuitsWidth}
 use Rattle.av_net.proofs.Cycles.{is_declared, register_contained}
-use Rattle.av_net.proofs.Distinct.{apart, front_distinct, rest_distinct}
-use Rattle.av_net.proofs.Fits.{word_fits, result_fits}
+use Rattle.av_net.proofs.Distinct.{apart, front_distinct}
+use Rattle.av_net.proofs.Fits.{result_fits}
 use Rattle.av_net.proofs.Once.{agree_by}
 use Rattle.av_net.proofs.Settles.{with_word, with_word_same, with_word_other, names_distinct}
 use Rattle.av_clock.specs.declared.gate.Assignment.{Assignment}
 use Rattle.av_clock.specs.Named.{named, AllFit}
 use Rattle.av_clock.specs.Gates.{gate_word}
-use Rattle.av_clock.specs.Marked.{IsSet, IsClear, AreHeld, ReadTheSame, AreAhead, AreDue}
+use Rattle.av_clock.specs.Marked.{IsSet, IsClear, AreHeld, ReadTheSame, AreAhead}
 use Rattle.av_clock.specs.Readers.{IsOther}
-use Rattle.av_clock.proofs.Lookup.{look_at, look_set}
-use Rattle.av_clock.proofs.Marking.{cleared, clear_after, clear_within}
+use Rattle.av_clock.proofs.Lookup.{look_set}
+use Rattle.av_clock.proofs.Marking.{cleared, clear_after}
 use Rattle.av_clock.proofs.Reading.{not_known, name_at}
 use Rattle.av_clock.proofs.Resolved.{at_item}
 use Rattle.av_clock.proofs.Settling.{IsFor, gate_gives, fit_with}

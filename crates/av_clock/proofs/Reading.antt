@@ -1,5 +1,5 @@
 -- Lists of readers by what they read.
-use Rattle.std.proofs.Common.{◌≡◌, ◌≢◌, ◌⊎◌, ℕ, zero, suc, ◌+◌, ◌<◌, ◌≤◌, List, [], ◌∷◌, ◌++◌, length, get_or, set, take, replicate, slice_get, Some, refl, sym, ◌∙◌, ap, subst, arith, Bool, inl, inr, append_assoc, add-one}
+use Rattle.std.proofs.Common.{◌≡◌, ◌≢◌, ℕ, zero, suc, ◌+◌, ◌<◌, ◌≤◌, List, [], ◌∷◌, ◌++◌, length, get_or, set, take, replicate, slice_get, Some, refl, sym, ◌∙◌, ap, subst, arith, Bool, inl, inr, append_assoc}
 use Rattle.std.specs.Prelude.{All, Contains}
 use Rattle.std.proofs.Math.ListN.{length-set}
 use Rattle.std.proofs.lemmas.Bool.{cases_eq, cases_lt}
@@ -7,12 +7,12 @@ use Rattle.std.proofs.lemmas.List.{get_or-set_same, get_or-set_other, get_or-rep
 use Rattle.std.proofs.lemmas.List.Elements.{Contains-push, Contains-push_cases, Contains-append_left, Contains-append_cases}
 use Rattle.std.proofs.lemmas.Option.{slice_get-get_or, slice_get_within, get_or_from_slice_get}
 use Rattle.av_net.specs.declared.operation.Operand.{Operand}
-use Rattle.av_net.specs.declared.operation.Operand.TheVariants.{Name, Literal}
+use Rattle.av_net.specs.declared.operation.Operand.TheVariants.{Name}
 use Rattle.av_net.specs.declared.netlist.Drive.{Drive}
 use Rattle.av_net.specs.declared.netlist.Step.{Step}
 use Rattle.av_net.specs.declared.netlist.Module.{Module}
 use Rattle.av_net.specs.Meaning.{EachOperand}
-use Rattle.av_net.specs.Names.{AreDistinct, IsAmong, given_names, all_names, targets_of, registers_of}
+use Rattle.av_net.specs.Names.{AreDistinct, IsAmong, given_names, all_names, targets_of}
 use Rattle.av_net.specs.Sound.{IsSound, IsInOrder}
 use Rattle.av_net.proofs.Distinct.{apart, rest_distinct}
 use Rattle.av_net.proofs.Settles.{given_once, names_distinct}

@@ -283,6 +283,17 @@ settled_held m words stale due n filled settled = record {
   steps = λ k d lt clear. absurd (none_clear n k (subst (λ ms. IsClear ms k) filled clear));
 }
 
+-- marks that were made anew where a clock was dense
+pub anew_held : (m : Module) (words : List ℕ) (dense : Bool) (stale stale' due due' : List Bool) → (IsTrue dense → (stale' ≡ replicate (length stale) false) × (due' ≡ replicate (length due) true))
+    → (dense ≡ false → (stale' ≡ stale) × (due' ≡ due)) → (dense ≡ false → AreHeld m words stale due) → Settled m (named m words) → AreHeld m words stale' due'
+anew_held m words true stale stale' due due' new kept held settled = settled_held m words stale' due' (length due) (new refl).1 settled
+anew_held m words false stale stale' due due' new kept held settled = let k = kept refl in rw (k.0, k.1) (held refl)
+
+-- and they are as many
+pub anew_size : (dense mark : Bool) (marks marks' : List Bool) → (IsTrue dense → marks' ≡ replicate (length marks) mark) → (dense ≡ false → marks' ≡ marks) → length marks' ≡ length marks
+anew_size true mark marks marks' new kept = ap length (new refl) ∙ length-replicate (length marks) mark
+anew_size false mark marks marks' new kept = ap length (kept refl)
+
 -- an edge, of what is seen
 pub edge_seen : (s : Seen) (m : Module) (v : Vec ℕ Global) (before new : List ℕ) (reset b : Bool) (w : ℕ) → record { of = m; words = v.items; settled = b; work = w } ≡ s → length new ≡ length before → before ≡ v.items
     → Edge m reset (named m before) (named m new) → Edge m reset (carried s) (named m (with_items v new).items)

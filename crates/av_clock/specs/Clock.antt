@@ -22,7 +22,8 @@ pub record IsKept (c : Inside) : Type 0 where
   pub taken : length c.taken.items ≡ length c.circuit.steps
   pub stale : length c.stale ≡ length c.circuit.drives
   pub due : length c.due ≡ length c.circuit.steps
-  -- what is not marked holds, where not all is to be computed; a settled clock is not one where it is, nor one that has settled
-  pub held : c.every ≡ false → AreHeld c.circuit c.words.items c.stale c.due
-  pub marked : IsTrue c.settled → c.every ≡ false
-  pub first : c.work ≡ 0 → c.every ≡ false → length c.circuit.drives ≡ 0
+  -- what is not marked holds, where the clock is not dense
+  pub held : c.dense ≡ false → AreHeld c.circuit c.words.items c.stale c.due
+  -- a clock that settled, or is not dense, computed its drives
+  pub first : c.work ≡ 0 → c.dense ≡ false → length c.circuit.drives ≡ 0
+  pub shown : c.work ≡ 0 → IsTrue c.settled → length c.circuit.drives ≡ 0

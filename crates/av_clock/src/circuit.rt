@@ -199,6 +199,33 @@ impl<'a> Circuit<'a> {
         }
     }
 
+    /// Gives a place a word, and marks what reads it unless the clock is dense.
+    pub(crate) fn present(
+        &self,
+        dense: bool,
+        place: usize,
+        word: u64,
+        words: &mut [u64],
+        stale: &mut Marks,
+        due: &mut Marks,
+    )
+        requires sound { IsSound self.now }
+        requires size { length words.old ≡ length (all_names self.now) }
+        requires place { place < length words.old }
+        requires stale { length stale.old ≡ length self.now.drives }
+        requires due { length due.old ≡ length self.now.steps }
+        ensures words { words.new ≡ slice_set words.old place word }
+        ensures stale { length stale.new ≡ length stale.old }
+        ensures due { length due.new ≡ length due.old }
+        ensures same { dense ≡ false → ReadTheSame self.now words.old words.new stale.old stale.new due.old due.new }
+    {
+        if dense {
+            words[place] = word;
+        } else {
+            self.write(place, word, words, stale, due);
+        }
+    }
+
     // The marked steps, the words that their registers take at an edge without reset, and their number.
     fn take_due(
         &self,
@@ -319,20 +346,27 @@ impl<'a> Circuit<'a> {
         due.fill(true);
     }
 
-    /// What each register takes at an edge without reset, in the order of the steps, and how many registers that changes.
-    pub(crate) fn next_words(&self, words: &[u64], next: &mut [u64]) -> usize
+    /// What each register takes at an edge without reset, in the order of the steps.
+    pub(crate) fn next_words(&self, words: &[u64], next: &mut [u64])
         requires size { length words.now ≡ length (all_names self.now) }
         requires next { length next.old ≡ length self.now.steps }
         ensures { AreTaken self.now false (named self.now words.now) (length self.now.steps) next.new }
     {
-        let mut changed = 0;
         for (i, flip_flop) in self.flip_flops.iter().enumerate() {
             next[i] = flip_flop.next.word(words);
-            changed += if next[i] == words[flip_flop.register] {
-                0
-            } else {
-                1
-            };
+        }
+    }
+
+    /// How many registers these words change.
+    pub(crate) fn changed(&self, words: &[u64], next: &[u64]) -> usize
+        requires size { length words.now ≡ length (all_names self.now) }
+        requires next { length next.now ≡ length self.now.steps }
+    {
+        let mut changed = 0;
+        for (i, flip_flop) in self.flip_flops.iter().enumerate() {
+            if next[i] != words[flip_flop.register] {
+                changed += 1;
+            }
         }
         changed
     }

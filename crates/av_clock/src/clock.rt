@@ -8,11 +8,14 @@ ghost use Rattle.av_net.specs.Sound.{IsSound};
 ghost use Rattle.av_clock.specs.Seen.{carried};
 
 use crate::circuit::Circuit;
-use crate::marks::Marks;
+use crate::marks::{Marks, mark_anew};
 use av_base::Memory;
 use av_net::Module;
 use std::alloc::Global;
 use std::marker::Model;
+
+// The ticks of a dense clock between two at which changed registers are counted.
+const UNCOUNTED_TICKS: u32 = 15;
 
 /// A module that is clocked.
 #[derive(Drop)]
@@ -26,10 +29,12 @@ pub struct Clock<'a> {
     // The drives and the steps of which an operand changed.
     stale: Marks,
     due: Marks,
-    // Every drive is to be computed, marked or not.
-    every: bool,
-    // The last settle computed more than half of the drives.
+    // All drives are computed at each settle, and the marks say nothing.
     dense: bool,
+    // The last settle by marks computed more than half of the drives.
+    busy: bool,
+    // In a dense clock, the ticks to come before changed registers are counted again.
+    uncounted: u32,
     settled: bool,
     // The drives computed so far.
     work: u64,
@@ -69,8 +74,9 @@ impl<'a> Clock<'a> {
             taken,
             stale,
             due,
-            every: true,
             dense: true,
+            busy: true,
+            uncounted: 0,
             settled: false,
             work: 0,
         })
@@ -86,19 +92,19 @@ impl<'a> Clock<'a> {
         ensures first { self.old.work ≡ 0 → self.new.work ≡ length self.new.of.drives }
         ensures most { self.new.work ≤ self.old.work + length self.new.of.drives }
     {
-        if self.every {
+        if self.dense {
             self.settle_all();
             return;
         }
         let computed = self
             .circuit
             .settle_marked(&mut self.words, &mut self.stale, &mut self.due);
-        self.dense = computed > self.circuit.drives() / 2;
+        self.busy = computed > self.circuit.drives() / 2;
         self.work = self.work.saturating_add(computed as u64);
         self.settled = true;
     }
 
-    // Settles by all drives, whatever is marked.
+    // Settles by all drives, and nothing is marked.
     fn settle_all(&mut self)
         ensures of { self.new.of ≡ self.old.of }
         ensures settled { Settled self.new.of (carried self.new) }
@@ -109,9 +115,6 @@ impl<'a> Clock<'a> {
         ensures most { self.new.work ≤ self.old.work + length self.new.of.drives }
     {
         self.circuit.settle(&mut self.words);
-        self.stale.fill(false);
-        self.due.fill(true);
-        self.every = false;
         self.dense = true;
         self.work = self.work.saturating_add(self.circuit.drives() as u64);
         self.settled = true;
@@ -144,7 +147,8 @@ impl<'a> Clock<'a> {
         ensures others { IfSome (slice_get self.old.of.inputs port) (λ p. (name : Items ℕ) → name ≢ p.name
             → carried self.new name ≡ carried self.old name) }
     {
-        self.circuit.write(
+        self.circuit.present(
+            self.dense,
             port as usize,
             value,
             &mut self.words,
@@ -163,10 +167,29 @@ impl<'a> Clock<'a> {
         ensures flag { self.new.settled ≡ false }
         ensures work { self.new.work ≡ self.old.work }
     {
-        if self.dense && self.tick_all() {
-            return;
+        if self.is_dense_tick() {
+            self.tick_all();
+        } else {
+            self.tick_marked();
         }
-        self.tick_marked();
+    }
+
+    // Whether the next tick is one of all steps. Where most registers change, marks cost more than they save; and in a dense clock
+    // counting those that change costs too, so that it is done each sixteenth time.
+    fn is_dense_tick(&mut self) -> bool
+        ensures kept { self.new ≡ self.old }
+    {
+        if self.dense && self.uncounted > 0 {
+            self.uncounted -= 1;
+            return true;
+        }
+        if !self.dense && !self.busy {
+            return false;
+        }
+        self.uncounted = UNCOUNTED_TICKS;
+        self.circuit.next_words(&self.words, &mut self.next);
+        let changed = self.circuit.changed(&self.words, &self.next);
+        changed > self.circuit.steps() / 2
     }
 
     // The same by the marked steps alone.
@@ -178,6 +201,8 @@ impl<'a> Clock<'a> {
         ensures flag { self.new.settled ≡ false }
         ensures work { self.new.work ≡ self.old.work }
     {
+        mark_anew(self.dense, &mut self.stale, &mut self.due);
+        self.dense = false;
         self.circuit.tick_marked(
             &mut self.words,
             &mut self.next,
@@ -188,25 +213,19 @@ impl<'a> Clock<'a> {
         self.settled = false;
     }
 
-    // The same where that changes more than half of the registers: every drive is marked at once. Else
-    // nothing is done.
-    fn tick_all(&mut self) -> bool
+    // The same by all steps, and nothing is marked.
+    fn tick_all(&mut self)
         requires { IsTrue self.old.settled }
         ensures of { self.new.of ≡ self.old.of }
-        ensures edge { IsTrue result → Edge self.new.of false (carried self.old) (carried self.new) }
-        ensures ports { IsTrue result → Agree (names_of self.new.of.inputs) (carried self.old) (carried self.new) }
-        ensures flag { IsTrue result → self.new.settled ≡ false }
+        ensures edge { Edge self.new.of false (carried self.old) (carried self.new) }
+        ensures ports { Agree (names_of self.new.of.inputs) (carried self.old) (carried self.new) }
+        ensures flag { self.new.settled ≡ false }
         ensures work { self.new.work ≡ self.old.work }
-        ensures kept { result ≡ false → self.new ≡ self.old }
     {
-        let changed = self.circuit.next_words(&self.words, &mut self.next);
-        if changed <= self.circuit.steps() / 2 {
-            return false;
-        }
+        self.circuit.next_words(&self.words, &mut self.next);
         self.circuit.store(&self.next, &mut self.words);
-        self.every = true;
+        self.dense = true;
         self.settled = false;
-        true
     }
 
     /// One edge with `rst` 1: all registers take their literals.

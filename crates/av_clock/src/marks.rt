@@ -1,4 +1,4 @@
-ghost use Rattle.std.specs.Prelude.{◌≡◌, ◌<◌, ◌≤◌, ◌+◌, ℕ, length, replicate, slice_set, true, false, All, Contains, IfOk};
+ghost use Rattle.std.specs.Prelude.{◌≡◌, ◌<◌, ◌≤◌, ◌+◌, ℕ, length, replicate, slice_set, true, false, All, Contains, IfOk, IsTrue};
 ghost use Rattle.av_clock.specs.Marked.{IsSet, IsClear};
 
 use av_base::Memory;
@@ -124,5 +124,16 @@ pub(crate) fn set_all(list: &[usize], marks: &mut Marks)
 {
     for index in list {
         marks.set(*index);
+    }
+}
+
+/// In a dense clock marks say nothing, and where it has settled, all drives hold: their marks are cleared, and the steps are marked.
+pub(crate) fn mark_anew(dense: bool, stale: &mut Marks, due: &mut Marks)
+    ensures dense { IsTrue dense → (stale.new ≡ replicate (length stale.old) false) × (due.new ≡ replicate (length due.old) true) }
+    ensures kept { dense ≡ false → (stale.new ≡ stale.old) × (due.new ≡ due.old) }
+{
+    if dense {
+        stale.fill(false);
+        due.fill(true);
     }
 }

@@ -16,5 +16,6 @@ mod SpelledNames
 mod SoundDesign
 mod FirstFaults
 mod OneChain
+pub mod Pipelined
 mod OnlySolution
 mod Unscheduled

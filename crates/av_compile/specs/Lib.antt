@@ -7,4 +7,5 @@ pub mod Reading
 pub mod Refusals
 pub mod Checked
 pub mod Scheduled
+pub mod Mapped
 pub mod inner

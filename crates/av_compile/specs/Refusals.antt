@@ -13,6 +13,8 @@ use Rattle.av_serial.specs.declared.fault.SerialFault.{SerialFault}
 use Rattle.av_serial.specs.declared.fault.SerialFault.TheVariants as serial
 use Rattle.av_sched.specs.declared.fault.SchedFault.{SchedFault}
 use Rattle.av_sched.specs.declared.fault.SchedFault.TheVariants as sched
+use Rattle.av_space.specs.declared.fault.SpaceFault.{SpaceFault}
+use Rattle.av_space.specs.declared.fault.SpaceFault.TheVariants as space
 use Rattle.av_compile.specs.declared.refusal.Refusal.{Refusal}
 use Rattle.av_compile.specs.declared.refusal.Refusal.TheVariants as refusal
 
@@ -64,3 +66,11 @@ abbrev pub of_sched : SchedFault → Refusal
 of_sched (sched.Candidates n) = refusal.Candidates n
 of_sched (sched.NoSchedule name) = refusal.NoSchedule name
 of_sched sched.Memory = refusal.Memory
+
+abbrev pub of_space : SpaceFault → Refusal
+of_space (space.Cycles n) = refusal.Cycles n
+of_space (space.Cells n) = refusal.Cells n
+of_space (space.Delays n) = refusal.Delays n
+of_space (space.Links n) = refusal.Links n
+of_space (space.Operators n) = refusal.Operators n
+of_space space.Memory = refusal.Memory

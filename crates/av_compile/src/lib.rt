@@ -8,6 +8,7 @@ mod form_refusal;
 mod front;
 mod law;
 mod listing;
+mod mapping;
 mod reader;
 mod refusal;
 mod schedule;
@@ -17,6 +18,7 @@ pub use compiler::compile;
 pub use form_refusal::FormRefusal;
 pub use front::checked;
 pub use law::one_form;
+pub use mapping::{Array, mapped};
 pub use refusal::Refusal;
 pub use schedule::scheduled;
 

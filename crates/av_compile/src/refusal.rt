@@ -1,5 +1,5 @@
 ghost use Rattle.std.specs.Prelude.{◌≡◌};
-ghost use Rattle.av_compile.specs.Refusals.{of_lex, of_parse, of_names, of_normal, of_check, of_serial, of_sched};
+ghost use Rattle.av_compile.specs.Refusals.{of_lex, of_parse, of_names, of_normal, of_check, of_serial, of_sched, of_space};
 ghost use Rattle.av_compile.specs.declared.refusal.Refusal.TheVariants as refusal;
 
 use av_base::{Memory, Name, Place, Point};
@@ -11,8 +11,9 @@ use av_normal::NormalFault;
 use av_parse::ParseFault;
 use av_sched::SchedFault;
 use av_serial::SerialFault;
+use av_space::SpaceFault;
 
-/// Why the text of a system is refused with the sizes given: the faults of all steps, from bytes to schedules. A fault that
+/// Why the text of a system is refused with the sizes given: the faults of all steps, from bytes to arrays. A fault that
 /// several steps have, a limit that is exceeded or a set that is unbounded, stands here once.
 #[derive(Debug, Drop)]
 pub enum Refusal {
@@ -77,6 +78,16 @@ pub enum Refusal {
     Candidates(u128),
     /// The first node of the first component that has no schedule in the box.
     NoSchedule(Name),
+    /// The cycles of the array, which are above 4,096.
+    Cycles(u128),
+    /// Its cells, which are above 2,048.
+    Cells(u128),
+    /// The registers of its delay lines, which are above 32,768.
+    Delays(u128),
+    /// Its links, which are above 16,384.
+    Links(u128),
+    /// Its operators, which are above 1,048,576.
+    Operators(u128),
     /// Out of memory. No contract says when it comes.
     Memory,
 }
@@ -193,6 +204,21 @@ impl From<SchedFault> for Refusal {
             SchedFault::Candidates(n) => Refusal::Candidates(n),
             SchedFault::NoSchedule(name) => Refusal::NoSchedule(name),
             SchedFault::Memory => Refusal::Memory,
+        }
+    }
+}
+
+impl From<SpaceFault> for Refusal {
+    ghost from_gives = { λ fault e. e ≡ of_space fault };
+
+    fn from(fault: SpaceFault) -> Refusal {
+        match fault {
+            SpaceFault::Cycles(n) => Refusal::Cycles(n),
+            SpaceFault::Cells(n) => Refusal::Cells(n),
+            SpaceFault::Delays(n) => Refusal::Delays(n),
+            SpaceFault::Links(n) => Refusal::Links(n),
+            SpaceFault::Operators(n) => Refusal::Operators(n),
+            SpaceFault::Memory => Refusal::Memory,
         }
     }
 }

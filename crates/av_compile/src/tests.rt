@@ -212,13 +212,8 @@ fn push_limit(out: &mut String, quantity: Quantity, number: u128) -> Result<(), 
     Ok(())
 }
 
-fn push_pieces(out: &mut String, number: u128) -> Result<(), Fail> {
-    write!(out, "pieces {number}")?;
-    Ok(())
-}
-
-fn push_candidates(out: &mut String, number: u128) -> Result<(), Fail> {
-    write!(out, "candidates {number}")?;
+fn push_number(out: &mut String, what: &str, number: u128) -> Result<(), Fail> {
+    write!(out, "{what} {number}")?;
     Ok(())
 }
 
@@ -249,7 +244,7 @@ fn push_refusal(out: &mut String, refusal: &Refusal) -> Result<(), Fail> {
         Refusal::DependOnReduce(place) => push_place(out, "dependence on reduce", *place),
         Refusal::Limit(quantity, number) => push_limit(out, *quantity, *number),
         Refusal::SizeOutside => push_words(out, "size outside"),
-        Refusal::Pieces(number) => push_pieces(out, *number),
+        Refusal::Pieces(number) => push_number(out, "pieces", *number),
         Refusal::Unbounded(name) => push_named(out, "unbounded", name),
         Refusal::Uncovered {
             variable,
@@ -266,8 +261,13 @@ fn push_refusal(out: &mut String, refusal: &Refusal) -> Result<(), Fail> {
             point,
         ),
         Refusal::NonUnit(name) => push_named(out, "non unit", name),
-        Refusal::Candidates(number) => push_candidates(out, *number),
+        Refusal::Candidates(number) => push_number(out, "candidates", *number),
         Refusal::NoSchedule(name) => push_named(out, "no schedule", name),
+        Refusal::Cycles(number) => push_number(out, "cycles", *number),
+        Refusal::Cells(number) => push_number(out, "cells", *number),
+        Refusal::Delays(number) => push_number(out, "delays", *number),
+        Refusal::Links(number) => push_number(out, "links", *number),
+        Refusal::Operators(number) => push_number(out, "operators", *number),
         Refusal::Memory => push_words(out, "memory"),
     }
 }

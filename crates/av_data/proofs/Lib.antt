@@ -12,3 +12,4 @@ pub mod Told
 pub mod Divided
 pub mod Fits
 pub mod Timeds
+pub mod Tabled

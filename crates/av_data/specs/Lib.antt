@@ -7,3 +7,4 @@ pub mod Kept
 pub mod Named
 pub mod Divisions
 pub mod Schedules
+pub mod Tables

@@ -1,4 +1,4 @@
-//! Data for a module, the lines that a run is told with, and the lines of a schedule.
+//! Data for a module, the lines that a run is told with, and those of a schedule and of an array.
 #![tactic(auto)]
 
 mod cycle;
@@ -12,6 +12,7 @@ mod reader;
 mod schedule;
 mod spelling;
 mod stimulus;
+mod table;
 mod timeline;
 
 pub use cycle::write_cycle;
@@ -20,6 +21,7 @@ pub use fault::DataFault;
 pub use places::Places;
 pub use schedule::write_schedule;
 pub use stimulus::{Given, Stimulus, read_stimulus};
+pub use table::write_table;
 
 #[cfg(test)]
 mod tests;

@@ -24,7 +24,8 @@ use Rattle.av_depend.specs.Sites.{Site, both, HasPair, sites_of, sites_from}
 use Rattle.av_flat.specs.Order.{IsBefore}
 use Rattle.av_depend.specs.Edges.{IsEdge, AreEdges, ended, without, with_pair}
 use Rattle.av_depend.specs.Extents.{IsInside}
-use Rattle.av_depend.specs.inner.Generating.{AreAllPoints, IsPointOf}
+use Rattle.av_depend.specs.AllPoints.{AreAllPoints}
+use Rattle.av_depend.specs.inner.Generating.{IsPointOf}
 use Rattle.av_depend.specs.inner.Adding.{IsComputedAt, HasAdded, site_at}
 use Rattle.av_depend.proofs.Among.{first_among, more_among, among_cases, none_among}
 use Rattle.av_depend.proofs.Covering.{has_both, both_have}

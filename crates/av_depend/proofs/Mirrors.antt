@@ -11,7 +11,8 @@ use Rattle.av_flat.specs.Points.{has}
 use Rattle.av_flat.proofs.Sets.{has_is}
 use Rattle.av_flat.specs.Order.{IsBefore}
 use Rattle.av_depend.specs.Edges.{IsMiddle, IsGenerator, AreGenerators}
-use Rattle.av_depend.specs.inner.Generating.{mirrored, AreAllPoints, HasMirrored, AreGeneratorsTo}
+use Rattle.av_depend.specs.AllPoints.{AreAllPoints}
+use Rattle.av_depend.specs.inner.Generating.{mirrored, HasMirrored, AreGeneratorsTo}
 use Rattle.av_depend.proofs.Among.{last_among}
 use Rattle.av_depend.proofs.Generators.{before_chain, before_itself}
 

@@ -4,7 +4,8 @@ ghost use Rattle.std.specs.Prelude.{◌≡◌, ◌≤◌, ◌<◌, ◌^◌, ℕ,
 ghost use Rattle.av_affine.specs.Numbers.{AtMost};
 ghost use Rattle.av_poly.specs.Points.{Has};
 ghost use Rattle.av_depend.specs.Edges.{AreGenerators};
-ghost use Rattle.av_depend.specs.inner.Generating.{mirrored, AreAllPoints, IsPointOf, HasMirrored};
+ghost use Rattle.av_depend.specs.AllPoints.{AreAllPoints};
+ghost use Rattle.av_depend.specs.inner.Generating.{mirrored, IsPointOf, HasMirrored};
 
 use arrayvec::ArrayVec;
 use av_base::{List, Memory, Point};

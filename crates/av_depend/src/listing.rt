@@ -4,7 +4,8 @@ ghost use Rattle.std.specs.Prelude.{◌≡◌, ◌≤◌, ◌<◌, ◌+◌, ◌+
 ghost use Rattle.av_affine.specs.Numbers.{AtMost};
 ghost use Rattle.av_flat.specs.Points.{has};
 ghost use Rattle.av_depend.specs.Extents.{IsInside};
-ghost use Rattle.av_depend.specs.inner.Generating.{AreAllPoints, IsPointOf};
+ghost use Rattle.av_depend.specs.AllPoints.{AreAllPoints};
+ghost use Rattle.av_depend.specs.inner.Generating.{IsPointOf};
 ghost use Rattle.av_depend.specs.inner.Listing.{HasListed};
 
 use crate::generator::same;
@@ -81,7 +82,7 @@ fn add_points(
 }
 
 /// All points of a set that has none outside the box, ascending.
-pub(crate) fn all_points(alloc: Global, set: &Poly, extent: &Bounds) -> Result<List<Point>, Memory>
+pub fn all_points(alloc: Global, set: &Poly, extent: &Bounds) -> Result<List<Point>, Memory>
     requires few { set.now.dim ≤ 4 }
     requires low { AtMost 4095 extent.now.low }
     requires high { AtMost 4095 extent.now.high }

@@ -36,7 +36,7 @@ has_inverse_rows linear rows a few =
     let i = has_inverse a.vector (a.vector ∷ rows) (let l = size in omega (arith, few, l)) a.rule in
     (i.0, subst (λ (n : ℕ). (z : Point) → length z ≡ n → along i.0 (along (a.vector ∷ rows) z) ≡ z) (sym size) i.1)
 
-rises : (g o t u : ℤ) → pos 0 <ℤ g → (g *ℤ t +ℤ o) ≤ℤ (g *ℤ u +ℤ o) → t ≤ℤ u
+pub rises : (g o t u : ℤ) → pos 0 <ℤ g → (g *ℤ t +ℤ o) ≤ℤ (g *ℤ u +ℤ o) → t ≤ℤ u
 rises g o t u positive le =
     let s = spread g t u in
     let k : pos 0 ≤ℤ (g *ℤ (u -ℤ t)) = omega (arith, ints, s, le) in

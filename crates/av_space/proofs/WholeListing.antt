@@ -35,56 +35,10 @@ use Rattle.av_space.specs.Ports.{is_output_cell, output_cells}
 use Rattle.av_space.specs.Listings.{input_name, output_name, value_name, InLine, IsInLine, AtLine, IsAtLine, IsWireOf, output, value}
 use Rattle.av_space.specs.Arrays.{IsArrayOf}
 use Rattle.av_space.specs.Whole.{IsOwnWire, IsListedOnce, IsOnTime, IsPresented, IsWhole}
+use Rattle.av_space.proofs.ByPlace.{from_map, there_is, pair_at, pairs_by_place, all_by_place, place_of}
+use Rattle.av_space.proofs.Elements.{some_is, got, mapped}
 use Rattle.av_space.proofs.OneCell.{one_node}
 use Rattle.av_space.proofs.Placed.{one_point}
-
--- ---- lists by place
-
-some_is : {X : Type 0} (x y : X) → ◌≡◌ {A = Option X} (Some x) (Some y) → x ≡ y
-some_is x y e = cc
-
-place_in : {X : Type 0} (xs : List X) (x : X) → Contains xs x → (i : ℕ) × (slice_get xs i ≡ Some x)
-place_in xs x c = (c.0, slice_get_read xs (length xs) c.0 x refl c.1 (sym c.2))
-
-from_map : {X Y : Type 0} (f : X → Y) (xs : List X) (i : ℕ) (y : Y) → slice_get (map f xs) i ≡ Some y → (x : X) × (slice_get xs i ≡ Some x) × (f x ≡ y)
-from_map f [] i y e = absurd cc
-from_map f (x ∷ xs) zero y e = (x, refl, some_is (f x) y e)
-from_map f (x ∷ xs) (suc i) y e = from_map f xs i y e
-
-to_map : {X Y : Type 0} (f : X → Y) (xs : List X) (i : ℕ) (x : X) → slice_get xs i ≡ Some x → slice_get (map f xs) i ≡ Some (f x)
-to_map f [] i x e = absurd cc
-to_map f (y ∷ xs) zero x e = ap (λ z. Some (f z)) (some_is y x e)
-to_map f (y ∷ xs) (suc i) x e = to_map f xs i x e
-
-there_is : {X : Type 0} (xs : List X) (k : ℕ) → k < length xs → (x : X) × (slice_get xs k ≡ Some x)
-there_is [] k lt = absurd (omega (arith, lt))
-there_is (x ∷ xs) zero lt = (x, refl)
-there_is (x ∷ xs) (suc k) lt = there_is xs k (omega (arith, lt))
-
-pair_at : {X : Type 0} (R : X → X → Type 0) (xs : List X) → AllPairs R xs → (i j : ℕ) (x y : X) → slice_get xs i ≡ Some x → slice_get xs j ≡ Some y → i < j → R x y
-pair_at R xs h i j x y ix jy lt =
-    let r = h i j x lt (slice_get_within xs j y jy) in
-    subst (λ (a : _). R a y) (get_or_from_slice_get xs i x x ix) (subst (λ (b : _). R (get_or xs i x) b) (get_or_from_slice_get xs j y x jy) r)
-
-pairs_by_place : {X : Type 0} (R : X → X → Type 0) (xs : List X) → ((i j : ℕ) (x y : X) → slice_get xs i ≡ Some x → slice_get xs j ≡ Some y → i < j → R x y) → AllPairs R xs
-pairs_by_place R xs h i j d lt within =
-    let x = there_is xs i (omega (arith, lt, within)) in
-    let y = there_is xs j within in
-    subst (λ (a : _). R a (get_or xs j d)) (sym (get_or_from_slice_get xs i x.0 d x.1)) (subst (λ (b : _). R x.0 b) (sym (get_or_from_slice_get xs j y.0 d y.1)) (h i j x.0 y.0 x.1 y.1 lt))
-
-all_by_place : {X : Type 0} (P : X → Type 0) (xs : List X) → ((i : ℕ) (x : X) → slice_get xs i ≡ Some x → P x) → All P xs
-all_by_place P xs h i d within = let x = there_is xs i within in subst P (sym (get_or_from_slice_get xs i x.0 d x.1)) (h i x.0 x.1)
-
--- the place of an element of a filtered list in the whole
-place_of : {X : Type 0} (p : X → Bool) (xs : List X) (n : ℕ) (x : X) → slice_get (filter p xs) n ≡ Some x → (i : ℕ) × (slice_get xs i ≡ Some x) × (length (filter p (take i xs)) ≡ n)
-place_of p [] n x e = absurd cc
-place_of p (y ∷ xs) n x e = go (p y) refl n e (λ m. place_of p xs m x)
-  where
-    go : (b : Bool) → p y ≡ b → (n : ℕ) → slice_get (if b then y ∷ filter p xs else filter p xs) n ≡ Some x → ((m : ℕ) → slice_get (filter p xs) m ≡ Some x → (i : ℕ) × (slice_get xs i ≡ Some x) × (length (filter p (take i xs)) ≡ m))
-        → (i : ℕ) × (slice_get (y ∷ xs) i ≡ Some x) × (length (filter p (take i (y ∷ xs))) ≡ n)
-    go true b zero e more = (0, e, refl)
-    go true b (suc n) e more = let r = more n e in (suc r.0, r.1, rw b (ap suc r.2))
-    go false b n e more = let r = more n e in (suc r.0, r.1, rw b r.2)
 
 -- ---- orders
 
@@ -176,7 +130,7 @@ reads_reference (pick place choices n) z i r e = absurd cc
 
 declared_here : (vs : List Variable) (place : ℕ) (v : Variable) (z : Point) → slice_get vs place ≡ Some v → IsTrue (is_declared_at (map signature vs) place z) → IsTrue (has v.domain z)
 declared_here vs place v z e h =
-    let at : slice_get (map signature vs) place ≡ Some (signature v) = to_map signature vs place v e in
+    let at : slice_get (map signature vs) place ≡ Some (signature v) = mapped signature vs place v e in
     subst (λ (o : Option Signature). IsTrue (domain_has o z)) at h
 
 -- ---- the array of a legal system
@@ -203,7 +157,7 @@ module _ (t : Timed) (a : Cells) (legal : IsLegal t) (list : IsArrayOf t a) (few
       let times = list.are_placings.times_are in
       let as_many = sym (length-map pls (λ (p : Placing). p.time)) ∙ ap (λ (ts : List Time). length ts) times in
       let p = there_is pls n (omega (arith, l, many, as_many)) in
-      let time = ap (λ (ts : List Time). slice_get ts n) (sym times) ∙ to_map (λ (q : Placing). q.time) pls n p.0 p.1 in
+      let time = ap (λ (ts : List Time). slice_get ts n) (sym times) ∙ mapped (λ (q : Placing). q.time) pls n p.0 p.1 in
       record { placing = p.0; is = p.1; is_time = time; size = (legal.schedule.linear n v p.0.time e time).size; good = all_at IsPlacing pls n p.0 list.are_placings.each p.1 }
 
   variable_there : (n : ℕ) (v : Variable) → slice_get (nodes own) n ≡ Some v → (i : ℕ) × (slice_get own.variables i ≡ Some v) × (length (filter is_node (take i own.variables)) ≡ n)
@@ -270,7 +224,7 @@ module _ (t : Timed) (a : Cells) (legal : IsLegal t) (list : IsArrayOf t a) (few
       let c = natural (cycle pl.placing.time z) (legal.schedule.starts n z pl.placing.time computation pl.is_time) in
       let cell : Cell = record { node = n; at = along pl.placing.rows z } in
       let used : Stands own pls cell c.0 n z = record { computation = computation; placing = pl.placing; is_placing = pl.is; node = refl; at = refl; in_cycle = c.1 } in
-      let p = place_in a.cells cell (list.cells.all cell (c.0, n, z, used)) in
+      let p = got a.cells cell (list.cells.all cell (c.0, n, z, used)) in
       (p.0, c.0, record { cell = cell; is_cell = p.1; stands = used })
 
   -- ---- lines of inputs
@@ -411,7 +365,7 @@ module _ (t : Timed) (a : Cells) (legal : IsLegal t) (list : IsArrayOf t a) (few
       go kind.Local computed shown test = (
         value_name p,
         value (λ among.
-            let i = place_in a.outputs p among in
+            let i = got a.outputs p among in
             let yes = passed (is_output_cell own a.cells) (range_with_len 0 (length a.cells)) p i.0 (ap (λ (ps : List ℕ). slice_get ps i.0) (sym outputs) ∙ i.1) in
             (let no : true ≡ false = sym yes ∙ test in absurd cc)),
         inr (refl, refl),
@@ -424,11 +378,11 @@ module _ (t : Timed) (a : Cells) (legal : IsLegal t) (list : IsArrayOf t a) (few
       let w = wire_of n s.0 s.1 v z e shown s.2 in
       let l : AtLine = record { node = n; entry = record { variable = v.name; point = z; wire = w.0; cycle = s.1 } } in
       let is : IsAtLine own pls a.cells a.outputs l = record { cell = s.0; computes = s.2; variable = v; is_variable = e; shown = shown; variable_is = refl; wire_is = w.1 } in
-      let at = place_in list.ats.lines l (list.ats.all l is) in
+      let at = got list.ats.lines l (list.ats.all l is) in
       record {
         number = at.0;
         line = l.entry;
-        is_line = ap (λ (es : List Entry). slice_get es at.0) list.ats.entries ∙ to_map (λ (x : AtLine). x.entry) list.ats.lines at.0 l at.1;
+        is_line = ap (λ (es : List Entry). slice_get es at.0) list.ats.entries ∙ mapped (λ (x : AtLine). x.entry) list.ats.lines at.0 l at.1;
         variable_is = refl;
         point_is = refl;
         only = λ k other there named point. only l at.0 at.1 refl k other there named point refl;

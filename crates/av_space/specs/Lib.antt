@@ -9,3 +9,4 @@ pub mod SpaceFaults
 pub mod Arrays
 pub mod Whole
 pub mod ArrayForm
+pub mod inner

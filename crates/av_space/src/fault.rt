@@ -1,3 +1,8 @@
+ghost use Rattle.std.specs.Prelude.{◌≡◌};
+ghost use Rattle.av_space.specs.declared.fault.SpaceFault.TheVariants as fault;
+
+use av_base::Memory;
+
 /// Why a scheduled system has no array: the first quantity of the whole array, in this order, that is above its limit, with its
 /// value; or memory ran out.
 #[derive(Clone, Copy, Debug, PartialEq, Eq)]
@@ -13,4 +18,12 @@ pub enum SpaceFault {
     /// Above 1,048,576 operators.
     Operators(u128),
     Memory,
+}
+
+impl From<Memory> for SpaceFault {
+    ghost from_gives = { λ _ e. e ≡ fault.Memory };
+
+    fn from(_: Memory) -> SpaceFault {
+        SpaceFault::Memory
+    }
 }

@@ -3,11 +3,35 @@
 #![tactic(auto)]
 
 mod cells;
+mod cycles;
 mod fault;
+mod input_site;
 mod laws;
+mod laying;
+mod layout;
+mod lengths;
+mod lines;
+mod linking;
+mod locate;
+mod mapping;
+mod numbered;
+mod operators;
+mod placement;
+mod placing;
+mod points;
+mod ports;
+mod ranked;
+mod reading;
+mod shown;
+mod standing;
+mod stretch;
+mod tap;
+mod tapping;
 
 pub use cells::{Cell, Cells, InPort, Link};
 pub use fault::SpaceFault;
 pub use laws::{
-    between_points, coordinates_have_inverses, one_point, presenting_streams, whole_listings,
+    between_points, coordinates_have_inverses, one_point, presenting_streams,
+    quantities_are_unique, same_systems_have_the_same_faults, whole_listings,
 };
+pub use mapping::map;

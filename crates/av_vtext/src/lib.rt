@@ -6,7 +6,7 @@ mod module;
 mod operation;
 mod writer;
 
-pub use listing::write_point;
+pub use listing::{write_entry, write_point};
 pub use writer::write_design;
 
 #[cfg(test)]

@@ -32,7 +32,8 @@ fn write_entry_line<K: Sink>(page: &mut Page, sink: &mut K, kind: &str, entry: &
     page.put(sink, "\n");
 }
 
-fn write_entry<K: Sink>(page: &mut Page, sink: &mut K, kind: &str, entry: &Entry)
+/// Puts a line of a listing on the page, after this word and without its end: `in X (0) i0 0`.
+pub fn write_entry<K: Sink>(page: &mut Page, sink: &mut K, kind: &str, entry: &Entry)
     ensures { Puts (K.held sink.old) (K.held sink.new) (K.faults sink.old) (K.faults sink.new) page.old page.new (entry_text kind.now entry.now) }
 {
     page.put(sink, kind);

@@ -6,30 +6,30 @@ use crate::Status;
 use av_base::{MemSink, MemSource};
 use std::test::Fail;
 
-const MATRIX_PRODUCT: &str = "system matmul :{N | N>=1} \
+pub(super) const MATRIX_PRODUCT: &str = "system matmul :{N | N>=1} \
     (A : {i,k | 1<=i<=N; 1<=k<=N} of integer; B : {k,j | 1<=k<=N; 1<=j<=N} of integer) \
     returns (C : {i,j | 1<=i<=N; 1<=j<=N} of integer); \
     let C[i,j] = reduce(+, (i,j,k -> i,j), A[i,k]*B[k,j]); tel;";
 
-const CONVOLUTION: &str =
+pub(super) const CONVOLUTION: &str =
     "system conv (W : {k | 0<=k<=2} of integer; X : {i | 0<=i<=4} of integer) \
     returns (Y : {i | 2<=i<=4} of integer); let Y[i] = reduce(+, (i,k -> i), W[k]*X[i-k]); tel;";
 
-const FORWARD: &str = "system forward :{N | N>=1} \
+pub(super) const FORWARD: &str = "system forward :{N | N>=1} \
     (L : {i,j | 1<=j; j<i; i<=N} of integer; b : {i | 1<=i<=N} of integer) \
     returns (x : {i | 1<=i<=N} of integer); let x[i] = b[i] - reduce(+, (i,j -> i), L[i,j]*x[j]); tel;";
 
-const LEAST: &str = "system t (X : {i | 0<=i<=1} of integer) \
+pub(super) const LEAST: &str = "system t (X : {i | 0<=i<=1} of integer) \
     returns (Y : {i | 0<=i<=2} of integer); \
     let Y[i] = reduce(min, (i,j -> i), {i,j | 0<=j; j<i} : X[j]); tel;";
 
-const ROW_SUMS: &str = "system t (A : {i,j | 0<=i<=1; 0<=j<=2} of integer) \
+pub(super) const ROW_SUMS: &str = "system t (A : {i,j | 0<=i<=1; 0<=j<=2} of integer) \
     returns (Y : {i | 0<=i<=1} of integer); let Y[i] = reduce(+, (i,j -> i), A[i,j]); tel;";
 
-const TILTED_SQUARE: &str = "system t (A : {i,j | 0<=i+j<=4; 0<=i-j<=4} of integer) \
+pub(super) const TILTED_SQUARE: &str = "system t (A : {i,j | 0<=i+j<=4; 0<=i-j<=4} of integer) \
     returns (Y : {i,j | 0<=i+j<=4; 0<=i-j<=4} of integer); let Y[i,j] = A[i,j]; tel;";
 
-const CIRCLE: &str = "system t (A : {i | 0<=i<=2} of integer) \
+pub(super) const CIRCLE: &str = "system t (A : {i | 0<=i<=2} of integer) \
     returns (X : {i | 0<=i<=2} of integer); var Y : {i | 0<=i<=2} of integer; \
     let X[i] = Y[i]; Y[i] = X[i]; tel;";
 
@@ -37,7 +37,7 @@ const TURNED: &str = "system t (A : {i | 0<=i<=2} of integer) \
     returns (X : {i | 0<=i<=2} of integer); \
     let X[i] = case {| i=0} : X[i+2]; {| i=2} : X[i-1]; {| i=1} : A[i]; esac; tel;";
 
-const NO_POINT: &str = "system t (X : {i | 0<=i<=2} of integer) \
+pub(super) const NO_POINT: &str = "system t (X : {i | 0<=i<=2} of integer) \
     returns (Y : {i | 1<=i<=0} of integer); let Y[i] = X[i]; tel;";
 
 const RUNNING_SUMS: &str = "system t (X : {i | 0<=i<=2} of integer) \

@@ -9,7 +9,8 @@ use Rattle.av_depend.specs.declared.edge.Edge.{Edge}
 use Rattle.av_depend.specs.declared.site.ReadingSet.{ReadingSet}
 use Rattle.av_depend.specs.Sites.{Site, both}
 use Rattle.av_depend.specs.Edges.{AreGenerators, AreEdges}
-use Rattle.av_depend.specs.inner.Generating.{AreAllPoints, IsPointOf}
+use Rattle.av_depend.specs.AllPoints.{AreAllPoints}
+use Rattle.av_depend.specs.inner.Generating.{IsPointOf}
 
 -- a set with all of its points, and its generators
 pub record IsReadingSet (r : ReadingSet) : Type 0 where

@@ -12,12 +12,6 @@ abbrev pub mirrored : Point → Point → Point
 mirrored (z ∷ zs) (x ∷ xs) = (z +ℤ z -ℤ x) ∷ mirrored zs xs
 mirrored _ _ = []
 
--- all points of the set, ascending
-pub record AreAllPoints (set : Set) (points : List Point) : Type 0 where
-  pub ascending : AllPairs IsBefore points
-  pub each : All (λ z. IsTrue (has set z)) points
-  pub all : (z : Point) → IsTrue (has set z) → Contains points z
-
 -- one entry for each index of the set, at most four, within the limit on coordinates
 pub record IsPointOf (set : Set) (z : Point) : Type 0 where
   pub size : length z ≡ set.dim

@@ -1,10 +1,11 @@
 use Rattle.std.proofs.Common.{subst}
 use Rattle.av_cli.specs.declared.words.Command.{Command}
-use Rattle.av_cli.specs.declared.words.Command.TheVariants.{Check, Schedule, Emit, Sim}
+use Rattle.av_cli.specs.declared.words.Command.TheVariants.{Check, Schedule, Table, Emit, Sim}
 use Rattle.av_cli.specs.CommandsSeen.{Are}
 use Rattle.av_cli.proofs.Answered.{by_command}
 use Rattle.av_cli.proofs.Checking.{check_answered}
 use Rattle.av_cli.proofs.Scheduling.{schedule_answered}
+use Rattle.av_cli.proofs.Tabling.{table_answered}
 use Rattle.av_cli.proofs.program.answer.Goals as goal
 
 pub returns-in-Check : goal.returns-in-Check
@@ -22,6 +23,15 @@ returns-in-Schedule g c =
     let reach = c.in-Schedule.reach in
     by_command c.args.command (Schedule width reach) words bytes c.in-Schedule.is
     (schedule_answered words width.bits reach.size bytes (subst (λ (x : Command). Are x words) c.in-Schedule.is c.requires.read) c.schedule.ensures)
+
+pub returns-in-Table : goal.returns-in-Table
+returns-in-Table g c =
+    let words = c.args.words.now in
+    let bytes = c.args.bytes.now in
+    let width = c.in-Table.width in
+    let reach = c.in-Table.reach in
+    by_command c.args.command (Table width reach) words bytes c.in-Table.is
+    (table_answered words width.bits reach.size bytes (subst (λ (x : Command). Are x words) c.in-Table.is c.requires.read) c.table.ensures)
 
 pub returns-in-Emit : goal.returns-in-Emit
 returns-in-Emit g c = by_command c.args.command (Emit c.in-Emit.width) c.args.words.now c.args.bytes.now c.in-Emit.is c.emit.ensures

@@ -1,4 +1,4 @@
-use Rattle.std.proofs.Common.{◌∙◌, ◌<◌, length, replicate, ap, sym, arith}
+use Rattle.std.proofs.Common.{◌∙◌, replicate, ap, arith}
 use Rattle.av_clock.proofs.Marking.{all_same, same_more}
 use Rattle.av_clock.proofs.marks.fill.Goals as goal
 

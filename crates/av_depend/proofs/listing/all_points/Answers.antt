@@ -1,6 +1,6 @@
 use Rattle.std.proofs.Common.{rules, ◌≡◌, ◌∙◌, sym, subst, [], length, length-take-le, take, arith}
 use Rattle.av_tree.specs.Points.{Point}
-use Rattle.av_depend.specs.inner.Generating.{AreAllPoints}
+use Rattle.av_depend.specs.AllPoints.{AreAllPoints}
 use Rattle.av_depend.specs.inner.Listing.{AreListed}
 use Rattle.av_depend.proofs.Listed.{listed_are_all}
 use Rattle.av_depend.proofs.listing.all_points.Goals as goal

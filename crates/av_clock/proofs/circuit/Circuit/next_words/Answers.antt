@@ -1,7 +1,7 @@
-use Rattle.std.proofs.Common.{subst, ◌∙◌, ◌<◌, false, get_or, length, arith}
+use Rattle.std.proofs.Common.{subst, ◌∙◌, false, get_or}
 use Rattle.av_net.specs.Sound.{IsSound}
 use Rattle.av_clock.specs.Named.{named}
-use Rattle.av_clock.proofs.Edges.{no_flip_flop, for_read, past_items, next_within, register_within, next_more, taken_all}
+use Rattle.av_clock.proofs.Edges.{no_flip_flop, for_read, past_items, next_within, next_more, taken_all}
 use Rattle.av_clock.proofs.circuit.Circuit.next_words.Goals as goal
 
 pub word-requires : goal.word-requires
@@ -10,24 +10,10 @@ word-requires c =
     (for_read c.args.self.now c.self.inside.of.now c.deref-flip_flop-items.result.now c.self.inside.flip_flops.items c.loop-i.i c.self.view_is c.deref-flip_flop-items.ensures.value c.self.invariant.flip_flops c.loop-i-test.true)
 
 pub loop-i-preserved : goal.loop-i-preserved
-loop-i-preserved c = (
-  next_more c.args.self.now c.args.words.now c.loop-i.next c.loop-i.i (get_or c.deref-flip_flop-items.result.now c.loop-i.i no_flip_flop) c.word.result (subst IsSound c.self.view_is c.self.invariant.sound) c.requires.size (c.loop-i.auto.next ∙ c.requires.next)
-      (for_read c.args.self.now c.self.inside.of.now c.deref-flip_flop-items.result.now c.self.inside.flip_flops.items c.loop-i.i c.self.view_is c.deref-flip_flop-items.ensures.value c.self.invariant.flip_flops c.loop-i-test.true)
-      c.word.ensures c.loop-i.invariant.0,
-  omega arith,
-)
+loop-i-preserved c =
+    next_more c.args.self.now c.args.words.now c.loop-i.next c.loop-i.i (get_or c.deref-flip_flop-items.result.now c.loop-i.i no_flip_flop) c.word.result (subst IsSound c.self.view_is c.self.invariant.sound) c.requires.size (c.loop-i.auto.next ∙ c.requires.next)
+    (for_read c.args.self.now c.self.inside.of.now c.deref-flip_flop-items.result.now c.self.inside.flip_flops.items c.loop-i.i c.self.view_is c.deref-flip_flop-items.ensures.value c.self.invariant.flip_flops c.loop-i-test.true)
+    c.word.ensures c.loop-i.invariant
 
 pub returns : goal.returns
-returns c = taken_all c.args.self.now false (named c.args.self.now c.args.words.now) c.loop-i.i c.loop-i.next (past_items c.args.self.now c.self.inside.of.now c.deref-flip_flop-items.result.now c.self.inside.flip_flops.items c.loop-i.i c.self.view_is c.deref-flip_flop-items.ensures.value c.self.invariant.flip_flops c.loop-i-test.false) c.loop-i.invariant.0
-
-pub bounds-words-flip_flop : goal.bounds-words-flip_flop
-bounds-words-flip_flop c =
-    register_within c.args.self.now c.args.words.now c.loop-i.i (get_or c.deref-flip_flop-items.result.now c.loop-i.i no_flip_flop) c.requires.size
-    (for_read c.args.self.now c.self.inside.of.now c.deref-flip_flop-items.result.now c.self.inside.flip_flops.items c.loop-i.i c.self.view_is c.deref-flip_flop-items.ensures.value c.self.invariant.flip_flops c.loop-i-test.true)
-
-pub offset_bounds-words-flip_flop : goal.offset_bounds-words-flip_flop
-offset_bounds-words-flip_flop c =
-    let within : (get_or c.deref-flip_flop-items.result.now c.loop-i.i no_flip_flop).register < length c.args.words.now =
-    register_within c.args.self.now c.args.words.now c.loop-i.i (get_or c.deref-flip_flop-items.result.now c.loop-i.i no_flip_flop) c.requires.size
-    (for_read c.args.self.now c.self.inside.of.now c.deref-flip_flop-items.result.now c.self.inside.flip_flops.items c.loop-i.i c.self.view_is c.deref-flip_flop-items.ensures.value c.self.invariant.flip_flops c.loop-i-test.true) in
-    omega arith
+returns c = taken_all c.args.self.now false (named c.args.self.now c.args.words.now) c.loop-i.i c.loop-i.next (past_items c.args.self.now c.self.inside.of.now c.deref-flip_flop-items.result.now c.self.inside.flip_flops.items c.loop-i.i c.self.view_is c.deref-flip_flop-items.ensures.value c.self.invariant.flip_flops c.loop-i-test.false) c.loop-i.invariant

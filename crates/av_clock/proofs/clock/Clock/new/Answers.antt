@@ -18,6 +18,6 @@ invariant_of-result c =
       stale = ap length c.in_ok-stale.ensures ∙ length-replicate c.drives.result false ∙ c.drives.ensures;
       due = ap length c.in_ok-due.ensures ∙ length-replicate c.steps-3.result false ∙ c.steps-3.ensures;
       held = λ some. absurd (let e : true ≡ false = some in cc);
-      marked = λ flag. absurd (let e : false ≡ true = flag in cc);
       first = λ none some. absurd (let e : true ≡ false = some in cc);
+      shown = λ none flag. absurd (let e : false ≡ true = flag in cc);
     }

@@ -20,6 +20,6 @@ invariant_of-self c = record {
   due = c.reset.ensures.due ∙ c.self.invariant.due;
   held = λ some. held_call c.self.inside.circuit c.self.inside.words _ c.reset.new.words c.reset.new.stale c.reset.new.due c.reset.auto.words c.deref_mut.ensures.value
       (c.reset.ensures.held (held_lent c.self.inside.circuit c.self.inside.words _ c.self.inside.stale c.self.inside.due c.deref_mut.ensures.value (c.self.invariant.held some)));
-  marked = λ flag. absurd (let e : false ≡ true = flag in cc);
   first = c.self.invariant.first;
+  shown = λ none flag. absurd (let e : false ≡ true = flag in cc);
 }

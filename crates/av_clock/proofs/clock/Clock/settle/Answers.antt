@@ -1,4 +1,4 @@
-use Rattle.std.proofs.Common.{◌≡◌, ◌∙◌, ap}
+use Rattle.std.proofs.Common.{◌∙◌, ap}
 use Rattle.av_clock.specs.Seen.{Seen}
 use Rattle.av_clock.proofs.Views.{agree_call, settled_call, size_call, fit_call, held_lent, held_call, first_none, first_empty}
 use Rattle.av_clock.proofs.clock.Clock.settle.Goals as goal
@@ -29,6 +29,6 @@ invariant_of-self c = record {
   stale = c.settle_marked-computed.ensures.stale ∙ c.self.invariant.stale;
   due = c.settle_marked-computed.ensures.due ∙ c.self.invariant.due;
   held = λ some. held_call c.self.inside.circuit c.self.inside.words _ c.settle_marked-computed.new.words c.settle_marked-computed.new.stale c.settle_marked-computed.new.due c.settle_marked-computed.auto.words c.deref_mut.ensures.value c.settle_marked-computed.ensures.held;
-  marked = λ flag. c.if-self.false;
   first = λ none some. c.self.invariant.first (first_none c.self.inside.work c.settle_marked-computed.result c.saturating_add-self-inside.result c.saturating_add-self-inside.ensures none) some;
+  shown = λ none flag. c.self.invariant.first (first_none c.self.inside.work c.settle_marked-computed.result c.saturating_add-self-inside.result c.saturating_add-self-inside.ensures none) c.if-self.false;
 }

@@ -1,6 +1,5 @@
-use Rattle.std.proofs.Common.{◌≡◌, length, ◌∙◌, ap, refl, sym, false, true}
-use Rattle.std.proofs.lemmas.List.{length-replicate}
-use Rattle.av_clock.proofs.Views.{agree_call, settled_call, size_call, fit_call, settled_held, first_count}
+use Rattle.std.proofs.Common.{◌≡◌, ◌∙◌, sym, false, true}
+use Rattle.av_clock.proofs.Views.{agree_call, settled_call, size_call, fit_call, first_count}
 use Rattle.av_clock.proofs.clock.Clock.settle_all.Goals as goal
 
 pub returns-clause-settled : goal.returns-clause-settled
@@ -18,9 +17,9 @@ invariant_of-self c = record {
   settled = λ flag. settled_call c.self.inside.circuit c.self.inside.words _ c.settle.new.words c.settle.auto.words c.deref_mut.ensures.value c.settle.ensures.settled;
   next = c.self.invariant.next;
   taken = c.self.invariant.taken;
-  stale = ap length c.fill.ensures ∙ length-replicate _ false ∙ c.self.invariant.stale;
-  due = ap length c.fill-2.ensures ∙ length-replicate _ true ∙ c.self.invariant.due;
-  held = λ some. settled_held c.self.inside.circuit _ c.fill.new.self c.fill-2.new.self _ c.fill-2.ensures (settled_call c.self.inside.circuit c.self.inside.words _ c.settle.new.words c.settle.auto.words c.deref_mut.ensures.value c.settle.ensures.settled);
-  marked = λ flag. refl;
+  stale = c.self.invariant.stale;
+  due = c.self.invariant.due;
+  held = λ some. absurd (let e : true ≡ false = some in cc);
   first = λ none some. sym c.drives.ensures ∙ first_count c.self.inside.work c.drives.result c.saturating_add-self-inside.result c.saturating_add-self-inside.ensures none;
+  shown = λ none flag. sym c.drives.ensures ∙ first_count c.self.inside.work c.drives.result c.saturating_add-self-inside.result c.saturating_add-self-inside.ensures none;
 }

@@ -1,4 +1,4 @@
-use Rattle.std.proofs.Common.{◌≡◌, List, ℕ, replicate, [], sym, subst, length, ◌∙◌, ap}
+use Rattle.std.proofs.Common.{sym, subst, length, ◌∙◌, ap}
 use Rattle.av_net.specs.declared.netlist.Module.{Module}
 use Rattle.av_net.specs.Names.{all_names}
 use Rattle.av_net.specs.Sound.{IsSound}

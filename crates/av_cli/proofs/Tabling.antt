@@ -1,0 +1,61 @@
+-- How the answers of `table` follow from what its steps did.
+use Rattle.std.proofs.Common.{◌≡◌, ◌≢◌, ℕ, List, Option, refl, sym, ap, ◌∙◌, inl, inr}
+use Rattle.std.specs.Prelude.{codes}
+use Rattle.av_flat.specs.declared.timed.Timed.{Timed}
+use Rattle.av_names.specs.declared.size.Size.{Size}
+use Rattle.av_space.specs.declared.cells.Cells.{Cells}
+use Rattle.av_data.specs.Schedules.{schedule_text}
+use Rattle.av_data.specs.Tables.{table_text}
+use Rattle.av_compile.specs.declared.refusal.Refusal.{Refusal}
+use Rattle.av_compile.specs.declared.refusal.Refusal.TheVariants as refusal
+use Rattle.av_compile.specs.Refusals.{of_space}
+use Rattle.av_compile.specs.Scheduled.{HasOneSolutionEach}
+use Rattle.av_compile.specs.Mapped.{IsMapped, IsUnmapped, in_schedule, in_array}
+use Rattle.av_compile.proofs.Pipelined.{array_of}
+use Rattle.av_cli.specs.declared.status.Status.{Status}
+use Rattle.av_cli.specs.declared.status.Status.TheVariants.{Done, Refused, Memory}
+use Rattle.av_cli.specs.Commands.{GiveSizes, IsTable}
+use Rattle.av_cli.specs.Refusals.{refusal_line}
+use Rattle.av_cli.specs.SystemRefusals.{system_reason}
+use Rattle.av_cli.specs.Tables.{RefusesTable, GivesTable, RefusesTableWith, GivesTableWith}
+use Rattle.av_cli.specs.Written.{IsPut, IsAnswered, refused, given, no_memory}
+use Rattle.av_cli.proofs.Checking.{memory_or_not}
+use Rattle.av_cli.proofs.Scheduling.{not_unscheduled}
+use Rattle.av_cli.proofs.GivenSizes.{with_sizes}
+
+-- ---- refused or given, and not both
+
+pub exclusive_table : (sizes : List Size) (bits box : ℕ) (bytes reason out : List ℕ) → RefusesTable sizes bits box bytes reason → GivesTable sizes bits box bytes out → ⊥
+exclusive_table sizes bits box bytes reason out r g = go r.first
+  where
+    go : IsUnmapped bytes sizes bits box r.cause → ⊥
+    go (in_schedule h) = not_unscheduled sizes bits box bytes r.cause h r.some g.timed g.mapped.pipelined.serialises g.mapped.pipelined.no_cause
+    go (in_array f e t pipelined fault) = r.some (e ∙ ap of_space (array_of bytes sizes bits box g.timed t g.mapped.pipelined pipelined g.mapped.no_cause f fault))
+
+-- ---- answers
+
+pub table_refused : (words : List (List ℕ)) (sizes : List Size) (bits box : ℕ) (bytes : List ℕ) (f : Refusal) {held held' : Option (List ℕ)} {faults faults' : ℕ} {status : Status}
+    → GiveSizes words sizes → (f ≢ refusal.Memory → IsUnmapped bytes sizes bits box f) → (f ≡ refusal.Memory → (status ≡ Memory) × (held' ≡ held))
+    → ((f ≡ refusal.Memory → ⊥) → IsPut held held' faults faults' (refusal_line (system_reason f)) Refused status)
+    → IsAnswered (RefusesTableWith words bits box bytes) (GivesTableWith words bits box bytes) held held' faults faults' status
+table_refused words sizes bits box bytes f give first none put =
+    elim (memory_or_not f) [
+      | inl memory ↦ (let (x, y) = none memory in no_memory x y)
+      | inr some ↦ refused (record { sizes = sizes; give = give; refuses = record { cause = f; first = first some; some = some; told = refl } }) (put some)
+    ]
+
+pub table_given : (words : List (List ℕ)) (sizes : List Size) (bits box : ℕ) (bytes : List ℕ) (t : Timed) (a : Cells) {held held' : Option (List ℕ)} {faults faults' : ℕ} {status : Status}
+    → GiveSizes words sizes → IsMapped bytes sizes bits box t a → HasOneSolutionEach bytes sizes bits → IsPut held held' faults faults' (table_text t a) Done status
+    → IsAnswered (RefusesTableWith words bits box bytes) (GivesTableWith words bits box bytes) held held' faults faults' status
+table_given words sizes bits box bytes t a give is one put =
+    given (record { sizes = sizes; give = give; gives = record { timed = t; cells = a; mapped = is; one_solution = one; lines = refl } }) put
+
+-- the words are those that the command was read from
+pub table_answered : (words : List (List ℕ)) (bits box : ℕ) (bytes : List ℕ) {held held' : Option (List ℕ)} {faults faults' : ℕ} {status : Status} → ((found : List Size) × IsTable words bits box found)
+    → IsAnswered (RefusesTableWith words bits box bytes) (GivesTableWith words bits box bytes) held held' faults faults' status
+    → IsAnswered (λ reason. (sizes : List Size) × IsTable words bits box sizes × RefusesTable sizes bits box bytes reason)
+    (λ out. (sizes : List Size) × IsTable words bits box sizes × GivesTable sizes bits box bytes out)
+    held held' faults faults' status
+table_answered words bits box bytes (found, is) (refused r put) = refused (r.sizes, with_sizes (codes "table") words bits box found r.sizes is r.give, r.refuses) put
+table_answered words bits box bytes (found, is) (given g put) = given (g.sizes, with_sizes (codes "table") words bits box found g.sizes is g.give, g.gives) put
+table_answered words bits box bytes found (no_memory a b) = no_memory a b

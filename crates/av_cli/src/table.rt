@@ -1,0 +1,36 @@
+//! The command `table`.
+
+ghost use Rattle.std.specs.Prelude.{◌≤◌, length};
+ghost use Rattle.av_cli.specs.declared.program.TheConstants.{LIMIT};
+ghost use Rattle.av_cli.specs.Tables.{RefusesTableWith, GivesTableWith};
+ghost use Rattle.av_cli.specs.Written.{IsAnswered};
+
+use crate::put::{put_system_refusal, put_table};
+use crate::sizes::sizes;
+use crate::status::Status;
+use av_base::{Memory, Name, Sink, Width};
+use av_compile::mapped;
+use av_flat::Reach;
+use std::alloc::Global;
+
+/// Answers an Alpha text with the sizes among the words.
+pub(crate) fn table<K: Sink>(
+    alloc: Global,
+    words: &[Name],
+    bytes: &[u8],
+    width: Width,
+    reach: Reach,
+    sink: &mut K,
+) -> Status
+    requires { length bytes.now ≤ LIMIT }
+    ensures { IsAnswered (RefusesTableWith words.now width.bits reach.size bytes.now) (GivesTableWith words.now width.bits reach.size bytes.now) (K.held sink.old) (K.held sink.new) (K.faults sink.old) (K.faults sink.new) result }
+{
+    let sizes = match sizes(alloc, words) {
+        Err(Memory) => return Status::Memory,
+        Ok(sizes) => sizes,
+    };
+    match mapped(alloc, bytes, sizes.as_slice(), width, reach) {
+        Err(refusal) => put_system_refusal(sink, &refusal),
+        Ok(array) => put_table(sink, &array),
+    }
+}

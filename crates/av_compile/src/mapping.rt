@@ -1,0 +1,56 @@
+ghost use Rattle.std.specs.Prelude.{◌≡◌, ◌≢◌, ◌<◌, length, IfOk, IfErr, OnOk, Err};
+ghost use Rattle.av_flat.specs.declared.timed.Timed.{Timed as System};
+ghost use Rattle.av_names.specs.Texts.{AreSmall};
+ghost use Rattle.av_compile.specs.Scheduled.{HasOneSolutionEach};
+ghost use Rattle.av_compile.specs.Mapped.{IsPipelined, HasArray, IsMapped, IsUnmapped};
+ghost use Rattle.av_compile.specs.declared.refusal.Refusal.{Refusal as Refused};
+ghost use Rattle.av_compile.specs.declared.refusal.Refusal.TheVariants as refusal;
+
+use crate::Refusal;
+use crate::schedule::scheduled;
+use av_base::Width;
+use av_flat::{Pass, Reach, Timed};
+use av_names::Size;
+use av_pipe::Pipe;
+use av_space::{Cells, map};
+use std::alloc::Global;
+
+/// A scheduled system with its pipelines, and its array.
+#[derive(Debug, Drop)]
+pub struct Array {
+    pub timed: Timed,
+    pub cells: Cells,
+}
+
+/// The array of the system that a text spells, with its sizes, in words of this width: by its first schedule in the box.
+///
+/// The answer is the system as `scheduled` gives it, with a helper for each reference that the schedule moves, and its cells,
+/// links, ports and listing. Else the first fault is answered: those of `scheduled`, then the first quantity of the array
+/// that is above its limit, in the order cycles, cells, registers of delay lines, links, operators.
+pub fn mapped(
+    alloc: Global,
+    bytes: &[u8],
+    sizes: &[Size],
+    width: Width,
+    reach: Reach,
+) -> Result<Array, Refusal>
+    requires short { length bytes.now < 4294967295 }
+    requires small { AreSmall sizes.now }
+
+    // What is answered is the array of what the bytes spell, with its whole listing.
+    ensures found { IfOk result (λ to. IsMapped bytes.now sizes.now width.bits reach.size to.timed to.cells) }
+
+    // With an array the equations have just one solution, whatever the inputs.
+    ensures one_solution { OnOk result (HasOneSolutionEach bytes.now sizes.now width.bits) }
+
+    // A text is refused for its first fault, unless memory runs out.
+    ensures refused { (f : Refused) → result ≡ Err f → f ≢ refusal.Memory → IsUnmapped bytes.now sizes.now width.bits reach.size f }
+
+    // A system with a first schedule, whose array is within the limits, is not refused.
+    ensures complete { (t : System) → IsPipelined bytes.now sizes.now width.bits reach.size t → HasArray t → IfErr result (λ f. f ≡ refusal.Memory) }
+{
+    let found = scheduled(alloc, bytes, sizes, width, reach)?;
+    let timed = Pipe.run(alloc, &found)?;
+    let cells = map(alloc, &timed)?;
+    Ok(Array { timed, cells })
+}

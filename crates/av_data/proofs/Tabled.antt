@@ -1,0 +1,67 @@
+-- Lines of cells that are written one after another.
+use Rattle.std.proofs.Common.{◌≡◌, ℕ, zero, suc, ◌+◌, ◌<◌, List, [], ◌∷◌, ◌++◌, length, get_or, take, drop, Option, Some, option_map, Bool, true, refl, sym, ap, subst, ◌∙◌, append_assoc, arith, All, map}
+use Rattle.std.specs.Prelude.{slice_get, filter, codes, decimal}
+use Rattle.std.proofs.lemmas.List.{append-nil, take-map, get_or_default}
+use Rattle.std.proofs.lemmas.Option.{slice_get-get_or, slice_get-map, slice_get_within}
+use Rattle.std.proofs.lemmas.List.Elements.{All-weaker}
+use Rattle.av_flat.specs.declared.flat.Var.{Var}
+use Rattle.av_flat.specs.declared.flat.Flat.{Flat}
+use Rattle.av_flat.proofs.Cycles.{node_at}
+use Rattle.av_flat.specs.Trees.{FlatSystem, view_variable, view_system}
+use Rattle.av_flat.specs.Nodes.{is_node, nodes}
+use Rattle.av_space.specs.Coordinates.{Placing}
+use Rattle.av_space.specs.Standing.{IsUsed, AreCells}
+use Rattle.av_flat.specs.Trees.{Variable}
+use Rattle.av_space.specs.declared.cells.Cell.{Cell}
+use Rattle.av_data.specs.Tables.{name_of, named_cell_line, cell_line, cell_lines}
+
+pub cells_more : (vs : List Variable) (p : ℕ) (cells : List Cell) (k : ℕ) (d : Cell) → k < length cells
+    → cell_lines vs p (take (k + 1) cells) ≡ cell_lines vs p (take k cells) ++ cell_line vs (p + k) (get_or cells k d)
+cells_more vs p [] k d l = absurd (omega (arith, l))
+cells_more vs p (c ∷ cells) zero d l = let same : p ≡ p + 0 = omega arith in append-nil (cell_line vs p c) ∙ ap (λ n. cell_line vs n c) same
+cells_more vs p (c ∷ cells) (suc k) d l =
+    let next : suc k + 1 ≡ suc (k + 1) = omega arith in
+    let number : suc p + k ≡ p + suc k = omega arith in
+    ap (λ n. cell_lines vs p (take n (c ∷ cells))) next
+    ∙ ap (λ rest. cell_line vs p c ++ rest) (cells_more vs (suc p) cells k d (omega (arith, l)))
+    ∙ sym (append_assoc (cell_line vs p c) (cell_lines vs (suc p) (take k cells)) (cell_line vs (suc p + k) (get_or cells k d)))
+    ∙ ap (λ n. (cell_line vs p c ++ cell_lines vs (suc p) (take k cells)) ++ cell_line vs n (get_or cells k d)) number
+
+-- the variable at a place is a node, and so many nodes stand before it
+pub found : (flat : Flat) (vars : List Var) (k count node : ℕ) (a : Var) → vars ≡ flat.vars → k < length vars → a ≡ get_or vars k a → is_node (view_variable a) ≡ true
+    → count ≡ length (filter is_node (map view_variable (take k flat.vars))) → count ≡ node → slice_get (nodes (view_system flat)) node ≡ Some (view_variable a)
+found flat vars k count node a same l e is so_far at =
+    let s = view_system flat in
+    let here : slice_get s.variables k ≡ Some (view_variable a) =
+    ap (λ ys. slice_get (map view_variable ys) k) (sym same) ∙ slice_get-map view_variable vars k ∙ ap (option_map view_variable) (slice_get-get_or vars k a l ∙ ap (λ b. Some b) (sym e)) in
+    let n = node_at is_node s.variables k (view_variable a) here is in
+    let many : length (filter is_node (take k s.variables)) ≡ node = ap (λ xs. length (filter is_node xs)) (take-map view_variable k flat.vars) ∙ sym so_far ∙ at in
+    subst (λ (i : ℕ). slice_get (nodes s) i ≡ Some (view_variable a)) many n
+
+-- each cell is of a node
+pub of_nodes : (s : FlatSystem) (placings : List Placing) (cells : List Cell) → AreCells s placings cells → All (λ (c : Cell). c.node < length (nodes s)) cells
+of_nodes s placings cells are = All-weaker (IsUsed s placings) (λ (c : Cell). c.node < length (nodes s)) (λ c used.
+    let stands = used.3 in
+    let within = slice_get_within (nodes s) used.1 stands.computation.variable stands.computation.is in
+    subst (λ n. n < length (nodes s)) (sym stands.node) within) cells are.each
+
+pub joined : (a b c d e f g h i : List ℕ) → ((((a ++ b) ++ (c ++ d)) ++ (e ++ f)) ++ (g ++ h)) ++ i ≡ a ++ b ++ c ++ d ++ e ++ f ++ g ++ h ++ i
+joined a b c d e f g h i =
+    ap (λ x. x ++ (e ++ f) ++ (g ++ h) ++ i) (sym (append_assoc (a ++ b) c d))
+    ∙ ap (λ x. x ++ (g ++ h) ++ i) (sym (append_assoc (a ++ b ++ c ++ d) e f))
+    ∙ ap (λ x. x ++ i) (sym (append_assoc (a ++ b ++ c ++ d ++ e ++ f) g h))
+
+pub cell_more : (vs : List Variable) (cells : List Cell) (k : ℕ) (cell other : Cell) (v : Variable) → k < length cells → cell ≡ get_or cells k cell → slice_get vs (get_or cells k other).node ≡ Some v
+    → cell_lines vs 0 (take k cells) ++ named_cell_line v.name k cell ≡ cell_lines vs 0 (take (k + 1) cells)
+cell_more vs cells k cell other v l is named =
+    let lines = cell_lines vs 0 (take k cells) in
+    let number : k ≡ 0 + k = omega arith in
+    let same : get_or cells k other ≡ cell = get_or_default cells k other cell l ∙ sym is in
+    let name : slice_get vs cell.node ≡ Some v = ap (λ (x : Cell). slice_get vs x.node) (sym same) ∙ named in
+    ap (λ (o : Option Variable). lines ++ named_cell_line (name_of o) k cell) (sym name)
+    ∙ ap (λ (x : Cell). lines ++ cell_line vs k x) is
+    ∙ ap (λ n. lines ++ cell_line vs n (get_or cells k cell)) number
+    ∙ sym (cells_more vs 0 cells k cell l)
+
+pub same_item : (xs : List Var) (k : ℕ) (a b : Var) → k < length xs → a ≡ get_or xs k a → b ≡ get_or xs k b → a ≡ b
+same_item xs k a b l e f = e ∙ get_or_default xs k a b l ∙ sym f

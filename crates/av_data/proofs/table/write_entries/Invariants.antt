@@ -1,0 +1,11 @@
+use Rattle.std.proofs.Common.{take}
+use Rattle.std.specs.List.{flat_map}
+use Rattle.av_page.specs.Pages.{Puts}
+use Rattle.av_data.specs.Tables.{listed_line}
+use Rattle.av_data.proofs.table.write_entries.Given as goal
+
+abbrev pub invariant-loop-entry : goal.invariant-loop-entry
+invariant-loop-entry g l =
+    let H = g.K.Sink.held in
+    let F = g.K.Sink.faults in
+    Puts (H l.fn.sink) (H l.sink) (F l.fn.sink) (F l.sink) l.fn.page l.page (flat_map (listed_line l.word) (take l.entry-index l.entries))

@@ -1,0 +1,6 @@
+use Rattle.std.proofs.Common.{rules}
+use Rattle.av_page.proofs.Putting.{Puts-more, Puts-is}
+use Rattle.av_data.proofs.table.write_listed.Goals as goal
+
+pub returns : goal.returns
+returns g c = Puts-is (Puts-more c.write_entry.ensures c.put.ensures) (search rules)

@@ -1,0 +1,278 @@
+-- Pieces of nodes, their parts and their references to inputs.
+use Rattle.std.proofs.Common.{◌≡◌, ℕ, zero, suc, ◌+◌, ◌^◌, ◌<◌, ◌≤◌, Bool, true, false, not, IsTrue, Some, None, List, [], ◌∷◌, ◌++◌, length, get_or, refl, sym, ap, subst, ◌∙◌, arith}
+use Rattle.std.specs.Prelude.{slice_get, filter, All, Option, IfSome}
+use Rattle.std.proofs.lemmas.List.{length-append, length-map}
+use Rattle.std.proofs.lemmas.Option.{slice_get_within, get_or_from_slice_get}
+use Rattle.av_affine.specs.declared.map.Map.{Map}
+use Rattle.av_affine.specs.Forms.{IsWithinLimits}
+use Rattle.av_affine.specs.Numbers.{AtMost}
+use Rattle.av_tree.specs.Points.{Point}
+use Rattle.av_tree.specs.declared.sign.Sign.{Sign}
+use Rattle.av_tree.specs.declared.relation.Relation.{Relation}
+use Rattle.av_flat.specs.declared.flat.Var.{Var}
+use Rattle.av_flat.specs.declared.tree.Tree.{Tree as TreeMade}
+use Rattle.av_flat.specs.Trees.{Tree, Piece, Variable, view, view_piece, view_variable, view_system, reference, binary, choice}
+use Rattle.av_flat.specs.Broadcasts.{Reference, references}
+use Rattle.av_flat.specs.Nodes.{nodes}
+use Rattle.av_flat.specs.Legal.{IsMoving}
+use Rattle.av_flat.specs.Signatures.{Signature, signatures, signature, is_input, is_computed}
+use Rattle.av_flat.specs.WellFormed.{EachPart, Fits, HasSmallRows, dimension_of}
+use Rattle.av_flat.proofs.Solving.{all_at}
+use Rattle.av_poly.specs.Points.{Set}
+use Rattle.av_space.specs.inner.Layouts.{IsPointOf}
+use Rattle.av_depend.proofs.Adds.{variable_at}
+use Rattle.av_space.specs.declared.cells.InPort.{InPort}
+use Rattle.av_space.specs.declared.layout.Slot.{Slot}
+use Rattle.av_space.specs.declared.input_site.InputSite.{InputSite}
+use Rattle.av_space.specs.declared.ports.NodePiece.{NodePiece}
+use Rattle.av_space.specs.declared.ports.Ports.{Ports as Found}
+use Rattle.av_space.specs.Ports.{IsPort}
+use Rattle.av_space.specs.Taps.{node_of, node_place, helper_at, Handing}
+use Rattle.av_space.specs.inner.Feeding.{direction_of, is_entered, with_port, StandAt}
+use Rattle.av_space.specs.inner.NodePieces.{IsNodePiece, IsPart, IsInputSite, ArePortsAt}
+use Rattle.av_space.proofs.ByPlace.{there_is, read_at}
+use Rattle.av_space.proofs.Elements.{some_is}
+use Rattle.av_space.proofs.Directions.{first_step}
+use Rattle.av_space.proofs.Fed.{IsSiteOn, next_cell, node_of_port, same_reference}
+use Rattle.av_space.proofs.FirstCells.{node_between}
+use Rattle.av_space.proofs.Helpers.{found_helper}
+use Rattle.av_space.proofs.OnCells.{IsCellOf, at_place, place_of_node, node_in_places, slot_points}
+
+-- ---- parts
+
+stand_left : {X : Type 0} (j : ℕ) (xs ys whole : List X) → StandAt j (xs ++ ys) whole → StandAt j xs whole
+stand_left {X} j xs ys whole h i x e = h i x (left xs i e)
+  where
+    left : (xs : List X) (i : ℕ) → slice_get xs i ≡ Some x → slice_get (xs ++ ys) i ≡ Some x
+    left [] i e = absurd cc
+    left (y ∷ xs) zero e = e
+    left (y ∷ xs) (suc i) e = left xs i e
+
+stand_right : {X : Type 0} (j : ℕ) (xs ys whole : List X) → StandAt j (xs ++ ys) whole → StandAt (j + length xs) ys whole
+stand_right {X} j xs ys whole h i x e =
+    let a : j + (length xs + i) ≡ j + length xs + i = omega arith in
+    subst (λ (n : ℕ). slice_get whole n ≡ Some x) a (h (length xs + i) x (right xs i e))
+  where
+    right : (xs : List X) (i : ℕ) → slice_get ys i ≡ Some x → slice_get (xs ++ ys) (length xs + i) ≡ Some x
+    right [] i e = let a : i ≡ 0 + i = omega arith in subst (λ (n : ℕ). slice_get ys n ≡ Some x) a e
+    right (y ∷ xs) i e = let a : suc (length xs + i) ≡ suc (length xs) + i = omega arith in subst (λ (n : ℕ). slice_get (y ∷ (xs ++ ys)) n ≡ Some x) a (right xs i e)
+
+pub part_left : (at : NodePiece) (j : ℕ) (g : Sign) (l r : Tree) → IsPart at j (binary g l r) → IsPart at j l
+part_left at j g l r h = record {
+  stand = stand_left j (references l) (references r) _ h.stand;
+  fits = h.fits.0;
+  rows = h.rows.1;
+  few = (let a = h.few in let e = length-append (references l) (references r) in omega (arith, a, e));
+}
+
+pub part_right : (at : NodePiece) (j : ℕ) (g : Sign) (l r : Tree) → IsPart at j (binary g l r) → IsPart at (j + length (references l)) r
+part_right at j g l r h = record {
+  stand = stand_right j (references l) (references r) _ h.stand;
+  fits = h.fits.1;
+  rows = h.rows.2;
+  few = (let a = h.few in let e = length-append (references l) (references r) in omega (arith, a, e));
+}
+
+-- the four parts of a choice
+pub record ArePartsOfChoice (at : NodePiece) (j : ℕ) (l r x y : Tree) : Type 0 where
+  pub left : IsPart at j l
+  pub right : IsPart at (j + length (references l)) r
+  pub first : IsPart at (j + length (references l) + length (references r)) x
+  pub second : IsPart at (j + length (references l) + length (references r) + length (references x)) y
+
+pub parts_of_choice : (at : NodePiece) (j : ℕ) (l : Tree) (c : Relation) (r x y : Tree) → IsPart at j (choice l c r x y) → ArePartsOfChoice at j l r x y
+parts_of_choice at j l c r x y h =
+    let ls = references l in
+    let rs = references r in
+    let xs = references x in
+    let ys = references y in
+    let whole = references (view_piece at.piece.now).tree in
+    let three = stand_left j (ls ++ rs ++ xs) ys whole h.stand in
+    let two = stand_left j (ls ++ rs) xs whole three in
+    let a = h.few in
+    let e = length-append (ls ++ rs ++ xs) ys in
+    let f = length-append (ls ++ rs) xs in
+    let g = length-append ls rs in
+    let n2 : j + length (ls ++ rs) ≡ j + length ls + length rs = omega (arith, g) in
+    let n3 : j + length (ls ++ rs ++ xs) ≡ j + length ls + length rs + length xs = omega (arith, f, g) in
+    record {
+      left = record { stand = stand_left j ls rs whole two; fits = h.fits.0; rows = h.rows.1; few = omega (arith, a, e, f, g) };
+      right = record { stand = stand_right j ls rs whole two; fits = h.fits.1; rows = h.rows.2; few = omega (arith, a, e, f, g) };
+      first = record { stand = subst (λ (n : ℕ). StandAt n xs whole) n2 (stand_right j (ls ++ rs) xs whole three); fits = h.fits.2; rows = h.rows.3; few = omega (arith, a, e, f, g) };
+      second = record { stand = subst (λ (n : ℕ). StandAt n ys whole) n3 (stand_right j (ls ++ rs ++ xs) ys whole h.stand); fits = h.fits.3; rows = h.rows.4; few = omega (arith, a, e, f, g) };
+    }
+
+-- a part with another number, and the tree that the code has
+pub part_is : (at : NodePiece) (j k : ℕ) (t : Tree) (u v : TreeMade) → k ≡ j → u ≡ v → view v ≡ t → IsPart at j t → IsPart at k (view u)
+part_is at j k t u v e f g h = subst (λ (n : ℕ). IsPart at n (view u)) (sym e) (subst (IsPart at j) (sym g ∙ ap view (sym f)) h)
+
+-- the whole piece
+pub whole_part : (at : NodePiece) → Fits (signatures (view_system at.timed.now.flat)) at.piece.now.domain.dim (view_piece at.piece.now).tree → EachPart HasSmallRows (view_piece at.piece.now).tree
+    → length (references (view_piece at.piece.now).tree) < 2 ^ 32 → IsPart at 0 (view_piece at.piece.now).tree
+whole_part at fits rows few = record {
+  stand = λ i x e. (let a : i ≡ 0 + i = omega arith in subst (λ (n : ℕ). slice_get (references (view_piece at.piece.now).tree) n ≡ Some x) a e);
+  fits = fits;
+  rows = rows;
+  few = omega (arith, few);
+}
+
+pub reference_there : (at : NodePiece) (j place : ℕ) (m : Map) → IsPart at j (reference place m) → slice_get (references (view_piece at.piece.now).tree) j ≡ Some (record { place = place; map = m })
+reference_there at j place m h =
+    let e = h.stand 0 (record { place = place; map = m }) refl in
+    let a : j + 0 ≡ j = omega arith in
+    subst (λ (n : ℕ). slice_get (references (view_piece at.piece.now).tree) n ≡ Some (record { place = place; map = m })) a e
+
+-- ---- the cells of the node
+
+pub cell_between : (at : NodePiece) (is : IsNodePiece at) (p : ℕ) (slots : List Slot) → at.first ≤ p → p < at.last → slice_get at.layout.now.slots p ≡ Some slots
+    → (on : IsCellOf (view_system at.timed.now.flat) at.layout.now.placements at.layout.now.cells p is.variable slots) × (on.cell.node ≡ at.node)
+cell_between at is p slots low high e =
+    let cells = at.layout.now.cells in
+    let w = is.within in
+    let x = there_is cells p (omega (arith, high, w)) in
+    let node = node_between cells at.node at.first at.last p x.0 is.first is.last low high x.1 in
+    let var = ap (λ (n : ℕ). slice_get (nodes (view_system at.timed.now.flat)) n) node ∙ is.is_variable in
+    (record { cell = x.0; is_cell = x.1; is_variable = var; are_slots = is.layout.are_slots p slots e }, node)
+
+-- points of slots as the site asks for them
+pub points_between : (at : NodePiece) (is : IsNodePiece at) (j : ℕ) (site : InputSite) → IsInputSite at j site → (p : ℕ) (slots : List Slot) → at.first ≤ p → p < at.last → slice_get at.layout.now.slots p ≡ Some slots
+    → All (λ (t : Slot). IsPointOf site.domain.now t.point) slots
+points_between at is j site own p slots low high e =
+    let on = (cell_between at is p slots low high e).0 in
+    let h = slot_points at.timed.now at.layout.now p is.variable slots is.legal on at.number (view_piece at.piece.now) is.is_piece in
+    subst (λ (set : _). All (λ (t : Slot). IsPointOf set t.point) slots) (sym own.domain) h
+
+-- one cell more
+pub one_cell_more : (at : NodePiece) (is : IsNodePiece at) (j : ℕ) (site : InputSite) → IsInputSite at j site → (p : ℕ) (slots : List Slot) → at.first ≤ p → p < at.last → slice_get at.layout.now.slots p ≡ Some slots
+    → (old new : Found) → ArePortsAt at j p old
+    → new ≡ with_port (record { cell = p; piece = at.number; site = j }) site.input.now.name site.map.now old (filter (λ (t : Slot). is_entered site.domain.now site.direction t.point) slots)
+    → length new.inputs ≤ 2 ^ 64 → ArePortsAt at j (p + 1) new
+one_cell_more at is j site own p slots low high e old new h f few =
+    let s = view_system at.timed.now.flat in
+    let r = cell_between at is p slots low high e in
+    let on : IsSiteOn s at.timed.now.helpers at.layout.now.placements at.layout.now.cells at.node at.number j p (view_piece at.piece.now) site.direction (view_variable site.input.now) site.map.now slots = record {
+      cell = r.0.cell;
+      is_cell = r.0.is_cell;
+      node = r.1;
+      are_slots = r.0.are_slots;
+      variable = is.variable;
+      is_variable = is.is_variable;
+      is_piece = is.is_piece;
+      place = own.place;
+      is_reference = own.is_reference;
+      is_read = own.is_read;
+      kind = own.kind;
+      direction_is = own.direction;
+    } in
+    let more = next_cell s at.timed.now.helpers at.layout.now.placements at.layout.now.cells at.node at.number j p (view_piece at.piece.now) site.direction (view_variable site.input.now) site.map.now slots on old h in
+    let same = f ∙ ap (λ (set : _). with_port (record { cell = p; piece = at.number; site = j }) site.input.now.name site.map.now old (filter (λ (t : Slot). is_entered set site.direction t.point) slots)) own.domain in
+    subst (ArePortsAt at j (p + 1)) (sym same) (more (subst (λ (ports : Found). length ports.inputs ≤ 2 ^ 64) same few))
+
+-- ---- references
+
+-- the port of a reference reads the variable of the reference
+pub reads_other : (at : NodePiece) (is : IsNodePiece at) (j place : ℕ) (m : Map) (v : Variable) → slice_get (references (view_piece at.piece.now).tree) j ≡ Some (record { place = place; map = m })
+    → slice_get (view_system at.timed.now.flat).variables place ≡ Some v → (IsTrue (is_input v.kind) → ⊥)
+    → (port : InPort) → IsPort (view_system at.timed.now.flat) at.timed.now.helpers at.layout.now.placements at.layout.now.cells port
+    → node_of at.layout.now.cells port.cell ≡ Some at.node → port.piece ≡ at.number → port.site ≡ j → ⊥
+reads_other at is j place m v is_reference is_variable other port h node number site =
+    let s = view_system at.timed.now.flat in
+    let f = h.4 in
+    let n = node_of_port s at.timed.now.helpers at.layout.now.placements at.layout.now.cells port h at.node node in
+    let same : f.variable ≡ is.variable = some_is f.variable is.variable (sym f.is_variable ∙ ap (λ (i : ℕ). slice_get (nodes s) i) n ∙ is.is_variable) in
+    let piece : f.piece ≡ view_piece at.piece.now = some_is f.piece (view_piece at.piece.now)
+    (sym f.is_piece ∙ ap (λ (i : ℕ). slice_get f.variable.pieces i) number ∙ ap (λ (w : Variable). slice_get w.pieces at.number) same ∙ is.is_piece) in
+    let r = same_reference f.place place h.3 m (sym f.is_reference ∙ ap (λ (i : ℕ). slice_get (references f.piece.tree) i) site ∙ ap (λ (q : Piece). slice_get (references q.tree) j) piece ∙ is_reference) in
+    let read : h.2 ≡ v = some_is h.2 v (sym f.is_variable_read ∙ ap (λ (i : ℕ). slice_get s.variables i) r.0 ∙ is_variable) in
+    other (subst (λ (w : Variable). IsTrue (is_input w.kind)) read f.input_kind)
+
+pub not_input : (v : Variable) → IsTrue (is_computed v.kind) → IsTrue (is_input v.kind) → ⊥
+not_input v t u = go (is_input v.kind) t u
+  where
+    go : (b : Bool) → IsTrue (not b) → IsTrue b → ⊥
+    go true t u = absurd cc
+    go false t u = absurd cc
+
+-- the direction of a reference's helper
+pub fine_direction : (at : NodePiece) (is : IsNodePiece at) (j place : ℕ) (m : Map) → slice_get (references (view_piece at.piece.now).tree) j ≡ Some (record { place = place; map = m })
+    → (o : Option Handing) → helper_at at.timed.now.helpers (node_place (view_system at.timed.now.flat) at.node) at.number j ≡ o
+    → IfSome (direction_of o) (λ w. length w ≡ m.from) × IfSome (direction_of o) (AtMost 4095)
+fine_direction at is j place m e None f = (tt, tt)
+fine_direction at is j place m e (Some h) f =
+    let s = view_system at.timed.now.flat in
+    let hs = at.timed.now.helpers in
+    let own = node_place s at.node in
+    let r = found_helper hs 0 own at.number j h f in
+    let moving = all_at (IsMoving s at.timed.now.times) hs r.at r.helper is.legal.helpers r.is_helper in
+    let var : moving.variable ≡ is.variable = some_is moving.variable is.variable (sym moving.is ∙ ap (λ (i : ℕ). slice_get s.variables i) r.var_is ∙ at_place s at.node is.variable is.is_variable) in
+    let piece : moving.piece ≡ view_piece at.piece.now = some_is moving.piece (view_piece at.piece.now)
+    (sym moving.is_piece ∙ ap (λ (i : ℕ). slice_get moving.variable.pieces i) r.piece_is ∙ ap (λ (w : Variable). slice_get w.pieces at.number) var ∙ is.is_piece) in
+    let same : moving.reference ≡ record { place = place; map = m } = some_is moving.reference (record { place = place; map = m })
+    (sym moving.is_reference ∙ ap (λ (i : ℕ). slice_get (references moving.piece.tree) i) r.site_is ∙ ap (λ (q : Piece). slice_get (references q.tree) j) piece ∙ e) in
+    let step = first_step moving.time.linear r.helper.direction moving.reference.map moving.direction in
+    let from : moving.reference.map.from ≡ m.from = ap (λ (x : Reference). x.map.from) same in
+    (subst (λ (w : Point). length w ≡ m.from) r.direction_is (step.size ∙ from), subst (AtMost 4095) r.direction_is step.small)
+
+-- ---- what the code reads
+
+pub slots_there : (at : NodePiece) → IsNodePiece at → (p : ℕ) (slots : List Slot) (rows : List (List Slot)) → p < at.last → rows ≡ at.layout.now.slots → slots ≡ get_or rows p slots → slice_get at.layout.now.slots p ≡ Some slots
+slots_there at is p slots rows high e f =
+    let w = is.within in
+    let o = is.layout.one_each in
+    let m = ap (λ (xs : List (List Slot)). length xs) e in
+    read_at at.layout.now.slots rows p slots e (omega (arith, high, w, o, m)) f
+
+-- the variable that a reference reads
+pub var_there : (at : NodePiece) (j var : ℕ) (m : Map) → IsPart at j (reference var m) → var < length at.timed.now.flat.vars
+var_there at j var m part =
+    let vs = signatures (view_system at.timed.now.flat) in
+    let l : var < length vs = go (slice_get vs var) refl part.fits.results in
+    let a : length vs ≡ length (view_system at.timed.now.flat).variables = length-map (view_system at.timed.now.flat).variables signature in
+    let b : length (view_system at.timed.now.flat).variables ≡ length at.timed.now.flat.vars = length-map at.timed.now.flat.vars view_variable in
+    omega (arith, l, a, b)
+  where
+    go : (o : Option Signature) → slice_get (signatures (view_system at.timed.now.flat)) var ≡ o → dimension_of o ≡ Some (length m.rows) → var < length (signatures (view_system at.timed.now.flat))
+    go None e f = absurd cc
+    go (Some v) e f = slice_get_within (signatures (view_system at.timed.now.flat)) var v e
+
+pub var_is : (at : NodePiece) (var : ℕ) (x : Var) (vars : List Var) → var < length at.timed.now.flat.vars → vars ≡ at.timed.now.flat.vars → x ≡ get_or vars var x
+    → slice_get (view_system at.timed.now.flat).variables var ≡ Some (view_variable x)
+var_is at var x vars l e f = variable_at at.timed.now.flat.vars var x l (subst (λ (xs : List Var). x ≡ get_or xs var x) e f)
+
+pub node_listed : (at : NodePiece) → IsNodePiece at → (places : List ℕ) → places ≡ at.layout.now.places → at.node < length places
+node_listed at is places e =
+    let s = view_system at.timed.now.flat in
+    node_in_places s places at.node (e ∙ is.layout.places) (slice_get_within (nodes s) at.node is.variable is.is_variable)
+
+pub place_listed : (at : NodePiece) → IsNodePiece at → (places : List ℕ) → places ≡ at.layout.now.places → get_or places at.node 0 ≡ node_place (view_system at.timed.now.flat) at.node
+place_listed at is places e =
+    let s = view_system at.timed.now.flat in
+    let l = slice_get_within (nodes s) at.node is.variable is.is_variable in
+    get_or_from_slice_get places at.node (node_place s at.node) 0 (ap (λ (xs : List ℕ). slice_get xs at.node) (e ∙ is.layout.places) ∙ place_of_node s at.node l)
+
+-- a reference to an input as the code has it
+pub site_is : (at : NodePiece) (is : IsNodePiece at) (j var : ℕ) (m : Map) (x : Var) (site : InputSite) → IsPart at j (reference var m) → slice_get (view_system at.timed.now.flat).variables var ≡ Some (view_variable x) → is_computed x.kind ≡ false
+    → site.domain.now ≡ at.piece.now.domain → site.input.now ≡ x → site.map.now ≡ m → site.direction ≡ direction_of (helper_at at.timed.now.helpers (node_place (view_system at.timed.now.flat) at.node) at.number j)
+    → IsInputSite at j site
+site_is at is j var m x site part read computed a b c d =
+    let there = reference_there at j var m part in
+    let fine = fine_direction at is j var m there (helper_at at.timed.now.helpers (node_place (view_system at.timed.now.flat) at.node) at.number j) refl in
+    let from = part.fits.from in
+    record {
+      domain = a;
+      direction = d;
+      place = var;
+      is_reference = there ∙ ap (λ (g : Map). let r : Reference = record { place = var; map = g } in Some r) (sym c);
+      is_read = read ∙ ap (λ (y : Var). Some (view_variable y)) (sym b);
+      kind = subst (λ (y : Var). IsTrue (is_input y.kind)) (sym b) (input_kind (is_input x.kind) computed);
+      readable = record {
+        size = subst (λ (o : Option Point). IfSome o (λ w. length w ≡ site.domain.now.dim)) (sym d) (subst (λ (n : ℕ). IfSome (direction_of (helper_at at.timed.now.helpers (node_place (view_system at.timed.now.flat) at.node) at.number j)) (λ w. length w ≡ n)) (from ∙ ap (λ (set : Set). set.dim) (sym a)) fine.0);
+        small = subst (λ (o : Option Point). IfSome o (AtMost 4095)) (sym d) fine.1;
+        from = ap (λ (g : Map). g.from) c ∙ from ∙ ap (λ (set : Set). set.dim) (sym a);
+        rows = subst (λ (g : Map). All IsWithinLimits g.rows) (sym c) part.rows;
+      };
+    }
+  where
+    input_kind : (b : Bool) → not b ≡ false → IsTrue b
+    input_kind true e = refl
+    input_kind false e = absurd cc

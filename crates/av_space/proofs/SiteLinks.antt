@@ -1,0 +1,122 @@
+-- The links of one tap site on a cell are the stretches of its readings.
+use Rattle.std.proofs.Common.{◌≡◌, ℕ, ◌<◌, ◌≤◌, List, [], ◌++◌, get_or, length, refl, sym, ap, subst, ◌∙◌, arith, Some}
+use Rattle.std.specs.Prelude.{slice_get}
+use Rattle.std.proofs.lemmas.List.Elements.{All-contains}
+use Rattle.av_flat.specs.declared.timed.Helper.{Helper}
+use Rattle.av_flat.specs.declared.timed.Timed.{Timed}
+use Rattle.av_flat.specs.Trees.{Piece, Variable, FlatSystem, view_system}
+use Rattle.av_flat.specs.Legal.{IsLegal}
+use Rattle.av_flat.specs.Nodes.{nodes}
+use Rattle.av_space.specs.declared.cells.Cell.{Cell}
+use Rattle.av_space.specs.declared.cells.Link.{Link}
+use Rattle.av_space.specs.declared.layout.Slot.{Slot}
+use Rattle.av_space.specs.declared.layout.Layout.{Layout}
+use Rattle.av_space.specs.declared.stretch.Reading.{Reading}
+use Rattle.av_space.specs.Coordinates.{Placing}
+use Rattle.av_space.specs.Standing.{AreCells}
+use Rattle.av_space.specs.Links.{AreLinks}
+use Rattle.av_space.specs.Taps.{node_place, Tap, taps, IsTapped}
+use Rattle.av_space.specs.inner.Layouts.{IsLayout}
+use Rattle.av_space.specs.inner.Readings.{IsConsumer, IsSiteOn, IsReadingAt, IsReadingOf, AreReadings}
+use Rattle.av_space.specs.inner.Stretches.{HasLinks, IsAt, IsOnBelow, Told}
+use Rattle.av_space.proofs.Elements.{some_is, in_range}
+use Rattle.av_space.proofs.JoinedLinks.{retold}
+use Rattle.av_space.proofs.OneReading.{slot_computes}
+
+module _ (t : Timed) (l : Layout) (legal : IsLegal t) (layout : IsLayout t l) (p j n : ℕ) (tap : Tap) (piece : Piece) (slots : List Slot) (is : IsSiteOn (view_system t.flat) t.helpers l.placements l.cells p j n tap piece slots) where
+  abbrev Tapped : ℕ → ℕ → ℕ → ℕ → ℕ → Type 0
+  Tapped = IsTapped (view_system t.flat) t.helpers l.placements l.cells
+
+  abbrev Of : ℕ → ℕ → ℕ → Type 0
+  Of = IsReadingOf (view_system t.flat) l.placements l.cells n tap piece slots
+
+  to_tapped : (c q d : ℕ) → Of c q d → Tapped p j c q d
+  to_tapped c q d r = record {
+    node = n;
+    point = r.point;
+    computes = slot_computes t l legal layout p j n tap piece slots is c r.point r.is_slot;
+    variable = is.variable;
+    is_variable = is.is_variable;
+    tap = tap;
+    is_tap = is.is_tap;
+    piece = piece;
+    is_piece = is.is_piece;
+    within = r.is.within;
+    producer = r.is.producer;
+    read = r.is.read;
+    reads = r.is.reads;
+    earlier = r.is.earlier;
+    later = r.is.later;
+    computed = r.is.computed;
+  }
+
+  from_tapped : (c q d : ℕ) → Tapped p j c q d → Of c q d
+  from_tapped c q d r =
+      let s = view_system t.flat in
+      let cell : r.computes.cell ≡ is.cell = some_is r.computes.cell is.cell (sym r.computes.is_cell ∙ is.is_cell) in
+      let node : r.node ≡ n = sym r.computes.stands.node ∙ ap (λ (x : Cell). x.node) cell ∙ is.node in
+      let variable : r.variable ≡ is.variable = some_is r.variable is.variable (sym r.is_variable ∙ ap (λ (k : ℕ). slice_get (nodes s) k) node ∙ is.is_variable) in
+      let place : slice_get (taps s t.helpers (node_place s r.node) r.variable) j ≡ slice_get (taps s t.helpers (node_place s n) is.variable) j =
+      ap (λ (k : ℕ). slice_get (taps s t.helpers (node_place s k) r.variable) j) node ∙ ap (λ (v : Variable). slice_get (taps s t.helpers (node_place s n) v) j) variable in
+      let one : r.tap ≡ tap = some_is r.tap tap (sym r.is_tap ∙ place ∙ is.is_tap) in
+      let same : r.piece ≡ piece = some_is r.piece piece (sym r.is_piece ∙ ap (λ (v : Variable). slice_get v.pieces r.tap.place.piece) variable ∙ ap (λ (u : Tap). slice_get is.variable.pieces u.place.piece) one ∙ is.is_piece) in
+      let at : IsReadingAt s l.placements l.cells r.node r.tap r.piece r.point c q d =
+      record { within = r.within; producer = r.producer; read = r.read; reads = r.reads; earlier = r.earlier; later = r.later; computed = r.computed } in
+      let here = subst (λ (k : ℕ). IsReadingAt s l.placements l.cells k tap piece r.point c q d) node
+      (subst (λ (u : Tap). IsReadingAt s l.placements l.cells r.node u piece r.point c q d) one (subst (λ (q' : Piece). IsReadingAt s l.placements l.cells r.node r.tap q' r.point c q d) same at)) in
+      record { point = r.point; is_slot = is.are_slots.all c r.node r.point r.computes; is = here }
+
+  pub site_links : (rs : List Reading) → AreReadings Of rs → (old new : List Link) → HasLinks (Told rs) (IsAt p j) old new → HasLinks Tapped (IsAt p j) old new
+  site_links rs h old new links = record {
+    added = links.added;
+    new_is = links.new_is;
+    are = retold (Told rs) Tapped (IsAt p j) links.added
+        (λ k i c q d at told. subst (λ (a : ℕ). Tapped a i c q d) (sym at.0) (subst (λ (b : ℕ). Tapped p b c q d) (sym at.1) (to_tapped c q d (All-contains (λ r. Of r.cycle r.producer r.delay) rs (record { cycle = c; producer = q; delay = d }) h.each told))))
+        (λ k i c q d at tapped. h.all c q d (from_tapped c q d (subst (λ (b : ℕ). Tapped p b c q d) at.1 (subst (λ (a : ℕ). Tapped a i c q d) at.0 tapped))))
+        links.are;
+  }
+
+-- a tap site of the node of a cell, by its number
+pub site_on : (s : FlatSystem) (hs : List Helper) (placings : List Placing) (cells : List Cell) (p j n : ℕ) (v : Variable) (slots : List Slot) → IsConsumer s placings cells p n v slots → (tap : Tap)
+    → slice_get (taps s hs (node_place s n) v) j ≡ Some tap → (number : ℕ) → number ≡ tap.place.piece → (piece : Piece) → slice_get v.pieces number ≡ Some piece → IsSiteOn s hs placings cells p j n tap piece slots
+site_on s hs placings cells p j n v slots c tap is_tap number e piece is_piece = record {
+  cell = c.cell;
+  is_cell = c.is_cell;
+  node = c.node;
+  are_slots = c.are_slots;
+  variable = v;
+  is_variable = c.is_variable;
+  is_tap = is_tap;
+  is_piece = ap (slice_get v.pieces) (sym e) ∙ is_piece;
+}
+
+-- a cell has no tap sites but those of its node
+pub few_sites : (s : FlatSystem) (hs : List Helper) (placings : List Placing) (cells : List Cell) (p n : ℕ) (v : Variable) (slots : List Slot) → IsConsumer s placings cells p n v slots → (j c q d : ℕ)
+    → IsTapped s hs placings cells p j c q d → j < length (taps s hs (node_place s n) v)
+few_sites s hs placings cells p n v slots is j c q d r =
+    let cell : r.computes.cell ≡ is.cell = some_is r.computes.cell is.cell (sym r.computes.is_cell ∙ is.is_cell) in
+    let node : r.node ≡ n = sym r.computes.stands.node ∙ ap (λ (x : Cell). x.node) cell ∙ is.node in
+    let variable : r.variable ≡ v = some_is r.variable v (sym r.is_variable ∙ ap (λ (k : ℕ). slice_get (nodes s) k) node ∙ is.is_variable) in
+    let place : taps s hs (node_place s r.node) r.variable ≡ taps s hs (node_place s n) v = ap (λ (k : ℕ). taps s hs (node_place s k) r.variable) node ∙ ap (λ (u : Variable). taps s hs (node_place s n) u) variable in
+    in_range (taps s hs (node_place s n) v) j r.tap (ap (λ (ts : List Tap). slice_get ts j) (sym place) ∙ r.is_tap)
+
+-- the node of a cell is one of the nodes
+pub cell_node : (s : FlatSystem) (placings : List Placing) (cells : List Cell) → AreCells s placings cells → (k : ℕ) (d : Cell) → k < length cells → (get_or cells k d).node < length (nodes s)
+cell_node s placings cells h k d low =
+    let u = h.each k d low in
+    let e = u.3.node in
+    let l = in_range (nodes s) u.1 u.3.computation.variable u.3.computation.is in
+    omega (arith, e, l)
+
+-- the links of all cells
+pub are_links : (s : FlatSystem) (hs : List Helper) (placings : List Placing) (cells : List Cell) (n : ℕ) (links : List Link) → length cells ≤ n → HasLinks (IsTapped s hs placings cells) (IsOnBelow n) [] links → AreLinks s hs placings cells links
+are_links s hs placings cells n links all h =
+    subst (AreLinks s hs placings cells) (sym h.new_is) (record {
+      each = λ k d low. let x = h.are.each k d (subst (λ (m : ℕ). k < m) (length_is h.added) low) in record { ordered = x.ordered; begins = x.begins; ends = x.ends; between = x.between };
+      all = λ p j c q d t. h.are.all p j c q d (let l = in_range cells p t.computes.cell t.computes.is_cell in omega (arith, l, all)) t;
+      maximal = h.are.maximal;
+      order = h.are.order;
+    })
+  where
+    length_is : (xs : List Link) → length ([] ++ xs) ≡ length xs
+    length_is xs = refl

@@ -1,0 +1,35 @@
+use Rattle.std.proofs.Common.{ℕ, List, [], length, map, ap, subst, ◌∙◌, arith, get_or}
+use Rattle.av_flat.specs.Trees.{view_system, view_variable}
+use Rattle.av_space.specs.declared.cells.Cell.{Cell}
+use Rattle.av_space.specs.Taps.{IsTapped}
+use Rattle.av_space.specs.inner.Sites.{TapMade, tap_of}
+use Rattle.av_space.specs.inner.Stretches.{HasLinks, IsOn}
+use Rattle.av_space.proofs.JoinedLinks.{below_more_cells}
+use Rattle.av_space.proofs.NodeTaps.{taps_at_node}
+use Rattle.av_space.proofs.SiteLinks.{are_links}
+use Rattle.av_space.proofs.linking.stretches.Goals as goal
+
+pub taps_of_node-own-requires : goal.taps_of_node-own-requires
+taps_of_node-own-requires c =
+    let x = c.consumer_at-consumer.result in
+    let l = (taps_at_node (view_system c.args.timed.now.flat) c.args.timed.now.helpers c.in_ok-sites.sites c.in_ok-sites.ensures x.node (view_variable x.var.now) c.consumer_at-consumer.ensures.consumer.is_variable []).0 in
+    let e = ap (λ (ts : List (List TapMade)). length ts) c.as_slice.ensures in
+    omega (arith, l, e)
+
+pub cell_stretches-requires-clause-sites : goal.cell_stretches-requires-clause-sites
+cell_stretches-requires-clause-sites c =
+    let x = c.consumer_at-consumer.result in
+    let at = (taps_at_node (view_system c.args.timed.now.flat) c.args.timed.now.helpers c.in_ok-sites.sites c.in_ok-sites.ensures x.node (view_variable x.var.now) c.consumer_at-consumer.ensures.consumer.is_variable []).1 in
+    ap (λ (ts : List TapMade). map tap_of ts) (c.taps_of_node-own.ensures ∙ ap (λ (ts : List (List TapMade)). get_or ts x.node []) c.as_slice.ensures) ∙ at
+
+pub loop-number-preserved : goal.loop-number-preserved
+loop-number-preserved c =
+    let T = IsTapped (view_system c.args.timed.now.flat) c.args.timed.now.helpers c.args.layout.now.placements c.args.layout.now.cells in
+    below_more_cells T c.loop-number.number [] c.loop-number.stretches c.cell_stretches.new.stretches c.loop-number.invariant
+    (subst (λ (p : ℕ). HasLinks T (IsOn p) c.loop-number.stretches c.cell_stretches.new.stretches) c.consumer_at-consumer.ensures.number c.in_ok-cell_stretches.ensures)
+
+pub returns : goal.returns
+returns c =
+    let done = c.loop-number-test.false in
+    let all = ap (λ (l : List Cell). length l) c.as_slice-number-end.ensures in
+    are_links (view_system c.args.timed.now.flat) c.args.timed.now.helpers c.args.layout.now.placements c.args.layout.now.cells c.loop-number.number c.loop-number.stretches (omega (arith, done, all)) c.loop-number.invariant

@@ -1,0 +1,58 @@
+use Rattle.std.proofs.Common.{◌≡◌, ℕ, List, length, sym, ap, subst, ◌∙◌, arith}
+use Rattle.std.specs.Prelude.{slice_get}
+use Rattle.std.proofs.lemmas.List.{length-map}
+use Rattle.std.proofs.lemmas.Result.{on_ok_weaker}
+use Rattle.av_flat.specs.Trees.{Piece, view_piece, view_system, view_variable}
+use Rattle.av_space.specs.declared.stretch.Reading.{Reading}
+use Rattle.av_space.specs.Taps.{node_place}
+use Rattle.av_space.specs.inner.Sites.{tap_of}
+use Rattle.av_space.specs.inner.Stretches.{HasLinks, IsAt, Told, AreByCycle}
+use Rattle.av_space.specs.inner.Readings.{IsFineTap}
+use Rattle.av_space.proofs.Elements.{some_is, in_range}
+use Rattle.av_space.proofs.FineSites.{fine_tap}
+use Rattle.av_space.proofs.Nodes.{node_chained}
+use Rattle.av_space.proofs.SiteLinks.{site_on, site_links}
+use Rattle.av_space.proofs.linking.tap_stretches.Goals as goal
+
+pub piece_at-piece-requires : goal.piece_at-piece-requires
+piece_at-piece-requires c =
+    let s = view_system c.args.timed.now.flat in
+    let v = view_variable c.args.consumer.now.var.now in
+    let f = fine_tap c.args.timed.now c.requires.legal (node_place s c.args.consumer.now.node) v (node_chained s c.args.consumer.now.node v c.requires.legal.chained c.requires.consumer.is_variable) c.args.number (tap_of c.args.site.now) c.requires.site in
+    let low = in_range v.pieces c.args.site.now.place.piece f.piece f.is_piece in
+    let size = length-map c.args.consumer.now.var.now.pieces view_piece in
+    let e = c.piece.ensures in
+    omega (arith, low, size, e)
+
+pub readings-requires-clause-fine : goal.readings-requires-clause-fine
+readings-requires-clause-fine c =
+    let s = view_system c.args.timed.now.flat in
+    let v = view_variable c.args.consumer.now.var.now in
+    let f = fine_tap c.args.timed.now c.requires.legal (node_place s c.args.consumer.now.node) v (node_chained s c.args.consumer.now.node v c.requires.legal.chained c.requires.consumer.is_variable) c.args.number (tap_of c.args.site.now) c.requires.site in
+    let piece = view_piece c.piece_at-piece.result.now in
+    let same : f.piece ≡ piece = some_is f.piece piece (sym f.is_piece ∙ ap (slice_get v.pieces) (sym c.piece.ensures) ∙ c.piece_at-piece.ensures) in
+    subst (λ (k : ℕ). IsFineTap piece.domain.dim k (tap_of c.args.site.now)) (length-map c.args.timed.now.flat.vars view_variable)
+    (subst (λ (q : Piece). IsFineTap q.domain.dim (length s.variables) (tap_of c.args.site.now)) same f.fine)
+
+pub readings-requires-clause-site : goal.readings-requires-clause-site
+readings-requires-clause-site c = record {
+  consumer = c.args.consumer.now.number;
+  number = c.args.number;
+  is = site_on (view_system c.args.timed.now.flat) c.args.timed.now.helpers c.args.layout.now.placements c.args.layout.now.cells c.args.consumer.now.number c.args.number c.args.consumer.now.node
+      (view_variable c.args.consumer.now.var.now) c.args.consumer.now.slots.now c.requires.consumer (tap_of c.args.site.now) c.requires.site c.piece.result c.piece.ensures (view_piece c.piece_at-piece.result.now) c.piece_at-piece.ensures;
+}
+
+pub site_stretches-requires : goal.site_stretches-requires
+site_stretches-requires c = subst AreByCycle (sym c.as_slice.ensures) c.in_ok-readings.ensures.order
+
+pub returns : goal.returns
+returns c =
+    let p = c.args.consumer.now.number in
+    let old = c.args.stretches.now in
+    let new = c.site_stretches.new.stretches in
+    let site = site_on (view_system c.args.timed.now.flat) c.args.timed.now.helpers c.args.layout.now.placements c.args.layout.now.cells p c.args.number c.args.consumer.now.node
+    (view_variable c.args.consumer.now.var.now) c.args.consumer.now.slots.now c.requires.consumer (tap_of c.args.site.now) c.requires.site c.piece.result c.piece.ensures (view_piece c.piece_at-piece.result.now) c.piece_at-piece.ensures in
+    on_ok_weaker c.site_stretches.result
+    (λ h. site_links c.args.timed.now c.args.layout.now c.requires.legal c.requires.layout p c.args.number c.args.consumer.now.node (tap_of c.args.site.now) (view_piece c.piece_at-piece.result.now) c.args.consumer.now.slots.now site
+    c.in_ok-readings.readings c.in_ok-readings.ensures old new (subst (λ (rs : List Reading). HasLinks (Told rs) (IsAt p c.args.number) old new) c.as_slice.ensures h))
+    c.site_stretches.ensures

@@ -1,0 +1,112 @@
+use Rattle.std.proofs.Common.{rules, ◌≡◌, ◌↔◌, ◌∙◌, ◌<◌, ◌≤◌, ◌+◌, ℕ, List, Some, Bool, IsTrue, false, length, map, get_or, sym, ap, subst, arith}
+use Rattle.std.specs.Prelude.{slice_get, All, Any}
+use Rattle.std.proofs.lemmas.List.{length-map}
+use Rattle.std.proofs.lemmas.Option.{slice_get_within}
+use Rattle.av_flat.specs.declared.flat.Piece.{Piece as PieceMade}
+use Rattle.av_flat.specs.declared.flat.Var.{Var}
+use Rattle.av_flat.specs.declared.timed.Timed.{Timed}
+use Rattle.av_flat.specs.Nodes.{nodes}
+use Rattle.av_flat.specs.Points.{has}
+use Rattle.av_flat.specs.Trees.{Piece, Variable, FlatSystem, view, view_piece, view_variable, view_system}
+use Rattle.av_space.specs.declared.cells.Cell.{Cell}
+use Rattle.av_space.specs.declared.layout.Slot.{Slot}
+use Rattle.av_space.specs.declared.layout.Layout.{Layout}
+use Rattle.av_space.specs.Coordinates.{Placing}
+use Rattle.av_space.specs.inner.Layouts.{IsLayout}
+use Rattle.av_space.specs.inner.Layouts.{IsPointOf}
+use Rattle.av_space.specs.Quantities.{size, Use, IsUse}
+use Rattle.av_space.specs.inner.Counting.{capped, IsCappedCount}
+use Rattle.av_space.proofs.ByPlace.{read_at}
+use Rattle.av_space.proofs.Elements.{some_is, mapped}
+use Rattle.av_space.proofs.OperatorCounts.{capped_none, one_more, not_more, whole_cell}
+use Rattle.av_space.proofs.OnCells.{node_in_places, IsCellOf, node_within, cell_of, slot_points, use_of, slot_of_use}
+use Rattle.av_space.proofs.operators.cell_operators.Goals as goal
+use Rattle.av_space.proofs.operators.cell_operators.Goals.{then-is_used, else-is_used}
+
+here : (t : Timed) (l : Layout) (p : ℕ) (x : Cell) (v : Var) (slots : List Slot) (cells : List Cell) (rows : List (List Slot)) → IsLayout t l → p < length l.cells → cells ≡ l.cells → x ≡ get_or cells p x
+    → slice_get (nodes (view_system t.flat)) (get_or cells p x).node ≡ Some (view_variable v) → rows ≡ l.slots → slots ≡ get_or rows p slots → IsCellOf (view_system t.flat) l.placements l.cells p (view_variable v) slots
+here t l p x v slots cells rows layout lt same is var same_rows is_slots =
+    let lc : p < length cells = (let e = ap (λ (xs : List Cell). length xs) same in omega (arith, e, lt)) in
+    let ls : p < length rows = (let e = ap (λ (xs : List (List Slot)). length xs) same_rows in let o = layout.one_each in omega (arith, e, lt, o)) in
+    cell_of t l p x (view_variable v) slots layout (read_at l.cells cells p x same lc is) (ap (λ (y : Cell). slice_get (nodes (view_system t.flat)) y.node) is ∙ var) (read_at l.slots rows p slots same_rows ls is_slots)
+
+unused : (piece q : Piece) (v : Variable) (j : ℕ) → slice_get v.pieces j ≡ Some piece → (slots : List Slot) (b : Bool) → IsTrue b ↔ Any (λ (t : Slot). IsTrue (has piece.domain t.point)) slots → b ≡ false
+    → (slice_get v.pieces j ≡ Some q) × Any (λ (t : Slot). IsTrue (has q.domain t.point)) slots → ⊥
+unused piece q v j is slots b used f h =
+    let same : q ≡ piece = some_is q piece (sym h.0 ∙ is) in
+    let t = used.1 (subst (λ (y : Piece). Any (λ (t : Slot). IsTrue (has y.domain t.point)) slots) same h.1) in
+    absurd cc
+
+within : (u : Use) (piece : Piece) (s : FlatSystem) (placings : List Placing) (cells : List Cell) → IsUse s placings cells u piece → (p : ℕ) → u.cell ≡ p → (v : Var) (slots : List Slot) → IsCellOf s placings cells p (view_variable v) slots
+    → (pieces : List PieceMade) → pieces ≡ v.pieces → (n : ℕ) → length pieces ≤ n → u.piece < n
+within u piece s placings cells is p e v slots on pieces same n over =
+    let h = slot_of_use s placings cells p (view_variable v) slots on u.piece piece (subst (λ (q : ℕ). IsUse s placings cells (record { cell = q; piece = u.piece }) piece) e is) in
+    let l = slice_get_within (map view_piece v.pieces) u.piece piece h.0 in
+    let m : length (map view_piece v.pieces) ≡ length v.pieces = length-map v.pieces view_piece in
+    let k = ap (λ (xs : List PieceMade). length xs) same in
+    omega (arith, l, m, k, over)
+
+pub variable_of-var-requires-clause-within : goal.variable_of-var-requires-clause-within
+variable_of-var-requires-clause-within c =
+    let x = c.index-as_slice-cell.result in
+    let l : c.args.cell < length c.as_slice.result.now = (let e = ap (λ (xs : List Cell). length xs) c.as_slice.ensures in let r = c.requires.cell in omega (arith, e, r)) in
+    let at = read_at c.args.layout.now.cells c.as_slice.result.now c.args.cell x c.as_slice.ensures l c.index-as_slice-cell.is in
+    let s = view_system c.args.timed.now.flat in
+    let within = node_within (view_system c.args.timed.now.flat) c.args.layout.now.placements c.args.layout.now.cells c.args.cell x c.requires.layout.are_cells at in
+    node_in_places s c.as_slice-2.result.now _ (c.as_slice-2.ensures ∙ c.requires.layout.places) (subst (λ (y : Cell). y.node < length (nodes s)) c.index-as_slice-cell.is within)
+
+pub loop-piece-init : goal.loop-piece-init
+loop-piece-init c = capped_none (view_system c.args.timed.now.flat) c.args.layout.now.placements c.args.layout.now.cells (λ u. (u.cell ≡ c.args.cell) × (u.piece < 0)) (λ u piece h is. (let l = h.1 in omega (arith, l)))
+
+pub is_used-requires : goal.is_used-requires
+is_used-requires c =
+    let t = c.args.timed.now in
+    let l = c.args.layout.now in
+    let v = c.variable_of-var.result.now in
+    let piece = c.piece-item.result in
+    let x = c.index-as_slice-cell.result in
+    let slots = c.index-as_slice-cell-2.result in
+    let on = here t l c.args.cell x v slots c.as_slice.result.now c.as_slice-3.result.now c.requires.layout c.requires.cell c.as_slice.ensures c.index-as_slice-cell.is c.variable_of-var.ensures c.as_slice-3.ensures c.index-as_slice-cell-2.is in
+    let lp : c.loop-piece.piece-index < length c.as_slice-piece-items.result.now = search rules in
+    let is = mapped view_piece v.pieces c.loop-piece.piece-index piece (read_at v.pieces c.as_slice-piece-items.result.now c.loop-piece.piece-index piece c.as_slice-piece-items.ensures lp c.piece-item.is) in
+    subst (λ (ts : List Slot). All (λ (t : Slot). IsPointOf piece.domain t.point) ts) (sym c.as_slice-slots.ensures)
+    (slot_points t l c.args.cell (view_variable v) slots c.requires.legal on c.loop-piece.piece-index (view_piece piece) is)
+
+pub loop-piece-preserved : goal.loop-piece-preserved
+loop-piece-preserved c =
+    let s = view_system c.args.timed.now.flat in
+    let t = c.args.timed.now in
+    let l = c.args.layout.now in
+    let p = c.args.cell in
+    let v = c.variable_of-var.result.now in
+    let piece = c.piece-item.result in
+    let x = c.index-as_slice-cell.result in
+    let slots = c.index-as_slice-cell-2.result in
+    let j = c.loop-piece.piece-index in
+    let on = here t l p x v slots c.as_slice.result.now c.as_slice-3.result.now c.requires.layout c.requires.cell c.as_slice.ensures c.index-as_slice-cell.is c.variable_of-var.ensures c.as_slice-3.ensures c.index-as_slice-cell-2.is in
+    let lp : j < length c.as_slice-piece-items.result.now = search rules in
+    let is = mapped view_piece v.pieces j piece (read_at v.pieces c.as_slice-piece-items.result.now j piece c.as_slice-piece-items.ensures lp c.piece-item.is) in
+    let used : IsTrue c.is_used.result ↔ Any (λ (t : Slot). IsTrue (has piece.domain t.point)) slots = subst (λ (ts : List Slot). IsTrue c.is_used.result ↔ Any (λ (t : Slot). IsTrue (has piece.domain t.point)) ts) c.as_slice-slots.ensures c.is_used.ensures in
+    elim c.if-is_used.branch [
+      | then-is_used w ↦
+          let new : c.if-is_used.sum ≡ capped (c.loop-piece.sum + capped (size (view piece.tree))) = w.sum-is ∙ w.saturating_add-sum.ensures ∙ ap (λ (n : ℕ). capped (c.loop-piece.sum + n)) w.size.ensures in
+          subst (λ (n : ℕ). IsCappedCount s l.placements l.cells (λ u. (u.cell ≡ p) × (u.piece < j + 1)) n) (sym new)
+          (one_more s l.placements l.cells p j c.loop-piece.sum (view_piece piece) c.loop-piece.invariant (use_of s l.placements l.cells p (view_variable v) slots on j (view_piece piece) is (used.0 w.if-is_used.true)))
+      | else-is_used w ↦
+          let same : c.if-is_used.sum ≡ c.loop-piece.sum = w.sum-is in
+          subst (λ (n : ℕ). IsCappedCount s l.placements l.cells (λ u. (u.cell ≡ p) × (u.piece < j + 1)) n) (sym same)
+          (not_more s l.placements l.cells p j c.loop-piece.sum c.loop-piece.invariant (λ q u. unused (view_piece piece) q (view_variable v) j is slots c.is_used.result used w.if-is_used.false (slot_of_use s l.placements l.cells p (view_variable v) slots on j q u)))
+    ]
+
+pub returns : goal.returns
+returns c =
+    let s = view_system c.args.timed.now.flat in
+    let t = c.args.timed.now in
+    let l = c.args.layout.now in
+    let p = c.args.cell in
+    let v = c.variable_of-var.result.now in
+    let x = c.index-as_slice-cell.result in
+    let slots = c.index-as_slice-cell-2.result in
+    let on = here t l p x v slots c.as_slice.result.now c.as_slice-3.result.now c.requires.layout c.requires.cell c.as_slice.ensures c.index-as_slice-cell.is c.variable_of-var.ensures c.as_slice-3.ensures c.index-as_slice-cell-2.is in
+    let over : length c.as_slice-piece-items.result.now ≤ c.loop-piece.piece-index = search rules in
+    whole_cell s l.placements l.cells p c.loop-piece.piece-index c.loop-piece.sum c.loop-piece.invariant (λ u piece is_use e. within u piece s l.placements l.cells is_use p e v slots on c.as_slice-piece-items.result.now c.as_slice-piece-items.ensures c.loop-piece.piece-index over)

@@ -1,0 +1,50 @@
+use Rattle.std.proofs.Common.{rules, ◌≡◌, ◌∙◌, ◌<◌, ◌≤◌, List, length, map, ap, arith}
+use Rattle.std.proofs.lemmas.List.{length-map}
+use Rattle.std.proofs.lemmas.Option.{slice_get_within}
+use Rattle.av_flat.specs.declared.flat.Piece.{Piece as PieceMade}
+use Rattle.av_flat.specs.Nodes.{nodes}
+use Rattle.av_flat.specs.Trees.{view_piece, view_variable, view_system}
+use Rattle.av_space.specs.declared.ports.NodePiece.{NodePiece}
+use Rattle.av_space.proofs.Fed.{next_node}
+use Rattle.av_space.proofs.OnCells.{node_in_places}
+use Rattle.av_space.proofs.NodeParts.{piece_below, node_piece_is, piece_part, piece_passed}
+use Rattle.av_space.proofs.ports.add_node.Goals as goal
+
+pub variable_of-var-requires-clause-within : goal.variable_of-var-requires-clause-within
+variable_of-var-requires-clause-within c =
+    node_in_places (view_system c.args.timed.now.flat) c.as_slice.result.now c.args.node (c.as_slice.ensures ∙ c.requires.layout.places)
+    (slice_get_within (nodes (view_system c.args.timed.now.flat)) c.args.node c.requires.small.variable c.requires.small.is_variable)
+
+pub add_tree-requires-clause-part : goal.add_tree-requires-clause-part
+add_tree-requires-clause-part c =
+    let r = c.requires in
+    let l : c.loop-number.number < length c.as_slice-piece-items.result.now = search rules in
+    piece_part _ (node_piece_is _ c.variable_of-var.result.now c.as_slice-piece-items.result.now r.legal r.layout r.small c.variable_of-var.ensures c.as_slice-piece-items.ensures l c.piece-item.is r.first r.last r.ordered r.within) r.small
+
+pub loop-number-preserved : goal.loop-number-preserved
+loop-number-preserved c =
+    let r = c.requires in
+    let l : c.loop-number.number < length c.as_slice-piece-items.result.now = search rules in
+    let at : NodePiece = record {
+      timed = c.args.timed;
+      layout = c.args.layout;
+      node = c.args.node;
+      piece = record { ref_ptr = c.as_slice-piece-items.result.ref_ptr; now = c.piece-item.result };
+      number = c.loop-number.number;
+      first = c.args.first;
+      last = c.args.last;
+    } in
+    piece_passed at (node_piece_is at c.variable_of-var.result.now c.as_slice-piece-items.result.now r.legal r.layout r.small c.variable_of-var.ensures c.as_slice-piece-items.ensures l c.piece-item.is r.first r.last r.ordered r.within)
+    c.in_ok-add_tree.field-0 c.add_tree.new.ports c.in_ok-add_tree.ensures.0 c.in_ok-add_tree.ensures.1
+
+pub returns : goal.returns
+returns c =
+    let t = c.args.timed.now in
+    let l = c.args.layout.now in
+    let s = view_system t.flat in
+    let v = c.variable_of-var.result.now in
+    let over : length c.as_slice-piece-items.result.now ≤ c.loop-number.number = search rules in
+    let many : length (map view_piece v.pieces) ≤ c.loop-number.number =
+    (let a : length (map view_piece v.pieces) ≡ length v.pieces = length-map v.pieces view_piece in let b = ap (λ (xs : List PieceMade). length xs) c.as_slice-piece-items.ensures in omega (arith, over, a, b)) in
+    next_node s t.helpers l.placements l.cells c.args.node c.loop-number.number c.args.first c.args.last c.loop-number.ports c.requires.last
+    (λ port h e. let b = piece_below s t.helpers l.placements l.cells c.args.node (view_variable v) c.variable_of-var.ensures port h e in omega (arith, b, many)) c.loop-number.invariant

@@ -1,0 +1,40 @@
+use Rattle.std.proofs.Common.{rules, ◌≡◌, ◌∙◌, ◌<◌, ◌≤◌, ℕ, List, false, IsTrue, length, sym, ap, subst, arith}
+use Rattle.av_flat.specs.Nodes.{nodes}
+use Rattle.av_flat.specs.Signatures.{is_shown}
+use Rattle.av_flat.specs.Trees.{view_system, view_variable}
+use Rattle.av_net.specs.declared.design.Entry.{Entry}
+use Rattle.av_space.specs.inner.Showing.{AreLinesBelow}
+use Rattle.av_space.proofs.NodeParts.{as_many_places}
+use Rattle.av_space.proofs.ShownLines.{no_lines, not_shown, whole_system}
+use Rattle.av_space.proofs.shown.at_lines.Goals as goal
+
+pub loop-node-init : goal.loop-node-init
+loop-node-init c =
+    let l = c.args.layout.now in
+    let s = view_system c.args.timed.now.flat in
+    subst (AreLinesBelow c.args.timed.now l c.args.outputs.now 0) (sym c.new-lines.ensures) (no_lines s l.placements l.cells c.args.outputs.now (λ m z. m < 0) (λ m z lt. absurd (omega (arith, lt))))
+
+pub loop-node-preserved-then-not-is_shown : goal.loop-node-preserved-then-not-is_shown
+loop-node-preserved-then-not-is_shown c =
+    let l = c.args.layout.now in
+    let s = view_system c.args.timed.now.flat in
+    let v = view_variable c.variable_of-var.result.now in
+    let f : c.is_shown.result ≡ false = search rules in
+    let hidden : is_shown v.kind ≡ false = sym c.is_shown.ensures ∙ f in
+    not_shown s l.placements l.cells c.args.outputs.now c.loop-node.node v c.loop-node.lines c.variable_of-var.ensures (λ t. absurd cc) c.loop-node.invariant
+
+pub add_lines-requires-clause-old : goal.add_lines-requires-clause-old
+add_lines-requires-clause-old c = c.loop-node.invariant
+
+pub loop-node-preserved : goal.loop-node-preserved
+loop-node-preserved c = c.in_ok-add_lines.ensures
+
+pub returns : goal.returns
+returns c =
+    let t = c.args.timed.now in
+    let l = c.args.layout.now in
+    let s = view_system t.flat in
+    let over : length c.as_slice-places.result.now ≤ c.loop-node.node = search rules in
+    let many : length (nodes s) ≤ c.loop-node.node =
+    (let a = ap (λ (xs : List ℕ). length xs) c.as_slice-places.ensures in let b = as_many_places t l c.requires.layout in omega (arith, over, a, b)) in
+    whole_system s l.placements l.cells c.args.outputs.now c.loop-node.node c.loop-node.lines many c.loop-node.invariant

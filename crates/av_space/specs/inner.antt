@@ -1,0 +1,11 @@
+pub mod Layouts
+pub mod Counting
+pub mod Feeding
+pub mod NodePieces
+pub mod Stretches
+pub mod Sites
+pub mod Readings
+pub mod Laying
+pub mod Lengths
+pub mod Quantified
+pub mod Showing

@@ -1,0 +1,58 @@
+-- Pieces of nodes with the cells of the node, references to inputs in them, and the ports that are found up to these.
+use Rattle.std.specs.Prelude.{◌≡◌, ℕ, ◌+◌, ◌<◌, ◌≤◌, ◌^◌, IsTrue, Some, slice_get, length}
+use Rattle.av_flat.specs.declared.timed.Timed.{Timed}
+use Rattle.av_flat.specs.Trees.{Tree, Piece, Variable, FlatSystem, view_piece, view_variable, view_system}
+use Rattle.av_flat.specs.Broadcasts.{references}
+use Rattle.av_flat.specs.Nodes.{nodes}
+use Rattle.av_flat.specs.Signatures.{signatures, is_input}
+use Rattle.av_flat.specs.WellFormed.{EachPart, Fits, HasSmallRows}
+use Rattle.av_flat.specs.Legal.{IsLegal}
+use Rattle.av_space.specs.declared.input_site.InputSite.{InputSite}
+use Rattle.av_space.specs.declared.layout.Layout.{Layout}
+use Rattle.av_space.specs.declared.ports.NodePiece.{NodePiece}
+use Rattle.av_space.specs.declared.ports.Ports.{Ports}
+use Rattle.av_space.specs.Taps.{node_place, helper_at}
+use Rattle.av_space.specs.inner.Feeding.{direction_of, IsReadable, IsFirstOf, StandAt, ArePortsTo}
+use Rattle.av_space.specs.inner.Layouts.{IsLayout}
+
+abbrev pub ArePortsOf : Timed → Layout → ℕ → ℕ → ℕ → Ports → Type 0
+ArePortsOf t l n k p ports = ArePortsTo (view_system t.flat) t.helpers l.placements l.cells n k 0 p ports
+
+abbrev pub ArePortsAt : NodePiece → ℕ → ℕ → Ports → Type 0
+ArePortsAt at j p ports = ArePortsTo (view_system at.timed.now.flat) at.timed.now.helpers at.layout.now.placements at.layout.now.cells at.node at.number j p ports
+
+pub record IsNodePiece (at : NodePiece) : Type 0 where
+  pub legal : IsLegal at.timed.now
+  pub layout : IsLayout at.timed.now at.layout.now
+  pub variable : Variable
+  pub is_variable : slice_get (nodes (view_system at.timed.now.flat)) at.node ≡ Some variable
+  pub is_piece : slice_get variable.pieces at.number ≡ Some (view_piece at.piece.now)
+  pub few : at.number < 2 ^ 32
+  pub first : IsFirstOf at.layout.now.cells at.node at.first
+  pub last : IsFirstOf at.layout.now.cells (at.node + 1) at.last
+  pub ordered : at.first ≤ at.last
+  pub within : at.last ≤ length at.layout.now.cells
+
+-- a part of the piece, whose references have the numbers from j on
+pub record IsPart (at : NodePiece) (j : ℕ) (t : Tree) : Type 0 where
+  pub stand : StandAt j (references t) (references (view_piece at.piece.now).tree)
+  pub fits : Fits (signatures (view_system at.timed.now.flat)) at.piece.now.domain.dim t
+  pub rows : EachPart HasSmallRows t
+  pub few : j + length (references t) < 2 ^ 32
+
+-- the reference with this number in the piece
+pub record IsInputSite (at : NodePiece) (j : ℕ) (site : InputSite) : Type 0 where
+  pub domain : site.domain.now ≡ at.piece.now.domain
+  pub direction : site.direction ≡ direction_of (helper_at at.timed.now.helpers (node_place (view_system at.timed.now.flat) at.node) at.number j)
+  pub place : ℕ
+  pub is_reference : slice_get (references (view_piece at.piece.now).tree) j ≡ Some (record { place = place; map = site.map.now })
+  pub is_read : slice_get (view_system at.timed.now.flat).variables place ≡ Some (view_variable site.input.now)
+  pub kind : IsTrue (is_input site.input.now.kind)
+  pub readable : IsReadable site.domain.now site.direction site.map.now
+
+-- numbers of pieces and references have 32 bits
+pub record IsSmallNode (s : FlatSystem) (n : ℕ) : Type 0 where
+  pub variable : Variable
+  pub is_variable : slice_get (nodes s) n ≡ Some variable
+  pub few : length variable.pieces < 2 ^ 32
+  pub short : (k : ℕ) (piece : Piece) → slice_get variable.pieces k ≡ Some piece → length (references piece.tree) < 2 ^ 32

@@ -1,0 +1,90 @@
+-- What tap sites read at points: what is taken for granted of a site, and the readings of a site on a cell.
+use Rattle.std.specs.Prelude.{◌≡◌, ℕ, ◌+◌, ◌<◌, List, All, Contains, IsTrue, Some, slice_get}
+use Rattle.av_affine.specs.Numbers.{AtMost}
+use Rattle.av_affine.specs.Forms.{IsWithinLimits}
+use Rattle.av_poly.specs.Points.{Set}
+use Rattle.av_tree.specs.Points.{Point}
+use Rattle.av_flat.specs.declared.timed.Helper.{Helper}
+use Rattle.av_flat.specs.Trees.{Tree, Piece, Variable, FlatSystem, reference, pick}
+use Rattle.av_flat.specs.Points.{has}
+use Rattle.av_flat.specs.Nodes.{nodes}
+use Rattle.av_space.specs.declared.cells.Cell.{Cell}
+use Rattle.av_space.specs.declared.layout.Slot.{Slot}
+use Rattle.av_space.specs.declared.stretch.Reading.{Reading}
+use Rattle.av_space.specs.Coordinates.{Placing}
+use Rattle.av_space.specs.Standing.{Computes}
+use Rattle.av_space.specs.Taps.{Way, each, entries, handed, Tap, node_place, taps, IsTapRead}
+use Rattle.av_space.specs.inner.Layouts.{AreSlots}
+use Rattle.av_space.specs.inner.Stretches.{AreByCycle}
+
+-- ---- sites
+
+-- a map or a set over n indices within the limits, and a variable among `count`
+abbrev pub IsReadable : ℕ → ℕ → Tree → Type 0
+IsReadable n count (reference place m) = (place < count) × (m.from ≡ n) × All IsWithinLimits m.rows
+IsReadable n count (pick place choices w) = (place < count) × All (λ c. (c.set.dim ≡ n) × (c.map.from ≡ n) × All IsWithinLimits c.map.rows) choices
+IsReadable n count _ = Unit {0}
+
+abbrev pub IsSmallWay : Way → Type 0
+IsSmallWay each = Unit {0}
+IsSmallWay (entries w) = AtMost 4095 w
+IsSmallWay (handed h w) = AtMost 4095 w
+
+-- a tap site of a piece with n indices
+pub record IsFineTap (n count : ℕ) (t : Tap) : Type 0 where
+  pub tree : IsReadable n count t.place.tree
+  pub way : IsSmallWay t.way
+
+-- a point of a set, within the limit on coordinates
+pub record IsSmallIn (set : Set) (z : Point) : Type 0 where
+  pub within : IsTrue (has set z)
+  pub entries : AtMost 4095 z
+
+-- ---- readings of a site on a cell
+
+-- the site with the number j on the cell p, which has the node n and these computations
+pub record IsSiteOn (s : FlatSystem) (hs : List Helper) (placings : List Placing) (cells : List Cell) (p j n : ℕ) (t : Tap) (piece : Piece) (slots : List Slot) : Type 0 where
+  pub cell : Cell
+  pub is_cell : slice_get cells p ≡ Some cell
+  pub node : cell.node ≡ n
+  pub are_slots : AreSlots s placings cells p slots
+  pub variable : Variable
+  pub is_variable : slice_get (nodes s) n ≡ Some variable
+  pub is_tap : slice_get (taps s hs (node_place s n) variable) j ≡ Some t
+  pub is_piece : slice_get variable.pieces t.place.piece ≡ Some piece
+
+-- a site on a cell
+pub record IsSite (s : FlatSystem) (hs : List Helper) (placings : List Placing) (cells : List Cell) (n : ℕ) (t : Tap) (piece : Piece) (slots : List Slot) : Type 0 where
+  pub consumer : ℕ
+  pub number : ℕ
+  pub is : IsSiteOn s hs placings cells consumer number n t piece slots
+
+-- at the point z of the piece, in cycle c, it reads what the cell q had d cycles before
+pub record IsReadingAt (s : FlatSystem) (placings : List Placing) (cells : List Cell) (n : ℕ) (t : Tap) (piece : Piece) (z : Point) (c q d : ℕ) : Type 0 where
+  pub within : IsTrue (has piece.domain z)
+  pub producer : ℕ
+  pub read : Point
+  pub reads : IsTapRead s n t.place.tree t.way piece z producer read
+  pub earlier : ℕ
+  pub later : earlier + d ≡ c
+  pub computed : Computes s placings cells q earlier producer read
+
+-- at one of these computations
+pub record IsReadingOf (s : FlatSystem) (placings : List Placing) (cells : List Cell) (n : ℕ) (t : Tap) (piece : Piece) (slots : List Slot) (c q d : ℕ) : Type 0 where
+  pub point : Point
+  pub is_slot : Contains slots (record { cycle = c; point = point })
+  pub is : IsReadingAt s placings cells n t piece point c q d
+
+-- all readings for which R holds, by cycle
+pub record AreReadings (R : ℕ → ℕ → ℕ → Type 0) (readings : List Reading) : Type 0 where
+  pub each : All (λ r. R r.cycle r.producer r.delay) readings
+  pub all : (c q d : ℕ) → R c q d → Contains readings (record { cycle = c; producer = q; delay = d })
+  pub order : AreByCycle readings
+
+-- the cell p of the node n of this variable, with its computations
+pub record IsConsumer (s : FlatSystem) (placings : List Placing) (cells : List Cell) (p n : ℕ) (v : Variable) (slots : List Slot) : Type 0 where
+  pub cell : Cell
+  pub is_cell : slice_get cells p ≡ Some cell
+  pub node : cell.node ≡ n
+  pub are_slots : AreSlots s placings cells p slots
+  pub is_variable : slice_get (nodes s) n ≡ Some v

@@ -1,0 +1,40 @@
+-- Lines of computed points as far as they are found: node by node and point by point.
+use Rattle.std.specs.Prelude.{◌≡◌, ℕ, ◌<◌, ◌⊎◌, List, map, All, AllPairs, Contains, IsTrue, Some, slice_get}
+use Rattle.av_tree.specs.Points.{Point}
+use Rattle.av_flat.specs.declared.timed.Timed.{Timed}
+use Rattle.av_flat.specs.Legal.{IsLegal}
+use Rattle.av_flat.specs.Nodes.{nodes}
+use Rattle.av_flat.specs.Order.{IsBefore}
+use Rattle.av_flat.specs.Signatures.{is_shown}
+use Rattle.av_flat.specs.Trees.{FlatSystem, view_system, view_variable}
+use Rattle.av_net.specs.declared.design.Entry.{Entry}
+use Rattle.av_space.specs.declared.cells.Cell.{Cell}
+use Rattle.av_space.specs.declared.layout.Layout.{Layout}
+use Rattle.av_space.specs.declared.shown.ShownNode.{ShownNode}
+use Rattle.av_space.specs.Coordinates.{Placing}
+use Rattle.av_space.specs.Listings.{AtLine, IsAtLine}
+use Rattle.av_space.specs.Ports.{output_cells}
+use Rattle.av_space.specs.inner.Layouts.{IsLayout}
+
+pub record IsShownNode (shown : ShownNode) : Type 0 where
+  pub legal : IsLegal shown.timed.now
+  pub layout : IsLayout shown.timed.now shown.layout.now
+  pub outputs : shown.outputs.now ≡ output_cells (view_system shown.timed.now.flat) shown.layout.now.cells
+  pub is_variable : slice_get (nodes (view_system shown.timed.now.flat)) shown.node ≡ Some (view_variable shown.var.now)
+  pub is_shown : IsTrue (is_shown shown.var.now.kind)
+
+-- the lines of the points of nodes for which this holds
+pub record AreLinesOf (s : FlatSystem) (placings : List Placing) (cells : List Cell) (outputs : List ℕ) (P : ℕ → Point → Type 0) (ats : List Entry) : Type 0 where
+  pub lines : List AtLine
+  pub entries : ats ≡ map (λ l. l.entry) lines
+  pub each : All (λ l. P l.node l.entry.point × IsAtLine s placings cells outputs l) lines
+  pub all : (l : AtLine) → P l.node l.entry.point → IsAtLine s placings cells outputs l → Contains lines l
+  pub order : AllPairs (λ a b. (a.node < b.node) ⊎ ((a.node ≡ b.node) × IsBefore a.entry.point b.entry.point)) lines
+
+-- of the nodes below this one
+abbrev pub AreLinesBelow : Timed → Layout → List ℕ → ℕ → List Entry → Type 0
+AreLinesBelow t l outputs n ats = AreLinesOf (view_system t.flat) l.placements l.cells outputs (λ m z. m < n) ats
+
+-- of the nodes below this one, and of its points among these
+abbrev pub AreLinesTo : Timed → Layout → List ℕ → ℕ → List Point → List Entry → Type 0
+AreLinesTo t l outputs n points ats = AreLinesOf (view_system t.flat) l.placements l.cells outputs (λ m z. (m < n) ⊎ ((m ≡ n) × Contains points z)) ats

@@ -1,0 +1,48 @@
+//! The number of cycles.
+
+ghost use Rattle.std.specs.Prelude.{◌≡◌, ℕ, ◌≤◌, ◌<ℤ◌, ◌≤ℤ◌, ◌^◌, pos, All, IfOk};
+ghost use Rattle.av_affine.specs.Numbers.{AtMost};
+ghost use Rattle.av_flat.specs.Legal.{IsLegal};
+ghost use Rattle.av_flat.specs.Schedules.{cycle};
+ghost use Rattle.av_flat.specs.Trees.{view_system};
+ghost use Rattle.av_space.specs.SpaceFaults.{IsCycles};
+ghost use Rattle.av_space.specs.inner.Layouts.{places_of};
+
+use crate::placement::cycle_of;
+use crate::points::node_points;
+use av_base::{Memory, Point};
+use av_flat::{Time, Timed};
+use std::alloc::Global;
+
+// The greater of a count and the number after the greatest cycle of the points.
+fn raised(time: &Time, points: &[Point], count: u128) -> u128
+    requires small { All (AtMost 4095) points.now }
+    requires starts { All (λ z. pos 0 ≤ℤ cycle time.now z) points.now }
+    requires fits { count ≤ 2 ^ 81 }
+    ensures from { count ≤ result }
+    ensures above { All (λ z. cycle time.now z <ℤ pos result) points.now }
+    ensures least { (m : ℕ) → count ≤ m → All (λ z. cycle time.now z <ℤ pos m) points.now → result ≤ m }
+    ensures fits { result ≤ 2 ^ 81 }
+{
+    let mut most = count;
+    for point in points {
+        let next = cycle_of(time, point).unsigned_abs() + 1;
+        most = most.max(next);
+    }
+    most
+}
+
+/// The greatest cycle of a computation, plus 1, and 0 where there is no computation.
+pub(crate) fn cycle_count(alloc: Global, timed: &Timed, places: &[usize]) -> Result<u128, Memory>
+    requires legal { IsLegal timed.now }
+    requires places { places.now ≡ places_of (view_system timed.now.flat) }
+    ensures { IfOk result (IsCycles timed.now) }
+{
+    let times = timed.times.as_slice();
+    let mut count: u128 = 0;
+    for node in 0..places.len() {
+        let points = node_points(alloc, timed, places, node)?;
+        count = raised(&times[node], points.as_slice(), count);
+    }
+    Ok(count)
+}

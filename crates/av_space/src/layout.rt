@@ -1,0 +1,33 @@
+use crate::cells::Cell;
+use crate::placement::Placement;
+use av_base::{List, Point};
+
+/// A computation on a cell: its cycle and its point.
+#[derive(Debug, Drop)]
+pub(crate) struct Slot {
+    pub(crate) cycle: u32,
+    pub(crate) point: Point,
+}
+
+/// Where and when the computations of a scheduled system stand.
+#[derive(Debug, Drop)]
+pub(crate) struct Layout {
+    /// By node.
+    pub(crate) placements: List<Placement>,
+    /// Of each node its place among the variables.
+    pub(crate) places: List<usize>,
+    /// Of each variable how many nodes stand before it.
+    pub(crate) numbers: List<usize>,
+    pub(crate) cells: List<Cell>,
+    /// Of each cell its computations by cycle.
+    pub(crate) slots: List<List<Slot>>,
+    /// The greatest cycle of a computation, plus 1.
+    pub(crate) cycles: u32,
+}
+
+/// The cell and the cycle of a computation.
+#[derive(Clone, Copy, Debug, PartialEq, Eq)]
+pub(crate) struct Located {
+    pub(crate) cell: u32,
+    pub(crate) cycle: u32,
+}

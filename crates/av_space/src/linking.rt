@@ -1,0 +1,232 @@
+//! Links of the array: the stretches of all tap sites of all cells.
+
+ghost use Rattle.std.specs.Prelude.{ℕ, ◌≡◌, ◌↔◌, ◌<◌, List as Items, length, Contains, Some, slice_get, slice_index_or, [], map, IfOk, IfSome, OnOk};
+ghost use Rattle.av_flat.specs.Trees.{view_piece, view_system, view_variable};
+ghost use Rattle.av_flat.specs.Legal.{IsLegal};
+ghost use Rattle.av_flat.specs.Nodes.{nodes};
+ghost use Rattle.av_space.specs.declared.layout.Slot.{Slot as SlotSeen};
+ghost use Rattle.av_space.specs.Taps.{node_place, taps, IsTapped};
+ghost use Rattle.av_space.specs.Links.{AreLinks};
+ghost use Rattle.av_space.specs.inner.Layouts.{IsLayout};
+ghost use Rattle.av_space.specs.inner.Sites.{tap_of, AreNodeTaps};
+ghost use Rattle.av_space.specs.inner.Readings.{IsFineTap, IsSite, IsReadingAt, IsReadingOf, AreReadings, IsConsumer};
+ghost use Rattle.av_space.specs.inner.Stretches.{HasLinks, IsAt, IsOn};
+
+use crate::layout::{Layout, Slot};
+use crate::locate::locate;
+use crate::reading::{is_in, read_at};
+use crate::stretch::{Reading, Stretch, site_stretches};
+use crate::tap::TapSite;
+use crate::tapping::taps_of;
+use av_base::{List, Memory};
+use av_flat::{Piece, Timed, Var};
+use std::alloc::Global;
+
+/// A cell that reads: its number, its node with the variable, and its computations.
+#[derive(Drop)]
+struct Consumer<'a> {
+    number: u32,
+    node: usize,
+    var: &'a Var,
+    slots: &'a [Slot],
+}
+
+// What a tap site reads at a computation of its cell.
+fn reading_at(
+    timed: &Timed,
+    layout: &Layout,
+    node: usize,
+    site: &TapSite<'_>,
+    piece: &Piece,
+    slot: &Slot,
+) -> Option<Reading>
+    requires legal { IsLegal timed.now }
+    requires layout { IsLayout timed.now layout.now }
+    requires fine { IsFineTap piece.now.domain.dim (length timed.now.flat.vars) (tap_of site.now) }
+    requires site { (slots : Items SlotSeen) × Contains slots slot.now
+        × IsSite (view_system timed.now.flat) timed.now.helpers layout.now.placements layout.now.cells node (tap_of site.now) (view_piece piece.now) slots }
+    ensures cycle { IfSome result (λ r. r.cycle ≡ slot.now.cycle) }
+    ensures reading { (q d : ℕ) →
+        IsReadingAt (view_system timed.now.flat) layout.now.placements layout.now.cells node (tap_of site.now) (view_piece piece.now) slot.now.point slot.now.cycle q d
+        ↔ (result ≡ Some (record { cycle = slot.now.cycle; producer = q; delay = d })) }
+{
+    if !is_in(&piece.domain, &slot.point) {
+        return None;
+    }
+    let read = read_at(timed, layout, node, site, piece, &slot.point)?;
+    let located = locate(timed, layout, read.node, &read.point);
+    Some(Reading {
+        cycle: slot.cycle,
+        producer: located.cell,
+        delay: slot.cycle - located.cycle,
+    })
+}
+
+// What a tap site reads on its cell, by cycle.
+fn readings(
+    alloc: Global,
+    timed: &Timed,
+    layout: &Layout,
+    node: usize,
+    site: &TapSite<'_>,
+    piece: &Piece,
+    slots: &[Slot],
+) -> Result<List<Reading>, Memory>
+    requires legal { IsLegal timed.now }
+    requires layout { IsLayout timed.now layout.now }
+    requires fine { IsFineTap piece.now.domain.dim (length timed.now.flat.vars) (tap_of site.now) }
+    requires site { IsSite (view_system timed.now.flat) timed.now.helpers layout.now.placements layout.now.cells node (tap_of site.now) (view_piece piece.now) slots.now }
+    ensures { IfOk result (AreReadings
+        (IsReadingOf (view_system timed.now.flat) layout.now.placements layout.now.cells node (tap_of site.now) (view_piece piece.now) slots.now)) }
+{
+    let mut readings = List::new(alloc);
+    for slot in slots {
+        if let Some(reading) = reading_at(timed, layout, node, site, piece, slot) {
+            readings.push(reading)?;
+        }
+    }
+    Ok(readings)
+}
+
+// The piece with this number.
+fn piece_at(var: &Var, number: usize) -> &Piece
+    requires { number < length var.now.pieces }
+    ensures { slice_get (view_variable var.now).pieces number ≡ Some (view_piece result.now) }
+{
+    &var.pieces.as_slice()[number]
+}
+
+// Puts the stretches of a tap site of a cell behind others.
+fn tap_stretches(
+    alloc: Global,
+    timed: &Timed,
+    layout: &Layout,
+    consumer: &Consumer<'_>,
+    number: usize,
+    site: &TapSite<'_>,
+    stretches: &mut List<Stretch>,
+) -> Result<(), Memory>
+    requires legal { IsLegal timed.now }
+    requires layout { IsLayout timed.now layout.now }
+    requires consumer { IsConsumer (view_system timed.now.flat) layout.now.placements layout.now.cells
+        consumer.now.number consumer.now.node (view_variable consumer.now.var.now) consumer.now.slots.now }
+    requires site { slice_get (taps (view_system timed.now.flat) timed.now.helpers (node_place (view_system timed.now.flat) consumer.now.node) (view_variable consumer.now.var.now)) number
+        ≡ Some (tap_of site.now) }
+    ensures { OnOk result (HasLinks (IsTapped (view_system timed.now.flat) timed.now.helpers layout.now.placements layout.now.cells)
+        (IsAt consumer.now.number number) stretches.old stretches.new) }
+{
+    let piece = piece_at(consumer.var, site.piece());
+    let readings = readings(
+        alloc,
+        timed,
+        layout,
+        consumer.node,
+        site,
+        piece,
+        consumer.slots,
+    )?;
+    site_stretches(consumer.number, number, readings.as_slice(), stretches)
+}
+
+// Puts the stretches of all tap sites of a cell behind others.
+fn cell_stretches(
+    alloc: Global,
+    timed: &Timed,
+    layout: &Layout,
+    consumer: &Consumer<'_>,
+    sites: &[TapSite<'_>],
+    stretches: &mut List<Stretch>,
+) -> Result<(), Memory>
+    requires legal { IsLegal timed.now }
+    requires layout { IsLayout timed.now layout.now }
+    requires consumer { IsConsumer (view_system timed.now.flat) layout.now.placements layout.now.cells
+        consumer.now.number consumer.now.node (view_variable consumer.now.var.now) consumer.now.slots.now }
+    requires sites { map tap_of sites.now
+        ≡ taps (view_system timed.now.flat) timed.now.helpers (node_place (view_system timed.now.flat) consumer.now.node) (view_variable consumer.now.var.now) }
+    ensures { OnOk result (HasLinks (IsTapped (view_system timed.now.flat) timed.now.helpers layout.now.placements layout.now.cells)
+        (IsOn consumer.now.number) stretches.old stretches.new) }
+{
+    for (number, site) in sites.iter().enumerate() {
+        tap_stretches(alloc, timed, layout, consumer, number, site, stretches)?;
+    }
+    Ok(())
+}
+
+// The variable at a place.
+fn variable_at(timed: &Timed, place: usize) -> &Var
+    requires { place < length timed.now.flat.vars }
+    ensures { slice_get (view_system timed.now.flat).variables place ≡ Some (view_variable result.now) }
+{
+    &timed.flat.vars.as_slice()[place]
+}
+
+// The variable of a node.
+fn variable_of<'a>(timed: &'a Timed, layout: &Layout, node: usize) -> &'a Var
+    requires layout { IsLayout timed.now layout.now }
+    requires node { node < length layout.now.places }
+    ensures { slice_get (nodes (view_system timed.now.flat)) node ≡ Some (view_variable result.now) }
+{
+    variable_at(timed, layout.places.as_slice()[node])
+}
+
+/// The tap sites of each node.
+pub(crate) fn node_taps<'a>(
+    alloc: Global,
+    timed: &'a Timed,
+    layout: &Layout,
+) -> Result<List<List<TapSite<'a>>>, Memory>
+    requires layout { IsLayout timed.now layout.now }
+    ensures { IfOk result (AreNodeTaps (view_system timed.now.flat) timed.now.helpers) }
+{
+    let mut sites = List::new(alloc);
+    for (node, place) in layout.places.as_slice().iter().enumerate() {
+        let var = variable_of(timed, layout, node);
+        sites.push(taps_of(alloc, timed, *place, var)?)?;
+    }
+    Ok(sites)
+}
+
+// The cell with this number, as one that reads.
+fn consumer_at<'a>(timed: &'a Timed, layout: &'a Layout, number: usize) -> Consumer<'a>
+    requires layout { IsLayout timed.now layout.now }
+    requires number { number < length layout.now.cells }
+    ensures number { result.number ≡ number }
+    ensures consumer { IsConsumer (view_system timed.now.flat) layout.now.placements layout.now.cells
+        result.number result.node (view_variable result.var.now) result.slots.now }
+{
+    let node = layout.cells.as_slice()[number].node as usize;
+    Consumer {
+        number: number as u32,
+        node,
+        var: variable_of(timed, layout, node),
+        slots: layout.slots.as_slice()[number].as_slice(),
+    }
+}
+
+/// The tap sites of a node.
+pub(crate) fn taps_of_node<'s, 'a>(sites: &'s [List<TapSite<'a>>], node: usize) -> &'s [TapSite<'a>]
+    requires { node < length sites.now }
+    ensures { result.now ≡ slice_index_or sites.now node [] }
+{
+    sites[node].as_slice()
+}
+
+/// The stretches of all tap sites of all cells: the links of the array, with the numbers of tap sites as they are.
+pub(crate) fn stretches(
+    alloc: Global,
+    timed: &Timed,
+    layout: &Layout,
+) -> Result<List<Stretch>, Memory>
+    requires legal { IsLegal timed.now }
+    requires layout { IsLayout timed.now layout.now }
+    ensures { IfOk result (AreLinks (view_system timed.now.flat) timed.now.helpers layout.now.placements layout.now.cells) }
+{
+    let sites = node_taps(alloc, timed, layout)?;
+    let mut stretches = List::new(alloc);
+    for number in 0..layout.cells.as_slice().len() {
+        let consumer = consumer_at(timed, layout, number);
+        let own = taps_of_node(sites.as_slice(), consumer.node);
+        cell_stretches(alloc, timed, layout, &consumer, own, &mut stretches)?;
+    }
+    Ok(stretches)
+}

@@ -1,0 +1,76 @@
+//! Where and when a computation stands.
+
+ghost use Rattle.std.specs.Prelude.{◌≡◌, ◌<◌, ◌↔◌, IsTrue, Some, length, slice_get, AllPairs, Contains};
+ghost use Rattle.av_flat.specs.Trees.{view_system};
+ghost use Rattle.av_flat.specs.Nodes.{IsComputation};
+ghost use Rattle.av_flat.specs.Legal.{IsLegal};
+ghost use Rattle.av_flat.specs.Order.{IsBefore};
+ghost use Rattle.av_space.specs.Standing.{IsCellBefore, Computes};
+ghost use Rattle.av_space.specs.inner.Layouts.{IsLayout};
+
+use crate::cells::Cell;
+use crate::layout::{Layout, Located};
+use av_base::Point;
+use av_flat::Timed;
+
+// Whether the first entries come before the second.
+fn is_before(a: &[i64], b: &[i64]) -> bool
+    ensures { IsTrue result ↔ IsBefore a.now b.now }
+{
+    for k in 0..a.len() {
+        if k == b.len() {
+            return false;
+        }
+        if a[k] != b[k] {
+            return a[k] < b[k];
+        }
+    }
+    a.len() < b.len()
+}
+
+// Whether the cell comes before that of the node at these coordinates.
+fn is_cell_before(cell: &Cell, node: usize, at: &Point) -> bool
+    ensures { IsTrue result ↔ IsCellBefore cell.now (record { node = node; at = at.now }) }
+{
+    let own = cell.node as usize;
+    if own != node {
+        return own < node;
+    }
+    is_before(cell.at.as_slice(), at.as_slice())
+}
+
+// The number of the cell of the node at these coordinates.
+fn cell_at(cells: &[Cell], node: usize, at: &Point) -> usize
+    requires order { AllPairs IsCellBefore cells.now }
+    requires there { Contains cells.now (record { node = node; at = at.now }) }
+    ensures { slice_get cells.now result ≡ Some (record { node = node; at = at.now }) }
+{
+    let mut low: usize = 0;
+    let mut high = cells.len();
+    while low < high {
+        let middle = low + (high - low) / 2;
+        if is_cell_before(&cells[middle], node, at) {
+            low = middle + 1;
+        } else {
+            high = middle;
+        }
+    }
+    low
+}
+
+/// The cell that computes a point of a node, and the cycle in which it does.
+pub(crate) fn locate(timed: &Timed, layout: &Layout, node: usize, z: &Point) -> Located
+    requires legal { IsLegal timed.now }
+    requires layout { IsLayout timed.now layout.now }
+    requires computation { IsComputation (view_system timed.now.flat) node z.now }
+    ensures { Computes (view_system timed.now.flat) layout.now.placements layout.now.cells result.cell result.cycle node z.now }
+{
+    let placements = layout.placements.as_slice();
+    let placement = &placements[node];
+    let at = placement.coordinates(z);
+    let cell = cell_at(layout.cells.as_slice(), node, &at);
+    Located {
+        cell: cell as u32,
+        cycle: placement.cycle(z) as u32,
+    }
+}

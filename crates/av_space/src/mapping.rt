@@ -1,0 +1,112 @@
+//! The array of a scheduled system.
+
+ghost use Rattle.std.specs.Prelude.{◌≡◌, IfOk, IfErr};
+ghost use Rattle.av_flat.specs.Legal.{IsLegal, HasAllHelpers};
+ghost use Rattle.av_space.specs.declared.fault.SpaceFault.{SpaceFault as Fault};
+ghost use Rattle.av_space.specs.declared.fault.SpaceFault.TheVariants as fault;
+ghost use Rattle.av_space.specs.SpaceFaults.{IsSpaceFault};
+ghost use Rattle.av_space.specs.Whole.{IsWhole};
+ghost use Rattle.av_space.specs.inner.Layouts.{IsLayout};
+ghost use Rattle.av_space.specs.inner.Quantified.{HasOperators, AreWithin, IsLaidOut, LinksOf, delays_of};
+
+use crate::cells::Cells;
+use crate::fault::SpaceFault;
+use crate::laying::layout;
+use crate::layout::Layout;
+use crate::lines::delay_count;
+use crate::linking::stretches;
+use crate::numbered::links;
+use crate::operators::operators;
+use crate::ports::input_ports;
+use crate::shown::{at_lines, output_cells};
+use crate::stretch::Stretch;
+use av_base::Memory;
+use av_flat::Timed;
+use av_net::Listing;
+use std::alloc::Global;
+
+const MOST_DELAYS: u128 = 32_768;
+
+const MOST_LINKS: usize = 16_384;
+
+const MOST_OPERATORS: u128 = 1_048_576;
+
+// The registers of the delay lines, where these, the links and the operators are within their limits.
+fn within_limits(
+    alloc: Global,
+    timed: &Timed,
+    layout: &Layout,
+    stretches: &[Stretch],
+) -> Result<u32, SpaceFault>
+    requires legal { IsLegal timed.now }
+    requires layout { IsLayout timed.now layout.now }
+    requires links { LinksOf timed.now layout.now stretches.now }
+    ensures delays { IfOk result (λ n. n ≡ delays_of timed.now layout.now stretches.now) }
+    ensures within { IfOk result (λ n. AreWithin timed.now layout.now stretches.now) }
+    ensures refused { IfErr result (IsSpaceFault timed.now) }
+{
+    let delays = delay_count(alloc, timed, layout, stretches)?;
+    if delays > MOST_DELAYS {
+        return Err(SpaceFault::Delays(delays));
+    }
+    if stretches.len() > MOST_LINKS {
+        return Err(SpaceFault::Links(stretches.len() as u128));
+    }
+    let operators = operators(timed, layout);
+    if operators > MOST_OPERATORS {
+        return Err(SpaceFault::Operators(operators));
+    }
+    Ok(delays as u32)
+}
+
+// The array of a layout whose quantities are within their limits.
+fn laid_out(
+    alloc: Global,
+    timed: &Timed,
+    layout: Layout,
+    stretches: &[Stretch],
+    delays: u32,
+) -> Result<Cells, Memory>
+    requires legal { IsLegal timed.now }
+    requires layout { IsLayout timed.now layout }
+    requires links { LinksOf timed.now layout stretches.now }
+    requires delays { delays ≡ delays_of timed.now layout stretches.now }
+    requires few { HasOperators timed.now layout 1048576 }
+    ensures { IfOk result (IsLaidOut timed.now layout stretches.now) }
+{
+    let links = links(alloc, stretches)?;
+    let ports = input_ports(alloc, timed, &layout)?;
+    let outputs = output_cells(alloc, timed, &layout)?;
+    let ats = at_lines(alloc, timed, &layout, outputs.as_slice())?;
+    Ok(Cells {
+        cells: layout.cells,
+        links,
+        inputs: ports.inputs,
+        outputs,
+        listing: Listing {
+            ins: ports.ins,
+            ats,
+        },
+        cycles: layout.cycles,
+        delays,
+    })
+}
+
+/// The array of a legal timed system with one helper for each reference that its times move (Rao, Kailath 1988): cells by node
+/// and coordinates, links by consumer, tap site and cycle, ports and listing.
+///
+/// The quantities are counted before any line is made, and the first that is above its limit is told.
+pub fn map(alloc: Global, timed: &Timed) -> Result<Cells, SpaceFault>
+    requires legal { IsLegal timed.now }
+    requires helped { HasAllHelpers timed.now }
+    ensures whole { IfOk result (IsWhole timed.now) }
+    ensures complete { IfOk result (λ a. (f : Fault) → IsSpaceFault timed.now f → f ≡ fault.Memory) }
+    ensures refused { IfErr result (IsSpaceFault timed.now) }
+{
+    let layout = layout(alloc, timed)?;
+    let stretches = stretches(alloc, timed, &layout)?;
+    let stretches = stretches.as_slice();
+    let delays = within_limits(alloc, timed, &layout, stretches)?;
+    let cells = laid_out(alloc, timed, layout, stretches, delays)?;
+    Ok(cells)
+}

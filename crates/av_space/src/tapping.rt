@@ -1,0 +1,215 @@
+//! The tap sites of a node.
+
+ghost use Rattle.std.specs.Prelude.{◌≡◌, ◌+◌, ◌<◌, ◌≤◌, ◌++◌, ◌&&◌, nat_eq, length, map, IfOk, OnOk, slice_get};
+ghost use Rattle.av_flat.specs.Trees.{view, view_piece, view_system, view_variable};
+ghost use Rattle.av_space.specs.Taps.{places_from, helper_at, computed_at, taps_by, taps_at, is_own, taps};
+ghost use Rattle.av_space.specs.inner.Sites.{HasPlaces, place_of, tap_of, taps_where};
+
+use crate::tap::{Handing, Place, TapSite, Way};
+use av_base::{List, Memory, Point};
+use av_flat::{Flat, Helper, Piece, Timed, Tree, Var};
+use std::alloc::Global;
+
+// The number after that of a reference that stands among the places.
+fn next_site(site: usize, places: &[Place<'_>]) -> usize
+    requires { site < length places.now }
+    ensures { result ≡ site + 1 }
+{
+    site + 1
+}
+
+// Puts the places of a tree behind others; the number of the next reference.
+fn tree_places<'a>(
+    piece: usize,
+    site: usize,
+    tree: &'a Tree,
+    places: &mut List<Place<'a>>,
+) -> Result<usize, Memory>
+    requires { site ≤ length places.old }
+    ensures { IfOk result (HasPlaces piece site tree.now places.old places.new) }
+{
+    match tree {
+        Tree::Ref { .. } => {
+            places.push(Place { piece, site, tree })?;
+            Ok(next_site(site, places.as_slice()))
+        }
+        Tree::Pick { .. } => {
+            places.push(Place { piece, site, tree })?;
+            Ok(site)
+        }
+        Tree::Binary { left, right, .. } => {
+            let site = tree_places(piece, site, left, places)?;
+            tree_places(piece, site, right, places)
+        }
+        Tree::Choose {
+            left,
+            right,
+            yes,
+            no,
+            ..
+        } => {
+            let site = tree_places(piece, site, left, places)?;
+            let site = tree_places(piece, site, right, places)?;
+            let site = tree_places(piece, site, yes, places)?;
+            tree_places(piece, site, no, places)
+        }
+        _ => Ok(site),
+    }
+}
+
+// The places of pieces that read, in order.
+fn piece_places<'a>(alloc: Global, pieces: &'a [Piece]) -> Result<List<Place<'a>>, Memory>
+    ensures { IfOk result (λ places. map place_of places ≡ places_from 0 (map view_piece pieces.now)) }
+{
+    let mut places = List::new(alloc);
+    for (number, piece) in pieces.iter().enumerate() {
+        tree_places(number, 0, &piece.tree, &mut places)?;
+    }
+    Ok(places)
+}
+
+// Whether the helper is of this reference.
+fn is_of(helper: &Helper, place: usize, piece: usize, site: usize) -> bool
+    ensures { result ≡ nat_eq helper.now.var place && nat_eq helper.now.piece piece && nat_eq helper.now.site site }
+{
+    helper.var as usize == place && helper.piece as usize == piece && helper.site as usize == site
+}
+
+/// The first helper of a reference.
+pub(crate) fn helper_at(
+    helpers: &[Helper],
+    place: usize,
+    piece: usize,
+    site: usize,
+) -> Option<Handing>
+    ensures { result ≡ helper_at helpers.now place piece site }
+{
+    for (number, helper) in helpers.iter().enumerate() {
+        if is_of(helper, place, piece, site) {
+            return Some(Handing {
+                number,
+                direction: Point::from_slice(helper.direction.as_slice()),
+            });
+        }
+    }
+    None
+}
+
+// Whether a computed variable stands at this place.
+fn is_computed_at(flat: &Flat, place: u32) -> bool
+    ensures { result ≡ computed_at (slice_get (view_system flat.now).variables place) }
+{
+    match flat.vars.as_slice().get(place as usize) {
+        Some(var) => var.kind.is_computed(),
+        None => false,
+    }
+}
+
+// The same place.
+fn same<'a>(place: &Place<'a>) -> Place<'a>
+    ensures { result ≡ place.now }
+{
+    Place {
+        piece: place.piece,
+        site: place.site,
+        tree: place.tree,
+    }
+}
+
+// Puts the tap sites of a place behind others: of a pipelined one the entry reads before the pipeline's own.
+fn add_taps_by<'a>(
+    computed: bool,
+    handing: Option<Handing>,
+    place: &Place<'a>,
+    sites: &mut List<TapSite<'a>>,
+) -> Result<(), Memory>
+    ensures { OnOk result (map tap_of sites.new ≡ map tap_of sites.old ++ taps_by computed handing (place_of place.now)) }
+{
+    let Some(handing) = handing else {
+        if computed {
+            sites.push(TapSite {
+                place: same(place),
+                way: Way::Each,
+            })?;
+        }
+        return Ok(());
+    };
+    if computed {
+        sites.push(TapSite {
+            place: same(place),
+            way: Way::Entries(Point::from_slice(handing.direction.as_slice())),
+        })?;
+    }
+    sites.push(TapSite {
+        place: same(place),
+        way: Way::Handed(handing.number, handing.direction),
+    })
+}
+
+// Puts the tap sites of a place of the variable at the place `own` behind others.
+fn add_taps<'a>(
+    timed: &Timed,
+    own: usize,
+    place: &Place<'a>,
+    sites: &mut List<TapSite<'a>>,
+) -> Result<(), Memory>
+    ensures { OnOk result (map tap_of sites.new ≡ map tap_of sites.old
+        ++ taps_at (view_system timed.now.flat) timed.now.helpers own (view place.now.tree) (place_of place.now)) }
+{
+    match place.tree {
+        Tree::Ref { var, .. } => {
+            let helpers = timed.helpers.as_slice();
+            let handing = helper_at(helpers, own, place.piece, place.site);
+            add_taps_by(is_computed_at(&timed.flat, *var), handing, place, sites)
+        }
+        Tree::Pick { var, .. } => {
+            add_taps_by(is_computed_at(&timed.flat, *var), None, place, sites)
+        }
+        _ => Ok(()),
+    }
+}
+
+// Whether the place is a pick of the variable at the place `own`.
+fn is_own(own: usize, place: &Place<'_>) -> bool
+    ensures { result ≡ is_own own (view place.now.tree) }
+{
+    match place.tree {
+        Tree::Pick { var, .. } => *var as usize == own,
+        _ => false,
+    }
+}
+
+// Puts the tap sites of those places behind others that are picks of the variable itself, or of those that are not.
+fn add_taps_of<'a>(
+    timed: &Timed,
+    own: usize,
+    picks: bool,
+    places: &[Place<'a>],
+    sites: &mut List<TapSite<'a>>,
+) -> Result<(), Memory>
+    ensures { OnOk result (map tap_of sites.new ≡ map tap_of sites.old
+        ++ taps_where (view_system timed.now.flat) timed.now.helpers own picks (map place_of places.now)) }
+{
+    for place in places {
+        if is_own(own, place) == picks {
+            add_taps(timed, own, place, sites)?;
+        }
+    }
+    Ok(())
+}
+
+/// The tap sites of the variable at a place: a reduction's read of its predecessor comes last.
+pub(crate) fn taps_of<'a>(
+    alloc: Global,
+    timed: &'a Timed,
+    own: usize,
+    var: &'a Var,
+) -> Result<List<TapSite<'a>>, Memory>
+    ensures { IfOk result (λ sites. map tap_of sites ≡ taps (view_system timed.now.flat) timed.now.helpers own (view_variable var.now)) }
+{
+    let places = piece_places(alloc, var.pieces.as_slice())?;
+    let mut sites = List::new(alloc);
+    add_taps_of(timed, own, false, places.as_slice(), &mut sites)?;
+    add_taps_of(timed, own, true, places.as_slice(), &mut sites)?;
+    Ok(sites)
+}
