@@ -1,5 +1,5 @@
 -- The program of a scheduled system with helpers, by its cells, links and ports.
-use Rattle.std.specs.Prelude.{◌≡◌, ℕ, suc, ◌<◌, ◌≤◌, length, Bool, true, false, IsTrue, List, [], ◌∷◌, Option, Some, None, Contains, slice_get}
+use Rattle.std.specs.Prelude.{◌≡◌, ℕ, suc, ◌<◌, ◌≤◌, length, Bool, true, false, IsTrue, List, [], ◌∷◌, Option, Some, None, Contains, nat_le, slice_get}
 use Rattle.av_affine.specs.declared.map.Map.{Map}
 use Rattle.av_tree.specs.Points.{Point}
 use Rattle.av_flat.specs.Trees.{Tree, Piece, Variable, FlatSystem, reference, pick}
@@ -63,10 +63,31 @@ pub data IsReferenceSource (a : Array) (lanes : Lanes) (at : Spot) (c i place : 
       → IsReferenceSource a lanes at c i place m way (input n)
   by_link : (producer delay : ℕ) (read : Variable) → slice_get a.system.variables place ≡ Some read → IsTrue (is_node read) → IsLinked a at c i (reference place m) way producer delay → IsReferenceSource a lanes at c i place m way (line (lanes.of_value producer) delay)
 
--- with a helper, the helper's lane brings it
-abbrev pub IsHelpedSource : Array → Lanes → Spot → Option Handing → ℕ → ℕ → ℕ → Map → Source → Type 0
-IsHelpedSource a lanes at None c i place m source = IsReferenceSource a lanes at c i place m each source
-IsHelpedSource a lanes at (Some h) c i place m source = (slice_get (references at.piece.tree) i ≡ Some (record { place = place; map = m })) × (source ≡ line (lanes.of_helper h.number at.cell) 0)
+-- the greatest number of cycles after which the word of the helper j on the cell p is read
+abbrev pub helper_length : Array → ℕ → ℕ → ℕ
+helper_length a j p = line_length a.system a.helpers a.cells a.links p (Some j)
+
+-- whether the helper j has a lane on the cell p: where its word is read in a later cycle
+abbrev pub later : Array → ℕ → ℕ → Bool
+later a j p = nat_le 1 (helper_length a j p)
+
+-- what brings the word of the helper j, which moves the reference i: the reference at entry points, and else the helper's lane on
+-- the cell of the point before
+abbrev pub IsHandSource : Array → Lanes → Spot → ℕ → Point → ℕ → ℕ → Map → Bool → ℕ → Source → Type 0
+IsHandSource a lanes at j direction i place m true c source =
+    (producer : ℕ) × (delay : ℕ) × IsLinked a at c i (reference place m) (handed j direction) producer delay × (source ≡ line (lanes.of_helper j producer) delay)
+IsHandSource a lanes at j direction i place m false c source = IsReferenceSource a lanes at c i place m (entries direction) source
+
+-- what brings the word of a reference with the helper j at the point z: the helper's lane where it has one on the cell, and else
+-- what brings the helper's word
+abbrev pub IsHandedSource : Array → Lanes → Spot → ℕ → Point → Point → Bool → ℕ → ℕ → ℕ → Map → Source → Type 0
+IsHandedSource a lanes at j direction z true c i place m source = source ≡ line (lanes.of_helper j at.cell) 0
+IsHandedSource a lanes at j direction z false c i place m source = IsHandSource a lanes at j direction i place m (has at.piece.domain (before z direction)) c source
+
+abbrev pub IsHelpedSource : Array → Lanes → Spot → Point → Option Handing → ℕ → ℕ → ℕ → Map → Source → Type 0
+IsHelpedSource a lanes at z None c i place m source = IsReferenceSource a lanes at c i place m each source
+IsHelpedSource a lanes at z (Some h) c i place m source =
+    (slice_get (references at.piece.tree) i ≡ Some (record { place = place; map = m })) × IsHandedSource a lanes at h.number h.direction z (later a h.number at.cell) c i place m source
 
 -- a pick: the link of the choice that holds, or the number
 abbrev pub IsPickSource : Array → Lanes → Spot → ℕ → ℕ → ℕ → Tree → ℕ → Option Point → Source → Type 0
@@ -76,14 +97,9 @@ IsPickSource a lanes at c i place tree n (Some y) source =
 
 -- what brings the word of a place of the spot at its point z in cycle c; i counts references
 abbrev pub IsPlaceSource : Array → Lanes → Spot → Point → ℕ → ℕ → Tree → Source → Type 0
-IsPlaceSource a lanes at z c i (reference place m) source = IsHelpedSource a lanes at (helper_at a.helpers (node_place a.system at.node) at.number i) c i place m source
+IsPlaceSource a lanes at z c i (reference place m) source = IsHelpedSource a lanes at z (helper_at a.helpers (node_place a.system at.node) at.number i) c i place m source
 IsPlaceSource a lanes at z c i (pick place choices n) source = IsPickSource a lanes at c i place (pick place choices n) n (picked choices z) source
 IsPlaceSource a lanes at z c i _ source = ⊥
-
--- what brings a helper's word: the reference at entry points, and else the lane of the helper on the cell of the point before
-abbrev pub IsHandSource : Array → Lanes → Spot → ℕ → Helper → Reference → Bool → ℕ → Source → Type 0
-IsHandSource a lanes at j h r true c source = (producer : ℕ) × (delay : ℕ) × IsLinked a at c h.site (reference r.place r.map) (handed j h.direction) producer delay × (source ≡ line (lanes.of_helper j producer) delay)
-IsHandSource a lanes at j h r false c source = IsReferenceSource a lanes at c h.site r.place r.map (entries h.direction) source
 
 -- the runs of sources of a site have all computing cycles of the spot, and each ends with one
 pub record IsSiteFor (a : Array) (at : Spot) (P : Point → ℕ → Source → Type 0) (site : Site) : Type 0 where
@@ -138,8 +154,8 @@ pub record IsHelperLane (a : Array) (lanes : Lanes) (at : Spot) (j : ℕ) (h : H
   pub shifts_are : lane.shifts ≡ []
   pub site : Site
   pub otherwise_is : lane.otherwise ≡ record { sites = site ∷ []; tree = reference r.place r.map }
-  pub is_site : IsSiteFor a at (λ z c source. IsHandSource a lanes at j h r (has at.piece.domain (before z h.direction)) c source) site
-  pub length_is : lane.length ≡ line_length a.system a.helpers a.cells a.links at.cell (Some j)
+  pub is_site : IsSiteFor a at (λ z c source. IsHandSource a lanes at j h.direction h.site r.place r.map (has at.piece.domain (before z h.direction)) c source) site
+  pub length_is : lane.length ≡ helper_length a j at.cell
 
 -- ---- placements
 
@@ -170,6 +186,7 @@ pub record IsHandedAt (a : Array) (lanes : Lanes) (j : ℕ) (z : Point) (q c : �
   pub is : IsHelper a j helper variable piece reference
   pub within : IsTrue (has piece.domain z)
   pub cell : ℕ
+  pub is_later : IsTrue (later a j cell)
   pub lane_is : q ≡ lanes.of_helper j cell
   pub computes : Computes a.system a.times a.cells cell c (number_at a.system helper.var) z
 
@@ -178,19 +195,19 @@ pub data IsLaneFor (a : Array) (lanes : Lanes) (q : ℕ) (lane : Lane) : Type 0 
   of_value : (p c n : ℕ) (z : Point) (v : Variable) → Computes a.system a.times a.cells p c n z → slice_get (nodes a.system) n ≡ Some v → q ≡ lanes.of_value p
       → IsValueLane a lanes p n v lane → IsLaneFor a lanes q lane
   of_helper : (j : ℕ) (h : Helper) (v : Variable) (piece : Piece) (r : Reference) → IsHelper a j h v piece r → (p c : ℕ) (z : Point) → Computes a.system a.times a.cells p c (number_at a.system h.var) z
-      → IsTrue (has piece.domain z) → q ≡ lanes.of_helper j p
+      → IsTrue (has piece.domain z) → IsTrue (later a j p) → q ≡ lanes.of_helper j p
       → IsHelperLane a lanes (record { cell = p; node = number_at a.system h.var; variable = v; number = h.piece; piece = piece }) j h r lane → IsLaneFor a lanes q lane
 
--- the program has these lanes and no others, those of helpers before those of values
+-- the program has these lanes and no others, those of helpers before those of values; a helper has a lane only where its word is read later
 pub record IsProgramFor (a : Array) (lanes : Lanes) (program : Program) : Type 0 where
   pub inputs_are : program.inputs ≡ length a.ports
   pub stride_is : program.stride ≡ suc (length a.helpers)
   pub only : (q : ℕ) (lane : Lane) → slice_get program.lanes q ≡ Some lane → IsLaneFor a lanes q lane
   pub before : (j : ℕ) (h : Helper) (v : Variable) (piece : Piece) (r : Reference) → IsHelper a j h v piece r → (p c : ℕ) (z : Point) → Computes a.system a.times a.cells p c (number_at a.system h.var) z
-      → IsTrue (has piece.domain z) → lanes.of_helper j p < lanes.of_value p
+      → IsTrue (has piece.domain z) → IsTrue (later a j p) → lanes.of_helper j p < lanes.of_value p
   pub values : (p c n : ℕ) (z : Point) (v : Variable) → Computes a.system a.times a.cells p c n z → slice_get (nodes a.system) n ≡ Some v
       → (lane : Lane) × (slice_get program.lanes (lanes.of_value p) ≡ Some lane) × IsValueLane a lanes p n v lane
   pub helpers : (j : ℕ) (h : Helper) (v : Variable) (piece : Piece) (r : Reference) → IsHelper a j h v piece r
-      → (p c : ℕ) (z : Point) → Computes a.system a.times a.cells p c (number_at a.system h.var) z → IsTrue (has piece.domain z)
+      → (p c : ℕ) (z : Point) → Computes a.system a.times a.cells p c (number_at a.system h.var) z → IsTrue (has piece.domain z) → IsTrue (later a j p)
       → (lane : Lane) × (slice_get program.lanes (lanes.of_helper j p) ≡ Some lane)
       × IsHelperLane a lanes (record { cell = p; node = number_at a.system h.var; variable = v; number = h.piece; piece = piece }) j h r lane
