@@ -449,7 +449,7 @@ spot_of a h v piece p = record { cell = p; node = number_at a.system h.var; vari
 -- a word of a helper
 helper_served : (a : Array) (lanes : Lanes) (ins : List Entry) (program : Program) → Arranged a lanes ins program → (j : ℕ) (z : Point) (q c : ℕ) → IsHandedAt a lanes j z q c
     → IsHandled a.system a.helpers ins program (IsPlacedAt a lanes) (IsHandedAt a lanes) j z q c
-  unfolding helper_brought
+unfolding helper_brought
 helper_served a lanes ins program g j z q c t =
     let h = t.helper in
     let v = t.variable in

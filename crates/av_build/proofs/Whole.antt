@@ -112,7 +112,7 @@ lanes_apart : (a : Array) (lanes : Lanes) (p q : ℕ) (x y : Lane) → IsLaneFor
 lanes_apart a lanes p q x y (of_value m c n z v computes is_variable at is) (of_value m' c' n' z' v' computes' is_variable' at' is') home rank =
     let e : m ≡ m' = omega (arith, is.home_is, is'.home_is, home) in at ∙ ap lanes.of_value e ∙ sym at'
 lanes_apart a lanes p q x y (of_value m c n z v computes is_variable at is) (of_helper j h v' piece r is' p' c' z' computes' within is_later at' l) home rank = absurd (omega (arith, is.rank_is, l.rank_is, rank))
-lanes_apart a lanes p q x y (of_helper j h v piece r is p' c z computes within at l) (of_value m c' n' z' v' computes' is_variable' at' is') home rank = absurd (omega (arith, is'.rank_is, l.rank_is, rank))
+lanes_apart a lanes p q x y (of_helper j h v piece r is p' c z computes within is_later at l) (of_value m c' n' z' v' computes' is_variable' at' is') home rank = absurd (omega (arith, is'.rank_is, l.rank_is, rank))
 lanes_apart a lanes p q x y (of_helper j h v piece r is m c z computes within is_later at l) (of_helper j' h' v' piece' r' is' m' c' z' computes' within' is_later' at' l') home rank =
     let e : m ≡ m' = omega (arith, l.home_is, l'.home_is, home) in
     let f : j ≡ j' = omega (arith, l.rank_is, l'.rank_is, rank) in
