@@ -1,6 +1,6 @@
 -- The program of a scheduled system with helpers serves it.
-use Rattle.std.proofs.Common.{◌≡◌, ◌≢◌, ℕ, zero, suc, ◌+◌, ◌<◌, ◌≤◌, List, [], ◌∷◌, length, take, map, get_or, refl, sym, subst, arith, ◌∙◌, ap, Bool, true, false, ◌&&◌, if◌then◌else◌, Option, Some, None, inl, inr}
-use Rattle.std.specs.Prelude.{Contains, slice_get, filter, nat_eq}
+use Rattle.std.proofs.Common.{◌≡◌, ◌≢◌, ℕ, zero, suc, ◌+◌, ◌<◌, ◌≤◌, List, [], ◌∷◌, length, take, map, get_or, refl, sym, subst, arith, ◌∙◌, ap, Bool, true, false, if◌then◌else◌, Option, Some, None, inl, inr}
+use Rattle.std.specs.Prelude.{Contains, slice_get, filter}
 use Rattle.std.proofs.lemmas.List.Elements.{All-contains}
 use Rattle.av_affine.specs.declared.map.Map.{Map}
 use Rattle.av_affine.specs.Maps.{image}
@@ -13,7 +13,7 @@ use Rattle.av_flat.specs.Signatures.{signature, is_computed}
 use Rattle.av_flat.specs.Values.{picked}
 use Rattle.av_flat.specs.declared.timed.Helper.{Helper}
 use Rattle.av_flat.specs.Nodes.{is_node, nodes, number_at}
-use Rattle.av_space.specs.Taps.{place_from, node_place, Handing, helper_from, helper_at, IsReadAt, Way, each, entries, handed, Tap, taps, IsTapRead, IsTapped}
+use Rattle.av_space.specs.Taps.{place_from, node_place, Handing, helper_at, IsReadAt, Way, each, entries, handed, Tap, taps, IsTapRead, IsTapped}
 use Rattle.av_space.specs.Standing.{Computes}
 use Rattle.av_flat.specs.Broadcasts.{Reference, references}
 use Rattle.av_flat.specs.Helped.{before, IsEntry}

@@ -1,8 +1,7 @@
 -- The module of the program of an array: sound, in array form and linked, and it shows every solution.
 use Rattle.std.proofs.Common.{◌≡◌, ℕ, zero, suc, ◌+◌, ◌^◌, ◌<◌, ◌≤◌, List, [], ◌∷◌, length, map, refl, sym, subst, arith, ◌∙◌, ap, Bool, true, false, if◌then◌else◌, Some}
-use Rattle.std.specs.Prelude.{All, Contains, slice_get, filter}
+use Rattle.std.specs.Prelude.{All, slice_get, filter}
 use Rattle.std.specs.List.{AllByRecursion, range_with_len}
-use Rattle.std.proofs.lemmas.List.Elements.{All-contains}
 use Rattle.av_base.specs.declared.width.Width.{Width}
 use Rattle.av_tree.specs.Values.{Assignment}
 use Rattle.av_net.specs.declared.design.Listing.{Listing}
