@@ -32,8 +32,6 @@ use Rattle.av_space.proofs.Elements.{some_is, get_contained}
 use Rattle.av_space.proofs.NodePlaces.{node_at}
 use Rattle.av_space.proofs.Helpers.{found_helper, both_of}
 
--- ---- lists
-
 -- ---- nodes
 
 pub computed_node : (v : Variable) → is_node v ≡ true → is_computed v.kind ≡ true
@@ -67,8 +65,6 @@ place_at a (w ∷ vs) (suc place) v is node =
 
 pub own_place : (s : FlatSystem) (place : ℕ) (v : Variable) → slice_get s.variables place ≡ Some v → is_node v ≡ true → node_place s (number_at s place) ≡ place
 own_place s place v is node = place_at 0 s.variables place v is node ∙ omega arith
-
--- ---- helpers
 
 -- ---- what a system gives to its array
 
