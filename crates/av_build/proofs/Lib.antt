@@ -31,4 +31,6 @@ pub mod Counted
 pub mod Top
 pub mod Connected
 pub mod Headline
+pub mod SpelledNames
+pub mod SoundDesigns
 pub mod InLines
