@@ -32,5 +32,6 @@ pub mod Top
 pub mod Connected
 pub mod Headline
 pub mod SpelledNames
+pub mod Sorts
 pub mod SoundDesigns
 pub mod InLines
