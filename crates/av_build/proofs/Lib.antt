@@ -33,5 +33,6 @@ pub mod Connected
 pub mod Headline
 pub mod SpelledNames
 pub mod Sorts
+pub mod InArrayForm
 pub mod SoundDesigns
 pub mod InLines

@@ -209,6 +209,13 @@ among_named D name n w gates (Choose c a b) h = among_front D name n gates (gate
 
 -- ---- what is built is good
 
+-- what a tap ends in is not the counter
+abbrev pub FreeTap : Tap → Type 0
+FreeTap tap = NotCounter tap.otherwise
+
+abbrev pub FreePart : Part → Type 0
+FreePart part = AllByRecursion FreeTap part.taps
+
 module _ (D : List Drive) (name : Naming) (free : (i : ℕ) → NotCounter (Name (name i))) where
   literal_free : (w : Width) (n : ℕ) → NotCounter (Literal w n)
   literal_free w n e = cc
@@ -322,10 +329,6 @@ module _ (D : List Drive) (name : Naming) (free : (i : ℕ) → NotCounter (Name
 
   -- ---- pieces
 
-  -- what a tap ends in is not the counter
-  abbrev FreeTap : Tap → Type 0
-  FreeTap tap = NotCounter tap.otherwise
-
   record GoodTaken (w : Width) (taken : Taken) : Type 0 where
     gates : GoodGates D taken.gates
     operands : (i : ℕ) → NotCounter (operand_at w taken.operands i)
@@ -367,9 +370,6 @@ module _ (D : List Drive) (name : Naming) (free : (i : ℕ) → NotCounter (Name
   piece_good w n taps (reference place m) fine h = place_good w n taps fine h
   piece_good w n taps (pick place choices x) fine h = place_good w n taps fine h
   piece_good w n taps t fine h = over_good w n taps t fine h
-
-  abbrev pub FreePart : Part → Type 0
-  FreePart part = AllByRecursion FreeTap part.taps
 
   turns_good : (w : Width) (n : ℕ) (otherwise : Part) (turns : List Turn) → FreePart otherwise → AllByRecursion (λ (t : Turn). FreePart t.part) turns
       → Among D name n (turns_built name w (Name counter_name) n otherwise turns).gates → GoodBuilt D (turns_built name w (Name counter_name) n otherwise turns)
