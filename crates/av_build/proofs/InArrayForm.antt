@@ -1,10 +1,11 @@
 -- The module of a program of an array is in array form, and its cells read registers of those alone that they are linked to.
-use Rattle.std.proofs.Common.{◌≡◌, ◌≢◌, ℕ, zero, suc, ◌+◌, ◌^◌, ◌<◌, ◌≤◌, ◌⊎◌, Option, None, Some, List, [], ◌∷◌, ◌++◌, length, map, take, get_or, refl, sym, subst, arith, ◌∙◌, ap, Bool, true, false, if◌then◌else◌, inl, inr}
+use Rattle.std.proofs.Common.{◌≡◌, ◌≢◌, ℕ, zero, suc, ◌+◌, ◌^◌, ◌<◌, ◌≤◌, ◌⊎◌, Option, None, Some, List, [], ◌∷◌, ◌++◌, length, map, take, get_or, refl, sym, subst, arith, ◌∙◌, ap, Bool, true, false, true≢false, if◌then◌else◌, inl, inr}
 use Rattle.std.specs.Prelude.{All, AllPairs, Contains, slice_get, slice_index_or, decimal, codes, nat_eq, nat_lt, ◌&&◌, sum}
 use Rattle.std.specs.List.{AllByRecursion, range_with_len}
 use Rattle.std.proofs.lemmas.Bool.{eqb-true, eq-eqb}
 use Rattle.std.proofs.lemmas.Fmt.{decimal_injective}
 use Rattle.std.proofs.lemmas.List.{length-map}
+use Rattle.std.proofs.lemmas.List.Sums.{sum_by-cons}
 use Rattle.std.proofs.lemmas.List.Elements.{All-from_recursion, All-contains, All-map, All-filter, Contains-append_left, Contains-append_right, Contains-append_cases}
 use Rattle.std.proofs.lemmas.Option.{slice_get_within, get_or_from_slice_get}
 use Rattle.av_base.specs.declared.width.Width.{Width}
@@ -53,7 +54,7 @@ use Rattle.av_build.proofs.Fine.{Known, IsKnown, FineGates, FineBuilt, Fine}
 use Rattle.av_build.proofs.ArrayForm.{MayRead}
 use Rattle.av_build.proofs.Form.{value_wire, inner_wire, line_register, may_name, may_link, register_owner, register_sort}
 use Rattle.av_build.proofs.Counted.{of_built, lane_has}
-use Rattle.av_build.proofs.Sorts.{NotCounter, Good, GoodGates, GoodBuilt, Among, sort_in, is_sort, unit, operation_has, gates_have, tree_has, plan_good, FreeTap, FreePart}
+use Rattle.av_build.proofs.Sorts.{NotCounter, Good, GoodGates, GoodBuilt, Among, sort_in, is_sort, more_sorts, unit, operation_has, gates_have, tree_has, plan_good, FreeTap, FreePart}
 use Rattle.av_build.proofs.Listed.{value_label, place_of}
 use Rattle.av_build.proofs.Connected.{given, legal_array}
 use Rattle.av_build.proofs.Whole.{module_reads}
@@ -147,7 +148,7 @@ are_sorted D (d ∷ ds) h = sorted (is_sort D d.operation h.0) (are_sorted D ds 
 
 sorts_join : (k : Sort) (xs ys : List Drive) → how_many k (sorts_in (xs ++ ys)) ≡ how_many k (sorts_in xs) + how_many k (sorts_in ys)
 sorts_join k [] ys = omega arith
-sorts_join k (x ∷ xs) ys = omega (arith, sorts_join k xs ys)
+sorts_join k (x ∷ xs) ys = omega (arith, more_sorts k (sort_in x.operation) (sorts_in (xs ++ ys)), more_sorts k (sort_in x.operation) (sorts_in xs), sorts_join k xs ys)
 
 drives_sorted : (name : Naming) (n : ℕ) (gates : List Gate) → sorts_in (drives_from name n gates) ≡ map (λ (g : Gate). sort_in g.operation) gates
 drives_sorted name n [] = refl
@@ -211,7 +212,7 @@ same_operators k v none (s ∷ stays) (n ∷ ks) h =
 
 total_is : (k : Sort) (pieces : List Piece) → sum (map (λ (q : Piece). operators k q.tree) pieces) ≡ pieces_have k pieces
 total_is k [] = refl
-total_is k (q ∷ pieces) = omega (arith, total_is k pieces)
+total_is k (q ∷ pieces) = omega (arith, sum_by-cons (λ x. x) (operators k q.tree) (map (λ (p : Piece). operators k p.tree) pieces), total_is k pieces)
 
 -- ---- the lanes of one cell
 
@@ -498,7 +499,7 @@ module _ (w : Width) (t : Timed) (a : Cells) (program : Program) (g : IsProgramO
       here : slice_get program.outputs k ≡ Some (g.lanes.of_value p)
       here = ap (λ (l : List ℕ). slice_get l k) (g.outputs_are ∙ ap (λ (l : List ℕ). map g.lanes.of_value l) g.array.outputs) ∙ mapped g.lanes.of_value (output_cells own a.cells) k p is
 
-      abbrev IsOutput : Drive → Type 0
+      IsOutput : Drive → Type 0
       IsOutput x = x.target ≡ output_name k → x.operation ≡ Plain (Name (value_name p))
 
       value_is : (q : ℕ) → q ≡ g.lanes.of_value p → N.value q ≡ value_name p
@@ -648,7 +649,7 @@ module _ (w : Width) (t : Timed) (a : Cells) (program : Program) (g : IsProgramO
       omega (arith, sorts_join k (drives_from (N.wire q) 0 (gates q lane)) (root ∷ []), inner, last, lane_has (unit k) N w q lane)
     where
       one_count : (k : Sort) (d : Drive) → how_many k (sorts_in (d ∷ [])) ≡ is_same k (sort_in d.operation)
-      one_count k d = omega arith
+      one_count k d = omega (arith, more_sorts k (sort_in d.operation) [])
 
   own_count : (k : Sort) → k ≢ rest → (p n : ℕ) (lanes : List Lane) → how_many k (sorts_in (cell_own p n lanes)) ≡ lanes_have k p lanes
   own_count k not_rest p n [] = refl

@@ -3,7 +3,7 @@
 use Rattle.std.proofs.Common.{◌≡◌, ◌≢◌, ℕ, zero, suc, ◌+◌, List, [], ◌∷◌, ◌++◌, length, map, refl, sym, subst, arith, ◌∙◌, ap, inl, inr}
 use Rattle.std.specs.Prelude.{Contains, sum, slice_index_or}
 use Rattle.std.specs.List.{AllByRecursion}
-use Rattle.std.proofs.lemmas.List.{length-append}
+use Rattle.std.proofs.lemmas.List.Sums.{sum_by-cons}
 use Rattle.av_base.specs.declared.width.Width.{Width}
 use Rattle.av_tree.specs.declared.sign.Sign.{Sign}
 use Rattle.av_tree.specs.declared.sign.Sign.TheVariants as sign
@@ -170,9 +170,12 @@ operation_has k h (Binary a s b) = symbol_has k h s
 operation_has k h (Signed a s b) = tests_of k
 operation_has k h (Choose c a b) = none_of k h
 
+pub more_sorts : (k o : Sort) (os : List Sort) → how_many k (o ∷ os) ≡ is_same k o + how_many k os
+more_sorts k o os = sum_by-cons (λ x. x) (is_same k o) (map (is_same k) os)
+
 pub gates_have : (k : Sort) → k ≢ rest → (gates : List Gate) → how_many k (map (λ (g : Gate). sort_in g.operation) gates) ≡ of_gates (unit k) gates
 gates_have k h [] = refl
-gates_have k h (g ∷ gates) = omega (arith, operation_has k h g.operation, gates_have k h gates)
+gates_have k h (g ∷ gates) = omega (arith, more_sorts k (sort_in g.operation) (map (λ (x : Gate). sort_in x.operation) gates), operation_has k h g.operation, gates_have k h gates)
 
 sign_has : (k : Sort) (g : Sign) → is_same k (sort_of g) ≡ of_sign (unit k) g
 sign_has k sign.Add = adds_of k
