@@ -121,15 +121,15 @@ same_register p q x sp sq (m, e) (n, f) = decimal_injective p q sp sq (sym (regi
 sorts_apart : (x : List ℕ) (m n : ℕ) → sort x ≡ m → sort x ≡ n → m ≢ n → ⊥
 sorts_apart x m n e f h = h (sym e ∙ f)
 
-first_letter : List ℕ → ℕ
+abbrev first_letter : List ℕ → ℕ
 first_letter l = slice_index_or l 0 0
 
 -- ---- drives of one cell
 
-own_drives : (p : ℕ) (xs ys : List Drive) (a b : List Drive) → AreDrivesOf p xs a → AreDrivesOf p ys b → AreDrivesOf p (xs ++ ys) (a ++ b)
-own_drives p [] ys [] b ended h = h
-own_drives p (x ∷ xs) ys (x ∷ a) b (of_cell w g) h = of_cell w (own_drives p xs ys a b g h)
-own_drives p (x ∷ xs) ys a b (other n g) h = other n (own_drives p xs ys a b g h)
+own_drives : (p : ℕ) (ys b : List Drive) {xs a : List Drive} → AreDrivesOf p xs a → AreDrivesOf p ys b → AreDrivesOf p (xs ++ ys) (a ++ b)
+own_drives p ys b ended h = h
+own_drives p ys b (of_cell w g) h = of_cell w (own_drives p ys b g h)
+own_drives p ys b (other n g) h = other n (own_drives p ys b g h)
 
 all_own : (p : ℕ) (ds : List Drive) → AllByRecursion (λ (d : Drive). IsWire p d.target) ds → AreDrivesOf p ds ds
 all_own p [] h = ended
@@ -628,7 +628,7 @@ module _ (w : Width) (t : Timed) (a : Cells) (program : Program) (g : IsProgramO
   lanes_own : (p : ℕ) → p < length a.cells → (n : ℕ) (lanes : List Lane) → Each IsThere n lanes → AreDrivesOf p (of_lanes (cell_drives N w) n lanes) (cell_own p n lanes)
   lanes_own p lt n [] h = ended
   lanes_own p lt n (lane ∷ lanes) h =
-      own_drives p (cell_drives N w n lane) (of_lanes (cell_drives N w) (n + 1) lanes) (if nat_eq lane.home p then cell_drives N w n lane else []) (cell_own p (n + 1) lanes)
+      own_drives p (of_lanes (cell_drives N w) (n + 1) lanes) (cell_own p (n + 1) lanes)
       (lane_own p lt n lane (h 0 lane refl n (omega arith))) (lanes_own p lt (n + 1) lanes (later_each IsThere n lane lanes h))
 
   own_good : (p n : ℕ) (lanes : List Lane) → Each IsThere n lanes → AllByRecursion (λ (d : Drive). Good m.drives d.operation) (cell_own p n lanes)
@@ -663,10 +663,10 @@ module _ (w : Width) (t : Timed) (a : Cells) (program : Program) (g : IsProgramO
   -- ---- the pieces of a cell
 
   module _ (p : ℕ) (lt : p < length a.cells) where
-    h : HasValueLane p
+    abbrev h : HasValueLane p
     h = value_lane p lt
 
-    v : Variable
+    abbrev v : Variable
     v = h.variable
 
     -- the piece that holds the point of the cell's computation
@@ -682,16 +682,16 @@ module _ (w : Width) (t : Timed) (a : Cells) (program : Program) (g : IsProgramO
         both_true true y e = (refl, e)
         both_true false y e = absurd cc
 
-    none_piece : Piece
+    abbrev none_piece : Piece
     none_piece = some_piece.1
 
-    stays : List Stay
+    abbrev stays : List Stay
     stays = h.is.stays
 
-    numbers : List ℕ
+    abbrev numbers : List ℕ
     numbers = take (length stays) h.is.pieces
 
-    pieces : List Piece
+    abbrev pieces : List Piece
     pieces = map (piece_at v none_piece) numbers
 
     first_stay : (i : ℕ) × (stay : Stay) × (slice_get stays i ≡ Some stay)
@@ -763,11 +763,11 @@ module _ (w : Width) (t : Timed) (a : Cells) (program : Program) (g : IsProgramO
             is_piece = r.is_own;
             within = r.for.has_first;
           });
-      all = λ k piece use.
-          let node = same_node use.cycle use.node use.point use.computes in
-          let one : use.variable ≡ v = some_is use.variable v (sym use.is_variable ∙ ap (λ n. slice_get (nodes own) n) node ∙ h.is_variable) in
-          let is_piece : slice_get v.pieces k ≡ Some piece = subst (λ (x : Variable). slice_get x.pieces k ≡ Some piece) one use.is_piece in
-          let found = h.is.every k piece is_piece use.cycle use.node use.point use.computes use.within in
+      all = λ k piece u.
+          let node = same_node u.cycle u.node u.point u.computes in
+          let one : u.variable ≡ v = some_is u.variable v (sym u.is_variable ∙ ap (λ n. slice_get (nodes own) n) node ∙ h.is_variable) in
+          let is_piece : slice_get v.pieces k ≡ Some piece = subst (λ (x : Variable). slice_get x.pieces k ≡ Some piece) one u.is_piece in
+          let found = h.is.every k piece is_piece u.cycle u.node u.point u.computes u.within in
           get_contained numbers found.0 k (take_has (length stays) h.is.pieces found.0 k (slice_get_within stays found.0 found.1 found.2) found.3);
       once = pairs_by_place (λ (x y : ℕ). x ≢ y) numbers (λ i j x y ix jy less same.
           let ax = taken_at (length stays) h.is.pieces i x ix in
@@ -797,7 +797,7 @@ module _ (w : Width) (t : Timed) (a : Cells) (program : Program) (g : IsProgramO
       pieces = pieces;
       are_pieces = are_pieces;
       drives = cell_own p 0 program.lanes ++ [];
-      are_drives = own_drives p (of_lanes (cell_drives N w) 0 program.lanes) others (cell_own p 0 program.lanes) [] (lanes_own p lt 0 program.lanes all_there)
+      are_drives = own_drives p others [] (lanes_own p lt 0 program.lanes all_there)
           (none_own p others (others_each (λ (d : Drive). IsWire p d.target → ⊥) (λ k q at wire. output_no_wire k q p at (small p lt) wire) (λ counted wire. next_no_wire p (small p lt) wire)));
       sorts = sorts_in (cell_own p 0 program.lanes ++ []);
       are_sorts = are_sorted m.drives (cell_own p 0 program.lanes ++ []) (both_each (λ (d : Drive). Good m.drives d.operation) (cell_own p 0 program.lanes) [] (own_good p 0 program.lanes all_there) tt);
