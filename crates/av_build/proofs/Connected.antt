@@ -90,7 +90,7 @@ module _ (w : Width) (t : Timed) (a : Cells) (program : Program) (g : IsProgramO
       let time = ap (λ (ts : List Time). slice_get ts n) (sym g.array.are_placings.times_are) ∙ time_at t a g.legal g.array g.array.placings n p at in
       g.array.cycles.above n z p.time computation time
 
-  given : Given w (array_of t a g.array.placings) g.lanes a.listing program
+  pub given : Given w (array_of t a g.array.placings) g.lanes a.listing program
   given = record {
     arranged = arranged (array_of t a g.array.placings) (legal_array t a g.legal g.array) g.lanes a.listing.ins program g.array.links g.array.ins g.is_program;
     are_cells = g.array.cells;

@@ -36,14 +36,14 @@ widths_of_ports : (w : Width) (name : ℕ → List ℕ) (ns : List ℕ) → All 
 widths_of_ports w name [] = All-nil (λ (p : Port). p.width.bits ≡ w.bits)
 widths_of_ports w name (n ∷ ns) = All-cons (λ (p : Port). p.width.bits ≡ w.bits) (port w (name n)) (map (λ k. port w (name k)) ns) refl (widths_of_ports w name ns)
 
-ports_are : (w : Width) (name : ℕ → List ℕ) (number count width : ℕ) → number ≡ count → width ≡ w.bits → ArePortsOf name count width (map (λ k. port w (name k)) (range_with_len 0 number))
+pub ports_are : (w : Width) (name : ℕ → List ℕ) (number count width : ℕ) → number ≡ count → width ≡ w.bits → ArePortsOf name count width (map (λ k. port w (name k)) (range_with_len 0 number))
 ports_are w name number count width e f = record {
   names = names_of_ports w name (range_with_len 0 number) ∙ ap (λ n. map name (range_with_len 0 n)) e;
   widths = subst (λ (n : ℕ). All (λ (p : Port). p.width.bits ≡ n) (map (λ k. port w (name k)) (range_with_len 0 number))) (sym f) (widths_of_ports w name (range_with_len 0 number));
 }
 
 module _ (w : Width) (t : Timed) (a : Cells) (program : Program) (g : IsProgramOf w t a program) (whole : IsWhole t a) where
-  pub carries : HasWholeListing t a (design_of w a program)
+  abbrev pub carries : HasWholeListing t a (design_of w a program)
   carries = record {
     whole = whole;
     listing = refl;

@@ -32,4 +32,8 @@ pub mod Counted
 pub mod Top
 pub mod Connected
 pub mod Headline
+pub mod SpelledNames
+pub mod Sorts
+pub mod InArrayForm
+pub mod SoundDesigns
 pub mod InLines

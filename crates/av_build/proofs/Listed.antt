@@ -84,7 +84,7 @@ pub record Made (w : Width) (a : Array) (lanes : Lanes) (listing : Listing) (out
   pub few : (p c n : ℕ) (z : Point) → Computes a.system a.times a.cells p c n z → c < 4096
 
 -- the name of the lane of a cell's value
-value_label : (program : Program) (q p : ℕ) (lane : Lane) → slice_get program.lanes q ≡ Some lane → lane.home ≡ p → lane.rank ≡ 0 → (labels program).value q ≡ value_name p
+pub value_label : (program : Program) (q p : ℕ) (lane : Lane) → slice_get program.lanes q ≡ Some lane → lane.home ≡ p → lane.rank ≡ 0 → (labels program).value q ≡ value_name p
 value_label program q p lane is home rank = ap (label_in (lane_value program.stride)) is ∙ rw (rank, home) refl
 
 mapped : (f : ℕ → ℕ) (xs : List ℕ) (k x : ℕ) → slice_get xs k ≡ Some x → slice_get (map f xs) k ≡ Some (f x)

@@ -117,7 +117,7 @@ lanes_apart a lanes p q x y (of_helper j h v piece r is m c z computes within is
     let f : j ≡ j' = omega (arith, l.rank_is, l'.rank_is, rank) in
     at ∙ ap (λ k. lanes.of_helper k m) f ∙ ap (lanes.of_helper j') e ∙ sym at'
 
-is_fit : (w : Width) (a : Array) (lanes : Lanes) (listing : Listing) (program : Program) → Given w a lanes listing program → IsFit w program
+pub is_fit : (w : Width) (a : Array) (lanes : Lanes) (listing : Listing) (program : Program) → Given w a lanes listing program → IsFit w program
 is_fit w a lanes listing program g =
     let only = g.arranged.is_program.only in
     record {

@@ -1,0 +1,156 @@
+-- The names of the module of a program are names of the subset: a letter, a number, and with it `_` and a second number or not; or
+-- one of the names of the counter.
+use Rattle.std.proofs.Common.{◌≡◌, ℕ, zero, suc, ◌+◌, ◌^◌, ◌<◌, ◌≤◌, List, [], ◌∷◌, ◌++◌, length, map, refl, sym, subst, arith, ◌∙◌, ap, Bool, true, false, if◌then◌else◌}
+use Rattle.std.specs.Prelude.{All, Contains, decimal, nat_eq, slice_get, codes, ◌&&◌, ◌||◌}
+use Rattle.std.specs.List.{AllByRecursion, range_with_len, list_all}
+use Rattle.std.specs.Char.{is_ascii_digit, is_ascii_alphabetic}
+use Rattle.std.specs.Str.{all_ascii_digits}
+use Rattle.std.proofs.lemmas.Fmt.{decimal_nonempty}
+use Rattle.std.proofs.lemmas.List.{append-nil}
+use Rattle.std.proofs.lemmas.List.Elements.{All-contains, All-from_recursion}
+use Rattle.std.proofs.lemmas.List.Sums.{AllPass-from_list_all}
+use Rattle.av_base.specs.declared.width.Width.{Width}
+use Rattle.av_base.specs.Tokens.{is_word_byte}
+use Rattle.av_net.specs.Lexemes.{IsName, IsIdentifier, reserved_words, begins_name}
+use Rattle.av_net.specs.Names.{names_of, all_names}
+use Rattle.av_net.proofs.Distinct.{apart}
+use Rattle.av_net.proofs.Tested.{are_distinct, distinct_tested}
+use Rattle.av_space.proofs.Elements.{both_each}
+use Rattle.av_build.specs.Names.{input_name, output_name, value_name, wire_name, counter_name, next_name}
+use Rattle.av_build.specs.Labels.{number_in, lane_value, lane_wire, lane_register, labels}
+use Rattle.av_build.specs.Programs.{Lane, Program, counts}
+use Rattle.av_build.specs.Modules.{of_lanes, cell_built, if_counted, module_of}
+use Rattle.av_build.proofs.NameParts.{digits_of, each_of_range}
+use Rattle.av_build.proofs.Declared.{Each, later_each, IsSmallLane, AreSmall, own_wires, own_registers, below, below_line, same_wires, same_registers, moved, wires_of, registers_in, input_list, output_list, wire_list, register_list, inputs_are, outputs_are, wires_are, registers_are}
+
+-- ---- one name
+
+-- the byte right behind the first one is a digit
+abbrev second_digit : List ℕ → Bool
+second_digit [] = false
+second_digit (b ∷ []) = false
+second_digit (b ∷ c ∷ bytes) = is_ascii_digit c
+
+lettered : All (λ w. second_digit w ≡ false) reserved_words
+lettered = All-from_recursion (λ w. second_digit w ≡ false) reserved_words (refl, (refl, (refl, (refl, (refl, (refl, (refl, (refl, (refl, (refl, (refl, tt)))))))))))
+
+no_reserved : (name : List ℕ) → second_digit name ≡ true → Contains reserved_words name → ⊥
+no_reserved name e at =
+    let f : second_digit name ≡ false = All-contains (λ w. second_digit w ≡ false) reserved_words name lettered at in
+    let both : true ≡ false = sym e ∙ f in
+    cc
+
+digit_word : (x : ℕ) → is_ascii_digit x ≡ true → is_word_byte x ≡ true
+digit_word x e = go (is_ascii_alphabetic x) (is_ascii_digit x) (nat_eq x 95) e
+  where
+    go : (a b c : Bool) → b ≡ true → (a || b || c) ≡ true
+    go true b c e = refl
+    go false true c e = refl
+    go false false c e = absurd cc
+
+both : (a b : Bool) → (a && b) ≡ true → (a ≡ true) × (b ≡ true)
+both true b e = (refl, e)
+both false b e = absurd cc
+
+words_more : (digits more : List ℕ) → all_ascii_digits digits ≡ true → list_all is_word_byte more ≡ true → list_all is_word_byte (digits ++ more) ≡ true
+words_more [] more d m = m
+words_more (x ∷ digits) more d m =
+    let b = both (is_ascii_digit x) (all_ascii_digits digits) d in
+    let here = digit_word x b.0 in
+    let rest = words_more digits more b.1 m in
+    rw (here, rest) refl
+
+first_digit : (a : ℕ) (digits more : List ℕ) → all_ascii_digits digits ≡ true → 0 < length digits → second_digit (a ∷ (digits ++ more)) ≡ true
+first_digit a [] more d l = absurd (omega (arith, l))
+first_digit a (x ∷ digits) more d l = (both (is_ascii_digit x) (all_ascii_digits digits) d).0
+
+numbered_name : (a n : ℕ) (more : List ℕ) → begins_name a ≡ true → n < 2 ^ 64 → list_all is_word_byte more ≡ true → IsName (a ∷ (decimal n ++ more))
+numbered_name a n more letter small rest = (
+  (letter, AllPass-from_list_all is_word_byte (decimal n ++ more) (words_more (decimal n) more (digits_of n small) rest)),
+  no_reserved (a ∷ (decimal n ++ more)) (first_digit a (decimal n) more (digits_of n small) (decimal_nonempty n small)),
+)
+
+one_numbered : (a n : ℕ) → begins_name a ≡ true → n < 2 ^ 64 → IsName (a ∷ decimal n)
+one_numbered a n letter small = subst (λ (xs : List ℕ). IsName (a ∷ xs)) (append-nil (decimal n)) (numbered_name a n [] letter small refl)
+
+twice_numbered : (a m n : ℕ) → begins_name a ≡ true → m < 2 ^ 64 → n < 2 ^ 64 → IsName (a ∷ (decimal m ++ (95 ∷ decimal n)))
+twice_numbered a m n letter few small = numbered_name a m (95 ∷ decimal n) letter few more
+  where
+    digits : list_all is_word_byte (decimal n) ≡ true
+    digits = subst (λ (xs : List ℕ). list_all is_word_byte xs ≡ true) (append-nil (decimal n)) (words_more (decimal n) [] (digits_of n small) refl)
+
+    more : list_all is_word_byte (95 ∷ decimal n) ≡ true
+    more = rw digits refl
+
+-- a name that is written out, which is none of the reserved words
+name_by : (name : List ℕ) → IsIdentifier name → are_distinct (name ∷ reserved_words) ≡ true → IsName name
+name_by name spelled distinct = (spelled, λ reserved. apart (name ∷ []) reserved_words name (distinct_tested (name ∷ reserved_words) distinct) (0, omega arith, refl) reserved)
+
+pub array_name : IsName (codes "array")
+array_name = name_by (codes "array") (refl, AllPass-from_list_all is_word_byte (codes "rray") refl) refl
+
+counter_spelled : IsName counter_name
+counter_spelled = name_by counter_name (refl, AllPass-from_list_all is_word_byte (codes "yc") refl) refl
+
+next_spelled : IsName next_name
+next_spelled = name_by next_name (refl, AllPass-from_list_all is_word_byte (codes "yc_next") refl) refl
+
+if_named : (test : Bool) (x : List ℕ) → IsName x → AllByRecursion IsName (if test then x ∷ [] else [])
+if_named true x h = (h, tt)
+if_named false x h = tt
+
+-- ---- the names of a lane
+
+value_spelled : (stride : ℕ) (lane : Lane) → lane.home < 2 ^ 64 → number_in stride lane 0 < 2 ^ 64 → IsName (lane_value stride lane)
+value_spelled stride lane home small = by_rank (nat_eq lane.rank 0)
+  where
+    by_rank : (b : Bool) → IsName (if b then value_name lane.home else wire_name lane.home (number_in stride lane 0))
+    by_rank true = one_numbered 99 lane.home refl home
+    by_rank false = twice_numbered 99 lane.home (number_in stride lane 0) refl home small
+
+wires_spelled : (stride many : ℕ) (lane : Lane) → IsSmallLane stride many lane → AllByRecursion IsName (own_wires stride many lane)
+wires_spelled stride many lane h = both_each IsName (map (λ k. lane_wire stride k lane) (range_with_len 0 many)) (lane_value stride lane ∷ [])
+    (each_of_range IsName (λ k. lane_wire stride k lane) 0 many (λ k low high. twice_numbered 99 lane.home (number_in stride lane (suc k)) refl h.home (below stride many lane h (suc k) (omega arith))))
+    (value_spelled stride lane h.home (below stride many lane h 0 (omega arith)), tt)
+
+registers_spelled : (stride many : ℕ) (lane : Lane) → IsSmallLane stride many lane → AllByRecursion IsName (own_registers stride lane)
+registers_spelled stride many lane h =
+    each_of_range IsName (λ k. lane_register stride k lane) 0 lane.length (λ k low high. twice_numbered 114 lane.home (number_in stride lane k) refl h.home (below_line stride many lane h k (omega arith)))
+
+-- ---- all names
+
+lanes_keep : (P : List ℕ → Type 0) (g : ℕ → Lane → List (List ℕ)) (n : ℕ) (lanes : List Lane) → Each (λ p lane. AllByRecursion P (g p lane)) n lanes → AllByRecursion P (of_lanes g n lanes)
+lanes_keep P g n [] h = tt
+lanes_keep P g n (lane ∷ lanes) h = both_each P (g n lane) (of_lanes g (n + 1) lanes) (h 0 lane refl n (omega arith)) (lanes_keep P g (n + 1) lanes (later_each (λ p lane. AllByRecursion P (g p lane)) n lane lanes h))
+
+numbers_spelled : (a n : ℕ) → begins_name a ≡ true → n ≤ 2 ^ 64 → AllByRecursion IsName (map (λ k. a ∷ decimal k) (range_with_len 0 n))
+numbers_spelled a n letter few = each_of_range IsName (λ k. a ∷ decimal k) 0 n (λ k low high. one_numbered a k letter (omega arith))
+
+module _ (w : Width) (program : Program) (small : AreSmall w program) where
+  wire_names_spelled : AllByRecursion IsName (wire_list w program)
+  wire_names_spelled = lanes_keep IsName (wires_of (labels program) w) 0 program.lanes (λ k lane is p e.
+      let there = moved program k p lane is e in
+      subst (λ (xs : List (List ℕ)). AllByRecursion IsName xs) (sym (same_wires w program p lane there))
+      (wires_spelled program.stride (length (cell_built (labels program) w p lane).gates) lane (small.lanes p lane there)))
+
+  register_names_spelled : AllByRecursion IsName (register_list program)
+  register_names_spelled = lanes_keep IsName (registers_in (labels program)) 0 program.lanes (λ k lane is p e.
+      let there = moved program k p lane is e in
+      subst (λ (xs : List (List ℕ)). AllByRecursion IsName xs) (sym (same_registers program p lane there))
+      (registers_spelled program.stride (length (cell_built (labels program) w p lane).gates) lane (small.lanes p lane there)))
+
+  pub names_spelled : All IsName (all_names (module_of w program))
+  names_spelled =
+      let m = module_of w program in
+      let c = if_counted program counter_name in
+      let n = if_counted program next_name in
+      let inputs = subst (λ (xs : List (List ℕ)). AllByRecursion IsName xs) (sym (inputs_are w program)) (numbers_spelled 105 program.inputs refl small.inputs) in
+      let registers = subst (λ (xs : List (List ℕ)). AllByRecursion IsName xs) (sym (registers_are w program))
+          (both_each IsName (register_list program) c register_names_spelled (if_named (counts program) counter_name counter_spelled)) in
+      let outputs = subst (λ (xs : List (List ℕ)). AllByRecursion IsName xs) (sym (outputs_are w program)) (numbers_spelled 111 (length program.outputs) refl small.outputs) in
+      let wires = subst (λ (xs : List (List ℕ)). AllByRecursion IsName xs) (sym (wires_are w program))
+          (both_each IsName (wire_list w program) n wire_names_spelled (if_named (counts program) next_name next_spelled)) in
+      All-from_recursion IsName (all_names m)
+      (both_each IsName (names_of m.inputs ++ names_of m.registers) (names_of m.outputs ++ names_of m.wires)
+      (both_each IsName (names_of m.inputs) (names_of m.registers) inputs registers)
+      (both_each IsName (names_of m.outputs) (names_of m.wires) outputs wires))
