@@ -3,7 +3,6 @@ use Rattle.std.proofs.Common.{◌≡◌, ◌≢◌, ℕ, zero, suc, ◌+◌, ◌
 use Rattle.std.specs.Prelude.{All, AllPairs, Contains, slice_get, slice_index_or, decimal, codes, nat_eq, nat_lt, ◌&&◌, sum}
 use Rattle.std.specs.List.{AllByRecursion, range_with_len}
 use Rattle.std.proofs.lemmas.Bool.{eqb-true, eq-eqb}
-use Rattle.std.proofs.lemmas.Fmt.{decimal_injective}
 use Rattle.std.proofs.lemmas.List.{length-map}
 use Rattle.std.proofs.lemmas.List.Sums.{sum_by-cons}
 use Rattle.std.proofs.lemmas.List.Elements.{All-from_recursion, All-contains, All-map, All-filter, Contains-append_left, Contains-append_right, Contains-append_cases}
@@ -48,7 +47,7 @@ use Rattle.av_build.specs.Selections.{Stay, shifts_by, last_work}
 use Rattle.av_build.specs.Modules.{of_lanes, operand_of, tap_of, part_of, turn_of, plan_of, port, bound, counter_width, cell_built, cell_drives, cell_wires, cell_registers, cell_steps, line_step, output_drives, if_counted, next_drive, counter_step, module_of}
 use Rattle.av_build.specs.Kinds.{of_operation, of_gates, of_tree, of_shifts, of_lane}
 use Rattle.av_build.specs.Built.{IsProgramOf, array_of, design_of}
-use Rattle.av_build.proofs.NameParts.{owner, owner_numbered, sort, sort_numbered, each_of_range, numbered_injective}
+use Rattle.av_build.proofs.NameParts.{decimal_once, owner, owner_numbered, sort, sort_numbered, each_of_range, numbered_injective}
 use Rattle.av_build.proofs.Declared.{Each, later_each, one_number, one_owner, value_sort, wire_list, register_list, wires_are, registers_are}
 use Rattle.av_build.proofs.Fine.{Known, IsKnown, FineGates, FineBuilt, Fine}
 use Rattle.av_build.proofs.ArrayForm.{MayRead}
@@ -104,19 +103,19 @@ among_by D name n (g ∷ gates) h = (h (record { target = name n; operation = g.
 
 -- ---- names of wires and registers
 
-wire_owner : (p : ℕ) (x : List ℕ) → p < 2 ^ 64 → IsWire p x → owner x ≡ decimal p
+wire_owner : (p : ℕ) (x : List ℕ) → p < 10 ^ 64 → IsWire p x → owner x ≡ decimal p
 wire_owner p x small (inl e) = ap owner e ∙ one_owner 99 p small
 wire_owner p x small (inr (n, e)) = ap owner e ∙ owner_numbered 99 p (95 ∷ decimal n) small refl
 
-wire_sort : (p : ℕ) (x : List ℕ) → p < 2 ^ 64 → IsWire p x → sort x ≡ 99
+wire_sort : (p : ℕ) (x : List ℕ) → p < 10 ^ 64 → IsWire p x → sort x ≡ 99
 wire_sort p x small (inl e) = ap sort e ∙ one_number 99 p small
 wire_sort p x small (inr (n, e)) = ap sort e ∙ sort_numbered 99 p (95 ∷ decimal n) small
 
-same_wire : (p q : ℕ) (x : List ℕ) → p < 2 ^ 64 → q < 2 ^ 64 → IsWire p x → IsWire q x → p ≡ q
-same_wire p q x sp sq hp hq = decimal_injective p q sp sq (sym (wire_owner p x sp hp) ∙ wire_owner q x sq hq)
+same_wire : (p q : ℕ) (x : List ℕ) → p < 10 ^ 64 → q < 10 ^ 64 → IsWire p x → IsWire q x → p ≡ q
+same_wire p q x sp sq hp hq = decimal_once p q sp sq (sym (wire_owner p x sp hp) ∙ wire_owner q x sq hq)
 
-same_register : (p q : ℕ) (x : List ℕ) → p < 2 ^ 64 → q < 2 ^ 64 → IsRegister p x → IsRegister q x → p ≡ q
-same_register p q x sp sq (m, e) (n, f) = decimal_injective p q sp sq (sym (register_owner p m sp) ∙ sym (ap owner e) ∙ ap owner f ∙ register_owner q n sq)
+same_register : (p q : ℕ) (x : List ℕ) → p < 10 ^ 64 → q < 10 ^ 64 → IsRegister p x → IsRegister q x → p ≡ q
+same_register p q x sp sq (m, e) (n, f) = decimal_once p q sp sq (sym (register_owner p m sp) ∙ sym (ap owner e) ∙ ap owner f ∙ register_owner q n sq)
 
 sorts_apart : (x : List ℕ) (m n : ℕ) → sort x ≡ m → sort x ≡ n → m ≢ n → ⊥
 sorts_apart x m n e f h = h (sym e ∙ f)
@@ -274,10 +273,10 @@ module _ (w : Width) (t : Timed) (a : Cells) (program : Program) (g : IsProgramO
   home_of : (q : ℕ) (lane : Lane) → slice_get program.lanes q ≡ Some lane → lane.home < length a.cells
   home_of q lane is = home_there q lane (g.is_program.only q lane is)
 
-  small : (p : ℕ) → p < length a.cells → p < 2 ^ 64
+  small : (p : ℕ) → p < length a.cells → p < 10 ^ 64
   small p lt = (let few = g.small.cells in omega (arith, lt, few))
 
-  small_home : (q : ℕ) (lane : Lane) → slice_get program.lanes q ≡ Some lane → lane.home < 2 ^ 64
+  small_home : (q : ℕ) (lane : Lane) → slice_get program.lanes q ≡ Some lane → lane.home < 10 ^ 64
   small_home q lane is = small lane.home (home_of q lane is)
 
   -- ---- declarations
@@ -356,10 +355,10 @@ module _ (w : Width) (t : Timed) (a : Cells) (program : Program) (g : IsProgramO
       (lanes_each P (cell_drives N w) 0 program.lanes (λ k lane at q e. (let is = moved program.lanes k q lane at e in lane_each P q lane (inner q lane is) (root q lane is))))
       (others_each P out next)
 
-  output_sort : (k : ℕ) → k < 2 ^ 64 → sort (output_name k) ≡ 111
+  output_sort : (k : ℕ) → k < 10 ^ 64 → sort (output_name k) ≡ 111
   output_sort k lt = one_number 111 k lt
 
-  output_small : (k q : ℕ) → slice_get program.outputs k ≡ Some q → k < 2 ^ 64
+  output_small : (k q : ℕ) → slice_get program.outputs k ≡ Some q → k < 10 ^ 64
   output_small k q at = (let few = g.small.outputs in let lt = slice_get_within program.outputs k q at in omega (arith, few, lt))
 
   next_sort : sort next_name ≡ 1861
@@ -369,10 +368,10 @@ module _ (w : Width) (t : Timed) (a : Cells) (program : Program) (g : IsProgramO
   counter_sort = refl
 
   -- an output and the next count are no wires of a cell
-  output_no_wire : (k q p : ℕ) → slice_get program.outputs k ≡ Some q → p < 2 ^ 64 → IsWire p (output_name k) → ⊥
+  output_no_wire : (k q p : ℕ) → slice_get program.outputs k ≡ Some q → p < 10 ^ 64 → IsWire p (output_name k) → ⊥
   output_no_wire k q p at sp h = sorts_apart (output_name k) 111 99 (output_sort k (output_small k q at)) (wire_sort p (output_name k) sp h) (λ e. omega (arith, e))
 
-  next_no_wire : (p : ℕ) → p < 2 ^ 64 → IsWire p next_name → ⊥
+  next_no_wire : (p : ℕ) → p < 10 ^ 64 → IsWire p next_name → ⊥
   next_no_wire p sp h = sorts_apart next_name 1861 99 next_sort (wire_sort p next_name sp h) (λ e. omega (arith, e))
 
   -- ---- what wires read

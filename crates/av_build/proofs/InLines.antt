@@ -30,7 +30,7 @@ pair_at xs order i j x y ix jy lt =
     let h = order i j x lt (in_range xs j y jy) in
     subst (λ (a : InLine). IsBefore a y) (get_of xs i x x ix) (subst (λ (b : InLine). IsBefore (get_or xs i x) b) (get_of xs j x y jy) h)
 
-pub lines_apart : (s : FlatSystem) (hs : List Helper) (times : List Placing) (cells : List CellMade) (ports : List InPort) (ins : List Entry) → AreInLines s hs times cells ports ins → length ports ≤ 2 ^ 64
+pub lines_apart : (s : FlatSystem) (hs : List Helper) (times : List Placing) (cells : List CellMade) (ports : List InPort) (ins : List Entry) → AreInLines s hs times cells ports ins → length ports ≤ 10 ^ 64
     → (i j : ℕ) (x y : Entry) → slice_get ins i ≡ Some x → slice_get ins j ≡ Some y → x.wire ≡ y.wire → x.cycle ≡ y.cycle → i ≡ j
 lines_apart s hs times cells ports ins are few i j x y ix jy wires cycles =
     let f : InLine → Entry = λ (l : InLine). l.entry in

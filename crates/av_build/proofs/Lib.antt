@@ -35,5 +35,6 @@ pub mod Headline
 pub mod SpelledNames
 pub mod Sorts
 pub mod InArrayForm
+pub mod Designs
 pub mod SoundDesigns
 pub mod InLines

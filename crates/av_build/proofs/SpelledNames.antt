@@ -5,7 +5,6 @@ use Rattle.std.specs.Prelude.{All, Contains, decimal, nat_eq, slice_get, codes, 
 use Rattle.std.specs.List.{AllByRecursion, range_with_len, list_all}
 use Rattle.std.specs.Char.{is_ascii_digit, is_ascii_alphabetic}
 use Rattle.std.specs.Str.{all_ascii_digits}
-use Rattle.std.proofs.lemmas.Fmt.{decimal_nonempty}
 use Rattle.std.proofs.lemmas.List.{append-nil}
 use Rattle.std.proofs.lemmas.List.Elements.{All-contains, All-from_recursion}
 use Rattle.std.proofs.lemmas.List.Sums.{AllPass-from_list_all}
@@ -20,7 +19,7 @@ use Rattle.av_build.specs.Names.{input_name, output_name, value_name, wire_name,
 use Rattle.av_build.specs.Labels.{number_in, lane_value, lane_wire, lane_register, labels}
 use Rattle.av_build.specs.Programs.{Lane, Program, counts}
 use Rattle.av_build.specs.Modules.{of_lanes, cell_built, if_counted, module_of}
-use Rattle.av_build.proofs.NameParts.{digits_of, each_of_range}
+use Rattle.av_build.proofs.NameParts.{decimal_some, digits_of, each_of_range}
 use Rattle.av_build.proofs.Declared.{Each, later_each, IsSmallLane, AreSmall, own_wires, own_registers, below, below_line, same_wires, same_registers, moved, wires_of, registers_in, input_list, output_list, wire_list, register_list, inputs_are, outputs_are, wires_are, registers_are}
 
 -- ---- one name
@@ -64,16 +63,16 @@ first_digit : (a : ℕ) (digits more : List ℕ) → all_ascii_digits digits ≡
 first_digit a [] more d l = absurd (omega (arith, l))
 first_digit a (x ∷ digits) more d l = (both (is_ascii_digit x) (all_ascii_digits digits) d).0
 
-numbered_name : (a n : ℕ) (more : List ℕ) → begins_name a ≡ true → n < 2 ^ 64 → list_all is_word_byte more ≡ true → IsName (a ∷ (decimal n ++ more))
+numbered_name : (a n : ℕ) (more : List ℕ) → begins_name a ≡ true → n < 10 ^ 64 → list_all is_word_byte more ≡ true → IsName (a ∷ (decimal n ++ more))
 numbered_name a n more letter small rest = (
   (letter, AllPass-from_list_all is_word_byte (decimal n ++ more) (words_more (decimal n) more (digits_of n small) rest)),
-  no_reserved (a ∷ (decimal n ++ more)) (first_digit a (decimal n) more (digits_of n small) (decimal_nonempty n small)),
+  no_reserved (a ∷ (decimal n ++ more)) (first_digit a (decimal n) more (digits_of n small) (decimal_some n small)),
 )
 
-one_numbered : (a n : ℕ) → begins_name a ≡ true → n < 2 ^ 64 → IsName (a ∷ decimal n)
+one_numbered : (a n : ℕ) → begins_name a ≡ true → n < 10 ^ 64 → IsName (a ∷ decimal n)
 one_numbered a n letter small = subst (λ (xs : List ℕ). IsName (a ∷ xs)) (append-nil (decimal n)) (numbered_name a n [] letter small refl)
 
-twice_numbered : (a m n : ℕ) → begins_name a ≡ true → m < 2 ^ 64 → n < 2 ^ 64 → IsName (a ∷ (decimal m ++ (95 ∷ decimal n)))
+twice_numbered : (a m n : ℕ) → begins_name a ≡ true → m < 10 ^ 64 → n < 10 ^ 64 → IsName (a ∷ (decimal m ++ (95 ∷ decimal n)))
 twice_numbered a m n letter few small = numbered_name a m (95 ∷ decimal n) letter few more
   where
     digits : list_all is_word_byte (decimal n) ≡ true
@@ -101,7 +100,7 @@ if_named false x h = tt
 
 -- ---- the names of a lane
 
-value_spelled : (stride : ℕ) (lane : Lane) → lane.home < 2 ^ 64 → number_in stride lane 0 < 2 ^ 64 → IsName (lane_value stride lane)
+value_spelled : (stride : ℕ) (lane : Lane) → lane.home < 10 ^ 64 → number_in stride lane 0 < 10 ^ 64 → IsName (lane_value stride lane)
 value_spelled stride lane home small = by_rank (nat_eq lane.rank 0)
   where
     by_rank : (b : Bool) → IsName (if b then value_name lane.home else wire_name lane.home (number_in stride lane 0))
@@ -123,7 +122,7 @@ lanes_keep : (P : List ℕ → Type 0) (g : ℕ → Lane → List (List ℕ)) (n
 lanes_keep P g n [] h = tt
 lanes_keep P g n (lane ∷ lanes) h = both_each P (g n lane) (of_lanes g (n + 1) lanes) (h 0 lane refl n (omega arith)) (lanes_keep P g (n + 1) lanes (later_each (λ p lane. AllByRecursion P (g p lane)) n lane lanes h))
 
-numbers_spelled : (a n : ℕ) → begins_name a ≡ true → n ≤ 2 ^ 64 → AllByRecursion IsName (map (λ k. a ∷ decimal k) (range_with_len 0 n))
+numbers_spelled : (a n : ℕ) → begins_name a ≡ true → n ≤ 10 ^ 64 → AllByRecursion IsName (map (λ k. a ∷ decimal k) (range_with_len 0 n))
 numbers_spelled a n letter few = each_of_range IsName (λ k. a ∷ decimal k) 0 n (λ k low high. one_numbered a k letter (omega arith))
 
 module _ (w : Width) (program : Program) (small : AreSmall w program) where

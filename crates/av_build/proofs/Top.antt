@@ -36,11 +36,11 @@ pub record IsBuilt (w : Width) (a : Array) (lanes : Lanes) (listing : Listing) (
   pub few : AreFew a
   pub words : AreWords w.bits a
   -- sizes, which follow from the limits
-  pub ports : length a.ports ≤ 2 ^ 64
-  pub outputs : length program.outputs ≤ 2 ^ 64
-  pub cells : length a.cells ≤ 2 ^ 64
-  pub weights : (q : ℕ) (lane : Lane) → slice_get program.lanes q ≡ Some lane → number_in program.stride lane (suc (lane_weight lane)) ≤ 2 ^ 64
-  pub lengths : (q : ℕ) (lane : Lane) → slice_get program.lanes q ≡ Some lane → number_in program.stride lane lane.length ≤ 2 ^ 64
+  pub ports : length a.ports ≤ 10 ^ 64
+  pub outputs : length program.outputs ≤ 10 ^ 64
+  pub cells : length a.cells ≤ 10 ^ 64
+  pub weights : (q : ℕ) (lane : Lane) → slice_get program.lanes q ≡ Some lane → number_in program.stride lane (suc (lane_weight lane)) ≤ 10 ^ 64
+  pub lengths : (q : ℕ) (lane : Lane) → slice_get program.lanes q ≡ Some lane → number_in program.stride lane lane.length ≤ 10 ^ 64
 
 given : (w : Width) (a : Array) (lanes : Lanes) (listing : Listing) (program : Program) → IsBuilt w a lanes listing program → Given w a lanes listing program
 given w a lanes listing program g = record {

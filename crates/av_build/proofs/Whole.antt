@@ -36,11 +36,11 @@ pub record Given (w : Width) (a : Array) (lanes : Lanes) (listing : Listing) (pr
   pub few : AreFew a
   pub words : AreWords w.bits a
   -- sizes
-  pub ports : length a.ports ≤ 2 ^ 64
-  pub outputs : length program.outputs ≤ 2 ^ 64
-  pub cells : length a.cells ≤ 2 ^ 64
-  pub wires : (q : ℕ) (lane : Lane) → slice_get program.lanes q ≡ Some lane → number_in program.stride lane (suc (length (cell_built (labels program) w q lane).gates)) ≤ 2 ^ 64
-  pub registers : (q : ℕ) (lane : Lane) → slice_get program.lanes q ≡ Some lane → number_in program.stride lane lane.length ≤ 2 ^ 64
+  pub ports : length a.ports ≤ 10 ^ 64
+  pub outputs : length program.outputs ≤ 10 ^ 64
+  pub cells : length a.cells ≤ 10 ^ 64
+  pub wires : (q : ℕ) (lane : Lane) → slice_get program.lanes q ≡ Some lane → number_in program.stride lane (suc (length (cell_built (labels program) w q lane).gates)) ≤ 10 ^ 64
+  pub registers : (q : ℕ) (lane : Lane) → slice_get program.lanes q ≡ Some lane → number_in program.stride lane lane.length ≤ 10 ^ 64
 
 -- ---- each lane
 
@@ -101,7 +101,7 @@ is_program w a lanes listing program g = record {
 -- ---- sizes
 
 lane_small : (w : Width) (a : Array) (lanes : Lanes) (listing : Listing) (program : Program) → Given w a lanes listing program → (q : ℕ) (lane : Lane) → slice_get program.lanes q ≡ Some lane → IsLaneFor a lanes q lane
-    → (lane.home < 2 ^ 64) × (lane.rank < program.stride)
+    → (lane.home < 10 ^ 64) × (lane.rank < program.stride)
 lane_small w a lanes listing program g q lane there (of_value p c n z v computes is_variable at is) =
     (omega (arith, is.home_is, in_range a.cells p computes.cell computes.is_cell, g.cells), omega (arith, is.rank_is, g.arranged.is_program.stride_is))
 lane_small w a lanes listing program g q lane there (of_helper j h v piece r is p c z computes within is_later at l) =

@@ -18,11 +18,11 @@ array_of t a placings = record { system = view_system t.flat; helpers = t.helper
 
 -- the numbers in names fit 64 bits: those of ports and cells, and those of the wires and registers of each lane
 pub record HasSmallNumbers (w : Width) (a : Cells) (program : Program) : Type 0 where
-  pub ports : length a.inputs ≤ 2 ^ 64
-  pub outputs : length program.outputs ≤ 2 ^ 64
-  pub cells : length a.cells ≤ 2 ^ 64
-  pub wires : (q : ℕ) (lane : Lane) → slice_get program.lanes q ≡ Some lane → number_in program.stride lane (suc (length (cell_built (labels program) w q lane).gates)) ≤ 2 ^ 64
-  pub registers : (q : ℕ) (lane : Lane) → slice_get program.lanes q ≡ Some lane → number_in program.stride lane lane.length ≤ 2 ^ 64
+  pub ports : length a.inputs ≤ 10 ^ 64
+  pub outputs : length program.outputs ≤ 10 ^ 64
+  pub cells : length a.cells ≤ 10 ^ 64
+  pub wires : (q : ℕ) (lane : Lane) → slice_get program.lanes q ≡ Some lane → number_in program.stride lane (suc (length (cell_built (labels program) w q lane).gates)) ≤ 10 ^ 64
+  pub registers : (q : ℕ) (lane : Lane) → slice_get program.lanes q ≡ Some lane → number_in program.stride lane lane.length ≤ 10 ^ 64
 
 -- the program of the array of a legal timed system, within 4,096 cycles
 pub record IsProgramOf (w : Width) (t : Timed) (a : Cells) (program : Program) : Type 0 where

@@ -1,6 +1,6 @@
 //! Laws of the netlist, each the contract of a function that does nothing.
 
-ghost use Rattle.std.specs.Prelude.{◌≡◌, ℕ};
+ghost use Rattle.std.specs.Prelude.{◌≡◌, ◌≤◌, ℕ, map};
 ghost use Rattle.av_base.specs.declared.width.Width.{Width};
 ghost use Rattle.av_tree.specs.Points.{Point};
 ghost use Rattle.av_tree.specs.Values.{Assignment};
@@ -18,7 +18,9 @@ ghost use Rattle.av_space.specs.Arrays.{IsArrayOf};
 ghost use Rattle.av_space.specs.Whole.{IsWhole, HasWholeListing};
 ghost use Rattle.av_build.specs.Programs.{Program};
 ghost use Rattle.av_build.specs.Modules.{module_of};
-ghost use Rattle.av_build.specs.Built.{IsProgramOf, design_of};
+ghost use Rattle.av_build.specs.Programmed.{Lanes, IsProgramFor};
+ghost use Rattle.av_build.specs.Built.{HasSmallNumbers, IsProgramOf, array_of, design_of};
+ghost use Rattle.av_build.specs.ArrayDesigns.{IsDesignOf};
 
 /// A law on arrays: no cell computes two points of one node in one cycle.
 pub fn cells_compute_one_point()
@@ -45,4 +47,11 @@ pub fn whole_arrays_show_the_solution()
     ensures shows { (w : Width) (t : Timed) (a : Cells) (program : Program) → IsProgramOf w t a program → IsWhole t a →
         (x : Assignment) → AreInputs (view_system t.flat) x →
         (one : HasOneSolution (view_system t.flat) x) × IsPresentable (design_of w a program) x × Shows (design_of w a program) x one.solution }
+{}
+
+/// A law on designs: that of a program of a whole array within 4,096 cycles is a sound design in array form, which carries the
+/// listing and shows the solution for every input.
+pub fn designs_compute_arrays()
+    ensures { (w : Width) (t : Timed) (a : Cells) (program : Program) → (whole : IsWhole t a) → (lanes : Lanes) → IsProgramFor (array_of t a whole.list.placings) lanes program →
+        program.outputs ≡ map lanes.of_value a.outputs → (view_system t.flat).width ≡ w.bits → a.cycles ≤ 4096 → HasSmallNumbers w a program → IsDesignOf t a (design_of w a program) }
 {}
