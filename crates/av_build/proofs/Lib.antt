@@ -32,3 +32,5 @@ pub mod Top
 pub mod Connected
 pub mod Headline
 pub mod InLines
+pub mod Chosen
+pub mod LaneParts
