@@ -1,5 +1,5 @@
 -- What lanes bring into a module, one after another.
-use Rattle.std.proofs.Common.{◌≡◌, ℕ, zero, suc, ◌+◌, ◌<◌, ◌≤◌, List, [], ◌∷◌, ◌++◌, length, map, take, drop, refl, sym, subst, arith, ◌∙◌, ap, append_assoc, Some, Option}
+use Rattle.std.proofs.Common.{◌≡◌, ℕ, zero, suc, ◌+◌, ◌<◌, ◌≤◌, List, [], ◌∷◌, ◌++◌, length, map, take, drop, refl, sym, subst, arith, ◌∙◌, ap, append_assoc, add-one, Some, Option}
 use Rattle.std.proofs.lemmas.List.{length-append, append-nil, length-map, take_all}
 use Rattle.std.specs.Prelude.{slice_get}
 use Rattle.av_base.specs.declared.width.Width.{Width}
@@ -17,19 +17,22 @@ pub record ArePartsTo (program : Program) (w : Width) (n : ℕ) (parts : Parts) 
   pub steps : parts.steps ≡ of_lanes (cell_steps (labels program)) 0 (take n program.lanes)
 
 -- one more lane
+some_lane : (x y : Lane) → ◌≡◌ {A = Option Lane} (Some x) (Some y) → x ≡ y
+some_lane x y e = cc
+
+one_more : {X : Type 0} (f : ℕ → Lane → List X) (p : ℕ) (lanes : List Lane) (n : ℕ) (lane : Lane) (q : ℕ) → slice_get lanes n ≡ Some lane → p + n ≡ q
+    → of_lanes f p (take (suc n) lanes) ≡ of_lanes f p (take n lanes) ++ f q lane
+one_more f p [] n lane q is at = absurd cc
+one_more f p (first ∷ lanes) zero lane q is at =
+    let e : p ≡ q = omega arith in
+    append-nil (f p first) ∙ ap (λ i. f i first) e ∙ ap (f q) (some_lane first lane is)
+one_more f p (first ∷ lanes) (suc n) lane q is at =
+    let e : p + 1 + n ≡ q = omega arith in
+    ap (λ ys. f p first ++ ys) (one_more f (p + 1) lanes n lane q is e) ∙ sym (append_assoc (f p first) (of_lanes f (p + 1) (take n lanes)) (f q lane))
+
 lane_more : {X : Type 0} (f : ℕ → Lane → List X) (p : ℕ) (lanes : List Lane) (n : ℕ) (lane : Lane) (q : ℕ) → slice_get lanes n ≡ Some lane → p + n ≡ q
     → of_lanes f p (take (n + 1) lanes) ≡ of_lanes f p (take n lanes) ++ f q lane
-lane_more f p [] n lane q is at = absurd cc
-lane_more f p (first ∷ lanes) zero lane q is at =
-    let e : p ≡ q = omega arith in
-    let one : first ≡ lane = some_lane first lane is in
-    append-nil (f p first) ∙ ap (λ i. f i first) e ∙ ap (f q) one
-  where
-    some_lane : (x y : Lane) → ◌≡◌ {A = Option Lane} (Some x) (Some y) → x ≡ y
-    some_lane x y e = cc
-lane_more f p (first ∷ lanes) (suc n) lane q is at =
-    let e : p + 1 + n ≡ q = omega arith in
-    ap (λ ys. f p first ++ ys) (lane_more f (p + 1) lanes n lane q is e) ∙ sym (append_assoc (f p first) (of_lanes f (p + 1) (take n lanes)) (f q lane))
+lane_more f p lanes n lane q is at = rw add-one (one_more f p lanes n lane q is at)
 
 pub parts_more : (program : Program) (w : Width) (n : ℕ) (old parts : Parts) → ArePartsTo program w n old → AddsLaneAt program w n old parts → ArePartsTo program w (n + 1) parts
 parts_more program w n old parts h a =

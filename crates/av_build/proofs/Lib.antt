@@ -34,3 +34,5 @@ pub mod Headline
 pub mod InLines
 pub mod Chosen
 pub mod LaneParts
+pub mod Placing
+pub mod Turning
