@@ -1,5 +1,5 @@
 -- Programs as the code keeps them: trees as they lie in memory, and lists of lanes whose numbers stand in the sources.
-use Rattle.std.specs.Prelude.{◌≡◌, ℕ, ◌<◌, ◌≤◌, List, length, map, Some, slice_get}
+use Rattle.std.specs.Prelude.{◌≡◌, ℕ, ◌<◌, ◌≤◌, List, [], ◌∷◌, length, map, Some, slice_get}
 use Rattle.std.specs.List.{AllByRecursion}
 use Rattle.av_flat.specs.declared.tree.Tree.{Tree as TreeMade}
 use Rattle.av_flat.specs.Trees.{view}
@@ -62,6 +62,10 @@ lane_of lane = record { home = lane.home; rank = lane.rank; shifts = map shift_o
 
 abbrev pub program_of : ProgramMade → Program
 program_of program = record { inputs = program.inputs; lanes = map lane_of program.lanes; outputs = program.outputs; stride = program.stride }
+
+-- a piece with one place, whose source is always the same
+abbrev pub one_place : SourceMade → TreeMade → WorkMade
+one_place source tree = record { sites = record { links = []; otherwise = source } ∷ []; tree = tree }
 
 -- ---- what the writer of a module asks of them
 
