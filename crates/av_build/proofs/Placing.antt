@@ -52,10 +52,10 @@ drives_more name n [] g k at = let e : n ≡ k = omega arith in ap (λ i. drive_
 drives_more name n (f ∷ gates) g k at = let e : n + 1 + length gates ≡ k = omega arith in ap (λ (ds : List Drive). drive_of (name n) f.operation ∷ ds) (drives_more name (n + 1) gates g k e)
 
 -- the number of an item is how many came before
-pub number_is : (gates : List Gate) (i n : ℕ) (g : Gate) → (i < length (enumerate_from 0 gates)) × ((n, g) ≡ get_or (enumerate_from 0 gates) i (n, g)) → n ≡ i
+pub number_is : (gates : List Gate) (i n : ℕ) (g : Gate) → (i < length (enumerate_from 0 gates)) × (◌≡◌ {A = ℕ × Gate} (n, g) (get_or (enumerate_from 0 gates) i (n, g))) → n ≡ i
 number_is gates i n g h =
     let within : i < length gates = omega (arith, h.0, length-enumerate_from 0 gates) in
-    let e : (n, g) ≡ (0 + i, get_or gates i g) = h.1 ∙ get_or-enumerate_from 0 gates i (n, g) within in
+    let e : ◌≡◌ {A = ℕ × Gate} (n, g) (0 + i, get_or gates i g) = h.1 ∙ get_or-enumerate_from 0 gates i (n, g) within in
     let first : n ≡ 0 + i = ap (λ (p : ℕ × Gate). p.0) e in
     omega (arith, first)
 
@@ -110,12 +110,12 @@ next_output names front old new outputs n target value within before is here the
 
 -- ---- elements
 
-pub each_mapped : {X Y : Type 0} (P : Y → Type 0) (f : X → Y) (xs : List X) → AllByRecursion P (map f xs) → (k : ℕ) (d : X) → k < length xs → P (f (get_or xs k d))
-each_mapped P f [] h k d lt = absurd (omega arith)
-each_mapped P f (x ∷ xs) h zero d lt = h.0
-each_mapped P f (x ∷ xs) h (suc k) d lt = each_mapped P f xs h.1 k d (omega arith)
+pub each_read : {X Y : Type 0} (P : Y → Type 0) (f : X → Y) (xs : List X) → AllByRecursion P (map f xs) → (k : ℕ) (d x : X) → k < length xs → x ≡ get_or xs k d → P (f x)
+each_read P f [] h k d x lt is = absurd (omega arith)
+each_read P f (y ∷ xs) h zero d x lt is = subst (λ z. P (f z)) (sym is) h.0
+each_read P f (y ∷ xs) h (suc k) d x lt is = each_read P f xs h.1 k d x (omega arith) is
 
-pub each_got : {X : Type 0} (P : X → Type 0) (xs : List X) → AllByRecursion P xs → (k : ℕ) (d : X) → k < length xs → P (get_or xs k d)
-each_got P [] h k d lt = absurd (omega arith)
-each_got P (x ∷ xs) h zero d lt = h.0
-each_got P (x ∷ xs) h (suc k) d lt = each_got P xs h.1 k d (omega arith)
+pub read_mapped : {X Y : Type 0} (f : X → Y) (xs : List X) (k : ℕ) (d x : X) → k < length xs → x ≡ get_or xs k d → slice_get (map f xs) k ≡ Some (f x)
+read_mapped f [] k d x lt is = absurd (omega arith)
+read_mapped f (y ∷ xs) zero d x lt is = ap (λ z. Some (f z)) (sym is)
+read_mapped f (y ∷ xs) (suc k) d x lt is = read_mapped f xs k d x (omega arith) is

@@ -9,6 +9,6 @@ use Rattle.av_build.proofs.selection.selection.Given as goal
 
 abbrev pub invariant-loop-k : goal.invariant-loop-k
 invariant-loop-k l =
-    AddsBuilt l.initial.gates.items l.gates.items
-    (options_built (wire_in l.names) l.width counter (length l.initial.gates.items) (operand_of (labels (program_of l.program)) l.width (source_of l.site.otherwise))
+    AddsBuilt l.fn.gates.items l.gates.items
+    (options_built (wire_in l.names) l.width counter (length l.fn.gates.items) (operand_of (labels (program_of l.program)) l.width (source_of l.site.otherwise))
     (map (option_of (labels (program_of l.program)) l.width) (map link_of (drop l.k l.links)))) l.root

@@ -9,6 +9,6 @@ use Rattle.av_build.proofs.turn.turns.Given as goal
 
 abbrev pub invariant-loop-k : goal.invariant-loop-k
 invariant-loop-k l =
-    AddsBuilt l.initial.gates.items l.gates.items
-    (turns_built (wire_in l.names) l.width counter (length l.initial.gates.items) (part_of (labels (program_of l.program)) l.width (work_of l.lane.otherwise))
+    AddsBuilt l.fn.gates.items l.gates.items
+    (turns_built (wire_in l.names) l.width counter (length l.fn.gates.items) (part_of (labels (program_of l.program)) l.width (work_of l.lane.otherwise))
     (map (turn_of (labels (program_of l.program)) l.width) (map shift_of (drop l.k l.shifts)))) l.root
