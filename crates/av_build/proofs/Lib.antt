@@ -38,3 +38,7 @@ pub mod InArrayForm
 pub mod Designs
 pub mod SoundDesigns
 pub mod InLines
+pub mod Chosen
+pub mod LaneParts
+pub mod Placing
+pub mod Turning
