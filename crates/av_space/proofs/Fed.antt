@@ -32,7 +32,7 @@ use Rattle.av_space.specs.Standing.{Computes}
 use Rattle.av_space.specs.Taps.{node_of, node_place, helper_at, Handing, IsReadAt}
 use Rattle.av_space.specs.Ports.{IsFed, IsPort, IsPortBefore, ArePorts, by_node, by_piece, by_site, by_cell}
 use Rattle.av_space.specs.Listings.{input_name, InLine, IsInLine, AreInLines}
-use Rattle.av_space.specs.inner.Layouts.{IsSlot, AreSlots}
+use Rattle.av_space.specs.Layouts.{IsSlot, AreSlots}
 use Rattle.av_space.specs.inner.Feeding.{direction_of, is_entered, line_of, lines_of, with_port, IsDone, ArePortsTo, IsFirstOf}
 use Rattle.av_space.specs.inner.Feeding.{by_node as node_done, by_piece as piece_done, by_site as site_done, by_cell as cell_done}
 use Rattle.av_space.proofs.ByPlace.{pair_at, place_of, pairs_by_place, from_map as got_from_map}

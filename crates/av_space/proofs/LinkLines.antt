@@ -12,7 +12,8 @@ use Rattle.av_space.specs.declared.lengths.Line.{Line}
 use Rattle.av_space.specs.Coordinates.{Placing}
 use Rattle.av_space.specs.Taps.{node_place, Way, each, entries, handed, helper_of, helper_read, IsTapped}
 use Rattle.av_space.specs.Links.{IsStretch, AreLinks, line_length, delay_count}
-use Rattle.av_space.specs.inner.Lengths.{is_line, length_in, line_of, AreLengths}
+use Rattle.av_space.specs.inner.Lengths.{is_line, line_of}
+use Rattle.av_space.specs.Lengths.{length_in, AreLengths}
 use Rattle.av_space.proofs.Elements.{in_range}
 use Rattle.av_space.proofs.FineSites.{IsKnown, fine_tap}
 use Rattle.av_space.proofs.LineLengths.{lengths_more, count_more, tapped_helper}

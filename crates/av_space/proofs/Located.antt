@@ -14,7 +14,7 @@ use Rattle.av_space.specs.declared.cells.Cell.{Cell}
 use Rattle.av_space.specs.declared.layout.Layout.{Layout}
 use Rattle.av_space.specs.Coordinates.{Placing, along}
 use Rattle.av_space.specs.Standing.{Stands, IsCellBefore}
-use Rattle.av_space.specs.inner.Layouts.{IsLayout}
+use Rattle.av_space.specs.Layouts.{IsLayout}
 use Rattle.av_space.specs.inner.Laying.{IsTimely}
 use Rattle.av_space.proofs.OneArray.{cells_in_turn}
 use Rattle.av_space.proofs.Grouped.{timely_of, timely_cycle}

@@ -16,7 +16,7 @@ use Rattle.av_space.specs.Coordinates.{Placing}
 use Rattle.av_space.specs.Standing.{AreCells}
 use Rattle.av_space.specs.Links.{AreLinks}
 use Rattle.av_space.specs.Taps.{node_place, Tap, taps, IsTapped}
-use Rattle.av_space.specs.inner.Layouts.{IsLayout}
+use Rattle.av_space.specs.Layouts.{IsLayout}
 use Rattle.av_space.specs.inner.Readings.{IsConsumer, IsSiteOn, IsReadingAt, IsReadingOf, AreReadings}
 use Rattle.av_space.specs.inner.Stretches.{HasLinks, IsAt, IsOnBelow, Told}
 use Rattle.av_space.proofs.Elements.{some_is, in_range}

@@ -1,4 +1,4 @@
-pub mod Layouts
+pub mod SetPoints
 pub mod Counting
 pub mod Feeding
 pub mod NodePieces

@@ -4,7 +4,7 @@ ghost use Rattle.std.specs.Prelude.{◌≡◌, ◌<◌, length, Some, slice_get,
 ghost use Rattle.av_flat.specs.Trees.{view_system};
 ghost use Rattle.av_flat.specs.Legal.{IsLegal};
 ghost use Rattle.av_space.specs.Links.{AreLinks, IsStretch, delay_count};
-ghost use Rattle.av_space.specs.inner.Layouts.{IsLayout};
+ghost use Rattle.av_space.specs.Layouts.{IsLayout};
 ghost use Rattle.av_space.specs.inner.Sites.{AreNodeTaps};
 ghost use Rattle.av_space.specs.inner.Lengths.{line_of};
 

@@ -7,7 +7,7 @@ ghost use Rattle.av_flat.specs.Nodes.{nodes};
 ghost use Rattle.av_space.specs.declared.layout.Slot.{Slot as SlotSeen};
 ghost use Rattle.av_space.specs.Taps.{node_place, taps, IsTapped};
 ghost use Rattle.av_space.specs.Links.{AreLinks};
-ghost use Rattle.av_space.specs.inner.Layouts.{IsLayout};
+ghost use Rattle.av_space.specs.Layouts.{IsLayout};
 ghost use Rattle.av_space.specs.inner.Sites.{tap_of, AreNodeTaps};
 ghost use Rattle.av_space.specs.inner.Readings.{IsFineTap, IsSite, IsReadingAt, IsReadingOf, AreReadings, IsConsumer};
 ghost use Rattle.av_space.specs.inner.Stretches.{HasLinks, IsAt, IsOn};

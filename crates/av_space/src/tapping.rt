@@ -3,7 +3,8 @@
 ghost use Rattle.std.specs.Prelude.{◌≡◌, ◌+◌, ◌<◌, ◌≤◌, ◌++◌, ◌&&◌, nat_eq, length, map, IfOk, OnOk, slice_get};
 ghost use Rattle.av_flat.specs.Trees.{view, view_piece, view_system, view_variable};
 ghost use Rattle.av_space.specs.Taps.{places_from, helper_at, computed_at, taps_by, taps_at, is_own, taps};
-ghost use Rattle.av_space.specs.inner.Sites.{HasPlaces, place_of, tap_of, taps_where};
+ghost use Rattle.av_space.specs.inner.Sites.{HasPlaces, tap_of, taps_where};
+ghost use Rattle.av_space.specs.Sites.{place_of};
 
 use crate::tap::{Handing, Place, TapSite, Way};
 use av_base::{List, Memory, Point};
