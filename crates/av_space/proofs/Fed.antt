@@ -81,7 +81,7 @@ get_cases [] y x (suc k) e = absurd cc
 get_cases (z ∷ xs) y x zero e = inl e
 get_cases (z ∷ xs) y x (suc k) e = ⊎_elim (λ f. inl f) (λ f. inr (ap suc f.0, f.1)) (get_cases xs y x k e)
 
-from_filter : {X : Type 0} (p : X → Bool) (xs : List X) (x : X) → Contains (filter p xs) x → Contains xs x × IsTrue (p x)
+pub from_filter : {X : Type 0} (p : X → Bool) (xs : List X) (x : X) → Contains (filter p xs) x → Contains xs x × IsTrue (p x)
 from_filter p xs x c =
     let i = got (filter p xs) x c in
     let j = place_of p xs i.0 x i.1 in

@@ -30,7 +30,7 @@ module _ (t : Timed) (l : Layout) (legal : IsLegal t) (layout : IsLayout t l) (p
   abbrev Of : ℕ → ℕ → ℕ → Type 0
   Of = IsReadingOf (view_system t.flat) l.placements l.cells n tap piece slots
 
-  to_tapped : (c q d : ℕ) → Of c q d → Tapped p j c q d
+  pub to_tapped : (c q d : ℕ) → Of c q d → Tapped p j c q d
   to_tapped c q d r = record {
     node = n;
     point = r.point;

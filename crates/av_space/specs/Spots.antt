@@ -1,6 +1,6 @@
 -- What a netlist is built from: the pieces on each cell of an array with their computations, the places of a piece that
 -- read, and where each of them reads.
-use Rattle.std.specs.Prelude.{◌≡◌, ℕ, ◌<◌, ◌≤◌, List, All, AllPairs, Any, Contains, IsTrue, Option, Some, None, length, map, slice_get}
+use Rattle.std.specs.Prelude.{◌≡◌, ℕ, ◌<◌, ◌≤◌, List, All, AllPairs, Contains, IsTrue, Option, Some, None, length, map, slice_get}
 use Rattle.av_affine.specs.declared.map.Map.{Map}
 use Rattle.av_poly.specs.Points.{Set}
 use Rattle.av_tree.specs.Points.{Point}
@@ -85,7 +85,7 @@ pub record IsSpot (a : Array) (at : Spot) : Type 0 where
 pub record AreSpots (a : Array) (p : ℕ) (spots : List Spot) : Type 0 where
   pub each : All (λ at. (at.cell ≡ p) × (0 < length at.slots) × IsSpot a at) spots
   pub all : (c n : ℕ) (z : Point) (v : Variable) (k : ℕ) (piece : Piece) → ComputesIn a p c n z → slice_get (nodes (system_of a)) n ≡ Some v
-      → slice_get v.pieces k ≡ Some piece → IsTrue (has piece.domain z) → Any (λ at. at.number ≡ k) spots
+      → slice_get v.pieces k ≡ Some piece → IsTrue (has piece.domain z) → Contains (map (λ at. at.number) spots) k
   pub order : AllPairs (λ at of. at.number < of.number) spots
 
 -- the first and the last cycle of these computations
@@ -131,6 +131,9 @@ handed_tap p h = record { place = p; way = handed h.number h.direction }
 abbrev pub own_way : Option Handing → Way
 own_way None = each
 own_way (Some h) = entries h.direction
+
+abbrev pub own_tap : Place → Option Handing → Tap
+own_tap p h = record { place = p; way = own_way h }
 
 -- in cycle c the reference with the number i, to the variable at a place under the map m, reads at a port, or over a link
 pub data IsReferenceOrigin (a : Array) (at : Spot) (c i place : ℕ) (m : Map) (way : Way) : Origin → Type 0 where

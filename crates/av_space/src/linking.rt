@@ -31,8 +31,8 @@ struct Consumer<'a> {
     slots: &'a [Slot],
 }
 
-// What a tap site reads at a computation of its cell.
-fn reading_at(
+/// What a tap site reads at a computation of its cell.
+pub(crate) fn reading_at(
     timed: &Timed,
     layout: &Layout,
     node: usize,
@@ -88,8 +88,8 @@ fn readings(
     Ok(readings)
 }
 
-// The piece with this number.
-fn piece_at(var: &Var, number: usize) -> &Piece
+/// The piece with this number.
+pub(crate) fn piece_at(var: &Var, number: usize) -> &Piece
     requires { number < length var.now.pieces }
     ensures { slice_get (view_variable var.now).pieces number ≡ Some (view_piece result.now) }
 {

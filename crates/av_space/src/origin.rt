@@ -1,6 +1,6 @@
 //! Where the pieces on the cells of an array read.
 
-ghost use Rattle.std.specs.Prelude.{ℕ, ◌≡◌, ◌↔◌, ◌<◌, IsTrue, AllPairs, Contains, Some, length, slice_get, MatchOption};
+ghost use Rattle.std.specs.Prelude.{ℕ, ◌≡◌, ◌↔◌, ◌<◌, IsTrue, All, AllPairs, Contains, Some, length, slice_get, MatchOption};
 ghost use Rattle.av_tree.specs.Points.{Point as PointSeen};
 ghost use Rattle.av_flat.specs.Helped.{before};
 ghost use Rattle.av_flat.specs.Points.{has};
@@ -8,7 +8,7 @@ ghost use Rattle.av_flat.specs.Trees.{view, view_piece};
 ghost use Rattle.av_space.specs.Ports.{IsPortBefore};
 ghost use Rattle.av_space.specs.Sites.{place_of};
 ghost use Rattle.av_space.specs.Spots.{own_way};
-ghost use Rattle.av_space.specs.Taps.{IsReadAt, IsTapRead, handed};
+ghost use Rattle.av_space.specs.Taps.{IsReadAt, IsReadBy, IsTapRead};
 ghost use Rattle.av_space.specs.inner.Sites.{tap_of, way_of};
 
 use crate::array::Array;
@@ -21,6 +21,7 @@ use crate::tap::{Handing, TapSite, Way};
 use crate::tapping::{is_computed_at, same};
 use av_base::{Point, Word};
 use av_flat::Tree;
+use std::marker::Model;
 
 /// Where a place of a piece reads in a cycle.
 #[derive(Clone, Copy, Debug, PartialEq, Eq)]
@@ -36,28 +37,48 @@ pub enum Origin {
     Number(Word),
 }
 
+/// A port whose reference has numbers that are not known to fit 32 bits.
+#[derive(Clone, Copy, Debug, PartialEq, Eq)]
+pub(crate) struct PortPlace {
+    pub(crate) cell: usize,
+    pub(crate) piece: usize,
+    pub(crate) site: usize,
+}
+
+impl Model for PortPlace {
+    ghost use Rattle.av_space.specs.declared.cells.InPort.{InPort};
+
+    ghost Value = { InPort };
+
+    ghost view = { λ p. record { cell = p.cell; piece = p.piece; site = p.site } };
+
+    ghost inverse = { λ p. record { cell = p.cell; piece = p.piece; site = p.site } };
+}
+
 // Whether the first port comes before the second.
-fn is_port_before(cells: &[Cell], a: &InPort, b: &InPort) -> bool
+fn is_port_before(cells: &[Cell], a: &InPort, b: &PortPlace) -> bool
     requires first { a.now.cell < length cells.now }
     requires second { b.now.cell < length cells.now }
     ensures { IsTrue result ↔ IsPortBefore cells.now a.now b.now }
 {
     let node = cells[a.cell as usize].node;
-    let other = cells[b.cell as usize].node;
+    let other = cells[b.cell].node;
     if node != other {
         return node < other;
     }
-    if a.piece != b.piece {
-        return a.piece < b.piece;
+    let piece = a.piece as usize;
+    if piece != b.piece {
+        return piece < b.piece;
     }
-    if a.site != b.site {
-        return a.site < b.site;
+    let site = a.site as usize;
+    if site != b.site {
+        return site < b.site;
     }
-    a.cell < b.cell
+    (a.cell as usize) < b.cell
 }
 
 // The number of a port among the ports.
-fn port_at(cells: &[Cell], ports: &[InPort], port: &InPort) -> usize
+fn port_at(cells: &[Cell], ports: &[InPort], port: &PortPlace) -> usize
     requires cells { All (λ p. p.cell < length cells.now) ports.now }
     requires order { AllPairs (IsPortBefore cells.now) ports.now }
     requires there { Contains ports.now port.now }
@@ -87,8 +108,8 @@ fn own_way(handing: &Option<Handing>) -> Way
 }
 
 impl Array<'_> {
-    ghost use Rattle.av_space.specs.Spots.{IsArray, IsSpot, IsSlotIn, IsSiteOf, handed_tap, IsLinkedBy, IsOriginBy};
-    ghost use Rattle.av_space.specs.inner.SpotTaps.{IsSpotTap, IsPortSite};
+    ghost use Rattle.av_space.specs.Spots.{IsArray, IsSpot, IsSlotIn, IsSiteOf, system_of, handed_tap, own_tap, IsLinkedBy, IsOriginBy};
+    ghost use Rattle.av_space.specs.inner.SpotTaps.{IsSpotTap, IsComputedRead, IsPortSite};
 
     // What a tap site of a piece reads at a computation.
     fn reading(&self, spot: &Spot<'_>, tap: &TapSite<'_>, slot: &Slot) -> Option<Reading>
@@ -119,17 +140,27 @@ impl Array<'_> {
         requires entered { IsReadAt site.now.handing (view_piece spot.now.piece.now) slot.now.point }
         ensures { slice_get self.now.cells.now.inputs result ≡ Some (record { cell = spot.now.cell; piece = spot.now.number; site = site.now.place.site }) }
     {
-        let port = InPort {
-            cell: spot.cell as u32,
-            piece: spot.number as u32,
-            site: site.place.site as u32,
+        let place = &site.place;
+        let port = PortPlace {
+            cell: spot.cell,
+            piece: spot.number,
+            site: place.site,
         };
         let cells = self.layout.cells.as_slice();
         port_at(cells, self.cells.inputs.as_slice(), &port)
     }
 
-    // Where a place whose variable is computed reads itself: over a link, if it reads.
+    // Where a place of a computed variable reads itself: over a link, where it reads.
     fn linked(&self, spot: &Spot<'_>, site: &Site<'_>, slot: &Slot) -> Option<Reading>
+        requires array { IsArray self.now }
+        requires spot { IsSpot self.now spot.now }
+        requires site { IsSiteOf self.now spot.now site.now }
+        requires computed { IsComputedRead (system_of self.now) (view site.now.place.tree) }
+        requires slot { IsSlotIn self.now spot.now.cell spot.now.node spot.now.piece.now.domain slot.now }
+        requires entered { IsReadAt site.now.handing (view_piece spot.now.piece.now) slot.now.point }
+        ensures { MatchOption result
+            ((place : ℕ) (y : PointSeen) → IsReadBy (view site.now.place.tree) slot.now.point place y → ⊥)
+            (λ r. IsLinkedBy self.now spot.now slot.now.cycle (own_tap (place_of site.now.place) site.now.handing) r.producer r.delay) }
     {
         let tap = TapSite {
             place: same(&site.place),
@@ -176,7 +207,8 @@ impl Array<'_> {
         requires entered { IsReadAt site.now.handing (view_piece spot.now.piece.now) slot.now.point }
         ensures { IsOriginBy self.now spot.now slot.now (place_of site.now.place) site.now.handing (view site.now.place.tree) result }
     {
-        match site.place.tree {
+        let place = &site.place;
+        match place.tree {
             Tree::Ref { var, .. } => {
                 if !is_computed_at(&self.timed.flat, *var) {
                     return Origin::Port(self.port(spot, site, slot));

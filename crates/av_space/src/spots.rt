@@ -10,6 +10,8 @@ ghost use Rattle.av_space.specs.inner.SetPoints.{IsPointOf};
 
 use crate::array::Array;
 use crate::layout::Slot;
+use crate::linking::piece_at;
+use crate::reading::is_in;
 use crate::standing::variable_of;
 use crate::tap::{Handing, Place};
 use crate::tapping::{helper_at, same, tree_places};
@@ -64,7 +66,7 @@ fn slots_in(alloc: Global, slots: &[Slot], set: &Poly) -> Result<List<Slot>, Mem
 {
     let mut own = List::new(alloc);
     for slot in slots {
-        if set.contains(&slot.point) {
+        if is_in(set, &slot.point) {
             own.push(slot.copied())?;
         }
     }
@@ -91,10 +93,9 @@ fn places<'a>(alloc: Global, number: usize, piece: &'a Piece) -> Result<List<Pla
 }
 
 impl<'a> Array<'a> {
-    ghost use Rattle.std.specs.Prelude.{Some, slice_get};
-    ghost use Rattle.av_flat.specs.Nodes.{nodes};
     ghost use Rattle.av_flat.specs.Trees.{view_variable};
-    ghost use Rattle.av_space.specs.Spots.{system_of, cells_of, IsArray, IsSpot, AreSpots, AreSites};
+    ghost use Rattle.av_space.specs.Spots.{cells_of, IsArray, IsSpot, AreSpots, AreSites};
+    ghost use Rattle.av_space.specs.inner.SpotTaps.{IsVariableOn, HasPiece};
 
     // The variable of the node of a cell.
     fn variable(&self, cell: usize) -> &'a Var
