@@ -59,3 +59,5 @@ pub mod ArrayParts
 pub mod SpotPlaces
 pub mod SpotReadings
 pub mod OnSpots
+pub mod PortOrder
+pub mod SlotEnds

@@ -41,6 +41,6 @@ pub use laws::{
 pub use layout::Slot;
 pub use mapping::map;
 pub use origin::Origin;
-pub use spots::{Ends, Site, Spot, ends};
+pub use spots::{Ends, Site, Spot, ends_of};
 pub use stretch::Reading;
 pub use tap::{Handing, Place};

@@ -81,6 +81,7 @@ fn is_port_before(cells: &[Cell], a: &InPort, b: &PortPlace) -> bool
 fn port_at(cells: &[Cell], ports: &[InPort], port: &PortPlace) -> usize
     requires cells { All (λ p. p.cell < length cells.now) ports.now }
     requires order { AllPairs (IsPortBefore cells.now) ports.now }
+    requires cell { port.now.cell < length cells.now }
     requires there { Contains ports.now port.now }
     ensures { slice_get ports.now result ≡ Some port.now }
 {

@@ -48,7 +48,7 @@ pub struct Site<'a> {
 }
 
 /// The first and the last cycle of computations by cycle.
-pub fn ends(slots: &[Slot]) -> Ends
+pub fn ends_of(slots: &[Slot]) -> Ends
     requires some { 0 < length slots.now }
     requires order { AllPairs (λ t u. t.cycle < u.cycle) slots.now }
     ensures { AreEnds slots.now result }
