@@ -23,7 +23,7 @@ use Rattle.av_space.specs.Coordinates.{Placing, along}
 use Rattle.av_space.specs.Standing.{Stands, Computes}
 use Rattle.av_space.specs.Taps.{places_in, places_from}
 use Rattle.av_space.specs.Quantities.{size, Use, IsUse, IsOperatorCount}
-use Rattle.av_space.specs.inner.Layouts.{IsLayout}
+use Rattle.av_space.specs.Layouts.{IsLayout}
 use Rattle.av_space.proofs.ByPlace.{there_is}
 use Rattle.av_space.proofs.Elements.{some_is, got, mapped}
 use Rattle.av_space.proofs.OperatorCounts.{tree_sizes, sizes_more}

@@ -32,7 +32,7 @@ use Rattle.av_space.specs.Standing.{Computes}
 use Rattle.av_space.specs.Taps.{node_of, node_place, helper_at, Handing, IsReadAt}
 use Rattle.av_space.specs.Ports.{IsFed, IsPort, IsPortBefore, ArePorts, by_node, by_piece, by_site, by_cell}
 use Rattle.av_space.specs.Listings.{input_name, InLine, IsInLine, AreInLines}
-use Rattle.av_space.specs.inner.Layouts.{IsSlot, AreSlots}
+use Rattle.av_space.specs.Layouts.{IsSlot, AreSlots}
 use Rattle.av_space.specs.inner.Feeding.{direction_of, is_entered, line_of, lines_of, with_port, IsDone, ArePortsTo, IsFirstOf}
 use Rattle.av_space.specs.inner.Feeding.{by_node as node_done, by_piece as piece_done, by_site as site_done, by_cell as cell_done}
 use Rattle.av_space.proofs.ByPlace.{pair_at, place_of, pairs_by_place, from_map as got_from_map}
@@ -81,7 +81,7 @@ get_cases [] y x (suc k) e = absurd cc
 get_cases (z ∷ xs) y x zero e = inl e
 get_cases (z ∷ xs) y x (suc k) e = ⊎_elim (λ f. inl f) (λ f. inr (ap suc f.0, f.1)) (get_cases xs y x k e)
 
-from_filter : {X : Type 0} (p : X → Bool) (xs : List X) (x : X) → Contains (filter p xs) x → Contains xs x × IsTrue (p x)
+pub from_filter : {X : Type 0} (p : X → Bool) (xs : List X) (x : X) → Contains (filter p xs) x → Contains xs x × IsTrue (p x)
 from_filter p xs x c =
     let i = got (filter p xs) x c in
     let j = place_of p xs i.0 x i.1 in

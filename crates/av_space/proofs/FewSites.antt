@@ -21,7 +21,7 @@ use Rattle.av_space.specs.Coordinates.{Placing}
 use Rattle.av_space.specs.Taps.{Handing, helper_at, computed_at, Place, Tap, node_place, places_in, places_from, taps_by, taps_at, is_own, all_taps, taps}
 use Rattle.av_space.specs.Links.{AreLinks}
 use Rattle.av_space.specs.Quantities.{size, Use, IsUse, IsOperatorCount}
-use Rattle.av_space.specs.inner.Layouts.{IsLayout}
+use Rattle.av_space.specs.Layouts.{IsLayout}
 use Rattle.av_space.proofs.Elements.{some_is, got, at_index, in_range, mapped}
 use Rattle.av_space.proofs.Nodes.{node_chained}
 use Rattle.av_space.proofs.OneCell.{one_node}

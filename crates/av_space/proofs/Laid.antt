@@ -19,9 +19,9 @@ use Rattle.av_space.specs.declared.ranked.Ranked.{Ranked}
 use Rattle.av_space.specs.Coordinates.{Placing, IsPlacing, ArePlacings}
 use Rattle.av_space.specs.Standing.{Stands, IsUsed, IsCellBefore, AreCells, Computes}
 use Rattle.av_space.specs.SpaceFaults.{IsCycles}
-use Rattle.av_space.specs.inner.Layouts.{AreSlots}
+use Rattle.av_space.specs.Layouts.{AreSlots}
 use Rattle.av_space.specs.inner.Laying.{HasFewCycles, HasCellCount, ranked_at, cell_of, AreRanked, IsRunEnd, AreCellsTo, AreCellsIn, IsFilled, AreFilled}
-use Rattle.av_space.specs.inner.Layouts.{IsSlot, IsLayout, places_of, numbers_of}
+use Rattle.av_space.specs.Layouts.{IsSlot, IsLayout, places_of, numbers_of}
 use Rattle.av_space.specs.declared.layout.Layout.{Layout}
 use Rattle.av_space.proofs.OneArray.{one_cells}
 use Rattle.av_flat.specs.Signatures.{signatures, is_computed}

@@ -55,3 +55,9 @@ pub mod SameArray
 pub mod LineLengths
 pub mod LinkLines
 pub mod FewSites
+pub mod ArrayParts
+pub mod SpotPlaces
+pub mod SpotReadings
+pub mod OnSpots
+pub mod PortOrder
+pub mod SlotEnds

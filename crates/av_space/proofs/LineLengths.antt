@@ -15,7 +15,8 @@ use Rattle.av_space.specs.declared.lengths.Line.{Line}
 use Rattle.av_space.specs.Coordinates.{Placing}
 use Rattle.av_space.specs.Taps.{taps_of, taps_on, node_of, helper_of, helper_in, helper_read, IsTapped}
 use Rattle.av_space.specs.Links.{is_same, reads_line, line_length, cell_length, delay_count}
-use Rattle.av_space.specs.inner.Lengths.{is_line, length_in, line_of, AreLengths}
+use Rattle.av_space.specs.inner.Lengths.{is_line, line_of}
+use Rattle.av_space.specs.Lengths.{length_in, AreLengths}
 
 -- ---- tests
 

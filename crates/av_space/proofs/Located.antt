@@ -2,7 +2,7 @@
 use Rattle.std.proofs.Common.{◌≡◌, ℕ, ◌+◌, ◌<◌, ◌≤◌, inl, inr, Some, List, [], ◌∷◌, length, get_or, refl, sym, ap, subst, ◌∙◌, arith}
 use Rattle.std.specs.Prelude.{slice_get, AllPairs, Contains, unsigned_abs}
 use Rattle.std.proofs.lemmas.Bool.{cases_lt}
-use Rattle.std.proofs.lemmas.Option.{slice_get-get_or, slice_get_within, get_or_from_slice_get}
+use Rattle.std.proofs.lemmas.Option.{slice_get-get_or, slice_get_within}
 use Rattle.av_tree.specs.Points.{Point}
 use Rattle.av_flat.specs.declared.timed.Timed.{Timed}
 use Rattle.av_flat.specs.Legal.{IsLegal}
@@ -14,9 +14,10 @@ use Rattle.av_space.specs.declared.cells.Cell.{Cell}
 use Rattle.av_space.specs.declared.layout.Layout.{Layout}
 use Rattle.av_space.specs.Coordinates.{Placing, along}
 use Rattle.av_space.specs.Standing.{Stands, IsCellBefore}
-use Rattle.av_space.specs.inner.Layouts.{IsLayout}
+use Rattle.av_space.specs.Layouts.{IsLayout}
 use Rattle.av_space.specs.inner.Laying.{IsTimely}
-use Rattle.av_space.proofs.OneArray.{cells_in_turn}
+use Rattle.av_space.proofs.ByPlace.{pair_at}
+use Rattle.av_space.proofs.Elements.{some_is}
 use Rattle.av_space.proofs.Grouped.{timely_of, timely_cycle}
 use Rattle.av_space.proofs.Laid.{few_cycles, placing_time, placings_number}
 use Rattle.av_space.proofs.Nodes.{computed_within}
@@ -35,55 +36,53 @@ pub some_after_empty : (ys : Point) → IsBefore [] ys → 0 < length ys
 some_after_empty [] h = absurd h
 some_after_empty (y ∷ ys) h = omega arith
 
--- ---- a search by halves
+-- ---- a search by halves, in a list that is in order
 
--- where the cell stands, it stands at a place between these
-pub record IsBetween (cells : List Cell) (cell : Cell) (low high : ℕ) : Type 0 where
-  pub each : (p : ℕ) → slice_get cells p ≡ Some cell → (low ≤ p) × (p ≤ high)
+-- where x stands, it stands at a place between these
+pub record IsBetween (X : Type 0) (xs : List X) (x : X) (low high : ℕ) : Type 0 where
+  pub each : (p : ℕ) → slice_get xs p ≡ Some x → (low ≤ p) × (p ≤ high)
 
-before_at : (cells : List Cell) (i j : ℕ) (a b : Cell) → AllPairs IsCellBefore cells → i < j → slice_get cells i ≡ Some a → slice_get cells j ≡ Some b → IsCellBefore a b
-before_at cells i j a b order l ea eb =
-    let lj = slice_get_within cells j b eb in
-    subst (λ (x : Cell). IsCellBefore x b) (get_or_from_slice_get cells i a a ea) (subst (λ (y : Cell). IsCellBefore (get_or cells i a) y) (get_or_from_slice_get cells j b a eb) (order i j a l lj))
+module _ (X : Type 0) (R : X → X → Type 0) (in_turn : (a b : X) → R a b → R b a → ⊥) (xs : List X) (x : X) (order : AllPairs R xs) where
+  before_at : (i j : ℕ) (a b : X) → i < j → slice_get xs i ≡ Some a → slice_get xs j ≡ Some b → R a b
+  before_at i j a b l ea eb = pair_at R xs order i j a b ea eb l
 
-pub higher : (cells : List Cell) (cell middle : Cell) (low high m : ℕ) → AllPairs IsCellBefore cells → slice_get cells m ≡ Some middle → IsCellBefore middle cell → IsBetween cells cell low high → IsBetween cells cell (m + 1) high
-higher cells cell middle low high m order em before h = record {
-  each = λ p e. (
-    (elim (cases_lt m p) [
-      | inl lt ↦ omega (arith, lt)
-      | inr ge ↦ (elim (cases_lt p m) [
-        | inl less ↦ absurd (cells_in_turn cell middle (before_at cells p m cell middle order less e em) before)
-        | inr more ↦ (
-            let same : p ≡ m = omega (arith, ge, more) in
-            let em' : slice_get cells p ≡ Some middle = ap (λ (k : ℕ). slice_get cells k) same ∙ em in
-            let one : middle ≡ cell = cc in
-            let itself = subst (λ (w : Cell). IsCellBefore w cell) one before in
-            absurd (cells_in_turn cell cell itself itself))
-      ])
-    ]),
-    (h.each p e).1,
-  );
-}
+  pub higher : (middle : X) (low high m : ℕ) → slice_get xs m ≡ Some middle → R middle x → IsBetween X xs x low high → IsBetween X xs x (m + 1) high
+  higher middle low high m em before h = record {
+    each = λ p e. (
+      (elim (cases_lt m p) [
+        | inl lt ↦ omega (arith, lt)
+        | inr ge ↦ (elim (cases_lt p m) [
+          | inl less ↦ absurd (in_turn x middle (before_at p m x middle less e em) before)
+          | inr more ↦ (
+              let same : p ≡ m = omega (arith, ge, more) in
+              let one : middle ≡ x = some_is middle x (sym em ∙ ap (λ (k : ℕ). slice_get xs k) (sym same) ∙ e) in
+              let itself = subst (λ (w : X). R w x) one before in
+              absurd (in_turn x x itself itself))
+        ])
+      ]),
+      (h.each p e).1,
+    );
+  }
 
-pub lower : (cells : List Cell) (cell middle : Cell) (low high m : ℕ) → AllPairs IsCellBefore cells → slice_get cells m ≡ Some middle → (IsCellBefore middle cell → ⊥) → IsBetween cells cell low high → IsBetween cells cell low m
-lower cells cell middle low high m order em not h = record {
-  each = λ p e. (
-    (h.each p e).0,
-    (elim (cases_lt m p) [
-      | inl lt ↦ absurd (not (before_at cells m p middle cell order lt em e))
-      | inr ge ↦ ge
-    ]),
-  );
-}
+  pub lower : (middle : X) (low high m : ℕ) → slice_get xs m ≡ Some middle → (R middle x → ⊥) → IsBetween X xs x low high → IsBetween X xs x low m
+  lower middle low high m em not h = record {
+    each = λ p e. (
+      (h.each p e).0,
+      (elim (cases_lt m p) [
+        | inl lt ↦ absurd (not (before_at m p middle x lt em e))
+        | inr ge ↦ ge
+      ]),
+    );
+  }
 
-pub found : (cells : List Cell) (cell : Cell) (low high : ℕ) → high ≤ low → Contains cells cell → IsBetween cells cell low high → slice_get cells low ≡ Some cell
-found cells cell low high l there h =
-    let e : slice_get cells there.0 ≡ Some cell = slice_get-get_or cells there.0 cell there.1 ∙ ap Some there.2 in
-    let k = h.each there.0 e in
-    let a = k.0 in
-    let b = k.1 in
-    let same : low ≡ there.0 = omega (arith, a, b, l) in
-    ap (λ (i : ℕ). slice_get cells i) same ∙ e
+  pub found : (low high : ℕ) → high ≤ low → Contains xs x → IsBetween X xs x low high → slice_get xs low ≡ Some x
+  found low high l there h =
+      let e : slice_get xs there.0 ≡ Some x = slice_get-get_or xs there.0 x there.1 ∙ ap Some there.2 in
+      let k = h.each there.0 e in
+      let a = k.0 in
+      let b = k.1 in
+      let same : low ≡ there.0 = omega (arith, a, b, l) in
+      ap (λ (i : ℕ). slice_get xs i) same ∙ e
 
 -- ---- computations
 

@@ -25,7 +25,7 @@ use Rattle.av_space.specs.Ports.{IsPort}
 use Rattle.av_space.specs.Quantities.{IsOperatorCount}
 use Rattle.av_space.specs.Taps.{node_of, node_place}
 use Rattle.av_space.specs.inner.Feeding.{IsFirstOf}
-use Rattle.av_space.specs.inner.Layouts.{IsLayout}
+use Rattle.av_space.specs.Layouts.{IsLayout}
 use Rattle.av_space.specs.inner.NodePieces.{IsNodePiece, IsPart, IsSmallNode, ArePortsOf, ArePortsAt}
 use Rattle.av_space.proofs.ByPlace.{there_is, read_at}
 use Rattle.av_space.proofs.Elements.{some_is, mapped}

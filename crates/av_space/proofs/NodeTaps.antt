@@ -11,7 +11,7 @@ use Rattle.av_flat.specs.Trees.{Variable, FlatSystem}
 use Rattle.av_flat.specs.Nodes.{nodes}
 use Rattle.av_space.specs.Taps.{node_place, Tap, taps, taps_of}
 use Rattle.av_space.specs.inner.Sites.{TapMade, tap_of, AreTapsTo, AreNodeTaps}
-use Rattle.av_space.specs.inner.Layouts.{places_of}
+use Rattle.av_space.specs.Layouts.{places_of}
 
 -- one more value of a function
 one_value_more : {X : Type 0} (f : ℕ → X) (k : ℕ) → map f (range_with_len 0 (k + 1)) ≡ map f (range_with_len 0 k) ++ f k ∷ []

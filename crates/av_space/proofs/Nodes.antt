@@ -24,7 +24,7 @@ use Rattle.av_depend.proofs.Adds.{variable_at}
 use Rattle.av_depend.proofs.Small.{small_point}
 use Rattle.av_space.specs.Taps.{place_from, node_place}
 use Rattle.av_space.specs.inner.Laying.{AreNodePoints}
-use Rattle.av_space.specs.inner.Layouts.{places_of}
+use Rattle.av_space.specs.Layouts.{places_of}
 
 -- ---- places
 

@@ -14,7 +14,7 @@ use Rattle.av_flat.specs.Nodes.{is_node, nodes}
 use Rattle.av_flat.specs.Legal.{IsLegal}
 use Rattle.av_flat.proofs.Sets.{has_is}
 use Rattle.av_flat.proofs.Solving.{all_at}
-use Rattle.av_space.specs.inner.Layouts.{IsPointOf}
+use Rattle.av_space.specs.inner.SetPoints.{IsPointOf}
 use Rattle.av_depend.proofs.Small.{small_point}
 use Rattle.av_space.specs.declared.cells.Cell.{Cell}
 use Rattle.av_space.specs.declared.layout.Slot.{Slot}
@@ -23,7 +23,7 @@ use Rattle.av_space.specs.Coordinates.{Placing}
 use Rattle.av_space.specs.Standing.{Computes, AreCells, IsUsed}
 use Rattle.av_space.specs.Taps.{place_from, node_place}
 use Rattle.av_space.specs.Quantities.{IsUse}
-use Rattle.av_space.specs.inner.Layouts.{IsSlot, AreSlots, IsLayout, places_of}
+use Rattle.av_space.specs.Layouts.{IsSlot, AreSlots, IsLayout, places_of}
 use Rattle.av_space.proofs.ByPlace.{place_of}
 use Rattle.av_space.proofs.Elements.{some_is}
 

@@ -21,7 +21,7 @@ use Rattle.av_space.specs.declared.stretch.Reading.{Reading}
 use Rattle.av_space.specs.Coordinates.{Placing, along}
 use Rattle.av_space.specs.Standing.{AreCells, IsCellBefore, Computes}
 use Rattle.av_space.specs.Taps.{node_place, Way, each, entries, handed, Tap, taps, IsReadBy, IsTapRead}
-use Rattle.av_space.specs.inner.Layouts.{IsLayout, IsSlot}
+use Rattle.av_space.specs.Layouts.{IsLayout, IsSlot}
 use Rattle.av_space.specs.inner.Readings.{IsSiteOn, IsReadingAt}
 use Rattle.av_space.proofs.Elements.{some_is, at_index}
 use Rattle.av_space.proofs.Nodes.{passing, own_place, node_chained, computed_small}

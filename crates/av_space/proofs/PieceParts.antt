@@ -19,7 +19,7 @@ use Rattle.av_flat.specs.Signatures.{Signature, signatures, signature, is_input,
 use Rattle.av_flat.specs.WellFormed.{EachPart, Fits, HasSmallRows, dimension_of}
 use Rattle.av_flat.proofs.Solving.{all_at}
 use Rattle.av_poly.specs.Points.{Set}
-use Rattle.av_space.specs.inner.Layouts.{IsPointOf}
+use Rattle.av_space.specs.inner.SetPoints.{IsPointOf}
 use Rattle.av_depend.proofs.Adds.{variable_at}
 use Rattle.av_space.specs.declared.cells.InPort.{InPort}
 use Rattle.av_space.specs.declared.layout.Slot.{Slot}
@@ -40,7 +40,7 @@ use Rattle.av_space.proofs.OnCells.{IsCellOf, at_place, place_of_node, node_in_p
 
 -- ---- parts
 
-stand_left : {X : Type 0} (j : ℕ) (xs ys whole : List X) → StandAt j (xs ++ ys) whole → StandAt j xs whole
+pub stand_left : {X : Type 0} (j : ℕ) (xs ys whole : List X) → StandAt j (xs ++ ys) whole → StandAt j xs whole
 stand_left {X} j xs ys whole h i x e = h i x (left xs i e)
   where
     left : (xs : List X) (i : ℕ) → slice_get xs i ≡ Some x → slice_get (xs ++ ys) i ≡ Some x
@@ -48,7 +48,7 @@ stand_left {X} j xs ys whole h i x e = h i x (left xs i e)
     left (y ∷ xs) zero e = e
     left (y ∷ xs) (suc i) e = left xs i e
 
-stand_right : {X : Type 0} (j : ℕ) (xs ys whole : List X) → StandAt j (xs ++ ys) whole → StandAt (j + length xs) ys whole
+pub stand_right : {X : Type 0} (j : ℕ) (xs ys whole : List X) → StandAt j (xs ++ ys) whole → StandAt (j + length xs) ys whole
 stand_right {X} j xs ys whole h i x e =
     let a : j + (length xs + i) ≡ j + length xs + i = omega arith in
     subst (λ (n : ℕ). slice_get whole n ≡ Some x) a (h (length xs + i) x (right xs i e))

@@ -12,7 +12,7 @@ use Rattle.av_space.specs.Standing.{AreCells}
 use Rattle.av_space.specs.Links.{AreLinks, delay_count}
 use Rattle.av_space.specs.Quantities.{IsOperatorCount}
 use Rattle.av_space.specs.SpaceFaults.{HasCells, HasLinks, IsCycles, IsCellNumber, IsDelays, IsLinkNumber, IsOperators, IsWithin, IsSpaceFault}
-use Rattle.av_space.specs.inner.Layouts.{IsLayout}
+use Rattle.av_space.specs.Layouts.{IsLayout}
 use Rattle.av_space.specs.inner.Quantified.{AreWithin, LinksOf, delays_of}
 use Rattle.av_space.proofs.OnePlacing.{one_placings}
 use Rattle.av_space.proofs.OneArray.{one_cells, one_cycle_count}

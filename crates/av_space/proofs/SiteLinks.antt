@@ -16,7 +16,7 @@ use Rattle.av_space.specs.Coordinates.{Placing}
 use Rattle.av_space.specs.Standing.{AreCells}
 use Rattle.av_space.specs.Links.{AreLinks}
 use Rattle.av_space.specs.Taps.{node_place, Tap, taps, IsTapped}
-use Rattle.av_space.specs.inner.Layouts.{IsLayout}
+use Rattle.av_space.specs.Layouts.{IsLayout}
 use Rattle.av_space.specs.inner.Readings.{IsConsumer, IsSiteOn, IsReadingAt, IsReadingOf, AreReadings}
 use Rattle.av_space.specs.inner.Stretches.{HasLinks, IsAt, IsOnBelow, Told}
 use Rattle.av_space.proofs.Elements.{some_is, in_range}
@@ -30,7 +30,7 @@ module _ (t : Timed) (l : Layout) (legal : IsLegal t) (layout : IsLayout t l) (p
   abbrev Of : ℕ → ℕ → ℕ → Type 0
   Of = IsReadingOf (view_system t.flat) l.placements l.cells n tap piece slots
 
-  to_tapped : (c q d : ℕ) → Of c q d → Tapped p j c q d
+  pub to_tapped : (c q d : ℕ) → Of c q d → Tapped p j c q d
   to_tapped c q d r = record {
     node = n;
     point = r.point;

@@ -29,6 +29,7 @@ use Rattle.av_flat.specs.Broadcasts.{references}
 use Rattle.av_flat.specs.Reads.{IsRead, IsPair}
 use Rattle.av_flat.specs.Chained.{ReadsThere}
 use Rattle.av_flat.specs.Helped.{before}
+use Rattle.av_space.specs.inner.SpotTaps.{IsComputedRead}
 use Rattle.av_space.specs.Taps.{Handing, helper_at, Place, places_in, places_from, Way, each, entries, handed, Tap, computed_at, taps_by, taps_at, is_own, all_taps, taps, IsReadBy, IsTapRead}
 use Rattle.av_space.proofs.Elements.{some_is, both_each, each_weaker, each_at, got, get_contained, mapped, in_range}
 use Rattle.av_space.proofs.NodePlaces.{node_at}
@@ -36,17 +37,17 @@ use Rattle.av_space.proofs.NodePlaces.{node_at}
 -- ---- where taps come from
 
 -- what the place reads is read by the tree
-abbrev IsPart : Tree → Tree → Type 0
+abbrev pub IsPart : Tree → Tree → Type 0
 IsPart t tree = (z : Point) (place : ℕ) (y : Point) → IsReadBy t z place y → IsRead tree z place y
 
-record IsPlaceIn (k : ℕ) (tree : Tree) (p : Place) : Type 0 where
-  piece_is : p.piece ≡ k
-  part : IsPart p.tree tree
+pub record IsPlaceIn (k : ℕ) (tree : Tree) (p : Place) : Type 0 where
+  pub piece_is : p.piece ≡ k
+  pub part : IsPart p.tree tree
 
 in_larger : (k : ℕ) (small large : Tree) → ((z : Point) (place : ℕ) (y : Point) → IsRead small z place y → IsRead large z place y) → (ps : List Place) → AllByRecursion (IsPlaceIn k small) ps → AllByRecursion (IsPlaceIn k large) ps
 in_larger k small large f ps h = each_weaker (IsPlaceIn k small) (IsPlaceIn k large) (λ p x. record { piece_is = x.piece_is; part = λ z place y r. f z place y (x.part z place y r) }) ps h
 
-places_are : (k n : ℕ) (tree : Tree) → AllByRecursion (IsPlaceIn k tree) (places_in k n tree)
+pub places_are : (k n : ℕ) (tree : Tree) → AllByRecursion (IsPlaceIn k tree) (places_in k n tree)
 places_are k n (reference place m) = (record { piece_is = refl; part = λ z place y r. r }, tt)
 places_are k n (constant w) = tt
 places_are k n (binary g l r) =
@@ -92,10 +93,10 @@ places_of k (q ∷ pieces) =
     (each_weaker (IsPlaceOf (suc k) pieces) (IsPlaceOf k (q ∷ pieces)) (λ p x. record { number = suc x.number; number_is = x.number_is ∙ omega arith; piece = x.piece; is_piece = x.is_piece; part = x.part }) (places_from (suc k) pieces) (places_of (suc k) pieces))
 
 -- what is tapped is computed, and a helper's tap is of the helper of its reference
-abbrev IsComputedRead : FlatSystem → Tree → Type 0
-IsComputedRead s (reference place m) = computed_at (slice_get s.variables place) ≡ true
-IsComputedRead s (pick place choices n) = computed_at (slice_get s.variables place) ≡ true
-IsComputedRead s _ = ⊥
+pub computed_there : (s : FlatSystem) (t : Tree) → IsComputedRead s t → (z : Point) (place : ℕ) (y : Point) → IsReadBy t z place y → computed_at (slice_get s.variables place) ≡ true
+computed_there s (reference q m) c z place y r = subst (λ i. computed_at (slice_get s.variables i) ≡ true) (sym r.0) c
+computed_there s (pick q choices m) c z place y r = subst (λ i. computed_at (slice_get s.variables i) ≡ true) (sym r.0) c
+computed_there s _ c z place y r = absurd c
 
 abbrev IsFair : FlatSystem → List Helper → ℕ → Place → Way → Type 0
 IsFair s hs own p each = IsComputedRead s p.tree
@@ -228,6 +229,49 @@ pub one_piece_of : (s : FlatSystem) (hs : List Helper) (placings : List Placing)
     → (j k : ℕ) (p q : Piece) → slice_get v.pieces j ≡ Some p → slice_get v.pieces k ≡ Some q → has p.domain z ≡ true → has q.domain z ≡ true → j ≡ k
 one_piece_of s hs placings cells g v z among computed declared j k p q at bt hp hq = one_piece z v.pieces (omega (arith, one_hit s hs placings cells g v z among computed declared)) j k p q at bt hp hq
 
+-- ---- what a piece reads
+
+-- a variable with its point at a place
+pub record IsDeclaredRead (s : FlatSystem) (place : ℕ) (y : Point) : Type 0 where
+  pub variable : Variable
+  pub is : slice_get s.variables place ≡ Some variable
+  pub declared : has variable.domain y ≡ true
+
+pub read_declared : (s : FlatSystem) (hs : List Helper) (placings : List Placing) (cells : List CellMade) → Scheduled s hs placings cells → (v : Variable) → Contains s.variables v
+    → (k : ℕ) (piece : Piece) → slice_get v.pieces k ≡ Some piece → (z : Point) → has piece.domain z ≡ true → (place : ℕ) (y : Point) → IsRead piece.tree z place y → IsDeclaredRead s place y
+read_declared s hs placings cells g v among k piece is_piece z inside place y read =
+    let w = declared_is s.variables place y (read_there (signatures s) piece.domain piece.tree (g.reads v k piece among is_piece) z place y inside read) in
+    record { variable = w.0; is = w.1; declared = w.2 }
+
+-- a computed one, which is a node
+pub record IsNodeRead (s : FlatSystem) (place : ℕ) (y : Point) : Type 0 where
+  pub variable : Variable
+  pub is : slice_get s.variables place ≡ Some variable
+  pub declared : has variable.domain y ≡ true
+  pub computed : is_computed variable.kind ≡ true
+  pub node : is_node variable ≡ true
+
+pub read_node : (s : FlatSystem) (hs : List Helper) (placings : List Placing) (cells : List CellMade) → Scheduled s hs placings cells → (v : Variable) → Contains s.variables v
+    → (k : ℕ) (piece : Piece) → slice_get v.pieces k ≡ Some piece → (z : Point) → has piece.domain z ≡ true → (place : ℕ) (y : Point) → IsRead piece.tree z place y
+    → computed_at (slice_get s.variables place) ≡ true → IsNodeRead s place y
+read_node s hs placings cells g v among k piece is_piece z inside place y read computed =
+    let w = read_declared s hs placings cells g v among k piece is_piece z inside place y read in
+    let is_comp : is_computed w.variable.kind ≡ true = subst (λ (o : Option Variable). computed_at o ≡ true) w.is computed in
+    let some = some_piece_of s hs placings cells g w.variable y (get_contained s.variables place w.variable w.is) is_comp w.declared in
+    record {
+      variable = w.variable;
+      is = w.is;
+      declared = w.declared;
+      computed = is_comp;
+      node = both_true (is_computed w.variable.kind) (nat_lt 0 (length w.variable.pieces)) is_comp (less 0 (length w.variable.pieces) (omega (arith, in_range w.variable.pieces some.0 some.1 some.2)));
+    }
+  where
+    both_true : (a b : Bool) → a ≡ true → b ≡ true → (a && b) ≡ true
+    both_true a b e f = rw (e, f) refl
+
+    less : (m n : ℕ) → m < n → nat_lt m n ≡ true
+    less m n h = grind arith
+
 pub there_is : {X : Type 0} (xs : List X) (k : ℕ) → k < length xs → (x : X) × (slice_get xs k ≡ Some x)
 there_is [] k lt = absurd (omega arith)
 there_is (x ∷ xs) zero lt = (x, refl)
@@ -284,29 +328,20 @@ earlier s hs placings cells g p c n z own v is_own node number computes piece j 
         → (q : ℕ) × (b : ℕ) × (d : ℕ) × (b + d ≡ c) × (0 < d) × Computes s placings cells q b k y
     of_pair place part r e computed =
         let read = part z place y r in
-        let declared = read_there (signatures s) piece.domain piece.tree (g.reads v tap.place.piece piece among is_piece) z place y inside read in
-        let w = declared_is s.variables place y declared in
-        let is_comp : is_computed w.0.kind ≡ true = subst (λ (o : Option Variable). computed_at o ≡ true) w.1 computed in
-        let some = some_piece_of s hs placings cells g w.0 y (get_contained s.variables place w.0 w.1) is_comp w.2 in
-        let is_one : is_node w.0 ≡ true = both_true (is_computed w.0.kind) (nat_lt 0 (length w.0.pieces)) is_comp (less 0 (length w.0.pieces) (omega (arith, in_range w.0.pieces some.0 some.1 some.2))) in
-        let comp : IsComputation s k y = record { variable = w.0; is = subst (λ m. slice_get (nodes s) m ≡ Some w.0) (sym e) (node_at s.variables place w.0 w.1 is_one); declared = w.2 } in
+        let w = read_node s hs placings cells g v among tap.place.piece piece is_piece z inside place y read computed in
+        let comp : IsComputation s k y =
+        record { variable = w.variable; is = subst (λ m. slice_get (nodes s) m ≡ Some w.variable) (sym e) (node_at s.variables place w.variable w.is w.node); declared = w.declared } in
         let pair : IsPair s n z k y = record {
           reader = v;
           is_reader = is_reader;
           place = place;
           reads = record { piece = piece; among = get_contained v.pieces tap.place.piece piece is_piece; within = inside; read = read };
-          producer = w.0;
-          is_producer = w.1;
-          computed = is_comp;
+          producer = w.variable;
+          is_producer = w.is;
+          computed = w.computed;
           number = e;
         } in
         placed comp (λ t u it iu. g.schedule.later n z k y t u pair it iu)
-      where
-        both_true : (a b : Bool) → a ≡ true → b ≡ true → (a && b) ≡ true
-        both_true a b e f = rw (e, f) refl
-
-        less : (m n : ℕ) → m < n → nat_lt m n ≡ true
-        less m n h = grind arith
 
     -- the tree of a tap
     part_of : IsTapOf s hs own v tap → IsPart tap.place.tree piece.tree
@@ -314,11 +349,6 @@ earlier s hs placings cells g p c n z own v is_own node number computes piece j 
         let o = good.of_place in
         let e : o.piece ≡ piece = some_is o.piece piece (sym o.is_piece ∙ sym (ap (slice_get v.pieces) (o.number_is ∙ omega arith)) ∙ is_piece) in
         subst (λ (q : Piece). IsPart tap.place.tree q.tree) e o.part
-
-    computed_there : (t : Tree) → IsComputedRead s t → (place : ℕ) → IsReadBy t z place y → computed_at (slice_get s.variables place) ≡ true
-    computed_there (reference q m) c place r = subst (λ i. computed_at (slice_get s.variables i) ≡ true) (sym r.0) c
-    computed_there (pick q choices m) c place r = subst (λ i. computed_at (slice_get s.variables i) ≡ true) (sym r.0) c
-    computed_there _ c place r = absurd c
 
     -- a helper's own word
     of_hand : (h : ℕ) (w : Point) → helper_at hs own tap.place.piece tap.place.site ≡ Some (record { number = h; direction = w }) → IsTapRead s n tap.place.tree (handed h w) piece z k y
@@ -332,6 +362,6 @@ earlier s hs placings cells g p c n z own v is_own node number computes piece j 
         subst (λ (x : Time). (cycle x y +ℤ pos 1) ≤ℤ cycle t z) (sym same) (subst (λ (x : Point). (cycle t x +ℤ pos 1) ≤ℤ cycle t z) (sym r.1) late))
 
     by_way : (way : Way) → IsFair s hs own tap.place way → IsTapRead s n tap.place.tree way piece z k y → IsPart tap.place.tree piece.tree → (q : ℕ) × (b : ℕ) × (d : ℕ) × (b + d ≡ c) × (0 < d) × Computes s placings cells q b k y
-    by_way each fair r part = of_pair r.0 part r.1 r.2 (computed_there tap.place.tree fair r.0 r.1)
-    by_way (entries w) fair r part = of_pair r.1.0 part r.1.1 r.1.2 (computed_there tap.place.tree fair r.1.0 r.1.1)
+    by_way each fair r part = of_pair r.0 part r.1 r.2 (computed_there s tap.place.tree fair z r.0 y r.1)
+    by_way (entries w) fair r part = of_pair r.1.0 part r.1.1 r.1.2 (computed_there s tap.place.tree fair z r.1.0 y r.1.1)
     by_way (handed h w) fair r part = of_hand h w fair r

@@ -2,6 +2,7 @@ pub mod Coordinates
 pub mod Standing
 pub mod Taps
 pub mod Links
+pub mod Lengths
 pub mod Ports
 pub mod Listings
 pub mod Quantities
@@ -9,4 +10,7 @@ pub mod SpaceFaults
 pub mod Arrays
 pub mod Whole
 pub mod ArrayForm
+pub mod Layouts
+pub mod Sites
+pub mod Spots
 pub mod inner

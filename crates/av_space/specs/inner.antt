@@ -1,4 +1,4 @@
-pub mod Layouts
+pub mod SetPoints
 pub mod Counting
 pub mod Feeding
 pub mod NodePieces
@@ -9,3 +9,4 @@ pub mod Laying
 pub mod Lengths
 pub mod Quantified
 pub mod Showing
+pub mod SpotTaps

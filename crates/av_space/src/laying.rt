@@ -8,7 +8,7 @@ ghost use Rattle.av_space.specs.declared.cells.Cell.{Cell as CellSeen};
 ghost use Rattle.av_space.specs.Coordinates.{Placing, IsPlacing, ArePlacings};
 ghost use Rattle.av_space.specs.Standing.{AreCells};
 ghost use Rattle.av_space.specs.SpaceFaults.{IsCycles, IsSpaceFault};
-ghost use Rattle.av_space.specs.inner.Layouts.{IsLayout, places_of, numbers_of};
+ghost use Rattle.av_space.specs.Layouts.{IsLayout, places_of, numbers_of};
 ghost use Rattle.av_space.specs.inner.Laying.{HasFewCycles, HasCellCount, AreCellsIn, AreFilled};
 
 use crate::cells::Cell;
@@ -19,7 +19,7 @@ use crate::placement::Placement;
 use crate::placing::placements;
 use crate::ranked::{Ranked, node_ranked, run_end};
 use crate::standing::{numbers, places};
-use av_base::{List, Memory, Point};
+use av_base::{List, Memory};
 use av_flat::Timed;
 use std::alloc::Global;
 
@@ -80,10 +80,7 @@ fn slots_of(alloc: Global, ranked: &[Ranked]) -> Result<List<Slot>, Memory>
 {
     let mut slots = List::new(alloc);
     for computation in ranked {
-        slots.push(Slot {
-            cycle: computation.slot.cycle,
-            point: Point::from_slice(computation.slot.point.as_slice()),
-        })?;
+        slots.push(computation.slot.copied())?;
     }
     Ok(slots)
 }

@@ -1,12 +1,26 @@
+ghost use Rattle.std.specs.Prelude.{◌≡◌};
+
 use crate::cells::Cell;
 use crate::placement::Placement;
 use av_base::{List, Point};
 
 /// A computation on a cell: its cycle and its point.
 #[derive(Debug, Drop)]
-pub(crate) struct Slot {
-    pub(crate) cycle: u32,
-    pub(crate) point: Point,
+pub struct Slot {
+    pub cycle: u32,
+    pub point: Point,
+}
+
+impl Slot {
+    /// The same slot once more.
+    pub(crate) fn copied(&self) -> Slot
+        ensures { result ≡ self.now }
+    {
+        Slot {
+            cycle: self.cycle,
+            point: Point::from_slice(self.point.as_slice()),
+        }
+    }
 }
 
 /// Where and when the computations of a scheduled system stand.

@@ -2,7 +2,8 @@
 
 ghost use Rattle.std.specs.Prelude.{◌≡◌, ◌-◌, ◌^◌, ◌<◌, max, if◌then◌else◌, IfOk, OnOk};
 ghost use Rattle.av_space.specs.declared.lengths.Line.{Line as LineSeen};
-ghost use Rattle.av_space.specs.inner.Lengths.{is_line, length_in};
+ghost use Rattle.av_space.specs.inner.Lengths.{is_line};
+ghost use Rattle.av_space.specs.Lengths.{length_in};
 
 use av_base::Memory;
 use std::collections::BTreeMap;

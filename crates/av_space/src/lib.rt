@@ -2,6 +2,7 @@
 //! listing of where each input point is presented and each computed point is shown.
 #![tactic(auto)]
 
+mod array;
 mod cells;
 mod cycles;
 mod fault;
@@ -15,6 +16,7 @@ mod linking;
 mod locate;
 mod mapping;
 mod numbered;
+mod origin;
 mod operators;
 mod placement;
 mod placing;
@@ -23,15 +25,22 @@ mod ports;
 mod ranked;
 mod reading;
 mod shown;
+mod spots;
 mod standing;
 mod stretch;
 mod tap;
 mod tapping;
 
+pub use array::Array;
 pub use cells::{Cell, Cells, InPort, Link};
 pub use fault::SpaceFault;
 pub use laws::{
     between_points, coordinates_have_inverses, one_point, presenting_streams,
     quantities_are_unique, same_systems_have_the_same_faults, whole_listings,
 };
+pub use layout::Slot;
 pub use mapping::map;
+pub use origin::Origin;
+pub use spots::{Ends, Site, Spot, ends_of};
+pub use stretch::Reading;
+pub use tap::{Handing, Place};

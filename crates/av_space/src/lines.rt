@@ -4,10 +4,12 @@ ghost use Rattle.std.specs.Prelude.{◌≡◌, ◌<◌, length, Some, slice_get,
 ghost use Rattle.av_flat.specs.Trees.{view_system};
 ghost use Rattle.av_flat.specs.Legal.{IsLegal};
 ghost use Rattle.av_space.specs.Links.{AreLinks, IsStretch, delay_count};
-ghost use Rattle.av_space.specs.inner.Layouts.{IsLayout};
+ghost use Rattle.av_space.specs.Layouts.{IsLayout};
+ghost use Rattle.av_space.specs.Lengths.{AreLengths};
 ghost use Rattle.av_space.specs.inner.Sites.{AreNodeTaps};
 ghost use Rattle.av_space.specs.inner.Lengths.{line_of};
 
+use crate::cells::Link;
 use crate::layout::Layout;
 use crate::lengths::{Line, lengthened};
 use crate::linking::{node_taps, taps_of_node};
@@ -38,6 +40,27 @@ fn line_of(timed: &Timed, layout: &Layout, sites: &[List<TapSite<'_>>], stretch:
         cell: stretch.producer,
         helper: site_at(own, stretch.site).helper(),
     }
+}
+
+/// The length of each delay line that these links read, all in one pass over them.
+pub(crate) fn line_lengths(
+    alloc: Global,
+    timed: &Timed,
+    layout: &Layout,
+    links: &[Link],
+) -> Result<BTreeMap<Line, u32>, Memory>
+    requires legal { IsLegal timed.now }
+    requires layout { IsLayout timed.now layout.now }
+    requires links { AreLinks (view_system timed.now.flat) timed.now.helpers layout.now.placements layout.now.cells links.now }
+    ensures { IfOk result (AreLengths (view_system timed.now.flat) timed.now.helpers layout.now.cells links.now) }
+{
+    let sites = node_taps(alloc, timed, layout)?;
+    let mut lengths = BTreeMap::new(alloc);
+    for link in links {
+        let line = line_of(timed, layout, sites.as_slice(), &Stretch::of_link(link));
+        lengthened(&mut lengths, line, link.delay)?;
+    }
+    Ok(lengths)
 }
 
 /// The registers of all delay lines together: of each line the greatest delay at which it is read.

@@ -7,7 +7,7 @@ ghost use Rattle.av_flat.specs.Nodes.{nodes};
 ghost use Rattle.av_space.specs.declared.layout.Slot.{Slot as SlotSeen};
 ghost use Rattle.av_space.specs.Taps.{node_place, taps, IsTapped};
 ghost use Rattle.av_space.specs.Links.{AreLinks};
-ghost use Rattle.av_space.specs.inner.Layouts.{IsLayout};
+ghost use Rattle.av_space.specs.Layouts.{IsLayout};
 ghost use Rattle.av_space.specs.inner.Sites.{tap_of, AreNodeTaps};
 ghost use Rattle.av_space.specs.inner.Readings.{IsFineTap, IsSite, IsReadingAt, IsReadingOf, AreReadings, IsConsumer};
 ghost use Rattle.av_space.specs.inner.Stretches.{HasLinks, IsAt, IsOn};
@@ -31,8 +31,8 @@ struct Consumer<'a> {
     slots: &'a [Slot],
 }
 
-// What a tap site reads at a computation of its cell.
-fn reading_at(
+/// What a tap site reads at a computation of its cell.
+pub(crate) fn reading_at(
     timed: &Timed,
     layout: &Layout,
     node: usize,
@@ -88,8 +88,8 @@ fn readings(
     Ok(readings)
 }
 
-// The piece with this number.
-fn piece_at(var: &Var, number: usize) -> &Piece
+/// The piece with this number.
+pub(crate) fn piece_at(var: &Var, number: usize) -> &Piece
     requires { number < length var.now.pieces }
     ensures { slice_get (view_variable var.now).pieces number ≡ Some (view_piece result.now) }
 {

@@ -6,7 +6,7 @@ ghost use Rattle.av_flat.specs.Nodes.{IsComputation};
 ghost use Rattle.av_flat.specs.Legal.{IsLegal};
 ghost use Rattle.av_flat.specs.Order.{IsBefore};
 ghost use Rattle.av_space.specs.Standing.{IsCellBefore, Computes};
-ghost use Rattle.av_space.specs.inner.Layouts.{IsLayout};
+ghost use Rattle.av_space.specs.Layouts.{IsLayout};
 
 use crate::cells::Cell;
 use crate::layout::{Layout, Located};

@@ -6,7 +6,7 @@ ghost use Rattle.av_space.specs.declared.fault.SpaceFault.{SpaceFault as Fault};
 ghost use Rattle.av_space.specs.declared.fault.SpaceFault.TheVariants as fault;
 ghost use Rattle.av_space.specs.SpaceFaults.{IsSpaceFault};
 ghost use Rattle.av_space.specs.Whole.{IsWhole};
-ghost use Rattle.av_space.specs.inner.Layouts.{IsLayout};
+ghost use Rattle.av_space.specs.Layouts.{IsLayout};
 ghost use Rattle.av_space.specs.inner.Quantified.{HasOperators, AreWithin, IsLaidOut, LinksOf, delays_of};
 
 use crate::cells::Cells;

@@ -5,10 +5,10 @@ ghost use Rattle.std.specs.Prelude.{ℕ, ◌≡◌, ◌↔◌, ◌<◌, All, Any
 ghost use Rattle.av_flat.specs.Legal.{IsLegal};
 ghost use Rattle.av_flat.specs.Points.{has};
 ghost use Rattle.av_flat.specs.Trees.{view, view_system};
-ghost use Rattle.av_space.specs.inner.Layouts.{IsPointOf};
+ghost use Rattle.av_space.specs.inner.SetPoints.{IsPointOf};
 ghost use Rattle.av_space.specs.Quantities.{size, IsOperatorCount};
 ghost use Rattle.av_space.specs.inner.Counting.{capped, IsCappedCount, IsOnCell};
-ghost use Rattle.av_space.specs.inner.Layouts.{IsLayout};
+ghost use Rattle.av_space.specs.Layouts.{IsLayout};
 
 use crate::layout::{Layout, Slot};
 use crate::standing::variable_of;

@@ -5,14 +5,14 @@ ghost use Rattle.std.specs.Prelude.{ℕ, ◌≡◌, ◌<◌, ◌≤◌, ◌+◌,
 ghost use Rattle.av_flat.specs.Broadcasts.{references};
 ghost use Rattle.av_flat.specs.Legal.{IsLegal};
 ghost use Rattle.av_flat.specs.Trees.{reference, view, view_system};
-ghost use Rattle.av_space.specs.inner.Layouts.{IsPointOf};
+ghost use Rattle.av_space.specs.inner.SetPoints.{IsPointOf};
 ghost use Rattle.av_space.specs.Listings.{AreInLines};
 ghost use Rattle.av_space.specs.Ports.{ArePorts};
 ghost use Rattle.av_space.specs.Quantities.{IsOperatorCount};
 ghost use Rattle.av_space.specs.Standing.{IsCellBefore};
 ghost use Rattle.av_space.specs.inner.Feeding.{is_entered, with_port, IsReadable, IsFirstOf};
 ghost use Rattle.av_space.specs.inner.NodePieces.{IsNodePiece, IsPart, IsInputSite, ArePortsAt, ArePortsOf, IsSmallNode};
-ghost use Rattle.av_space.specs.inner.Layouts.{IsLayout};
+ghost use Rattle.av_space.specs.Layouts.{IsLayout};
 
 use crate::cells::{Cell, InPort};
 use crate::input_site::{InputSite, direction_of};

@@ -10,7 +10,7 @@ ghost use Rattle.av_flat.specs.Values.{picked};
 ghost use Rattle.av_flat.specs.Helped.{before};
 ghost use Rattle.av_flat.specs.Nodes.{number_at};
 ghost use Rattle.av_space.specs.Taps.{IsReadBy, IsTapRead};
-ghost use Rattle.av_space.specs.inner.Layouts.{IsLayout};
+ghost use Rattle.av_space.specs.Layouts.{IsLayout};
 ghost use Rattle.av_space.specs.inner.Sites.{tap_of, way_of};
 ghost use Rattle.av_space.specs.inner.Readings.{IsReadable, IsFineTap, IsSmallIn};
 

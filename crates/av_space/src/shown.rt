@@ -8,7 +8,7 @@ ghost use Rattle.av_flat.specs.Signatures.{is_kind, is_shown};
 ghost use Rattle.av_flat.specs.Trees.{view_system};
 ghost use Rattle.av_space.specs.Listings.{IsWireOf, IsAtLine, AreAtLines};
 ghost use Rattle.av_space.specs.Ports.{output_cells};
-ghost use Rattle.av_space.specs.inner.Layouts.{IsLayout};
+ghost use Rattle.av_space.specs.Layouts.{IsLayout};
 ghost use Rattle.av_space.specs.inner.Showing.{IsShownNode, AreLinesBelow};
 
 use crate::layout::Layout;

@@ -3,7 +3,7 @@
 ghost use Rattle.std.specs.Prelude.{◌≡◌, ◌<◌, length, Some, slice_get, IfOk};
 ghost use Rattle.av_flat.specs.Trees.{view_system, view_variable};
 ghost use Rattle.av_flat.specs.Nodes.{nodes};
-ghost use Rattle.av_space.specs.inner.Layouts.{places_of, numbers_of};
+ghost use Rattle.av_space.specs.Layouts.{places_of, numbers_of};
 
 use av_base::{List, Memory};
 use av_flat::{Flat, Var};

@@ -3,15 +3,16 @@
 ghost use Rattle.std.specs.Prelude.{◌≡◌, ◌↔◌, [], ◌∷◌, ◌++◌, IsTrue, OnOk};
 ghost use Rattle.av_space.specs.inner.Stretches.{HasLinks, IsAt, Told, AreByCycle};
 
+use crate::cells::Link;
 use av_base::{List, Memory};
 use std::marker::Model;
 
 /// In this cycle a tap site reads what the producer had some cycles before.
 #[derive(Clone, Copy, Debug, PartialEq, Eq)]
-pub(crate) struct Reading {
-    pub(crate) cycle: u32,
-    pub(crate) producer: u32,
-    pub(crate) delay: u32,
+pub struct Reading {
+    pub cycle: u32,
+    pub producer: u32,
+    pub delay: u32,
 }
 
 /// A link whose tap site has a number that is not known to fit 32 bits.
@@ -33,6 +34,22 @@ impl Model for Stretch {
     ghost view = { λ s. record { consumer = s.consumer; producer = s.producer; site = s.site; delay = s.delay; first = s.first; last = s.last } };
 
     ghost inverse = { λ l. record { consumer = l.consumer; producer = l.producer; site = l.site; delay = l.delay; first = l.first; last = l.last } };
+}
+
+impl Stretch {
+    /// The stretch of a link.
+    pub(crate) fn of_link(link: &Link) -> Stretch
+        ensures { result ≡ link.now }
+    {
+        Stretch {
+            consumer: link.consumer,
+            producer: link.producer,
+            site: link.site as usize,
+            delay: link.delay,
+            first: link.first,
+            last: link.last,
+        }
+    }
 }
 
 // The stretch that begins with a reading.

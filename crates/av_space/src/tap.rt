@@ -20,9 +20,9 @@ pub(crate) enum Way {
 
 /// The helper of a reference: its number, and its direction.
 #[derive(Debug, Drop)]
-pub(crate) struct Handing {
-    pub(crate) number: usize,
-    pub(crate) direction: Point,
+pub struct Handing {
+    pub number: usize,
+    pub direction: Point,
 }
 
 impl Model for Handing {
@@ -35,16 +35,16 @@ impl Model for Handing {
 
 /// A place of a piece that reads: the number of the piece, and of the reference in it.
 #[derive(Debug, Drop)]
-pub(crate) struct Place<'a> {
-    pub(crate) piece: usize,
-    pub(crate) site: usize,
-    pub(crate) tree: &'a Tree,
+pub struct Place<'a> {
+    pub piece: usize,
+    pub site: usize,
+    pub tree: &'a Tree,
 }
 
 impl<'a> Model for Place<'a> {
     ghost use Rattle.std.specs.Coded.{codes};
     ghost use Rattle.av_flat.specs.contracts.tree.Tree as made;
-    ghost use Rattle.av_space.specs.inner.Sites.{PlaceMade};
+    ghost use Rattle.av_space.specs.Sites.{PlaceMade};
 
     ghost Value = { PlaceMade };
 

@@ -3,7 +3,8 @@
 ghost use Rattle.std.specs.Prelude.{◌≡◌, ◌+◌, ◌<◌, ◌≤◌, ◌++◌, ◌&&◌, nat_eq, length, map, IfOk, OnOk, slice_get};
 ghost use Rattle.av_flat.specs.Trees.{view, view_piece, view_system, view_variable};
 ghost use Rattle.av_space.specs.Taps.{places_from, helper_at, computed_at, taps_by, taps_at, is_own, taps};
-ghost use Rattle.av_space.specs.inner.Sites.{HasPlaces, place_of, tap_of, taps_where};
+ghost use Rattle.av_space.specs.inner.Sites.{HasPlaces, tap_of, taps_where};
+ghost use Rattle.av_space.specs.Sites.{place_of};
 
 use crate::tap::{Handing, Place, TapSite, Way};
 use av_base::{List, Memory, Point};
@@ -18,8 +19,8 @@ fn next_site(site: usize, places: &[Place<'_>]) -> usize
     site + 1
 }
 
-// Puts the places of a tree behind others; the number of the next reference.
-fn tree_places<'a>(
+/// Puts the places of a tree behind others; the number of the next reference.
+pub(crate) fn tree_places<'a>(
     piece: usize,
     site: usize,
     tree: &'a Tree,
@@ -95,8 +96,8 @@ pub(crate) fn helper_at(
     None
 }
 
-// Whether a computed variable stands at this place.
-fn is_computed_at(flat: &Flat, place: u32) -> bool
+/// Whether a computed variable stands at this place.
+pub(crate) fn is_computed_at(flat: &Flat, place: u32) -> bool
     ensures { result ≡ computed_at (slice_get (view_system flat.now).variables place) }
 {
     match flat.vars.as_slice().get(place as usize) {
@@ -105,8 +106,8 @@ fn is_computed_at(flat: &Flat, place: u32) -> bool
     }
 }
 
-// The same place.
-fn same<'a>(place: &Place<'a>) -> Place<'a>
+/// The same place.
+pub(crate) fn same<'a>(place: &Place<'a>) -> Place<'a>
     ensures { result ≡ place.now }
 {
     Place {

@@ -1,32 +1,16 @@
--- Lengths of delay lines in a table.
-use Rattle.std.specs.Prelude.{◌≡◌, ℕ, ◌&&◌, Bool, nat_eq, List, unwrap_or}
-use Rattle.std.specs.Ordering.{nat_cmp, ordering_then}
-use Rattle.std.specs.Option.{option_cmp}
-use Rattle.std.specs.declared.cmp.Ordering.{Ordering}
-use Rattle.std.specs.BTreeMap.{BTreeMap, get}
+-- Lines of links.
+use Rattle.std.specs.Prelude.{ℕ, ◌&&◌, Bool, nat_eq, List}
 use Rattle.av_flat.specs.Trees.{FlatSystem}
 use Rattle.av_flat.specs.declared.timed.Helper.{Helper}
 use Rattle.av_space.specs.declared.cells.Cell.{Cell}
 use Rattle.av_space.specs.declared.cells.Link.{Link}
 use Rattle.av_space.specs.declared.lengths.Line.{Line}
 use Rattle.av_space.specs.Taps.{helper_read}
-use Rattle.av_space.specs.Links.{is_same, line_length}
-
--- by cell, and then by helper
-abbrev pub line_cmp : Line → Line → Ordering
-line_cmp a b = ordering_then (nat_cmp a.cell b.cell) (option_cmp nat_cmp a.helper b.helper)
+use Rattle.av_space.specs.Links.{is_same}
 
 abbrev pub is_line : Line → Line → Bool
 is_line a b = nat_eq a.cell b.cell && is_same a.helper b.helper
 
--- the length of a line in a table, 0 where it has none
-abbrev pub length_in : BTreeMap Line ℕ → Line → ℕ
-length_in table line = unwrap_or (get line_cmp table line) 0
-
 -- the line that a link reads
 abbrev pub line_of : FlatSystem → List Helper → List Cell → Link → Line
 line_of s hs cells l = record { cell = l.producer; helper = helper_read s hs cells l.consumer l.site }
-
--- the table has the length of each line that these links read
-abbrev pub AreLengths : FlatSystem → List Helper → List Cell → List Link → BTreeMap Line ℕ → Type 0
-AreLengths s hs cells links table = (q : Line) → length_in table q ≡ line_length s hs cells links q.cell q.helper

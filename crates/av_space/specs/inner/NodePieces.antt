@@ -13,7 +13,7 @@ use Rattle.av_space.specs.declared.ports.NodePiece.{NodePiece}
 use Rattle.av_space.specs.declared.ports.Ports.{Ports}
 use Rattle.av_space.specs.Taps.{node_place, helper_at}
 use Rattle.av_space.specs.inner.Feeding.{direction_of, IsReadable, IsFirstOf, StandAt, ArePortsTo}
-use Rattle.av_space.specs.inner.Layouts.{IsLayout}
+use Rattle.av_space.specs.Layouts.{IsLayout}
 
 abbrev pub ArePortsOf : Timed → Layout → ℕ → ℕ → ℕ → Ports → Type 0
 ArePortsOf t l n k p ports = ArePortsTo (view_system t.flat) t.helpers l.placements l.cells n k 0 p ports

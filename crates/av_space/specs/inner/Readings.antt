@@ -14,7 +14,7 @@ use Rattle.av_space.specs.declared.stretch.Reading.{Reading}
 use Rattle.av_space.specs.Coordinates.{Placing}
 use Rattle.av_space.specs.Standing.{Computes}
 use Rattle.av_space.specs.Taps.{Way, each, entries, handed, Tap, node_place, taps, IsTapRead}
-use Rattle.av_space.specs.inner.Layouts.{AreSlots}
+use Rattle.av_space.specs.Layouts.{AreSlots}
 use Rattle.av_space.specs.inner.Stretches.{AreByCycle}
 
 -- ---- sites

@@ -14,7 +14,7 @@ use Rattle.av_space.specs.declared.shown.ShownNode.{ShownNode}
 use Rattle.av_space.specs.Coordinates.{Placing}
 use Rattle.av_space.specs.Listings.{AtLine, IsAtLine}
 use Rattle.av_space.specs.Ports.{output_cells}
-use Rattle.av_space.specs.inner.Layouts.{IsLayout}
+use Rattle.av_space.specs.Layouts.{IsLayout}
 
 pub record IsShownNode (shown : ShownNode) : Type 0 where
   pub legal : IsLegal shown.timed.now

@@ -8,19 +8,12 @@ use Rattle.av_flat.specs.Broadcasts.{references}
 use Rattle.av_flat.specs.Nodes.{nodes}
 use Rattle.av_space.specs.declared.tap.Way.{Way as WayMade}
 use Rattle.av_space.specs.declared.tap.Way.TheVariants as made
+use Rattle.av_space.specs.Sites.{PlaceMade, place_of}
 use Rattle.av_space.specs.Taps.{Place, Way, each, entries, handed, Tap, places_in, taps_at, taps_of, is_own}
-
-pub record PlaceMade : Type 0 where
-  pub piece : ℕ
-  pub site : ℕ
-  pub tree : TreeMade
 
 pub record TapMade : Type 0 where
   pub place : PlaceMade
   pub way : WayMade
-
-abbrev pub place_of : PlaceMade → Place
-place_of p = record { piece = p.piece; site = p.site; tree = view p.tree }
 
 abbrev pub way_of : WayMade → Way
 way_of made.Each = each

@@ -4,7 +4,8 @@ use Rattle.std.specs.Map.{lookup}
 use Rattle.std.specs.Ordering.{is_eq}
 use Rattle.av_flat.specs.Trees.{view_system}
 use Rattle.av_space.specs.declared.cells.Link.{Link}
-use Rattle.av_space.specs.inner.Lengths.{line_cmp, line_of}
+use Rattle.av_space.specs.Lengths.{line_cmp}
+use Rattle.av_space.specs.inner.Lengths.{line_of}
 use Rattle.av_space.proofs.LineLengths.{none_counted}
 use Rattle.av_space.proofs.LinkLines.{one_link_more}
 use Rattle.av_space.proofs.lines.delay_count.Goals as goal

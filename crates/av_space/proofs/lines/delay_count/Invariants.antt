@@ -1,7 +1,7 @@
 use Rattle.std.proofs.Common.{◌≡◌, ◌*◌, ◌≤◌, take}
 use Rattle.av_flat.specs.Trees.{view_system}
 use Rattle.av_space.specs.Links.{delay_count}
-use Rattle.av_space.specs.inner.Lengths.{AreLengths}
+use Rattle.av_space.specs.Lengths.{AreLengths}
 use Rattle.av_space.proofs.lines.delay_count.Given as goal
 
 abbrev pub invariant-loop-stretch : goal.invariant-loop-stretch

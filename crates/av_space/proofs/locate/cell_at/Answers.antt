@@ -1,6 +1,8 @@
 use Rattle.std.proofs.Common.{◌∙◌, ◌<◌, ◌≤◌, ◌+◌, ◌-◌, ◌/◌, ℕ, Some, length, arith, sym, ap}
 use Rattle.std.proofs.lemmas.Option.{slice_get-get_or}
 use Rattle.av_space.specs.declared.cells.Cell.{Cell}
+use Rattle.av_space.specs.Standing.{IsCellBefore}
+use Rattle.av_space.proofs.OneArray.{cells_in_turn}
 use Rattle.av_space.proofs.Located.{higher, lower, found}
 use Rattle.av_space.proofs.locate.cell_at.Goals as goal
 
@@ -17,7 +19,7 @@ loop-low-preserved-then-is_cell_before c =
     let h = halved low high (length cells) c.loop-low-test.true c.loop-low.invariant.fits in
     let x = c.index-cells-middle.result in
     record {
-      between = higher cells own x low high m c.requires.order (slice_get-get_or cells m x h.1 ∙ ap Some (sym c.index-cells-middle.is)) (c.is_cell_before.ensures.0 c.if-is_cell_before.true) c.loop-low.invariant.between;
+      between = higher Cell IsCellBefore cells_in_turn cells own c.requires.order x low high m (slice_get-get_or cells m x h.1 ∙ ap Some (sym c.index-cells-middle.is)) (c.is_cell_before.ensures.0 c.if-is_cell_before.true) c.loop-low.invariant.between;
       fits = c.loop-low.invariant.fits;
     }
 
@@ -33,9 +35,9 @@ loop-low-preserved c =
     let f = c.if-is_cell_before.false in
     let k = h.1 in
     record {
-      between = lower cells own x low high m c.requires.order (slice_get-get_or cells m x h.1 ∙ ap Some (sym c.index-cells-middle.is)) (λ b. let t = c.is_cell_before.ensures.1 b in cc) c.loop-low.invariant.between;
+      between = lower Cell IsCellBefore cells_in_turn cells own c.requires.order x low high m (slice_get-get_or cells m x h.1 ∙ ap Some (sym c.index-cells-middle.is)) (λ b. let t = c.is_cell_before.ensures.1 b in cc) c.loop-low.invariant.between;
       fits = omega (arith, k);
     }
 
 pub returns : goal.returns
-returns c = found c.args.cells.now (record { node = c.args.node; at = c.args.at.now }) c.loop-low.low c.loop-low.high c.loop-low-test.false c.requires.there c.loop-low.invariant.between
+returns c = found Cell IsCellBefore cells_in_turn c.args.cells.now (record { node = c.args.node; at = c.args.at.now }) c.requires.order c.loop-low.low c.loop-low.high c.loop-low-test.false c.requires.there c.loop-low.invariant.between

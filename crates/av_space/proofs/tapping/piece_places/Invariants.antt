@@ -1,7 +1,7 @@
 use Rattle.std.proofs.Common.{◌≡◌, ◌++◌, map, drop}
 use Rattle.av_flat.specs.Trees.{view_piece}
 use Rattle.av_space.specs.Taps.{places_from}
-use Rattle.av_space.specs.inner.Sites.{place_of}
+use Rattle.av_space.specs.Sites.{place_of}
 use Rattle.av_space.proofs.tapping.piece_places.Given as goal
 
 abbrev pub invariant-loop-number : goal.invariant-loop-number

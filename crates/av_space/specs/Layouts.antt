@@ -1,8 +1,6 @@
 -- Layouts of legal systems: cells with the computations on each by cycle, within the limits on cycles and cells.
 use Rattle.std.specs.Prelude.{◌≡◌, ℕ, ◌<◌, ◌≤◌, List, All, AllPairs, Contains, Some, slice_get, length, map}
 use Rattle.std.specs.List.{range_with_len}
-use Rattle.av_affine.specs.Numbers.{AtMost}
-use Rattle.av_poly.specs.Points.{Set}
 use Rattle.av_tree.specs.Points.{Point}
 use Rattle.av_flat.specs.declared.timed.Timed.{Timed}
 use Rattle.av_flat.specs.Trees.{FlatSystem, view_system}
@@ -14,12 +12,6 @@ use Rattle.av_space.specs.Coordinates.{Placing, ArePlacings}
 use Rattle.av_space.specs.Standing.{AreCells, Computes}
 use Rattle.av_space.specs.Taps.{node_place}
 use Rattle.av_space.specs.Quantities.{IsCycleCount}
-
--- one entry for each index of the set, at most four, within the limit on coordinates
-pub record IsPointOf (set : Set) (z : Point) : Type 0 where
-  pub size : length z ≡ set.dim
-  pub few : length z ≤ 4
-  pub entries : AtMost 4095 z
 
 -- the computation is on the cell with this number
 pub record IsSlot (s : FlatSystem) (placings : List Placing) (cells : List Cell) (p : ℕ) (t : Slot) : Type 0 where

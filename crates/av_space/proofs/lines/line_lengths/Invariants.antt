@@ -1,0 +1,7 @@
+use Rattle.std.proofs.Common.{take}
+use Rattle.av_flat.specs.Trees.{view_system}
+use Rattle.av_space.specs.Lengths.{AreLengths}
+use Rattle.av_space.proofs.lines.line_lengths.Given as goal
+
+abbrev pub invariant-loop-link : goal.invariant-loop-link
+invariant-loop-link l = AreLengths (view_system l.timed.flat) l.timed.helpers l.layout.cells (take l.link-index l.links) l.lengths

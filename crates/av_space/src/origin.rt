@@ -1,0 +1,229 @@
+//! Where the pieces on the cells of an array read.
+
+ghost use Rattle.std.specs.Prelude.{ℕ, ◌≡◌, ◌↔◌, ◌<◌, IsTrue, All, AllPairs, Contains, Some, length, slice_get, MatchOption};
+ghost use Rattle.av_tree.specs.Points.{Point as PointSeen};
+ghost use Rattle.av_flat.specs.Helped.{before};
+ghost use Rattle.av_flat.specs.Points.{has};
+ghost use Rattle.av_flat.specs.Trees.{view, view_piece};
+ghost use Rattle.av_space.specs.Ports.{IsPortBefore};
+ghost use Rattle.av_space.specs.Sites.{place_of};
+ghost use Rattle.av_space.specs.Spots.{own_way};
+ghost use Rattle.av_space.specs.Taps.{IsReadAt, IsReadBy, IsTapRead};
+ghost use Rattle.av_space.specs.inner.Sites.{tap_of, way_of};
+
+use crate::array::Array;
+use crate::cells::{Cell, InPort};
+use crate::layout::Slot;
+use crate::linking::reading_at;
+use crate::spots::{Site, Spot};
+use crate::stretch::Reading;
+use crate::tap::{Handing, TapSite, Way};
+use crate::tapping::{is_computed_at, same};
+use av_base::{Point, Word};
+use av_flat::Tree;
+use std::marker::Model;
+
+/// Where a place of a piece reads in a cycle.
+#[derive(Clone, Copy, Debug, PartialEq, Eq)]
+pub enum Origin {
+    /// At the input port with this number.
+    Port(usize),
+    /// Over a link: the value that a cell had so many cycles before.
+    Value {
+        cell: u32,
+        delay: u32,
+    },
+    /// Nowhere, as no choice of its pick holds: this word stands for it.
+    Number(Word),
+}
+
+/// A port whose reference has numbers that are not known to fit 32 bits.
+#[derive(Clone, Copy, Debug, PartialEq, Eq)]
+pub(crate) struct PortPlace {
+    pub(crate) cell: usize,
+    pub(crate) piece: usize,
+    pub(crate) site: usize,
+}
+
+impl Model for PortPlace {
+    ghost use Rattle.av_space.specs.declared.cells.InPort.{InPort};
+
+    ghost Value = { InPort };
+
+    ghost view = { λ p. record { cell = p.cell; piece = p.piece; site = p.site } };
+
+    ghost inverse = { λ p. record { cell = p.cell; piece = p.piece; site = p.site } };
+}
+
+// Whether the first port comes before the second.
+fn is_port_before(cells: &[Cell], a: &InPort, b: &PortPlace) -> bool
+    requires first { a.now.cell < length cells.now }
+    requires second { b.now.cell < length cells.now }
+    ensures { IsTrue result ↔ IsPortBefore cells.now a.now b.now }
+{
+    let node = cells[a.cell as usize].node;
+    let other = cells[b.cell].node;
+    if node != other {
+        return node < other;
+    }
+    let piece = a.piece as usize;
+    if piece != b.piece {
+        return piece < b.piece;
+    }
+    let site = a.site as usize;
+    if site != b.site {
+        return site < b.site;
+    }
+    (a.cell as usize) < b.cell
+}
+
+// The number of a port among the ports.
+fn port_at(cells: &[Cell], ports: &[InPort], port: &PortPlace) -> usize
+    requires cells { All (λ p. p.cell < length cells.now) ports.now }
+    requires order { AllPairs (IsPortBefore cells.now) ports.now }
+    requires cell { port.now.cell < length cells.now }
+    requires there { Contains ports.now port.now }
+    ensures { slice_get ports.now result ≡ Some port.now }
+{
+    let mut low: usize = 0;
+    let mut high = ports.len();
+    while low < high {
+        let middle = low + (high - low) / 2;
+        if is_port_before(cells, &ports[middle], port) {
+            low = middle + 1;
+        } else {
+            high = middle;
+        }
+    }
+    low
+}
+
+// The way in which a place reads itself.
+fn own_way(handing: &Option<Handing>) -> Way
+    ensures { way_of result ≡ own_way handing.now }
+{
+    match handing {
+        Some(handing) => Way::Entries(Point::from_slice(handing.direction.as_slice())),
+        None => Way::Each,
+    }
+}
+
+impl Array<'_> {
+    ghost use Rattle.av_space.specs.Spots.{IsArray, IsSpot, IsSlotIn, IsSiteOf, system_of, handed_tap, own_tap, IsLinkedBy, IsOriginBy};
+    ghost use Rattle.av_space.specs.inner.SpotTaps.{IsSpotTap, IsComputedRead, IsPortSite};
+
+    // What a tap site of a piece reads at a computation.
+    fn reading(&self, spot: &Spot<'_>, tap: &TapSite<'_>, slot: &Slot) -> Option<Reading>
+        requires array { IsArray self.now }
+        requires spot { IsSpot self.now spot.now }
+        requires tap { IsSpotTap self.now spot.now (tap_of tap.now) }
+        requires slot { IsSlotIn self.now spot.now.cell spot.now.node spot.now.piece.now.domain slot.now }
+        ensures { MatchOption result
+            ((k : ℕ) (y : PointSeen) → IsTapRead (system_of self.now) spot.now.node (view tap.now.place.tree) (way_of tap.now.way) (view_piece spot.now.piece.now) slot.now.point k y → ⊥)
+            (λ r. IsLinkedBy self.now spot.now slot.now.cycle (tap_of tap.now) r.producer r.delay) }
+    {
+        reading_at(
+            self.timed,
+            &self.layout,
+            spot.node,
+            tap,
+            spot.piece,
+            slot,
+        )
+    }
+
+    // The input port of a reference that is read at a computation.
+    fn port(&self, spot: &Spot<'_>, site: &Site<'_>, slot: &Slot) -> usize
+        requires array { IsArray self.now }
+        requires spot { IsSpot self.now spot.now }
+        requires site { IsPortSite self.now spot.now site.now }
+        requires slot { IsSlotIn self.now spot.now.cell spot.now.node spot.now.piece.now.domain slot.now }
+        requires entered { IsReadAt site.now.handing (view_piece spot.now.piece.now) slot.now.point }
+        ensures { slice_get self.now.cells.now.inputs result ≡ Some (record { cell = spot.now.cell; piece = spot.now.number; site = site.now.place.site }) }
+    {
+        let place = &site.place;
+        let port = PortPlace {
+            cell: spot.cell,
+            piece: spot.number,
+            site: place.site,
+        };
+        let cells = self.layout.cells.as_slice();
+        port_at(cells, self.cells.inputs.as_slice(), &port)
+    }
+
+    // Where a place of a computed variable reads itself: over a link, where it reads.
+    fn linked(&self, spot: &Spot<'_>, site: &Site<'_>, slot: &Slot) -> Option<Reading>
+        requires array { IsArray self.now }
+        requires spot { IsSpot self.now spot.now }
+        requires site { IsSiteOf self.now spot.now site.now }
+        requires computed { IsComputedRead (system_of self.now) (view site.now.place.tree) }
+        requires slot { IsSlotIn self.now spot.now.cell spot.now.node spot.now.piece.now.domain slot.now }
+        requires entered { IsReadAt site.now.handing (view_piece spot.now.piece.now) slot.now.point }
+        ensures { MatchOption result
+            ((place : ℕ) (y : PointSeen) → IsReadBy (view site.now.place.tree) slot.now.point place y → ⊥)
+            (λ r. IsLinkedBy self.now spot.now slot.now.cycle (own_tap (place_of site.now.place) site.now.handing) r.producer r.delay) }
+    {
+        let tap = TapSite {
+            place: same(&site.place),
+            way: own_way(&site.handing),
+        };
+        self.reading(spot, &tap, slot)
+    }
+
+    /// What a place with a helper reads of the helper's word at the point before: it reads nothing where that is no point of
+    /// the piece.
+    pub fn handed(
+        &self,
+        spot: &Spot<'_>,
+        site: &Site<'_>,
+        handing: &Handing,
+        slot: &Slot,
+    ) -> Option<Reading>
+        requires array { IsArray self.now }
+        requires spot { IsSpot self.now spot.now }
+        requires site { IsSiteOf self.now spot.now site.now }
+        requires handing { site.now.handing ≡ Some handing.now }
+        requires slot { IsSlotIn self.now spot.now.cell spot.now.node spot.now.piece.now.domain slot.now }
+        ensures { MatchOption result
+            (IsTrue (has spot.now.piece.now.domain (before slot.now.point handing.now.direction)) → ⊥)
+            (λ r. IsTrue (has spot.now.piece.now.domain (before slot.now.point handing.now.direction))
+                × IsLinkedBy self.now spot.now slot.now.cycle (handed_tap (place_of site.now.place) handing.now) r.producer r.delay) }
+    {
+        let tap = TapSite {
+            place: same(&site.place),
+            way: Way::Handed(
+                handing.number,
+                Point::from_slice(handing.direction.as_slice()),
+            ),
+        };
+        self.reading(spot, &tap, slot)
+    }
+
+    /// Where a place reads itself at a computation of its piece; one with a helper does so at the helper's entry points alone.
+    pub fn origin(&self, spot: &Spot<'_>, site: &Site<'_>, slot: &Slot) -> Origin
+        requires array { IsArray self.now }
+        requires spot { IsSpot self.now spot.now }
+        requires site { IsSiteOf self.now spot.now site.now }
+        requires slot { IsSlotIn self.now spot.now.cell spot.now.node spot.now.piece.now.domain slot.now }
+        requires entered { IsReadAt site.now.handing (view_piece spot.now.piece.now) slot.now.point }
+        ensures { IsOriginBy self.now spot.now slot.now (place_of site.now.place) site.now.handing (view site.now.place.tree) result }
+    {
+        let place = &site.place;
+        match place.tree {
+            Tree::Ref { var, .. } => {
+                if !is_computed_at(&self.timed.flat, *var) {
+                    return Origin::Port(self.port(spot, site, slot));
+                }
+                let Some(reading) = self.linked(spot, site, slot) else {
+                    unreachable!();
+                };
+                Origin::Value { cell: reading.producer, delay: reading.delay }
+            }
+            Tree::Pick { otherwise, .. } => match self.linked(spot, site, slot) {
+                Some(reading) => Origin::Value { cell: reading.producer, delay: reading.delay },
+                None => Origin::Number(*otherwise),
+            },
+            _ => unreachable!(),
+        }
+    }
+}

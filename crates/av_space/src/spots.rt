@@ -1,0 +1,164 @@
+//! The pieces on the cells of an array, and their places that read.
+
+ghost use Rattle.std.specs.Prelude.{◌≡◌, ◌<◌, length, map, filter, All, AllPairs, IfOk};
+ghost use Rattle.av_flat.specs.Points.{has};
+ghost use Rattle.av_flat.specs.Trees.{view};
+ghost use Rattle.av_space.specs.Taps.{places_in};
+ghost use Rattle.av_space.specs.Sites.{place_of};
+ghost use Rattle.av_space.specs.Spots.{AreEnds, handing_by};
+ghost use Rattle.av_space.specs.inner.SetPoints.{IsPointOf};
+
+use crate::array::Array;
+use crate::layout::Slot;
+use crate::linking::piece_at;
+use crate::reading::is_in;
+use crate::standing::variable_of;
+use crate::tap::{Handing, Place};
+use crate::tapping::{helper_at, same, tree_places};
+use av_base::{List, Memory};
+use av_flat::{Helper, Piece, Tree, Var};
+use av_poly::Poly;
+use std::alloc::Global;
+
+/// A piece of the variable of a cell's node, by its number, with its computations on the cell by cycle.
+#[derive(Drop)]
+pub struct Spot<'a> {
+    pub cell: usize,
+    pub node: usize,
+    /// Of the variable among all variables.
+    pub place: usize,
+    pub var: &'a Var,
+    pub number: usize,
+    pub piece: &'a Piece,
+    pub slots: List<Slot>,
+}
+
+/// The first and the last cycle of computations.
+#[derive(Clone, Copy, Debug, PartialEq, Eq)]
+pub struct Ends {
+    pub first: u32,
+    pub last: u32,
+}
+
+/// A place of a piece that reads, with the helper of its reference.
+#[derive(Drop)]
+pub struct Site<'a> {
+    pub place: Place<'a>,
+    pub handing: Option<Handing>,
+}
+
+/// The first and the last cycle of computations by cycle.
+pub fn ends_of(slots: &[Slot]) -> Ends
+    requires some { 0 < length slots.now }
+    requires order { AllPairs (λ t u. t.cycle < u.cycle) slots.now }
+    ensures { AreEnds slots.now result }
+{
+    Ends {
+        first: slots[0].cycle,
+        last: slots[slots.len() - 1].cycle,
+    }
+}
+
+// Those of the computations that are points of the set.
+fn slots_in(alloc: Global, slots: &[Slot], set: &Poly) -> Result<List<Slot>, Memory>
+    requires { All (λ t. IsPointOf set.now t.point) slots.now }
+    ensures { IfOk result (λ own. own ≡ filter (λ t. has set.now t.point) slots.now) }
+{
+    let mut own = List::new(alloc);
+    for slot in slots {
+        if is_in(set, &slot.point) {
+            own.push(slot.copied())?;
+        }
+    }
+    Ok(own)
+}
+
+// The helper of a place that is a reference, of the variable at the place `own`.
+fn handing(helpers: &[Helper], own: usize, place: &Place<'_>) -> Option<Handing>
+    ensures { result ≡ handing_by helpers.now own (place_of place.now) (view place.now.tree) }
+{
+    match place.tree {
+        Tree::Ref { .. } => helper_at(helpers, own, place.piece, place.site),
+        _ => None,
+    }
+}
+
+// The places of a piece that read.
+fn places<'a>(alloc: Global, number: usize, piece: &'a Piece) -> Result<List<Place<'a>>, Memory>
+    ensures { IfOk result (λ places. map place_of places ≡ places_in number 0 (view piece.now.tree)) }
+{
+    let mut places = List::new(alloc);
+    tree_places(number, 0, &piece.tree, &mut places)?;
+    Ok(places)
+}
+
+impl<'a> Array<'a> {
+    ghost use Rattle.av_flat.specs.Trees.{view_variable};
+    ghost use Rattle.av_space.specs.Spots.{cells_of, IsArray, IsSpot, AreSpots, AreSites};
+    ghost use Rattle.av_space.specs.inner.SpotTaps.{IsVariableOn, HasPiece};
+
+    // The variable of the node of a cell.
+    fn variable(&self, cell: usize) -> &'a Var
+        requires array { IsArray self.now }
+        requires cell { cell < length (cells_of self.now) }
+        ensures { IsVariableOn self.now cell (view_variable result.now) }
+    {
+        let node = self.layout.cells.as_slice()[cell].node as usize;
+        variable_of(&self.timed.flat, self.layout.places.as_slice(), node)
+    }
+
+    // The piece with this number on a cell.
+    fn spot(&self, alloc: Global, cell: usize, number: usize) -> Result<Spot<'a>, Memory>
+        requires array { IsArray self.now }
+        requires cell { cell < length (cells_of self.now) }
+        requires piece { HasPiece self.now cell number }
+        ensures { IfOk result (λ at. (at.cell ≡ cell) × (at.number ≡ number) × IsSpot self.now at) }
+    {
+        let node = self.layout.cells.as_slice()[cell].node as usize;
+        let place = self.layout.places.as_slice()[node];
+        let var = self.variable(cell);
+        let piece = piece_at(var, number);
+        let slots = slots_in(alloc, self.slots(cell), &piece.domain)?;
+        Ok(Spot {
+            cell,
+            node,
+            place,
+            var,
+            number,
+            piece,
+            slots,
+        })
+    }
+
+    /// The pieces with a computation on a cell, by their numbers.
+    pub fn spots(&self, alloc: Global, cell: usize) -> Result<List<Spot<'a>>, Memory>
+        requires array { IsArray self.now }
+        requires cell { cell < length (cells_of self.now) }
+        ensures { IfOk result (AreSpots self.now cell) }
+    {
+        let mut spots = List::new(alloc);
+        for number in 0..self.variable(cell).pieces.as_slice().len() {
+            let spot = self.spot(alloc, cell, number)?;
+            if !spot.slots.as_slice().is_empty() {
+                spots.push(spot)?;
+            }
+        }
+        Ok(spots)
+    }
+
+    /// The places of a piece that read, in the order of the text.
+    pub fn sites(&self, alloc: Global, spot: &Spot<'a>) -> Result<List<Site<'a>>, Memory>
+        ensures { IfOk result (AreSites self.now spot.now) }
+    {
+        let helpers = self.timed.helpers.as_slice();
+        let places = places(alloc, spot.number, spot.piece)?;
+        let mut sites = List::new(alloc);
+        for place in places.as_slice() {
+            sites.push(Site {
+                place: same(place),
+                handing: handing(helpers, spot.place, place),
+            })?;
+        }
+        Ok(sites)
+    }
+}
