@@ -1,3 +1,4 @@
 pub mod Written
 pub mod Numbered
 pub mod Added
+pub mod Moments
