@@ -5,10 +5,13 @@ ghost use Rattle.av_space.specs.SpaceFaults.{IsSpaceFault};
 ghost use Rattle.av_space.specs.Whole.{IsWhole};
 ghost use Rattle.av_build.specs.ArrayDesigns.{IsDesignOf};
 
+use crate::listing::copied_listing;
+use crate::netlist::netlist;
+use crate::programming::programming;
 use av_base::Memory;
 use av_flat::Timed;
 use av_net::Design;
-use av_space::Cells;
+use av_space::{Array, Cells};
 use std::alloc::Global;
 
 /// The design of an array: its module, with the listing of the array.
@@ -22,5 +25,12 @@ pub fn build(alloc: Global, timed: &Timed, cells: &Cells) -> Result<Design, Memo
     requires within { (f : Fault) → IsSpaceFault timed.now f → f ≡ fault.Memory }
     ensures { IfOk result (IsDesignOf timed.now cells.now) }
 {
-    Err(Memory)
+    let array = Array::new(alloc, timed, cells)?;
+    let program = programming(alloc, timed, cells, &array)?;
+    let flat = &timed.flat;
+    let module = netlist(alloc, flat.width, &program)?;
+    Ok(Design {
+        listing: copied_listing(alloc, &cells.listing)?,
+        module,
+    })
 }

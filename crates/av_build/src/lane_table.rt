@@ -2,7 +2,7 @@
 
 ghost use Rattle.std.specs.Prelude.{◌≡◌, ◌<◌, length, IfOk, OnOk};
 ghost use Rattle.av_space.specs.Spots.{cells_of, IsArray};
-ghost use Rattle.av_build.specs.inner.LaneLines.{cell_lines, lines_to, value_line, helper_line, number_in, AreNumbersTo, AreNumbered};
+ghost use Rattle.av_build.specs.inner.LaneLines.{cell_lines, lines_to, value_line, helper_line, number_in, AreApart, AreNumbersTo};
 
 use av_base::{List, Memory};
 use av_space::Array;
@@ -94,7 +94,8 @@ fn lane_lines(
 
 // The number of each lane.
 fn numbers(alloc: Global, lines: &[Line]) -> Result<BTreeMap<Line, usize>, Memory>
-    ensures { IfOk result (λ numbers. AreNumbersTo lines.now (length lines.now) numbers) }
+    requires { AreApart lines.now }
+    ensures { IfOk result (AreNumbersTo lines.now (length lines.now)) }
 {
     let mut numbers = BTreeMap::new(alloc);
     for (number, line) in lines.iter().enumerate() {

@@ -1,5 +1,12 @@
 //! The lanes of a program: what each of them works on, and when.
 
+ghost use Rattle.std.specs.Prelude.{◌≡◌, ◌<◌, ◌-◌, ◌×◌, All, length, map, IfOk, MatchOption};
+ghost use Rattle.av_space.specs.Spots.{cells_of, helpers_of, IsArray, IsSpot, IsSiteOf};
+ghost use Rattle.av_build.specs.Selections.{stretch_of};
+ghost use Rattle.av_build.specs.inner.Written.{as_stretch, work_of, shift_of, lane_of};
+ghost use Rattle.av_build.specs.inner.LaneLines.{lines_to};
+ghost use Rattle.av_build.specs.inner.Laned.{IsWorkOf, AreShiftsTo, IsValueOn, IsHelperOn, IsHandedOn, IsLaneAt, HasHelper, NoReaderHas, ReaderHas};
+
 use crate::lane_table::{LaneTable, Line};
 use crate::program::{Lane, Shift, Stretch, Work};
 use crate::sourcing::{place_site, read_site};
@@ -9,6 +16,7 @@ use std::alloc::Global;
 
 // The stretch of a piece on a cell, without the bounds that the cell's own cycles keep.
 fn stretch(cell: Ends, own: Ends) -> Stretch
+    ensures { as_stretch result ≡ stretch_of cell.first cell.last own.first own.last }
 {
     if own.first <= cell.first {
         Stretch::Until(own.last)
@@ -26,6 +34,10 @@ fn work<'a>(
     table: &LaneTable,
     spot: &Spot<'a>,
 ) -> Result<Work<'a>, Memory>
+    requires array { IsArray array.now }
+    requires spot { IsSpot array.now spot.now }
+    requires some { 0 < length spot.now.slots }
+    ensures { IfOk result (λ work. IsWorkOf array.now table.now.numbers spot.now (work_of work)) }
 {
     let readers = array.sites(alloc, spot)?;
     let mut sites = List::new(alloc);
@@ -47,6 +59,9 @@ fn shifts<'a>(
     cell: Ends,
     spots: &[Spot<'a>],
 ) -> Result<List<Shift<'a>>, Memory>
+    requires array { IsArray array.now }
+    requires spots { All (λ at. (0 < length at.slots) × IsSpot array.now at) spots.now }
+    ensures { IfOk result (λ shifts. AreShiftsTo array.now table.now.numbers cell spots.now (length spots.now - 1) (map shift_of shifts)) }
 {
     let mut shifts = List::new(alloc);
     for k in 1..spots.len() {
@@ -66,6 +81,9 @@ fn value_lane<'a>(
     table: &LaneTable,
     cell: usize,
 ) -> Result<Lane<'a>, Memory>
+    requires array { IsArray array.now }
+    requires cell { cell < length (cells_of array.now) }
+    ensures { IfOk result (λ lane. IsValueOn array.now table.now.numbers cell (lane_of lane)) }
 {
     let spots = array.spots(alloc, cell)?;
     let spots = spots.as_slice();
@@ -83,6 +101,7 @@ fn value_lane<'a>(
 
 // The number of the first of these places that has the helper.
 fn with_helper(readers: &[Reader<'_>], helper: usize) -> Option<usize>
+    ensures { MatchOption result (NoReaderHas readers.now helper (length readers.now)) (ReaderHas readers.now helper) }
 {
     for (number, reader) in readers.iter().enumerate() {
         if let Some(handing) = &reader.handing {
@@ -103,6 +122,12 @@ fn handed_lane<'a>(
     reader: &Reader<'a>,
     helper: usize,
 ) -> Result<Lane<'a>, Memory>
+    requires array { IsArray array.now }
+    requires spot { IsSpot array.now spot.now }
+    requires some { 0 < length spot.now.slots }
+    requires reader { IsSiteOf array.now spot.now reader.now }
+    requires helper { HasHelper helper reader.now }
+    ensures { IfOk result (λ lane. IsHandedOn array.now table.now.numbers helper spot.now.cell (lane_of lane)) }
 {
     let mut sites = List::new(alloc);
     sites.push(read_site(alloc, array, table, spot, reader)?)?;
@@ -127,6 +152,10 @@ fn helper_lane<'a>(
     cell: usize,
     helper: usize,
 ) -> Result<Lane<'a>, Memory>
+    requires array { IsArray array.now }
+    requires cell { cell < length (cells_of array.now) }
+    requires helper { IsHelperOn array.now helper cell }
+    ensures { IfOk result (λ lane. IsHandedOn array.now table.now.numbers helper cell (lane_of lane)) }
 {
     let spots = array.spots(alloc, cell)?;
     for spot in spots.as_slice() {
@@ -146,6 +175,10 @@ pub(crate) fn lane<'a>(
     table: &LaneTable,
     number: usize,
 ) -> Result<Lane<'a>, Memory>
+    requires array { IsArray array.now }
+    requires lines { table.now.lines ≡ lines_to array.now (length (helpers_of array.now)) (length (cells_of array.now)) }
+    requires number { number < length table.now.lines }
+    ensures { IfOk result (λ lane. IsLaneAt array.now table.now.lines table.now.numbers number (lane_of lane)) }
 {
     let line = table.lines.as_slice()[number];
     match line.helper {

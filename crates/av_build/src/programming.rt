@@ -1,5 +1,12 @@
 //! The program of an array.
 
+ghost use Rattle.std.specs.Prelude.{◌≡◌, length, map, IfOk};
+ghost use Rattle.av_space.specs.Spots.{cells_of, helpers_of, IsArray};
+ghost use Rattle.av_build.specs.inner.Written.{lane_of, program_of};
+ghost use Rattle.av_build.specs.inner.LaneLines.{lines_to, lanes_in};
+ghost use Rattle.av_build.specs.inner.Laned.{AreLanesAt};
+ghost use Rattle.av_build.specs.inner.Programming.{IsProgramOn};
+
 use crate::lane_table::{LaneTable, lane_table};
 use crate::laning::lane;
 use crate::program::{Lane, Program};
@@ -14,6 +21,9 @@ fn lanes<'a>(
     array: &Array<'a>,
     table: &LaneTable,
 ) -> Result<List<Lane<'a>>, Memory>
+    requires array { IsArray array.now }
+    requires lines { table.now.lines ≡ lines_to array.now (length (helpers_of array.now)) (length (cells_of array.now)) }
+    ensures { IfOk result (λ lanes. AreLanesAt array.now table.now.lines table.now.numbers (length table.now.lines) (map lane_of lanes)) }
 {
     let mut lanes = List::new(alloc);
     for number in 0..table.lines.as_slice().len() {
@@ -24,6 +34,7 @@ fn lanes<'a>(
 
 // Of each output port the lane of its cell's value.
 fn outputs(alloc: Global, table: &LaneTable, cells: &[u32]) -> Result<List<usize>, Memory>
+    ensures { IfOk result (λ outputs. outputs ≡ map (lanes_in table.now.numbers).of_value cells.now) }
 {
     let mut outputs = List::new(alloc);
     for cell in cells {
@@ -39,6 +50,10 @@ pub(crate) fn programming<'a>(
     cells: &Cells,
     array: &Array<'a>,
 ) -> Result<Program<'a>, Memory>
+    requires array { IsArray array.now }
+    requires timed { array.now.timed.now ≡ timed.now }
+    requires cells { array.now.cells.now ≡ cells.now }
+    ensures { IfOk result (λ program. IsProgramOn array.now (program_of program)) }
 {
     let helpers = timed.helpers.as_slice().len();
     let table = lane_table(alloc, array, cells.cells.as_slice().len(), helpers)?;

@@ -1,8 +1,15 @@
 //! What brings the words of the places of a piece.
 
+ghost use Rattle.std.specs.Prelude.{◌≡◌, ◌<◌, Some, length, IfOk};
+ghost use Rattle.av_flat.specs.Trees.{view_piece};
+ghost use Rattle.av_space.specs.Taps.{IsReadAt};
+ghost use Rattle.av_space.specs.Spots.{IsArray, IsSpot, IsSlotIn, IsSiteOf};
+ghost use Rattle.av_build.specs.inner.Written.{source_of, site_of};
+ghost use Rattle.av_build.specs.inner.Sourced.{IsOwnSourceAt, ReadsBy, AreMomentsOf, IsReadSite, IsPlaceSite};
+
 use crate::lane_table::LaneTable;
 use crate::program::{Site, Source};
-use crate::runs::{Moment, in_runs};
+use crate::site_runs::{Moment, in_runs};
 use av_base::{List, Memory};
 use av_space::{Array, Handing, Origin, Site as Reader, Slot, Spot};
 use std::alloc::Global;
@@ -15,6 +22,12 @@ fn own_source(
     reader: &Reader<'_>,
     slot: &Slot,
 ) -> Source
+    requires array { IsArray array.now }
+    requires spot { IsSpot array.now spot.now }
+    requires reader { IsSiteOf array.now spot.now reader.now }
+    requires slot { IsSlotIn array.now spot.now.cell spot.now.node spot.now.piece.now.domain slot.now }
+    requires entered { IsReadAt reader.now.handing (view_piece spot.now.piece.now) slot.now.point }
+    ensures { IsOwnSourceAt array.now table.now.numbers spot.now reader.now slot.now (source_of result) }
 {
     match array.origin(spot, reader, slot) {
         Origin::Port(number) => Source::Input(number),
@@ -35,6 +48,12 @@ fn hand_source(
     handing: &Handing,
     slot: &Slot,
 ) -> Source
+    requires array { IsArray array.now }
+    requires spot { IsSpot array.now spot.now }
+    requires reader { IsSiteOf array.now spot.now reader.now }
+    requires handing { reader.now.handing ≡ Some handing.now }
+    requires slot { IsSlotIn array.now spot.now.cell spot.now.node spot.now.piece.now.domain slot.now }
+    ensures { ReadsBy array.now table.now.numbers spot.now reader.now slot.now.point slot.now.cycle (source_of result) }
 {
     match array.handed(spot, reader, handing, slot) {
         Some(reading) => Source::Line {
@@ -53,6 +72,11 @@ fn source(
     reader: &Reader<'_>,
     slot: &Slot,
 ) -> Source
+    requires array { IsArray array.now }
+    requires spot { IsSpot array.now spot.now }
+    requires reader { IsSiteOf array.now spot.now reader.now }
+    requires slot { IsSlotIn array.now spot.now.cell spot.now.node spot.now.piece.now.domain slot.now }
+    ensures { ReadsBy array.now table.now.numbers spot.now reader.now slot.now.point slot.now.cycle (source_of result) }
 {
     match &reader.handing {
         Some(handing) => hand_source(array, table, spot, reader, handing, slot),
@@ -68,6 +92,10 @@ fn moments(
     spot: &Spot<'_>,
     reader: &Reader<'_>,
 ) -> Result<List<Moment>, Memory>
+    requires array { IsArray array.now }
+    requires spot { IsSpot array.now spot.now }
+    requires reader { IsSiteOf array.now spot.now reader.now }
+    ensures { IfOk result (AreMomentsOf array.now table.now.numbers spot.now reader.now spot.now.slots) }
 {
     let mut moments = List::new(alloc);
     for slot in spot.slots.as_slice() {
@@ -87,6 +115,11 @@ pub(crate) fn read_site(
     spot: &Spot<'_>,
     reader: &Reader<'_>,
 ) -> Result<Site, Memory>
+    requires array { IsArray array.now }
+    requires spot { IsSpot array.now spot.now }
+    requires reader { IsSiteOf array.now spot.now reader.now }
+    requires some { 0 < length spot.now.slots }
+    ensures { IfOk result (λ site. IsReadSite array.now table.now.numbers spot.now reader.now (site_of site)) }
 {
     let moments = moments(alloc, array, table, spot, reader)?;
     in_runs(alloc, moments.as_slice())
@@ -100,6 +133,11 @@ pub(crate) fn place_site(
     spot: &Spot<'_>,
     reader: &Reader<'_>,
 ) -> Result<Site, Memory>
+    requires array { IsArray array.now }
+    requires spot { IsSpot array.now spot.now }
+    requires reader { IsSiteOf array.now spot.now reader.now }
+    requires some { 0 < length spot.now.slots }
+    ensures { IfOk result (λ site. IsPlaceSite array.now table.now.numbers spot.now reader.now (site_of site)) }
 {
     if let Some(handing) = &reader.handing {
         if array.line_length(spot.cell, Some(handing.number)) > 0 {
