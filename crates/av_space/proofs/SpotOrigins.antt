@@ -154,7 +154,9 @@ module _ (a : Array) (is : IsArray a) (at : Spot) (spot : IsSpot a at) (mine : S
 
     pub reads_port : computed_at (slice_get s.variables place) ≡ false → (n : ℕ) → slice_get a.cells.now.inputs n ≡ Some (record { cell = at.cell; piece = at.number; site = mine.place.site })
         → IsReferenceOrigin a at slot.cycle mine.place.site place m (own_way mine.handing) (origin.Port n)
-    reads_port c n is_port = let w = port_site c in at_port n w.read (let x = declared_read a is at spot mine placed slot on place (image m.rows slot.point) reads in x.is) w.input among is_port
+    reads_port c n is_port =
+        let w = declared_read a is at spot mine placed slot on place (image m.rows slot.point) reads in
+        at_port n w.variable w.is (input_kind w.variable.kind (subst (λ (o : Option Variable). computed_at o ≡ false) w.is c)) among is_port
 
     computed_tree : computed_at (slice_get s.variables place) ≡ true → IsComputedRead s q.tree
     computed_tree c = subst (IsComputedRead s) (sym tree) c
