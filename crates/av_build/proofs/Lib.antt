@@ -10,6 +10,7 @@ pub mod Words
 pub mod Shown
 pub mod Selections
 pub mod Runs
+pub mod Lengths
 pub mod Serving
 pub mod Listed
 pub mod NameParts
