@@ -1,43 +1,37 @@
 -- A legal timed system and its array give what the proof of the netlist asks for.
-use Rattle.std.proofs.Common.{◌≡◌, ℕ, zero, suc, ◌+◌, ◌<◌, ◌≤◌, ℤ, pos, ◌+ℤ◌, ◌≤ℤ◌, ◌<ℤ◌, ◌⊎◌, inl, inr, Bool, true, IsTrue, List, [], ◌∷◌, length, map, refl, sym, subst, arith, ◌∙◌, ap, Some, All}
+use Rattle.std.proofs.Common.{◌≡◌, ℕ, zero, suc, ◌≤◌, ℤ, pos, ◌<ℤ◌, ◌⊎◌, inl, inr, List, [], ◌∷◌, length, map, sym, subst, arith, ◌∙◌, ap, Some, All}
 use Rattle.std.specs.Prelude.{slice_get, Contains}
 use Rattle.std.proofs.lemmas.Int.{ints}
-use Rattle.std.proofs.lemmas.List.Elements.{All-contains, All-weaker}
+use Rattle.std.proofs.lemmas.List.Elements.{All-weaker}
 use Rattle.av_base.specs.declared.width.Width.{Width}
 use Rattle.av_tree.specs.Points.{Point}
 use Rattle.av_tree.specs.Values.{Assignment}
 use Rattle.av_flat.specs.declared.timed.Time.{Time}
-use Rattle.av_flat.specs.declared.timed.Helper.{Helper}
 use Rattle.av_flat.specs.declared.timed.Timed.{Timed}
-use Rattle.av_flat.specs.Trees.{Piece, Variable, FlatSystem, view_system}
-use Rattle.av_flat.specs.Points.{has}
-use Rattle.av_flat.specs.Signatures.{signatures}
+use Rattle.av_flat.specs.Trees.{Variable, FlatSystem, view_system}
 use Rattle.av_flat.specs.WellFormed.{EachPart, HasWords}
-use Rattle.av_flat.specs.Nodes.{is_node, nodes, number_at, IsComputation}
-use Rattle.av_flat.specs.Chained.{IsChained, IsChainedVariable, IsChainedPiece}
-use Rattle.av_flat.specs.Schedules.{cycle, IsSchedule}
-use Rattle.av_flat.specs.Helped.{HelperWords, IsHelpedSolution, before}
-use Rattle.av_flat.specs.Legal.{IsMoving, IsLegal}
+use Rattle.av_flat.specs.Nodes.{nodes, IsComputation}
+use Rattle.av_flat.specs.Chained.{IsChainedVariable}
+use Rattle.av_flat.specs.Schedules.{cycle}
+use Rattle.av_flat.specs.Helped.{HelperWords, IsHelpedSolution}
+use Rattle.av_flat.specs.Legal.{IsLegal}
 use Rattle.av_net.specs.Sound.{IsSound}
 use Rattle.av_net.specs.Shown.{Shows}
 use Rattle.av_space.specs.declared.cells.Cells.{Cells}
 use Rattle.av_space.specs.Coordinates.{Placing, IsPlacing, point, space}
 use Rattle.av_space.specs.Standing.{Computes}
-use Rattle.av_space.specs.Taps.{Handing, helper_at}
 use Rattle.av_space.specs.Listings.{AreAtLines}
 use Rattle.av_space.specs.Arrays.{IsArrayOf}
 use Rattle.av_space.proofs.OneCell.{Inverts}
 use Rattle.av_space.proofs.Placed.{inverts}
 use Rattle.av_build.specs.Programs.{Program}
 use Rattle.av_build.specs.Modules.{module_of}
-use Rattle.av_build.specs.Built.{array_of, HasSmallNumbers, IsProgramOf, design_of}
-use Rattle.av_build.proofs.Fine.{FitsTree}
-use Rattle.av_build.proofs.Owned.{AreFew, AreWords}
+use Rattle.av_build.specs.Built.{array_of, IsProgramOf, design_of}
+use Rattle.av_build.proofs.Owned.{AreWords}
 use Rattle.av_build.proofs.Joined.{Legal, arranged, fits_words, one_point}
 use Rattle.av_build.proofs.Listed.{place_of}
 use Rattle.av_build.proofs.Whole.{Given, module_sound, module_shows}
 use Rattle.av_space.proofs.Elements.{some_is, at_index}
-use Rattle.av_space.proofs.Helpers.{found_helper}
 use Rattle.av_space.proofs.Scheduling.{chained_variable, chained_piece, scheduled}
 
 contains_at : {X : Type 0} (xs : List X) (k : ℕ) (x : X) → slice_get xs k ≡ Some x → Contains xs x

@@ -1,21 +1,19 @@
 -- A whole array and its program: one solution for every input, which can be presented, and which the design shows.
-use Rattle.std.proofs.Common.{◌≡◌, ℕ, zero, suc, ◌+◌, List, [], ◌∷◌, length, map, refl, sym, ap, subst, ◌∙◌, All}
-use Rattle.std.specs.Prelude.{codes, None}
+use Rattle.std.proofs.Common.{◌≡◌, ℕ, List, [], ◌∷◌, length, map, refl, sym, ap, subst, ◌∙◌, All}
+use Rattle.std.specs.Prelude.{None}
 use Rattle.std.specs.List.{range_with_len}
 use Rattle.std.proofs.lemmas.List.{length-map}
 use Rattle.std.proofs.lemmas.List.Elements.{All-nil, All-cons, recursion_from_All}
 use Rattle.av_base.specs.declared.width.Width.{Width}
 use Rattle.av_tree.specs.Values.{Assignment}
-use Rattle.av_flat.specs.declared.timed.Helper.{Helper}
 use Rattle.av_flat.specs.declared.timed.Timed.{Timed}
-use Rattle.av_flat.specs.Trees.{FlatSystem, view_system}
+use Rattle.av_flat.specs.Trees.{view_system}
 use Rattle.av_flat.specs.Solutions.{IsSolution}
 use Rattle.av_flat.specs.OneSolution.{AreInputs, HasOneSolution}
-use Rattle.av_flat.specs.Helped.{HelperWords, IsHelpedSolution}
 use Rattle.av_flat.specs.Legal.{IsMoving}
 use Rattle.av_flat.proofs.Cycles.{scheduled_once}
 use Rattle.av_flat.proofs.Unhelped.{helped}
-use Rattle.av_pipe.proofs.Piped.{all_words, with_helpers}
+use Rattle.av_pipe.proofs.Piped.{with_helpers}
 use Rattle.av_net.specs.declared.netlist.Port.{Port}
 use Rattle.av_net.specs.Shown.{Shows}
 use Rattle.av_net.specs.Presented.{IsPresentable}

@@ -1,6 +1,6 @@
 -- No port and cycle stands in two input lines.
-use Rattle.std.proofs.Common.{◌≡◌, ℕ, zero, suc, ◌+◌, ◌^◌, ◌<◌, ◌≤◌, List, [], ◌∷◌, length, map, get_or, refl, sym, subst, arith, ◌∙◌, ap, Some, inl, inr, ◌⊎◌}
-use Rattle.std.specs.Prelude.{All, AllPairs, slice_get, decimal}
+use Rattle.std.proofs.Common.{◌≡◌, ℕ, zero, suc, ◌^◌, ◌<◌, ◌≤◌, List, [], ◌∷◌, length, map, get_or, refl, sym, subst, arith, ◌∙◌, ap, Some, inl, inr, ◌⊎◌}
+use Rattle.std.specs.Prelude.{AllPairs, slice_get}
 use Rattle.std.proofs.lemmas.Bool.{cases_lt}
 use Rattle.av_net.specs.declared.design.Entry.{Entry}
 use Rattle.av_flat.specs.Trees.{FlatSystem}

@@ -10,6 +10,7 @@ pub mod Words
 pub mod Shown
 pub mod Selections
 pub mod Runs
+pub mod Lengths
 pub mod Serving
 pub mod Listed
 pub mod NameParts
@@ -32,3 +33,7 @@ pub mod Top
 pub mod Connected
 pub mod Headline
 pub mod InLines
+pub mod Chosen
+pub mod LaneParts
+pub mod Placing
+pub mod Turning

@@ -1,7 +1,7 @@
 -- The program of an array has its sources in place, each lane reads its own cell and the cells that it is linked to, and all its
 -- numbers fit.
-use Rattle.std.proofs.Common.{◌≡◌, ℕ, zero, suc, ◌+◌, ◌<◌, ◌≤◌, List, [], ◌∷◌, length, map, refl, sym, subst, arith, ◌∙◌, ap, Bool, true, false, ◌&&◌, if◌then◌else◌, Option, Some, None, inl, inr}
-use Rattle.std.specs.Prelude.{Contains, slice_get, filter, fold, max, nat_eq, nat_le}
+use Rattle.std.proofs.Common.{◌≡◌, ℕ, zero, suc, ◌+◌, ◌<◌, ◌≤◌, List, [], ◌∷◌, length, refl, sym, subst, arith, ◌∙◌, ap, Bool, true, false, if◌then◌else◌, Option, Some, None, inl, inr}
+use Rattle.std.specs.Prelude.{slice_get, nat_le}
 use Rattle.std.specs.List.{AllByRecursion}
 use Rattle.std.proofs.lemmas.Bool.{cases_lt}
 use Rattle.std.proofs.lemmas.Nat.{pow_pos}
@@ -17,75 +17,24 @@ use Rattle.av_flat.specs.Points.{has}
 use Rattle.av_flat.specs.Signatures.{is_computed}
 use Rattle.av_flat.specs.Values.{picked}
 use Rattle.av_flat.specs.declared.timed.Helper.{Helper}
-use Rattle.av_space.specs.declared.cells.Link.{Link as LinkMade}
 use Rattle.av_flat.specs.Nodes.{is_node, nodes, number_at}
-use Rattle.av_space.specs.Taps.{node_place, Handing, helper_at, Way, each, entries, handed, IsTapRead, node_of, helper_of, helper_read}
+use Rattle.av_space.specs.Taps.{node_place, Handing, helper_at, Way, each, entries, handed, IsTapRead, helper_of}
 use Rattle.av_space.specs.Standing.{Computes}
 use Rattle.av_flat.specs.Broadcasts.{Reference, references}
 use Rattle.av_flat.specs.Helped.{before}
-use Rattle.av_space.specs.Links.{reads_line, is_same, line_length}
+use Rattle.av_space.specs.Links.{line_length}
 use Rattle.av_build.specs.Programs.{Source, word, line, until, since, between, Link, Site, Work, Shift, Lane, Program, EachOfSite, EachOfWork, EachOfCell}
 use Rattle.av_build.specs.Selections.{Run, site_by, Stay, stretch_of, shifts_by, last_work}
 use Rattle.av_build.specs.Trees.{site_count}
 use Rattle.av_build.specs.Serving.{EachPlace}
-use Rattle.av_build.specs.Programmed.{Array, Lanes, Spot, IsLinked, IsReferenceSource, by_port, by_link, IsHelpedSource, IsPickSource, IsPlaceSource, IsHandSource, IsSiteFor, IsStayFor, IsValueLane, IsHelperLane, IsHelper}
+use Rattle.av_build.specs.Programmed.{Array, Lanes, Spot, IsLinked, IsReferenceSource, by_port, by_link, later, IsHandSource, IsHandedSource, IsHelpedSource, IsPickSource, IsPlaceSource, IsSiteFor, IsStayFor, IsValueLane, IsHelperLane, IsHelper}
 use Rattle.av_build.proofs.ArrayForm.{IsOwn}
 use Rattle.av_build.proofs.Fine.{FitsTree}
 use Rattle.av_build.proofs.SoundProgram.{FitsStretch, FitsWork, FitsCell}
-use Rattle.av_build.proofs.Serving.{own_place, contained_map, Arranged, Reading, linked, here}
-use Rattle.av_space.proofs.Elements.{some_is, each_weaker, got, get_contained, in_range}
+use Rattle.av_build.proofs.Lengths.{long_enough, has_lane}
+use Rattle.av_build.proofs.Serving.{own_place, Arranged, Reading, linked, Here, here, hand_moved}
+use Rattle.av_space.proofs.Elements.{some_is, each_weaker, get_contained, in_range}
 use Rattle.av_space.proofs.NodePlaces.{node_at}
-
--- ---- lengths of lines
-
-most_from : (a : ℕ) (xs : List ℕ) → a ≤ fold max a xs
-most_from a [] = omega arith
-most_from a (x ∷ xs) = omega (arith, most_from (max a x) xs)
-
-most : (a : ℕ) (xs : List ℕ) (x : ℕ) → Contains xs x → x ≤ fold max a xs
-most a [] x at = absurd (omega (arith, at.1))
-most a (y ∷ xs) x (zero, lt, is) = let e : y ≡ x = is in omega (arith, e, most_from (max a y) xs)
-most a (y ∷ xs) x (suc k, lt, is) = most (max a y) xs x (k, omega arith, is)
-
-kept : {X : Type 0} (test : X → Bool) (xs : List X) (k : ℕ) (x : X) → slice_get xs k ≡ Some x → test x ≡ true → Contains (filter test xs) x
-kept test [] k x is passes = absurd cc
-kept test (y ∷ xs) zero x is passes =
-    let e = some_is y x is in
-    let t : test y ≡ true = subst (λ z. test z ≡ true) (sym e) passes in
-    rw t (0, omega arith, e)
-kept test (y ∷ xs) (suc k) x is passes = by_test (test y) (kept test xs k x is passes)
-  where
-    by_test : (b : Bool) → Contains (filter test xs) x → Contains (if b then y ∷ filter test xs else filter test xs) x
-    by_test true at = (suc at.0, omega (arith, at.1), at.2)
-    by_test false at = at
-
-is_equal : (m n : ℕ) → m ≡ n → nat_eq m n ≡ true
-is_equal m n h = grind arith
-
-same_line : (o : Option ℕ) → is_same o o ≡ true
-same_line None = refl
-same_line (Some h) = is_equal h h refl
-
-both : (p q : Bool) → p ≡ true → q ≡ true → (p && q) ≡ true
-both p q e f = rw (e, f) refl
-
--- the line that a link reads
-line_read : (a : Array) (at : Spot) (c : ℕ) (z : Point) → Reading a at c z → (site : ℕ) (tree : Tree) (way : Way) (producer delay : ℕ) (l : IsLinked a at c site tree way producer delay)
-    → helper_read a.system a.helpers a.cells l.link.consumer l.link.site ≡ helper_of way
-line_read a at c z r site tree way producer delay l =
-    let node : node_of a.cells at.cell ≡ Some at.node = rw r.computes.is_cell (ap Some r.computes.stands.node) in
-    rw (l.in_link.0, l.in_link.1, node, r.is_variable, l.is_tap) refl
-
--- the line is long enough
-long_enough : (a : Array) (at : Spot) (c : ℕ) (z : Point) → Reading a at c z → (site : ℕ) (tree : Tree) (way : Way) (producer delay : ℕ) → IsLinked a at c site tree way producer delay
-    → delay ≤ line_length a.system a.helpers a.cells a.links producer (helper_of way)
-long_enough a at c z r site tree way producer delay l =
-    let test : LinkMade → Bool = reads_line a.system a.helpers a.cells producer (helper_of way) in
-    let passes : test l.link ≡ true = both (nat_eq l.link.producer producer) (is_same (helper_read a.system a.helpers a.cells l.link.consumer l.link.site) (helper_of way))
-    (is_equal l.link.producer producer (sym l.producer_is)) (rw (line_read a at c z r site tree way producer delay l) (same_line (helper_of way))) in
-    let at' = got a.links l.link l.is_link in
-    let among = contained_map (λ (l : LinkMade). l.delay) (filter test a.links) l.link (kept test a.links at'.0 l.link at'.1 passes) in
-    omega (arith, l.delay_is, most 0 (map (λ (l : LinkMade). l.delay) (filter test a.links)) l.link.delay among)
 
 -- ---- sources
 
@@ -95,7 +44,7 @@ link_own : (w : Width) (a : Array) (program : Program) (at : Spot) (q c : ℕ) (
     → IsOwn w.bits program a.ports a.links q at.cell (line t delay)
 link_own w a program at q c z r site tree way producer zero l some t target is home long = absurd (omega arith)
 link_own w a program at q c z r site tree way producer (suc d) l some t target is home long =
-    ((target, is, omega (arith, long, long_enough a at c z r site tree way producer (suc d) l), inl some), (target, is, inr (l.link, l.is_link, l.in_link.0, sym l.producer_is ∙ sym home)))
+    ((target, is, omega (arith, long, long_enough a at c z r.computes r.is_variable site tree way producer (suc d) l), inl some), (target, is, inr (l.link, l.is_link, l.in_link.0, sym l.producer_is ∙ sym home)))
 
 -- the value of the computed point that is read
 value_own : (w : Width) (a : Array) (lanes : Lanes) (ins : List Entry) (program : Program) → Arranged a lanes ins program → (at : Spot) (q c : ℕ) (z : Point) → Reading a at c z → (site : ℕ) (tree : Tree) (way : Way) (producer delay : ℕ) → IsLinked a at c site tree way producer delay
@@ -116,17 +65,46 @@ reference_own w a lanes ins program g at q c z r i place m way plain reads sourc
 own_by : (w : Width) (a : Array) (program : Program) (q p : ℕ) (x y : Source) → x ≡ y → IsOwn w.bits program a.ports a.links q p y → IsOwn w.bits program a.ports a.links q p x
 own_by w a program q p x y e h = subst (IsOwn w.bits program a.ports a.links q p) (sym e) h
 
+-- a helper's word, by whether the point before is in the set
+hand_own : (w : Width) (a : Array) (lanes : Lanes) (ins : List Entry) (program : Program) → Arranged a lanes ins program → (j : ℕ) (h : Helper) (at : Spot) (read : Reference) → IsHelper a j h at.variable at.piece read → at.node ≡ number_at a.system h.var
+    → (q c : ℕ) (z : Point) → Reading a at c z → (inside : Bool) → has at.piece.domain (before z h.direction) ≡ inside
+    → (source : Source) → IsHandSource a lanes at j h.direction h.site read.place read.map inside c source → IsOwn w.bits program a.ports a.links q at.cell source
+hand_own w a lanes ins program g j h at read is node q c z r true e source (producer, delay, l, from) =
+    let y = before z h.direction in
+    let tree = reference read.place read.map in
+    let way = handed j h.direction in
+    let f = linked a lanes ins program g at c z r h.site tree way producer delay l at.node y (refl, refl, e) in
+    let computes = subst (λ n. Computes a.system a.times a.cells producer f.cycle n y) node f.computes in
+    let there = g.is_program.helpers j h at.variable at.piece read is producer f.cycle y computes e (has_lane a at c z r.computes r.is_variable h.site tree j h.direction producer delay l f.some) in
+    own_by w a program q at.cell source (line (lanes.of_helper j producer) delay) from
+    (link_own w a program at q c z r h.site tree way producer delay l f.some (lanes.of_helper j producer) there.0 there.1 there.2.home_is there.2.length_is)
+hand_own w a lanes ins program g j h at read is node q c z r false e source brought =
+    let outside : has at.piece.domain (before z h.direction) ≡ true → ⊥ = λ f. both_tests (sym f ∙ e) in
+    reference_own w a lanes ins program g at q c z r h.site read.place read.map (entries h.direction) refl ((r.within, outside), (read.place, (refl, refl), refl)) source brought
+  where
+    both_tests : true ≡ false → ⊥
+    both_tests f = absurd cc
+
+-- a reference's word that a helper moves, by whether the helper has a lane on the cell
+handed_own : (w : Width) (a : Array) (lanes : Lanes) (ins : List Entry) (program : Program) → Arranged a lanes ins program → (at : Spot) (c : ℕ) (z : Point) → Reading a at c z → (i place : ℕ) (m : Map) (o : Handing) → Here a at c i place m z o
+    → (lane : Bool) → later a o.number at.cell ≡ lane → (source : Source) → IsHandedSource a lanes at o.number o.direction z lane c i place m source → IsOwn w.bits program a.ports a.links (lanes.of_value at.cell) at.cell source
+handed_own w a lanes ins program g at c z r i place m o f true is_later source is =
+    let read : Reference = record { place = place; map = m } in
+    let there = g.is_program.helpers o.number f.helper at.variable at.piece read f.is at.cell c z f.computes r.within is_later in
+    let before = g.is_program.before o.number f.helper at.variable at.piece read f.is at.cell c z f.computes r.within is_later in
+    own_by w a program (lanes.of_value at.cell) at.cell source (line (lanes.of_helper o.number at.cell) 0) is
+    ((there.0, there.1, omega arith, inr before), (there.0, there.1, there.2.home_is))
+handed_own w a lanes ins program g at c z r i place m o f false none source brought =
+    hand_own w a lanes ins program g o.number f.helper at (record { place = place; map = m }) f.is f.node_is (lanes.of_value at.cell) c z r (has at.piece.domain (before z f.helper.direction)) refl source
+    (hand_moved a lanes at c z i place m o f source brought)
+
 helped_own : (w : Width) (a : Array) (lanes : Lanes) (ins : List Entry) (program : Program) → Arranged a lanes ins program → (at : Spot) (c : ℕ) (z : Point) → Reading a at c z → (own : ℕ) → slice_get a.system.variables own ≡ Some at.variable → is_node at.variable ≡ true
     → at.node ≡ number_at a.system own → (i place : ℕ) (m : Map) (o : Option Handing) → helper_at a.helpers own at.number i ≡ o
-    → (source : Source) → IsHelpedSource a lanes at o c i place m source → IsOwn w.bits program a.ports a.links (lanes.of_value at.cell) at.cell source
+    → (source : Source) → IsHelpedSource a lanes at z o c i place m source → IsOwn w.bits program a.ports a.links (lanes.of_value at.cell) at.cell source
 helped_own w a lanes ins program g at c z r own is_own node number i place m None e source h =
     reference_own w a lanes ins program g at (lanes.of_value at.cell) c z r i place m each refl (place, (refl, refl), refl) source h
 helped_own w a lanes ins program g at c z r own is_own node number i place m (Some o) e source h =
-    let f = here a at c z r own is_own node number i place m o e h.0 in
-    let there = g.is_program.helpers o.number f.helper at.variable at.piece (record { place = place; map = m }) f.is at.cell c z f.computes r.within in
-    let before = g.is_program.before o.number f.helper at.variable at.piece (record { place = place; map = m }) f.is at.cell c z f.computes r.within in
-    own_by w a program (lanes.of_value at.cell) at.cell source (line (lanes.of_helper o.number at.cell) 0) h.1
-    ((there.0, there.1, omega arith, inr before), (there.0, there.1, there.2.home_is))
+    handed_own w a lanes ins program g at c z r i place m o (here a at c z r own is_own node number i place m o e h.0) (later a o.number at.cell) refl source h.1
 
 pick_own : (w : Width) (a : Array) (lanes : Lanes) (ins : List Entry) (program : Program) → Arranged a lanes ins program → (at : Spot) (q c : ℕ) (z : Point) → Reading a at c z → (i place : ℕ) (choices : List Choice) (n : ℕ) → IsWord w.bits n
     → (o : Option Point) → picked choices z ≡ o → (source : Source) → IsPickSource a lanes at c i place (pick place choices n) n o source → IsOwn w.bits program a.ports a.links q at.cell source
@@ -140,28 +118,10 @@ place_own : (w : Width) (a : Array) (lanes : Lanes) (ins : List Entry) (program 
 place_own w a lanes ins program g at c z r own is_own node number i (reference place m) fits source h =
     let same : node_place a.system at.node ≡ own = ap (node_place a.system) number ∙ own_place a.system own at.variable is_own node in
     helped_own w a lanes ins program g at c z r own is_own node number i place m (helper_at a.helpers own at.number i) refl source
-    (subst (λ k. IsHelpedSource a lanes at (helper_at a.helpers k at.number i) c i place m source) same h)
+    (subst (λ k. IsHelpedSource a lanes at z (helper_at a.helpers k at.number i) c i place m source) same h)
 place_own w a lanes ins program g at c z r own is_own node number i (pick place choices n) fits source h =
     pick_own w a lanes ins program g at (lanes.of_value at.cell) c z r i place choices n fits (picked choices z) refl source h
 place_own w a lanes ins program g at c z r own is_own node number i _ fits source h = absurd h
-
-hand_own : (w : Width) (a : Array) (lanes : Lanes) (ins : List Entry) (program : Program) → Arranged a lanes ins program → (j : ℕ) (h : Helper) (v : Variable) (piece : Piece) (read : Reference) → IsHelper a j h v piece read → (p q c : ℕ) (z : Point)
-    → Reading a (record { cell = p; node = number_at a.system h.var; variable = v; number = h.piece; piece = piece }) c z → (inside : Bool) → has piece.domain (before z h.direction) ≡ inside
-    → (source : Source) → IsHandSource a lanes (record { cell = p; node = number_at a.system h.var; variable = v; number = h.piece; piece = piece }) j h read inside c source → IsOwn w.bits program a.ports a.links q p source
-hand_own w a lanes ins program g j h v piece read is p q c z r true e source (producer, delay, l, from) =
-    let at : Spot = record { cell = p; node = number_at a.system h.var; variable = v; number = h.piece; piece = piece } in
-    let y = before z h.direction in
-    let f = linked a lanes ins program g at c z r h.site (reference read.place read.map) (handed j h.direction) producer delay l at.node y (refl, refl, e) in
-    let there = g.is_program.helpers j h v piece read is producer f.cycle y f.computes e in
-    own_by w a program q p source (line (lanes.of_helper j producer) delay) from
-    (link_own w a program at q c z r h.site (reference read.place read.map) (handed j h.direction) producer delay l f.some (lanes.of_helper j producer) there.0 there.1 there.2.home_is there.2.length_is)
-hand_own w a lanes ins program g j h v piece read is p q c z r false e source brought =
-    let at : Spot = record { cell = p; node = number_at a.system h.var; variable = v; number = h.piece; piece = piece } in
-    let outside : has piece.domain (before z h.direction) ≡ true → ⊥ = λ f. both_tests (sym f ∙ e) in
-    reference_own w a lanes ins program g at q c z r h.site read.place read.map (entries h.direction) refl ((r.within, outside), (read.place, (refl, refl), refl)) source brought
-  where
-    both_tests : true ≡ false → ⊥
-    both_tests f = absurd cc
 
 -- ---- sites
 
@@ -311,8 +271,8 @@ pub good_helper : (w : Width) (a : Array) (lanes : Lanes) (ins : List Entry) (pr
 good_helper w a lanes ins program g few j h v piece read is p q lane l =
     let at : Spot = record { cell = p; node = number_at a.system h.var; variable = v; number = h.piece; piece = piece } in
     let Q : Source → Type 0 = IsOwn w.bits program a.ports a.links q p in
-    let good = good_site a at (λ z c source. IsHandSource a lanes at j h read (has piece.domain (before z h.direction)) c source) Q few (node_at a.system.variables h.var v is.is_variable is.is_node) is.is_piece (pow_pos w.bits, tt)
-    (λ c z source reading s. hand_own w a lanes ins program g j h v piece read is p q c z reading (has piece.domain (before z h.direction)) refl source s) l.site l.is_site in
+    let good = good_site a at (λ z c source. IsHandSource a lanes at j h.direction h.site read.place read.map (has piece.domain (before z h.direction)) c source) Q few (node_at a.system.variables h.var v is.is_variable is.is_node) is.is_piece (pow_pos w.bits, tt)
+    (λ c z source reading s. hand_own w a lanes ins program g j h at read is refl q c z reading (has piece.domain (before z h.direction)) refl source s) l.site l.is_site in
     let work : Work = record { sites = l.site ∷ []; tree = reference read.place read.map } in
     let is_work : GoodWork w.bits Q work = record { sources = (good.0, tt); fits = record { tree = tt; stretches = (good.1, tt) } } in
     let otherwise : GoodWork w.bits Q lane.otherwise = subst (GoodWork w.bits Q) (sym l.otherwise_is) is_work in

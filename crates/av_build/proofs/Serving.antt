@@ -1,6 +1,6 @@
 -- The program of a scheduled system with helpers serves it.
-use Rattle.std.proofs.Common.{◌≡◌, ◌≢◌, ℕ, zero, suc, ◌+◌, ◌<◌, ◌≤◌, List, [], ◌∷◌, length, take, map, get_or, refl, sym, subst, arith, ◌∙◌, ap, Bool, true, false, ◌&&◌, if◌then◌else◌, Option, Some, None, inl, inr}
-use Rattle.std.specs.Prelude.{Contains, slice_get, filter, nat_eq}
+use Rattle.std.proofs.Common.{◌≡◌, ◌≢◌, ℕ, zero, suc, ◌+◌, ◌<◌, ◌≤◌, List, [], ◌∷◌, length, take, map, get_or, refl, sym, subst, arith, ◌∙◌, ap, Bool, true, false, if◌then◌else◌, Option, Some, None, inl, inr}
+use Rattle.std.specs.Prelude.{Contains, slice_get, filter}
 use Rattle.std.proofs.lemmas.List.Elements.{All-contains}
 use Rattle.av_affine.specs.declared.map.Map.{Map}
 use Rattle.av_affine.specs.Maps.{image}
@@ -13,7 +13,7 @@ use Rattle.av_flat.specs.Signatures.{signature, is_computed}
 use Rattle.av_flat.specs.Values.{picked}
 use Rattle.av_flat.specs.declared.timed.Helper.{Helper}
 use Rattle.av_flat.specs.Nodes.{is_node, nodes, number_at}
-use Rattle.av_space.specs.Taps.{place_from, node_place, Handing, helper_from, helper_at, IsReadAt, Way, each, entries, handed, Tap, taps, IsTapRead, IsTapped}
+use Rattle.av_space.specs.Taps.{place_from, node_place, Handing, helper_at, IsReadAt, Way, each, entries, handed, Tap, taps, IsTapRead, IsTapped}
 use Rattle.av_space.specs.Standing.{Computes}
 use Rattle.av_flat.specs.Broadcasts.{Reference, references}
 use Rattle.av_flat.specs.Helped.{before, IsEntry}
@@ -22,16 +22,15 @@ use Rattle.av_space.specs.Ports.{IsFed}
 use Rattle.av_space.specs.Listings.{InLine, IsInLine, AreInLines, input_name}
 use Rattle.av_build.specs.Programs.{Source, word, line, Site, Work, Lane, Program, source_in, work_in, work_by, site_source}
 use Rattle.av_build.specs.Selections.{Stay, shifts_by, last_work}
-use Rattle.av_build.specs.Serving.{Placement, at_point, read_of, read_by, read_at, EachPlace, IsEarlier, IsBrought, IsHandedOn, IsWorked, IsHandled, Serves}
-use Rattle.av_build.specs.Programmed.{Array, Lanes, Spot, IsLinked, IsReferenceSource, by_port, by_link, IsHelpedSource, IsPickSource, IsPlaceSource, IsHandSource, IsSiteFor, IsStayFor, IsValueLane, IsPlacedAt, IsHelper, IsHandedAt, IsProgramFor}
+use Rattle.av_build.specs.Serving.{Placement, of_helper, read_of, read_by, read_at, EachPlace, IsEarlier, IsPointBrought, IsHandedOn, IsHelperBrought, IsBrought, IsWorked, IsHandled, Serves}
+use Rattle.av_build.specs.Programmed.{Array, Lanes, Spot, IsLinked, IsReferenceSource, by_port, by_link, later, IsHandSource, IsHandedSource, IsHelpedSource, IsPickSource, IsPlaceSource, IsSiteFor, IsStayFor, IsValueLane, IsPlacedAt, IsHelper, IsHandedAt, IsProgramFor}
+use Rattle.av_build.proofs.Lengths.{contained_map, has_lane}
 use Rattle.av_build.proofs.Words.{place_weaker}
 use Rattle.av_build.proofs.Selections.{run_taken, stay_taken, IsElsewhere}
 use Rattle.av_build.proofs.Shown.{signature_at}
-use Rattle.av_space.proofs.Elements.{some_is, got, get_contained, mapped}
+use Rattle.av_space.proofs.Elements.{some_is, get_contained}
 use Rattle.av_space.proofs.NodePlaces.{node_at}
 use Rattle.av_space.proofs.Helpers.{found_helper, both_of}
-
--- ---- lists
 
 -- ---- nodes
 
@@ -67,8 +66,6 @@ place_at a (w ∷ vs) (suc place) v is node =
 pub own_place : (s : FlatSystem) (place : ℕ) (v : Variable) → slice_get s.variables place ≡ Some v → is_node v ≡ true → node_place s (number_at s place) ≡ place
 own_place s place v is node = place_at 0 s.variables place v is node ∙ omega arith
 
--- ---- helpers
-
 -- ---- what a system gives to its array
 
 pub record Arranged (a : Array) (lanes : Lanes) (ins : List Entry) (program : Program) : Type 0 where
@@ -89,9 +86,6 @@ pub record Arranged (a : Array) (lanes : Lanes) (ins : List Entry) (program : Pr
   pub one_node : (p c b n k : ℕ) (z y : Point) → Computes a.system a.times a.cells p c n z → Computes a.system a.times a.cells p b k y → n ≡ k
 
 -- ---- one place that reads
-
-pub contained_map : {X Y : Type 0} (f : X → Y) (xs : List X) (x : X) → Contains xs x → Contains (map f xs) (f x)
-contained_map f xs x at = let r = got xs x at in get_contained (map f xs) r.0 (f x) (mapped f xs r.0 x r.1)
 
 -- a reading computation
 pub record Reading (a : Array) (at : Spot) (c : ℕ) (z : Point) : Type 0 where
@@ -162,7 +156,7 @@ from_value a lanes c producer delay place y read is_read node f source is = reco
 
 reference_brought : (a : Array) (lanes : Lanes) (ins : List Entry) (program : Program) → Arranged a lanes ins program → (at : Spot) (c : ℕ) (z : Point) → Reading a at c z → (i place : ℕ) (m : Map) (way : Way)
     → IsReadAt (helper_at a.helpers (node_place a.system at.node) at.number i) at.piece z → IsTapRead a.system at.node (reference place m) way at.piece z (number_at a.system place) (image m.rows z)
-    → (source : Source) → IsReferenceSource a lanes at c i place m way source → IsBrought a.system ins (IsPlacedAt a lanes) (IsHandedAt a lanes) c source (at_point place (image m.rows z))
+    → (source : Source) → IsReferenceSource a lanes at c i place m way source → IsPointBrought a.system ins (IsPlacedAt a lanes) c source place (image m.rows z)
 reference_brought a lanes ins program g at c z r i place m way entered reads source (by_port n read is_read is_in is_reference is_port) =
     let entry : Entry = record { variable = read.name; point = image m.rows z; wire = input_name n; cycle = c } in
     let fed : IsFed a.system a.helpers a.times a.cells (record { cell = at.cell; piece = at.number; site = i }) c z read m = record {
@@ -191,6 +185,10 @@ reference_brought a lanes ins program g at c z r i place m way entered reads sou
 pub record Here (a : Array) (at : Spot) (c i place : ℕ) (m : Map) (z : Point) (o : Handing) : Type 0 where
   pub helper : Helper
   pub is : IsHelper a o.number helper at.variable at.piece (record { place = place; map = m })
+  pub node_is : at.node ≡ number_at a.system helper.var
+  pub piece_is : at.number ≡ helper.piece
+  pub site_is : i ≡ helper.site
+  pub direction_is : o.direction ≡ helper.direction
   pub computes : Computes a.system a.times a.cells at.cell c (number_at a.system helper.var) z
 
 pub here : (a : Array) (at : Spot) (c : ℕ) (z : Point) → Reading a at c z → (own : ℕ) → slice_get a.system.variables own ≡ Some at.variable → is_node at.variable ≡ true → at.node ≡ number_at a.system own
@@ -198,7 +196,7 @@ pub here : (a : Array) (at : Spot) (c : ℕ) (z : Point) → Reading a at c z �
 here a at c z r own is_own node number i place m o e is_reference =
     let f = found_helper a.helpers 0 own at.number i o e in
     let at_is : f.at ≡ o.number = sym (f.number_is ∙ omega arith) in
-    let there : number_at a.system f.helper.var ≡ at.node = ap (number_at a.system) f.var_is ∙ sym number in
+    let there : at.node ≡ number_at a.system f.helper.var = number ∙ ap (number_at a.system) (sym f.var_is) in
     record {
       helper = f.helper;
       is = record {
@@ -209,39 +207,123 @@ here a at c z r own is_own node number i place m o e is_reference =
         is_piece = ap (slice_get at.variable.pieces) f.piece_is ∙ r.is_piece;
         is_reference = ap (slice_get (references at.piece.tree)) f.site_is ∙ is_reference;
       };
-      computes = subst (λ k. Computes a.system a.times a.cells at.cell c k z) (sym there) r.computes;
+      node_is = there;
+      piece_is = sym f.piece_is;
+      site_is = sym f.site_is;
+      direction_is = sym f.direction_is;
+      computes = subst (λ k. Computes a.system a.times a.cells at.cell c k z) there r.computes;
     }
+
+-- ---- words of helpers
+
+-- what brings its word, by whether the point before is in the set
+hand_brought : (a : Array) (lanes : Lanes) (ins : List Entry) (program : Program) → Arranged a lanes ins program → (j : ℕ) (h : Helper) (at : Spot) (read : Reference) → IsHelper a j h at.variable at.piece read
+    → at.node ≡ number_at a.system h.var → at.number ≡ h.piece → (c : ℕ) (z : Point) → Reading a at c z → (inside : Bool) → has at.piece.domain (before z h.direction) ≡ inside
+    → (source : Source) → IsHandSource a lanes at j h.direction h.site read.place read.map inside c source → IsHandedOn a.system ins (IsPlacedAt a lanes) (IsHandedAt a lanes) c source h j at.piece read z
+hand_brought a lanes ins program g j h at read is node number c z r true e source (producer, delay, l, from) =
+    let y = before z h.direction in
+    let tree = reference read.place read.map in
+    let f = linked a lanes ins program g at c z r h.site tree (handed j h.direction) producer delay l at.node y (refl, refl, e) in
+    inr (
+      e,
+      record {
+        of_lane = record {
+          lane = lanes.of_helper j producer;
+          delay = delay;
+          cycle = f.cycle;
+          from_line = from;
+          at = record {
+            helper = h;
+            variable = at.variable;
+            piece = at.piece;
+            reference = read;
+            is = is;
+            within = e;
+            cell = producer;
+            is_later = has_lane a at c z r.computes r.is_variable h.site tree j h.direction producer delay l f.some;
+            lane_is = refl;
+            computes = subst (λ n. Computes a.system a.times a.cells producer f.cycle n y) node f.computes;
+          };
+          later = f.later;
+        };
+        some = f.some;
+      },
+    )
+hand_brought a lanes ins program g j h at read is node number c z r false e source brought =
+    let outside : has at.piece.domain (before z h.direction) ≡ true → ⊥ = λ f. both_tests (sym f ∙ e) in
+    let entry : IsEntry at.piece.domain h.direction z = (r.within, outside) in
+    let own : node_place a.system at.node ≡ h.var = ap (node_place a.system) node ∙ own_place a.system h.var at.variable is.is_variable is.is_node in
+    let first : helper_at a.helpers (node_place a.system at.node) at.number h.site ≡ Some (record { number = j; direction = h.direction }) = rw (own, number) is.is_first in
+    let entered : IsReadAt (helper_at a.helpers (node_place a.system at.node) at.number h.site) at.piece z = subst (λ (o : Option Handing). IsReadAt o at.piece z) (sym first) entry in
+    inl (entry, reference_brought a lanes ins program g at c z r h.site read.place read.map (entries h.direction) entered (entry, (read.place, (refl, refl), refl)) source brought)
+  where
+    both_tests : true ≡ false → ⊥
+    both_tests f = absurd cc
+
+helper_brought : (a : Array) (lanes : Lanes) (ins : List Entry) (program : Program) → Arranged a lanes ins program → (j : ℕ) (h : Helper) (at : Spot) (read : Reference) → IsHelper a j h at.variable at.piece read
+    → at.node ≡ number_at a.system h.var → at.number ≡ h.piece → (c : ℕ) (z : Point) → Reading a at c z
+    → (source : Source) → IsHandSource a lanes at j h.direction h.site read.place read.map (has at.piece.domain (before z h.direction)) c source
+    → IsHelperBrought a.system a.helpers ins (IsPlacedAt a lanes) (IsHandedAt a lanes) c source j z
+helper_brought a lanes ins program g j h at read is node number c z r source brought = record {
+  helper = h;
+  helper_is = is.is_helper;
+  variable = at.variable;
+  variable_is = is.is_variable;
+  piece = at.piece;
+  piece_is = is.is_piece;
+  read = read;
+  read_is = is.is_reference;
+  within = r.within;
+  brought = hand_brought a lanes ins program g j h at read is node number c z r (has at.piece.domain (before z h.direction)) refl source brought;
+}
+
+-- the same by the helper's own direction and place
+pub hand_moved : (a : Array) (lanes : Lanes) (at : Spot) (c : ℕ) (z : Point) (i place : ℕ) (m : Map) (o : Handing) (f : Here a at c i place m z o) (source : Source)
+    → IsHandSource a lanes at o.number o.direction i place m (has at.piece.domain (before z o.direction)) c source → IsHandSource a lanes at o.number f.helper.direction f.helper.site place m (has at.piece.domain (before z f.helper.direction)) c source
+hand_moved a lanes at c z i place m o f source h =
+    let here = subst (λ k. IsHandSource a lanes at o.number o.direction k place m (has at.piece.domain (before z o.direction)) c source) f.site_is h in
+    subst (λ (d : Point). IsHandSource a lanes at o.number d f.helper.site place m (has at.piece.domain (before z d)) c source) f.direction_is here
+
+-- ---- places
+
+-- the word of a reference that a helper moves, by whether the helper has a lane on the cell
+handed_brought : (a : Array) (lanes : Lanes) (ins : List Entry) (program : Program) → Arranged a lanes ins program → (at : Spot) (c : ℕ) (z : Point) → Reading a at c z → (i place : ℕ) (m : Map) (o : Handing) → Here a at c i place m z o
+    → (lane : Bool) → later a o.number at.cell ≡ lane → (source : Source) → IsHandedSource a lanes at o.number o.direction z lane c i place m source
+    → IsBrought a.system a.helpers ins (IsPlacedAt a lanes) (IsHandedAt a lanes) c source (of_helper o.number z)
+handed_brought a lanes ins program g at c z r i place m o f true is_later source is = inl (record {
+  lane = lanes.of_helper o.number at.cell;
+  delay = 0;
+  cycle = c;
+  from_line = is;
+  at = record {
+    helper = f.helper;
+    variable = at.variable;
+    piece = at.piece;
+    reference = record { place = place; map = m };
+    is = f.is;
+    within = r.within;
+    cell = at.cell;
+    is_later = is_later;
+    lane_is = refl;
+    computes = f.computes;
+  };
+  later = omega arith;
+})
+handed_brought a lanes ins program g at c z r i place m o f false none source brought =
+    inr (helper_brought a lanes ins program g o.number f.helper at (record { place = place; map = m }) f.is f.node_is f.piece_is c z r source (hand_moved a lanes at c z i place m o f source brought))
 
 -- a reference, by its helper
 helped_brought : (a : Array) (lanes : Lanes) (ins : List Entry) (program : Program) → Arranged a lanes ins program → (at : Spot) (c : ℕ) (z : Point) → Reading a at c z → (own : ℕ) → slice_get a.system.variables own ≡ Some at.variable → is_node at.variable ≡ true
     → at.node ≡ number_at a.system own → (i place : ℕ) (m : Map) (o : Option Handing) → helper_at a.helpers own at.number i ≡ o → node_place a.system at.node ≡ own
-    → (source : Source) → IsHelpedSource a lanes at o c i place m source → IsBrought a.system ins (IsPlacedAt a lanes) (IsHandedAt a lanes) c source (read_by o place (image m.rows z) z)
+    → (source : Source) → IsHelpedSource a lanes at z o c i place m source → IsBrought a.system a.helpers ins (IsPlacedAt a lanes) (IsHandedAt a lanes) c source (read_by o place (image m.rows z) z)
 helped_brought a lanes ins program g at c z r own is_own node number i place m None e same source h =
     let none : helper_at a.helpers (node_place a.system at.node) at.number i ≡ None = ap (λ k. helper_at a.helpers k at.number i) same ∙ e in
     reference_brought a lanes ins program g at c z r i place m each (subst (λ (o : Option Handing). IsReadAt o at.piece z) (sym none) tt) (place, (refl, refl), refl) source h
 helped_brought a lanes ins program g at c z r own is_own node number i place m (Some o) e same source h =
-    let f = here a at c z r own is_own node number i place m o e h.0 in
-    record {
-      lane = lanes.of_helper o.number at.cell;
-      delay = 0;
-      cycle = c;
-      from_line = h.1;
-      at = record {
-        helper = f.helper;
-        variable = at.variable;
-        piece = at.piece;
-        reference = record { place = place; map = m };
-        is = f.is;
-        within = r.within;
-        cell = at.cell;
-        lane_is = refl;
-        computes = f.computes;
-      };
-      later = omega arith;
-    }
+    handed_brought a lanes ins program g at c z r i place m o (here a at c z r own is_own node number i place m o e h.0) (later a o.number at.cell) refl source h.1
 
 pick_brought : (a : Array) (lanes : Lanes) (ins : List Entry) (program : Program) → Arranged a lanes ins program → (at : Spot) (c : ℕ) (z : Point) → Reading a at c z → (i place : ℕ) (choices : List Choice) (n : ℕ) (o : Option Point)
-    → picked choices z ≡ o → (source : Source) → IsPickSource a lanes at c i place (pick place choices n) n o source → IsBrought a.system ins (IsPlacedAt a lanes) (IsHandedAt a lanes) c source (read_of place n o)
+    → picked choices z ≡ o → (source : Source) → IsPickSource a lanes at c i place (pick place choices n) n o source → IsBrought a.system a.helpers ins (IsPlacedAt a lanes) (IsHandedAt a lanes) c source (read_of place n o)
 pick_brought a lanes ins program g at c z r i place choices n None e source h = h
 pick_brought a lanes ins program g at c z r i place choices n (Some y) e source (producer, delay, read, is_read, node, l, is) =
     inr (from_value a lanes c producer delay place y read is_read node
@@ -249,10 +331,10 @@ pick_brought a lanes ins program g at c z r i place choices n (Some y) e source 
 
 place_brought : (a : Array) (lanes : Lanes) (ins : List Entry) (program : Program) → Arranged a lanes ins program → (at : Spot) (c : ℕ) (z : Point) → Reading a at c z → (own : ℕ) → slice_get a.system.variables own ≡ Some at.variable → is_node at.variable ≡ true
     → at.node ≡ number_at a.system own → node_place a.system at.node ≡ own → (i : ℕ) (t : Tree) (source : Source) → IsPlaceSource a lanes at z c i t source
-    → IsBrought a.system ins (IsPlacedAt a lanes) (IsHandedAt a lanes) c source (read_at (helper_at a.helpers own at.number i) t z)
+    → IsBrought a.system a.helpers ins (IsPlacedAt a lanes) (IsHandedAt a lanes) c source (read_at (helper_at a.helpers own at.number i) t z)
 place_brought a lanes ins program g at c z r own is_own node number same i (reference place m) source h =
     helped_brought a lanes ins program g at c z r own is_own node number i place m (helper_at a.helpers own at.number i) refl same source
-    (subst (λ k. IsHelpedSource a lanes at (helper_at a.helpers k at.number i) c i place m source) same h)
+    (subst (λ k. IsHelpedSource a lanes at z (helper_at a.helpers k at.number i) c i place m source) same h)
 place_brought a lanes ins program g at c z r own is_own node number same i (pick place choices n) source h =
     pick_brought a lanes ins program g at c z r i place choices n (picked choices z) refl source h
 place_brought a lanes ins program g at c z r own is_own node number same i _ source h = absurd h
@@ -336,7 +418,7 @@ value_served a lanes ins program g place z q c h =
     let at : Spot = record { cell = p; node = n; variable = v; number = w.number; piece = w.piece } in
     let tree : (work_in c lane).tree ≡ w.piece.tree = ap (λ (x : Work). x.tree) w.works ∙ w.is_stay.tree in
     let own = own_place a.system place v h.is_variable h.is_node in
-    let Brings : Work → ℕ → ℕ → Tree → Type 0 = λ work k i t. IsBrought a.system ins At Hand c (site_source c work k) (read_at (helper_at a.helpers place w.number i) t z) in
+    let Brings : Work → ℕ → ℕ → Tree → Type 0 = λ work k i t. IsBrought a.system a.helpers ins At Hand c (site_source c work k) (read_at (helper_at a.helpers place w.number i) t z) in
     let brought : EachPlace (Brings w.stay.work) 0 0 w.piece.tree =
     place_weaker (λ k i t. (site : Site) × (slice_get w.stay.work.sites k ≡ Some site) × IsSiteFor a at (λ z c source. IsPlaceSource a lanes at z c i t source) site) (Brings w.stay.work)
     (λ k i t site. place_brought a lanes ins program g at c z w.reading place h.is_variable h.is_node refl own i t (site_source c w.stay.work k)
@@ -360,43 +442,10 @@ value_served a lanes ins program g place z q c h =
 abbrev spot_of : Array → Helper → Variable → Piece → ℕ → Spot
 spot_of a h v piece p = record { cell = p; node = number_at a.system h.var; variable = v; number = h.piece; piece = piece }
 
--- a helper's word, by whether the point before is in the set
-hand_brought : (a : Array) (lanes : Lanes) (ins : List Entry) (program : Program) → Arranged a lanes ins program → (j : ℕ) (h : Helper) (v : Variable) (piece : Piece) (read : Reference) → IsHelper a j h v piece read → (p c : ℕ) (z : Point)
-    → Reading a (spot_of a h v piece p) c z → (inside : Bool) → has piece.domain (before z h.direction) ≡ inside → (source : Source) → IsHandSource a lanes (spot_of a h v piece p) j h read inside c source
-    → IsHandedOn a.system ins (IsPlacedAt a lanes) (IsHandedAt a lanes) c source h j piece read z
-hand_brought a lanes ins program g j h v piece read is p c z r true e source (producer, delay, l, from) =
-    let n = number_at a.system h.var in
-    let y = before z h.direction in
-    let f = linked a lanes ins program g (spot_of a h v piece p) c z r h.site (reference read.place read.map) (handed j h.direction) producer delay l n y (refl, refl, e) in
-    inr (
-      e,
-      record {
-        of_lane = record {
-          lane = lanes.of_helper j producer;
-          delay = delay;
-          cycle = f.cycle;
-          from_line = from;
-          at = record { helper = h; variable = v; piece = piece; reference = read; is = is; within = e; cell = producer; lane_is = refl; computes = f.computes };
-          later = f.later;
-        };
-        some = f.some;
-      },
-    )
-hand_brought a lanes ins program g j h v piece read is p c z r false e source brought =
-    let n = number_at a.system h.var in
-    let outside : has piece.domain (before z h.direction) ≡ true → ⊥ = λ f. both_tests (sym f ∙ e) in
-    let entry : IsEntry piece.domain h.direction z = (r.within, outside) in
-    let own = own_place a.system h.var v is.is_variable is.is_node in
-    let first : helper_at a.helpers (node_place a.system n) h.piece h.site ≡ Some (record { number = j; direction = h.direction }) = ap (λ k. helper_at a.helpers k h.piece h.site) own ∙ is.is_first in
-    let entered : IsReadAt (helper_at a.helpers (node_place a.system n) h.piece h.site) piece z = subst (λ (o : Option Handing). IsReadAt o piece z) (sym first) entry in
-    inl (entry, reference_brought a lanes ins program g (spot_of a h v piece p) c z r h.site read.place read.map (entries h.direction) entered (entry, (read.place, (refl, refl), refl)) source brought)
-  where
-    both_tests : true ≡ false → ⊥
-    both_tests f = absurd cc
-
 -- a word of a helper
 helper_served : (a : Array) (lanes : Lanes) (ins : List Entry) (program : Program) → Arranged a lanes ins program → (j : ℕ) (z : Point) (q c : ℕ) → IsHandedAt a lanes j z q c
     → IsHandled a.system a.helpers ins program (IsPlacedAt a lanes) (IsHandedAt a lanes) j z q c
+unfolding helper_brought
 helper_served a lanes ins program g j z q c t =
     let h = t.helper in
     let v = t.variable in
@@ -404,27 +453,18 @@ helper_served a lanes ins program g j z q c t =
     let read = t.reference in
     let n = number_at a.system h.var in
     let at = spot_of a h v piece t.cell in
-    let prog = g.is_program.helpers j h v piece read t.is t.cell c z t.computes t.within in
+    let prog = g.is_program.helpers j h v piece read t.is t.cell c z t.computes t.within t.is_later in
     let lane = prog.0 in
     let r : Reading a at c z = record { computes = t.computes; is_variable = node_at a.system.variables h.var v t.is.is_variable t.is.is_node; is_piece = t.is.is_piece; within = t.within } in
-    let P : Point → ℕ → Source → Type 0 = λ z c source. IsHandSource a lanes at j h read (has piece.domain (before z h.direction)) c source in
+    let P : Point → ℕ → Source → Type 0 = λ z c source. IsHandSource a lanes at j h.direction h.site read.place read.map (has piece.domain (before z h.direction)) c source in
     let work : work_in c lane ≡ record { sites = prog.2.site ∷ []; tree = reference read.place read.map } = rw (prog.2.shifts_are, prog.2.otherwise_is) refl in
     let source : site_source c (work_in c lane) 0 ≡ source_in c prog.2.site = ap (λ (x : Work). site_source c x 0) work in
     let taken : P z c (site_source c (work_in c lane) 0) = subst (P z c) (sym source) (site_taken a at P prog.2.site prog.2.is_site c z r) in
     record {
       lane = lane;
       lane_is = ap (slice_get program.lanes) t.lane_is ∙ prog.1;
-      helper = h;
-      helper_is = t.is.is_helper;
-      variable = v;
-      variable_is = t.is.is_variable;
-      piece = piece;
-      piece_is = t.is.is_piece;
-      read = read;
-      read_is = t.is.is_reference;
-      within = t.within;
+      brought = helper_brought a lanes ins program g j h at read t.is refl refl c z r (site_source c (work_in c lane) 0) taken;
       tree = ap (λ (x : Work). x.tree) work;
-      brought = hand_brought a lanes ins program g j h v piece read t.is t.cell c z r (has piece.domain (before z h.direction)) refl (site_source c (work_in c lane) 0) taken;
     }
 
 pub serves : (a : Array) (lanes : Lanes) (ins : List Entry) (program : Program) → Arranged a lanes ins program → Serves a.system a.helpers ins program (IsPlacedAt a lanes) (IsHandedAt a lanes)

@@ -40,7 +40,7 @@ use Rattle.av_build.specs.Trees.{value_by}
 use Rattle.av_build.specs.Labels.{labels}
 use Rattle.av_build.specs.Programs.{Source, word, line, Site, Link, Work, Shift, Lane, Program, source_by, source_in, work_by, work_in, site_source, has_cycle, EachOfSite, EachOfWork, EachOfCell, IsPlaced, IsProgram}
 use Rattle.av_build.specs.Modules.{operand_of, input_ports, port, module_of}
-use Rattle.av_build.specs.Serving.{Placement, read_of, read_by, read_at, IsOfLane, IsBrought, Serves}
+use Rattle.av_build.specs.Serving.{Placement, read_of, read_by, read_at, IsOfLane, IsPointBrought, IsHelperBrought, IsBrought, Serves}
 use Rattle.av_build.proofs.Plans.{words_in}
 use Rattle.av_build.proofs.Lines.{line_has}
 use Rattle.av_build.proofs.Values.{cell_value}
@@ -145,15 +145,13 @@ lane_word w program n stream run is_run At c lt p source placed place y is =
     let now : v (line_name (labels program) is.lane is.delay) ≡ run.in_cycle is.cycle ((labels program).value is.lane) = subst (λ b. run.in_cycle b (line_name (labels program) is.lane is.delay) ≡ run.in_cycle is.cycle ((labels program).value is.lane)) is.later delayed in
     sym now ∙ ap (λ (r : Source). meaning.word_of v (operand_of (labels program) w r)) (sym is.from_line)
 
--- the source has the word that is read
-source_word : (w : Width) (program : Program) (s : FlatSystem) (hs : List Helper) (listing : Listing) (At Hand : Placement) (x u : Assignment) (g : HelperWords) (n : ℕ) (stream : Stream) (run : Run) → Setting w program s hs listing At Hand x u g n stream run
+-- the source has the word of the point that it brings
+point_word : (w : Width) (program : Program) (s : FlatSystem) (hs : List Helper) (listing : Listing) (At Hand : Placement) (x u : Assignment) (g : HelperWords) (n : ℕ) (stream : Stream) (run : Run) → Setting w program s hs listing At Hand x u g n stream run
     → (c : ℕ) → c < n → ((b : ℕ) → b < c → HasValues program s At u run b)
-    → (p : ℕ) (source : Source) → IsPlaced w.bits program p source → (width : ℕ) (place k : ℕ) (o : Option Point) (a : ℕ)
-    → IsBrought s listing.ins At Hand c source (read_of place k o) → HasPicked (record { variables = signatures s; words = u; width = width }) place k o a
+    → (p : ℕ) (source : Source) → IsPlaced w.bits program p source → (width place : ℕ) (y : Point) (a : ℕ)
+    → IsPointBrought s listing.ins At c source place y → IsWordAt (record { variables = signatures s; words = u; width = width }) place y a
     → a ≡ meaning.word_of (run.in_cycle c) (operand_of (labels program) w source)
-source_word w program s hs listing At Hand x u g n stream run t c lt earlier p source placed width place k None a brought h =
-    h ∙ ap (λ (r : Source). meaning.word_of (run.in_cycle c) (operand_of (labels program) w r)) (sym brought)
-source_word w program s hs listing At Hand x u g n stream run t c lt earlier p source placed width place k (Some y) a (inl is) h =
+point_word w program s hs listing At Hand x u g n stream run t c lt earlier p source placed width place y a (inl is) h =
     let m = module_of w program in
     let design : Design = record { listing = listing; «module» = m } in
     let v = run.in_cycle c in
@@ -164,12 +162,47 @@ source_word w program s hs listing At Hand x u g n stream run t c lt earlier p s
     let same = t.solves.inputs is.variable.name y (declared_at is_input (signatures s) place is.variable y is.here is.is_input domain) in
     let known : u is.variable.name y ≡ Some a = subst (λ o. word_of u o y ≡ Some a) is.here h.has in
     some_same a (v (input_name is.port)) (u is.variable.name y) known (same ∙ sym shown) ∙ ap (λ (r : Source). meaning.word_of v (operand_of (labels program) w r)) (sym is.from_port)
-source_word w program s hs listing At Hand x u g n stream run t c lt earlier p source placed width place k (Some y) a (inr is) h =
+point_word w program s hs listing At Hand x u g n stream run t c lt earlier p source placed width place y a (inr is) h =
     let l = is.of_lane in
     let known = earlier l.cycle (omega (arith, is.some, l.later)) place y l.lane l.at in
     some_same a (run.in_cycle l.cycle ((labels program).value l.lane)) (word_of u (slice_get (signatures s) place) y) h.has known ∙ lane_word w program n stream run t.is_run At c lt p source placed place y l
 
--- the same with helpers
+-- and of a pick
+pick_word : (w : Width) (program : Program) (s : FlatSystem) (hs : List Helper) (listing : Listing) (At Hand : Placement) (x u : Assignment) (g : HelperWords) (n : ℕ) (stream : Stream) (run : Run) → Setting w program s hs listing At Hand x u g n stream run
+    → (c : ℕ) → c < n → ((b : ℕ) → b < c → HasValues program s At u run b)
+    → (p : ℕ) (source : Source) → IsPlaced w.bits program p source → (width : ℕ) (place k : ℕ) (o : Option Point) (a : ℕ)
+    → IsBrought s hs listing.ins At Hand c source (read_of place k o) → HasPicked (record { variables = signatures s; words = u; width = width }) place k o a
+    → a ≡ meaning.word_of (run.in_cycle c) (operand_of (labels program) w source)
+pick_word w program s hs listing At Hand x u g n stream run t c lt earlier p source placed width place k None a brought h =
+    h ∙ ap (λ (r : Source). meaning.word_of (run.in_cycle c) (operand_of (labels program) w r)) (sym brought)
+pick_word w program s hs listing At Hand x u g n stream run t c lt earlier p source placed width place k (Some y) a brought h =
+    point_word w program s hs listing At Hand x u g n stream run t c lt earlier p source placed width place y a brought h
+
+-- and of a helper: the reference's at an entry, else the helper's own of an earlier cycle
+helper_word : (w : Width) (program : Program) (s : FlatSystem) (hs : List Helper) (listing : Listing) (At Hand : Placement) (x u : Assignment) (g : HelperWords) (n : ℕ) (stream : Stream) (run : Run) → Setting w program s hs listing At Hand x u g n stream run
+    → (c : ℕ) → c < n → ((b : ℕ) → b < c → HasValues program s At u run b) → ((b : ℕ) → b < c → HasHands program Hand g run b)
+    → (p : ℕ) (source : Source) → IsPlaced w.bits program p source → (j : ℕ) (z : Point) → IsHelperBrought s hs listing.ins At Hand c source j z
+    → g j z ≡ Some (meaning.word_of (run.in_cycle c) (operand_of (labels program) w source))
+helper_word w program s hs listing At Hand x u g n stream run t c lt earlier handed p source placed j z h =
+    let is = t.solves.helpers j h.helper h.helper_is in
+    let same_variable : is.variable ≡ h.variable = some_of is.variable h.variable (slice_get s.variables h.helper.var) is.is h.variable_is in
+    let same_piece : is.piece ≡ h.piece = some_of is.piece h.piece (slice_get h.variable.pieces h.helper.piece) (subst (λ (v : Variable). slice_get v.pieces h.helper.piece ≡ Some is.piece) same_variable is.is_piece) h.piece_is in
+    let same_site : is.site ≡ h.read = some_of is.site h.read (slice_get (references h.piece.tree) h.helper.site) (subst (λ (q : Piece). slice_get (references q.tree) h.helper.site ≡ Some is.site) same_piece is.is_site) h.read_is in
+    elim h.brought [
+      | inl e ↦ (let r = is.entry z (subst (λ (q : Piece). IsEntry q.domain h.helper.direction z) (sym same_piece) e.0) in
+          let read : IsWordAt (scene s u is.variable) h.read.place (image h.read.map.rows z) r.0 = subst (λ (y : Reference). IsWordAt (scene s u is.variable) y.place (image y.map.rows z) r.0) same_site r.2 in
+          r.1 ∙ ap Some (point_word w program s hs listing At Hand x u g n stream run t c lt earlier p source placed is.variable.width h.read.place (image h.read.map.rows z) r.0 e.1 read))
+      | inr e ↦ (let l = e.1.of_lane in
+          let known = handed l.cycle (omega (arith, e.1.some, l.later)) j (before z h.helper.direction) l.lane l.at in
+          let step = is.handed z (subst (λ (q : Piece). has q.domain z ≡ true) (sym same_piece) h.within) (subst (λ (q : Piece). has q.domain (before z h.helper.direction) ≡ true) (sym same_piece) e.0) in
+          step ∙ known ∙ ap Some (lane_word w program n stream run t.is_run Hand c lt p source placed j (before z h.helper.direction) l))
+    ]
+  where
+    some_of : {X : Type 0} (x y : X) (o : Option X) → o ≡ Some x → o ≡ Some y → x ≡ y
+    some_of x y o e f = some_is x y (sym e ∙ f)
+
+-- ---- places that read
+
 abbrev words_by : HelperWords → Option Handing → Option PointWords
 words_by g None = None
 words_by g (Some h) = Some (g h.number)
@@ -182,58 +215,46 @@ same_helper g (h ∷ hs) j place piece site = rw (same_helper g hs (suc j) place
     by_test true = refl
     by_test false = refl
 
--- what a place reads has the word of its source
+-- a reference has the word of its source
 reference_word : (w : Width) (program : Program) (s : FlatSystem) (hs : List Helper) (listing : Listing) (At Hand : Placement) (x u : Assignment) (g : HelperWords) (n : ℕ) (stream : Stream) (run : Run) → Setting w program s hs listing At Hand x u g n stream run
     → (c : ℕ) → c < n → ((b : ℕ) → b < c → HasValues program s At u run b) → ((b : ℕ) → b ≤ c → HasHands program Hand g run b)
-    → (p : ℕ) (source : Source) → IsPlaced w.bits program p source → (v : Variable) (z : Point) (place : ℕ) (m : Map) (h : Option Handing) → IsBrought s listing.ins At Hand c source (read_by h place (image m.rows z) z)
+    → (p : ℕ) (source : Source) → IsPlaced w.bits program p source → (v : Variable) (z : Point) (place : ℕ) (m : Map) (h : Option Handing) → IsBrought s hs listing.ins At Hand c source (read_by h place (image m.rows z) z)
     → (a : ℕ) → HasRead (scene s u v) place m (words_by g h) z a → a ≡ meaning.word_of (run.in_cycle c) (operand_of (labels program) w source)
 reference_word w program s hs listing At Hand x u g n stream run t c lt earlier handed p source placed v z place m None brought a h =
-    source_word w program s hs listing At Hand x u g n stream run t c lt earlier p source placed v.width place 0 (Some (image m.rows z)) a brought h
-reference_word w program s hs listing At Hand x u g n stream run t c lt earlier handed p source placed v z place m (Some o) brought a h =
-    let known = handed brought.cycle (omega (arith, brought.later)) o.number z brought.lane brought.at in
-    some_same a (run.in_cycle brought.cycle ((labels program).value brought.lane)) (g o.number z) h known ∙ lane_word w program n stream run t.is_run Hand c lt p source placed o.number z brought
+    point_word w program s hs listing At Hand x u g n stream run t c lt earlier p source placed v.width place (image m.rows z) a brought h
+reference_word w program s hs listing At Hand x u g n stream run t c lt earlier handed p source placed v z place m (Some o) (inl l) a h =
+    let known = handed l.cycle (omega (arith, l.later)) o.number z l.lane l.at in
+    some_same a (run.in_cycle l.cycle ((labels program).value l.lane)) (g o.number z) h known ∙ lane_word w program n stream run t.is_run Hand c lt p source placed o.number z l
+reference_word w program s hs listing At Hand x u g n stream run t c lt earlier handed p source placed v z place m (Some o) (inr brought) a h =
+    let word = meaning.word_of (run.in_cycle c) (operand_of (labels program) w source) in
+    some_same a word (g o.number z) h (helper_word w program s hs listing At Hand x u g n stream run t c lt earlier (λ b below. handed b (omega arith)) p source placed o.number z brought)
 
+-- what a place reads has the word of its source
 place_word : (w : Width) (program : Program) (s : FlatSystem) (hs : List Helper) (listing : Listing) (At Hand : Placement) (x u : Assignment) (g : HelperWords) (n : ℕ) (stream : Stream) (run : Run) → Setting w program s hs listing At Hand x u g n stream run
     → (c : ℕ) → c < n → ((b : ℕ) → b < c → HasValues program s At u run b) → ((b : ℕ) → b ≤ c → HasHands program Hand g run b)
-    → (p : ℕ) (source : Source) → IsPlaced w.bits program p source → (v : Variable) (own number : ℕ) (z : Point) (i : ℕ) (t : Tree) → IsBrought s listing.ins At Hand c source (read_at (helper_at hs own number i) t z)
+    → (p : ℕ) (source : Source) → IsPlaced w.bits program p source → (v : Variable) (own number : ℕ) (z : Point) (i : ℕ) (t : Tree) → IsBrought s hs listing.ins At Hand c source (read_at (helper_at hs own number i) t z)
     → (a : ℕ) → HasHelped (scene s u v) (helped_at hs g 0 own number) i t z a → a ≡ meaning.word_of (run.in_cycle c) (operand_of (labels program) w source)
 place_word w program s hs listing At Hand x u g n stream run t c lt earlier handed p source placed v own number z i (reference place m) brought a h =
     reference_word w program s hs listing At Hand x u g n stream run t c lt earlier handed p source placed v z place m (helper_at hs own number i) brought a
     (subst (λ (o : Option PointWords). HasRead (scene s u v) place m o z a) (same_helper g hs 0 own number i) h)
 place_word w program s hs listing At Hand x u g n stream run t c lt earlier handed p source placed v own number z i (pick place choices k) brought a h =
-    source_word w program s hs listing At Hand x u g n stream run t c lt earlier p source placed v.width place k (picked choices z) a brought h
+    pick_word w program s hs listing At Hand x u g n stream run t c lt earlier p source placed v.width place k (picked choices z) a brought h
 place_word w program s hs listing At Hand x u g n stream run t c lt earlier handed p source placed v own number z i _ brought a h = absurd brought
 
--- the words of the helpers in one cycle, from the cycles before it
+-- ---- by the cycle
+
+-- the words of the helpers that have lanes in one cycle, from the cycles before it
 one_rank : (w : Width) (program : Program) (s : FlatSystem) (hs : List Helper) (listing : Listing) (At Hand : Placement) (x u : Assignment) (g : HelperWords) (n : ℕ) (stream : Stream) (run : Run) → Setting w program s hs listing At Hand x u g n stream run
     → (c : ℕ) → c < n → c < 4096 → ((b : ℕ) → b < c → HasValues program s At u run b) → ((b : ℕ) → b < c → HasHands program Hand g run b) → HasHands program Hand g run c
 one_rank w program s hs listing At Hand x u g n stream run t c lt few earlier handed j z p at =
     let h = t.serves.helpers j z p c at in
     let v = run.in_cycle c in
     let work = work_in c h.lane in
-    let is = t.solves.helpers j h.helper h.helper_is in
-    let same_variable : is.variable ≡ h.variable = some_of is.variable h.variable (slice_get s.variables h.helper.var) is.is h.variable_is in
-    let same_piece : is.piece ≡ h.piece = some_of is.piece h.piece (slice_get h.variable.pieces h.helper.piece) (subst (λ (v : Variable). slice_get v.pieces h.helper.piece ≡ Some is.piece) same_variable is.is_piece) h.piece_is in
-    let same_site : is.site ≡ h.read = some_of is.site h.read (slice_get (references h.piece.tree) h.helper.site) (subst (λ (q : Piece). slice_get (references q.tree) h.helper.site ≡ Some is.site) same_piece is.is_site) h.read_is in
-    let placed = t.is_program.sources p h.lane h.lane_is in
     let source = site_source c work 0 in
-    let source_placed : IsPlaced w.bits program p source = of_cell (IsPlaced w.bits program p) c h.lane placed (pow_pos w.bits) 0 in
-    let word = meaning.word_of v (operand_of (labels program) w source) in
+    let placed : IsPlaced w.bits program p source = of_cell (IsPlaced w.bits program p) c h.lane (t.is_program.sources p h.lane h.lane_is) (pow_pos w.bits) 0 in
     let shown = cell_value w program t.sound t.is_program n stream run t.is_run p h.lane h.lane_is c lt few in
-    let on_wire : v ((labels program).value p) ≡ word = shown ∙ ap (λ (t : Tree). value_by w.bits (words_in (labels program) w v c work) 0 t) h.tree in
-    let is_word : g j z ≡ Some word = elim h.brought [
-      | inl e ↦ (let r = is.entry z (subst (λ (q : Piece). IsEntry q.domain h.helper.direction z) (sym same_piece) e.0) in
-          let read : IsWordAt (scene s u is.variable) h.read.place (image h.read.map.rows z) r.0 = subst (λ (y : Reference). IsWordAt (scene s u is.variable) y.place (image y.map.rows z) r.0) same_site r.2 in
-          r.1 ∙ ap Some (source_word w program s hs listing At Hand x u g n stream run t c lt earlier p source source_placed is.variable.width h.read.place 0 (Some (image h.read.map.rows z)) r.0 e.1 read))
-      | inr e ↦ (let l = e.1.of_lane in
-          let known = handed l.cycle (omega (arith, e.1.some, l.later)) j (before z h.helper.direction) l.lane l.at in
-          let step = is.handed z (subst (λ (q : Piece). has q.domain z ≡ true) (sym same_piece) h.within) (subst (λ (q : Piece). has q.domain (before z h.helper.direction) ≡ true) (sym same_piece) e.0) in
-          step ∙ known ∙ ap Some (lane_word w program n stream run t.is_run Hand c lt p source source_placed j (before z h.helper.direction) l))
-    ] in
-    is_word ∙ ap Some (sym on_wire)
-  where
-    some_of : {X : Type 0} (x y : X) (o : Option X) → o ≡ Some x → o ≡ Some y → x ≡ y
-    some_of x y o e f = some_is x y (sym e ∙ f)
+    let on_wire : v ((labels program).value p) ≡ meaning.word_of v (operand_of (labels program) w source) = shown ∙ ap (λ (t : Tree). value_by w.bits (words_in (labels program) w v c work) 0 t) h.tree in
+    helper_word w program s hs listing At Hand x u g n stream run t c lt earlier handed p source placed j z h.brought ∙ ap Some (sym on_wire)
 
 -- those of the computations, from those and from the cycles before
 one_cycle : (w : Width) (program : Program) (s : FlatSystem) (hs : List Helper) (listing : Listing) (At Hand : Placement) (x u : Assignment) (g : HelperWords) (n : ℕ) (stream : Stream) (run : Run) → Setting w program s hs listing At Hand x u g n stream run
@@ -248,7 +269,7 @@ one_cycle w program s hs listing At Hand x u g n stream run t c lt few earlier h
     let value : HasHelped (scene s u v) (helped_at hs g 0 place h.number) 0 work.tree z a = piece_value (scene s u v) (helped_at hs g 0 place) z h.number work.tree a 0 v.pieces (λ k q at inside. let o = h.piece k q at inside in (omega (arith, o.0), o.1)) satisfied.3 in
     let placed = t.is_program.sources p h.lane h.lane_is in
     let source_placed : (k : ℕ) → IsPlaced w.bits program p (site_source c work k) = of_cell (IsPlaced w.bits program p) c h.lane placed (pow_pos w.bits) in
-    let each = place_weaker (λ k i t. IsBrought s listing.ins At Hand c (site_source c work k) (read_at (helper_at hs place h.number i) t z)) (λ k i t. (a : ℕ) → HasHelped (scene s u v) (helped_at hs g 0 place h.number) i t z a → a ≡ words k)
+    let each = place_weaker (λ k i t. IsBrought s hs listing.ins At Hand c (site_source c work k) (read_at (helper_at hs place h.number i) t z)) (λ k i t. (a : ℕ) → HasHelped (scene s u v) (helped_at hs g 0 place h.number) i t z a → a ≡ words k)
     (λ k i q brought. place_word w program s hs listing At Hand x u g n stream run t c lt earlier handed p (site_source c work k) (source_placed k) v place h.number z i q brought) 0 0 work.tree h.brought in
     let is : a ≡ value_by v.width words 0 work.tree = value_is (scene s u v) (helped_at hs g 0 place h.number) z words 0 0 work.tree each a value in
     let width : v.width ≡ w.bits = each_at (λ (v : Variable). v.width ≡ w.bits) s.variables (recursion_from_All (λ (v : Variable). v.width ≡ w.bits) s.variables t.widths) place v h.variable_is in

@@ -1,8 +1,7 @@
 -- The module of the program of an array: sound, in array form and linked, and it shows every solution.
 use Rattle.std.proofs.Common.{◌≡◌, ℕ, zero, suc, ◌+◌, ◌^◌, ◌<◌, ◌≤◌, List, [], ◌∷◌, length, map, refl, sym, subst, arith, ◌∙◌, ap, Bool, true, false, if◌then◌else◌, Some}
-use Rattle.std.specs.Prelude.{All, Contains, slice_get, filter}
+use Rattle.std.specs.Prelude.{All, slice_get, filter}
 use Rattle.std.specs.List.{AllByRecursion, range_with_len}
-use Rattle.std.proofs.lemmas.List.Elements.{All-contains}
 use Rattle.av_base.specs.declared.width.Width.{Width}
 use Rattle.av_tree.specs.Values.{Assignment}
 use Rattle.av_net.specs.declared.design.Listing.{Listing}
@@ -53,7 +52,7 @@ lane_good w a lanes listing program g q lane (of_value p c n z v computes is_var
     let declared : has v.domain z ≡ true = subst (λ (x : Variable). has x.domain z ≡ true) same computation.declared in
     let good = good_value w a lanes listing.ins program g.arranged g.few g.words p c n z v own.place own.is_variable own.is_one (sym own.number) computes is_variable declared (computed_node v own.is_one) lane is in
     subst (λ k. GoodLane w.bits (IsOwn w.bits program a.ports a.links q k) lane) (sym is.home_is) (subst (λ k. GoodLane w.bits (IsOwn w.bits program a.ports a.links k p) lane) (sym at) good)
-lane_good w a lanes listing program g q lane (of_helper j h v piece r is p c z computes within at l) =
+lane_good w a lanes listing program g q lane (of_helper j h v piece r is p c z computes within is_later at l) =
     let good = good_helper w a lanes listing.ins program g.arranged g.few j h v piece r is p q lane l in
     subst (λ k. GoodLane w.bits (IsOwn w.bits program a.ports a.links q k) lane) (sym l.home_is) good
 
@@ -105,15 +104,15 @@ lane_small : (w : Width) (a : Array) (lanes : Lanes) (listing : Listing) (progra
     → (lane.home < 2 ^ 64) × (lane.rank < program.stride)
 lane_small w a lanes listing program g q lane there (of_value p c n z v computes is_variable at is) =
     (omega (arith, is.home_is, in_range a.cells p computes.cell computes.is_cell, g.cells), omega (arith, is.rank_is, g.arranged.is_program.stride_is))
-lane_small w a lanes listing program g q lane there (of_helper j h v piece r is p c z computes within at l) =
+lane_small w a lanes listing program g q lane there (of_helper j h v piece r is p c z computes within is_later at l) =
     (omega (arith, l.home_is, in_range a.cells p computes.cell computes.is_cell, g.cells), omega (arith, l.rank_is, g.arranged.is_program.stride_is, in_range a.helpers j h is.is_helper))
 
 lanes_apart : (a : Array) (lanes : Lanes) (p q : ℕ) (x y : Lane) → IsLaneFor a lanes p x → IsLaneFor a lanes q y → x.home ≡ y.home → x.rank ≡ y.rank → p ≡ q
 lanes_apart a lanes p q x y (of_value m c n z v computes is_variable at is) (of_value m' c' n' z' v' computes' is_variable' at' is') home rank =
     let e : m ≡ m' = omega (arith, is.home_is, is'.home_is, home) in at ∙ ap lanes.of_value e ∙ sym at'
-lanes_apart a lanes p q x y (of_value m c n z v computes is_variable at is) (of_helper j h v' piece r is' p' c' z' computes' within at' l) home rank = absurd (omega (arith, is.rank_is, l.rank_is, rank))
-lanes_apart a lanes p q x y (of_helper j h v piece r is p' c z computes within at l) (of_value m c' n' z' v' computes' is_variable' at' is') home rank = absurd (omega (arith, is'.rank_is, l.rank_is, rank))
-lanes_apart a lanes p q x y (of_helper j h v piece r is m c z computes within at l) (of_helper j' h' v' piece' r' is' m' c' z' computes' within' at' l') home rank =
+lanes_apart a lanes p q x y (of_value m c n z v computes is_variable at is) (of_helper j h v' piece r is' p' c' z' computes' within is_later at' l) home rank = absurd (omega (arith, is.rank_is, l.rank_is, rank))
+lanes_apart a lanes p q x y (of_helper j h v piece r is p' c z computes within is_later at l) (of_value m c' n' z' v' computes' is_variable' at' is') home rank = absurd (omega (arith, is'.rank_is, l.rank_is, rank))
+lanes_apart a lanes p q x y (of_helper j h v piece r is m c z computes within is_later at l) (of_helper j' h' v' piece' r' is' m' c' z' computes' within' is_later' at' l') home rank =
     let e : m ≡ m' = omega (arith, l.home_is, l'.home_is, home) in
     let f : j ≡ j' = omega (arith, l.rank_is, l'.rank_is, rank) in
     at ∙ ap (λ k. lanes.of_helper k m) f ∙ ap (lanes.of_helper j') e ∙ sym at'

@@ -76,12 +76,35 @@ pub record IsEarlier (At : Placement) (c : ℕ) (source : Source) (place : ℕ) 
   pub of_lane : IsOfLane At c source place y
   pub some : 0 < of_lane.delay
 
--- the source has in this cycle what is read; a helper's word may be of the same cycle
-abbrev pub IsBrought : FlatSystem → List Entry → Placement → Placement → ℕ → Source → Read → Type 0
-IsBrought s ins At Hand c source (number n) = source ≡ word n
-IsBrought s ins At Hand c source (at_point place y) = IsPresented s ins c source place y ⊎ IsEarlier At c source place y
-IsBrought s ins At Hand c source (of_helper h z) = IsOfLane Hand c source h z
-IsBrought s ins At Hand c source nothing = ⊥
+-- the source has in this cycle the word of the point
+abbrev pub IsPointBrought : FlatSystem → List Entry → Placement → ℕ → Source → ℕ → Point → Type 0
+IsPointBrought s ins At c source place y = IsPresented s ins c source place y ⊎ IsEarlier At c source place y
+
+-- a helper is brought its reference's word at an entry point, and else its own word at the point before
+abbrev pub IsHandedOn : FlatSystem → List Entry → Placement → Placement → ℕ → Source → Helper → ℕ → Piece → Reference → Point → Type 0
+IsHandedOn s ins At Hand c source h j piece r z =
+    (IsEntry piece.domain h.direction z × IsPointBrought s ins At c source r.place (image r.map.rows z))
+    ⊎ (IsTrue (has piece.domain (before z h.direction)) × IsEarlier Hand c source j (before z h.direction))
+
+-- the source has in this cycle what brings the word of the helper j at the point
+pub record IsHelperBrought (s : FlatSystem) (hs : List Helper) (ins : List Entry) (At Hand : Placement) (c : ℕ) (source : Source) (j : ℕ) (z : Point) : Type 0 where
+  pub helper : Helper
+  pub helper_is : slice_get hs j ≡ Some helper
+  pub variable : Variable
+  pub variable_is : slice_get s.variables helper.var ≡ Some variable
+  pub piece : Piece
+  pub piece_is : slice_get variable.pieces helper.piece ≡ Some piece
+  pub read : Reference
+  pub read_is : slice_get (references piece.tree) helper.site ≡ Some read
+  pub within : IsTrue (has piece.domain z)
+  pub brought : IsHandedOn s ins At Hand c source helper j piece read z
+
+-- the source has in this cycle what is read; a helper's word is that of its lane, maybe of the same cycle, or it is brought without one
+abbrev pub IsBrought : FlatSystem → List Helper → List Entry → Placement → Placement → ℕ → Source → Read → Type 0
+IsBrought s hs ins At Hand c source (number n) = source ≡ word n
+IsBrought s hs ins At Hand c source (at_point place y) = IsPointBrought s ins At c source place y
+IsBrought s hs ins At Hand c source (of_helper j z) = IsOfLane Hand c source j z ⊎ IsHelperBrought s hs ins At Hand c source j z
+IsBrought s hs ins At Hand c source nothing = ⊥
 
 -- the lane works in this cycle on the piece that holds the point
 pub record IsWorked (s : FlatSystem) (hs : List Helper) (ins : List Entry) (program : Program) (At Hand : Placement) (place : ℕ) (z : Point) (p c : ℕ) : Type 0 where
@@ -93,29 +116,14 @@ pub record IsWorked (s : FlatSystem) (hs : List Helper) (ins : List Entry) (prog
   pub declared : IsTrue (has variable.domain z)
   pub number : ℕ
   pub piece : (k : ℕ) (piece : Piece) → slice_get variable.pieces k ≡ Some piece → IsTrue (has piece.domain z) → (k ≡ number) × (piece.tree ≡ (work_in c lane).tree)
-  pub brought : EachPlace (λ k n t. IsBrought s ins At Hand c (site_source c (work_in c lane) k) (read_at (helper_at hs place number n) t z)) 0 0 (work_in c lane).tree
-
--- a helper is brought its reference's word at an entry point, and else its own word at the point before
-abbrev pub IsHandedOn : FlatSystem → List Entry → Placement → Placement → ℕ → Source → Helper → ℕ → Piece → Reference → Point → Type 0
-IsHandedOn s ins At Hand c source h j piece r z =
-    (IsEntry piece.domain h.direction z × IsBrought s ins At Hand c source (at_point r.place (image r.map.rows z)))
-    ⊎ (IsTrue (has piece.domain (before z h.direction)) × IsEarlier Hand c source j (before z h.direction))
+  pub brought : EachPlace (λ k n t. IsBrought s hs ins At Hand c (site_source c (work_in c lane) k) (read_at (helper_at hs place number n) t z)) 0 0 (work_in c lane).tree
 
 -- the lane has in this cycle the helper's word at the point
 pub record IsHandled (s : FlatSystem) (hs : List Helper) (ins : List Entry) (program : Program) (At Hand : Placement) (j : ℕ) (z : Point) (p c : ℕ) : Type 0 where
   pub lane : Lane
   pub lane_is : slice_get program.lanes p ≡ Some lane
-  pub helper : Helper
-  pub helper_is : slice_get hs j ≡ Some helper
-  pub variable : Variable
-  pub variable_is : slice_get s.variables helper.var ≡ Some variable
-  pub piece : Piece
-  pub piece_is : slice_get variable.pieces helper.piece ≡ Some piece
-  pub read : Reference
-  pub read_is : slice_get (references piece.tree) helper.site ≡ Some read
-  pub within : IsTrue (has piece.domain z)
-  pub tree : (work_in c lane).tree ≡ reference read.place read.map
-  pub brought : IsHandedOn s ins At Hand c (site_source c (work_in c lane) 0) helper j piece read z
+  pub brought : IsHelperBrought s hs ins At Hand c (site_source c (work_in c lane) 0) j z
+  pub tree : (work_in c lane).tree ≡ reference brought.read.place brought.read.map
 
 -- At places the computations, Hand the words of the helpers
 pub record Serves (s : FlatSystem) (hs : List Helper) (ins : List Entry) (program : Program) (At Hand : Placement) : Type 0 where

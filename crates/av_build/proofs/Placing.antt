@@ -1,0 +1,121 @@
+-- Lists that a loop writes, one element after another.
+use Rattle.std.proofs.Common.{◌≡◌, ℕ, zero, suc, ◌+◌, ◌<◌, List, [], ◌∷◌, ◌++◌, length, map, take, drop, get_or, refl, sym, subst, arith, ◌∙◌, ap, append_assoc, Some}
+use Rattle.std.specs.Prelude.{slice_get}
+use Rattle.std.specs.List.{AllByRecursion, range_with_len, enumerate_from}
+use Rattle.std.proofs.lemmas.List.{length-append, length-map, length-take-le, take_more, map-append}
+use Rattle.std.proofs.lemmas.List.FromFn.{map-range_with_len_more, get_or-enumerate_from, length-enumerate_from}
+use Rattle.av_net.specs.declared.operation.Operand.TheVariants.{Name}
+use Rattle.av_net.specs.declared.operation.Operation.{Operation}
+use Rattle.av_net.specs.declared.operation.Operation.TheVariants.{Plain}
+use Rattle.av_net.specs.declared.netlist.Port.{Port}
+use Rattle.av_net.specs.declared.netlist.Drive.{Drive}
+use Rattle.av_net.specs.declared.netlist.Step.{Step}
+use Rattle.av_build.specs.declared.gates.Gate.{Gate}
+use Rattle.av_build.specs.declared.naming.LaneNames.{LaneNames}
+use Rattle.av_build.specs.Gates.{Naming, drives_from, ports_from}
+use Rattle.av_build.specs.Labels.{labels}
+use Rattle.av_build.specs.Names.{Labels, line_name, output_name}
+use Rattle.av_build.specs.Programs.{Program}
+use Rattle.av_build.specs.Modules.{output_drives}
+use Rattle.av_build.specs.inner.Numbered.{line_in, IsNaming}
+
+pub range_more : {X : Type 0} (f : ℕ → X) (front old new : List X) (n : ℕ) (x : X) → old ≡ front ++ map f (range_with_len 0 n) → new ≡ old ++ x ∷ [] → x ≡ f n → new ≡ front ++ map f (range_with_len 0 (n + 1))
+range_more f front old new n x before is here =
+    let at : 0 + n ≡ n = omega arith in
+    is ∙ ap (λ ys. ys ++ x ∷ []) before ∙ ap (λ y. (front ++ map f (range_with_len 0 n)) ++ y ∷ []) here ∙ append_assoc front (map f (range_with_len 0 n)) (f n ∷ [])
+    ∙ ap (λ ys. front ++ ys) (sym (map-range_with_len_more f 0 n n at))
+
+-- ---- names
+
+-- what has the lane's word of so many cycles before
+pub line_named : (program : Program) (q : ℕ) (names : LaneNames) → IsNaming program q names → (d : ℕ) → line_in names d ≡ line_name (labels program) q d
+line_named program q names h zero = h.value
+line_named program q names h (suc d) = ap (λ (f : ℕ → List ℕ). f d) h.register
+
+abbrev pub step_with : List ℕ → List ℕ → Step
+step_with register next = record { register = register; reset = 0; next = Name next }
+
+pub same_step : (a b c d : List ℕ) → a ≡ c → b ≡ d → step_with a b ≡ step_with c d
+same_step a b c d e f = ap (λ x. step_with x b) e ∙ ap (step_with c) f
+
+abbrev pub drive_of : List ℕ → Operation → Drive
+drive_of target operation = record { target = target; operation = operation }
+
+-- ---- gates
+
+ports_more : (name : Naming) (n : ℕ) (gates : List Gate) (g : Gate) (k : ℕ) → n + length gates ≡ k → ports_from name n (gates ++ g ∷ []) ≡ ports_from name n gates ++ record { name = name k; width = g.width } ∷ []
+ports_more name n [] g k at = let e : n ≡ k = omega arith in ap (λ i. let p : Port = record { name = name i; width = g.width } in p ∷ []) e
+ports_more name n (f ∷ gates) g k at = let e : n + 1 + length gates ≡ k = omega arith in ap (λ (ps : List Port). record { name = name n; width = f.width } ∷ ps) (ports_more name (n + 1) gates g k e)
+
+drives_more : (name : Naming) (n : ℕ) (gates : List Gate) (g : Gate) (k : ℕ) → n + length gates ≡ k → drives_from name n (gates ++ g ∷ []) ≡ drives_from name n gates ++ drive_of (name k) g.operation ∷ []
+drives_more name n [] g k at = let e : n ≡ k = omega arith in ap (λ i. drive_of (name i) g.operation ∷ []) e
+drives_more name n (f ∷ gates) g k at = let e : n + 1 + length gates ≡ k = omega arith in ap (λ (ds : List Drive). drive_of (name n) f.operation ∷ ds) (drives_more name (n + 1) gates g k e)
+
+-- the number of an item is how many came before
+pub number_is : (gates : List Gate) (i n : ℕ) (g : Gate) → (i < length (enumerate_from 0 gates)) × (◌≡◌ {A = ℕ × Gate} (n, g) (get_or (enumerate_from 0 gates) i (n, g))) → n ≡ i
+number_is gates i n g h =
+    let within : i < length gates = omega (arith, h.0, length-enumerate_from 0 gates) in
+    let e : ◌≡◌ {A = ℕ × Gate} (n, g) (0 + i, get_or gates i g) = h.1 ∙ get_or-enumerate_from 0 gates i (n, g) within in
+    let first : n ≡ 0 + i = ap (λ (p : ℕ × Gate). p.0) e in
+    omega (arith, first)
+
+pub next_port : (name : Naming) (front old new : List Port) (yielded : List (ℕ × Gate)) (n : ℕ) (g : Gate) (text : List ℕ) → n ≡ length yielded
+    → old ≡ front ++ ports_from name 0 (map (λ p. p.1) yielded) → new ≡ old ++ record { name = text; width = g.width } ∷ [] → text ≡ name n
+    → new ≡ front ++ ports_from name 0 (map (λ p. p.1) (yielded ++ (n, g) ∷ []))
+next_port name front old new yielded n g text many before is here =
+    let gates : List Gate = map (λ (p : ℕ × Gate). p.1) yielded in
+    let at : 0 + length gates ≡ n = omega (arith, many, length-map yielded (λ (p : ℕ × Gate). p.1)) in
+    let all : map (λ (p : ℕ × Gate). p.1) (yielded ++ (n, g) ∷ []) ≡ gates ++ g ∷ [] = map-append (λ (p : ℕ × Gate). p.1) yielded ((n, g) ∷ []) in
+    is ∙ ap (λ (ps : List Port). ps ++ record { name = text; width = g.width } ∷ []) before
+    ∙ ap (λ (t : List ℕ). (front ++ ports_from name 0 gates) ++ record { name = t; width = g.width } ∷ []) here
+    ∙ append_assoc front (ports_from name 0 gates) (record { name = name n; width = g.width } ∷ [])
+    ∙ ap (λ (ps : List Port). front ++ ps) (sym (ports_more name 0 gates g n at))
+    ∙ ap (λ (gs : List Gate). front ++ ports_from name 0 gs) (sym all)
+
+pub next_gate : (name : Naming) (front old new : List Drive) (yielded : List (ℕ × Gate)) (n : ℕ) (g : Gate) (text : List ℕ) → n ≡ length yielded
+    → old ≡ front ++ drives_from name 0 (map (λ p. p.1) yielded) → new ≡ old ++ drive_of text g.operation ∷ [] → text ≡ name n
+    → new ≡ front ++ drives_from name 0 (map (λ p. p.1) (yielded ++ (n, g) ∷ []))
+next_gate name front old new yielded n g text many before is here =
+    let gates : List Gate = map (λ (p : ℕ × Gate). p.1) yielded in
+    let at : 0 + length gates ≡ n = omega (arith, many, length-map yielded (λ (p : ℕ × Gate). p.1)) in
+    let all : map (λ (p : ℕ × Gate). p.1) (yielded ++ (n, g) ∷ []) ≡ gates ++ g ∷ [] = map-append (λ (p : ℕ × Gate). p.1) yielded ((n, g) ∷ []) in
+    is ∙ ap (λ (ds : List Drive). ds ++ drive_of text g.operation ∷ []) before
+    ∙ ap (λ (t : List ℕ). (front ++ drives_from name 0 gates) ++ drive_of t g.operation ∷ []) here
+    ∙ append_assoc front (drives_from name 0 gates) (drive_of (name n) g.operation ∷ [])
+    ∙ ap (λ (ds : List Drive). front ++ ds) (sym (drives_more name 0 gates g n at))
+    ∙ ap (λ (gs : List Gate). front ++ drives_from name 0 gs) (sym all)
+
+-- ---- outputs
+
+abbrev pub output_drive : Labels → ℕ → ℕ → Drive
+output_drive names k q = drive_of (output_name k) (Plain (Name (names.value q)))
+
+outputs_more : (names : Labels) (k : ℕ) (outputs : List ℕ) (q j : ℕ) → k + length outputs ≡ j → output_drives names k (outputs ++ q ∷ []) ≡ output_drives names k outputs ++ output_drive names j q ∷ []
+outputs_more names k [] q j at = let e : k ≡ j = omega arith in ap (λ i. output_drive names i q ∷ []) e
+outputs_more names k (p ∷ outputs) q j at = let e : k + 1 + length outputs ≡ j = omega arith in ap (λ (ds : List Drive). output_drive names k p ∷ ds) (outputs_more names (k + 1) outputs q j e)
+
+pub next_output : (names : Labels) (front old new : List Drive) (outputs : List ℕ) (n : ℕ) (target value : List ℕ) → n < length outputs
+    → old ≡ front ++ output_drives names 0 (take n outputs) → new ≡ old ++ drive_of target (Plain (Name value)) ∷ [] → target ≡ output_name n → value ≡ names.value (get_or outputs n 0)
+    → new ≡ front ++ output_drives names 0 (take (n + 1) outputs)
+next_output names front old new outputs n target value within before is here there =
+    let q = get_or outputs n 0 in
+    let many : length (take n outputs) ≡ n = length-take-le n outputs (omega arith) in
+    let at : 0 + length (take n outputs) ≡ n = omega (arith, many) in
+    is ∙ ap (λ (ds : List Drive). ds ++ drive_of target (Plain (Name value)) ∷ []) before
+    ∙ ap (λ (t : List ℕ). (front ++ output_drives names 0 (take n outputs)) ++ drive_of t (Plain (Name value)) ∷ []) here
+    ∙ ap (λ (t : List ℕ). (front ++ output_drives names 0 (take n outputs)) ++ drive_of (output_name n) (Plain (Name t)) ∷ []) there
+    ∙ append_assoc front (output_drives names 0 (take n outputs)) (output_drive names n q ∷ [])
+    ∙ ap (λ (ds : List Drive). front ++ ds) (sym (outputs_more names 0 (take n outputs) q n at))
+    ∙ ap (λ (qs : List ℕ). front ++ output_drives names 0 qs) (sym (take_more outputs n 0 within))
+
+-- ---- elements
+
+pub each_read : {X Y : Type 0} (P : Y → Type 0) (f : X → Y) (xs : List X) → AllByRecursion P (map f xs) → (k : ℕ) (d x : X) → k < length xs → x ≡ get_or xs k d → P (f x)
+each_read P f [] h k d x lt is = absurd (omega arith)
+each_read P f (y ∷ xs) h zero d x lt is = subst (λ z. P (f z)) (sym is) h.0
+each_read P f (y ∷ xs) h (suc k) d x lt is = each_read P f xs h.1 k d x (omega arith) is
+
+pub read_mapped : {X Y : Type 0} (f : X → Y) (xs : List X) (k : ℕ) (d x : X) → k < length xs → x ≡ get_or xs k d → slice_get (map f xs) k ≡ Some (f x)
+read_mapped f [] k d x lt is = absurd (omega arith)
+read_mapped f (y ∷ xs) zero d x lt is = ap (λ z. Some (f z)) (sym is)
+read_mapped f (y ∷ xs) (suc k) d x lt is = read_mapped f xs k d x (omega arith) is
