@@ -1,9 +1,7 @@
 -- Steps of writing selections and turns, put together.
 use Rattle.std.proofs.Common.{◌≡◌, ℕ, zero, suc, ◌+◌, ◌<◌, ◌≤◌, List, [], ◌∷◌, ◌++◌, length, map, drop, get_or, refl, sym, subst, arith, ◌∙◌, ap, append_assoc}
-use Rattle.std.proofs.lemmas.List.{length-append, append-nil, length-map}
-use Rattle.std.specs.List.{AllByRecursion}
+use Rattle.std.proofs.lemmas.List.{length-append, append-nil}
 use Rattle.av_base.specs.declared.width.Width.{Width}
-use Rattle.av_net.specs.declared.operation.Symbol.TheVariants.{And, LessEqual, GreaterEqual}
 use Rattle.av_net.specs.declared.operation.Operand.{Operand}
 use Rattle.av_net.specs.declared.operation.Operand.TheVariants.{Name}
 use Rattle.av_net.specs.declared.operation.Operation.{Operation}
@@ -12,10 +10,9 @@ use Rattle.av_flat.specs.Trees.{Tree}
 use Rattle.av_build.specs.declared.gates.Gate.{Gate}
 use Rattle.av_build.specs.Gates.{gate, Naming, Built, built, Named, named, named_by}
 use Rattle.av_build.specs.Trees.{one_bit, tree_built}
-use Rattle.av_build.specs.Choices.{Span, within, span_built, either_built, Option, Tap, options_built, tap_built}
+use Rattle.av_build.specs.Choices.{Span, span_built, either_built, Option, Tap, options_built, tap_built}
 use Rattle.av_build.specs.Cells.{Part, Turn, Taken, taps_built, operand_at, over_taps, part_built, turns_built}
 use Rattle.av_build.specs.inner.Added.{AddsNamed, AddsBuilt, AddsOperand, AddsTaken, choice_built, counter}
-use Rattle.av_build.proofs.Added.{width_is}
 
 -- ---- a wire for the root
 
@@ -40,38 +37,6 @@ named_added name w g0 g1 g2 b root a h k =
     record {
       gates_are = k.gates_are ∙ ap (λ (x : Named). x.gates) e ∙ named_gates name w g0 b.gates b.root;
       operand_is = k.operand_is ∙ ap (λ (x : Named). x.operand) e ∙ named_operand name w g0 b.gates b.root;
-    }
-
--- ---- tests of stretches
-
-pub between_added : (name : Naming) (v : Width) (g0 g1 g2 : List Gate) (first last left right : Operand) → v ≡ one_bit
-    → AddsNamed g1 (named_by name 0 v g0 (Binary counter GreaterEqual first)) left → AddsNamed g2 (named_by name 0 v g1 (Binary counter LessEqual last)) right
-    → AddsBuilt g0 g2 (span_built name (length g0) counter (within first last)) (Binary left And right)
-between_added name v g0 g1 g2 first last left right is h k =
-    let a = gate one_bit (Binary counter GreaterEqual first) in
-    let b = gate one_bit (Binary counter LessEqual last) in
-    let one : g1 ≡ g0 ++ a ∷ [] = h.gates_are ∙ ap (λ (u : Width). g0 ++ gate u (Binary counter GreaterEqual first) ∷ []) is in
-    let two : g2 ≡ g1 ++ b ∷ [] = k.gates_are ∙ ap (λ (u : Width). g1 ++ gate u (Binary counter LessEqual last) ∷ []) is in
-    let at : 0 + length g0 ≡ length g0 = omega arith in
-    let many : length g1 ≡ length (g0 ++ a ∷ []) = ap length one in
-    let next : 0 + length g1 ≡ length g0 + 1 = omega (arith, many, length-append g0 (a ∷ [])) in
-    let left_is : left ≡ Name (name (length g0)) = h.operand_is ∙ ap (λ i. Name (name i)) at in
-    let right_is : right ≡ Name (name (length g0 + 1)) = k.operand_is ∙ ap (λ i. Name (name i)) next in
-    record {
-      gates_are = two ∙ ap (λ (gs : List Gate). gs ++ b ∷ []) one ∙ append_assoc g0 (a ∷ []) (b ∷ []);
-      root_is = ap (λ (x : Operand). Binary x And right) left_is ∙ ap (λ (y : Operand). Binary (Name (name (length g0))) And y) right_is;
-    }
-
-pub choice_added : (name : Naming) (v : Width) (g0 g1 g2 : List Gate) (span : Span) (test : Operation) (condition first second : Operand) → v ≡ one_bit
-    → AddsBuilt g0 g1 (span_built name (length g0) counter span) test → AddsNamed g2 (named_by name 0 v g1 test) condition
-    → AddsBuilt g0 g2 (choice_built name (length g0) span first second) (Choose condition first second)
-choice_added name v g0 g1 g2 span test condition first second is h k =
-    let one = named_added name v g0 g1 g2 (span_built name (length g0) counter span) test condition h k in
-    let e : named name (length g0) v (span_built name (length g0) counter span) ≡ named name (length g0) one_bit (span_built name (length g0) counter span) =
-    ap (λ (u : Width). named name (length g0) u (span_built name (length g0) counter span)) is in
-    record {
-      gates_are = one.gates_are ∙ ap (λ (x : Named). g0 ++ x.gates) e;
-      root_is = ap (λ (x : Operand). Choose x first second) (one.operand_is ∙ ap (λ (x : Named). x.operand) e);
     }
 
 -- ---- choices

@@ -109,11 +109,3 @@ pub lane_steps : (program : Program) (p : ℕ) (lane : Lane) (names : LaneNames)
 lane_steps program p lane names is =
     same_range (step_in names) (line_step (labels program) p)
     (λ d. same_step (register_in names d) (line_in names d) ((labels program).register p d) (line_name (labels program) p d) (ap (λ (f : ℕ → List ℕ). f d) is.register) (line_named program p names is d)) 0 lane.length
-
--- ---- the counter
-
-pub if_it_counts : {X : Type 0} (program : Program) (x : X) → counts program ≡ true → x ∷ [] ≡ if_counted program x
-if_it_counts program x is = ap (λ (b : Bool). if b then x ∷ [] else []) (sym is)
-
-pub if_it_does_not : {X : Type 0} (program : Program) (x : X) → counts program ≡ false → [] ≡ if_counted program x
-if_it_does_not program x is = ap (λ (b : Bool). if b then x ∷ [] else []) (sym is)

@@ -194,22 +194,43 @@ fn two_lanes<'a>(alloc: Global, place: &'a Tree, sum: &'a Tree) -> Result<Progra
     })
 }
 
+// A module as text.
+#[derive(Debug, Drop)]
+struct Texts {
+    inputs: String,
+    outputs: String,
+    wires: String,
+    registers: String,
+    drives: String,
+    steps: String,
+}
+
+// The module of a program over words of 8 bits, as text.
+fn texts(alloc: Global, program: &Program<'_>) -> Result<Texts, Memory>
+    requires { IsWritable (program_of program.now) }
+{
+    let module = netlist(alloc, Width { bits: 8 }, program)?;
+    Ok(Texts {
+        inputs: port_texts(alloc, module.inputs.as_slice())?,
+        outputs: port_texts(alloc, module.outputs.as_slice())?,
+        wires: port_texts(alloc, module.wires.as_slice())?,
+        registers: port_texts(alloc, module.registers.as_slice())?,
+        drives: drive_texts(alloc, module.drives.as_slice())?,
+        steps: step_texts(alloc, module.steps.as_slice())?,
+    })
+}
+
 #[test]
 fn the_increment_is_one_sum(rt: HostRuntime) -> Result<(), Fail> {
     let alloc = rt.alloc();
-    let tree = plus_one(alloc)?;
-    let program = increment(alloc, &tree)?;
-    let module = netlist(alloc, Width { bits: 8 }, &program)?;
-    let inputs = port_texts(alloc, module.inputs.as_slice())?;
-    assert_eq!(rt; inputs.as_str(), "i0 8; ");
-    let outputs = port_texts(alloc, module.outputs.as_slice())?;
-    assert_eq!(rt; outputs.as_str(), "o0 8; ");
-    let wires = port_texts(alloc, module.wires.as_slice())?;
-    assert_eq!(rt; wires.as_str(), "c0 8; ");
-    let drives = drive_texts(alloc, module.drives.as_slice())?;
-    assert_eq!(rt; drives.as_str(), "c0 = i0 Add 8'd1; o0 = c0; ");
-    assert!(rt; module.registers.as_slice().is_empty());
-    assert!(rt; module.steps.as_slice().is_empty());
+    let sum = plus_one(alloc)?;
+    let module = texts(alloc, &increment(alloc, &sum)?)?;
+    assert_eq!(rt; module.inputs.as_str(), "i0 8; ");
+    assert_eq!(rt; module.outputs.as_str(), "o0 8; ");
+    assert_eq!(rt; module.wires.as_str(), "c0 8; ");
+    assert_eq!(rt; module.registers.as_str(), "");
+    assert_eq!(rt; module.drives.as_str(), "c0 = i0 Add 8'd1; o0 = c0; ");
+    assert_eq!(rt; module.steps.as_str(), "");
     Ok(())
 }
 
@@ -218,19 +239,13 @@ fn lanes_of_a_cell_share_its_numbers(rt: HostRuntime) -> Result<(), Fail> {
     let alloc = rt.alloc();
     let sum = plus_one(alloc)?;
     let read = place();
-    let program = two_lanes(alloc, &read, &sum)?;
-    let module = netlist(alloc, Width { bits: 8 }, &program)?;
-    let wires = port_texts(alloc, module.wires.as_slice())?;
-    assert_eq!(rt; wires.as_str(), "c0_3 1; c0_1 8; c0_2 8; c0_4 1; c0_6 1; c0_8 1; c0 8; cyc_next 12; ");
-    let registers = port_texts(alloc, module.registers.as_slice())?;
-    assert_eq!(rt; registers.as_str(), "r0_1 8; cyc 12; ");
-    let drives = drive_texts(alloc, module.drives.as_slice())?;
-    assert_eq!(
-        rt;
-        drives.as_str(),
-        "c0_3 = cyc LessEqual 12'd3; c0_1 = c0_3 ? i0 : r0_1; c0_2 = 8'd7 Add 8'd1; c0_4 = cyc GreaterEqual 12'd2; c0_6 = cyc LessEqual 12'd5; c0_8 = c0_4 And c0_6; c0 = c0_8 ? c0_1 : c0_2; o0 = c0; cyc_next = cyc Add 12'd1; "
-    );
-    let steps = step_texts(alloc, module.steps.as_slice())?;
-    assert_eq!(rt; steps.as_str(), "r0_1 <= c0_1; cyc <= cyc_next; ");
+    let module = texts(alloc, &two_lanes(alloc, &read, &sum)?)?;
+    assert_eq!(rt; module.registers.as_str(), "r0_1 8; cyc 12; ");
+    assert_eq!(rt; module.steps.as_str(), "r0_1 <= c0_1; cyc <= cyc_next; ");
+    assert_eq!(rt; module.wires.as_str(), "c0_3 1; c0_1 8; c0_2 8; c0_4 1; c0_6 1; c0_8 1; c0 8; cyc_next 12; ");
+    let lane = "c0_3 = cyc LessEqual 12'd3; c0_1 = c0_3 ? i0 : r0_1; ";
+    let value = "c0_2 = 8'd7 Add 8'd1; c0_4 = cyc GreaterEqual 12'd2; c0_6 = cyc LessEqual 12'd5; c0_8 = c0_4 And c0_6; c0 = c0_8 ? c0_1 : c0_2; ";
+    let drives = format!(in alloc; "{lane}{value}o0 = c0; cyc_next = cyc Add 12'd1; ")?;
+    assert_eq!(rt; module.drives.as_str(), drives.as_str());
     Ok(())
 }

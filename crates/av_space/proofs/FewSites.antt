@@ -26,7 +26,8 @@ use Rattle.av_space.proofs.Elements.{some_is, got, at_index, in_range, mapped}
 use Rattle.av_space.proofs.Nodes.{node_chained}
 use Rattle.av_space.proofs.OneCell.{one_node}
 use Rattle.av_space.proofs.Scheduling.{scheduled}
-use Rattle.av_space.proofs.Timely.{stands, there_is}
+use Rattle.av_space.proofs.ByPlace.{there_is}
+use Rattle.av_space.proofs.Timely.{stands}
 
 -- ---- places and parts
 

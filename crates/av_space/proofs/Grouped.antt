@@ -336,8 +336,3 @@ module _ (t : Timed) (n : ℕ) (p : Placing) (legal : IsLegal t) (placing : IsPl
           let less : a.0.slot.cycle < b.0.slot.cycle = omega (arith, up, sa, sb, ca, cb) in
           subst (λ (u : Slot). u.cycle < (get_or (map (λ (r : Ranked). r.slot) (take (end - start) (drop start ranked))) j d).cycle) a.3 (subst (λ (u : Slot). a.0.slot.cycle < u.cycle) b.3 less);
     }
-
-pub element_at : {X : Type 0} (xs : List X) (k : ℕ) → k < length xs → (x : X) × (slice_get xs k ≡ Some x)
-element_at [] k l = absurd (omega (arith, l))
-element_at (x ∷ xs) zero l = (x, refl)
-element_at (x ∷ xs) (suc k) l = element_at xs k (omega (arith, l))

@@ -28,7 +28,8 @@ use Rattle.av_flat.specs.Signatures.{signatures, is_computed}
 use Rattle.av_flat.specs.Chained.{IsChainedPiece}
 use Rattle.av_flat.proofs.Solving.{all_at}
 use Rattle.av_flat.proofs.Sets.{both_true}
-use Rattle.av_space.proofs.Grouped.{element_at, slots_of, cells_none, cells_more, cells_of_node, filled}
+use Rattle.av_space.proofs.ByPlace.{there_is}
+use Rattle.av_space.proofs.Grouped.{slots_of, cells_none, cells_more, cells_of_node, filled}
 use Rattle.av_space.proofs.Nodes.{node_chained, computed_point, node_passes}
 use Rattle.av_space.proofs.Orders.{pairs_append}
 
@@ -101,7 +102,7 @@ pub slots_of_cell : (s : FlatSystem) (placings : List Placing) (cells : List Cel
 slots_of_cell s placings cells slots k own h e =
     let l = slice_get_within slots k own e in
     let n = h.one_each in
-    let c = element_at cells k (omega (arith, l, n)) in
+    let c = there_is cells k (omega (arith, l, n)) in
     let f = h.each k c.0 own c.1 e in
     record {
       each = All-weaker (λ (t : Slot). (n : ℕ) × Stands s placings c.0 t.cycle n t.point) (IsSlot s placings cells k) (λ t r. record { node = r.0; computes = record { cell = c.0; is_cell = c.1; stands = r.1 } }) own f.each;
@@ -117,10 +118,10 @@ slots_of_cell s placings cells slots k own h e =
 
 pub node_computes : (t : Timed) (n : ℕ) → IsLegal t → n < length (nodes (view_system t.flat)) → (z : Point) × IsComputation (view_system t.flat) n z
 node_computes t n h l =
-    let v = element_at (nodes (view_system t.flat)) n l in
+    let v = there_is (nodes (view_system t.flat)) n l in
     let c = node_chained (view_system t.flat) n v.0 h.chained v.1 in
     let some = node_pieces (view_system t.flat) n v.0 v.1 in
-    let p = element_at v.0.pieces 0 some in
+    let p = there_is v.0.pieces 0 some in
     let k = all_at (IsChainedPiece (signatures (view_system t.flat)) v.0) v.0.pieces 0 p.0 c.pieces p.1 in
     (k.point, computed_point (view_system t.flat) n v.0 k.point v.1 (k.within k.point k.has_point))
   where
@@ -153,7 +154,7 @@ pub record AreCounted (n : ℕ) (p : Placing) (ranked : List Ranked) (start coun
 pub counted_more : (t : Timed) (n : ℕ) (p : Placing) (ranked : List Ranked) (start end count : ℕ) → IsLegal t → IsPlacing p → slice_get t.times n ≡ Some p.time → AreRanked (view_system t.flat) n p ranked
     → start < length ranked → IsRunEnd ranked start end → AreCounted n p ranked start count → AreCounted n p ranked end (count + 1)
 counted_more t n p ranked start end count legal placing time are l run h =
-    let first = element_at ranked start l in
+    let first = there_is ranked start l in
     let above = run.above in
     let below = h.below in
     let number = h.number in

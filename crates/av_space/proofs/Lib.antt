@@ -61,3 +61,4 @@ pub mod SpotReadings
 pub mod OnSpots
 pub mod PortOrder
 pub mod SlotEnds
+pub mod SpotOrigins

@@ -1,7 +1,6 @@
 -- Nodes with their pieces, as ports are looked for on them.
 use Rattle.std.proofs.Common.{◌≡◌, ℕ, ◌+◌, ◌^◌, ◌<◌, ◌≤◌, Some, List, length, map, get_or, sym, ap, subst, ◌∙◌, arith}
 use Rattle.std.specs.Prelude.{slice_get}
-use Rattle.std.proofs.lemmas.List.FromFn.{length-map-range_with_len}
 use Rattle.std.proofs.lemmas.Option.{slice_get_within}
 use Rattle.av_flat.specs.declared.flat.Piece.{Piece as PieceMade}
 use Rattle.av_flat.specs.declared.flat.Var.{Var}
@@ -23,7 +22,7 @@ use Rattle.av_space.specs.declared.ports.Ports.{Ports as Found}
 use Rattle.av_space.specs.Coordinates.{Placing}
 use Rattle.av_space.specs.Ports.{IsPort}
 use Rattle.av_space.specs.Quantities.{IsOperatorCount}
-use Rattle.av_space.specs.Taps.{node_of, node_place}
+use Rattle.av_space.specs.Taps.{node_of}
 use Rattle.av_space.specs.inner.Feeding.{IsFirstOf}
 use Rattle.av_space.specs.Layouts.{IsLayout}
 use Rattle.av_space.specs.inner.NodePieces.{IsNodePiece, IsPart, IsSmallNode, ArePortsOf, ArePortsAt}
@@ -113,6 +112,3 @@ small_node t l n legal layout h lt =
       few = (let a = b.pieces in let m = h.2 in omega (arith, a, m));
       short = λ k piece e. (let a = b.references k piece e in let m = h.2 in omega (arith, a, m));
     }
-
-pub as_many_places : (t : Timed) (l : Layout) → IsLayout t l → length l.places ≡ length (nodes (view_system t.flat))
-as_many_places t l layout = ap (λ (xs : List ℕ). length xs) layout.places ∙ length-map-range_with_len (node_place (view_system t.flat)) 0 (length (nodes (view_system t.flat)))

@@ -27,39 +27,7 @@ use Rattle.av_space.specs.Layouts.{IsSlot, AreSlots, IsLayout, places_of}
 use Rattle.av_space.proofs.ByPlace.{place_of}
 use Rattle.av_space.proofs.Elements.{some_is}
 
--- ---- the variable of a node
-
--- of the variables from a place on the n-th node is at the place that is found
-record HasPlace (a found : ℕ) (vs : List Variable) (v : Variable) : Type 0 where
-  place : ℕ
-  is : found ≡ a + place
-  there : slice_get vs place ≡ Some v
-
-later : (a found : ℕ) (w : Variable) (vs : List Variable) (v : Variable) → HasPlace (suc a) found vs v → HasPlace a found (w ∷ vs) v
-later a found w vs v h = record { place = suc h.place; is = (let e = h.is in omega (arith, e)); there = h.there }
-
-found_from : (a n : ℕ) (vs : List Variable) (v : Variable) → slice_get (filter is_node vs) n ≡ Some v → HasPlace a (place_from a n vs) vs v
-found_from a n [] v e = absurd cc
-found_from a zero (w ∷ vs) v e = go (is_node w) e (λ f. found_from (suc a) zero vs v f)
-  where
-    go : (b : Bool) → slice_get (if b then w ∷ filter is_node vs else filter is_node vs) 0 ≡ Some v
-        → (slice_get (filter is_node vs) 0 ≡ Some v → HasPlace (suc a) (place_from (suc a) 0 vs) vs v) → HasPlace a (if b then a else place_from (suc a) 0 vs) (w ∷ vs) v
-    go true e r = record { place = 0; is = omega arith; there = e }
-    go false e r = later a (place_from (suc a) 0 vs) w vs v (r e)
-found_from a (suc n) (w ∷ vs) v e = go (is_node w) e (λ f. found_from (suc a) n vs v f) (λ f. found_from (suc a) (suc n) vs v f)
-  where
-    go : (b : Bool) → slice_get (if b then w ∷ filter is_node vs else filter is_node vs) (suc n) ≡ Some v
-        → (slice_get (filter is_node vs) n ≡ Some v → HasPlace (suc a) (place_from (suc a) n vs) vs v)
-        → (slice_get (filter is_node vs) (suc n) ≡ Some v → HasPlace (suc a) (place_from (suc a) (suc n) vs) vs v)
-        → HasPlace a (if b then place_from (suc a) n vs else place_from (suc a) (suc n) vs) (w ∷ vs) v
-    go true e r q = later a (place_from (suc a) n vs) w vs v (r e)
-    go false e r q = later a (place_from (suc a) (suc n) vs) w vs v (q e)
-
-pub at_place : (s : FlatSystem) (n : ℕ) (v : Variable) → slice_get (nodes s) n ≡ Some v → slice_get s.variables (node_place s n) ≡ Some v
-at_place s n v e =
-    let h = found_from 0 n s.variables v e in
-    let same : h.place ≡ node_place s n = (let i = h.is in omega (arith, i)) in
-    subst (λ (k : ℕ). slice_get s.variables k ≡ Some v) same h.there
+-- ---- places
 
 -- the places of nodes, one by one
 pub place_of_node : (s : FlatSystem) (n : ℕ) → n < length (nodes s) → slice_get (places_of s) n ≡ Some (node_place s n)

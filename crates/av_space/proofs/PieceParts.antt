@@ -36,7 +36,8 @@ use Rattle.av_space.proofs.Directions.{first_step}
 use Rattle.av_space.proofs.Fed.{IsSiteOn, next_cell, node_of_port, same_reference}
 use Rattle.av_space.proofs.FirstCells.{node_between}
 use Rattle.av_space.proofs.Helpers.{found_helper}
-use Rattle.av_space.proofs.OnCells.{IsCellOf, at_place, place_of_node, node_in_places, slot_points}
+use Rattle.av_space.proofs.Nodes.{node_variable}
+use Rattle.av_space.proofs.OnCells.{IsCellOf, place_of_node, node_in_places, slot_points}
 
 -- ---- parts
 
@@ -204,7 +205,7 @@ fine_direction at is j place m e (Some h) f =
     let own = node_place s at.node in
     let r = found_helper hs 0 own at.number j h f in
     let moving = all_at (IsMoving s at.timed.now.times) hs r.at r.helper is.legal.helpers r.is_helper in
-    let var : moving.variable ≡ is.variable = some_is moving.variable is.variable (sym moving.is ∙ ap (λ (i : ℕ). slice_get s.variables i) r.var_is ∙ at_place s at.node is.variable is.is_variable) in
+    let var : moving.variable ≡ is.variable = some_is moving.variable is.variable (sym moving.is ∙ ap (λ (i : ℕ). slice_get s.variables i) r.var_is ∙ node_variable s at.node is.variable is.is_variable) in
     let piece : moving.piece ≡ view_piece at.piece.now = some_is moving.piece (view_piece at.piece.now)
     (sym moving.is_piece ∙ ap (λ (i : ℕ). slice_get moving.variable.pieces i) r.piece_is ∙ ap (λ (w : Variable). slice_get w.pieces at.number) var ∙ is.is_piece) in
     let same : moving.reference ≡ record { place = place; map = m } = some_is moving.reference (record { place = place; map = m })

@@ -1,6 +1,6 @@
 -- Ports by node, piece, reference and cell.
-use Rattle.std.proofs.Common.{◌≡◌, ◌≢◌, ℕ, ◌<◌, ◌⊎◌, inl, inr, List, refl, sym, ap, ◌∙◌, arith, IsTrue, Option, Some, ◌↔◌}
-use Rattle.std.specs.Prelude.{slice_get}
+use Rattle.std.proofs.Common.{◌≡◌, ◌≢◌, ℕ, ◌<◌, ◌⊎◌, inl, inr, List, refl, sym, ap, ◌∙◌, arith, IsTrue, Option, Some, ◌↔◌, true}
+use Rattle.std.specs.Prelude.{slice_get, nat_lt}
 use Rattle.av_space.specs.declared.cells.Cell.{Cell}
 use Rattle.av_space.specs.declared.cells.InPort.{InPort}
 use Rattle.av_space.specs.Taps.{node_of}
@@ -25,6 +25,16 @@ ports_in_turn cells a b (by_cell e p q l) (by_node m n eb ea l') = (let f = some
 ports_in_turn cells a b (by_cell e p q l) (by_piece f l') = omega (arith, p, l')
 ports_in_turn cells a b (by_cell e p q l) (by_site f r l') = omega (arith, q, l')
 ports_in_turn cells a b (by_cell e p q l) (by_cell f r k l') = omega (arith, l, l')
+
+-- a test of an order
+pub as_test : (m n : ℕ) (P : Type 0) → P ↔ (m < n) → IsTrue (nat_lt m n) ↔ P
+as_test m n P h = (λ t. h.1 (below t), λ p. test (h.0 p))
+  where
+    below : nat_lt m n ≡ true → m < n
+    below t = grind (arith, t)
+
+    test : m < n → nat_lt m n ≡ true
+    test l = grind (arith, l)
 
 -- the order by numbers, where the cells are known
 module _ (cells : List Cell) (a b : InPort) (x y : Cell) (is_a : slice_get cells a.cell ≡ Some x) (is_b : slice_get cells b.cell ≡ Some y) where

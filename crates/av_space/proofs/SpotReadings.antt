@@ -1,6 +1,6 @@
 -- What the tap sites of a piece on a cell read there, by the links and the ports of the array.
 use Rattle.std.proofs.Common.{◌≡◌, ℕ, ◌<◌, List, length, refl, sym, ap, subst, ◌∙◌, arith, IsTrue, Bool, true, false, Option, Some, None, ◌↔◌}
-use Rattle.std.specs.Prelude.{slice_get, Contains}
+use Rattle.std.specs.Prelude.{slice_get, Contains, IfSome, MatchOption}
 use Rattle.std.proofs.lemmas.List.{length-map}
 use Rattle.std.proofs.lemmas.List.Elements.{All-contains}
 use Rattle.av_affine.specs.declared.map.Map.{Map}
@@ -26,7 +26,7 @@ use Rattle.av_space.specs.Links.{IsStretch, IsInLink}
 use Rattle.av_space.specs.Sites.{place_of}
 use Rattle.av_space.specs.Spots.{system_of, helpers_of, placings_of, cells_of, IsArray, IsSpot, IsSlotIn, IsSiteOf, handing_by, handed_tap, own_way, own_tap, IsLinkedBy}
 use Rattle.av_space.specs.inner.Readings.{IsFineTap, IsSiteOn, IsSite, IsReadingAt, IsReadingOf}
-use Rattle.av_space.specs.inner.SpotTaps.{IsSpotTap, IsComputedRead, IsPortSite}
+use Rattle.av_space.specs.inner.SpotTaps.{IsSpotTap, IsReadThere, IsComputedRead, IsPortSite}
 use Rattle.av_space.proofs.ByPlace.{there_is}
 use Rattle.av_space.proofs.Elements.{some_is, in_range, at_index, get_contained}
 use Rattle.av_space.proofs.FineSites.{fine_tap}
@@ -44,7 +44,7 @@ module _ (a : Array) (is : IsArray a) (at : Spot) (spot : IsSpot a at) where
   abbrev v : Variable
   v = view_variable at.var.now
 
-  abbrev piece : Piece
+  abbrev pub piece : Piece
   piece = view_piece at.piece.now
 
   -- the piece of a variable of a chained system
@@ -86,14 +86,14 @@ module _ (a : Array) (is : IsArray a) (at : Spot) (spot : IsSpot a at) where
     At q d = IsReadingAt s (placings_of a) (cells_of a) at.node tap piece slot.point slot.cycle q d
 
     -- where nothing is found, nothing is read
-    pub nothing : ((q d : ℕ) → At q d ↔ (◌≡◌ {A = Option Reading} None (Some (record { cycle = slot.cycle; producer = q; delay = d })))) → (k : ℕ) (y : Point) → IsTapRead s at.node tap.place.tree tap.way piece slot.point k y → ⊥
+    nothing : ((q d : ℕ) → At q d ↔ (◌≡◌ {A = Option Reading} None (Some (record { cycle = slot.cycle; producer = q; delay = d })))) → (k : ℕ) (y : Point) → IsTapRead s at.node tap.place.tree tap.way piece slot.point k y → ⊥
     nothing only k y reads =
         let b = read_before a.timed.now a.layout is.whole.legal is.layout at.cell tapped.number at.node tap piece own_slots.0 site_on slot.cycle slot.point among on.within k y reads in
         let r : At b.0 b.2 = record { within = on.within; producer = k; read = y; reads = reads; earlier = b.1; later = b.3; computed = b.5 } in
         let e = (only b.0 b.2).0 r in absurd cc
 
     -- what is found comes over a link
-    pub linked : (r : Reading) → r.cycle ≡ slot.cycle → ((q d : ℕ) → At q d ↔ (◌≡◌ {A = Option Reading} (Some r) (Some (record { cycle = slot.cycle; producer = q; delay = d })))) → IsLinkedBy a at slot.cycle tap r.producer r.delay
+    linked : (r : Reading) → r.cycle ≡ slot.cycle → ((q d : ℕ) → At q d ↔ (◌≡◌ {A = Option Reading} (Some r) (Some (record { cycle = slot.cycle; producer = q; delay = d })))) → IsReadThere a at tap slot × IsLinkedBy a at slot.cycle tap r.producer r.delay
     linked r when only =
         let reading = (only r.producer r.delay).1 (ap (λ c. Some (record { cycle = c; producer = r.producer; delay = r.delay })) when) in
         let own : IsReadingOf s (placings_of a) (cells_of a) at.node tap piece own_slots.0 slot.cycle r.producer r.delay = record { point = slot.point; is_slot = among; is = reading } in
@@ -103,12 +103,17 @@ module _ (a : Array) (is : IsArray a) (at : Spot) (spot : IsSpot a at) where
         let T = IsTapped s (helpers_of a) (placings_of a) (cells_of a) in
         let there = subst (λ (p : ℕ). T p l.0.site slot.cycle r.producer r.delay) (sym l.2.0) (subst (λ (j : ℕ). T at.cell j slot.cycle r.producer r.delay) (sym l.2.1) t) in
         let same = stretch.between slot.cycle r.producer r.delay l.2.2 l.2.3 there in
-        record { number = tapped.number; is_tap = tapped.is_tap; link = l.0; is_link = l.1; in_link = l.2; producer_is = same.0; delay_is = same.1 }
+        (record { node = reading.producer; point = reading.read; reads = reading.reads }, record { number = tapped.number; is_tap = tapped.is_tap; link = l.0; is_link = l.1; in_link = l.2; producer_is = same.0; delay_is = same.1 })
+
+    pub read_of : (o : Option Reading) → IfSome o (λ r. r.cycle ≡ slot.cycle) → ((q d : ℕ) → At q d ↔ (◌≡◌ {A = Option Reading} o (Some (record { cycle = slot.cycle; producer = q; delay = d }))))
+        → MatchOption o (IsReadThere a at tap slot → ⊥) (λ r. IsReadThere a at tap slot × IsLinkedBy a at slot.cycle tap r.producer r.delay)
+    read_of None when only = λ r. nothing only r.node r.point r.reads
+    read_of (Some r) when only = linked r when only
 
   -- ---- places
 
   module _ (mine : Site) (placed : IsSiteOf a at mine) where
-    abbrev p : Place
+    abbrev pub p : Place
     p = place_of mine.place
 
     pub known : IsPlaceBy (signatures s) (references piece.tree) p p.tree

@@ -31,6 +31,7 @@ use Rattle.av_flat.specs.Chained.{ReadsThere}
 use Rattle.av_flat.specs.Helped.{before}
 use Rattle.av_space.specs.inner.SpotTaps.{IsComputedRead}
 use Rattle.av_space.specs.Taps.{Handing, helper_at, Place, places_in, places_from, Way, each, entries, handed, Tap, computed_at, taps_by, taps_at, is_own, all_taps, taps, IsReadBy, IsTapRead}
+use Rattle.av_space.proofs.ByPlace.{there_is}
 use Rattle.av_space.proofs.Elements.{some_is, both_each, each_weaker, each_at, got, get_contained, mapped, in_range}
 use Rattle.av_space.proofs.NodePlaces.{node_at}
 
@@ -271,11 +272,6 @@ read_node s hs placings cells g v among k piece is_piece z inside place y read c
 
     less : (m n : ℕ) → m < n → nat_lt m n ≡ true
     less m n h = grind arith
-
-pub there_is : {X : Type 0} (xs : List X) (k : ℕ) → k < length xs → (x : X) × (slice_get xs k ≡ Some x)
-there_is [] k lt = absurd (omega arith)
-there_is (x ∷ xs) zero lt = (x, refl)
-there_is (x ∷ xs) (suc k) lt = there_is xs k (omega arith)
 
 natural : (x : ℤ) → pos 0 ≤ℤ x → (n : ℕ) × (pos n ≡ x)
 natural (pos n) h = (n, refl)

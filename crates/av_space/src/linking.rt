@@ -3,7 +3,6 @@
 ghost use Rattle.std.specs.Prelude.{ℕ, ◌≡◌, ◌↔◌, ◌<◌, List as Items, length, Contains, Some, slice_get, slice_index_or, [], map, IfOk, IfSome, OnOk};
 ghost use Rattle.av_flat.specs.Trees.{view_piece, view_system, view_variable};
 ghost use Rattle.av_flat.specs.Legal.{IsLegal};
-ghost use Rattle.av_flat.specs.Nodes.{nodes};
 ghost use Rattle.av_space.specs.declared.layout.Slot.{Slot as SlotSeen};
 ghost use Rattle.av_space.specs.Taps.{node_place, taps, IsTapped};
 ghost use Rattle.av_space.specs.Links.{AreLinks};
@@ -15,6 +14,7 @@ ghost use Rattle.av_space.specs.inner.Stretches.{HasLinks, IsAt, IsOn};
 use crate::layout::{Layout, Slot};
 use crate::locate::locate;
 use crate::reading::{is_in, read_at};
+use crate::standing::variable_of;
 use crate::stretch::{Reading, Stretch, site_stretches};
 use crate::tap::TapSite;
 use crate::tapping::taps_of;
@@ -152,23 +152,6 @@ fn cell_stretches(
     Ok(())
 }
 
-// The variable at a place.
-fn variable_at(timed: &Timed, place: usize) -> &Var
-    requires { place < length timed.now.flat.vars }
-    ensures { slice_get (view_system timed.now.flat).variables place ≡ Some (view_variable result.now) }
-{
-    &timed.flat.vars.as_slice()[place]
-}
-
-// The variable of a node.
-fn variable_of<'a>(timed: &'a Timed, layout: &Layout, node: usize) -> &'a Var
-    requires layout { IsLayout timed.now layout.now }
-    requires node { node < length layout.now.places }
-    ensures { slice_get (nodes (view_system timed.now.flat)) node ≡ Some (view_variable result.now) }
-{
-    variable_at(timed, layout.places.as_slice()[node])
-}
-
 /// The tap sites of each node.
 pub(crate) fn node_taps<'a>(
     alloc: Global,
@@ -180,7 +163,7 @@ pub(crate) fn node_taps<'a>(
 {
     let mut sites = List::new(alloc);
     for (node, place) in layout.places.as_slice().iter().enumerate() {
-        let var = variable_of(timed, layout, node);
+        let var = variable_of(&timed.flat, layout.places.as_slice(), node);
         sites.push(taps_of(alloc, timed, *place, var)?)?;
     }
     Ok(sites)
@@ -198,7 +181,7 @@ fn consumer_at<'a>(timed: &'a Timed, layout: &'a Layout, number: usize) -> Consu
     Consumer {
         number: number as u32,
         node,
-        var: variable_of(timed, layout, node),
+        var: variable_of(&timed.flat, layout.places.as_slice(), node),
         slots: layout.slots.as_slice()[number].as_slice(),
     }
 }

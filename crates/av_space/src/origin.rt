@@ -8,7 +8,7 @@ ghost use Rattle.av_flat.specs.Trees.{view, view_piece};
 ghost use Rattle.av_space.specs.Ports.{IsPortBefore};
 ghost use Rattle.av_space.specs.Sites.{place_of};
 ghost use Rattle.av_space.specs.Spots.{own_way};
-ghost use Rattle.av_space.specs.Taps.{IsReadAt, IsReadBy, IsTapRead};
+ghost use Rattle.av_space.specs.Taps.{IsReadAt, IsReadBy};
 ghost use Rattle.av_space.specs.inner.Sites.{tap_of, way_of};
 
 use crate::array::Array;
@@ -110,7 +110,7 @@ fn own_way(handing: &Option<Handing>) -> Way
 
 impl Array<'_> {
     ghost use Rattle.av_space.specs.Spots.{IsArray, IsSpot, IsSlotIn, IsSiteOf, system_of, handed_tap, own_tap, IsLinkedBy, IsOriginBy};
-    ghost use Rattle.av_space.specs.inner.SpotTaps.{IsSpotTap, IsComputedRead, IsPortSite};
+    ghost use Rattle.av_space.specs.inner.SpotTaps.{IsSpotTap, IsReadThere, IsComputedRead, IsPortSite};
 
     // What a tap site of a piece reads at a computation.
     fn reading(&self, spot: &Spot<'_>, tap: &TapSite<'_>, slot: &Slot) -> Option<Reading>
@@ -118,9 +118,8 @@ impl Array<'_> {
         requires spot { IsSpot self.now spot.now }
         requires tap { IsSpotTap self.now spot.now (tap_of tap.now) }
         requires slot { IsSlotIn self.now spot.now.cell spot.now.node spot.now.piece.now.domain slot.now }
-        ensures { MatchOption result
-            ((k : ℕ) (y : PointSeen) → IsTapRead (system_of self.now) spot.now.node (view tap.now.place.tree) (way_of tap.now.way) (view_piece spot.now.piece.now) slot.now.point k y → ⊥)
-            (λ r. IsLinkedBy self.now spot.now slot.now.cycle (tap_of tap.now) r.producer r.delay) }
+        ensures { MatchOption result (IsReadThere self.now spot.now (tap_of tap.now) slot.now → ⊥)
+            (λ r. IsReadThere self.now spot.now (tap_of tap.now) slot.now × IsLinkedBy self.now spot.now slot.now.cycle (tap_of tap.now) r.producer r.delay) }
     {
         reading_at(
             self.timed,
@@ -161,7 +160,8 @@ impl Array<'_> {
         requires entered { IsReadAt site.now.handing (view_piece spot.now.piece.now) slot.now.point }
         ensures { MatchOption result
             ((place : ℕ) (y : PointSeen) → IsReadBy (view site.now.place.tree) slot.now.point place y → ⊥)
-            (λ r. IsLinkedBy self.now spot.now slot.now.cycle (own_tap (place_of site.now.place) site.now.handing) r.producer r.delay) }
+            (λ r. IsReadThere self.now spot.now (own_tap (place_of site.now.place) site.now.handing) slot.now
+                × IsLinkedBy self.now spot.now slot.now.cycle (own_tap (place_of site.now.place) site.now.handing) r.producer r.delay) }
     {
         let tap = TapSite {
             place: same(&site.place),

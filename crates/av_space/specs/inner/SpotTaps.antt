@@ -1,15 +1,17 @@
 -- Tap sites and input ports of the pieces on the cells of an array.
 use Rattle.std.specs.Prelude.{◌≡◌, ℕ, ◌<◌, true, IsTrue, Some, length, slice_get}
 use Rattle.av_affine.specs.declared.map.Map.{Map}
-use Rattle.av_flat.specs.Trees.{Tree, Variable, FlatSystem, view, view_variable, reference, pick}
+use Rattle.av_tree.specs.Points.{Point}
+use Rattle.av_flat.specs.Trees.{Tree, Variable, FlatSystem, view, view_piece, view_variable, reference, pick}
 use Rattle.av_flat.specs.Broadcasts.{references}
 use Rattle.av_flat.specs.Nodes.{nodes}
 use Rattle.av_flat.specs.Signatures.{is_input}
 use Rattle.av_space.specs.declared.array.Array.{Array}
 use Rattle.av_space.specs.declared.cells.Cell.{Cell}
+use Rattle.av_space.specs.declared.layout.Slot.{Slot}
 use Rattle.av_space.specs.declared.spots.Site.{Site}
 use Rattle.av_space.specs.declared.spots.Spot.{Spot}
-use Rattle.av_space.specs.Taps.{node_place, computed_at, Tap, taps}
+use Rattle.av_space.specs.Taps.{node_place, computed_at, Tap, taps, IsTapRead}
 use Rattle.av_space.specs.Spots.{system_of, helpers_of, cells_of, IsSiteOf}
 
 -- the variable of the node of a cell
@@ -29,6 +31,12 @@ pub record IsSpotTap (a : Array) (at : Spot) (tap : Tap) : Type 0 where
   pub number : ℕ
   pub is_tap : slice_get (taps (system_of a) (helpers_of a) (node_place (system_of a) at.node) (view_variable at.var.now)) number ≡ Some tap
   pub piece_is : tap.place.piece ≡ at.number
+
+-- it reads at a computation
+pub record IsReadThere (a : Array) (at : Spot) (tap : Tap) (slot : Slot) : Type 0 where
+  pub node : ℕ
+  pub point : Point
+  pub reads : IsTapRead (system_of a) at.node tap.place.tree tap.way (view_piece at.piece.now) slot.point node point
 
 -- what the place reads is computed
 abbrev pub IsComputedRead : FlatSystem → Tree → Type 0

@@ -11,7 +11,7 @@ loop-number-preserved c =
     let seen = c.loop-number.yielded in
     let n = c.in-Some.number in
     let g = c.in-Some.gate in
-    let turn = YieldsList-turn (YieldsList-from_enumerate {s = c.into_iter-number-iterator.result} (YieldsList-from_vec c.args.gates.items (cc) (cc (c.args.gates.ok.0))) (cc)) c.loop-number.yielded _ c.loop-number.yielded_by _ _ (n, g) c.in-Some.is c.next.ensures.steps in
+    let turn = YieldsList-turn (YieldsList-from_enumerate {s = c.into_iter-number-iterator.result} (YieldsList-from_vec c.args.gates.items (cc) (cc (c.args.gates.ok.0))) (cc)) c.loop-number.yielded c.loop-number.number-iterator c.loop-number.yielded_by c.next.result c.next.new.self (n, g) c.in-Some.is c.next.ensures.steps in
     let at : n ≡ length seen = number_is c.args.gates.items (length seen) n g turn in
     record {
       wires = next_port name c.args.wires.now c.loop-number.wires c.push.new.self seen n g c.in_ok-wire.field-0 at c.loop-number.invariant.wires c.in_ok-push.ensures.ok c.in_ok-wire.ensures;

@@ -7,6 +7,13 @@ use Rattle.av_space.specs.inner.Sites.{AreTapsTo}
 use Rattle.av_space.proofs.NodeTaps.{taps_step, place_is}
 use Rattle.av_space.proofs.linking.node_taps.Goals as goal
 
+pub variable_of-var-requires-clause-within : goal.variable_of-var-requires-clause-within
+variable_of-var-requires-clause-within c =
+    let a = ap (λ (l : List ℕ). length l) c.as_slice.ensures in
+    let b = ap (λ (l : List ℕ). length l) c.as_slice-place-items.ensures in
+    let t = c.loop-node-test.true in
+    omega (arith, a, b, t)
+
 pub loop-node-preserved : goal.loop-node-preserved
 loop-node-preserved c =
     let s = view_system c.args.timed.now.flat in

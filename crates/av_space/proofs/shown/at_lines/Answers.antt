@@ -4,7 +4,7 @@ use Rattle.av_flat.specs.Signatures.{is_shown}
 use Rattle.av_flat.specs.Trees.{view_system, view_variable}
 use Rattle.av_net.specs.declared.design.Entry.{Entry}
 use Rattle.av_space.specs.inner.Showing.{AreLinesBelow}
-use Rattle.av_space.proofs.NodeParts.{as_many_places}
+use Rattle.av_space.proofs.Nodes.{places_number}
 use Rattle.av_space.proofs.ShownLines.{no_lines, not_shown, whole_system}
 use Rattle.av_space.proofs.shown.at_lines.Goals as goal
 
@@ -36,5 +36,5 @@ returns c =
     let s = view_system t.flat in
     let over : length c.as_slice-places.result.now ≤ c.loop-node.node = search rules in
     let many : length (nodes s) ≤ c.loop-node.node =
-    (let a = ap (λ (xs : List ℕ). length xs) c.as_slice-places.ensures in let b = as_many_places t l c.requires.layout in omega (arith, over, a, b)) in
+    (let a = ap (λ (xs : List ℕ). length xs) c.as_slice-places.ensures in let b = places_number (view_system t.flat) l.places c.requires.layout.places in omega (arith, over, a, b)) in
     whole_system s l.placements l.cells c.args.outputs.now c.loop-node.node c.loop-node.lines many c.loop-node.invariant

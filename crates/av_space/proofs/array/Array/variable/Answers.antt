@@ -2,6 +2,7 @@ use Rattle.std.proofs.Common.{◌≡◌, ◌∙◌, ◌<◌, List, length, sym, 
 use Rattle.std.specs.Prelude.{slice_get}
 use Rattle.std.proofs.lemmas.Option.{slice_get-get_or}
 use Rattle.av_flat.specs.Nodes.{nodes}
+use Rattle.av_flat.specs.Trees.{view_variable}
 use Rattle.av_space.specs.declared.cells.Cell.{Cell}
 use Rattle.av_space.specs.Spots.{system_of, placings_of, cells_of}
 use Rattle.av_space.proofs.Nodes.{places_number}
@@ -30,5 +31,5 @@ returns c =
     record {
       cell = d;
       is_cell = subst (λ (x : List Cell). slice_get x k ≡ Some d) c.as_slice.ensures at;
-      is_variable = c.variable_of.ensures;
+      is_variable = subst (λ (x : Cell). slice_get (nodes (system_of a)) x.node ≡ Some (view_variable c.variable_of.result.now)) (sym c.index-as_slice-cell.is) c.variable_of.ensures;
     }

@@ -1,0 +1,62 @@
+use Rattle.std.proofs.Common.{◌≡◌, ◌∙◌, ℕ, ◌<◌, List, length, get_or, refl, sym, ap, subst, arith, Some}
+use Rattle.std.specs.Prelude.{slice_get, filter, All}
+use Rattle.std.proofs.lemmas.Option.{slice_get-get_or}
+use Rattle.av_flat.specs.Nodes.{nodes}
+use Rattle.av_flat.specs.Points.{has}
+use Rattle.av_flat.specs.Trees.{view_piece, view_variable}
+use Rattle.av_space.specs.declared.cells.Cell.{Cell}
+use Rattle.av_space.specs.declared.layout.Slot.{Slot}
+use Rattle.av_space.specs.Spots.{system_of, placings_of, cells_of, AreSlotsIn}
+use Rattle.av_space.proofs.Elements.{some_is}
+use Rattle.av_space.proofs.Nodes.{places_number}
+use Rattle.av_space.proofs.NodeTaps.{place_is}
+use Rattle.av_space.proofs.OnCells.{slot_points}
+use Rattle.av_space.proofs.OnSpots.{some_slots}
+use Rattle.av_space.proofs.SiteLinks.{cell_node}
+use Rattle.av_space.proofs.array.Array.spot.Goals as goal
+
+pub bounds-as_slice-node : goal.bounds-as_slice-node
+bounds-as_slice-node c =
+    let a = c.args.self.now in
+    let is = c.requires.array.layout in
+    let l = cell_node (system_of a) (placings_of a) (cells_of a) is.are_cells c.args.cell c.index-as_slice-cell.result c.requires.cell in
+    let size = places_number (system_of a) a.layout.places is.places in
+    let same = ap (λ (x : List Cell). (get_or x c.args.cell c.index-as_slice-cell.result).node) c.as_slice.ensures in
+    let many = ap (λ (x : List ℕ). length x) c.as_slice-2.ensures in
+    omega (arith, l, size, same, many)
+
+pub slots_in-requires : goal.slots_in-requires
+slots_in-requires c =
+    let a = c.args.self.now in
+    let v = c.variable-var.ensures in
+    let var = c.variable-var.result.now in
+    slot_points a.timed.now a.layout c.args.cell (view_variable var) c.slots.result.now c.requires.array.whole.legal
+    (record { cell = v.cell; is_cell = v.is_cell; is_variable = v.is_variable; are_slots = c.slots.ensures }) c.args.number (view_piece c.piece_at-piece.result.now) c.piece_at-piece.ensures
+
+pub returns : goal.returns
+returns c =
+    let a = c.args.self.now in
+    let s = system_of a in
+    let k = c.args.cell in
+    let v = c.variable-var.ensures in
+    let d = c.index-as_slice-cell.result in
+    let here = get_or c.as_slice.result.now k d in
+    let there : slice_get (cells_of a) k ≡ Some (get_or (cells_of a) k d) = slice_get-get_or (cells_of a) k d c.requires.cell in
+    let same : v.cell ≡ here = some_is v.cell (get_or (cells_of a) k d) (sym v.is_cell ∙ there) ∙ ap (λ (x : List Cell). get_or x k d) (sym c.as_slice.ensures) in
+    let node : v.cell.node ≡ here.node = ap (λ (x : Cell). x.node) same in
+    let l = cell_node s (placings_of a) (cells_of a) c.requires.array.layout.are_cells k d c.requires.cell in
+    let size = places_number s a.layout.places c.requires.array.layout.places in
+    let moved = ap (λ (x : List Cell). (get_or x k d).node) c.as_slice.ensures in
+    let many = ap (λ (x : List ℕ). length x) c.as_slice-2.ensures in
+    let low : here.node < length c.as_slice-2.result.now = omega (arith, l, size, moved, many) in
+    let set = c.piece_at-piece.result.now.domain in
+    let own : AreSlotsIn a k v.cell.node set (filter (λ (t : Slot). has set t.point) c.slots.result.now) = some_slots a k v.cell set c.slots.result.now v.is_cell c.slots.ensures in
+    (refl, refl, record {
+      cell = v.cell;
+      is_cell = v.is_cell;
+      node = node;
+      place = place_is s c.as_slice-2.result.now here.node (c.as_slice-2.ensures ∙ c.requires.array.layout.places) low;
+      is_variable = subst (λ (n : ℕ). slice_get (nodes s) n ≡ Some (view_variable c.variable-var.result.now)) node v.is_variable;
+      is_piece = c.piece_at-piece.ensures;
+      are_slots = subst (λ (slots : List Slot). AreSlotsIn a k here.node set slots) (sym c.in_ok-slots.ensures) (subst (λ (n : ℕ). AreSlotsIn a k n set (filter (λ (t : Slot). has set t.point) c.slots.result.now)) node own);
+    })
