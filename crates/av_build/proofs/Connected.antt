@@ -27,7 +27,7 @@ use Rattle.av_space.proofs.Placed.{inverts}
 use Rattle.av_build.specs.Programs.{Program}
 use Rattle.av_build.specs.Modules.{module_of}
 use Rattle.av_build.specs.Built.{array_of, IsProgramOf, design_of}
-use Rattle.av_build.proofs.Owned.{AreWords}
+use Rattle.av_build.proofs.Owned.{AreFew, AreWords}
 use Rattle.av_build.proofs.Joined.{Legal, arranged, fits_words, one_point}
 use Rattle.av_build.proofs.Listed.{place_of}
 use Rattle.av_build.proofs.Whole.{Given, module_sound, module_shows}
@@ -72,23 +72,30 @@ module _ (t : Timed) (a : Cells) (legal : IsLegal t) (array : IsArrayOf t a) whe
   pub one_computation : (p c n : ℕ) (x y : Point) → Computes own array.placings a.cells p c n x → Computes own array.placings a.cells p c n y → x ≡ y
   one_computation p c n x y hx hy = one_point (array_of t a array.placings) legal_array p c n x y hx hy
 
-module _ (w : Width) (t : Timed) (a : Cells) (program : Program) (g : IsProgramOf w t a program) where
-  words_fit : AreWords w.bits (array_of t a g.array.placings)
+module _ (w : Width) (t : Timed) (a : Cells) (legal : IsLegal t) (array : IsArrayOf t a) (width_is : (view_system t.flat).width ≡ w.bits) (limit : a.cycles ≤ 4096) where
+  pub words_fit : AreWords w.bits (array_of t a array.placings)
   words_fit n v k piece is_variable is_piece =
       let here = place_of (view_system t.flat).variables n v is_variable in
       let among = contains_at (view_system t.flat).variables here.place v here.is_variable in
-      let variable = chained_variable t g.array.placings a.cells g.legal g.array.are_placings g.array.cells v among in
-      let tree = (chained_piece t g.array.placings a.cells g.legal g.array.are_placings g.array.cells v k piece among is_piece).tree in
-      let width : v.width ≡ w.bits = variable.width ∙ g.width_is in
+      let variable = chained_variable t array.placings a.cells legal array.are_placings array.cells v among in
+      let tree = (chained_piece t array.placings a.cells legal array.are_placings array.cells v k piece among is_piece).tree in
+      let width : v.width ≡ w.bits = variable.width ∙ width_is in
       fits_words w.bits piece.tree tree.plain (subst (λ (m : ℕ). EachPart (HasWords m) piece.tree) width tree.words)
 
+  cycles_above : (n : ℕ) (z : Point) → IsComputation (view_system t.flat) n z → (p : Placing) → slice_get array.placings n ≡ Some p → cycle p.time z <ℤ pos a.cycles
+  cycles_above n z computation p at =
+      let time = ap (λ (ts : List Time). slice_get ts n) (sym array.are_placings.times_are) ∙ time_at t a legal array array.placings n p at in
+      array.cycles.above n z p.time computation time
+
+  pub few_cycles : AreFew (array_of t a array.placings)
+  few_cycles p c n z h =
+      let l = cycles_above n z h.stands.computation h.stands.placing h.stands.is_placing in
+      let e = h.stands.in_cycle in
+      omega (arith, ints, l, limit, e)
+
+module _ (w : Width) (t : Timed) (a : Cells) (program : Program) (g : IsProgramOf w t a program) where
   widths : All (λ (v : Variable). v.width ≡ w.bits) (view_system t.flat).variables
   widths = All-weaker (IsChainedVariable (view_system t.flat)) (λ (v : Variable). v.width ≡ w.bits) (λ v h. h.width ∙ g.width_is) (view_system t.flat).variables g.legal.chained.each
-
-  cycles_above : (n : ℕ) (z : Point) → IsComputation (view_system t.flat) n z → (p : Placing) → slice_get g.array.placings n ≡ Some p → cycle p.time z <ℤ pos a.cycles
-  cycles_above n z computation p at =
-      let time = ap (λ (ts : List Time). slice_get ts n) (sym g.array.are_placings.times_are) ∙ time_at t a g.legal g.array g.array.placings n p at in
-      g.array.cycles.above n z p.time computation time
 
   pub given : Given w (array_of t a g.array.placings) g.lanes a.listing program
   given = record {
@@ -97,12 +104,8 @@ module _ (w : Width) (t : Timed) (a : Cells) (program : Program) (g : IsProgramO
     are_ats = subst (λ (l : List ℕ). AreAtLines (view_system t.flat) g.array.placings a.cells l a.listing.ats) g.array.outputs g.array.ats;
     outputs_are = g.outputs_are ∙ ap (λ (l : List ℕ). map g.lanes.of_value l) g.array.outputs;
     widths = widths;
-    few = λ p c n z h.
-        let l = cycles_above n z h.stands.computation h.stands.placing h.stands.is_placing in
-        let m = g.few in
-        let e = h.stands.in_cycle in
-        omega (arith, ints, l, m, e);
-    words = words_fit;
+    few = few_cycles w t a g.legal g.array g.width_is g.few;
+    words = words_fit w t a g.legal g.array g.width_is g.few;
     ports = g.small.ports;
     outputs = g.small.outputs;
     cells = g.small.cells;

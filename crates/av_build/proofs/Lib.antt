@@ -42,4 +42,4 @@ pub mod Chosen
 pub mod LaneParts
 pub mod Placing
 pub mod Turning
-pub mod Changes
+pub mod Writable

@@ -235,7 +235,7 @@ stretch_fits a b first last lf ll = by_tests (nat_le first a) (nat_le b last)
     by_tests false false = (lf, ll)
 
 -- of stays
-stays_good : (P : Shift → Type 0) (Q : Work → Type 0) (a b : ℕ) (none : Work) (stays : List Stay) → 0 < length stays
+pub stays_good : (P : Shift → Type 0) (Q : Work → Type 0) (a b : ℕ) (none : Work) (stays : List Stay) → 0 < length stays
     → ((k : ℕ) (t : Stay) → slice_get stays k ≡ Some t → P (record { stretch = stretch_of a b t.first t.last; work = t.work }) × Q t.work) → AllByRecursion P (shifts_by a b stays) × Q (last_work none stays)
 stays_good P Q a b none [] some h = absurd (omega arith)
 stays_good P Q a b none (t ∷ []) some h = (tt, (h 0 t refl).1)

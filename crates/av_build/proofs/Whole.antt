@@ -62,7 +62,7 @@ good_at w a lanes listing program g q lane is = lane_good w a lanes listing prog
 site_weaker : (P Q : Source → Type 0) → ((s : Source) → P s → Q s) → (site : Site) → EachOfSite P site → EachOfSite Q site
 site_weaker P Q f site h = (each_weaker (λ (l : Link). P l.source) (λ l. Q l.source) (λ l. f l.source) site.links h.0, f site.otherwise h.1)
 
-lane_weaker : (P Q : Source → Type 0) → ((s : Source) → P s → Q s) → (lane : Lane) → EachOfCell P lane → EachOfCell Q lane
+pub lane_weaker : (P Q : Source → Type 0) → ((s : Source) → P s → Q s) → (lane : Lane) → EachOfCell P lane → EachOfCell Q lane
 lane_weaker P Q f lane h = (
   each_weaker (λ (t : Shift). EachOfWork P t.work) (λ t. EachOfWork Q t.work) (λ t. each_weaker (EachOfSite P) (EachOfSite Q) (site_weaker P Q f) t.work.sites) lane.shifts h.0,
   each_weaker (EachOfSite P) (EachOfSite Q) (site_weaker P Q f) lane.otherwise.sites h.1,
@@ -70,20 +70,20 @@ lane_weaker P Q f lane h = (
 
 -- ---- outputs
 
-there_is : {X : Type 0} (xs : List X) (k : ℕ) → k < length xs → (x : X) × (slice_get xs k ≡ Some x)
+pub there_is : {X : Type 0} (xs : List X) (k : ℕ) → k < length xs → (x : X) × (slice_get xs k ≡ Some x)
 there_is [] k lt = absurd (omega arith)
 there_is (x ∷ xs) zero lt = (x, refl)
 there_is (x ∷ xs) (suc k) lt = there_is xs k (omega arith)
 
 -- each cell has a lane
-cell_lane : (a : Array) (lanes : Lanes) (program : Program) → IsProgramFor a lanes program → AreCells a.system a.times a.cells → (p : ℕ) → p < length a.cells → lanes.of_value p < length program.lanes
+pub cell_lane : (a : Array) (lanes : Lanes) (program : Program) → IsProgramFor a lanes program → AreCells a.system a.times a.cells → (p : ℕ) → p < length a.cells → lanes.of_value p < length program.lanes
 cell_lane a lanes program g are p lt =
     let cell = there_is a.cells p lt in
     let used = at_index (IsUsed a.system a.times) a.cells are.each p cell.0 cell.1 in
     let lane = g.values p used.0 used.1 used.2 used.3.computation.variable (record { cell = cell.0; is_cell = cell.1; stands = used.3 }) used.3.computation.is in
     in_range program.lanes (lanes.of_value p) lane.0 lane.1
 
-outputs_there : (f : ℕ → ℕ) (n m : ℕ) (test : ℕ → Bool) → ((p : ℕ) → p < m → f p < n) → (b k : ℕ) → b + k ≡ m → AllByRecursion (λ q. q < n) (map f (filter test (range_with_len b k)))
+pub outputs_there : (f : ℕ → ℕ) (n m : ℕ) (test : ℕ → Bool) → ((p : ℕ) → p < m → f p < n) → (b k : ℕ) → b + k ≡ m → AllByRecursion (λ q. q < n) (map f (filter test (range_with_len b k)))
 outputs_there f n m test h b zero e = tt
 outputs_there f n m test h b (suc k) e = by_test (test b) (outputs_there f n m test h (b + 1) k (omega arith))
   where

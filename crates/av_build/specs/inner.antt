@@ -1,9 +1,4 @@
 pub mod Written
 pub mod Numbered
 pub mod Added
-pub mod Moments
-pub mod Views
-pub mod LaneLines
-pub mod Sourced
-pub mod Laned
 pub mod Programming

@@ -11,7 +11,7 @@ use crate::programming::programming;
 use av_base::Memory;
 use av_flat::Timed;
 use av_net::Design;
-use av_space::{Array, Cells};
+use av_space::Cells;
 use std::alloc::Global;
 
 /// The design of an array: its module, with the listing of the array.
@@ -25,8 +25,7 @@ pub fn build(alloc: Global, timed: &Timed, cells: &Cells) -> Result<Design, Memo
     requires within { (f : Fault) → IsSpaceFault timed.now f → f ≡ fault.Memory }
     ensures { IfOk result (IsDesignOf timed.now cells.now) }
 {
-    let array = Array::new(alloc, timed, cells)?;
-    let program = programming(alloc, timed, cells, &array)?;
+    let program = programming(alloc, timed, cells)?;
     let flat = &timed.flat;
     let module = netlist(alloc, flat.width, &program)?;
     Ok(Design {

@@ -1,11 +1,14 @@
--- The program of an array.
+-- The program of a whole array.
 use Rattle.std.specs.Prelude.{◌≡◌, map}
-use Rattle.av_space.specs.declared.array.Array.{Array as ArrayMade}
+use Rattle.av_flat.specs.declared.timed.Timed.{Timed}
+use Rattle.av_space.specs.declared.cells.Cells.{Cells}
+use Rattle.av_space.specs.Whole.{IsWhole}
 use Rattle.av_build.specs.Programs.{Program}
 use Rattle.av_build.specs.Programmed.{Lanes, IsProgramFor}
-use Rattle.av_build.specs.inner.Views.{array_now}
+use Rattle.av_build.specs.Built.{array_of}
 
-pub record IsProgramOn (a : ArrayMade) (program : Program) : Type 0 where
+pub record IsProgramFrom (t : Timed) (a : Cells) (program : Program) : Type 0 where
+  pub whole : IsWhole t a
   pub lanes : Lanes
-  pub is_program : IsProgramFor (array_now a) lanes program
-  pub outputs_are : program.outputs ≡ map lanes.of_value a.cells.now.outputs
+  pub is_program : IsProgramFor (array_of t a whole.list.placings) lanes program
+  pub outputs_are : program.outputs ≡ map lanes.of_value a.outputs
