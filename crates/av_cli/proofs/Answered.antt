@@ -25,12 +25,13 @@ use Rattle.av_cli.specs.Asked.{Refuses, Gives}
 use Rattle.av_cli.specs.Program.{Writes, WritesRefusal, IsRefused, HasRefusal, AddsWhole, AddsFront, IsComplete}
 use Rattle.av_cli.specs.Written.{IsPut, IsAnswered, refused, given, no_memory}
 use Rattle.av_cli.specs.Checks.{RefusesCheck, GivesCheck}
-use Rattle.av_cli.specs.Emits.{RefusesEmit}
+use Rattle.av_cli.specs.Emits.{RefusesEmit, GivesEmit}
 use Rattle.av_cli.specs.Schedules.{RefusesSchedule, GivesSchedule}
 use Rattle.av_cli.specs.Tables.{RefusesTable, GivesTable}
 use Rattle.av_cli.proofs.Checking.{exclusive_check}
 use Rattle.av_cli.proofs.Scheduling.{exclusive_schedule}
 use Rattle.av_cli.proofs.Tabling.{exclusive_table}
+use Rattle.av_cli.proofs.Emitting.{exclusive_emit}
 use Rattle.av_cli.proofs.GivenSizes.{one_asked}
 use Rattle.av_cli.proofs.Presenting.{given_distinct}
 
@@ -38,14 +39,14 @@ pub read_of : (command : Command) (words : List (List ℕ)) → Are command word
 read_of (Check width) words (sizes, are) = inr (inr (inl (width.bits, sizes, are)))
 read_of (Schedule width reach) words (sizes, are) = inr (inr (inr (inl (width.bits, reach.size, sizes, are))))
 read_of (Table width reach) words (sizes, are) = inr (inr (inr (inr (width.bits, reach.size, sizes, are))))
-read_of (Emit width) words are = inl (width.bits, are)
+read_of (Emit width reach) words (sizes, are) = inl (width.bits, reach.size, sizes, are)
 read_of Sim words are = inr (inl are)
 
 refusal_of : (command : Command) (words : List (List ℕ)) (bytes reason : List ℕ) → Are command words → length bytes ≤ LIMIT → Refuses command words bytes reason → IsRefused words bytes reason
 refusal_of (Check width) words bytes reason are within (sizes, is, r) = inr (inr (inr (inl (within, (width.bits, sizes, is, r)))))
 refusal_of (Schedule width reach) words bytes reason are within (sizes, is, r) = inr (inr (inr (inr (inl (within, (width.bits, reach.size, sizes, is, r))))))
 refusal_of (Table width reach) words bytes reason are within (sizes, is, r) = inr (inr (inr (inr (inr (within, (width.bits, reach.size, sizes, is, r))))))
-refusal_of (Emit width) words bytes reason are within r = inr (inl (within, (width.bits, are), r))
+refusal_of (Emit width reach) words bytes reason are within (sizes, is, r) = inr (inl (within, (width.bits, reach.size, sizes, is, r)))
 refusal_of Sim words bytes reason are within r = inr (inr (inl (within, are, r)))
 
 writes_output : (command : Command) (words : List (List ℕ)) (left left' : Option (List ℕ)) (bytes out : List ℕ) → Are command words → Takes left left' bytes → IsAtEnd left' → length bytes ≤ LIMIT → Gives command words bytes out
@@ -56,7 +57,8 @@ writes_output (Schedule w r) words left left' bytes out are takes end within (si
     inr (inr (inr (inl (record { bits = w.bits; box = r.size; sizes = sizes; read = is; taken = bytes; takes = takes; whole = end; within = within; gives = g }))))
 writes_output (Table w r) words left left' bytes out are takes end within (sizes, is, g) =
     inr (inr (inr (inr (record { bits = w.bits; box = r.size; sizes = sizes; read = is; taken = bytes; takes = takes; whole = end; within = within; gives = g }))))
-writes_output (Emit w) words left left' bytes out are takes end within g = inl (record { width = w; read = are; taken = bytes; takes = takes; whole = end; within = within; gives = g })
+writes_output (Emit w r) words left left' bytes out are takes end within (sizes, is, g) =
+    inl (record { bits = w.bits; box = r.size; sizes = sizes; read = is; taken = bytes; takes = takes; whole = end; within = within; gives = g })
 writes_output Sim words left left' bytes out are takes end within g = inr (inl (record { read = are; taken = bytes; takes = takes; whole = end; within = within; gives = g }))
 
 -- ---- refused or given, and not both
@@ -67,9 +69,6 @@ Begins name words = (rest : List (List ℕ)) × (words ≡ name ∷ rest)
 
 begins : (name : List ℕ) (words : List (List ℕ)) (bits box : ℕ) (sizes : List Size) → Asks name words bits box sizes → Begins name words
 begins name words bits box sizes is = (is.rest, is.first)
-
-begins_emit : (words : List (List ℕ)) (bits : ℕ) → IsEmit words bits → Begins (codes "emit") words
-begins_emit words bits is = (is.rest, is.first)
 
 begins_sim : (words : List (List ℕ)) → IsSim words → Begins (codes "sim") words
 begins_sim words is = (is.rest, is.first)
@@ -100,15 +99,15 @@ exclusive_sim bytes reason out (bad_stimulus {text} {rest} {first} {design} faul
 
 -- what words of a command refuse, each command by its name
 exclude : (name : List ℕ) (words : List (List ℕ)) (bytes : List ℕ) → Begins name words → length bytes ≤ LIMIT
-    → (codes "emit" ≡ name → (bits : ℕ) → IsEmit words bits → (reason : List ℕ) → RefusesEmit bytes reason → ⊥)
+    → (codes "emit" ≡ name → (bits box : ℕ) (sizes : List Size) → IsEmit words bits box sizes → (reason : List ℕ) → RefusesEmit sizes bits box bytes reason → ⊥)
     → (codes "sim" ≡ name → (reason : List ℕ) → RefusesSim bytes reason → ⊥)
     → (codes "check" ≡ name → (bits : ℕ) (sizes : List Size) → IsCheck words bits sizes → (reason : List ℕ) → RefusesCheck sizes bits bytes reason → ⊥)
     → (codes "schedule" ≡ name → (bits box : ℕ) (sizes : List Size) → IsSchedule words bits box sizes → (reason : List ℕ) → RefusesSchedule sizes bits box bytes reason → ⊥)
     → (codes "table" ≡ name → (bits box : ℕ) (sizes : List Size) → IsTable words bits box sizes → (reason : List ℕ) → RefusesTable sizes bits box bytes reason → ⊥)
     → HasRefusal words bytes → ⊥
 exclude name words bytes is within emit sim check schedule table (reason, inl (long, e)) = omega arith
-exclude name words bytes is within emit sim check schedule table (reason, inr (inl (short, (bits, other), r))) =
-    emit (same_name (codes "emit") name words (begins_emit words bits other) is) bits other reason r
+exclude name words bytes is within emit sim check schedule table (reason, inr (inl (short, (bits, box, sizes, other, r)))) =
+    emit (same_name (codes "emit") name words (begins (codes "emit") words bits box sizes other) is) bits box sizes other reason r
 exclude name words bytes is within emit sim check schedule table (reason, inr (inr (inl (short, other, r)))) = sim (same_name (codes "sim") name words (begins_sim words other) is) reason r
 exclude name words bytes is within emit sim check schedule table (reason, inr (inr (inr (inl (short, (bits, sizes, other, r)))))) =
     check (same_name (codes "check") name words (begins (codes "check") words bits other.0 sizes other.1) is) bits sizes other reason r
@@ -119,7 +118,7 @@ exclude name words bytes is within emit sim check schedule table (reason, inr (i
 
 -- the names of two commands differ in their first letter
 table_no_check : codes "table" ≡ codes "check" → ⊥
-table_no_check e = let f : 116 ≡ 99 = ap (λ (l : List ℕ). slice_index_or l 0 0) e in omega arith
+table_no_check e = let f : 116 ≡ 99 = ap (λ (l : List ℕ). slice_index_or l 0 0) e in omega (arith, f)
 
 check_no_table : codes "check" ≡ codes "table" → ⊥
 check_no_table e = table_no_check (sym e)
@@ -154,12 +153,21 @@ exclude_table words bits box bytes out sizes is within g refusal =
     (subst (λ (m : ℕ). GivesTable others m c bytes out) same_bits (subst (λ (m : ℕ). GivesTable others bits m bytes out) same_box (subst (λ (xs : List Size). GivesTable xs bits box bytes out) same_sizes g))))
     refusal
 
+exclude_emit : (words : List (List ℕ)) (bits box : ℕ) (bytes out : List ℕ) (sizes : List Size) → IsEmit words bits box sizes → length bytes ≤ LIMIT → GivesEmit sizes bits box bytes out → HasRefusal words bytes → ⊥
+exclude_emit words bits box bytes out sizes is within g refusal =
+    exclude (codes "emit") words bytes (begins (codes "emit") words bits box sizes is) within
+    (λ _ n c others other reason r.
+    let (same_bits, same_box, same_sizes) = one_asked (codes "emit") words bits n box c sizes others is other in
+    exclusive_emit others n c bytes reason out r
+    (subst (λ (m : ℕ). GivesEmit others m c bytes out) same_bits (subst (λ (m : ℕ). GivesEmit others bits m bytes out) same_box (subst (λ (xs : List Size). GivesEmit xs bits box bytes out) same_sizes g))))
+    (λ e. cc) (λ e. cc) (λ e. cc) (λ e. cc)
+    refusal
+
 exclusive : (command : Command) (words : List (List ℕ)) (bytes out : List ℕ) → Are command words → length bytes ≤ LIMIT → Gives command words bytes out → HasRefusal words bytes → ⊥
 exclusive (Check width) words bytes out are within g refusal = exclude_check words width.bits bytes out g.0 g.1 within g.2 refusal
 exclusive (Schedule width reach) words bytes out are within g refusal = exclude_schedule words width.bits reach.size bytes out g.0 g.1 within g.2 refusal
 exclusive (Table width reach) words bytes out are within g refusal = exclude_table words width.bits reach.size bytes out g.0 g.1 within g.2 refusal
-exclusive (Emit width) words bytes out are within g refusal =
-    exclude (codes "emit") words bytes (begins_emit words width.bits are) within (λ _ bits other reason r. r.0 g.computes.form g.computes.text) (λ e. cc) (λ e. cc) (λ e. cc) (λ e. cc) refusal
+exclusive (Emit width reach) words bytes out are within g refusal = exclude_emit words width.bits reach.size bytes out g.0 g.1 within g.2 refusal
 exclusive Sim words bytes out are within g refusal =
     exclude (codes "sim") words bytes (begins_sim words are) within (λ e. cc) (λ _ reason r. exclusive_sim bytes reason out r g) (λ e. cc) (λ e. cc) (λ e. cc) refusal
 

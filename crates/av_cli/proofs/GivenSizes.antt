@@ -149,6 +149,9 @@ schedule_is_no_size is = let k = text_is (codes "schedule") is in cc
 pub table_is_no_size : IsSize (codes "table") → ⊥
 table_is_no_size is = let k = text_is (codes "table") is in cc
 
+pub emit_is_no_size : IsSize (codes "emit") → ⊥
+emit_is_no_size is = let k = text_is (codes "emit") is in cc
+
 pub asked : (name : List ℕ) (words : List (List ℕ)) (bits reach : ℕ) (rest : List (List ℕ)) → (IsSize name → ⊥) → words ≡ name ∷ rest
     → ((o : Options) × Say no_options (drop 1 words) o × (bits ≡ given_or default_width o.width) × (reach ≡ given_or default_box o.box)) → (found : List Size) × Asks name words bits reach found
 asked name words bits reach rest none first (o, say, bits_are, box_is) =

@@ -12,3 +12,4 @@ pub mod Sent
 pub mod Answered
 pub mod Scheduling
 pub mod Tabling
+pub mod Emitting

@@ -25,20 +25,24 @@ use Rattle.av_cli.proofs.GivenSizes.{with_sizes}
 
 -- ---- refused or given, and not both
 
-pub exclusive_table : (sizes : List Size) (bits box : ℕ) (bytes reason out : List ℕ) → RefusesTable sizes bits box bytes reason → GivesTable sizes bits box bytes out → ⊥
-exclusive_table sizes bits box bytes reason out r g = go r.first
+-- a text that has an array has no fault
+pub not_unmapped : (sizes : List Size) (bits box : ℕ) (bytes reason : List ℕ) (t : Timed) (a : Cells) → RefusesTable sizes bits box bytes reason → IsMapped bytes sizes bits box t a → ⊥
+not_unmapped sizes bits box bytes reason t a r mapped = go r.first
   where
     go : IsUnmapped bytes sizes bits box r.cause → ⊥
-    go (in_schedule h) = not_unscheduled sizes bits box bytes r.cause h r.some g.timed g.mapped.pipelined.serialises g.mapped.pipelined.no_cause
-    go (in_array f e t pipelined fault) = r.some (e ∙ ap of_space (array_of bytes sizes bits box g.timed t g.mapped.pipelined pipelined g.mapped.no_cause f fault))
+    go (in_schedule h) = not_unscheduled sizes bits box bytes r.cause h r.some t mapped.pipelined.serialises mapped.pipelined.no_cause
+    go (in_array f e u pipelined fault) = r.some (e ∙ ap of_space (array_of bytes sizes bits box t u mapped.pipelined pipelined mapped.no_cause f fault))
 
--- ---- answers
+pub exclusive_table : (sizes : List Size) (bits box : ℕ) (bytes reason out : List ℕ) → RefusesTable sizes bits box bytes reason → GivesTable sizes bits box bytes out → ⊥
+exclusive_table sizes bits box bytes reason out r g = not_unmapped sizes bits box bytes reason g.timed g.cells r g.mapped
 
-pub table_refused : (words : List (List ℕ)) (sizes : List Size) (bits box : ℕ) (bytes : List ℕ) (f : Refusal) {held held' : Option (List ℕ)} {faults faults' : ℕ} {status : Status}
+-- ---- answers: a refusal, whatever would be given
+
+pub table_refused : (Given : List ℕ → Type 0) (words : List (List ℕ)) (sizes : List Size) (bits box : ℕ) (bytes : List ℕ) (f : Refusal) {held held' : Option (List ℕ)} {faults faults' : ℕ} {status : Status}
     → GiveSizes words sizes → (f ≢ refusal.Memory → IsUnmapped bytes sizes bits box f) → (f ≡ refusal.Memory → (status ≡ Memory) × (held' ≡ held))
     → ((f ≡ refusal.Memory → ⊥) → IsPut held held' faults faults' (refusal_line (system_reason f)) Refused status)
-    → IsAnswered (RefusesTableWith words bits box bytes) (GivesTableWith words bits box bytes) held held' faults faults' status
-table_refused words sizes bits box bytes f give first none put =
+    → IsAnswered (RefusesTableWith words bits box bytes) Given held held' faults faults' status
+table_refused Given words sizes bits box bytes f give first none put =
     elim (memory_or_not f) [
       | inl memory ↦ (let (x, y) = none memory in no_memory x y)
       | inr some ↦ refused (record { sizes = sizes; give = give; refuses = record { cause = f; first = first some; some = some; told = refl } }) (put some)

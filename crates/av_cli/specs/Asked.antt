@@ -14,12 +14,12 @@ abbrev pub Refuses : Command → List (List ℕ) → List ℕ → List ℕ → T
 Refuses (Check width) words bytes reason = (sizes : List Size) × IsCheck words width.bits sizes × RefusesCheck sizes width.bits bytes reason
 Refuses (Schedule width reach) words bytes reason = (sizes : List Size) × IsSchedule words width.bits reach.size sizes × RefusesSchedule sizes width.bits reach.size bytes reason
 Refuses (Table width reach) words bytes reason = (sizes : List Size) × IsTable words width.bits reach.size sizes × RefusesTable sizes width.bits reach.size bytes reason
-Refuses (Emit width) words bytes reason = RefusesEmit bytes reason
+Refuses (Emit width reach) words bytes reason = (sizes : List Size) × IsEmit words width.bits reach.size sizes × RefusesEmit sizes width.bits reach.size bytes reason
 Refuses Sim words bytes reason = RefusesSim bytes reason
 
 abbrev pub Gives : Command → List (List ℕ) → List ℕ → List ℕ → Type 0
 Gives (Check width) words bytes out = (sizes : List Size) × IsCheck words width.bits sizes × GivesCheck sizes width.bits bytes out
 Gives (Schedule width reach) words bytes out = (sizes : List Size) × IsSchedule words width.bits reach.size sizes × GivesSchedule sizes width.bits reach.size bytes out
 Gives (Table width reach) words bytes out = (sizes : List Size) × IsTable words width.bits reach.size sizes × GivesTable sizes width.bits reach.size bytes out
-Gives (Emit width) words bytes out = GivesEmit width bytes out
+Gives (Emit width reach) words bytes out = (sizes : List Size) × IsEmit words width.bits reach.size sizes × GivesEmit sizes width.bits reach.size bytes out
 Gives Sim words bytes out = GivesSim bytes out

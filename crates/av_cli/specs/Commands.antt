@@ -88,14 +88,6 @@ given_or default (Some n) = n
 abbrev pub no_options : Options
 no_options = record { width = None; box = None }
 
--- `emit`, then options and sizes in any order
-pub record IsEmit (words : List (List ℕ)) (bits : ℕ) : Type 0 where
-  pub rest : List (List ℕ)
-  pub first : words ≡ codes "emit" ∷ rest
-  pub options : Options
-  pub say : Say no_options rest options
-  pub bits_are : bits ≡ given_or default_width options.width
-
 -- the name of a command, then options and sizes in any order; neither a command nor an option or its value has the form of a size
 pub record Asks (name : List ℕ) (words : List (List ℕ)) (bits box : ℕ) (sizes : List Size) : Type 0 where
   pub rest : List (List ℕ)
@@ -116,6 +108,9 @@ IsSchedule words bits reach found = Asks (codes "schedule") words bits reach fou
 abbrev pub IsTable : List (List ℕ) → ℕ → ℕ → List Size → Type 0
 IsTable words bits reach found = Asks (codes "table") words bits reach found
 
+abbrev pub IsEmit : List (List ℕ) → ℕ → ℕ → List Size → Type 0
+IsEmit words bits reach found = Asks (codes "emit") words bits reach found
+
 -- nothing, or `--` alone
 abbrev pub IsBare : List (List ℕ) → Type 0
 IsBare words = (words ≡ []) ⊎ (words ≡ codes "--" ∷ [])
@@ -128,7 +123,7 @@ pub record IsSim (words : List (List ℕ)) : Type 0 where
 
 abbrev pub AreRead : List (List ℕ) → Type 0
 AreRead words =
-    ((bits : ℕ) × IsEmit words bits)
+    ((bits : ℕ) × (reach : ℕ) × (found : List Size) × IsEmit words bits reach found)
     ⊎ IsSim words
     ⊎ ((bits : ℕ) × (found : List Size) × IsCheck words bits found)
     ⊎ ((bits : ℕ) × (reach : ℕ) × (found : List Size) × IsSchedule words bits reach found)

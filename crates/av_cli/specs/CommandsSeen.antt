@@ -14,5 +14,5 @@ abbrev pub Are : Command → List (List ℕ) → Type 0
 Are (Check w) words = (sizes : List Size) × IsCheck words w.bits sizes
 Are (Schedule w r) words = (sizes : List Size) × IsSchedule words w.bits r.size sizes
 Are (Table w r) words = (sizes : List Size) × IsTable words w.bits r.size sizes
-Are (Emit w) words = IsEmit words w.bits
+Are (Emit w r) words = (sizes : List Size) × IsEmit words w.bits r.size sizes
 Are Sim words = IsSim words

@@ -1,20 +1,35 @@
 -- What `emit` refuses, and what it writes.
-use Rattle.std.specs.Prelude.{◌≡◌, ℕ, List, codes}
-use Rattle.av_base.specs.declared.width.Width.{Width}
-use Rattle.av_tree.specs.FirstForm.{Form, IsText}
+use Rattle.std.specs.Prelude.{◌≡◌, ℕ, List}
+use Rattle.av_flat.specs.declared.timed.Timed.{Timed}
+use Rattle.av_names.specs.declared.size.Size.{Size}
 use Rattle.av_net.specs.declared.design.Design.{Design}
 use Rattle.av_net.specs.Texts.{text}
 use Rattle.av_net.specs.Designs.{Spells}
+use Rattle.av_space.specs.declared.cells.Cells.{Cells}
 use Rattle.av_compile.specs.Headline.{Headline}
+use Rattle.av_cli.specs.Commands.{GiveSizes}
+use Rattle.av_cli.specs.Tables.{RefusesTable, RefusesTableWith}
 
--- the bytes are no text of the first form
-abbrev pub RefusesEmit : List ℕ → List ℕ → Type 0
-RefusesEmit bytes reason = ((form : Form) → IsText bytes form → ⊥) × (reason ≡ codes "not this form")
+-- what `table` refuses: the first fault of the bytes with these sizes, up to the quantities of the array
+abbrev pub RefusesEmit : List Size → ℕ → ℕ → List ℕ → List ℕ → Type 0
+RefusesEmit sizes bits box bytes reason = RefusesTable sizes bits box bytes reason
 
 -- the text of a design that computes what the bytes say. The grammar reads the text as that design and as no other.
-pub record GivesEmit (width : Width) (bytes out : List ℕ) : Type 0 where
+pub record GivesEmit (sizes : List Size) (bits box : ℕ) (bytes out : List ℕ) : Type 0 where
+  pub timed : Timed
+  pub cells : Cells
   pub design : Design
-  pub computes : Headline bytes width design
+  pub computes : Headline bytes sizes bits box timed cells design
   pub text_of : out ≡ text design
   pub spelled : Spells out design
   pub only : (other : Design) → Spells out other → other ≡ design
+
+-- ---- with the words at hand
+
+abbrev pub RefusesEmitWith : List (List ℕ) → ℕ → ℕ → List ℕ → List ℕ → Type 0
+RefusesEmitWith words bits box bytes reason = RefusesTableWith words bits box bytes reason
+
+pub record GivesEmitWith (words : List (List ℕ)) (bits box : ℕ) (bytes out : List ℕ) : Type 0 where
+  pub sizes : List Size
+  pub give : GiveSizes words sizes
+  pub gives : GivesEmit sizes bits box bytes out

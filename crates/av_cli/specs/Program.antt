@@ -1,7 +1,6 @@
 -- What the program reads and writes for each status. What a source tells of the bytes left in it stands
 -- as `left` before the call and as `left'` after it.
 use Rattle.std.specs.Prelude.{◌≡◌, ◌⊎◌, ℕ, ◌<◌, ◌≤◌, List, codes, length, Option, IfSome}
-use Rattle.av_base.specs.declared.width.Width.{Width}
 use Rattle.av_base.specs.Outside.{Takes, Adds, AddsPrefix, IsAtEnd}
 use Rattle.av_names.specs.declared.size.Size.{Size}
 use Rattle.av_cli.specs.declared.status.Status.{Status}
@@ -21,7 +20,7 @@ use Rattle.av_cli.specs.Sims.{RefusesSim, GivesSim}
 abbrev pub IsRefused : List (List ℕ) → List ℕ → List ℕ → Type 0
 IsRefused words bytes reason =
     ((LIMIT < length bytes) × (reason ≡ codes "too long"))
-    ⊎ ((length bytes ≤ LIMIT) × ((bits : ℕ) × IsEmit words bits) × RefusesEmit bytes reason)
+    ⊎ ((length bytes ≤ LIMIT) × ((bits : ℕ) × (box : ℕ) × (sizes : List Size) × IsEmit words bits box sizes × RefusesEmit sizes bits box bytes reason))
     ⊎ ((length bytes ≤ LIMIT) × IsSim words × RefusesSim bytes reason)
     ⊎ ((length bytes ≤ LIMIT) × ((bits : ℕ) × (sizes : List Size) × IsCheck words bits sizes × RefusesCheck sizes bits bytes reason))
     ⊎ ((length bytes ≤ LIMIT) × ((bits : ℕ) × (box : ℕ) × (sizes : List Size) × IsSchedule words bits box sizes × RefusesSchedule sizes bits box bytes reason))
@@ -47,13 +46,15 @@ pub record WritesRefusal (words : List (List ℕ)) (left left' : Option (List �
 
 -- the output of `emit`: the text of a design that computes what the source gave up to its end
 pub record WritesDesign (words : List (List ℕ)) (left left' : Option (List ℕ)) (out : List ℕ) : Type 0 where
-  pub width : Width
-  pub read : IsEmit words width.bits
+  pub bits : ℕ
+  pub box : ℕ
+  pub sizes : List Size
+  pub read : IsEmit words bits box sizes
   pub taken : List ℕ
   pub takes : Takes left left' taken
   pub whole : IsAtEnd left'
   pub within : length taken ≤ LIMIT
-  pub gives : GivesEmit width taken out
+  pub gives : GivesEmit sizes bits box taken out
 
 -- the output of `sim`: the run of the module under the stimulus that the source gave up to its end
 pub record WritesRun (words : List (List ℕ)) (left left' : Option (List ℕ)) (out : List ℕ) : Type 0 where

@@ -2,25 +2,35 @@
 
 ghost use Rattle.std.specs.Prelude.{◌≤◌, length};
 ghost use Rattle.av_cli.specs.declared.program.TheConstants.{LIMIT};
-ghost use Rattle.av_cli.specs.Emits.{RefusesEmit, GivesEmit};
+ghost use Rattle.av_cli.specs.Emits.{RefusesEmitWith, GivesEmitWith};
 ghost use Rattle.av_cli.specs.Written.{IsAnswered};
 
-use crate::put::{put, put_design};
+use crate::put::{put_design, put_system_refusal};
+use crate::sizes::sizes;
 use crate::status::Status;
-use av_base::{Sink, Width};
-use av_compile::{FormRefusal, compile};
+use av_base::{Memory, Name, Sink, Width};
+use av_compile::compile;
+use av_flat::Reach;
 use std::alloc::Global;
 
-const NOT_THIS_FORM: &str = "refused: not this form\n";
-
-/// Answers an Alpha text.
-pub(crate) fn emit<K: Sink>(alloc: Global, bytes: &[u8], width: Width, sink: &mut K) -> Status
+/// Answers an Alpha text with the sizes among the words.
+pub(crate) fn emit<K: Sink>(
+    alloc: Global,
+    words: &[Name],
+    bytes: &[u8],
+    width: Width,
+    reach: Reach,
+    sink: &mut K,
+) -> Status
     requires { length bytes.now ≤ LIMIT }
-    ensures { IsAnswered (RefusesEmit bytes.now) (GivesEmit width bytes.now) (K.held sink.old) (K.held sink.new) (K.faults sink.old) (K.faults sink.new) result }
+    ensures { IsAnswered (RefusesEmitWith words.now width.bits reach.size bytes.now) (GivesEmitWith words.now width.bits reach.size bytes.now) (K.held sink.old) (K.held sink.new) (K.faults sink.old) (K.faults sink.new) result }
 {
-    match compile(alloc, bytes, width) {
-        Err(FormRefusal::Memory) => Status::Memory,
-        Err(FormRefusal::NotThisForm) => put(sink, NOT_THIS_FORM, Status::Refused),
-        Ok(design) => put_design(sink, &design),
+    let sizes = match sizes(alloc, words) {
+        Err(Memory) => return Status::Memory,
+        Ok(sizes) => sizes,
+    };
+    match compile(alloc, bytes, sizes.as_slice(), width, reach) {
+        Err(refusal) => put_system_refusal(sink, &refusal),
+        Ok(compiled) => put_design(sink, &compiled.design),
     }
 }

@@ -71,7 +71,7 @@ fn answer<K: Sink>(
         Command::Check { width } => check(alloc, words, bytes, width, sink),
         Command::Schedule { width, reach } => { schedule(alloc, words, bytes, width, reach, sink) }
         Command::Table { width, reach } => table(alloc, words, bytes, width, reach, sink),
-        Command::Emit { width } => emit(alloc, bytes, width, sink),
+        Command::Emit { width, reach } => emit(alloc, words, bytes, width, reach, sink),
         Command::Sim => sim(alloc, bytes, sink),
     }
 }

@@ -15,8 +15,8 @@ pub enum Command {
     Schedule { width: Width, reach: Reach },
     /// The array of a system by its first schedule in a box. Its sizes stand in the words.
     Table { width: Width, reach: Reach },
-    /// The text of a design, whose words have this width.
-    Emit { width: Width },
+    /// The text of the design of a system's array by its first schedule in a box. Its sizes stand in the words.
+    Emit { width: Width, reach: Reach },
     /// The run of a module under a stimulus.
     Sim,
 }
@@ -39,9 +39,10 @@ pub fn read_words(words: &[Name]) -> Option<Command>
             let (width, reach) = read_width_and_reach(words)?;
             Some(Command::Table { width, reach })
         }
-        "emit" => Some(Command::Emit {
-            width: read_width(words)?,
-        }),
+        "emit" => {
+            let (width, reach) = read_width_and_reach(words)?;
+            Some(Command::Emit { width, reach })
+        }
         "sim" if is_bare(words) => Some(Command::Sim),
         _ => None,
     }

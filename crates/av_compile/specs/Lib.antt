@@ -1,11 +1,6 @@
-pub mod Listings
-pub mod Headline
-pub mod Said
-pub mod Cell
-pub mod Forms
-pub mod Reading
 pub mod Refusals
 pub mod Checked
 pub mod Scheduled
 pub mod Mapped
+pub mod Headline
 pub mod inner

@@ -1,28 +1,68 @@
-ghost use Rattle.std.specs.Prelude.{◌≡◌, ◌<◌, length, IfOk, Err};
-ghost use Rattle.av_tree.specs.FirstForm.{Form, IsText};
+ghost use Rattle.std.specs.Prelude.{◌≡◌, ◌≢◌, ◌<◌, length, IfOk, IfErr, Err};
+ghost use Rattle.av_flat.specs.Trees.{view_system};
+ghost use Rattle.av_flat.specs.declared.timed.Timed.{Timed as System};
+ghost use Rattle.av_names.specs.Texts.{AreSmall};
+ghost use Rattle.av_compile.specs.Scheduled.{Serialises};
+ghost use Rattle.av_compile.specs.Mapped.{HasArray, IsPipelined, IsUnmapped};
 ghost use Rattle.av_compile.specs.Headline.{Headline};
+ghost use Rattle.av_compile.specs.declared.refusal.Refusal.{Refusal as Refused};
+ghost use Rattle.av_compile.specs.declared.refusal.Refusal.TheVariants as refusal;
 
-use crate::FormRefusal;
-use crate::cell::module;
-use crate::listing::listing;
-use crate::text::read_form;
+use crate::Refusal;
+use crate::mapping::{Array, mapped};
 use av_base::Width;
+use av_build::build;
+use av_flat::{Flat, Reach, Timed, copy_flat};
+use av_names::Size;
 use av_net::Design;
+use av_space::Cells;
 use std::alloc::Global;
 
-/// Compiles a text of the first form to a design of one cell whose words have this width.
+/// What is made of a text: its chained system, the same with its first schedule and pipelines, its array, and the design of
+/// that.
+#[derive(Debug, Drop)]
+pub struct Compiled {
+    pub flat: Flat,
+    pub timed: Timed,
+    pub cells: Cells,
+    pub design: Design,
+}
+
+/// Compiles a text with its sizes, in words of this width, by its first schedule in the box, to a systolic array in Verilog.
 ///
-/// The listing has the input's points at the input ports, ordered by port and cycle, and the output's
-/// points at the output `o0`, in ascending order. The module is named `array`.
+/// The listing has the points of inputs at the input ports, by port and cycle, and those of outputs and locals at their wires, by
+/// variable and point. The module is named `array`.
 ///
-/// `NotThisForm` comes exactly where the bytes are no text of the first form, unless memory runs out.
-pub fn compile(alloc: Global, bytes: &[u8], width: Width) -> Result<Design, FormRefusal>
-    requires { length bytes.now < 4294967295 }
-    ensures headline { IfOk result (Headline bytes.now width) }
-    ensures refused { result ≡ Err FormRefusal.NotThisForm → (form : Form) → IsText bytes.now form → ⊥ }
+/// Else the first fault is answered: those of `mapped`. `Memory` comes where memory runs out, whatever else holds.
+pub fn compile(
+    alloc: Global,
+    bytes: &[u8],
+    sizes: &[Size],
+    width: Width,
+    reach: Reach,
+) -> Result<Compiled, Refusal>
+    requires short { length bytes.now < 4294967295 }
+    requires small { AreSmall sizes.now }
+
+    // The equations have one solution for every input, and the design shows it, whatever stands on idle ports.
+    ensures headline { IfOk result (λ to. Headline bytes.now sizes.now width.bits reach.size to.timed to.cells to.design) }
+
+    // The first field is the system that the schedule is for.
+    ensures flat { IfOk result (λ to. Serialises bytes.now sizes.now width.bits (view_system to.flat)) }
+
+    // A text is refused for its first fault, unless memory runs out.
+    ensures refused { (f : Refused) → result ≡ Err f → f ≢ refusal.Memory → IsUnmapped bytes.now sizes.now width.bits reach.size f }
+
+    // A system with a first schedule, whose array is within the limits, is not refused.
+    ensures complete { (t : System) → IsPipelined bytes.now sizes.now width.bits reach.size t → HasArray t → IfErr result (λ f. f ≡ refusal.Memory) }
 {
-    let form = read_form(alloc, bytes)?;
-    let listing = listing(alloc, &form)?;
-    let module = module(alloc, width, form.right)?;
-    Ok(Design { listing, module })
+    let Array { timed, cells } = mapped(alloc, bytes, sizes, width, reach)?;
+    let design = build(alloc, &timed, &cells)?;
+    let flat = copy_flat(alloc, &timed.flat)?;
+    Ok(Compiled {
+        flat,
+        timed,
+        cells,
+        design,
+    })
 }

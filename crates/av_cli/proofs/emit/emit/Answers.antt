@@ -1,20 +1,22 @@
-use Rattle.std.proofs.Common.{Err, ap, refl}
-use Rattle.av_net.specs.Texts.{text}
-use Rattle.av_vread.proofs.Faulted.{one_design}
-use Rattle.av_vread.proofs.RoundTrip.{read_back}
-use Rattle.av_cli.specs.Written.{refused, given}
+use Rattle.std.proofs.Common.{refl, subst, List}
+use Rattle.av_names.specs.declared.size.Size.{Size}
+use Rattle.av_compile.specs.Mapped.{IsUnmapped}
+use Rattle.av_compile.specs.Headline.{Headline}
+use Rattle.av_cli.specs.Emits.{GivesEmitWith}
+use Rattle.av_cli.proofs.Tabling.{table_refused}
+use Rattle.av_cli.proofs.Emitting.{emit_given}
 use Rattle.av_cli.proofs.emit.emit.Goals as goal
 
-pub returns-in-Err-NotThisForm : goal.returns-in-Err-NotThisForm
-returns-in-Err-NotThisForm g c = refused (c.in-Err-NotThisForm.ensures.refused (ap Err c.in-Err-NotThisForm.field-0-is), refl) c.put.ensures
+pub returns-in-Err-compile : goal.returns-in-Err-compile
+returns-in-Err-compile g c =
+    let refusal = c.in-Err-compile.refusal in
+    table_refused (GivesEmitWith c.args.words.now c.args.width.bits c.args.reach.size c.args.bytes.now) c.args.words.now c.in-Ok.sizes c.args.width.bits c.args.reach.size c.args.bytes.now refusal c.in-Ok.ensures.given
+    (λ some. subst (λ (xs : List Size). IsUnmapped c.args.bytes.now xs c.args.width.bits c.args.reach.size refusal) c.as_slice.ensures (c.in-Err-compile.ensures.refused refusal refl some))
+    c.put_system_refusal.ensures.memory c.put_system_refusal.ensures.refused
 
-pub returns-in-Ok : goal.returns-in-Ok
-returns-in-Ok g c =
-    let spelled = read_back c.in-Ok.design c.in-Ok.ensures.headline.computes.sound in
-    given (record {
-      design = c.in-Ok.design;
-      computes = c.in-Ok.ensures.headline;
-      text_of = refl;
-      spelled = spelled;
-      only = λ other says. one_design (text c.in-Ok.design) other c.in-Ok.design says spelled;
-    }) c.put_design.ensures
+pub returns : goal.returns
+returns g c =
+    let made = c.in-Ok-compile.compiled in
+    emit_given c.args.words.now c.in-Ok.sizes c.args.width.bits c.args.reach.size c.args.bytes.now made.timed made.cells made.design c.in-Ok.ensures.given
+    (subst (λ (xs : List Size). Headline c.args.bytes.now xs c.args.width.bits c.args.reach.size made.timed made.cells made.design) c.as_slice.ensures c.in-Ok-compile.ensures.headline)
+    c.put_design.ensures

@@ -6,6 +6,7 @@ use Rattle.av_cli.proofs.Answered.{by_command}
 use Rattle.av_cli.proofs.Checking.{check_answered}
 use Rattle.av_cli.proofs.Scheduling.{schedule_answered}
 use Rattle.av_cli.proofs.Tabling.{table_answered}
+use Rattle.av_cli.proofs.Emitting.{emit_answered}
 use Rattle.av_cli.proofs.program.answer.Goals as goal
 
 pub returns-in-Check : goal.returns-in-Check
@@ -34,7 +35,13 @@ returns-in-Table g c =
     (table_answered words width.bits reach.size bytes (subst (λ (x : Command). Are x words) c.in-Table.is c.requires.read) c.table.ensures)
 
 pub returns-in-Emit : goal.returns-in-Emit
-returns-in-Emit g c = by_command c.args.command (Emit c.in-Emit.width) c.args.words.now c.args.bytes.now c.in-Emit.is c.emit.ensures
+returns-in-Emit g c =
+    let words = c.args.words.now in
+    let bytes = c.args.bytes.now in
+    let width = c.in-Emit.width in
+    let reach = c.in-Emit.reach in
+    by_command c.args.command (Emit width reach) words bytes c.in-Emit.is
+    (emit_answered words width.bits reach.size bytes (subst (λ (x : Command). Are x words) c.in-Emit.is c.requires.read) c.emit.ensures)
 
 pub returns-in-Sim : goal.returns-in-Sim
 returns-in-Sim g c = by_command c.args.command Sim c.args.words.now c.args.bytes.now c.in-Sim.is c.sim.ensures

@@ -1,12 +1,25 @@
-use Rattle.std.proofs.lemmas.Result.{err_from_is_err_and}
-use Rattle.av_compile.proofs.Compiled.{headline}
+use Rattle.std.proofs.Common.{◌≡◌, refl}
+use Rattle.std.specs.Prelude.{Err}
+use Rattle.av_compile.specs.declared.refusal.Refusal.TheVariants as refusal
+use Rattle.av_compile.proofs.FirstFaults.{told, memory_only}
+use Rattle.av_compile.proofs.Promised.{headline}
 use Rattle.av_compile.proofs.compiler.compile.Goals as goal
 
-pub returns-in_err-form-clause-refused : goal.returns-in_err-form-clause-refused
-returns-in_err-form-clause-refused c = λ e f t.
-    let (fault, was, is) = err_from_is_err_and c.from_residual.result c.from_residual.ensures.1 in
-    c.in_err-form.ensures.refused (cc) f t
+pub returns-in_err-timed-clause-refused : goal.returns-in_err-timed-clause-refused
+returns-in_err-timed-clause-refused c = λ f is not_memory.
+    let fault = c.in_err-timed.field-0.0 in
+    let e : f ≡ fault = told c.from_residual.result fault f c.from_residual.ensures.1 is in
+    let was : c.mapped.result ≡ Err f = cc in
+    c.mapped.ensures.refused f was not_memory
+
+pub returns-in_err-design-clause-complete : goal.returns-in_err-design-clause-complete
+returns-in_err-design-clause-complete c = λ t h has. memory_only c.from_residual-in_err-design.result refusal.Memory c.from_residual-in_err-design.ensures.1 refl
+
+pub returns-in_err-flat-clause-complete : goal.returns-in_err-flat-clause-complete
+returns-in_err-flat-clause-complete c = λ t h has. memory_only c.from_residual-in_err-flat.result refusal.Memory c.from_residual-in_err-flat.ensures.1 refl
 
 pub returns-clause-headline : goal.returns-clause-headline
 returns-clause-headline c =
-    headline c.args.bytes.now c.args.width c.in_ok-form.form c.in_ok-listing.listing.ins c.in_ok-listing.listing.ats c.in_ok-module.module c.in_ok-form.ensures.found c.in_ok-listing.ensures.ins c.in_ok-listing.ensures.ats c.in_ok-module.ensures
+    let array = c.in_ok-timed.field-0 in
+    headline c.args.bytes.now c.args.sizes.now c.args.width.bits c.args.reach.size array.timed array.cells c.in_ok-design.design c.requires.short c.args.width.least
+    c.in_ok-timed.ensures.found c.in_ok-design.ensures c.in_ok-timed.ensures.one_solution

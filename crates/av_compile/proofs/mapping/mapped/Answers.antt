@@ -1,7 +1,6 @@
-use Rattle.std.proofs.Common.{◌≡◌, ◌∙◌, ap, sym}
+use Rattle.std.proofs.Common.{◌≡◌, ap}
 use Rattle.std.specs.Prelude.{Err}
 use Rattle.av_flat.specs.Trees.{view_system}
-use Rattle.av_flat.specs.declared.timed.Timed.{Timed}
 use Rattle.av_compile.specs.Refusals.{of_space}
 use Rattle.av_compile.specs.Mapped.{in_schedule, in_array}
 use Rattle.av_compile.proofs.FirstFaults.{told, memory_only}
