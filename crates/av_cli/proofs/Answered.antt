@@ -119,7 +119,7 @@ exclude name words bytes is within emit sim check schedule table (reason, inr (i
 
 -- the names of two commands differ in their first letter
 table_no_check : codes "table" ≡ codes "check" → ⊥
-table_no_check e = let f : 116 ≡ 99 = ap (λ (l : List ℕ). slice_index_or l 0 0) e in omega arith
+table_no_check e = let f : 116 ≡ 99 = ap (λ (l : List ℕ). slice_index_or l 0 0) e in omega (arith, f)
 
 check_no_table : codes "check" ≡ codes "table" → ⊥
 check_no_table e = table_no_check (sym e)
