@@ -130,7 +130,7 @@ exclude_check words bits bytes out sizes is within g refusal =
     (λ _ n others other reason r.
     let (same_bits, _, same_sizes) = one_asked (codes "check") words bits n is.0 other.0 sizes others is.1 other.1 in
     exclusive_check others n bytes reason out r (subst (λ (m : ℕ). GivesCheck others m bytes out) same_bits (subst (λ (xs : List Size). GivesCheck xs bits bytes out) same_sizes g)))
-    (λ e. cc) check_no_table
+    (λ e. cc) (λ e. absurd (table_no_check e))
     refusal
 
 exclude_schedule : (words : List (List ℕ)) (bits box : ℕ) (bytes out : List ℕ) (sizes : List Size) → IsSchedule words bits box sizes → length bytes ≤ LIMIT → GivesSchedule sizes bits box bytes out → HasRefusal words bytes
@@ -147,7 +147,7 @@ exclude_schedule words bits box bytes out sizes is within g refusal =
 exclude_table : (words : List (List ℕ)) (bits box : ℕ) (bytes out : List ℕ) (sizes : List Size) → IsTable words bits box sizes → length bytes ≤ LIMIT → GivesTable sizes bits box bytes out → HasRefusal words bytes
     → ⊥
 exclude_table words bits box bytes out sizes is within g refusal =
-    exclude (codes "table") words bytes (begins (codes "table") words bits box sizes is) within (λ e. cc) (λ e. cc) table_no_check (λ e. cc)
+    exclude (codes "table") words bytes (begins (codes "table") words bits box sizes is) within (λ e. cc) (λ e. cc) (λ e. absurd (check_no_table e)) (λ e. cc)
     (λ _ n c others other reason r.
     let (same_bits, same_box, same_sizes) = one_asked (codes "table") words bits n box c sizes others is other in
     exclusive_table others n c bytes reason out r
