@@ -43,3 +43,4 @@ pub mod LaneParts
 pub mod Placing
 pub mod Turning
 pub mod Writable
+pub mod SmallNumbers
