@@ -37,3 +37,16 @@ pub mod Chosen
 pub mod LaneParts
 pub mod Placing
 pub mod Turning
+pub mod Appended
+pub mod SiteRuns
+pub mod PlaceNumbers
+pub mod PlaceSites
+pub mod PlaceSources
+pub mod LanePlans
+pub mod HelperPlans
+pub mod AllLanes
+pub mod MomentSites
+pub mod PieceWorks
+pub mod ValueLanes
+pub mod HelperLanes
+pub mod Programming
