@@ -1,7 +1,8 @@
 -- The lane of the value of a cell.
-use Rattle.std.proofs.Common.{◌≡◌, ℕ, ◌<◌, ◌≤◌, inl, inr, List, length, map, refl, sym, ap, subst, ◌∙◌, arith, IsTrue, Some, None}
+use Rattle.std.proofs.Common.{◌≡◌, ℕ, zero, suc, ◌+◌, ◌<◌, ◌≤◌, inl, inr, List, [], ◌∷◌, ◌++◌, length, length-append, map, refl, sym, ap, subst, ◌∙◌, arith, IsTrue, Some, None}
 use Rattle.std.specs.Prelude.{slice_get}
 use Rattle.std.proofs.lemmas.Bool.{cases_lt}
+use Rattle.std.proofs.lemmas.List.{map-append}
 use Rattle.std.proofs.lemmas.List.Elements.{All-contains}
 use Rattle.av_tree.specs.Points.{Point}
 use Rattle.av_flat.specs.Trees.{Piece, Variable, view_piece, view_variable}
@@ -17,10 +18,13 @@ use Rattle.av_space.specs.Links.{line_length}
 use Rattle.av_space.specs.Spots.{system_of, helpers_of, placings_of, cells_of, ComputesIn, IsSpot, AreSpots, AreEnds}
 use Rattle.av_space.proofs.ByPlace.{there_is, from_map, pair_at}
 use Rattle.av_space.proofs.Elements.{some_is, at_index, mapped, got, in_range}
-use Rattle.av_build.specs.Programs.{Work, Lane}
+use Rattle.av_build.specs.Programs.{Work, Shift, Lane}
 use Rattle.av_build.specs.Selections.{Stay, shifts_by, last_work}
 use Rattle.av_build.specs.Programmed.{Lanes, Spot, IsStayFor, IsValueLane}
 use Rattle.av_build.specs.inner.Blueprints.{seen, spot_of}
+use Rattle.av_build.specs.inner.Works.{shift_in}
+use Rattle.av_build.proofs.Appended.{get_cases}
+use Rattle.av_build.proofs.PieceWorks.{shifts_are as all_shifts, last_is}
 
 module _ (w : ArrayMade) (lanes : Lanes) (p : ℕ) (cell : Cell) (v : Variable) (is_cell : slice_get (cells_of w) p ≡ Some cell) (is_variable : slice_get (nodes (system_of w)) cell.node ≡ Some v) (spots : List SpotMade) (are : AreSpots w p spots) where
   abbrev spot : ℕ → Piece → Spot
@@ -94,3 +98,51 @@ module _ (w : ArrayMade) (lanes : Lanes) (p : ℕ) (cell : Cell) (v : Variable) 
       otherwise_is = otherwise;
       length_is = size;
     }
+
+-- ---- its pieces, one after another
+
+-- the first n pieces in their stretches
+pub record AreStays (w : ArrayMade) (lanes : Lanes) (spots : List SpotMade) (own : Ends) (n : ℕ) (shifts : List Shift) : Type 0 where
+  pub stays : List Stay
+  pub many : length stays ≡ n
+  pub shifts_are : shifts ≡ map (shift_in own) stays
+  pub each : (i : ℕ) (at : SpotMade) (t : Stay) → slice_get spots i ≡ Some at → slice_get stays i ≡ Some t → IsStayFor (seen w) lanes (spot_of at) t
+
+pub no_stays : (w : ArrayMade) (lanes : Lanes) (spots : List SpotMade) (own : Ends) → AreStays w lanes spots own 0 []
+no_stays w lanes spots own = record { stays = []; many = refl; shifts_are = refl; each = λ i at t a b. absurd cc }
+
+-- the stays with one more
+one_more_each : (w : ArrayMade) (lanes : Lanes) (spots : List SpotMade) (own : Ends) (n : ℕ) (shifts : List Shift) (h : AreStays w lanes spots own n shifts) (here : SpotMade) → slice_get spots n ≡ Some here → (t : Stay) → IsStayFor (seen w) lanes (spot_of here) t
+    → (i : ℕ) (at : SpotMade) (u : Stay) → slice_get spots i ≡ Some at → slice_get (h.stays ++ t ∷ []) i ≡ Some u → IsStayFor (seen w) lanes (spot_of at) u
+one_more_each w lanes spots own n shifts h here is t for i at u a b = elim (get_cases h.stays (t ∷ []) i u b) [
+  | inl l ↦ h.each i at u a l
+  | inr r ↦ last r.0 r.1 r.2
+]
+  where
+    last : (j : ℕ) → i ≡ length h.stays + j → slice_get (t ∷ []) j ≡ Some u → IsStayFor (seen w) lanes (spot_of at) u
+    last zero e f =
+        let many = h.many in
+        let same : i ≡ n = omega (arith, e, many) in
+        let spot : here ≡ at = some_is here at (sym is ∙ ap (slice_get spots) (sym same) ∙ a) in
+        subst (λ (x : SpotMade). IsStayFor (seen w) lanes (spot_of x) u) spot (subst (λ (y : Stay). IsStayFor (seen w) lanes (spot_of here) y) (some_is t u f) for)
+    last (suc j) e f = absurd cc
+
+pub one_stay_more : (w : ArrayMade) (lanes : Lanes) (spots : List SpotMade) (own : Ends) (n : ℕ) (shifts : List Shift) → AreStays w lanes spots own n shifts → (here : SpotMade) → slice_get spots n ≡ Some here
+    → (t : Stay) → IsStayFor (seen w) lanes (spot_of here) t → AreStays w lanes spots own (n + 1) (shifts ++ shift_in own t ∷ [])
+one_stay_more w lanes spots own n shifts h here is t for = record {
+  stays = h.stays ++ t ∷ [];
+  many = (let a = length-append h.stays (t ∷ []) in let b = h.many in omega (arith, a, b));
+  shifts_are = ap (λ (l : List Shift). l ++ shift_in own t ∷ []) h.shifts_are ∙ sym (map-append (shift_in own) h.stays (t ∷ []));
+  each = one_more_each w lanes spots own n shifts h here is t for;
+}
+
+-- all but the last in their stretches, and the last one
+pub whole_lane : (w : ArrayMade) (lanes : Lanes) (p : ℕ) (cell : Cell) (v : Variable) → slice_get (cells_of w) p ≡ Some cell → slice_get (nodes (system_of w)) cell.node ≡ Some v → (spots : List SpotMade) → AreSpots w p spots
+    → (slots : List Slot) → AreSlots (system_of w) (placings_of w) (cells_of w) p slots → (own : Ends) → AreEnds slots own
+    → (n : ℕ) (shifts : List Shift) → length spots ≡ n + 1 → AreStays w lanes spots own n shifts → (here : SpotMade) → slice_get spots n ≡ Some here → (t : Stay) → IsStayFor (seen w) lanes (spot_of here) t
+    → (lane : Lane) → lane.home ≡ p → lane.rank ≡ 0 → lane.shifts ≡ shifts → lane.otherwise ≡ t.work → lane.length ≡ line_length (system_of w) (helpers_of w) (cells_of w) w.cells.now.links p None → IsValueLane (seen w) lanes p cell.node v lane
+whole_lane w lanes p cell v is_cell is_variable spots are slots all own ends n shifts many h here is t for lane home rank shifts_are otherwise size =
+    let size_is = length-append h.stays (t ∷ []) in
+    let b = h.many in
+    value_lane w lanes p cell v is_cell is_variable spots are slots all own ends (h.stays ++ t ∷ []) (omega (arith, size_is, b, many)) (one_more_each w lanes spots own n shifts h here is t for)
+    t.work lane home rank (shifts_are ∙ h.shifts_are ∙ sym (all_shifts own h.stays t)) (otherwise ∙ sym (last_is t.work h.stays t)) size

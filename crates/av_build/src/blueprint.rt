@@ -88,7 +88,7 @@ impl Blueprint<'_> {
 }
 
 // The pieces on a cell.
-fn pieces<'a>(alloc: Global, array: &Array<'a>, cell: usize) -> Result<Pieces<'a>, Memory>
+fn pieces_on<'a>(alloc: Global, array: &Array<'a>, cell: usize) -> Result<Pieces<'a>, Memory>
     requires array { IsArray array.now }
     requires cell { cell < length (cells_of array.now) }
     ensures { IfOk result (ArePieces array.now cell) }
@@ -162,7 +162,7 @@ fn add_cell<'a>(
     requires cell { cell < length (cells_of array.now) }
     ensures { IfOk result (λ plan. (cells : Items Planned) → length cells ≡ cell → AreLanes array.now cells lanes.old → AreLanes array.now (cells ++ plan ∷ []) lanes.new) }
 {
-    let pieces = pieces(alloc, array, cell)?;
+    let pieces = pieces_on(alloc, array, cell)?;
     let helpers = helpers(alloc, array, cell, &pieces)?;
     let first = lanes.as_slice().len();
     for helper in helpers.as_slice() {
@@ -181,7 +181,7 @@ fn add_cell<'a>(
 }
 
 /// The lanes of the array of so many cells.
-pub(crate) fn blueprint<'a>(
+pub(crate) fn plan_lanes<'a>(
     alloc: Global,
     array: Array<'a>,
     count: usize,

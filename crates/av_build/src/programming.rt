@@ -12,7 +12,7 @@ ghost use Rattle.av_build.specs.inner.Blueprints.{IsBlueprint, IsSpotAt, HasHelp
 ghost use Rattle.av_build.specs.inner.Works.{IsWorkFor, IsBuiltBy, AreBuilt, IsProgrammed};
 ghost use Rattle.av_build.specs.inner.Written.{as_stretch, work_of, lane_of, program_of};
 
-use crate::blueprint::{Blueprint, HelperPlan, blueprint};
+use crate::blueprint::{Blueprint, HelperPlan, plan_lanes};
 use crate::moments::site;
 use crate::program::{Lane, Program, Shift, Stretch, Work};
 use av_base::{List, Memory};
@@ -168,7 +168,7 @@ pub(crate) fn program<'a>(
     ensures { IfOk result (λ program. IsProgrammed timed.now cells.now (program_of program)) }
 {
     let array = Array::new(alloc, timed, cells)?;
-    let blueprint = blueprint(alloc, array, cells.cells.as_slice().len())?;
+    let blueprint = plan_lanes(alloc, array, cells.cells.as_slice().len())?;
     Ok(Program {
         inputs: cells.inputs.as_slice().len(),
         lanes: blueprint.built(alloc)?,
