@@ -44,3 +44,16 @@ pub mod Placing
 pub mod Turning
 pub mod Writable
 pub mod SmallNumbers
+pub mod Appended
+pub mod SiteRuns
+pub mod PlaceNumbers
+pub mod PlaceSites
+pub mod PlaceSources
+pub mod LanePlans
+pub mod HelperPlans
+pub mod AllLanes
+pub mod MomentSites
+pub mod PieceWorks
+pub mod ValueLanes
+pub mod HelperLanes
+pub mod Programming

@@ -14,7 +14,7 @@ use Rattle.av_build.specs.Programmed.{Array, IsStayFor, IsLaneFor, of_value, of_
 use Rattle.av_build.specs.Selections.{Stay, stretch_of}
 use Rattle.av_build.specs.Trees.{site_count}
 use Rattle.av_build.specs.Built.{array_of}
-use Rattle.av_build.specs.inner.Programming.{IsProgramFrom}
+use Rattle.av_build.specs.inner.Works.{IsProgrammed}
 use Rattle.av_build.specs.inner.Written.{IsThere, HasSites, HasAllSites, IsWritable}
 use Rattle.av_build.proofs.ArrayForm.{IsOwn}
 use Rattle.av_build.proofs.Connected.{legal_array, words_fit, few_cycles}
@@ -29,7 +29,7 @@ there width program p (word n) h = tt
 there width program p (input k) h = tt
 there width program p (line q d) h = in_range program.lanes q h.0 h.1
 
-module _ (w : Width) (t : Timed) (a : Cells) (program : Program) (g : IsProgramFrom t a program) (width_is : (view_system t.flat).width ≡ w.bits) (limit : a.cycles ≤ 4096) where
+module _ (w : Width) (t : Timed) (a : Cells) (program : Program) (g : IsProgrammed t a program) (width_is : (view_system t.flat).width ≡ w.bits) (limit : a.cycles ≤ 4096) where
   abbrev own : Array
   own = array_of t a g.whole.list.placings
 

@@ -7,7 +7,7 @@ ghost use Rattle.av_build.specs.ArrayDesigns.{IsDesignOf};
 
 use crate::listing::copied_listing;
 use crate::netlist::netlist;
-use crate::programming::programming;
+use crate::programming::program;
 use av_base::Memory;
 use av_flat::Timed;
 use av_net::Design;
@@ -25,7 +25,7 @@ pub fn build(alloc: Global, timed: &Timed, cells: &Cells) -> Result<Design, Memo
     requires within { (f : Fault) → IsSpaceFault timed.now f → f ≡ fault.Memory }
     ensures { IfOk result (IsDesignOf timed.now cells.now) }
 {
-    let program = programming(alloc, timed, cells)?;
+    let program = program(alloc, timed, cells)?;
     let flat = &timed.flat;
     let module = netlist(alloc, flat.width, &program)?;
     Ok(Design {
