@@ -57,3 +57,4 @@ pub mod PieceWorks
 pub mod ValueLanes
 pub mod HelperLanes
 pub mod Programming
+pub mod Promised
