@@ -50,3 +50,5 @@ pub mod PieceWorks
 pub mod ValueLanes
 pub mod HelperLanes
 pub mod Programming
+pub mod SpotNodes
+pub mod Handovers
