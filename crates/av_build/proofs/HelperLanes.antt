@@ -33,6 +33,7 @@ use Rattle.av_build.specs.inner.Blueprints.{seen, spot_of, ArePieces, IsPlaceOn,
 use Rattle.av_build.specs.inner.Moments.{IsHandBy}
 use Rattle.av_build.proofs.Appended.{get_left, get_right, get_cases}
 use Rattle.av_build.proofs.HelperPlans.{IsReference, by_tree}
+use Rattle.av_build.proofs.SpotNodes.{node_of}
 
 -- ---- the place of a reference
 
@@ -92,23 +93,6 @@ module _ (w : ArrayMade) (is : IsArray w) (p : ℕ) (pieces : Pieces) (are : Are
   spot_at : (k : ℕ) (at : SpotMade) → slice_get pieces.spots k ≡ Some at → (at.cell ≡ p) × (0 < length at.slots) × IsSpot w at
   spot_at k at e = at_index (λ (at : SpotMade). (at.cell ≡ p) × (0 < length at.slots) × IsSpot w at) pieces.spots are.spots.each k at e
 
-  -- the node of a spot by its place
-  record IsNodeOf (at : SpotMade) : Type 0 where
-    variable : slice_get s.variables at.place ≡ Some (view_variable at.var.now)
-    node : is_node (view_variable at.var.now) ≡ true
-    number : number_at s at.place ≡ at.node
-
-  node_of : (at : SpotMade) → IsSpot w at → IsNodeOf at
-  node_of at spot =
-      let v = view_variable at.var.now in
-      let r = passing is_node s.variables at.node v spot.is_variable in
-      let place : r.place ≡ at.place = sym (ap (node_place s) (sym r.number) ∙ own_place s r.place v r.is r.passes) ∙ sym spot.place in
-      record {
-        variable = subst (λ (k : ℕ). slice_get s.variables k ≡ Some v) place r.is;
-        node = r.passes;
-        number = subst (λ (k : ℕ). number_at s k ≡ at.node) place r.number;
-      }
-
   -- a place with a helper, as a helper of the array
   pub record IsHelped (h : HelperPlan) (at : SpotMade) (mine : PlaceMade) (handing : Handing) : Type 0 where
     pub helper : Helper
@@ -133,7 +117,7 @@ module _ (w : ArrayMade) (is : IsArray w) (p : ℕ) (pieces : Pieces) (are : Are
       let piece = (place_read at.number (view at.piece.now.tree) q placed.is_place).piece_is in
       let found = ap (λ (k : ℕ). helper_at (helpers_of w) at.place k q.site) (sym piece) ∙ b.1 in
       let f = found_helper (helpers_of w) 0 at.place at.number q.site on.handing found in
-      let n = node_of at spot in
+      let n = node_of w at spot in
       let same : f.at ≡ h.number = (let e = f.number_is in let g = on.number in omega (arith, e, g)) in
       let handing : ◌≡◌ {A = Handing} on.handing (record { number = h.number; direction = f.helper.direction }) =
       ap (λ (k : ℕ). record { number = k; direction = on.handing.direction }) (sym on.number) ∙ ap (λ (z : Point). record { number = h.number; direction = z }) (sym f.direction_is) in
@@ -218,7 +202,7 @@ module _ (w : ArrayMade) (is : IsArray w) (p : ℕ) (pieces : Pieces) (are : Are
       let same_node : number_at s h.var ≡ at.0.node = sym here.stands.node ∙ ap (λ (x : Cell). x.node) (some_is here.cell spot.2.cell (sym here.is_cell ∙ spot.2.is_cell)) ∙ spot.2.node in
       let variable : v ≡ view_variable at.0.var.now = some_is v (view_variable at.0.var.now) (sym node ∙ ap (λ (n : ℕ). slice_get (nodes s) n) same_node ∙ spot.2.is_variable) in
       let same_piece : piece ≡ view_piece at.0.piece.now = some_is piece (view_piece at.0.piece.now) (sym it.is_piece ∙ ap (λ (u : Variable). slice_get u.pieces h.piece) variable ∙ ap (slice_get (view_variable at.0.var.now).pieces) (sym at.2) ∙ spot.2.is_piece) in
-      let n = node_of at.0 spot.2 in
+      let n = node_of w at.0 spot.2 in
       let var : h.var ≡ at.0.place = sym (own_place s h.var v it.is_variable it.is_node) ∙ ap (node_place s) same_node ∙ sym spot.2.place in
       let listed = told at.0.number 0 (view at.0.piece.now.tree) h.site r (ap (λ (q : Piece). slice_get (references q.tree) h.site) (sym same_piece) ∙ it.is_reference) in
       let q : Place = record { piece = at.0.number; site = 0 + h.site; tree = reference r.place r.map } in

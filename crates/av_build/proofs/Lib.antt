@@ -56,5 +56,7 @@ pub mod MomentSites
 pub mod PieceWorks
 pub mod ValueLanes
 pub mod HelperLanes
-pub mod Programming
+pub mod PlanPrograms
 pub mod Promised
+pub mod SpotNodes
+pub mod Handovers
