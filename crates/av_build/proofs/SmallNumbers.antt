@@ -92,16 +92,16 @@ number_small stride lane n low s h =
 
 pub small_numbers : (w : Width) (a : Cells) (array : Array) (lanes : Lanes) (program : Program) (m : Module) → IsProgramFor array lanes program → m ≡ module_of w program
     → length a.inputs ≤ most → length program.outputs ≤ most → length a.cells ≤ most → program.stride ≤ most → length m.wires ≤ most → length m.registers ≤ most → HasSmallNumbers w a program
-small_numbers w a array lanes program m is same inputs outputs cells stride wires registers = record {
-  ports = (let s = most_small in omega (arith, s, inputs));
-  outputs = (let s = most_small in omega (arith, s, outputs));
-  cells = (let s = most_small in omega (arith, s, cells));
+small_numbers w a array lanes program m is same few_ports few_outputs few_cells low few_of_wires few_of_registers = record {
+  ports = (let s = most_small in omega (arith, s, few_ports));
+  outputs = (let s = most_small in omega (arith, s, few_outputs));
+  cells = (let s = most_small in omega (arith, s, few_cells));
   wires = λ q lane at.
       let few = few_gates w program q lane at in
       let size = ap (λ (x : Module). length x.wires) same in
-      number_small program.stride lane (suc (length (cell_built (labels program) w q lane).gates)) (low_rank array lanes q lane program.stride is.stride_is (is.only q lane at)) stride (omega (arith, few, size, wires));
+      number_small program.stride lane (suc (length (cell_built (labels program) w q lane).gates)) (low_rank array lanes q lane program.stride is.stride_is (is.only q lane at)) low (omega (arith, few, size, few_of_wires));
   registers = λ q lane at.
       let few = few_registers w program q lane at in
       let size = ap (λ (x : Module). length x.registers) same in
-      number_small program.stride lane lane.length (low_rank array lanes q lane program.stride is.stride_is (is.only q lane at)) stride (omega (arith, few, size, registers));
+      number_small program.stride lane lane.length (low_rank array lanes q lane program.stride is.stride_is (is.only q lane at)) low (omega (arith, few, size, few_of_registers));
 }

@@ -1,10 +1,10 @@
 -- The program of a whole array can be written down: what its sources name is there, and so is a site for each place.
-use Rattle.std.proofs.Common.{◌≡◌, ℕ, ◌<◌, ◌≤◌, List, length, map, sym, subst, arith, ◌∙◌, ap, true, Some}
+use Rattle.std.proofs.Common.{◌≡◌, ℕ, ◌<◌, ◌≤◌, List, [], ◌∷◌, length, map, sym, subst, arith, ◌∙◌, ap, true, Some}
 use Rattle.std.specs.Prelude.{slice_get}
 use Rattle.std.specs.List.{AllByRecursion}
 use Rattle.av_base.specs.declared.width.Width.{Width}
 use Rattle.av_flat.specs.declared.timed.Timed.{Timed}
-use Rattle.av_flat.specs.Trees.{Variable, view_system}
+use Rattle.av_flat.specs.Trees.{Variable, view_system, reference}
 use Rattle.av_flat.specs.Points.{has}
 use Rattle.av_space.specs.declared.cells.Cells.{Cells}
 use Rattle.av_space.specs.Ports.{is_output_cell}
@@ -28,6 +28,11 @@ there : (width : ℕ) (program : Program) (p : ℕ) (source : Source) → IsPlac
 there width program p (word n) h = tt
 there width program p (input k) h = tt
 there width program p (line q d) h = in_range program.lanes q h.0 h.1
+
+-- of a lane, among so many
+record IsWritableLane (count : ℕ) (lane : Lane) : Type 0 where
+  sources : EachOfCell (IsThere count) lane
+  sites : HasAllSites lane
 
 module _ (w : Width) (t : Timed) (a : Cells) (program : Program) (g : IsProgrammed t a program) (width_is : (view_system t.flat).width ≡ w.bits) (limit : a.cycles ≤ 4096) where
   abbrev own : Array
@@ -55,7 +60,7 @@ module _ (w : Width) (t : Timed) (a : Cells) (program : Program) (g : IsProgramm
   stay_sites : (work : Work) (n : ℕ) → site_count work.tree ≡ n → length work.sites ≡ n → HasSites work
   stay_sites work n e f = omega (arith, e, f)
 
-  lane_there : (q : ℕ) (lane : Lane) → IsLaneFor own g.lanes q lane → EachOfCell (IsThere count) lane × HasAllSites lane
+  lane_there : (q : ℕ) (lane : Lane) → IsLaneFor own g.lanes q lane → IsWritableLane count lane
   lane_there q lane (of_value p c n z v computes is_variable at is) =
       let here = place_of own.system.variables n v is_variable in
       let computation = computes.stands.computation in
@@ -69,20 +74,23 @@ module _ (w : Width) (t : Timed) (a : Cells) (program : Program) (g : IsProgramm
       let P : Shift → Type 0 = λ t. HasSites t.work in
       let all = stays_good P HasSites is.first is.last is.none is.stays some
       (λ k t at. let o = is.stay k t at in let h = stay_sites t.work (site_count o.1.tree) (ap site_count o.4.tree) o.4.many in (h, h)) in
-      (good (g.lanes.of_value p) p lane lane_good, (subst (AllByRecursion P) (sym is.shifts_are) all.0, subst HasSites (sym is.otherwise_is) all.1))
+      record { sources = good (g.lanes.of_value p) p lane lane_good; sites = (subst (AllByRecursion P) (sym is.shifts_are) all.0, subst HasSites (sym is.otherwise_is) all.1) }
   lane_there q lane (of_helper j h v piece r is p c z computes within is_later at l) =
-      (good q p lane (good_helper w own g.lanes a.listing.ins program are few j h v piece r is p q lane l),
-      (subst (AllByRecursion (λ (t : Shift). HasSites t.work)) (sym l.shifts_are) tt, subst HasSites (sym l.otherwise_is) (omega arith)))
+      let one : HasSites (record { sites = l.site ∷ []; tree = reference r.place r.map }) = omega arith in
+      record {
+        sources = good q p lane (good_helper w own g.lanes a.listing.ins program are few j h v piece r is p q lane l);
+        sites = (subst (AllByRecursion (λ (t : Shift). HasSites t.work)) (sym l.shifts_are) tt, subst HasSites (sym l.otherwise_is) one);
+      }
 
-  lane_at : (k : ℕ) → k < count → (lane : Lane) × (slice_get program.lanes k ≡ Some lane) × (EachOfCell (IsThere count) lane × HasAllSites lane)
+  lane_at : (k : ℕ) → k < count → (lane : Lane) × (slice_get program.lanes k ≡ Some lane) × IsWritableLane count lane
   lane_at k lt = let x = there_is program.lanes k lt in (x.0, x.1, lane_there k x.0 (g.is_program.only k x.0 x.1))
 
   pub writable : IsWritable program
   writable =
-      let both = each_found (λ lane. EachOfCell (IsThere count) lane × HasAllSites lane) program.lanes lane_at in
+      let both = each_found (IsWritableLane count) program.lanes lane_at in
       record {
-        sources = each_weaker (λ lane. EachOfCell (IsThere count) lane × HasAllSites lane) (EachOfCell (IsThere count)) (λ lane h. h.0) program.lanes both;
-        sites = each_weaker (λ lane. EachOfCell (IsThere count) lane × HasAllSites lane) HasAllSites (λ lane h. h.1) program.lanes both;
+        sources = each_weaker (IsWritableLane count) (EachOfCell (IsThere count)) (λ lane h. h.sources) program.lanes both;
+        sites = each_weaker (IsWritableLane count) HasAllSites (λ lane h. h.sites) program.lanes both;
         outputs = subst (AllByRecursion (λ q. q < count)) (sym (g.outputs_are ∙ ap (λ (l : List ℕ). map g.lanes.of_value l) g.whole.list.outputs))
             (outputs_there g.lanes.of_value count (length own.cells) (is_output_cell own.system own.cells) (λ p lt. cell_lane own g.lanes program g.is_program g.whole.list.cells p lt) 0 (length own.cells) (omega arith));
       }
