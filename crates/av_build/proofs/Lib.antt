@@ -56,7 +56,7 @@ pub mod MomentSites
 pub mod PieceWorks
 pub mod ValueLanes
 pub mod HelperLanes
-pub mod PlanPrograms
+pub mod ProgramLanes
 pub mod Promised
 pub mod SpotNodes
 pub mod Handovers
