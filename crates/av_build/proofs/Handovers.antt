@@ -24,7 +24,7 @@ use Rattle.av_build.specs.inner.Blueprints.{seen, spot_of, IsBlueprint, HasLane}
 use Rattle.av_build.proofs.HelperPlans.{by_tree}
 use Rattle.av_build.proofs.Lengths.{has_lane}
 use Rattle.av_build.proofs.PlaceSources.{as_linked}
-use Rattle.av_build.proofs.Programming.{lane_there}
+use Rattle.av_build.proofs.ProgramLanes.{lane_there}
 use Rattle.av_build.proofs.Serving.{Reading, linked_to, here}
 use Rattle.av_build.proofs.SpotNodes.{node_of}
 

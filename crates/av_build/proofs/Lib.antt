@@ -49,6 +49,7 @@ pub mod MomentSites
 pub mod PieceWorks
 pub mod ValueLanes
 pub mod HelperLanes
-pub mod Programming
+pub mod ProgramLanes
 pub mod SpotNodes
 pub mod Handovers
+pub mod CellUses
