@@ -53,3 +53,6 @@ pub mod ProgramLanes
 pub mod SpotNodes
 pub mod Handovers
 pub mod CellUses
+pub mod Pairwise
+pub mod LaneSearch
+pub mod HelperSteps
