@@ -21,7 +21,7 @@ is_most m n h = grind (arith, h)
 module _ (w : ArrayMade) (p : ℕ) (pieces : Pieces) (are : ArePieces w p pieces) (k i : ℕ) (spot : SpotMade) (own : List PlaceMade) (site : PlaceMade)
 (is_spot : slice_get pieces.spots k ≡ Some spot) (is_own : slice_get pieces.sites k ≡ Some own) (is_site : slice_get own i ≡ Some site) where
   -- a helper of this place has its handing
-  handing_is : (h : HelperPlan) (on : IsHelperOn w pieces p h) → h.piece ≡ k → h.site ≡ i → site.handing ≡ Some on.handing
+  pub handing_is : (h : HelperPlan) (on : IsHelperOn w pieces p h) → h.piece ≡ k → h.site ≡ i → site.handing ≡ Some on.handing
   handing_is h on e f =
       let same_own : on.on.own ≡ own = some_is on.on.own own (sym on.on.is_own ∙ ap (λ (n : ℕ). slice_get pieces.sites n) e ∙ is_own) in
       let same : on.site ≡ site = some_is on.site site (sym on.on.is_site ∙ ap₂ (λ (l : List PlaceMade) (n : ℕ). slice_get l n) same_own f ∙ is_site) in

@@ -56,3 +56,6 @@ pub mod CellUses
 pub mod Pairwise
 pub mod LaneSearch
 pub mod HelperSteps
+pub mod OriginCells
+pub mod BuiltLanes
+pub mod HelpedWords
