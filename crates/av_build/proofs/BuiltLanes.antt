@@ -83,7 +83,7 @@ module _ (b : Blueprint) (is : IsBlueprint b) (p : ℕ) (plan : CellPlan) (is_pl
         → (site : Site) → IsSiteFor (seen w) (spot_of at) (λ z c source. IsHandBy (seen w) lanes (spot_of at) z c mine.place.site handing (view mine.place.tree) source) site
         → (lane : Lane) → lane.home ≡ p → lane.rank ≡ suc h.number → lane.shifts ≡ [] → lane.otherwise ≡ record { sites = site ∷ []; tree = view mine.place.tree } → lane.length ≡ helper_length (seen w) h.number p
         → IsBuiltBy b p (Some h) lane
-    pipeline_built handing is_handing site for lane home rank shifts otherwise size other v piece r it =
+    pipeline_built handing is_handing site for lane home rank shifts otherwise size = λ other v piece r it.
         let old = helper_on h x in
         let same : old.handing ≡ handing = some_is old.handing handing (sym has_handing ∙ is_handing) in
         let on : IsHelperOn w plan.pieces p h = record {
