@@ -59,3 +59,4 @@ pub mod HelperSteps
 pub mod OriginCells
 pub mod BuiltLanes
 pub mod HelpedWords
+pub mod SiteLoop
