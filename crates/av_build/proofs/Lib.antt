@@ -60,3 +60,4 @@ pub mod OriginCells
 pub mod BuiltLanes
 pub mod HelpedWords
 pub mod SiteLoop
+pub mod WholeProgram

@@ -10,7 +10,7 @@ use Rattle.av_build.proofs.OriginCells.{value_in}
 use Rattle.av_build.proofs.Pairwise.{one_pair}
 use Rattle.av_build.proofs.PieceWorks.{work_for}
 use Rattle.av_build.proofs.PlaceSources.{own_source}
-use Rattle.av_build.proofs.ProgramLanes.{program_for}
+use Rattle.av_build.proofs.WholeProgram.{programmed}
 use Rattle.av_build.proofs.SiteLoop.{whole_site}
 use Rattle.av_build.proofs.ValueLanes.{whole_lane}
 use Rattle.av_build.proofs.blueprint.Blueprint.value_lane.Goals as goal
