@@ -1,8 +1,8 @@
 -- The lanes of one more cell.
-use Rattle.std.proofs.Common.{◌≡◌, ◌≢◌, ℕ, zero, suc, ◌+◌, ◌<◌, ◌≤◌, ◌⊎◌, inl, inr, List, [], ◌∷◌, ◌++◌, length, map, refl, sym, ap, subst, ◌∙◌, arith, Option, Some, None, length-append}
+use Rattle.std.proofs.Common.{◌≡◌, ◌≢◌, ℕ, zero, suc, ◌+◌, ◌<◌, ◌≤◌, ◌⊎◌, inl, inr, List, [], ◌∷◌, ◌++◌, length, map, take, refl, sym, ap, subst, ◌∙◌, arith, Option, Some, None, length-append, append_assoc}
 use Rattle.std.specs.Prelude.{slice_get, AllPairs, Contains, IfSome}
 use Rattle.std.proofs.lemmas.Bool.{cases_lt}
-use Rattle.std.proofs.lemmas.List.{length-map}
+use Rattle.std.proofs.lemmas.List.{length-map, take_all}
 use Rattle.av_space.specs.declared.array.Array.{Array as ArrayMade}
 use Rattle.av_space.proofs.ByPlace.{pair_at, from_map}
 use Rattle.av_space.proofs.Elements.{some_is, at_index, mapped, got, in_range}
@@ -98,6 +98,19 @@ module _ (w : ArrayMade) (cells : List CellPlan) (lanes : List LanePlan) (are : 
     ]
   ]
 
+  -- the lanes with numbers of a cell are its own
+  own_lane : (k : ℕ) (x : CellPlan) → slice_get (cells ++ plan ∷ []) k ≡ Some x → (q : ℕ) (lane : LanePlan) → x.first ≤ q → q ≤ x.value → slice_get (lanes ++ mine) q ≡ Some lane → lane.cell ≡ k
+  own_lane k x e q lane low high is_lane = elim (cell_cases k x e) [
+    | inl l ↦ elim (get_cases lanes mine q lane is_lane) [
+      | inl a ↦ are.own k x l q lane low high a
+      | inr r ↦ absurd (let last = in_range lanes x.value (record { cell = k; helper = None }) (are.values k x l) in let f = r.1 in omega (arith, last, f, high))
+    ]
+    | inr b ↦ elim (get_cases lanes mine q lane is_lane) [
+      | inl a ↦ absurd (let below = in_range lanes q lane a in let f = ap (λ (y : CellPlan). y.first) b.1 in omega (arith, below, f, first, low))
+      | inr r ↦ own_cell p helpers own.once r.0 lane r.2 ∙ sym b.0
+    ]
+  ]
+
   pub next_cell : AreLanes w (cells ++ plan ∷ []) (lanes ++ mine)
   next_cell = record {
     plans = λ k x e. (elim (cell_cases k x e) [
@@ -105,6 +118,7 @@ module _ (w : ArrayMade) (cells : List CellPlan) (lanes : List LanePlan) (are : 
       | inr b ↦ subst (λ (n : ℕ). ArePieces w n x.pieces) (sym b.0) (subst (λ (y : CellPlan). ArePieces w p y.pieces) (sym b.1) is)
     ]);
     only = only;
+    own = own_lane;
     values = λ k x e. (elim (cell_cases k x e) [
       | inl l ↦ get_left lanes mine x.value (record { cell = k; helper = None }) (are.values k x l)
       | inr b ↦ subst (λ (n : ℕ). slice_get (lanes ++ mine) x.value ≡ Some (record { cell = n; helper = None })) (sym b.0)
@@ -150,3 +164,15 @@ module _ (w : ArrayMade) (cells : List CellPlan) (lanes : List LanePlan) (are : 
           | inr b ↦ (let f = own_once p helpers own.once a.0 b.0 x y a.2 b.2 e in let g = a.1 in let h = b.1 in omega (arith, f, g, h))
         ]
       ]
+
+-- the cell whose lanes a loop has put behind the others
+pub whole_cell : (w : ArrayMade) (cells : List CellPlan) (lanes : List LanePlan) → AreLanes w cells lanes → (p : ℕ) (plan : CellPlan) (helpers : List HelperPlan) → p ≡ length cells → ArePieces w p plan.pieces
+    → AreHelpers w plan.pieces p (length plan.pieces.sites) 0 helpers → plan.first ≡ length lanes → (n : ℕ) → length helpers ≤ n → (new all : List LanePlan) → new ≡ lanes ++ map (of_helper p) (take n helpers)
+    → plan.value ≡ length new → all ≡ new ++ record { cell = p; helper = None } ∷ [] → AreLanes w (cells ++ plan ∷ []) all
+whole_cell w cells lanes are p plan helpers here is own first n many new all put value last =
+    let whole : new ≡ lanes ++ map (of_helper p) helpers = put ∙ ap (λ (hs : List HelperPlan). lanes ++ map (of_helper p) hs) (take_all n helpers many) in
+    let size : length new ≡ length lanes + length helpers =
+    ap (λ (l : List LanePlan). length l) whole ∙ length-append lanes (map (of_helper p) helpers) ∙ ap (λ (k : ℕ). length lanes + k) (length-map helpers (of_helper p)) in
+    subst (AreLanes w (cells ++ plan ∷ []))
+    (sym (last ∙ ap (λ (l : List LanePlan). l ++ record { cell = p; helper = None } ∷ []) whole ∙ append_assoc lanes (map (of_helper p) helpers) (record { cell = p; helper = None } ∷ [])))
+    (next_cell w cells lanes are p plan helpers here is own first (value ∙ size))

@@ -42,24 +42,25 @@ abbrev Tells : ℕ → ℕ → List Place → List Reference → Type 0
 Tells k n ps rs = (i : ℕ) (r : Reference) → slice_get rs i ≡ Some r → (j : ℕ) × (slice_get ps j ≡ Some (record { piece = k; site = n + i; tree = reference r.place r.map }))
 
 both_told : (k n m : ℕ) (ps qs : List Place) (rs more : List Reference) → m ≡ n + length rs → Tells k n ps rs → Tells k m qs more → Tells k n (ps ++ qs) (rs ++ more)
-both_told k n m ps qs rs more e f g i r is = elim (get_cases rs more i r is) [
+both_told k n m ps qs rs more e f g = λ i r is. (elim (get_cases rs more i r is) [
   | inl l ↦ (let x = f i r l in (x.0, get_left ps qs x.0 (record { piece = k; site = n + i; tree = reference r.place r.map }) x.1))
   | inr b ↦ (
       let x = g b.0 r b.2 in
       let d = b.1 in
       let same : m + b.0 ≡ n + i = omega (arith, e, d) in
       (length ps + x.0, get_right ps qs x.0 (record { piece = k; site = n + i; tree = reference r.place r.map }) (subst (λ (s : ℕ). slice_get qs x.0 ≡ Some (record { piece = k; site = s; tree = reference r.place r.map })) same x.1)))
-]
+])
+
+one : (k n place : ℕ) (m : Map) (i : ℕ) (r : Reference) → slice_get (record { place = place; map = m } ∷ []) i ≡ Some r
+    → (j : ℕ) × (slice_get (places_in k n (reference place m)) j ≡ Some (record { piece = k; site = n + i; tree = reference r.place r.map }))
+one k n place m zero r e =
+    let a : n ≡ n + 0 = omega arith in
+    let same : ◌≡◌ {A = Reference} (record { place = place; map = m }) r = some_is (record { place = place; map = m }) r e in
+    (0, ap (λ (x : ℕ). Some (record { piece = k; site = x; tree = reference place m })) a ∙ ap (λ (x : Reference). Some (record { piece = k; site = n + 0; tree = reference x.place x.map })) same)
+one k n place m (suc i) r e = absurd cc
 
 told : (k n : ℕ) (t : Tree) → Tells k n (places_in k n t) (references t)
-told k n (reference place m) = one
-  where
-    one : Tells k n (places_in k n (reference place m)) (record { place = place; map = m } ∷ [])
-    one zero r e =
-        let a : n ≡ n + 0 = omega arith in
-        let same : ◌≡◌ {A = Reference} (record { place = place; map = m }) r = some_is (record { place = place; map = m }) r e in
-        (0, ap (λ (x : ℕ). Some (record { piece = k; site = x; tree = reference place m })) a ∙ ap (λ (x : Reference). Some (record { piece = k; site = n + 0; tree = reference x.place x.map })) same)
-    one (suc i) r e = absurd cc
+told k n (reference place m) = λ i r e. one k n place m i r e
 told k n (binary g l r) = both_told k n (n + length (references l)) (places_in k n l) (places_in k (n + length (references l)) r) (references l) (references r) refl (told k n l) (told k (n + length (references l)) r)
 told k n (choice l c r x y) =
     let ls = references l in
@@ -77,12 +78,12 @@ told k n (choice l c r x y) =
     let two = both_told k n nr la ra ls rs refl (told k n l) (told k nr r) in
     let three = both_told k n nx (la ++ ra) xa (ls ++ rs) xs (omega (arith, a)) two (told k nx x) in
     both_told k n ny (la ++ ra ++ xa) (places_in k ny y) (ls ++ rs ++ xs) ys (omega (arith, a, b)) three (told k ny y)
-told k n (constant w) i r e = absurd cc
-told k n (restriction d t) i r e = absurd cc
-told k n (cases ts) i r e = absurd cc
-told k n (dependence m t) i r e = absurd cc
-told k n (reduction o m t set) i r e = absurd cc
-told k n (pick place choices w) i r e = absurd cc
+told k n (constant w) = λ i r e. absurd cc
+told k n (restriction d t) = λ i r e. absurd cc
+told k n (cases ts) = λ i r e. absurd cc
+told k n (dependence m t) = λ i r e. absurd cc
+told k n (reduction o m t set) = λ i r e. absurd cc
+told k n (pick place choices w) = λ i r e. absurd cc
 
 -- ---- the helper of a place
 

@@ -12,11 +12,11 @@ equal m n h = grind arith
 itself : (n : ℕ) → nat_eq n n ≡ true
 itself n = grind arith
 
-same_itself : (h : Option ℕ) → is_same h h ≡ true
+pub same_itself : (h : Option ℕ) → is_same h h ≡ true
 same_itself None = refl
 same_itself (Some n) = itself n
 
-same_is : (h k : Option ℕ) → is_same h k ≡ true → h ≡ k
+pub same_is : (h k : Option ℕ) → is_same h k ≡ true → h ≡ k
 same_is None None e = refl
 same_is (Some m) (Some n) e = ap Some (equal m n e)
 same_is None (Some n) e = absurd cc

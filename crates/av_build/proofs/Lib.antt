@@ -60,3 +60,12 @@ pub mod ProgramLanes
 pub mod Promised
 pub mod SpotNodes
 pub mod Handovers
+pub mod CellUses
+pub mod Pairwise
+pub mod LaneSearch
+pub mod HelperSteps
+pub mod OriginCells
+pub mod BuiltLanes
+pub mod HelpedWords
+pub mod SiteLoop
+pub mod WholeProgram

@@ -65,10 +65,10 @@ abbrev AllPlaces : (ℕ → ℕ → Tree → Type 0) → ℕ → List Place → 
 AllPlaces R s ps = (i : ℕ) (p : Place) → slice_get ps i ≡ Some p → R (s + i) p.site p.tree
 
 of_left : (R : ℕ → ℕ → Tree → Type 0) (s : ℕ) (ps qs : List Place) → AllPlaces R s (ps ++ qs) → AllPlaces R s ps
-of_left R s ps qs h i p e = h i p (get_left ps qs i p e)
+of_left R s ps qs h = λ i p e. h i p (get_left ps qs i p e)
 
 of_right : (R : ℕ → ℕ → Tree → Type 0) (s t : ℕ) (ps qs : List Place) → t ≡ s + length ps → AllPlaces R s (ps ++ qs) → AllPlaces R t qs
-of_right R s t ps qs e h i p f =
+of_right R s t ps qs e h = λ i p f.
     let a : s + (length ps + i) ≡ t + i = omega (arith, e) in
     subst (λ (n : ℕ). R n p.site p.tree) a (h (length ps + i) p (get_right ps qs i p f))
 

@@ -117,15 +117,15 @@ fn add_helpers(
     ensures { OnOk result (AreHelpers array.now pieces.now cell (piece + 1) 0 helpers.new) }
 {
     let sites = pieces.sites.as_slice()[piece].as_slice();
-    for (number, site) in sites.iter().enumerate() {
-        let Some(handing) = &site.handing else {
+    for site in 0..sites.len() {
+        let Some(handing) = &sites[site].handing else {
             continue;
         };
         if array.line_length(cell, Some(handing.number)) > 0 {
             helpers.push(HelperPlan {
                 number: handing.number,
                 piece,
-                site: number,
+                site,
             })?;
         }
     }

@@ -84,6 +84,7 @@ pub record AreHelpers (w : ArrayMade) (pieces : Pieces) (p k i : ℕ) (helpers :
 pub record AreLanes (w : ArrayMade) (cells : List CellPlan) (lanes : List LanePlan) : Type 0 where
   pub plans : (p : ℕ) (plan : CellPlan) → slice_get cells p ≡ Some plan → ArePieces w p plan.pieces
   pub only : (q : ℕ) (lane : LanePlan) → slice_get lanes q ≡ Some lane → (plan : CellPlan) × (slice_get cells lane.cell ≡ Some plan) × IfSome lane.helper (IsHelperOn w plan.pieces lane.cell) × (plan.first ≤ q) × (q ≤ plan.value)
+  pub own : (p : ℕ) (plan : CellPlan) → slice_get cells p ≡ Some plan → (q : ℕ) (lane : LanePlan) → plan.first ≤ q → q ≤ plan.value → slice_get lanes q ≡ Some lane → lane.cell ≡ p
   pub values : (p : ℕ) (plan : CellPlan) → slice_get cells p ≡ Some plan → slice_get lanes plan.value ≡ Some (record { cell = p; helper = None })
   pub helpers : (p : ℕ) (plan : CellPlan) → slice_get cells p ≡ Some plan → (h : HelperPlan) → IsHelperOn w plan.pieces p h → (q : ℕ) × (slice_get lanes q ≡ Some (record { cell = p; helper = Some h }))
   pub once : (i j : ℕ) (x y : LanePlan) → slice_get lanes i ≡ Some x → slice_get lanes j ≡ Some y → x.cell ≡ y.cell → number_in x.helper ≡ number_in y.helper → i ≡ j
