@@ -6,7 +6,7 @@ ghost use Rattle.av_space.specs.declared.fault.SpaceFault.TheVariants as fault;
 ghost use Rattle.av_space.specs.SpaceFaults.{IsSpaceFault};
 ghost use Rattle.av_space.specs.Whole.{IsWhole};
 ghost use Rattle.av_space.specs.declared.spots.Spot.{Spot as SpotSeen};
-ghost use Rattle.av_space.specs.Spots.{IsSpot, AreSites, cells_of};
+ghost use Rattle.av_space.specs.Spots.{IsSpot, AreSites, helpers_of, cells_of};
 ghost use Rattle.av_build.specs.Selections.{stretch_of};
 ghost use Rattle.av_build.specs.inner.Blueprints.{IsBlueprint, IsSpotAt, HasHelper, seen, spot_of, lanes_of};
 ghost use Rattle.av_build.specs.inner.Works.{IsWorkFor, IsBuiltBy, AreBuilt, IsProgrammed};
@@ -103,6 +103,7 @@ impl<'a> Blueprint<'a> {
     ) -> Result<Lane<'a>, Memory>
         requires blueprint { IsBlueprint self.now }
         requires helper { HasHelper self.now cell helper }
+        requires ranks { length (helpers_of self.now.array) < 18446744073709551615 }
         ensures { IfOk result (λ lane. IsBuiltBy self.now cell (Some helper) (lane_of lane)) }
     {
         let pieces = &self.cells.as_slice()[cell].pieces;
@@ -130,6 +131,7 @@ impl<'a> Blueprint<'a> {
     // All lanes, in the order of their plans.
     fn built(&self, alloc: Global) -> Result<List<Lane<'a>>, Memory>
         requires blueprint { IsBlueprint self.now }
+        requires ranks { length (helpers_of self.now.array) < 18446744073709551615 }
         ensures { IfOk result (AreBuilt self.now self.now.lanes) }
     {
         let mut lanes = List::new(alloc);
@@ -167,12 +169,13 @@ pub(crate) fn program<'a>(
     requires small { (f : Fault) → IsSpaceFault timed.now f → f ≡ fault.Memory }
     ensures { IfOk result (λ program. IsProgrammed timed.now cells.now (program_of program)) }
 {
+    let stride = timed.helpers.as_slice().len() + 1;
     let array = Array::new(alloc, timed, cells)?;
     let blueprint = plan_lanes(alloc, array, cells.cells.as_slice().len())?;
     Ok(Program {
         inputs: cells.inputs.as_slice().len(),
         lanes: blueprint.built(alloc)?,
         outputs: blueprint.values(alloc, cells.outputs.as_slice())?,
-        stride: timed.helpers.as_slice().len() + 1,
+        stride,
     })
 }
