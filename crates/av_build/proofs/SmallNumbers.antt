@@ -91,8 +91,8 @@ number_small stride lane n low s h =
     omega (arith, sum, all)
 
 pub small_numbers : (w : Width) (a : Cells) (array : Array) (lanes : Lanes) (program : Program) (m : Module) → IsProgramFor array lanes program → m ≡ module_of w program
-    → length a.inputs ≤ most → length program.outputs ≤ most → length a.cells ≤ most → program.stride ≤ most → length m.wires ≤ most → length m.registers ≤ most → HasSmallNumbers w a program
-small_numbers w a array lanes program m is same few_ports few_outputs few_cells low few_of_wires few_of_registers = record {
+    → length a.inputs < most → length program.outputs < most → length a.cells < most → length array.helpers < most → length m.wires < most → length m.registers < most → HasSmallNumbers w a program
+small_numbers w a array lanes program m is same few_ports few_outputs few_cells few_helpers few_of_wires few_of_registers = record {
   ports = (let s = most_small in omega (arith, s, few_ports));
   outputs = (let s = most_small in omega (arith, s, few_outputs));
   cells = (let s = most_small in omega (arith, s, few_cells));
@@ -105,3 +105,6 @@ small_numbers w a array lanes program m is same few_ports few_outputs few_cells 
       let size = ap (λ (x : Module). length x.registers) same in
       number_small program.stride lane lane.length (low_rank array lanes q lane program.stride is.stride_is (is.only q lane at)) low (omega (arith, few, size, few_of_registers));
 }
+  where
+    low : program.stride ≤ most
+    low = let e = is.stride_is in omega (arith, e, few_helpers)

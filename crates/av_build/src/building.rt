@@ -1,4 +1,4 @@
-ghost use Rattle.std.specs.Prelude.{◌≡◌, ◌≤◌, ◌^◌, length, IfOk};
+ghost use Rattle.std.specs.Prelude.{◌≡◌, ◌<◌, ◌^◌, length, IfOk};
 ghost use Rattle.av_space.specs.declared.fault.SpaceFault.{SpaceFault as Fault};
 ghost use Rattle.av_space.specs.declared.fault.SpaceFault.TheVariants as fault;
 ghost use Rattle.av_space.specs.SpaceFaults.{IsSpaceFault};
@@ -17,26 +17,27 @@ use std::alloc::Global;
 
 // A list lies in memory, and so its length is a word of the machine.
 fn fits_memory<T>(items: &[T])
-    ensures { length items.now ≤ 2 ^ 64 }
+    ensures { length items.now < 2 ^ 64 }
 {
 }
 
 // The lists of a module, whose lengths are the numbers in its names.
 fn module_fits_memory(module: &Module)
-    ensures wires { length module.now.wires ≤ 2 ^ 64 }
-    ensures registers { length module.now.registers ≤ 2 ^ 64 }
+    ensures wires { length module.now.wires < 2 ^ 64 }
+    ensures registers { length module.now.registers < 2 ^ 64 }
 {
     fits_memory(module.wires.as_slice());
     fits_memory(module.registers.as_slice());
 }
 
 // The lists of an array and of its program.
-fn array_fits_memory(cells: &Cells, program: &Program<'_>)
-    ensures inputs { length cells.now.inputs ≤ 2 ^ 64 }
-    ensures cells { length cells.now.cells ≤ 2 ^ 64 }
-    ensures outputs { length program.now.outputs ≤ 2 ^ 64 }
-    ensures stride { program.now.stride ≤ 2 ^ 64 }
+fn array_fits_memory(timed: &Timed, cells: &Cells, program: &Program<'_>)
+    ensures helpers { length timed.now.helpers < 2 ^ 64 }
+    ensures inputs { length cells.now.inputs < 2 ^ 64 }
+    ensures cells { length cells.now.cells < 2 ^ 64 }
+    ensures outputs { length program.now.outputs < 2 ^ 64 }
 {
+    fits_memory(timed.helpers.as_slice());
     fits_memory(cells.inputs.as_slice());
     fits_memory(cells.cells.as_slice());
     fits_memory(program.outputs.as_slice());
@@ -56,7 +57,7 @@ pub fn build(alloc: Global, timed: &Timed, cells: &Cells) -> Result<Design, Memo
     let program = program(alloc, timed, cells)?;
     let flat = &timed.flat;
     let module = netlist(alloc, flat.width, &program)?;
-    array_fits_memory(cells, &program);
+    array_fits_memory(timed, cells, &program);
     module_fits_memory(&module);
     Ok(Design {
         listing: copied_listing(alloc, &cells.listing)?,
