@@ -22,12 +22,12 @@ fn fits_memory<T>(items: &[T])
 }
 
 // The lists of a module, whose lengths are the numbers in its names.
-fn module_fits_memory(module: &Module)
-    ensures wires { length module.now.wires < 2 ^ 64 }
-    ensures registers { length module.now.registers < 2 ^ 64 }
+fn module_fits_memory(made: &Module)
+    ensures wires { length made.now.wires < 2 ^ 64 }
+    ensures registers { length made.now.registers < 2 ^ 64 }
 {
-    fits_memory(module.wires.as_slice());
-    fits_memory(module.registers.as_slice());
+    fits_memory(made.wires.as_slice());
+    fits_memory(made.registers.as_slice());
 }
 
 // The lists of an array and of its program.
