@@ -42,7 +42,7 @@ pub mod Chosen
 pub mod LaneParts
 pub mod Placing
 pub mod Turning
-pub mod Writable
+pub mod WholePrograms
 pub mod SmallNumbers
 pub mod Appended
 pub mod SiteRuns

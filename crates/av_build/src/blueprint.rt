@@ -188,7 +188,7 @@ pub(crate) fn plan_lanes<'a>(
 ) -> Result<Blueprint<'a>, Memory>
     requires array { IsArray array }
     requires count { count ≡ length (cells_of array) }
-    ensures array { IfOk result (λ b. b.array ≡ array) }
+    ensures array { IfOk result (λ b. b.array ≡ array.entry) }
     ensures blueprint { IfOk result IsBlueprint }
 {
     let mut cells = List::new(alloc);

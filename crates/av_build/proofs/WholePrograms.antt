@@ -85,8 +85,8 @@ module _ (w : Width) (t : Timed) (a : Cells) (program : Program) (g : IsProgramm
   lane_at : (k : ℕ) → k < count → (lane : Lane) × (slice_get program.lanes k ≡ Some lane) × IsWritableLane count lane
   lane_at k lt = let x = there_is program.lanes k lt in (x.0, x.1, lane_there k x.0 (g.is_program.only k x.0 x.1))
 
-  pub writable : IsWritable program
-  writable =
+  pub whole_writable : IsWritable program
+  whole_writable =
       let both = each_found (IsWritableLane count) program.lanes lane_at in
       record {
         sources = each_weaker (IsWritableLane count) (EachOfCell (IsThere count)) (λ lane h. h.sources) program.lanes both;
