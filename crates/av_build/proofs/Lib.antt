@@ -37,3 +37,4 @@ pub mod Chosen
 pub mod LaneParts
 pub mod Placing
 pub mod Turning
+pub mod Writable
