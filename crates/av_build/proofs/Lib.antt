@@ -69,3 +69,4 @@ pub mod BuiltLanes
 pub mod HelpedWords
 pub mod SiteLoop
 pub mod WholeProgram
+pub mod Writable

@@ -196,7 +196,7 @@ fn two_lanes<'a>(alloc: Global, place: &'a Tree, sum: &'a Tree) -> Result<Progra
 
 // A module as text.
 #[derive(Debug, Drop)]
-struct Texts {
+struct ModuleTexts {
     inputs: String,
     outputs: String,
     wires: String,
@@ -206,11 +206,11 @@ struct Texts {
 }
 
 // The module of a program over words of 8 bits, as text.
-fn texts(alloc: Global, program: &Program<'_>) -> Result<Texts, Memory>
+fn texts_of(alloc: Global, program: &Program<'_>) -> Result<ModuleTexts, Memory>
     requires { IsWritable (program_of program.now) }
 {
     let module = netlist(alloc, Width { bits: 8 }, program)?;
-    Ok(Texts {
+    Ok(ModuleTexts {
         inputs: port_texts(alloc, module.inputs.as_slice())?,
         outputs: port_texts(alloc, module.outputs.as_slice())?,
         wires: port_texts(alloc, module.wires.as_slice())?,
@@ -224,7 +224,7 @@ fn texts(alloc: Global, program: &Program<'_>) -> Result<Texts, Memory>
 fn the_increment_is_one_sum(rt: HostRuntime) -> Result<(), Fail> {
     let alloc = rt.alloc();
     let sum = plus_one(alloc)?;
-    let module = texts(alloc, &increment(alloc, &sum)?)?;
+    let module = texts_of(alloc, &increment(alloc, &sum)?)?;
     assert_eq!(rt; module.inputs.as_str(), "i0 8; ");
     assert_eq!(rt; module.outputs.as_str(), "o0 8; ");
     assert_eq!(rt; module.wires.as_str(), "c0 8; ");
@@ -239,7 +239,7 @@ fn lanes_of_a_cell_share_its_numbers(rt: HostRuntime) -> Result<(), Fail> {
     let alloc = rt.alloc();
     let sum = plus_one(alloc)?;
     let read = place();
-    let module = texts(alloc, &two_lanes(alloc, &read, &sum)?)?;
+    let module = texts_of(alloc, &two_lanes(alloc, &read, &sum)?)?;
     assert_eq!(rt; module.registers.as_str(), "r0_1 8; cyc 12; ");
     assert_eq!(rt; module.steps.as_str(), "r0_1 <= c0_1; cyc <= cyc_next; ");
     assert_eq!(rt; module.wires.as_str(), "c0_3 1; c0_1 8; c0_2 8; c0_4 1; c0_6 1; c0_8 1; c0 8; cyc_next 12; ");
