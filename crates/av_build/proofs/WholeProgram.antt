@@ -34,7 +34,7 @@ module _ (b : Blueprint) (is : IsBlueprint b) (made : List LaneMade) (built : Ar
       let own_inputs = subst (λ (c : Cells). program.inputs ≡ length c.inputs) (sym f) inputs in
       let own_stride = subst (λ (u : Timed). program.stride ≡ length u.helpers + 1) (sym e) stride in
       record {
-        array = g.0;
+        whole = g.0;
         lanes = lanes;
         is_program = subst (λ (x : Array). IsProgramFor x lanes program) g.1 (of_seen own_inputs all (omega (arith, own_stride)));
         outputs_are = outputs;
