@@ -1,5 +1,5 @@
 -- Steps of writing selections and turns, put together.
-use Rattle.std.proofs.Common.{◌≡◌, ℕ, zero, suc, ◌+◌, ◌<◌, ◌≤◌, List, [], ◌∷◌, ◌++◌, length, map, drop, get_or, refl, sym, subst, arith, ◌∙◌, ap, append_assoc}
+use Rattle.std.proofs.Common.{◌≡◌, ℕ, suc, ◌+◌, List, [], ◌∷◌, ◌++◌, length, refl, sym, arith, ◌∙◌, ap, append_assoc}
 use Rattle.std.proofs.lemmas.List.{length-append, append-nil}
 use Rattle.av_base.specs.declared.width.Width.{Width}
 use Rattle.av_net.specs.declared.operation.Operand.{Operand}
@@ -8,7 +8,7 @@ use Rattle.av_net.specs.declared.operation.Operation.{Operation}
 use Rattle.av_net.specs.declared.operation.Operation.TheVariants.{Plain, Binary, Signed, Choose}
 use Rattle.av_flat.specs.Trees.{Tree}
 use Rattle.av_build.specs.declared.gates.Gate.{Gate}
-use Rattle.av_build.specs.Gates.{gate, Naming, Built, built, Named, named, named_by}
+use Rattle.av_build.specs.Gates.{gate, Naming, Built, Named, named, named_by}
 use Rattle.av_build.specs.Trees.{one_bit, tree_built}
 use Rattle.av_build.specs.Choices.{Span, span_built, either_built, Option, Tap, options_built, tap_built}
 use Rattle.av_build.specs.Cells.{Part, Turn, Taken, taps_built, operand_at, over_taps, part_built, turns_built}

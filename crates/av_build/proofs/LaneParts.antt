@@ -1,5 +1,5 @@
 -- What lanes bring into a module, one after another.
-use Rattle.std.proofs.Common.{◌≡◌, ℕ, zero, suc, ◌+◌, ◌≤◌, List, [], ◌∷◌, ◌++◌, length, map, take, refl, sym, subst, arith, ◌∙◌, ap, append_assoc, add-one, Some, Option, Bool, true, false, if◌then◌else◌}
+use Rattle.std.proofs.Common.{◌≡◌, ℕ, zero, suc, ◌+◌, ◌≤◌, List, [], ◌∷◌, ◌++◌, length, map, take, refl, sym, subst, arith, ◌∙◌, ap, append_assoc, add-one, Some, Option}
 use Rattle.std.specs.Prelude.{slice_get}
 use Rattle.std.specs.List.{range_with_len}
 use Rattle.std.proofs.lemmas.List.{append-nil, take_all}
@@ -14,8 +14,8 @@ use Rattle.av_build.specs.Gates.{Naming, drives_from, ports_from}
 use Rattle.av_build.specs.Cells.{Part, Turn, turns_built}
 use Rattle.av_build.specs.Names.{line_name}
 use Rattle.av_build.specs.Labels.{labels}
-use Rattle.av_build.specs.Programs.{Lane, Program, counts}
-use Rattle.av_build.specs.Modules.{of_lanes, port, cell_built, cell_wires, cell_registers, cell_drives, cell_steps, line_step, if_counted}
+use Rattle.av_build.specs.Programs.{Lane, Program}
+use Rattle.av_build.specs.Modules.{of_lanes, port, cell_built, cell_wires, cell_registers, cell_drives, cell_steps, line_step}
 use Rattle.av_build.specs.inner.Numbered.{value_in, wire_in, register_in, line_in, step_in, IsNaming}
 use Rattle.av_build.specs.inner.Added.{AddsBuilt, AddsLaneAt, ArePartsOf, counter}
 use Rattle.av_build.proofs.Placing.{drive_of, line_named, same_step}

@@ -101,11 +101,10 @@ pub record IsFrom (a : Array) (c producer delay k : ℕ) (y : Point) : Type 0 wh
   pub some : 0 < delay
   pub computes : Computes a.system a.times a.cells producer cycle k y
 
-pub linked : (a : Array) (lanes : Lanes) (ins : List Entry) (program : Program) → Arranged a lanes ins program → (at : Spot) (c : ℕ) (z : Point) → Reading a at c z → (site : ℕ) (tree : Tree) (way : Way) (producer delay : ℕ)
-    → IsLinked a at c site tree way producer delay → (k : ℕ) (y : Point) → IsTapRead a.system at.node tree way at.piece z k y → IsFrom a c producer delay k y
-linked a lanes ins program g at c z r site tree way producer delay l k y reads =
-    let tap : Tap = record { place = record { piece = at.number; site = site; tree = tree }; way = way } in
-    let e = g.earlier at.cell c at.node z at.variable at.piece l.tap tap k y r.computes r.is_variable r.is_piece r.within l.is_tap reads in
+pub linked_to : (a : Array) → AreLinks a.system a.helpers a.times a.cells a.links → (at : Spot) (c : ℕ) (z : Point) → Reading a at c z → (site : ℕ) (tree : Tree) (way : Way) (producer delay : ℕ)
+    → IsLinked a at c site tree way producer delay → (k : ℕ) (y : Point) → IsTapRead a.system at.node tree way at.piece z k y
+    → (q : ℕ) × (b : ℕ) × (d : ℕ) × (b + d ≡ c) × (0 < d) × Computes a.system a.times a.cells q b k y → IsFrom a c producer delay k y
+linked_to a are_links at c z r site tree way producer delay l k y reads e =
     let q = e.0 in
     let d = e.2 in
     let tapped : IsTapped a.system a.helpers a.times a.cells at.cell l.tap c q d = record {
@@ -114,7 +113,7 @@ linked a lanes ins program g at c z r site tree way producer delay l k y reads =
       computes = r.computes;
       variable = at.variable;
       is_variable = r.is_variable;
-      tap = tap;
+      tap = record { place = record { piece = at.number; site = site; tree = tree }; way = way };
       is_tap = l.is_tap;
       piece = at.piece;
       is_piece = r.is_piece;
@@ -126,7 +125,7 @@ linked a lanes ins program g at c z r site tree way producer delay l k y reads =
       later = e.3;
       computed = e.5;
     } in
-    let stretch = All-contains (IsStretch a.system a.helpers a.times a.cells) a.links l.link g.are_links.each l.is_link in
+    let stretch = All-contains (IsStretch a.system a.helpers a.times a.cells) a.links l.link are_links.each l.is_link in
     let moved : IsTapped a.system a.helpers a.times a.cells l.link.consumer l.link.site c q d =
     subst (λ b. IsTapped a.system a.helpers a.times a.cells b l.link.site c q d) (sym l.in_link.0) (subst (λ b. IsTapped a.system a.helpers a.times a.cells at.cell b c q d) (sym l.in_link.1) tapped) in
     let same = stretch.between c q d l.in_link.2 l.in_link.3 moved in
@@ -138,6 +137,12 @@ linked a lanes ins program g at c z r site tree way producer delay l k y reads =
       some = subst (λ b. 0 < b) same_delay e.4;
       computes = subst (λ b. Computes a.system a.times a.cells b e.1 k y) same_producer e.5;
     }
+
+pub linked : (a : Array) (lanes : Lanes) (ins : List Entry) (program : Program) → Arranged a lanes ins program → (at : Spot) (c : ℕ) (z : Point) → Reading a at c z → (site : ℕ) (tree : Tree) (way : Way) (producer delay : ℕ)
+    → IsLinked a at c site tree way producer delay → (k : ℕ) (y : Point) → IsTapRead a.system at.node tree way at.piece z k y → IsFrom a c producer delay k y
+linked a lanes ins program g at c z r site tree way producer delay l k y reads =
+    let tap : Tap = record { place = record { piece = at.number; site = site; tree = tree }; way = way } in
+    linked_to a g.are_links at c z r site tree way producer delay l k y reads (g.earlier at.cell c at.node z at.variable at.piece l.tap tap k y r.computes r.is_variable r.is_piece r.within l.is_tap reads)
 
 -- the word of a computed point
 from_value : (a : Array) (lanes : Lanes) (c producer delay place : ℕ) (y : Point) (read : Variable) → slice_get a.system.variables place ≡ Some read → is_node read ≡ true → IsFrom a c producer delay (number_at a.system place) y

@@ -20,7 +20,7 @@ use Rattle.av_build.specs.Names.{Labels}
 use Rattle.av_build.specs.Choices.{Option, Tap, options_built, tap_built}
 use Rattle.av_build.specs.Cells.{Part, Turn, taps_built, over_taps, piece_built, part_built, turns_built}
 use Rattle.av_build.specs.Modules.{operand_of, span_of, option_of, tap_of, part_of, turn_of}
-use Rattle.av_build.specs.inner.Written.{WorkMade, ShiftMade, source_of, as_stretch, link_of, site_of, work_of, shift_of}
+use Rattle.av_build.specs.inner.Written.{ShiftMade, source_of, as_stretch, link_of, site_of, work_of, shift_of}
 use Rattle.av_build.specs.inner.Added.{AddsNamed, AddsBuilt, choice_built, counter}
 use Rattle.av_build.proofs.Chosen.{option_added, turn_added, AreTaken, tap_added, taken_many}
 

@@ -1,4 +1,6 @@
 pub mod Written
 pub mod Numbered
 pub mod Added
-pub mod Programming
+pub mod Blueprints
+pub mod Moments
+pub mod Works

@@ -1,4 +1,4 @@
-ghost use Rattle.std.specs.Prelude.{◌≡◌, IfOk};
+ghost use Rattle.std.specs.Prelude.{◌≡◌, ◌<◌, ◌^◌, length, IfOk};
 ghost use Rattle.av_space.specs.declared.fault.SpaceFault.{SpaceFault as Fault};
 ghost use Rattle.av_space.specs.declared.fault.SpaceFault.TheVariants as fault;
 ghost use Rattle.av_space.specs.SpaceFaults.{IsSpaceFault};
@@ -7,12 +7,41 @@ ghost use Rattle.av_build.specs.ArrayDesigns.{IsDesignOf};
 
 use crate::listing::copied_listing;
 use crate::netlist::netlist;
-use crate::programming::programming;
+use crate::program::Program;
+use crate::programming::program;
 use av_base::Memory;
 use av_flat::Timed;
-use av_net::Design;
+use av_net::{Design, Module};
 use av_space::Cells;
 use std::alloc::Global;
+
+// A list lies in memory, and so its length is a word of the machine.
+fn fits_memory<T>(items: &[T])
+    ensures { length items.now < 2 ^ 64 }
+{
+}
+
+// The lists of a module, whose lengths are the numbers in its names.
+fn module_fits_memory(made: &Module)
+    ensures wires { length made.now.wires < 2 ^ 64 }
+    ensures registers { length made.now.registers < 2 ^ 64 }
+{
+    fits_memory(made.wires.as_slice());
+    fits_memory(made.registers.as_slice());
+}
+
+// The lists of an array and of its program.
+fn array_fits_memory(timed: &Timed, cells: &Cells, program: &Program<'_>)
+    ensures helpers { length timed.now.helpers < 2 ^ 64 }
+    ensures inputs { length cells.now.inputs < 2 ^ 64 }
+    ensures cells { length cells.now.cells < 2 ^ 64 }
+    ensures outputs { length program.now.outputs < 2 ^ 64 }
+{
+    fits_memory(timed.helpers.as_slice());
+    fits_memory(cells.inputs.as_slice());
+    fits_memory(cells.cells.as_slice());
+    fits_memory(program.outputs.as_slice());
+}
 
 /// The design of an array: its module, with the listing of the array.
 ///
@@ -25,9 +54,11 @@ pub fn build(alloc: Global, timed: &Timed, cells: &Cells) -> Result<Design, Memo
     requires within { (f : Fault) → IsSpaceFault timed.now f → f ≡ fault.Memory }
     ensures { IfOk result (IsDesignOf timed.now cells.now) }
 {
-    let program = programming(alloc, timed, cells)?;
+    let program = program(alloc, timed, cells)?;
     let flat = &timed.flat;
     let module = netlist(alloc, flat.width, &program)?;
+    array_fits_memory(timed, cells, &program);
+    module_fits_memory(&module);
     Ok(Design {
         listing: copied_listing(alloc, &cells.listing)?,
         module,

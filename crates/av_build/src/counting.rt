@@ -1,7 +1,6 @@
 //! The counter of cycles, where a program has to count them.
 
-ghost use Rattle.std.specs.Prelude.{◌≡◌, IfOk, map};
-ghost use Rattle.std.specs.List.{list_any};
+ghost use Rattle.std.specs.Prelude.{◌≡◌, IfOk};
 ghost use Rattle.av_build.specs.Names.{next_name};
 ghost use Rattle.av_build.specs.Programs.{selects, cell_counts, counts};
 ghost use Rattle.av_build.specs.Modules.{next_drive, counter_step};

@@ -1,6 +1,6 @@
 //! Selections: which of several words a place takes in a cycle, by tests of the counter of cycles.
 
-ghost use Rattle.std.specs.Prelude.{◌≡◌, length, map, codes, IfOk};
+ghost use Rattle.std.specs.Prelude.{◌≡◌, length, map, IfOk};
 ghost use Rattle.std.specs.List.{AllByRecursion};
 ghost use Rattle.av_build.specs.Choices.{span_built, tap_built};
 ghost use Rattle.av_build.specs.Cells.{taps_built};

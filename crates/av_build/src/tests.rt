@@ -8,7 +8,7 @@ use crate::program::{Lane, Link, Program, Shift, Site, Source, Stretch, Work};
 use av_affine::{Form, Map, Rows};
 use av_base::{List, Memory, Width, Word};
 use av_flat::Tree;
-use av_net::{Drive, Operand, Operation, Port, Step};
+use av_net::{Drive, Module, Operand, Operation, Port, Step};
 use av_tree::Sign;
 use std::alloc::{AllocError, Global};
 use std::test::Fail;
@@ -194,43 +194,35 @@ fn two_lanes<'a>(alloc: Global, place: &'a Tree, sum: &'a Tree) -> Result<Progra
     })
 }
 
-// A module as text.
-#[derive(Debug, Drop)]
-struct Texts {
-    inputs: String,
-    outputs: String,
-    wires: String,
-    registers: String,
-    drives: String,
-    steps: String,
-}
-
-// The module of a program over words of 8 bits, as text.
-fn texts(alloc: Global, program: &Program<'_>) -> Result<Texts, Memory>
+// The module of a program over words of 8 bits.
+fn written(alloc: Global, program: &Program<'_>) -> Result<Module, Memory>
     requires { IsWritable (program_of program.now) }
 {
-    let module = netlist(alloc, Width { bits: 8 }, program)?;
-    Ok(Texts {
-        inputs: port_texts(alloc, module.inputs.as_slice())?,
-        outputs: port_texts(alloc, module.outputs.as_slice())?,
-        wires: port_texts(alloc, module.wires.as_slice())?,
-        registers: port_texts(alloc, module.registers.as_slice())?,
-        drives: drive_texts(alloc, module.drives.as_slice())?,
-        steps: step_texts(alloc, module.steps.as_slice())?,
-    })
+    netlist(alloc, Width { bits: 8 }, program)
+}
+
+// Inputs, outputs, wires, registers, drives and steps, one list after another.
+fn text_of(alloc: Global, module: &Module) -> Result<String, AllocError> {
+    let inputs = port_texts(alloc, module.inputs.as_slice())?;
+    let outputs = port_texts(alloc, module.outputs.as_slice())?;
+    let wires = port_texts(alloc, module.wires.as_slice())?;
+    let registers = port_texts(alloc, module.registers.as_slice())?;
+    let drives = drive_texts(alloc, module.drives.as_slice())?;
+    let steps = step_texts(alloc, module.steps.as_slice())?;
+    format!(in alloc; "{inputs}/ {outputs}/ {wires}/ {registers}/ {drives}/ {steps}")
+}
+
+fn is(text: &String, wanted: &str) -> bool {
+    text.as_str() == wanted
 }
 
 #[test]
 fn the_increment_is_one_sum(rt: HostRuntime) -> Result<(), Fail> {
     let alloc = rt.alloc();
     let sum = plus_one(alloc)?;
-    let module = texts(alloc, &increment(alloc, &sum)?)?;
-    assert_eq!(rt; module.inputs.as_str(), "i0 8; ");
-    assert_eq!(rt; module.outputs.as_str(), "o0 8; ");
-    assert_eq!(rt; module.wires.as_str(), "c0 8; ");
-    assert_eq!(rt; module.registers.as_str(), "");
-    assert_eq!(rt; module.drives.as_str(), "c0 = i0 Add 8'd1; o0 = c0; ");
-    assert_eq!(rt; module.steps.as_str(), "");
+    let module = written(alloc, &increment(alloc, &sum)?)?;
+    let text = text_of(alloc, &module)?;
+    assert!(rt; is(&text, "i0 8; / o0 8; / c0 8; / / c0 = i0 Add 8'd1; o0 = c0; / "));
     Ok(())
 }
 
@@ -239,13 +231,8 @@ fn lanes_of_a_cell_share_its_numbers(rt: HostRuntime) -> Result<(), Fail> {
     let alloc = rt.alloc();
     let sum = plus_one(alloc)?;
     let read = place();
-    let module = texts(alloc, &two_lanes(alloc, &read, &sum)?)?;
-    assert_eq!(rt; module.registers.as_str(), "r0_1 8; cyc 12; ");
-    assert_eq!(rt; module.steps.as_str(), "r0_1 <= c0_1; cyc <= cyc_next; ");
-    assert_eq!(rt; module.wires.as_str(), "c0_3 1; c0_1 8; c0_2 8; c0_4 1; c0_6 1; c0_8 1; c0 8; cyc_next 12; ");
-    let lane = "c0_3 = cyc LessEqual 12'd3; c0_1 = c0_3 ? i0 : r0_1; ";
-    let value = "c0_2 = 8'd7 Add 8'd1; c0_4 = cyc GreaterEqual 12'd2; c0_6 = cyc LessEqual 12'd5; c0_8 = c0_4 And c0_6; c0 = c0_8 ? c0_1 : c0_2; ";
-    let drives = format!(in alloc; "{lane}{value}o0 = c0; cyc_next = cyc Add 12'd1; ")?;
-    assert_eq!(rt; module.drives.as_str(), drives.as_str());
+    let module = written(alloc, &two_lanes(alloc, &read, &sum)?)?;
+    let text = text_of(alloc, &module)?;
+    assert!(rt; is(&text, "i0 8; / o0 8; / c0_3 1; c0_1 8; c0_2 8; c0_4 1; c0_6 1; c0_8 1; c0 8; cyc_next 12; / r0_1 8; cyc 12; / c0_3 = cyc LessEqual 12'd3; c0_1 = c0_3 ? i0 : r0_1; c0_2 = 8'd7 Add 8'd1; c0_4 = cyc GreaterEqual 12'd2; c0_6 = cyc LessEqual 12'd5; c0_8 = c0_4 And c0_6; c0 = c0_8 ? c0_1 : c0_2; o0 = c0; cyc_next = cyc Add 12'd1; / r0_1 <= c0_1; cyc <= cyc_next; "));
     Ok(())
 }

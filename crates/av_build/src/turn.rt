@@ -1,6 +1,6 @@
 //! The pieces of a lane, each in its turn.
 
-ghost use Rattle.std.specs.Prelude.{◌≡◌, length, map, IfOk};
+ghost use Rattle.std.specs.Prelude.{length, map, IfOk};
 ghost use Rattle.av_build.specs.Cells.{part_built, turns_built};
 ghost use Rattle.av_build.specs.Labels.{labels};
 ghost use Rattle.av_build.specs.Programs.{EachOfWork, EachOfCell};

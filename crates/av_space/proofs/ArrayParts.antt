@@ -1,5 +1,5 @@
 -- The layout of a system has the placings and the cells of its array, so links and ports of the array are those of the layout.
-use Rattle.std.proofs.Common.{◌≡◌, List, subst, sym, ◌∙◌}
+use Rattle.std.proofs.Common.{◌≡◌, List, subst}
 use Rattle.av_flat.specs.declared.timed.Timed.{Timed}
 use Rattle.av_flat.specs.Trees.{view_system}
 use Rattle.av_space.specs.declared.cells.Cell.{Cell}

@@ -1,6 +1,6 @@
 -- Lists by place.
 use Rattle.std.proofs.Common.{◌≡◌, ℕ, zero, suc, ◌<◌, Bool, true, false, if◌then◌else◌, Some, List, [], ◌∷◌, length, map, take, get_or, refl, sym, ap, subst, ◌∙◌, arith}
-use Rattle.std.specs.Prelude.{slice_get, Contains, filter, All, AllPairs, Option}
+use Rattle.std.specs.Prelude.{slice_get, filter, All, AllPairs}
 use Rattle.std.proofs.lemmas.Option.{slice_get_within, slice_get_read, get_or_from_slice_get}
 use Rattle.av_space.proofs.Elements.{some_is}
 

@@ -1,7 +1,7 @@
 -- A worked array: two rows of two points, where the last point adds the first one. D[i,j] is A[i,j] where i = 0 or j = 0, and
 -- D[i-1,j-1] + A[i,j] elsewhere; its schedule is j, so row i stands on cell i.
-use Rattle.std.proofs.Common.{◌≡◌, ℕ, zero, suc, ◌+◌, ◌≤◌, ℤ, pos, negsuc, ◌≤ℤ◌, IsTrue, ◌⊎◌, inl, inr, Some, List, [], ◌∷◌, ◌++◌, length, refl, sym, ap, ap₂, subst, ◌∙◌, arith, All}
-use Rattle.std.specs.Prelude.{codes, slice_get, Contains, AllPairs}
+use Rattle.std.proofs.Common.{◌≡◌, ℕ, zero, suc, ◌≤◌, ℤ, pos, negsuc, ◌≤ℤ◌, IsTrue, ◌⊎◌, inl, inr, Some, List, [], ◌∷◌, ◌++◌, refl, sym, ap, ap₂, subst, ◌∙◌, arith}
+use Rattle.std.specs.Prelude.{codes, slice_get, Contains}
 use Rattle.std.proofs.lemmas.Int.{ints}
 use Rattle.std.proofs.lemmas.List.Elements.{All-nil, All-cons}
 use Rattle.std.proofs.lemmas.List.Kept.{AllPairs-cons}
@@ -11,9 +11,6 @@ use Rattle.av_affine.specs.Maps.{image}
 use Rattle.av_poly.specs.Points.{Set}
 use Rattle.av_tree.specs.declared.sign.Sign.TheVariants as sign
 use Rattle.av_tree.specs.Points.{Point}
-use Rattle.av_tree.specs.Trees.{Text}
-use Rattle.av_flat.specs.declared.timed.Helper.{Helper}
-use Rattle.av_flat.specs.declared.flat.Kind.{Kind}
 use Rattle.av_flat.specs.declared.flat.Kind.TheVariants as kind
 use Rattle.av_flat.specs.Trees.{Piece, Variable, FlatSystem, reference, binary}
 use Rattle.av_flat.specs.Points.{has}
@@ -24,7 +21,7 @@ use Rattle.av_space.specs.declared.cells.Link.{Link}
 use Rattle.av_space.specs.Coordinates.{Placing, along}
 use Rattle.av_space.specs.Standing.{Stands, IsUsed, IsCellBefore, AreCells, Computes}
 use Rattle.av_space.specs.Taps.{Tap, Place, taps, node_place, IsTapped, each}
-use Rattle.av_space.specs.Links.{IsStretch, IsLinkBefore, AreNeighbours, AreLinks, delay_count}
+use Rattle.av_space.specs.Links.{IsStretch, AreLinks, delay_count}
 use Rattle.av_space.specs.Ports.{output_cells}
 
 -- ---- the system

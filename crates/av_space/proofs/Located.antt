@@ -2,7 +2,7 @@
 use Rattle.std.proofs.Common.{◌≡◌, ℕ, ◌+◌, ◌<◌, ◌≤◌, inl, inr, Some, List, [], ◌∷◌, length, get_or, refl, sym, ap, subst, ◌∙◌, arith}
 use Rattle.std.specs.Prelude.{slice_get, AllPairs, Contains, unsigned_abs}
 use Rattle.std.proofs.lemmas.Bool.{cases_lt}
-use Rattle.std.proofs.lemmas.Option.{slice_get-get_or, slice_get_within}
+use Rattle.std.proofs.lemmas.Option.{slice_get-get_or}
 use Rattle.av_tree.specs.Points.{Point}
 use Rattle.av_flat.specs.declared.timed.Timed.{Timed}
 use Rattle.av_flat.specs.Legal.{IsLegal}
@@ -10,10 +10,9 @@ use Rattle.av_flat.specs.Trees.{view_system}
 use Rattle.av_flat.specs.Nodes.{IsComputation}
 use Rattle.av_flat.specs.Order.{IsBefore}
 use Rattle.av_flat.specs.Schedules.{cycle}
-use Rattle.av_space.specs.declared.cells.Cell.{Cell}
 use Rattle.av_space.specs.declared.layout.Layout.{Layout}
 use Rattle.av_space.specs.Coordinates.{Placing, along}
-use Rattle.av_space.specs.Standing.{Stands, IsCellBefore}
+use Rattle.av_space.specs.Standing.{Stands}
 use Rattle.av_space.specs.Layouts.{IsLayout}
 use Rattle.av_space.specs.inner.Laying.{IsTimely}
 use Rattle.av_space.proofs.ByPlace.{pair_at}

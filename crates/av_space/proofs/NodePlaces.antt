@@ -1,5 +1,5 @@
 -- Nodes by their places among the variables.
-use Rattle.std.proofs.Common.{◌≡◌, ℕ, zero, suc, List, [], ◌∷◌, length, take, refl, sym, subst, ap, Bool, true, false, if◌then◌else◌, Some}
+use Rattle.std.proofs.Common.{◌≡◌, ℕ, zero, suc, List, [], ◌∷◌, length, take, sym, subst, ap, Bool, true, false, if◌then◌else◌, Some}
 use Rattle.std.specs.Prelude.{slice_get, filter}
 use Rattle.av_flat.specs.Trees.{Variable}
 use Rattle.av_flat.specs.Nodes.{is_node}

@@ -1,6 +1,6 @@
 -- What a layout knows of the computations on a cell.
-use Rattle.std.proofs.Common.{◌≡◌, ℕ, zero, suc, ◌+◌, ◌<◌, Bool, true, false, if◌then◌else◌, IsTrue, Some, List, [], ◌∷◌, length, get_or, sym, ap, subst, ◌∙◌, arith}
-use Rattle.std.specs.Prelude.{slice_get, Contains, filter, All, Any}
+use Rattle.std.proofs.Common.{◌≡◌, ℕ, ◌<◌, IsTrue, Some, List, length, get_or, sym, ap, subst, ◌∙◌, arith}
+use Rattle.std.specs.Prelude.{slice_get, Contains, All, Any}
 use Rattle.std.proofs.lemmas.Option.{slice_get-get_or, slice_get_within}
 use Rattle.std.proofs.lemmas.List.FromFn.{length-map-range_with_len, get_or-map-range_with_len}
 use Rattle.std.proofs.lemmas.List.Elements.{All-contains, Contains-get_or}
@@ -21,7 +21,7 @@ use Rattle.av_space.specs.declared.layout.Slot.{Slot}
 use Rattle.av_space.specs.declared.layout.Layout.{Layout}
 use Rattle.av_space.specs.Coordinates.{Placing}
 use Rattle.av_space.specs.Standing.{Computes, AreCells, IsUsed}
-use Rattle.av_space.specs.Taps.{place_from, node_place}
+use Rattle.av_space.specs.Taps.{node_place}
 use Rattle.av_space.specs.Quantities.{IsUse}
 use Rattle.av_space.specs.Layouts.{IsSlot, AreSlots, IsLayout, places_of}
 use Rattle.av_space.proofs.ByPlace.{place_of}

@@ -1,5 +1,5 @@
 -- Ports by node, piece, reference and cell.
-use Rattle.std.proofs.Common.{◌≡◌, ◌≢◌, ℕ, ◌<◌, ◌⊎◌, inl, inr, List, refl, sym, ap, ◌∙◌, arith, IsTrue, Option, Some, ◌↔◌, true}
+use Rattle.std.proofs.Common.{◌≡◌, ◌≢◌, ℕ, ◌<◌, List, refl, sym, ap, ◌∙◌, arith, IsTrue, Some, ◌↔◌, true}
 use Rattle.std.specs.Prelude.{slice_get, nat_lt}
 use Rattle.av_space.specs.declared.cells.Cell.{Cell}
 use Rattle.av_space.specs.declared.cells.InPort.{InPort}

@@ -1,5 +1,5 @@
 -- The quantities of a layout are those of its system's array, and each other array has the same.
-use Rattle.std.proofs.Common.{◌≡◌, ℕ, ◌<◌, ◌≤◌, List, length, min, refl, sym, ap, subst, ◌∙◌, arith}
+use Rattle.std.proofs.Common.{◌≡◌, ℕ, ◌<◌, ◌≤◌, List, length, min, refl, ap, subst, ◌∙◌, arith}
 use Rattle.av_flat.specs.declared.timed.Timed.{Timed}
 use Rattle.av_flat.specs.Trees.{FlatSystem, view_system}
 use Rattle.av_space.specs.declared.cells.Cell.{Cell}
@@ -11,7 +11,7 @@ use Rattle.av_space.specs.Coordinates.{Placing}
 use Rattle.av_space.specs.Standing.{AreCells}
 use Rattle.av_space.specs.Links.{AreLinks, delay_count}
 use Rattle.av_space.specs.Quantities.{IsOperatorCount}
-use Rattle.av_space.specs.SpaceFaults.{HasCells, HasLinks, IsCycles, IsCellNumber, IsDelays, IsLinkNumber, IsOperators, IsWithin, IsSpaceFault}
+use Rattle.av_space.specs.SpaceFaults.{HasCells, HasLinks, IsCycles, IsCellNumber, IsDelays, IsLinkNumber, IsWithin, IsSpaceFault}
 use Rattle.av_space.specs.Layouts.{IsLayout}
 use Rattle.av_space.specs.inner.Quantified.{AreWithin, LinksOf, delays_of}
 use Rattle.av_space.proofs.OnePlacing.{one_placings}

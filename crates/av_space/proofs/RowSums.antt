@@ -1,12 +1,11 @@
 -- A worked array with a reduction: Y[i] is the sum of A[i,j] over j in 0..2, for i in 0..1. As chains: Y reads the last point of its
 -- row of Y#1, which adds A[i,j] to its own word at j - 1. The schedule of Y is i + 3, that of Y#1 is j.
-use Rattle.std.proofs.Common.{◌≡◌, ℕ, zero, suc, ◌+◌, ◌≤◌, ℤ, pos, negsuc, ◌+ℤ◌, ◌≤ℤ◌, IsTrue, ◌⊎◌, inl, inr, Some, None, List, [], ◌∷◌, ◌++◌, length, refl, sym, ap, ap₂, subst, ◌∙◌, arith, All}
+use Rattle.std.proofs.Common.{◌≡◌, ℕ, zero, suc, ◌+◌, ℤ, pos, negsuc, ◌+ℤ◌, ◌≤ℤ◌, IsTrue, ◌⊎◌, inl, inr, Some, None, List, [], ◌∷◌, ◌++◌, length, refl, sym, ap, subst, ◌∙◌, arith}
 use Rattle.std.specs.Prelude.{codes, slice_get, Contains, AllPairs}
 use Rattle.std.proofs.lemmas.Int.{ints}
 use Rattle.std.proofs.lemmas.List.Elements.{All-nil, All-cons}
 use Rattle.std.proofs.lemmas.List.Kept.{AllPairs-cons}
 use Rattle.av_affine.specs.declared.form.Form.{Form}
-use Rattle.av_affine.specs.declared.map.Map.{Map}
 use Rattle.av_poly.specs.Points.{Set, Has}
 use Rattle.av_tree.specs.declared.sign.Sign.TheVariants as sign
 use Rattle.av_tree.specs.Points.{Point}
@@ -22,7 +21,7 @@ use Rattle.av_space.specs.declared.cells.Cell.{Cell}
 use Rattle.av_space.specs.declared.cells.Link.{Link}
 use Rattle.av_space.specs.Coordinates.{Placing, along}
 use Rattle.av_space.specs.Standing.{Stands, IsUsed, IsCellBefore, AreCells, Computes}
-use Rattle.av_space.specs.Taps.{Tap, Place, taps, node_place, IsTapped, IsTapRead, each}
+use Rattle.av_space.specs.Taps.{Tap, taps, node_place, IsTapped, IsTapRead, each}
 use Rattle.av_space.specs.Links.{IsStretch, IsLinkBefore, AreNeighbours, AreLinks, delay_count}
 use Rattle.av_space.specs.Ports.{output_cells}
 use Rattle.av_space.proofs.Diagonal.{form, i, j, zero_or_one}

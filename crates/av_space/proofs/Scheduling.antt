@@ -1,5 +1,5 @@
 -- The array of a legal timed system is scheduled.
-use Rattle.std.proofs.Common.{◌≡◌, ℕ, ◌≤◌, pos, ◌+ℤ◌, ◌≤ℤ◌, true, IsTrue, List, map, refl, sym, subst, ◌∙◌, ap, Some}
+use Rattle.std.proofs.Common.{◌≡◌, ℕ, pos, ◌+ℤ◌, ◌≤ℤ◌, true, IsTrue, List, map, sym, subst, ◌∙◌, ap, Some}
 use Rattle.std.specs.Prelude.{slice_get, Contains}
 use Rattle.std.proofs.lemmas.List.Elements.{All-contains}
 use Rattle.av_tree.specs.Points.{Point}

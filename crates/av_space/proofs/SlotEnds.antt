@@ -1,10 +1,8 @@
 -- The first and the last of computations by cycle.
-use Rattle.std.proofs.Common.{◌≡◌, ℕ, ◌+◌, ◌-◌, ◌<◌, ◌≤◌, inl, inr, Some, List, length, get_or, sym, ap, subst, ◌∙◌, arith}
-use Rattle.std.specs.Prelude.{slice_get, AllPairs, Contains}
+use Rattle.std.proofs.Common.{◌≡◌, ℕ, ◌+◌, ◌<◌, ◌≤◌, inl, inr, Some, List, length, sym, ap, ◌∙◌, arith}
+use Rattle.std.specs.Prelude.{slice_get, AllPairs}
 use Rattle.std.proofs.lemmas.Bool.{cases_lt}
-use Rattle.std.proofs.lemmas.Option.{slice_get-get_or}
 use Rattle.av_space.specs.declared.layout.Slot.{Slot}
-use Rattle.av_space.specs.declared.spots.Ends.{Ends}
 use Rattle.av_space.specs.Spots.{AreEnds}
 use Rattle.av_space.proofs.ByPlace.{pair_at, all_by_place}
 use Rattle.av_space.proofs.Elements.{some_is, in_range, get_contained}

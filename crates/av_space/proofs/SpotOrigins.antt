@@ -1,5 +1,5 @@
 -- Where the places of a piece read, by its links and ports.
-use Rattle.std.proofs.Common.{◌≡◌, ℕ, ◌<◌, List, [], ◌∷◌, refl, sym, ap, subst, ◌∙◌, arith, IsTrue, Bool, true, false, Option, Some, None}
+use Rattle.std.proofs.Common.{◌≡◌, ℕ, List, [], ◌∷◌, refl, sym, ap, subst, ◌∙◌, arith, IsTrue, Bool, true, false, Option, Some, None}
 use Rattle.std.specs.Prelude.{slice_get, Contains, MatchOption}
 use Rattle.av_affine.specs.declared.map.Map.{Map}
 use Rattle.av_affine.specs.Maps.{image}
@@ -13,8 +13,8 @@ use Rattle.av_flat.specs.declared.tree.Tree.TheVariants as made
 use Rattle.av_flat.specs.Trees.{Tree, Piece, Variable, FlatSystem, view, reference, constant, binary, choice, restriction, cases, dependence, reduction, pick}
 use Rattle.av_flat.specs.Points.{has}
 use Rattle.av_flat.specs.Broadcasts.{Reference, references}
-use Rattle.av_flat.specs.Helped.{before, IsEntry}
-use Rattle.av_flat.specs.Nodes.{is_node, number_at}
+use Rattle.av_flat.specs.Helped.{before}
+use Rattle.av_flat.specs.Nodes.{number_at}
 use Rattle.av_flat.specs.Signatures.{Signature, signatures, is_computed, is_input}
 use Rattle.av_flat.specs.Values.{picked}
 use Rattle.av_space.specs.declared.array.Array.{Array}
@@ -23,8 +23,7 @@ use Rattle.av_space.specs.declared.origin.Origin.TheVariants as origin
 use Rattle.av_space.specs.declared.spots.Site.{Site}
 use Rattle.av_space.specs.declared.spots.Spot.{Spot}
 use Rattle.av_space.specs.declared.stretch.Reading.{Reading}
-use Rattle.av_space.specs.Taps.{Handing, helper_at, IsReadAt, Place, Way, each, entries, handed, Tap, computed_at, taps_by, taps_at, IsReadBy, IsTapRead}
-use Rattle.av_space.specs.Sites.{place_of}
+use Rattle.av_space.specs.Taps.{Handing, helper_at, IsReadAt, Place, each, entries, handed, Tap, computed_at, taps_by, taps_at, IsReadBy, IsTapRead}
 use Rattle.av_space.specs.Spots.{system_of, helpers_of, IsArray, IsSpot, IsSlotIn, IsSiteOf, handing_by, handed_tap, own_way, own_tap, IsLinkedBy, IsReferenceOrigin, at_port, over_link, IsPickOrigin}
 use Rattle.av_space.specs.inner.SpotTaps.{IsSpotTap, IsReadThere, IsComputedRead, IsPortSite}
 use Rattle.av_space.proofs.SpotPlaces.{IsPlaceBy, pick_computed}

@@ -1,30 +1,23 @@
 -- What the tap sites of a piece on a cell read there, by the links and the ports of the array.
-use Rattle.std.proofs.Common.{◌≡◌, ℕ, ◌<◌, List, length, refl, sym, ap, subst, ◌∙◌, arith, IsTrue, Bool, true, false, Option, Some, None, ◌↔◌}
+use Rattle.std.proofs.Common.{◌≡◌, ℕ, List, length, sym, ap, subst, ◌∙◌, arith, Option, Some, None, ◌↔◌}
 use Rattle.std.specs.Prelude.{slice_get, Contains, IfSome, MatchOption}
 use Rattle.std.proofs.lemmas.List.{length-map}
 use Rattle.std.proofs.lemmas.List.Elements.{All-contains}
-use Rattle.av_affine.specs.declared.map.Map.{Map}
-use Rattle.av_affine.specs.Maps.{image}
 use Rattle.av_tree.specs.Points.{Point}
-use Rattle.av_flat.specs.declared.timed.Timed.{Timed}
-use Rattle.av_flat.specs.Trees.{Tree, Piece, Variable, FlatSystem, view, view_piece, view_variable, view_system, reference, pick}
-use Rattle.av_flat.specs.Points.{has}
-use Rattle.av_flat.specs.Signatures.{signatures, is_computed, is_input}
+use Rattle.av_flat.specs.Trees.{Tree, Piece, Variable, FlatSystem, view_piece, view_variable}
+use Rattle.av_flat.specs.Signatures.{signatures}
 use Rattle.av_flat.specs.Broadcasts.{references}
 use Rattle.av_flat.specs.Chained.{IsChainedPiece}
-use Rattle.av_flat.specs.Helped.{before, IsEntry}
-use Rattle.av_flat.specs.Nodes.{is_node, nodes, number_at}
 use Rattle.av_space.specs.declared.array.Array.{Array}
 use Rattle.av_space.specs.declared.cells.InPort.{InPort}
-use Rattle.av_space.specs.declared.cells.Link.{Link}
 use Rattle.av_space.specs.declared.layout.Slot.{Slot}
 use Rattle.av_space.specs.declared.spots.Site.{Site}
 use Rattle.av_space.specs.declared.spots.Spot.{Spot}
 use Rattle.av_space.specs.declared.stretch.Reading.{Reading}
-use Rattle.av_space.specs.Taps.{node_place, Handing, helper_at, IsReadAt, Place, places_in, Way, each, entries, handed, Tap, computed_at, taps_by, taps_at, taps, IsReadBy, IsTapRead, IsTapped}
-use Rattle.av_space.specs.Links.{IsStretch, IsInLink}
+use Rattle.av_space.specs.Taps.{node_place, Handing, helper_at, IsReadAt, Place, Way, Tap, taps_at, IsReadBy, IsTapRead, IsTapped}
+use Rattle.av_space.specs.Links.{IsStretch}
 use Rattle.av_space.specs.Sites.{place_of}
-use Rattle.av_space.specs.Spots.{system_of, helpers_of, placings_of, cells_of, IsArray, IsSpot, IsSlotIn, IsSiteOf, handing_by, handed_tap, own_way, own_tap, IsLinkedBy}
+use Rattle.av_space.specs.Spots.{system_of, helpers_of, placings_of, cells_of, IsArray, IsSpot, IsSlotIn, IsSiteOf, handing_by, IsLinkedBy}
 use Rattle.av_space.specs.inner.Readings.{IsFineTap, IsSiteOn, IsSite, IsReadingAt, IsReadingOf}
 use Rattle.av_space.specs.inner.SpotTaps.{IsSpotTap, IsReadThere, IsComputedRead, IsPortSite}
 use Rattle.av_space.proofs.ByPlace.{there_is}
@@ -152,17 +145,23 @@ module _ (a : Array) (is : IsArray a) (at : Spot) (spot : IsSpot a at) where
           ∙ ap (λ (n : ℕ). helper_at (helpers_of a) n mine.place.piece mine.place.site) spot.place
           ∙ ap (λ (k : ℕ). helper_at (helpers_of a) (node_place s at.node) k mine.place.site) piece_is in
           let own : InPort = record { cell = at.cell; piece = at.number; site = mine.place.site } in
-          is.ports.all own (slot.cycle, slot.point, fed.read, fed.map, record {
-            node = at.node;
-            computes = on.computes;
-            variable = v;
-            is_variable = spot.is_variable;
-            piece = piece;
-            is_piece = spot.is_piece;
-            within = on.within;
-            place = fed.place;
-            is_reference = fed.is_reference;
-            is_variable_read = fed.is_read;
-            input_kind = fed.input;
-            entered = subst (λ (h : Option Handing). IsReadAt h piece slot.point) here entered;
-          })
+          is.ports.all own (
+            slot.cycle,
+            slot.point,
+            fed.read,
+            fed.map,
+            record {
+              node = at.node;
+              computes = on.computes;
+              variable = v;
+              is_variable = spot.is_variable;
+              piece = piece;
+              is_piece = spot.is_piece;
+              within = on.within;
+              place = fed.place;
+              is_reference = fed.is_reference;
+              is_variable_read = fed.is_read;
+              input_kind = fed.input;
+              entered = subst (λ (h : Option Handing). IsReadAt h piece slot.point) here entered;
+            },
+          )

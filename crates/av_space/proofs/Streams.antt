@@ -1,5 +1,5 @@
 -- A whole listing can be presented: no port has two words in one cycle, and each word fits its port.
-use Rattle.std.proofs.Common.{◌≡◌, ℕ, zero, suc, ◌<◌, IsTrue, Some, List, [], ◌∷◌, length, get_or, refl, sym, ap, subst, ◌∙◌, arith, All}
+use Rattle.std.proofs.Common.{◌≡◌, ℕ, zero, suc, Some, List, [], ◌∷◌, refl, sym, ap, subst, ◌∙◌, All}
 use Rattle.std.specs.Prelude.{slice_get, Option, None, IsSome}
 use Rattle.std.proofs.lemmas.List.Elements.{All-weaker, recursion_from_All}
 use Rattle.std.specs.List.{AllByRecursion}
@@ -9,9 +9,9 @@ use Rattle.av_tree.specs.Values.{Assignment}
 use Rattle.av_flat.specs.declared.timed.Timed.{Timed}
 use Rattle.av_flat.specs.Trees.{Variable, FlatSystem, view_system}
 use Rattle.av_flat.specs.Signatures.{is_input}
-use Rattle.av_flat.specs.Chained.{IsChained, IsChainedVariable}
+use Rattle.av_flat.specs.Chained.{IsChainedVariable}
 use Rattle.av_flat.specs.OneSolution.{AreInputs}
-use Rattle.av_flat.proofs.Solving.{IsDeclared, declared_from}
+use Rattle.av_flat.proofs.Solving.{declared_from}
 use Rattle.av_net.specs.declared.netlist.Port.{Port}
 use Rattle.av_net.specs.declared.design.Entry.{Entry}
 use Rattle.av_net.specs.declared.design.Listing.{Listing}

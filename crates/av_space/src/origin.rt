@@ -29,10 +29,7 @@ pub enum Origin {
     /// At the input port with this number.
     Port(usize),
     /// Over a link: the value that a cell had so many cycles before.
-    Value {
-        cell: u32,
-        delay: u32,
-    },
+    Value { cell: u32, delay: u32 },
     /// Nowhere, as no choice of its pick holds: this word stands for it.
     Number(Word),
 }
@@ -121,14 +118,7 @@ impl Array<'_> {
         ensures { MatchOption result (IsReadThere self.now spot.now (tap_of tap.now) slot.now → ⊥)
             (λ r. IsReadThere self.now spot.now (tap_of tap.now) slot.now × IsLinkedBy self.now spot.now slot.now.cycle (tap_of tap.now) r.producer r.delay) }
     {
-        reading_at(
-            self.timed,
-            &self.layout,
-            spot.node,
-            tap,
-            spot.piece,
-            slot,
-        )
+        reading_at(self.timed, &self.layout, spot.node, tap, spot.piece, slot)
     }
 
     // The input port of a reference that is read at a computation.
@@ -161,7 +151,7 @@ impl Array<'_> {
         ensures { MatchOption result
             ((place : ℕ) (y : PointSeen) → IsReadBy (view site.now.place.tree) slot.now.point place y → ⊥)
             (λ r. IsReadThere self.now spot.now (own_tap (place_of site.now.place) site.now.handing) slot.now
-                × IsLinkedBy self.now spot.now slot.now.cycle (own_tap (place_of site.now.place) site.now.handing) r.producer r.delay) }
+            × IsLinkedBy self.now spot.now slot.now.cycle (own_tap (place_of site.now.place) site.now.handing) r.producer r.delay) }
     {
         let tap = TapSite {
             place: same(&site.place),
@@ -187,7 +177,7 @@ impl Array<'_> {
         ensures { MatchOption result
             (IsTrue (has spot.now.piece.now.domain (before slot.now.point handing.now.direction)) → ⊥)
             (λ r. IsTrue (has spot.now.piece.now.domain (before slot.now.point handing.now.direction))
-                × IsLinkedBy self.now spot.now slot.now.cycle (handed_tap (place_of site.now.place) handing.now) r.producer r.delay) }
+            × IsLinkedBy self.now spot.now slot.now.cycle (handed_tap (place_of site.now.place) handing.now) r.producer r.delay) }
     {
         let tap = TapSite {
             place: same(&site.place),
@@ -217,10 +207,16 @@ impl Array<'_> {
                 let Some(reading) = self.linked(spot, site, slot) else {
                     unreachable!();
                 };
-                Origin::Value { cell: reading.producer, delay: reading.delay }
+                Origin::Value {
+                    cell: reading.producer,
+                    delay: reading.delay,
+                }
             }
             Tree::Pick { otherwise, .. } => match self.linked(spot, site, slot) {
-                Some(reading) => Origin::Value { cell: reading.producer, delay: reading.delay },
+                Some(reading) => Origin::Value {
+                    cell: reading.producer,
+                    delay: reading.delay,
+                },
                 None => Origin::Number(*otherwise),
             },
             _ => unreachable!(),

@@ -1,5 +1,5 @@
 -- Lines of links.
-use Rattle.std.specs.Prelude.{ℕ, ◌&&◌, Bool, nat_eq, List}
+use Rattle.std.specs.Prelude.{◌&&◌, Bool, nat_eq, List}
 use Rattle.av_flat.specs.Trees.{FlatSystem}
 use Rattle.av_flat.specs.declared.timed.Helper.{Helper}
 use Rattle.av_space.specs.declared.cells.Cell.{Cell}

@@ -1,4 +1,4 @@
-use Rattle.std.proofs.Common.{◌≡◌, ◌++◌, map, length}
+use Rattle.std.proofs.Common.{◌≡◌, ◌++◌, map}
 use Rattle.av_build.specs.Gates.{drives_from, ports_from}
 use Rattle.av_build.specs.inner.Numbered.{wire_in}
 use Rattle.av_build.proofs.netlist.add_gates.Given as goal

@@ -1,4 +1,4 @@
-use Rattle.std.proofs.Common.{◌≡◌, ◌∙◌, ℕ, ◌<◌, List, length, get_or, ap, sym, rules, arith}
+use Rattle.std.proofs.Common.{◌≡◌, ◌∙◌, ℕ, ◌<◌, List, length, get_or, ap, rules, arith}
 use Rattle.av_build.specs.Labels.{labels}
 use Rattle.av_build.specs.inner.Written.{ProgramMade, program_of}
 use Rattle.av_build.proofs.Placing.{next_output}

@@ -1,4 +1,3 @@
-use Rattle.std.proofs.Common.{take}
 use Rattle.av_build.specs.inner.Written.{program_of}
 use Rattle.av_build.proofs.LaneParts.{ArePartsTo}
 use Rattle.av_build.proofs.netlist.parts_of.Given as goal

@@ -1,5 +1,4 @@
-use Rattle.std.proofs.Common.{◌≡◌, ◌∙◌, ◌+◌, ◌≤◌, ℕ, List, length, map, sym, subst, ap, arith}
-use Rattle.std.proofs.lemmas.List.{length-map}
+use Rattle.std.proofs.Common.{◌≡◌, ◌∙◌, List, length, map, subst, ap, arith}
 use Rattle.av_net.specs.declared.operation.Operand.{Operand}
 use Rattle.av_flat.specs.declared.tree.Tree.{Tree as TreeMade}
 use Rattle.av_flat.specs.Trees.{view}

@@ -1,9 +1,7 @@
-use Rattle.std.proofs.Common.{rules, ◌≡◌, ◌∙◌, ◌+◌, ◌<◌, ◌≤◌, ◌++◌, ◌∷◌, [], List, length, take, get_or, sym, ap, subst, arith}
+use Rattle.std.proofs.Common.{rules, ◌∙◌, ◌+◌, ◌<◌, ◌≤◌, length, take, sym, subst}
 use Rattle.std.proofs.lemmas.Option.{slice_get_within}
-use Rattle.av_tree.specs.Points.{Point}
-use Rattle.av_flat.specs.Nodes.{nodes, IsComputation}
+use Rattle.av_flat.specs.Nodes.{nodes}
 use Rattle.av_flat.specs.Trees.{view_system, view_variable}
-use Rattle.av_net.specs.declared.design.Entry.{Entry}
 use Rattle.av_space.specs.inner.Laying.{AreNodePoints}
 use Rattle.av_space.specs.inner.Showing.{AreLinesTo}
 use Rattle.av_space.proofs.OnCells.{node_in_places}

@@ -1,8 +1,7 @@
-use Rattle.std.proofs.Common.{rules, ◌≡◌, ◌∙◌, ◌<◌, ◌≤◌, ℕ, List, false, IsTrue, length, sym, ap, subst, arith}
+use Rattle.std.proofs.Common.{rules, ◌≡◌, ◌∙◌, ◌<◌, ◌≤◌, ℕ, List, false, length, sym, ap, subst, arith}
 use Rattle.av_flat.specs.Nodes.{nodes}
 use Rattle.av_flat.specs.Signatures.{is_shown}
 use Rattle.av_flat.specs.Trees.{view_system, view_variable}
-use Rattle.av_net.specs.declared.design.Entry.{Entry}
 use Rattle.av_space.specs.inner.Showing.{AreLinesBelow}
 use Rattle.av_space.proofs.Nodes.{places_number}
 use Rattle.av_space.proofs.ShownLines.{no_lines, not_shown, whole_system}

@@ -1,4 +1,4 @@
-use Rattle.std.proofs.Common.{◌≡◌, sym, ap, ap₂, subst, ◌∙◌}
+use Rattle.std.proofs.Common.{◌≡◌, sym, ap₂, subst}
 use Rattle.av_space.specs.Sites.{PlaceMade, place_of}
 use Rattle.av_space.specs.Taps.{Way, Tap}
 use Rattle.av_space.specs.Spots.{own_tap}

@@ -1,4 +1,4 @@
-use Rattle.std.proofs.Common.{◌≡◌, List, sym, subst}
+use Rattle.std.proofs.Common.{List, sym, subst}
 use Rattle.av_flat.specs.Trees.{view_system}
 use Rattle.av_space.specs.declared.cells.Link.{Link}
 use Rattle.av_space.specs.Links.{AreLinks}

@@ -1,4 +1,4 @@
-use Rattle.std.proofs.Common.{◌≡◌, ◌∙◌, ℕ, sym, ap, subst}
+use Rattle.std.proofs.Common.{◌≡◌, ◌∙◌, sym, ap, subst}
 use Rattle.av_flat.specs.Trees.{Tree, view, reference, pick}
 use Rattle.av_flat.specs.Broadcasts.{references}
 use Rattle.av_flat.specs.Signatures.{signatures}

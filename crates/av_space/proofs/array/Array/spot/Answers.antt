@@ -1,5 +1,5 @@
 use Rattle.std.proofs.Common.{◌≡◌, ◌∙◌, ℕ, ◌<◌, List, length, get_or, refl, sym, ap, subst, arith, Some}
-use Rattle.std.specs.Prelude.{slice_get, filter, All}
+use Rattle.std.specs.Prelude.{slice_get, filter}
 use Rattle.std.proofs.lemmas.Option.{slice_get-get_or}
 use Rattle.av_flat.specs.Nodes.{nodes}
 use Rattle.av_flat.specs.Points.{has}
@@ -50,13 +50,16 @@ returns c =
     let many = ap (λ (x : List ℕ). length x) c.as_slice-2.ensures in
     let low : here.node < length c.as_slice-2.result.now = omega (arith, l, size, moved, many) in
     let set = c.piece_at-piece.result.now.domain in
-    let own : AreSlotsIn a k v.cell.node set (filter (λ (t : Slot). has set t.point) c.slots.result.now) = some_slots a k v.cell set c.slots.result.now v.is_cell c.slots.ensures in
-    (refl, refl, record {
-      cell = v.cell;
-      is_cell = v.is_cell;
-      node = node;
-      place = place_is s c.as_slice-2.result.now here.node (c.as_slice-2.ensures ∙ c.requires.array.layout.places) low;
-      is_variable = subst (λ (n : ℕ). slice_get (nodes s) n ≡ Some (view_variable c.variable-var.result.now)) node v.is_variable;
-      is_piece = c.piece_at-piece.ensures;
-      are_slots = subst (λ (slots : List Slot). AreSlotsIn a k here.node set slots) (sym c.in_ok-slots.ensures) (subst (λ (n : ℕ). AreSlotsIn a k n set (filter (λ (t : Slot). has set t.point) c.slots.result.now)) node own);
-    })
+    let own : AreSlotsIn a k v.cell.node set (filter (λ (t : Slot). has set t.point) c.slots.result.now) = some_slots a k v.cell set c.slots.result.now v.is_cell c.slots.ensures in (
+      refl,
+      refl,
+      record {
+        cell = v.cell;
+        is_cell = v.is_cell;
+        node = node;
+        place = place_is s c.as_slice-2.result.now here.node (c.as_slice-2.ensures ∙ c.requires.array.layout.places) low;
+        is_variable = subst (λ (n : ℕ). slice_get (nodes s) n ≡ Some (view_variable c.variable-var.result.now)) node v.is_variable;
+        is_piece = c.piece_at-piece.ensures;
+        are_slots = subst (λ (slots : List Slot). AreSlotsIn a k here.node set slots) (sym c.in_ok-slots.ensures) (subst (λ (n : ℕ). AreSlotsIn a k n set (filter (λ (t : Slot). has set t.point) c.slots.result.now)) node own);
+      },
+    )
