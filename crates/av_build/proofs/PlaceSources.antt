@@ -45,6 +45,7 @@ module _ (w : ArrayMade) (lanes : Lanes) (at : SpotMade) (mine : PlaceMade) (pla
       subst (IsReferenceSource (seen w) lanes (spot_of at) t.cycle p.site place m way) (sym e) (by_port n read is_read is_in is_reference is_port)
   of_reference place m way (origin.Value a b) source e (over_link q d read is_read node l) =
       subst (IsReferenceSource (seen w) lanes (spot_of at) t.cycle p.site place m way) (sym e) (by_link q d read is_read node (as_linked w at t.cycle p.site (reference place m) way q d l))
+  of_reference place m way (origin.Number k) source e h = elim h [ ]
 
   of_pick : (tree : Tree) (place n : ℕ) (o : Option Point) (found : Origin) (source : Source) → p.tree ≡ tree → IsMadeFor lanes found source → IsPickOrigin w at t.cycle p place n o found → IsPickSource (seen w) lanes (spot_of at) t.cycle p.site place tree n o source
   of_pick tree place n None found source f e h = subst (λ (k : Origin). IsMadeFor lanes k source) h e
