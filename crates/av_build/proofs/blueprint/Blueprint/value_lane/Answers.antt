@@ -16,4 +16,4 @@ returns c =
     let m = c.requires.cell in
     let low : k < length cells = omega (arith, many, one, m) in
     let at : slice_get cells k ≡ Some d = slice_get-get_or cells k d low ∙ ap Some (sym c.index-as_slice-cell.is) in
-    value_at b c.requires.blueprint k d (subst (λ (l : List CellPlan). slice_get l k ≡ Some d) c.as_slice.ensures at)
+    ap (λ (x : CellPlan). x.value) (sym c.index-as_slice-cell.is) ∙ value_at b c.requires.blueprint k d (subst (λ (l : List CellPlan). slice_get l k ≡ Some d) c.as_slice.ensures at)
