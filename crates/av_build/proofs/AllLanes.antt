@@ -62,7 +62,7 @@ module _ (p : ℕ) (helpers : List HelperPlan) (once : AllPairs (λ (g h : Helpe
 -- ---- one more cell
 
 module _ (w : ArrayMade) (cells : List CellPlan) (lanes : List LanePlan) (are : AreLanes w cells lanes) (p : ℕ) (plan : CellPlan) (helpers : List HelperPlan) (here : p ≡ length cells) (is : ArePieces w p plan.pieces)
-(own : AreHelpers w plan.pieces p (length plan.pieces.sites) 0 helpers) (first : plan.first ≡ length lanes) (value : plan.value ≡ length lanes + length helpers) where
+    (own : AreHelpers w plan.pieces p (length plan.pieces.sites) 0 helpers) (first : plan.first ≡ length lanes) (value : plan.value ≡ length lanes + length helpers) where
   abbrev mine : List LanePlan
   mine = of_cell p helpers
 

@@ -29,7 +29,7 @@ use Rattle.av_build.proofs.Serving.{Reading, linked_to, Here, here}
 use Rattle.av_build.proofs.SpotNodes.{IsNodeOf, node_of}
 
 module _ (b : Blueprint) (is : IsBlueprint b) (at : SpotMade) (spot : IsSpot b.array at) (mine : PlaceMade) (placed : IsSiteOf b.array at mine) (h : Handing) (handing : mine.handing ≡ Some h)
-(t : Slot) (on : IsSlotIn b.array at.cell at.node at.piece.now.domain t) where
+    (t : Slot) (on : IsSlotIn b.array at.cell at.node at.piece.now.domain t) where
   abbrev s : FlatSystem
   s = system_of b.array
 

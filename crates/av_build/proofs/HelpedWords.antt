@@ -27,8 +27,8 @@ module _ (w : ArrayMade) (is : IsArray w) (lanes : Lanes) (at : SpotMade) (spot 
   by_length : (b : Bool) → later (seen w) h.number at.cell ≡ b → (b ≡ true → source ≡ line (lanes.of_helper h.number at.cell) 0)
       → (b ≡ false → IsHandBy (seen w) lanes (spot_of at) t.point t.cycle mine.place.site h (view mine.place.tree) source)
       → IsPlaceSource (seen w) lanes (spot_of at) t.point t.cycle mine.place.site (view mine.place.tree) source
-  by_length b e yes no = helped_source w lanes at mine placed t spot h handing (view mine.place.tree) refl
-  (λ place m f. subst (IsPlaceBy (signatures (system_of w)) (references (view at.piece.now.tree)) (place_of mine.place)) f (known w is at spot mine placed)) source b e yes no
+  by_length b e by_lane by_hand = helped_source w lanes at mine placed t spot h handing (view mine.place.tree) refl
+      (λ place m f. subst (IsPlaceBy (signatures (system_of w)) (references (view at.piece.now.tree)) (place_of mine.place)) f (known w is at spot mine placed)) source b e by_lane by_hand
 
   pub from_lane : 0 < helper_length (seen w) h.number at.cell → source ≡ line (lanes.of_helper h.number at.cell) 0
       → IsPlaceSource (seen w) lanes (spot_of at) t.point t.cycle mine.place.site (view mine.place.tree) source

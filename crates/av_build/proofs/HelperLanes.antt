@@ -100,7 +100,7 @@ module _ (w : ArrayMade) (is : IsArray w) (p : ℕ) (pieces : Pieces) (are : Are
     pub place : ℕ
     pub map_is : Map
     pub tree : view mine.place.tree ≡ reference place map_is
-    pub is : IsHelper (seen w) h.number helper (view_variable at.var.now) (view_piece at.piece.now) (record { place = place; map = map_is })
+    pub helps : IsHelper (seen w) h.number helper (view_variable at.var.now) (view_piece at.piece.now) (record { place = place; map = map_is })
     pub node : number_at s helper.var ≡ at.node
     pub piece : helper.piece ≡ at.number
     pub site : helper.site ≡ mine.place.site
@@ -129,7 +129,7 @@ module _ (w : ArrayMade) (is : IsArray w) (p : ℕ) (pieces : Pieces) (are : Are
         place = r.place;
         map_is = r.map_is;
         tree = r.tree;
-        is = record {
+        helps = record {
           is_helper = subst (λ (k : ℕ). slice_get (helpers_of w) k ≡ Some f.helper) same f.is_helper;
           is_first = ap (λ (k : ℕ). helper_at (helpers_of w) k f.helper.piece f.helper.site) f.var_is ∙ ap (λ (k : ℕ). helper_at (helpers_of w) at.place k f.helper.site) f.piece_is
               ∙ ap (λ (k : ℕ). helper_at (helpers_of w) at.place at.number k) f.site_is ∙ found ∙ ap (λ (x : Handing). Some x) handing;
@@ -153,12 +153,12 @@ module _ (w : ArrayMade) (is : IsArray w) (p : ℕ) (pieces : Pieces) (are : Are
       let at = on.spot in
       let spot = spot_at h.piece at on.on.is_spot in
       let e = helped h on in
-      let same : e.helper ≡ other = some_is e.helper other (sym e.is.is_helper ∙ it.is_helper) in
-      let variable : view_variable at.var.now ≡ v = some_is (view_variable at.var.now) v (sym e.is.is_variable ∙ ap (λ (k : Helper). slice_get s.variables k.var) same ∙ it.is_variable) in
+      let same : e.helper ≡ other = some_is e.helper other (sym e.helps.is_helper ∙ it.is_helper) in
+      let variable : view_variable at.var.now ≡ v = some_is (view_variable at.var.now) v (sym e.helps.is_variable ∙ ap (λ (k : Helper). slice_get s.variables k.var) same ∙ it.is_variable) in
       let here : view_piece at.piece.now ≡ piece = some_is (view_piece at.piece.now) piece
-      (sym e.is.is_piece ∙ ap (λ (k : Helper). slice_get (view_variable at.var.now).pieces k.piece) same ∙ ap (λ (u : Variable). slice_get u.pieces other.piece) variable ∙ it.is_piece) in
+      (sym e.helps.is_piece ∙ ap (λ (k : Helper). slice_get (view_variable at.var.now).pieces k.piece) same ∙ ap (λ (u : Variable). slice_get u.pieces other.piece) variable ∙ it.is_piece) in
       let read : ◌≡◌ {A = Reference} (record { place = e.place; map = e.map_is }) r = some_is (record { place = e.place; map = e.map_is }) r
-      (sym e.is.is_reference ∙ ap (λ (k : Helper). slice_get (references (view at.piece.now.tree)) k.site) same ∙ ap (λ (q : Piece). slice_get (references q.tree) other.site) here ∙ it.is_reference) in
+      (sym e.helps.is_reference ∙ ap (λ (k : Helper). slice_get (references (view at.piece.now.tree)) k.site) same ∙ ap (λ (q : Piece). slice_get (references q.tree) other.site) here ∙ it.is_reference) in
       let own : Spot = record { cell = p; node = number_at s other.var; variable = v; number = other.piece; piece = piece } in
       let spot_is : spot_of at ≡ own =
       ap (λ (k : ℕ). record { cell = k; node = at.node; variable = view_variable at.var.now; number = at.number; piece = view_piece at.piece.now }) spot.0

@@ -12,7 +12,7 @@ use Rattle.av_space.specs.declared.array.Array.{Array as ArrayMade}
 use Rattle.av_space.specs.declared.spots.Site.{Site as PlaceMade}
 use Rattle.av_space.specs.declared.spots.Spot.{Spot as SpotMade}
 use Rattle.av_space.specs.Sites.{place_of}
-use Rattle.av_space.specs.Spots.{helpers_of, handing_by, IsSpot, AreSpots, AreSites}
+use Rattle.av_space.specs.Spots.{helpers_of, handing_by, IsSpot, IsSiteOf, AreSpots, AreSites}
 use Rattle.av_space.specs.Taps.{Handing, helper_at, Place, places_in}
 use Rattle.av_space.proofs.ByPlace.{pair_at}
 use Rattle.av_space.proofs.Elements.{some_is, at_index, mapped, in_range}
@@ -57,7 +57,7 @@ module _ (w : ArrayMade) (p : ℕ) (pieces : Pieces) (are : ArePieces w p pieces
   of_place : (h : HelperPlan) (on : IsHelperOn w pieces p h) → IsOfPlace h on.spot on.site
   of_place h on =
       let own = are.sites h.piece on.spot on.on.own on.on.is_spot on.on.is_own in
-      let placed = at_index _ on.on.own own.each h.site on.site on.on.is_site in
+      let placed = at_index (IsSiteOf w on.spot) on.on.own own.each h.site on.site on.on.is_site in
       let q = place_of on.site.place in
       let b = by_tree (helpers_of w) on.spot.place q q.tree on.handing refl (sym placed.handing ∙ on.is_handing) in
       let piece = (place_read on.spot.number (view on.spot.piece.now.tree) q placed.is_place).piece_is in

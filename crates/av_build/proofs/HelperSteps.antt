@@ -19,7 +19,7 @@ pub is_most : (m n : ℕ) → nat_le m n ≡ true → m ≤ n
 is_most m n h = grind (arith, h)
 
 module _ (w : ArrayMade) (p : ℕ) (pieces : Pieces) (are : ArePieces w p pieces) (k i : ℕ) (spot : SpotMade) (own : List PlaceMade) (site : PlaceMade)
-(is_spot : slice_get pieces.spots k ≡ Some spot) (is_own : slice_get pieces.sites k ≡ Some own) (is_site : slice_get own i ≡ Some site) where
+    (is_spot : slice_get pieces.spots k ≡ Some spot) (is_own : slice_get pieces.sites k ≡ Some own) (is_site : slice_get own i ≡ Some site) where
   -- a helper of this place has its handing
   pub handing_is : (h : HelperPlan) (on : IsHelperOn w pieces p h) → h.piece ≡ k → h.site ≡ i → site.handing ≡ Some on.handing
   handing_is h on e f =

@@ -41,10 +41,11 @@ module _ (w : ArrayMade) (lanes : Lanes) (at : SpotMade) (mine : PlaceMade) (pla
   piece_is = (place_read at.number (view at.piece.now.tree) p placed.is_place).piece_is
 
   of_reference : (place : ℕ) (m : Map) (way : Way) (o : Origin) (source : Source) → IsMadeFor lanes o source → IsReferenceOrigin w at t.cycle p.site place m way o → IsReferenceSource (seen w) lanes (spot_of at) t.cycle p.site place m way source
-  of_reference place m way (origin.Port n) source e (at_port n read is_read is_in is_reference is_port) =
+  of_reference place m way (origin.Port k) source e (at_port n read is_read is_in is_reference is_port) =
       subst (IsReferenceSource (seen w) lanes (spot_of at) t.cycle p.site place m way) (sym e) (by_port n read is_read is_in is_reference is_port)
-  of_reference place m way (origin.Value q d) source e (over_link q d read is_read node l) =
+  of_reference place m way (origin.Value a b) source e (over_link q d read is_read node l) =
       subst (IsReferenceSource (seen w) lanes (spot_of at) t.cycle p.site place m way) (sym e) (by_link q d read is_read node (as_linked w at t.cycle p.site (reference place m) way q d l))
+  of_reference place m way (origin.Number k) source e h = elim h [ ]
 
   of_pick : (tree : Tree) (place n : ℕ) (o : Option Point) (found : Origin) (source : Source) → p.tree ≡ tree → IsMadeFor lanes found source → IsPickOrigin w at t.cycle p place n o found → IsPickSource (seen w) lanes (spot_of at) t.cycle p.site place tree n o source
   of_pick tree place n None found source f e h = subst (λ (k : Origin). IsMadeFor lanes k source) h e
@@ -130,19 +131,19 @@ module _ (w : ArrayMade) (lanes : Lanes) (at : SpotMade) (mine : PlaceMade) (pla
         → (source : Source) → (b : Bool) → later (seen w) h.number at.cell ≡ b
         → (b ≡ true → source ≡ line (lanes.of_helper h.number at.cell) 0) → (b ≡ false → IsHandBy (seen w) lanes (spot_of at) t.point t.cycle p.site h u source)
         → IsPlaceSource (seen w) lanes (spot_of at) t.point t.cycle p.site u source
-    helped_source h is (reference place m) f among source b e yes no =
+    helped_source h is (reference place m) f among source b e by_lane by_hand =
         subst (λ (o : Option Handing). IsHelpedSource (seen w) lanes (spot_of at) t.point o t.cycle p.site place m source) (sym is ∙ helper_is place m f)
-        (among place m refl, subst (λ (c : Bool). IsHandedSource (seen w) lanes (spot_of at) h.number h.direction t.point c t.cycle p.site place m source) (sym e) (by b yes no))
+        (among place m refl, subst (λ (c : Bool). IsHandedSource (seen w) lanes (spot_of at) h.number h.direction t.point c t.cycle p.site place m source) (sym e) (by b by_lane by_hand))
       where
         by : (b : Bool) → (b ≡ true → source ≡ line (lanes.of_helper h.number at.cell) 0) → (b ≡ false → IsHandBy (seen w) lanes (spot_of at) t.point t.cycle p.site h (reference place m) source)
             → IsHandedSource (seen w) lanes (spot_of at) h.number h.direction t.point b t.cycle p.site place m source
-        by true yes no = yes refl
-        by false yes no = no refl
-    helped_source h is (pick place choices n) f among source b e yes no = let g = sym is ∙ placed.handing ∙ ap (handing_by (helpers_of w) at.place p) f in absurd cc
-    helped_source h is (constant n) f among source b e yes no = let g = sym is ∙ placed.handing ∙ ap (handing_by (helpers_of w) at.place p) f in absurd cc
-    helped_source h is (binary g x r) f among source b e yes no = let g = sym is ∙ placed.handing ∙ ap (handing_by (helpers_of w) at.place p) f in absurd cc
-    helped_source h is (choice x k r y z) f among source b e yes no = let g = sym is ∙ placed.handing ∙ ap (handing_by (helpers_of w) at.place p) f in absurd cc
-    helped_source h is (restriction d u) f among source b e yes no = let g = sym is ∙ placed.handing ∙ ap (handing_by (helpers_of w) at.place p) f in absurd cc
-    helped_source h is (cases ts) f among source b e yes no = let g = sym is ∙ placed.handing ∙ ap (handing_by (helpers_of w) at.place p) f in absurd cc
-    helped_source h is (dependence m u) f among source b e yes no = let g = sym is ∙ placed.handing ∙ ap (handing_by (helpers_of w) at.place p) f in absurd cc
-    helped_source h is (reduction o m u set) f among source b e yes no = let g = sym is ∙ placed.handing ∙ ap (handing_by (helpers_of w) at.place p) f in absurd cc
+        by true by_lane by_hand = by_lane refl
+        by false by_lane by_hand = by_hand refl
+    helped_source h is (pick place choices n) f among source b e by_lane by_hand = let g = sym is ∙ placed.handing ∙ ap (handing_by (helpers_of w) at.place p) f in absurd cc
+    helped_source h is (constant n) f among source b e by_lane by_hand = let g = sym is ∙ placed.handing ∙ ap (handing_by (helpers_of w) at.place p) f in absurd cc
+    helped_source h is (binary g x r) f among source b e by_lane by_hand = let g = sym is ∙ placed.handing ∙ ap (handing_by (helpers_of w) at.place p) f in absurd cc
+    helped_source h is (choice x k r y z) f among source b e by_lane by_hand = let g = sym is ∙ placed.handing ∙ ap (handing_by (helpers_of w) at.place p) f in absurd cc
+    helped_source h is (restriction d u) f among source b e by_lane by_hand = let g = sym is ∙ placed.handing ∙ ap (handing_by (helpers_of w) at.place p) f in absurd cc
+    helped_source h is (cases ts) f among source b e by_lane by_hand = let g = sym is ∙ placed.handing ∙ ap (handing_by (helpers_of w) at.place p) f in absurd cc
+    helped_source h is (dependence m u) f among source b e by_lane by_hand = let g = sym is ∙ placed.handing ∙ ap (handing_by (helpers_of w) at.place p) f in absurd cc
+    helped_source h is (reduction o m u set) f among source b e by_lane by_hand = let g = sym is ∙ placed.handing ∙ ap (handing_by (helpers_of w) at.place p) f in absurd cc

@@ -155,9 +155,9 @@ module _ (b : Blueprint) (is : IsBlueprint b) where
             subst (λ (n : ℕ). ComputesIn w plan.cell slot.0.cycle n slot.0.point) (sym hh.node) (subst (λ (p : ℕ). ComputesIn w p slot.0.cycle on.spot.node slot.0.point) spot.0 here.computes) in
             let made = subst (λ (o : Option HelperPlan). IsBuiltBy b plan.cell o lane) f x in
             let r : Reference = record { place = hh.place; map = hh.map_is } in
-            of_helper h.number hh.helper (view_variable on.spot.var.now) (view_piece on.spot.piece.now) r hh.is plan.cell slot.0.cycle slot.0.point computes here.within on.is_later
+            of_helper h.number hh.helper (view_variable on.spot.var.now) (view_piece on.spot.piece.now) r hh.helps plan.cell slot.0.cycle slot.0.point computes here.within on.is_later
             (lane_found b.lanes is.lanes.once plan.cell (Some h.number) q plan is_plan refl (ap number_in f))
-            (made hh.helper (view_variable on.spot.var.now) (view_piece on.spot.piece.now) r hh.is)
+            (made hh.helper (view_variable on.spot.var.now) (view_piece on.spot.piece.now) r hh.helps)
 
     pub program_for : (outputs : List ℕ) → IsProgramFor (seen w) (lanes_of b.lanes) (record { inputs = length w.cells.now.inputs; lanes = map lane_of lanes; outputs = outputs; stride = suc (length (helpers_of w)) })
     program_for outputs = record {

@@ -45,7 +45,7 @@ module _ (w : ArrayMade) (lanes : Lanes) (p : ℕ) (cell : Cell) (v : Variable) 
   of_variable at e is = subst (λ (s : Spot). slice_get s.variable.pieces at.number ≡ Some (view_piece at.piece.now)) (spot_is at e is) is.is_piece
 
   module _ (slots : List Slot) (all : AreSlots (system_of w) (placings_of w) (cells_of w) p slots) (own : Ends) (ends : AreEnds slots own) (stays : List Stay) (many : length stays ≡ length spots)
-  (for : (i : ℕ) (at : SpotMade) (t : Stay) → slice_get spots i ≡ Some at → slice_get stays i ≡ Some t → IsStayFor (seen w) lanes (spot_of at) t) where
+      (for : (i : ℕ) (at : SpotMade) (t : Stay) → slice_get spots i ≡ Some at → slice_get stays i ≡ Some t → IsStayFor (seen w) lanes (spot_of at) t) where
     stay : (i : ℕ) (t : Stay) → slice_get stays i ≡ Some t
         → (k : ℕ) × (piece : Piece) × (slice_get (map (λ (at : SpotMade). at.number) spots) i ≡ Some k) × (slice_get v.pieces k ≡ Some piece) × IsStayFor (seen w) lanes (spot k piece) t
     stay i t e =

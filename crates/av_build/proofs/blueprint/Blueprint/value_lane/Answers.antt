@@ -1,19 +1,19 @@
-use Rattle.av_build.proofs.AllLanes.{whole_cell}
-use Rattle.av_build.proofs.BuiltLanes.{pipeline_built}
-use Rattle.av_build.proofs.CellUses.{some_spot}
-use Rattle.av_build.proofs.Handovers.{lane_of_producer}
-use Rattle.av_build.proofs.HelpedWords.{from_lane}
-use Rattle.av_build.proofs.HelperSteps.{with_line}
-use Rattle.av_build.proofs.LaneSearch.{found}
-use Rattle.av_build.proofs.MomentSites.{moments_site_for}
-use Rattle.av_build.proofs.OriginCells.{value_in}
-use Rattle.av_build.proofs.Pairwise.{one_pair}
-use Rattle.av_build.proofs.PieceWorks.{work_for}
-use Rattle.av_build.proofs.PlaceSources.{own_source}
-use Rattle.av_build.proofs.WholeProgram.{programmed}
-use Rattle.av_build.proofs.SiteLoop.{whole_site}
-use Rattle.av_build.proofs.ValueLanes.{whole_lane}
+use Rattle.std.proofs.Common.{◌≡◌, ◌∙◌, ◌<◌, List, length, sym, ap, subst, arith, Some}
+use Rattle.std.specs.Prelude.{slice_get}
+use Rattle.std.proofs.lemmas.Option.{slice_get-get_or}
+use Rattle.av_build.specs.declared.blueprint.CellPlan.{CellPlan}
+use Rattle.av_build.proofs.ProgramLanes.{value_at}
 use Rattle.av_build.proofs.blueprint.Blueprint.value_lane.Goals as goal
 
 pub returns : goal.returns
-returns c = ?
+returns c =
+    let k = c.args.cell in
+    let b = c.args.self.now in
+    let d = c.index-as_slice-cell.result in
+    let cells = c.as_slice.result.now in
+    let many = ap (λ (l : List CellPlan). length l) c.as_slice.ensures in
+    let one = c.requires.blueprint.one_each in
+    let m = c.requires.cell in
+    let low : k < length cells = omega (arith, many, one, m) in
+    let at : slice_get cells k ≡ Some d = slice_get-get_or cells k d low ∙ ap Some (sym c.index-as_slice-cell.is) in
+    ap (λ (x : CellPlan). x.value) (sym c.index-as_slice-cell.is) ∙ value_at b c.requires.blueprint k d (subst (λ (l : List CellPlan). slice_get l k ≡ Some d) c.as_slice.ensures at)

@@ -1,0 +1,19 @@
+use Rattle.std.proofs.Common.{◌≡◌, ◌∙◌, ◌<◌, List, length, sym, ap, subst, arith, Some}
+use Rattle.std.specs.Prelude.{slice_get}
+use Rattle.std.proofs.lemmas.Option.{slice_get-get_or}
+use Rattle.av_build.specs.declared.blueprint.CellPlan.{CellPlan}
+use Rattle.av_build.proofs.LaneSearch.{not_missing, planned}
+use Rattle.av_build.proofs.blueprint.Blueprint.helper_lane.Goals as goal
+
+pub unreachable-requires : goal.unreachable-requires
+unreachable-requires c =
+    let k = c.args.cell in
+    let b = c.args.self.now in
+    let d = c.index-as_slice-cell.result in
+    let cells = c.as_slice.result.now in
+    let many = ap (λ (l : List CellPlan). length l) c.as_slice.ensures in
+    let m = planned b c.requires.blueprint k c.args.helper c.requires.lane in
+    let low : k < length cells = omega (arith, many, m) in
+    let at : slice_get cells k ≡ Some d = slice_get-get_or cells k d low ∙ ap Some (sym c.index-as_slice-cell.is) in
+    let here : slice_get b.cells k ≡ Some d = subst (λ (l : List CellPlan). slice_get l k ≡ Some d) c.as_slice.ensures at in
+    not_missing b c.requires.blueprint k d here c.args.helper c.requires.lane c.loop-number.number c.loop-number-test.false (c.loop-number.invariant d here)
