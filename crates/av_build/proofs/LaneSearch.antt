@@ -1,7 +1,8 @@
 -- The lane of a helper among those of its cell.
-use Rattle.std.proofs.Common.{◌≡◌, ℕ, ◌<◌, ◌≤◌, inl, inr, List, length, sym, ap, ◌∙◌, arith, true, false, Option, Some, None}
+use Rattle.std.proofs.Common.{◌≡◌, ℕ, ◌<◌, ◌≤◌, inl, inr, List, length, get_or, sym, ap, ◌∙◌, arith, true, false, Option, Some, None}
 use Rattle.std.specs.Prelude.{slice_get}
 use Rattle.std.proofs.lemmas.Bool.{cases_lt}
+use Rattle.std.proofs.lemmas.Option.{slice_get-get_or}
 use Rattle.av_space.specs.Links.{is_same}
 use Rattle.av_space.proofs.Elements.{some_is, in_range}
 use Rattle.av_build.specs.declared.blueprint.Blueprint.{Blueprint}
@@ -48,3 +49,10 @@ planned b is p j l =
     let low = in_range b.cells l.lane.cell o.0 o.1 in
     let e = l.cell in
     omega (arith, low, e)
+
+pub found_at : (b : Blueprint) (is : IsBlueprint b) (p : ℕ) (plan : CellPlan) → slice_get b.cells p ≡ Some plan → (j q : ℕ) (lanes : List LanePlan) (d : LanePlan) → lanes ≡ b.lanes → plan.first ≤ q → q < plan.value → is_helper (get_or lanes q d) j ≡ true → q ≡ (lanes_of b.lanes).of_helper j p
+found_at b is p plan here j q lanes d same low high e =
+    let size = ap (λ (l : List LanePlan). length l) same in
+    let last = value_in b is p plan here in
+    let within : q < length lanes = omega (arith, size, last, high) in
+    found b is p plan here j q (get_or lanes q d) low high (ap (λ (l : List LanePlan). slice_get l q) (sym same) ∙ slice_get-get_or lanes q d within) e
