@@ -135,6 +135,7 @@ const USAGE: &str =
     "usage: alphav check|schedule|table|emit|run|trace [--width W] [--box C] [NAME=VALUE ...] | sim | demo K\n";
 
 mod checks;
+mod designs;
 mod pieces;
 mod quantities;
 mod schedules;
@@ -167,7 +168,7 @@ const ROWS: &[(&[&str], &str, Status, &str)] = &[
         WIDTH_8,
         SHIFTED,
         Status::Refused,
-        "refused: not this form\n",
+        "refused: uncovered Y (0) at X (-1)\n",
     ),
     (&[], INCREMENT, Status::Words, USAGE),
     (&["emit", "--width", "65"], INCREMENT, Status::Words, USAGE),
@@ -185,6 +186,12 @@ const ROWS: &[(&[&str], &str, Status, &str)] = &[
             "--",
             "M=-1048576",
         ],
+        INCREMENT,
+        Status::Refused,
+        "refused: size unknown N\n",
+    ),
+    (
+        &["emit", "--box=4", "--width", "008", "--"],
         INCREMENT,
         Status::Done,
         OF_WIDTH_8,

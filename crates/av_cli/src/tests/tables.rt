@@ -10,7 +10,7 @@ use av_base::{MemSink, MemSource};
 use std::test::Fail;
 
 // Sums along a diagonal.
-const DIAGONAL: &str = "system t (A : {i,j | 0<=i<=1; 0<=j<=1} of integer) \
+pub(super) const DIAGONAL: &str = "system t (A : {i,j | 0<=i<=1; 0<=j<=1} of integer) \
     returns (D : {i,j | 0<=i<=1; 0<=j<=1} of integer); \
     let D[i,j] = case {| i=0} : A[i,j]; {| i>=1; j=0} : A[i,j]; \
     {| i>=1; j>=1} : D[i-1,j-1] + A[i,j]; esac; tel;";
