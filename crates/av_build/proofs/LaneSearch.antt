@@ -1,5 +1,5 @@
 -- The lane of a helper among those of its cell.
-use Rattle.std.proofs.Common.{◌≡◌, ℕ, ◌<◌, ◌≤◌, inl, inr, List, length, get_or, sym, ap, ◌∙◌, arith, true, false, Option, Some, None}
+use Rattle.std.proofs.Common.{◌≡◌, ℕ, ◌+◌, ◌<◌, ◌≤◌, inl, inr, List, length, get_or, sym, ap, subst, ◌∙◌, arith, true, false, Option, Some, None}
 use Rattle.std.specs.Prelude.{slice_get}
 use Rattle.std.proofs.lemmas.Bool.{cases_lt}
 use Rattle.std.proofs.lemmas.Option.{slice_get-get_or}
@@ -56,3 +56,16 @@ found_at b is p plan here j q lanes d same low high e =
     let last = value_in b is p plan here in
     let within : q < length lanes = omega (arith, size, last, high) in
     found b is p plan here j q (get_or lanes q d) low high (ap (λ (l : List LanePlan). slice_get l q) (sym same) ∙ slice_get-get_or lanes q d within) e
+
+-- one more lane that is not of the helper
+pub none_more : (all lanes : List LanePlan) (d : LanePlan) (first j n : ℕ) → lanes ≡ all → is_helper (get_or lanes n d) j ≡ false → ((q : ℕ) (lane : LanePlan) → first ≤ q → q < n → slice_get all q ≡ Some lane → is_helper lane j ≡ false)
+    → (q : ℕ) (lane : LanePlan) → first ≤ q → q < n + 1 → slice_get all q ≡ Some lane → is_helper lane j ≡ false
+none_more all lanes d first j n same here before q lane low high at = elim (cases_lt q n) [
+  | inl l ↦ before q lane low l at
+  | inr ge ↦ (
+      let e : q ≡ n = omega (arith, high, ge) in
+      let there : slice_get lanes n ≡ Some lane = ap (λ (i : ℕ). slice_get lanes i) (sym e) ∙ ap (λ (l : List LanePlan). slice_get l q) same ∙ at in
+      let within = in_range lanes n lane there in
+      let is : get_or lanes n d ≡ lane = some_is (get_or lanes n d) lane (sym (slice_get-get_or lanes n d within) ∙ there) in
+      subst (λ (x : LanePlan). is_helper x j ≡ false) is here)
+]
