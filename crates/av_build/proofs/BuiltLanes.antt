@@ -18,9 +18,9 @@ use Rattle.av_space.proofs.SlotEnds.{are_ends}
 use Rattle.av_build.specs.declared.blueprint.Blueprint.{Blueprint}
 use Rattle.av_build.specs.declared.blueprint.CellPlan.{CellPlan}
 use Rattle.av_build.specs.declared.blueprint.HelperPlan.{HelperPlan}
-use Rattle.av_build.specs.Programs.{Stretch, Site, Work, Shift, Lane}
-use Rattle.av_build.specs.Selections.{Stay, stretch_of}
-use Rattle.av_build.specs.Programmed.{Lanes, helper_length, IsValueLane, IsSiteFor}
+use Rattle.av_build.specs.inner.Programs.{Stretch, Site, Work, Shift, Lane}
+use Rattle.av_build.specs.inner.Selections.{Stay, stretch_of}
+use Rattle.av_build.specs.inner.Programmed.{Lanes, helper_length, IsValueLane, IsSiteFor}
 use Rattle.av_build.specs.inner.Blueprints.{seen, spot_of, lanes_of, IsHelperOn, IsBlueprint, HasHelper}
 use Rattle.av_build.specs.inner.Moments.{IsHandBy}
 use Rattle.av_build.specs.inner.Works.{IsWorkFor, IsBuiltBy}

@@ -8,10 +8,10 @@ use Rattle.av_net.specs.declared.operation.Operation.{Operation}
 use Rattle.av_net.specs.declared.operation.Operation.TheVariants.{Plain, Binary, Signed, Choose}
 use Rattle.av_flat.specs.Trees.{Tree}
 use Rattle.av_build.specs.declared.gates.Gate.{Gate}
-use Rattle.av_build.specs.Gates.{gate, Naming, Built, Named, named, named_by}
-use Rattle.av_build.specs.Trees.{one_bit, tree_built}
-use Rattle.av_build.specs.Choices.{Span, span_built, either_built, Option, Tap, options_built, tap_built}
-use Rattle.av_build.specs.Cells.{Part, Turn, Taken, taps_built, operand_at, over_taps, part_built, turns_built}
+use Rattle.av_build.specs.inner.Gates.{gate, Naming, Built, Named, named, named_by}
+use Rattle.av_build.specs.inner.Trees.{one_bit, tree_built}
+use Rattle.av_build.specs.inner.Choices.{Span, span_built, either_built, Option, Tap, options_built, tap_built}
+use Rattle.av_build.specs.inner.Cells.{Part, Turn, Taken, taps_built, operand_at, over_taps, part_built, turns_built}
 use Rattle.av_build.specs.inner.Added.{AddsNamed, AddsBuilt, AddsOperand, AddsTaken, choice_built, counter}
 
 -- ---- a wire for the root

@@ -24,9 +24,9 @@ use Rattle.av_space.specs.Listings.{AreAtLines}
 use Rattle.av_space.specs.Arrays.{IsArrayOf}
 use Rattle.av_space.proofs.OneCell.{Inverts}
 use Rattle.av_space.proofs.Placed.{inverts}
-use Rattle.av_build.specs.Programs.{Program}
-use Rattle.av_build.specs.Modules.{module_of}
-use Rattle.av_build.specs.Built.{array_of, IsProgramOf, design_of}
+use Rattle.av_build.specs.inner.Programs.{Program}
+use Rattle.av_build.specs.inner.Modules.{module_of}
+use Rattle.av_build.specs.inner.Built.{array_of, IsProgramOf, design_of}
 use Rattle.av_build.proofs.Owned.{AreFew, AreWords}
 use Rattle.av_build.proofs.Joined.{Legal, arranged, fits_words, one_point}
 use Rattle.av_build.proofs.Listed.{place_of}

@@ -11,9 +11,9 @@ use Rattle.av_space.specs.declared.cells.Cell.{Cell}
 use Rattle.av_space.specs.Standing.{Computes}
 use Rattle.av_space.specs.Whole.{IsWhole}
 use Rattle.av_space.proofs.Elements.{some_is}
-use Rattle.av_build.specs.Programs.{Program}
-use Rattle.av_build.specs.Programmed.{Lanes, IsProgramFor}
-use Rattle.av_build.specs.Built.{HasSmallNumbers, IsProgramOf, array_of, design_of}
+use Rattle.av_build.specs.inner.Programs.{Program}
+use Rattle.av_build.specs.inner.Programmed.{Lanes, IsProgramFor}
+use Rattle.av_build.specs.inner.Built.{HasSmallNumbers, IsProgramOf, array_of, design_of}
 use Rattle.av_build.specs.ArrayDesigns.{IsDesignOf, ShowsSolution}
 use Rattle.av_build.proofs.Connected.{one_computation}
 use Rattle.av_build.proofs.Headline.{carries, headline}

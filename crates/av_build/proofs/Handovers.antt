@@ -19,7 +19,7 @@ use Rattle.av_space.proofs.SpotPlaces.{IsPlaceBy, place_read}
 use Rattle.av_space.proofs.SpotReadings.{known}
 use Rattle.av_space.proofs.Timely.{earlier}
 use Rattle.av_build.specs.declared.blueprint.Blueprint.{Blueprint}
-use Rattle.av_build.specs.Programmed.{later}
+use Rattle.av_build.specs.inner.Programmed.{later}
 use Rattle.av_build.specs.inner.Blueprints.{seen, spot_of, IsBlueprint, HasLane}
 use Rattle.av_build.proofs.HelperPlans.{IsReference, by_tree}
 use Rattle.av_build.proofs.Lengths.{has_lane}

@@ -21,9 +21,9 @@ use Rattle.av_space.specs.declared.cells.Cells.{Cells}
 use Rattle.av_space.specs.Listings.{input_name, output_name}
 use Rattle.av_space.specs.Whole.{IsWhole, ArePortsOf, HasWholeListing}
 use Rattle.av_space.proofs.Streams.{presentable}
-use Rattle.av_build.specs.Programs.{Program}
-use Rattle.av_build.specs.Modules.{port}
-use Rattle.av_build.specs.Built.{IsProgramOf, design_of}
+use Rattle.av_build.specs.inner.Programs.{Program}
+use Rattle.av_build.specs.inner.Modules.{port}
+use Rattle.av_build.specs.inner.Built.{IsProgramOf, design_of}
 use Rattle.av_build.proofs.Connected.{shows_all}
 
 -- ---- ports

@@ -13,8 +13,8 @@ use Rattle.av_space.specs.Spots.{system_of, IsArray, IsSpot, IsSiteOf}
 use Rattle.av_space.specs.Taps.{Handing}
 use Rattle.av_space.proofs.SpotPlaces.{IsPlaceBy}
 use Rattle.av_space.proofs.SpotReadings.{known}
-use Rattle.av_build.specs.Programs.{Source, line}
-use Rattle.av_build.specs.Programmed.{Lanes, helper_length, later, IsPlaceSource}
+use Rattle.av_build.specs.inner.Programs.{Source, line}
+use Rattle.av_build.specs.inner.Programmed.{Lanes, helper_length, later, IsPlaceSource}
 use Rattle.av_build.specs.inner.Blueprints.{seen, spot_of}
 use Rattle.av_build.specs.inner.Moments.{IsHandBy}
 use Rattle.av_build.proofs.HelperSteps.{at_most}

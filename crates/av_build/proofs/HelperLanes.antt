@@ -27,8 +27,8 @@ use Rattle.av_space.proofs.SpotPlaces.{IsPlaceBy, place_read}
 use Rattle.av_space.proofs.SpotReadings.{known}
 use Rattle.av_build.specs.declared.blueprint.HelperPlan.{HelperPlan}
 use Rattle.av_build.specs.declared.blueprint.Pieces.{Pieces}
-use Rattle.av_build.specs.Programs.{Source, Site, Lane}
-use Rattle.av_build.specs.Programmed.{Array, Lanes, Spot, later, helper_length, IsHandSource, IsSiteFor, IsHelper, IsHelperLane}
+use Rattle.av_build.specs.inner.Programs.{Source, Site, Lane}
+use Rattle.av_build.specs.inner.Programmed.{Array, Lanes, Spot, later, helper_length, IsHandSource, IsSiteFor, IsHelper, IsHelperLane}
 use Rattle.av_build.specs.inner.Blueprints.{seen, spot_of, ArePieces, IsPlaceOn, IsHelperOn}
 use Rattle.av_build.specs.inner.Moments.{IsHandBy}
 use Rattle.av_build.proofs.Appended.{get_left, get_right, get_cases}
@@ -212,13 +212,16 @@ module _ (w : ArrayMade) (is : IsArray w) (p : ℕ) (pieces : Pieces) (are : Are
       let number : 0 + h.site ≡ h.site = omega arith in
       let handing : x.0.handing ≡ Some (record { number = j; direction = h.direction }) =
       placed.handing ∙ ap (λ (y : Place). handing_by (helpers_of w) at.0.place y y.tree) x.2
-      ∙ ap (λ (i : ℕ). helper_at (helpers_of w) at.0.place at.0.number i) number ∙ ap (λ (i : ℕ). helper_at (helpers_of w) i at.0.number h.site) (sym var) ∙ ap (λ (i : ℕ). helper_at (helpers_of w) h.var i h.site) at.2 ∙ it.is_first in
-      (record { number = j; piece = k.0; site = listed.0 }, refl, record {
-        spot = at.0;
-        site = x.0;
-        on = record { is_spot = at.1; own = own.0; is_own = own.1; is_site = x.1 };
-        handing = record { number = j; direction = h.direction };
-        is_handing = handing;
-        number = refl;
-        is_later = late;
-      })
+      ∙ ap (λ (i : ℕ). helper_at (helpers_of w) at.0.place at.0.number i) number ∙ ap (λ (i : ℕ). helper_at (helpers_of w) i at.0.number h.site) (sym var) ∙ ap (λ (i : ℕ). helper_at (helpers_of w) h.var i h.site) at.2 ∙ it.is_first in (
+        record { number = j; piece = k.0; site = listed.0 },
+        refl,
+        record {
+          spot = at.0;
+          site = x.0;
+          on = record { is_spot = at.1; own = own.0; is_own = own.1; is_site = x.1 };
+          handing = record { number = j; direction = h.direction };
+          is_handing = handing;
+          number = refl;
+          is_later = late;
+        },
+      )

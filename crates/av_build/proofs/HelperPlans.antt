@@ -20,7 +20,7 @@ use Rattle.av_space.proofs.Helpers.{found_helper}
 use Rattle.av_space.proofs.SpotPlaces.{place_read}
 use Rattle.av_build.specs.declared.blueprint.HelperPlan.{HelperPlan}
 use Rattle.av_build.specs.declared.blueprint.Pieces.{Pieces}
-use Rattle.av_build.specs.Programmed.{later}
+use Rattle.av_build.specs.inner.Programmed.{later}
 use Rattle.av_build.specs.inner.Blueprints.{seen, ArePieces, IsPlaceOn, IsHelperOn, IsBeforeAt, AreHelpers}
 use Rattle.av_build.proofs.PlaceNumbers.{one_reference}
 

@@ -8,7 +8,7 @@ use Rattle.av_space.specs.Taps.{Handing}
 use Rattle.av_space.proofs.Elements.{some_is}
 use Rattle.av_build.specs.declared.blueprint.HelperPlan.{HelperPlan}
 use Rattle.av_build.specs.declared.blueprint.Pieces.{Pieces}
-use Rattle.av_build.specs.Programmed.{later, helper_length}
+use Rattle.av_build.specs.inner.Programmed.{later, helper_length}
 use Rattle.av_build.specs.inner.Blueprints.{seen, ArePieces, IsHelperOn, AreHelpers}
 use Rattle.av_build.proofs.HelperPlans.{no_helper, one_helper}
 

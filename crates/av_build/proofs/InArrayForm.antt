@@ -32,21 +32,22 @@ use Rattle.av_space.specs.Ports.{output_cells, is_output_cell}
 use Rattle.av_space.specs.Standing.{IsUsed, Computes}
 use Rattle.av_space.specs.Quantities.{IsUse}
 use Rattle.av_space.specs.ArrayForm.{IsWire, IsRegister, MayName, MayTake, operands_of, Sort, rest, IsOfSort, AreOfSorts, ended, sorted, how_many, is_same, operators, ArePiecesOn, AreDrivesOf, of_cell, other, HasFewOperators, HasCounter, counting, without, IsArrayForm}
-use Rattle.av_space.proofs.ByPlace.{there_is, pairs_by_place}
+use Rattle.av_space.proofs.ByPlace.{there_is, from_map, pairs_by_place}
 use Rattle.av_space.proofs.Elements.{some_is, both_each, each_at, in_range, get_contained, mapped, at_index}
 use Rattle.av_space.proofs.Timely.{some_piece_of}
 use Rattle.av_build.specs.declared.gates.Gate.{Gate}
-use Rattle.av_build.specs.Names.{Labels, input_name, output_name, value_name, wire_name, register_name, line_name, counter_name, next_name}
-use Rattle.av_build.specs.Labels.{label_in, number_in, lane_value, lane_wire, lane_register, labels}
-use Rattle.av_build.specs.Gates.{Naming, drives_from, ports_from}
-use Rattle.av_build.specs.Choices as choices
-use Rattle.av_build.specs.Cells.{Part, Turn, Plan}
-use Rattle.av_build.specs.Programs.{Source, word, input, line, Link, Site, Work, Shift, Lane, Program, counts}
-use Rattle.av_build.specs.Programmed.{Array, Lanes, IsLaneFor, of_value, of_helper, IsStayFor, IsValueLane}
-use Rattle.av_build.specs.Selections.{Stay, shifts_by, last_work}
-use Rattle.av_build.specs.Modules.{of_lanes, operand_of, tap_of, part_of, turn_of, plan_of, port, bound, counter_width, cell_built, cell_drives, cell_wires, cell_registers, cell_steps, line_step, output_drives, if_counted, next_drive, counter_step, module_of}
-use Rattle.av_build.specs.Kinds.{of_operation, of_gates, of_tree, of_shifts, of_lane}
-use Rattle.av_build.specs.Built.{IsProgramOf, array_of, design_of}
+use Rattle.av_build.specs.inner.Names.{Labels, input_name, output_name, value_name, wire_name, register_name, line_name, counter_name, next_name}
+use Rattle.av_build.specs.inner.Labels.{label_in, number_in, lane_value, lane_wire, lane_register, labels}
+use Rattle.av_build.specs.inner.Gates.{Naming, drives_from, ports_from}
+use Rattle.av_build.specs.inner.Choices as choices
+use Rattle.av_build.specs.inner.Cells.{Part, Turn, Plan}
+use Rattle.av_build.specs.inner.Programs.{Source, word, input, line, Link, Site, Work, Shift, Lane, Program, counts}
+use Rattle.av_build.specs.inner.Programmed.{Array, Lanes, IsLaneFor, of_value, of_helper, IsStayFor, IsValueLane}
+use Rattle.av_build.specs.inner.Selections.{Stay, shifts_by, last_work}
+use Rattle.av_build.specs.inner.Modules.{of_lanes, operand_of, tap_of, part_of, turn_of, plan_of, port, bound, counter_width, cell_built, cell_drives, cell_wires, cell_registers, cell_steps, line_step, output_drives, if_counted, next_drive, counter_step, module_of}
+use Rattle.av_build.specs.inner.Kinds.{of_operation, of_gates, of_tree, of_shifts, of_lane}
+use Rattle.av_build.specs.inner.Built.{IsProgramOf, array_of, design_of}
+use Rattle.av_build.proofs.CellOperators.{taken_at, take_has, lane_stays, same_operators, total_is, have_most, piece_at, IsStayOf, stays_have, pieces_have, lanes_have}
 use Rattle.av_build.proofs.NameParts.{decimal_once, owner, owner_numbered, sort, sort_numbered, each_of_range, numbered_injective}
 use Rattle.av_build.proofs.Declared.{Each, later_each, one_number, one_owner, value_sort, wire_list, register_list, wires_are, registers_are}
 use Rattle.av_build.proofs.Fine.{Known, IsKnown, FineGates, FineBuilt, Fine}
@@ -152,100 +153,6 @@ sorts_join k (x ∷ xs) ys = omega (arith, more_sorts k (sort_in x.operation) (s
 drives_sorted : (name : Naming) (n : ℕ) (gates : List Gate) → sorts_in (drives_from name n gates) ≡ map (λ (g : Gate). sort_in g.operation) gates
 drives_sorted name n [] = refl
 drives_sorted name n (g ∷ gates) = ap (λ ks. sort_in g.operation ∷ ks) (drives_sorted name (n + 1) gates)
-
--- ---- numbers of pieces
-
-taken_at : {X : Type 0} (n : ℕ) (xs : List X) (i : ℕ) (x : X) → slice_get (take n xs) i ≡ Some x → (i < n) × (slice_get xs i ≡ Some x)
-taken_at zero xs i x e = absurd cc
-taken_at (suc n) [] i x e = absurd cc
-taken_at (suc n) (y ∷ xs) zero x e = (omega arith, e)
-taken_at (suc n) (y ∷ xs) (suc i) x e = let r = taken_at n xs i x e in (omega (arith, r.0), r.1)
-
-take_has : {X : Type 0} (n : ℕ) (xs : List X) (i : ℕ) (x : X) → i < n → slice_get xs i ≡ Some x → slice_get (take n xs) i ≡ Some x
-take_has zero xs i x lt e = absurd (omega (arith, lt))
-take_has (suc n) [] i x lt e = absurd cc
-take_has (suc n) (y ∷ xs) zero x lt e = e
-take_has (suc n) (y ∷ xs) (suc i) x lt e = take_has n xs i x (omega (arith, lt)) e
-
-from_map_at : {X Y : Type 0} (f : X → Y) (xs : List X) (i : ℕ) (y : Y) → slice_get (map f xs) i ≡ Some y → (x : X) × (slice_get xs i ≡ Some x) × (f x ≡ y)
-from_map_at f [] i y e = absurd cc
-from_map_at f (x ∷ xs) zero y e = (x, refl, some_is (f x) y e)
-from_map_at f (x ∷ xs) (suc i) y e = from_map_at f xs i y e
-
--- ---- the pieces of a lane, by their stays
-
--- the operators of all stays
-abbrev stays_have : Sort → List Stay → ℕ
-stays_have k [] = 0
-stays_have k (s ∷ stays) = of_tree (unit k) s.work.tree + stays_have k stays
-
-lane_stays : (k : Sort) (none : Work) (a b : ℕ) (s : Stay) (stays : List Stay) → of_tree (unit k) (last_work none (s ∷ stays)).tree + of_shifts (unit k) (shifts_by a b (s ∷ stays)) ≡ stays_have k (s ∷ stays)
-lane_stays k none a b s [] = omega arith
-lane_stays k none a b s (u ∷ stays) = omega (arith, lane_stays k none a b u stays)
-
-abbrev piece_at : Variable → Piece → ℕ → Piece
-piece_at v none k = get_or v.pieces k none
-
-record IsStayOf (v : Variable) (ks : List ℕ) (i : ℕ) (s : Stay) : Type 0 where
-  number : ℕ
-  piece : Piece
-  at : slice_get ks i ≡ Some number
-  is_piece : slice_get v.pieces number ≡ Some piece
-  tree : s.work.tree ≡ piece.tree
-
-abbrev pieces_have : Sort → List Piece → ℕ
-pieces_have k [] = 0
-pieces_have k (q ∷ pieces) = operators k q.tree + pieces_have k pieces
-
-same_operators : (k : Sort) (v : Variable) (none : Piece) (stays : List Stay) (ks : List ℕ) → ((i : ℕ) (s : Stay) → slice_get stays i ≡ Some s → IsStayOf v ks i s)
-    → stays_have k stays ≡ pieces_have k (map (piece_at v none) (take (length stays) ks))
-same_operators k v none [] ks h = refl
-same_operators k v none (s ∷ stays) [] h = let r = (h 0 s refl).at in absurd cc
-same_operators k v none (s ∷ stays) (n ∷ ks) h =
-    let r = h 0 s refl in
-    let same : n ≡ r.number = some_is n r.number r.at in
-    let piece : piece_at v none n ≡ r.piece = ap (λ m. get_or v.pieces m none) same ∙ get_or_from_slice_get v.pieces r.number r.piece none r.is_piece in
-    let here : of_tree (unit k) s.work.tree ≡ operators k (piece_at v none n).tree = ap (λ t. of_tree (unit k) t) r.tree ∙ sym (tree_has k r.piece.tree) ∙ ap (λ (q : Piece). operators k q.tree) (sym piece) in
-    let later = same_operators k v none stays ks (λ i t e. (let m = h (suc i) t e in record { number = m.number; piece = m.piece; at = m.at; is_piece = m.is_piece; tree = m.tree })) in
-    omega (arith, here, later)
-
-total_is : (k : Sort) (pieces : List Piece) → sum (map (λ (q : Piece). operators k q.tree) pieces) ≡ pieces_have k pieces
-total_is k [] = refl
-total_is k (q ∷ pieces) = omega (arith, sum_by-cons (λ x. x) (operators k q.tree) (map (λ (p : Piece). operators k p.tree) pieces), total_is k pieces)
-
--- ---- the lanes of one cell
-
-abbrev lanes_have : Sort → ℕ → List Lane → ℕ
-lanes_have k p [] = 0
-lanes_have k p (lane ∷ lanes) = (if nat_eq lane.home p then of_lane (unit k) lane else 0) + lanes_have k p lanes
-
--- what a lane counts for where it is none of the cell's or has no operator
-counts_none : (k : Sort) (p : ℕ) (lane : Lane) → (lane.home ≡ p → of_lane (unit k) lane ≡ 0) → (if nat_eq lane.home p then of_lane (unit k) lane else 0) ≡ 0
-counts_none k p lane h = go (nat_eq lane.home p) refl
-  where
-    go : (b : Bool) → nat_eq lane.home p ≡ b → (if b then of_lane (unit k) lane else 0) ≡ 0
-    go true e = h (eqb-true lane.home p e)
-    go false e = refl
-
-counts_most : (k : Sort) (p : ℕ) (lane : Lane) (most : ℕ) → (lane.home ≡ p → of_lane (unit k) lane ≤ most) → (if nat_eq lane.home p then of_lane (unit k) lane else 0) ≤ most
-counts_most k p lane most h = go (nat_eq lane.home p) refl
-  where
-    go : (b : Bool) → nat_eq lane.home p ≡ b → (if b then of_lane (unit k) lane else 0) ≤ most
-    go true e = h (eqb-true lane.home p e)
-    go false e = omega arith
-
--- lanes but one, which has at most so many, have none
-have_none : (k : Sort) (p : ℕ) (lanes : List Lane) → ((i : ℕ) (lane : Lane) → slice_get lanes i ≡ Some lane → lane.home ≡ p → of_lane (unit k) lane ≡ 0) → lanes_have k p lanes ≡ 0
-have_none k p [] h = refl
-have_none k p (lane ∷ lanes) h = omega (arith, counts_none k p lane (h 0 lane refl), have_none k p lanes (λ i x e. h (suc i) x e))
-
-have_most : (k : Sort) (p one most : ℕ) (lanes : List Lane) → ((i : ℕ) (lane : Lane) → slice_get lanes i ≡ Some lane → lane.home ≡ p → i ≢ one → of_lane (unit k) lane ≡ 0)
-    → ((lane : Lane) → slice_get lanes one ≡ Some lane → lane.home ≡ p → of_lane (unit k) lane ≤ most) → lanes_have k p lanes ≤ most
-have_most k p one most [] h own = omega arith
-have_most k p zero most (lane ∷ lanes) h own =
-    omega (arith, counts_most k p lane most (own lane refl), have_none k p lanes (λ i x e home. h (suc i) x e home (λ f. omega (arith, f))))
-have_most k p (suc one) most (lane ∷ lanes) h own =
-    omega (arith, counts_none k p lane (λ home. h 0 lane refl home (λ f. omega (arith, f))), have_most k p one most lanes (λ i x e home f. h (suc i) x e home (λ g. f (omega (arith, g)))) own)
 
 -- ---- the module
 
@@ -447,8 +354,8 @@ module _ (w : Width) (t : Timed) (a : Cells) (program : Program) (g : IsProgramO
       steps_range q lane is zero d = tt
       steps_range q lane is (suc n) d = (
         λ p lt register.
-          let same = same_register lane.home p (N.register q d) (small_home q lane is) (small p lt) (line_register program q d lane is) register in
-          subst (λ h. IsWire h (line_name N q d) ⊎ IsRegister h (line_name N q d)) same (line_taken q d lane is),
+            let same = same_register lane.home p (N.register q d) (small_home q lane is) (small p lt) (line_register program q d lane is) register in
+            subst (λ h. IsWire h (line_name N q d) ⊎ IsRegister h (line_name N q d)) same (line_taken q d lane is),
         steps_range q lane is n (d + 1),
       )
 
@@ -747,7 +654,7 @@ module _ (w : Width) (t : Timed) (a : Cells) (program : Program) (g : IsProgramO
       paired = sym (length-map numbers (piece_at v none_piece));
       each = λ i k piece is_number is_piece.
           let r = number_stay i k is_number in
-          let x = from_map_at (piece_at v none_piece) numbers i piece is_piece in
+          let x = from_map (piece_at v none_piece) numbers i piece is_piece in
           let one : x.0 ≡ k = some_is x.0 k (sym x.1 ∙ is_number) in
           let own_is : piece ≡ r.own_piece = sym x.2 ∙ ap (piece_at v none_piece) one ∙ get_or_from_slice_get v.pieces k r.own_piece none_piece r.is_own in
           let node = same_node r.stay.first r.for.node r.for.first_point r.for.begins in

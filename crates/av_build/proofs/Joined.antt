@@ -15,8 +15,8 @@ use Rattle.av_space.specs.Standing.{Computes}
 use Rattle.av_space.specs.Links.{AreLinks}
 use Rattle.av_space.specs.Listings.{AreInLines}
 use Rattle.av_space.proofs.OneCell.{one_node, Inverts, between_cycles, same_point}
-use Rattle.av_build.specs.Programs.{Program}
-use Rattle.av_build.specs.Programmed.{Array, Lanes, IsProgramFor}
+use Rattle.av_build.specs.inner.Programs.{Program}
+use Rattle.av_build.specs.inner.Programmed.{Array, Lanes, IsProgramFor}
 use Rattle.av_build.proofs.Fine.{FitsTree}
 use Rattle.av_build.proofs.Serving.{own_place, Arranged}
 use Rattle.av_space.proofs.Timely.{Scheduled, some_piece_of, one_piece_of, earlier}

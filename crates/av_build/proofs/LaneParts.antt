@@ -10,12 +10,12 @@ use Rattle.av_net.specs.declared.netlist.Drive.{Drive}
 use Rattle.av_build.specs.declared.gates.Gate.{Gate}
 use Rattle.av_build.specs.declared.naming.LaneNames.{LaneNames}
 use Rattle.av_build.specs.declared.netlist.Parts.{Parts}
-use Rattle.av_build.specs.Gates.{Naming, drives_from, ports_from}
-use Rattle.av_build.specs.Cells.{Part, Turn, turns_built}
-use Rattle.av_build.specs.Names.{line_name}
-use Rattle.av_build.specs.Labels.{labels}
-use Rattle.av_build.specs.Programs.{Lane, Program}
-use Rattle.av_build.specs.Modules.{of_lanes, port, cell_built, cell_wires, cell_registers, cell_drives, cell_steps, line_step}
+use Rattle.av_build.specs.inner.Gates.{Naming, drives_from, ports_from}
+use Rattle.av_build.specs.inner.Cells.{Part, Turn, turns_built}
+use Rattle.av_build.specs.inner.Names.{line_name}
+use Rattle.av_build.specs.inner.Labels.{labels}
+use Rattle.av_build.specs.inner.Programs.{Lane, Program}
+use Rattle.av_build.specs.inner.Modules.{of_lanes, port, cell_built, cell_wires, cell_registers, cell_drives, cell_steps, line_step}
 use Rattle.av_build.specs.inner.Numbered.{value_in, wire_in, register_in, line_in, step_in, IsNaming}
 use Rattle.av_build.specs.inner.Added.{AddsBuilt, AddsLaneAt, ArePartsOf, counter}
 use Rattle.av_build.proofs.Placing.{drive_of, line_named, same_step}

@@ -26,18 +26,16 @@ pub mod Owned
 pub mod Joined
 pub mod Whole
 pub mod Form
-pub mod Sizes
 pub mod Sites
 pub mod Counted
-pub mod Top
 pub mod Connected
 pub mod Headline
 pub mod SpelledNames
 pub mod Sorts
+pub mod CellOperators
 pub mod InArrayForm
 pub mod Designs
 pub mod SoundDesigns
-pub mod InLines
 pub mod Chosen
 pub mod LaneParts
 pub mod Placing
@@ -69,4 +67,3 @@ pub mod BuiltLanes
 pub mod HelpedWords
 pub mod SiteLoop
 pub mod WholeProgram
-pub mod Writable

@@ -21,11 +21,11 @@ use Rattle.av_flat.specs.Helped.{HelperWords, IsHelpedSolution}
 use Rattle.av_flat.specs.Nodes.{is_node, nodes, number_at}
 use Rattle.av_space.specs.Standing.{Computes}
 use Rattle.av_space.specs.Listings.{IsWireOf, output, value, AtLine, IsAtLine, AreAtLines}
-use Rattle.av_build.specs.Names.{output_name, value_name}
-use Rattle.av_build.specs.Labels.{label_in, lane_value, labels}
-use Rattle.av_build.specs.Programs.{Lane, Program, IsProgram}
-use Rattle.av_build.specs.Modules.{of_lanes, cell_drives, output_drives, if_counted, next_drive, module_of}
-use Rattle.av_build.specs.Programmed.{Array, Lanes, IsPlacedAt, IsHandedAt}
+use Rattle.av_build.specs.inner.Names.{output_name, value_name}
+use Rattle.av_build.specs.inner.Labels.{label_in, lane_value, labels}
+use Rattle.av_build.specs.inner.Programs.{Lane, Program, IsProgram}
+use Rattle.av_build.specs.inner.Modules.{of_lanes, cell_drives, output_drives, if_counted, next_drive, module_of}
+use Rattle.av_build.specs.inner.Programmed.{Array, Lanes, IsPlacedAt, IsHandedAt}
 use Rattle.av_build.proofs.Lists.{front_each, back_each}
 use Rattle.av_build.proofs.Shown.{Setting, computed, signature_at}
 use Rattle.av_build.proofs.Serving.{Arranged, serves}

@@ -11,9 +11,9 @@ use Rattle.av_space.specs.Spots.{ComputesIn, IsSlotIn, AreSlotsIn}
 use Rattle.av_space.proofs.ByPlace.{there_is, from_map, pair_at}
 use Rattle.av_space.proofs.Elements.{some_is, at_index, mapped, got, in_range}
 use Rattle.av_build.specs.declared.moments.Moment.{Moment as MomentMade}
-use Rattle.av_build.specs.Programs.{Source, Site}
-use Rattle.av_build.specs.Selections.{Moment, runs_of, site_by}
-use Rattle.av_build.specs.Programmed.{IsSiteFor}
+use Rattle.av_build.specs.inner.Programs.{Source, Site}
+use Rattle.av_build.specs.inner.Selections.{Moment, runs_of, site_by}
+use Rattle.av_build.specs.inner.Programmed.{IsSiteFor}
 use Rattle.av_build.specs.inner.Blueprints.{seen, spot_of}
 use Rattle.av_build.specs.inner.Moments.{moment_of, AreMoments}
 use Rattle.av_build.proofs.Runs.{AreAscending}

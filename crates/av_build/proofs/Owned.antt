@@ -23,11 +23,11 @@ use Rattle.av_space.specs.Standing.{Computes}
 use Rattle.av_flat.specs.Broadcasts.{Reference, references}
 use Rattle.av_flat.specs.Helped.{before}
 use Rattle.av_space.specs.Links.{line_length}
-use Rattle.av_build.specs.Programs.{Source, word, line, until, since, between, Link, Site, Work, Shift, Lane, Program, EachOfSite, EachOfWork, EachOfCell}
-use Rattle.av_build.specs.Selections.{Run, site_by, Stay, stretch_of, shifts_by, last_work}
-use Rattle.av_build.specs.Trees.{site_count}
-use Rattle.av_build.specs.Serving.{EachPlace}
-use Rattle.av_build.specs.Programmed.{Array, Lanes, Spot, IsLinked, IsReferenceSource, by_port, by_link, later, IsHandSource, IsHandedSource, IsHelpedSource, IsPickSource, IsPlaceSource, IsSiteFor, IsStayFor, IsValueLane, IsHelperLane, IsHelper}
+use Rattle.av_build.specs.inner.Programs.{Source, word, line, until, since, between, Link, Site, Work, Shift, Lane, Program, EachOfSite, EachOfWork, EachOfCell}
+use Rattle.av_build.specs.inner.Selections.{Run, site_by, Stay, stretch_of, shifts_by, last_work}
+use Rattle.av_build.specs.inner.Trees.{site_count}
+use Rattle.av_build.specs.inner.Serving.{EachPlace}
+use Rattle.av_build.specs.inner.Programmed.{Array, Lanes, Spot, IsLinked, IsReferenceSource, by_port, by_link, later, IsHandSource, IsHandedSource, IsHelpedSource, IsPickSource, IsPlaceSource, IsSiteFor, IsStayFor, IsValueLane, IsHelperLane, IsHelper}
 use Rattle.av_build.proofs.ArrayForm.{IsOwn}
 use Rattle.av_build.proofs.Fine.{FitsTree}
 use Rattle.av_build.proofs.SoundProgram.{FitsStretch, FitsWork, FitsCell}

@@ -18,11 +18,11 @@ use Rattle.av_space.proofs.Elements.{some_is, in_range, mapped, get_contained}
 use Rattle.av_space.proofs.Nodes.{node_variable}
 use Rattle.av_space.proofs.Scheduling.{scheduled}
 use Rattle.av_build.specs.declared.program.Site.{Site as SiteMade}
-use Rattle.av_build.specs.Programs.{Site, Work, Shift}
-use Rattle.av_build.specs.Selections.{Stay, shifts_by, last_work}
-use Rattle.av_build.specs.Serving.{EachPlace}
-use Rattle.av_build.specs.Trees.{site_count}
-use Rattle.av_build.specs.Programmed.{Lanes, IsPlaceSource, IsSiteFor, IsStayFor}
+use Rattle.av_build.specs.inner.Programs.{Site, Work, Shift}
+use Rattle.av_build.specs.inner.Selections.{Stay, shifts_by, last_work}
+use Rattle.av_build.specs.inner.Serving.{EachPlace}
+use Rattle.av_build.specs.inner.Trees.{site_count}
+use Rattle.av_build.specs.inner.Programmed.{Lanes, IsPlaceSource, IsSiteFor, IsStayFor}
 use Rattle.av_build.specs.inner.Blueprints.{seen, spot_of}
 use Rattle.av_build.specs.inner.Works.{AreWorkSites, IsWorkFor, shift_in}
 use Rattle.av_build.specs.inner.Written.{site_of}

@@ -18,8 +18,8 @@ use Rattle.av_space.specs.Sites.{place_of}
 use Rattle.av_space.specs.Spots.{IsSpot, IsSiteOf, IsLinkedBy, IsReferenceOrigin, at_port, over_link, IsPickOrigin, IsOriginBy, own_way, handed_tap, handing_by, helpers_of, system_of}
 use Rattle.av_space.specs.Taps.{Handing, helper_at, node_place, Place, Way, each, handed, Tap}
 use Rattle.av_space.proofs.SpotPlaces.{place_read}
-use Rattle.av_build.specs.Programs.{Source, word, input, line}
-use Rattle.av_build.specs.Programmed.{Array, Lanes, Spot, IsLinked, IsReferenceSource, by_port, by_link, IsHandSource, IsHandedSource, IsHelpedSource, IsPickSource, IsPlaceSource, later}
+use Rattle.av_build.specs.inner.Programs.{Source, word, input, line}
+use Rattle.av_build.specs.inner.Programmed.{Array, Lanes, Spot, IsLinked, IsReferenceSource, by_port, by_link, IsHandSource, IsHandedSource, IsHelpedSource, IsPickSource, IsPlaceSource, later}
 use Rattle.av_build.specs.inner.Blueprints.{seen, spot_of}
 use Rattle.av_build.specs.inner.Moments.{IsOwnSource, IsHandBy}
 
@@ -49,10 +49,15 @@ module _ (w : ArrayMade) (lanes : Lanes) (at : SpotMade) (mine : PlaceMade) (pla
 
   of_pick : (tree : Tree) (place n : ℕ) (o : Option Point) (found : Origin) (source : Source) → p.tree ≡ tree → IsMadeFor lanes found source → IsPickOrigin w at t.cycle p place n o found → IsPickSource (seen w) lanes (spot_of at) t.cycle p.site place tree n o source
   of_pick tree place n None found source f e h = subst (λ (k : Origin). IsMadeFor lanes k source) h e
-  of_pick tree place n (Some y) found source f e (q, d, read, is_read, node, l, is) =
-      (q, d, read, is_read, node,
-      as_linked w at t.cycle p.site tree each q d (subst (λ (x : Place). IsLinkedBy w at t.cycle (record { place = x; way = each }) q d) same l),
-      subst (λ (k : Origin). IsMadeFor lanes k source) is e)
+  of_pick tree place n (Some y) found source f e (q, d, read, is_read, node, l, is) = (
+    q,
+    d,
+    read,
+    is_read,
+    node,
+    as_linked w at t.cycle p.site tree each q d (subst (λ (x : Place). IsLinkedBy w at t.cycle (record { place = x; way = each }) q d) same l),
+    subst (λ (k : Origin). IsMadeFor lanes k source) is e,
+  )
     where
       same : p ≡ record { piece = at.number; site = p.site; tree = tree }
       same = ap (λ (k : ℕ). record { piece = k; site = p.site; tree = p.tree }) piece_is ∙ ap (λ (u : Tree). record { piece = at.number; site = p.site; tree = u }) f

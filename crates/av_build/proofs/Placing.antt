@@ -12,11 +12,11 @@ use Rattle.av_net.specs.declared.netlist.Drive.{Drive}
 use Rattle.av_net.specs.declared.netlist.Step.{Step}
 use Rattle.av_build.specs.declared.gates.Gate.{Gate}
 use Rattle.av_build.specs.declared.naming.LaneNames.{LaneNames}
-use Rattle.av_build.specs.Gates.{Naming, drives_from, ports_from}
-use Rattle.av_build.specs.Labels.{labels}
-use Rattle.av_build.specs.Names.{Labels, line_name, output_name}
-use Rattle.av_build.specs.Programs.{Program}
-use Rattle.av_build.specs.Modules.{output_drives}
+use Rattle.av_build.specs.inner.Gates.{Naming, drives_from, ports_from}
+use Rattle.av_build.specs.inner.Labels.{labels}
+use Rattle.av_build.specs.inner.Names.{Labels, line_name, output_name}
+use Rattle.av_build.specs.inner.Programs.{Program}
+use Rattle.av_build.specs.inner.Modules.{output_drives}
 use Rattle.av_build.specs.inner.Numbered.{line_in, IsNaming}
 
 pub range_more : {X : Type 0} (f : ℕ → X) (front old new : List X) (n : ℕ) (x : X) → old ≡ front ++ map f (range_with_len 0 n) → new ≡ old ++ x ∷ [] → x ≡ f n → new ≡ front ++ map f (range_with_len 0 (n + 1))

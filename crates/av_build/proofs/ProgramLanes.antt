@@ -25,9 +25,9 @@ use Rattle.av_build.specs.declared.blueprint.Blueprint.{Blueprint}
 use Rattle.av_build.specs.declared.blueprint.CellPlan.{CellPlan}
 use Rattle.av_build.specs.declared.blueprint.HelperPlan.{HelperPlan}
 use Rattle.av_build.specs.declared.blueprint.LanePlan.{LanePlan}
-use Rattle.av_build.specs.Programs.{Lane, Program}
-use Rattle.av_build.specs.Built.{array_of}
-use Rattle.av_build.specs.Programmed.{Array, Lanes, later, IsHelper, IsValueLane, IsHelperLane, IsLaneFor, of_value, of_helper, IsProgramFor}
+use Rattle.av_build.specs.inner.Programs.{Lane, Program}
+use Rattle.av_build.specs.inner.Built.{array_of}
+use Rattle.av_build.specs.inner.Programmed.{Array, Lanes, later, IsHelper, IsValueLane, IsHelperLane, IsLaneFor, of_value, of_helper, IsProgramFor}
 use Rattle.av_build.specs.inner.Blueprints.{seen, lanes_of, number_in, ArePieces, IsHelperOn, IsBlueprint, HasLane}
 use Rattle.av_build.specs.inner.Works.{IsBuiltBy, AreBuilt}
 use Rattle.av_build.specs.inner.Written.{LaneMade, lane_of}
@@ -117,9 +117,11 @@ module _ (b : Blueprint) (is : IsBlueprint b) where
     helpers j h v piece r it p c z computes inside late =
         let l = lane_there j h v piece r it p c z computes inside late in
         let x = by_helper p j l in
-        let made = x.4 h v piece r (subst (λ (k : ℕ). IsHelper (seen w) k h v piece r) (sym x.1) it) in
-        (x.2, ap (slice_get (map lane_of lanes)) (sym (helper_at p j l)) ∙ x.3,
-        subst (λ (k : ℕ). IsHelperLane (seen w) (lanes_of b.lanes) (record { cell = p; node = number_at (system_of w) h.var; variable = v; number = h.piece; piece = piece }) k h r x.2) x.1 made)
+        let made = x.4 h v piece r (subst (λ (k : ℕ). IsHelper (seen w) k h v piece r) (sym x.1) it) in (
+          x.2,
+          ap (slice_get (map lane_of lanes)) (sym (helper_at p j l)) ∙ x.3,
+          subst (λ (k : ℕ). IsHelperLane (seen w) (lanes_of b.lanes) (record { cell = p; node = number_at (system_of w) h.var; variable = v; number = h.piece; piece = piece }) k h r x.2) x.1 made,
+        )
 
     -- each lane is for a cell or for a helper
     only : (q : ℕ) (lane : Lane) → slice_get (map lane_of lanes) q ≡ Some lane → IsLaneFor (seen w) (lanes_of b.lanes) q lane
@@ -175,6 +177,8 @@ module _ (b : Blueprint) (is : IsBlueprint b) where
 pub as_given : (w : ArrayMade) → IsArray w → (t : Timed) (a : Cells) → w.timed.now ≡ t → w.cells.now ≡ a → (whole : IsWhole t a) × (seen w ≡ array_of t a whole.list.placings)
 as_given w is t a e f =
     subst (λ (u : Timed). (whole : IsWhole u a) × (seen w ≡ array_of u a whole.list.placings)) e
-    (subst (λ (c : Cells). (whole : IsWhole w.timed.now c) × (seen w ≡ array_of w.timed.now c whole.list.placings)) f
-    (is.whole, ap (λ (ps : List Placing). record { system = system_of w; helpers = helpers_of w; times = ps; cells = cells_of w; links = w.cells.now.links; ports = w.cells.now.inputs }) (sym is.same_placings)
-    ∙ ap (λ (cs : List Cell). record { system = system_of w; helpers = helpers_of w; times = is.whole.list.placings; cells = cs; links = w.cells.now.links; ports = w.cells.now.inputs }) (sym is.same_cells)))
+    (subst (λ (c : Cells). (whole : IsWhole w.timed.now c) × (seen w ≡ array_of w.timed.now c whole.list.placings)) f (
+      is.whole,
+      ap (λ (ps : List Placing). record { system = system_of w; helpers = helpers_of w; times = ps; cells = cells_of w; links = w.cells.now.links; ports = w.cells.now.inputs }) (sym is.same_placings)
+          ∙ ap (λ (cs : List Cell). record { system = system_of w; helpers = helpers_of w; times = is.whole.list.placings; cells = cs; links = w.cells.now.links; ports = w.cells.now.inputs }) (sym is.same_cells),
+    ))

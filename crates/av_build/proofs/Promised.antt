@@ -13,9 +13,9 @@ use Rattle.av_space.specs.declared.fault.SpaceFault.TheVariants as fault
 use Rattle.av_space.specs.SpaceFaults.{IsSpaceFault}
 use Rattle.av_space.specs.Whole.{IsWhole}
 use Rattle.av_build.specs.ArrayDesigns.{IsDesignOf}
-use Rattle.av_build.specs.Built.{HasSmallNumbers, design_of}
-use Rattle.av_build.specs.Modules.{module_of}
-use Rattle.av_build.specs.Programs.{Program}
+use Rattle.av_build.specs.inner.Built.{HasSmallNumbers, design_of}
+use Rattle.av_build.specs.inner.Modules.{module_of}
+use Rattle.av_build.specs.inner.Programs.{Program}
 use Rattle.av_build.specs.inner.Works.{IsProgrammed}
 use Rattle.av_build.proofs.Designs.{design_is}
 

@@ -20,10 +20,10 @@ use Rattle.av_flat.specs.Helped.{before, IsEntry}
 use Rattle.av_space.specs.Links.{IsStretch, AreLinks}
 use Rattle.av_space.specs.Ports.{IsFed}
 use Rattle.av_space.specs.Listings.{InLine, IsInLine, AreInLines, input_name}
-use Rattle.av_build.specs.Programs.{Source, word, line, Site, Work, Lane, Program, source_in, work_in, work_by, site_source}
-use Rattle.av_build.specs.Selections.{Stay, shifts_by, last_work}
-use Rattle.av_build.specs.Serving.{Placement, of_helper, read_of, read_by, read_at, EachPlace, IsEarlier, IsPointBrought, IsHandedOn, IsHelperBrought, IsBrought, IsWorked, IsHandled, Serves}
-use Rattle.av_build.specs.Programmed.{Array, Lanes, Spot, IsLinked, IsReferenceSource, by_port, by_link, later, IsHandSource, IsHandedSource, IsHelpedSource, IsPickSource, IsPlaceSource, IsSiteFor, IsStayFor, IsValueLane, IsPlacedAt, IsHelper, IsHandedAt, IsProgramFor}
+use Rattle.av_build.specs.inner.Programs.{Source, word, line, Site, Work, Lane, Program, source_in, work_in, work_by, site_source}
+use Rattle.av_build.specs.inner.Selections.{Stay, shifts_by, last_work}
+use Rattle.av_build.specs.inner.Serving.{Placement, of_helper, read_of, read_by, read_at, EachPlace, IsEarlier, IsPointBrought, IsHandedOn, IsHelperBrought, IsBrought, IsWorked, IsHandled, Serves}
+use Rattle.av_build.specs.inner.Programmed.{Array, Lanes, Spot, IsLinked, IsReferenceSource, by_port, by_link, later, IsHandSource, IsHandedSource, IsHelpedSource, IsPickSource, IsPlaceSource, IsSiteFor, IsStayFor, IsValueLane, IsPlacedAt, IsHelper, IsHandedAt, IsProgramFor}
 use Rattle.av_build.proofs.Lengths.{contained_map, has_lane}
 use Rattle.av_build.proofs.Words.{place_weaker}
 use Rattle.av_build.proofs.Selections.{run_taken, stay_taken, IsElsewhere}

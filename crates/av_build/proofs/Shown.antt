@@ -35,12 +35,12 @@ use Rattle.av_flat.specs.declared.timed.Helper.{Helper}
 use Rattle.av_flat.specs.Broadcasts.{Reference, references}
 use Rattle.av_space.specs.Taps.{Handing, helper_from, helper_at}
 use Rattle.av_flat.specs.Helped.{before, IsEntry, PointWords, HelperWords, HasRead, HasHelped, helped_at, IsHelpedSolution}
-use Rattle.av_build.specs.Names.{input_name, line_name}
-use Rattle.av_build.specs.Trees.{value_by}
-use Rattle.av_build.specs.Labels.{labels}
-use Rattle.av_build.specs.Programs.{Source, word, line, Site, Link, Work, Shift, Lane, Program, source_by, source_in, work_by, work_in, site_source, has_cycle, EachOfSite, EachOfWork, EachOfCell, IsPlaced, IsProgram}
-use Rattle.av_build.specs.Modules.{operand_of, input_ports, port, module_of}
-use Rattle.av_build.specs.Serving.{Placement, read_of, read_by, read_at, IsOfLane, IsPointBrought, IsHelperBrought, IsBrought, Serves}
+use Rattle.av_build.specs.inner.Names.{input_name, line_name}
+use Rattle.av_build.specs.inner.Trees.{value_by}
+use Rattle.av_build.specs.inner.Labels.{labels}
+use Rattle.av_build.specs.inner.Programs.{Source, word, line, Site, Link, Work, Shift, Lane, Program, source_by, source_in, work_by, work_in, site_source, has_cycle, EachOfSite, EachOfWork, EachOfCell, IsPlaced, IsProgram}
+use Rattle.av_build.specs.inner.Modules.{operand_of, input_ports, port, module_of}
+use Rattle.av_build.specs.inner.Serving.{Placement, read_of, read_by, read_at, IsOfLane, IsPointBrought, IsHelperBrought, IsBrought, Serves}
 use Rattle.av_build.proofs.Plans.{words_in}
 use Rattle.av_build.proofs.Lines.{line_has}
 use Rattle.av_build.proofs.Values.{cell_value}

@@ -3,8 +3,8 @@ use Rattle.std.proofs.Common.{◌≡◌, ℕ, List, [], ◌∷◌, ◌++◌, map
 use Rattle.std.proofs.lemmas.List.{append-nil, map-append}
 use Rattle.av_build.specs.declared.moments.Moment.{Moment as MomentMade}
 use Rattle.av_build.specs.declared.program.Link.{Link as LinkMade}
-use Rattle.av_build.specs.Programs.{Source, Link, Site, until}
-use Rattle.av_build.specs.Selections.{Moment, same_source}
+use Rattle.av_build.specs.inner.Programs.{Source, Link, Site, until}
+use Rattle.av_build.specs.inner.Selections.{Moment, same_source}
 use Rattle.av_build.specs.inner.Moments.{moment_of}
 use Rattle.av_build.specs.inner.Written.{source_of, link_of}
 use Rattle.av_build.proofs.SiteRuns.{moments_site, same_next, ended, other_next}

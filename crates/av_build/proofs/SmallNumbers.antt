@@ -11,13 +11,13 @@ use Rattle.av_net.specs.declared.netlist.Port.{Port}
 use Rattle.av_space.specs.declared.cells.Cells.{Cells}
 use Rattle.av_space.proofs.Elements.{some_is, in_range}
 use Rattle.av_build.specs.declared.gates.Gate.{Gate}
-use Rattle.av_build.specs.Built.{HasSmallNumbers}
-use Rattle.av_build.specs.Gates.{Naming, ports_from}
-use Rattle.av_build.specs.Labels.{number_in, labels}
-use Rattle.av_build.specs.Modules.{of_lanes, port, cell_built, cell_wires, cell_registers, if_counted, counter_width, module_of}
-use Rattle.av_build.specs.Names.{counter_name, next_name}
-use Rattle.av_build.specs.Programs.{Lane, Program}
-use Rattle.av_build.specs.Programmed.{Array, Lanes, IsLaneFor, of_value, of_helper, IsProgramFor}
+use Rattle.av_build.specs.inner.Built.{HasSmallNumbers}
+use Rattle.av_build.specs.inner.Gates.{Naming, ports_from}
+use Rattle.av_build.specs.inner.Labels.{number_in, labels}
+use Rattle.av_build.specs.inner.Modules.{of_lanes, port, cell_built, cell_wires, cell_registers, if_counted, counter_width, module_of}
+use Rattle.av_build.specs.inner.Names.{counter_name, next_name}
+use Rattle.av_build.specs.inner.Programs.{Lane, Program}
+use Rattle.av_build.specs.inner.Programmed.{Array, Lanes, IsLaneFor, of_value, of_helper, IsProgramFor}
 use Rattle.av_build.proofs.Declared.{times_more}
 
 -- ---- a lane brings no more than all lanes

@@ -21,12 +21,12 @@ use Rattle.av_space.specs.ArrayForm as form
 use Rattle.av_space.specs.ArrayForm.{Sort, plus, minus, times, test, rest, NamesCounter, IsControl, compared, IsOfSort, adds, subtracts, multiplies, compares, compares_signed, counts, joins, chooses, copies, is_same, how_many, sort_of, operators}
 use Rattle.av_space.proofs.Elements.{both_each}
 use Rattle.av_build.specs.declared.gates.Gate.{Gate}
-use Rattle.av_build.specs.Names.{counter_name}
-use Rattle.av_build.specs.Gates.{gate, Naming, Built, built, Named, named_by, named}
-use Rattle.av_build.specs.Trees.{site_count, one_bit, joined, comparison, tree_built}
-use Rattle.av_build.specs.Choices.{Span, up_to, from, within, span_built, either_built, Option, Tap, options_built, tap_built}
-use Rattle.av_build.specs.Cells.{Part, Turn, Plan, Taken, taps_built, operand_at, over_taps, place_built, piece_built, part_built, turns_built, plan_built}
-use Rattle.av_build.specs.Kinds.{Kinds, of_symbol, of_operation, of_gates, of_sign, of_tree}
+use Rattle.av_build.specs.inner.Names.{counter_name}
+use Rattle.av_build.specs.inner.Gates.{gate, Naming, Built, built, Named, named_by, named}
+use Rattle.av_build.specs.inner.Trees.{site_count, one_bit, joined, comparison, tree_built}
+use Rattle.av_build.specs.inner.Choices.{Span, up_to, from, within, span_built, either_built, Option, Tap, options_built, tap_built}
+use Rattle.av_build.specs.inner.Cells.{Part, Turn, Plan, Taken, taps_built, operand_at, over_taps, place_built, piece_built, part_built, turns_built, plan_built}
+use Rattle.av_build.specs.inner.Kinds.{Kinds, of_symbol, of_operation, of_gates, of_sign, of_tree}
 
 -- ---- what an operation may read, by its kind
 

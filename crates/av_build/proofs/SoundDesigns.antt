@@ -40,11 +40,11 @@ use Rattle.av_space.specs.Standing.{Computes}
 use Rattle.av_space.specs.Whole.{IsWhole, IsPresented}
 use Rattle.av_space.proofs.ByPlace.{from_map, all_by_place, place_of}
 use Rattle.av_space.proofs.Elements.{some_is}
-use Rattle.av_build.specs.Names.{input_name, output_name, value_name, next_name}
-use Rattle.av_build.specs.Labels.{labels}
-use Rattle.av_build.specs.Programs.{Lane, Program}
-use Rattle.av_build.specs.Modules.{cell_built, if_counted, module_of}
-use Rattle.av_build.specs.Built.{IsProgramOf, array_of, design_of}
+use Rattle.av_build.specs.inner.Names.{input_name, output_name, value_name, next_name}
+use Rattle.av_build.specs.inner.Labels.{labels}
+use Rattle.av_build.specs.inner.Programs.{Lane, Program}
+use Rattle.av_build.specs.inner.Modules.{cell_built, if_counted, module_of}
+use Rattle.av_build.specs.inner.Built.{IsProgramOf, array_of, design_of}
 use Rattle.av_build.proofs.Connected.{given, is_sound}
 use Rattle.av_build.proofs.Declared.{wires_of, wire_list, inputs_are, outputs_are, wires_are}
 use Rattle.av_build.proofs.Listed.{value_label}
@@ -120,7 +120,7 @@ module _ (w : Width) (t : Timed) (a : Cells) (program : Program) (g : IsProgramO
       let listed = listable own d.variable line.point (chained d.place d.variable d.at) (input_shown d.variable.kind d.kind) d.within in
       let port : p.1.0 < program.inputs = (let many = g.is_program.inputs_are in let lt = p.1.1 in omega (arith, many, lt)) in
       let named : Contains (names_of (module_of w program).inputs) (input_name p.1.0) =
-          subst (λ (xs : List (List ℕ)). Contains xs (input_name p.1.0)) (sym (inputs_are w program)) (contained_range input_name 0 program.inputs p.1.0 port p.1.0 (omega arith)) in
+      subst (λ (xs : List (List ℕ)). Contains xs (input_name p.1.0)) (sym (inputs_are w program)) (contained_range input_name 0 program.inputs p.1.0 port p.1.0 (omega arith)) in
       record {
         variable = subst (IsSpelled token.Name) d.named listed.spelled;
         indices = listed.indices;
@@ -143,10 +143,10 @@ module _ (w : Width) (t : Timed) (a : Cells) (program : Program) (g : IsProgramO
       let m = module_of w program in
       let N = labels program in
       let at : Contains (wires_of N w q lane) (N.value q) =
-          Contains-append_right (map (N.wire q) (range_with_len 0 (length (cell_built N w q lane).gates))) (N.value q ∷ []) (N.value q) (0, omega arith, refl) in
+      Contains-append_right (map (N.wire q) (range_with_len 0 (length (cell_built N w q lane).gates))) (N.value q ∷ []) (N.value q) (0, omega arith, refl) in
       let among = contained_cell (wires_of N w) 0 program.lanes q lane is q (omega arith) (N.value q) at in
       let there : Contains (names_of m.wires) (N.value q) =
-          subst (λ (xs : List (List ℕ)). Contains xs (N.value q)) (sym (wires_are w program)) (Contains-append_left (wire_list w program) (if_counted program next_name) (N.value q) among) in
+      subst (λ (xs : List (List ℕ)). Contains xs (N.value q)) (sym (wires_are w program)) (Contains-append_left (wire_list w program) (if_counted program next_name) (N.value q) among) in
       subst (λ (x : List ℕ). Contains (wire_names m) x) (value_label program q p lane is home rank) (Contains-append_right (names_of m.outputs) (names_of m.wires) (N.value q) there)
 
   wire_there : (p c n : ℕ) (z : Point) (v : Variable) → Computes own g.array.placings a.cells p c n z → slice_get (nodes own) n ≡ Some v → (x : List ℕ) → IsWireOf a.outputs p x → Contains (wire_names (module_of w program)) x

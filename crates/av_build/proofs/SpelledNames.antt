@@ -15,10 +15,10 @@ use Rattle.av_net.specs.Names.{names_of, all_names}
 use Rattle.av_net.proofs.Distinct.{apart}
 use Rattle.av_net.proofs.Tested.{are_distinct, distinct_tested}
 use Rattle.av_space.proofs.Elements.{both_each}
-use Rattle.av_build.specs.Names.{input_name, output_name, value_name, wire_name, counter_name, next_name}
-use Rattle.av_build.specs.Labels.{number_in, lane_value, lane_wire, lane_register, labels}
-use Rattle.av_build.specs.Programs.{Lane, Program, counts}
-use Rattle.av_build.specs.Modules.{of_lanes, cell_built, if_counted, module_of}
+use Rattle.av_build.specs.inner.Names.{input_name, output_name, value_name, wire_name, counter_name, next_name}
+use Rattle.av_build.specs.inner.Labels.{number_in, lane_value, lane_wire, lane_register, labels}
+use Rattle.av_build.specs.inner.Programs.{Lane, Program, counts}
+use Rattle.av_build.specs.inner.Modules.{of_lanes, cell_built, if_counted, module_of}
 use Rattle.av_build.proofs.NameParts.{decimal_some, digits_of, each_of_range}
 use Rattle.av_build.proofs.Declared.{Each, later_each, IsSmallLane, AreSmall, own_wires, own_registers, below, below_line, same_wires, same_registers, moved, wires_of, registers_in, input_list, output_list, wire_list, register_list, inputs_are, outputs_are, wires_are, registers_are}
 
@@ -145,10 +145,10 @@ module _ (w : Width) (program : Program) (small : AreSmall w program) where
       let n = if_counted program next_name in
       let inputs = subst (λ (xs : List (List ℕ)). AllByRecursion IsName xs) (sym (inputs_are w program)) (numbers_spelled 105 program.inputs refl small.inputs) in
       let registers = subst (λ (xs : List (List ℕ)). AllByRecursion IsName xs) (sym (registers_are w program))
-          (both_each IsName (register_list program) c register_names_spelled (if_named (counts program) counter_name counter_spelled)) in
+      (both_each IsName (register_list program) c register_names_spelled (if_named (counts program) counter_name counter_spelled)) in
       let outputs = subst (λ (xs : List (List ℕ)). AllByRecursion IsName xs) (sym (outputs_are w program)) (numbers_spelled 111 (length program.outputs) refl small.outputs) in
       let wires = subst (λ (xs : List (List ℕ)). AllByRecursion IsName xs) (sym (wires_are w program))
-          (both_each IsName (wire_list w program) n wire_names_spelled (if_named (counts program) next_name next_spelled)) in
+      (both_each IsName (wire_list w program) n wire_names_spelled (if_named (counts program) next_name next_spelled)) in
       All-from_recursion IsName (all_names m)
       (both_each IsName (names_of m.inputs ++ names_of m.registers) (names_of m.outputs ++ names_of m.wires)
       (both_each IsName (names_of m.inputs) (names_of m.registers) inputs registers)

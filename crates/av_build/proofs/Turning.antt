@@ -15,11 +15,11 @@ use Rattle.av_build.specs.declared.program.Link.{Link as LinkMade}
 use Rattle.av_build.specs.declared.program.Source.TheVariants as source
 use Rattle.av_build.specs.declared.program.Stretch.TheVariants as stretch
 use Rattle.av_build.specs.declared.program.Site.{Site as SiteMade}
-use Rattle.av_build.specs.Gates.{Naming, named_by}
-use Rattle.av_build.specs.Names.{Labels}
-use Rattle.av_build.specs.Choices.{Option, Tap, options_built, tap_built}
-use Rattle.av_build.specs.Cells.{Part, Turn, taps_built, over_taps, piece_built, part_built, turns_built}
-use Rattle.av_build.specs.Modules.{operand_of, span_of, option_of, tap_of, part_of, turn_of}
+use Rattle.av_build.specs.inner.Gates.{Naming, named_by}
+use Rattle.av_build.specs.inner.Names.{Labels}
+use Rattle.av_build.specs.inner.Choices.{Option, Tap, options_built, tap_built}
+use Rattle.av_build.specs.inner.Cells.{Part, Turn, taps_built, over_taps, piece_built, part_built, turns_built}
+use Rattle.av_build.specs.inner.Modules.{operand_of, span_of, option_of, tap_of, part_of, turn_of}
 use Rattle.av_build.specs.inner.Written.{ShiftMade, source_of, as_stretch, link_of, site_of, work_of, shift_of}
 use Rattle.av_build.specs.inner.Added.{AddsNamed, AddsBuilt, choice_built, counter}
 use Rattle.av_build.proofs.Chosen.{option_added, turn_added, AreTaken, tap_added, taken_many}

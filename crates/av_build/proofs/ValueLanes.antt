@@ -18,9 +18,9 @@ use Rattle.av_space.specs.Links.{line_length}
 use Rattle.av_space.specs.Spots.{system_of, helpers_of, placings_of, cells_of, ComputesIn, IsSpot, AreSpots, AreEnds}
 use Rattle.av_space.proofs.ByPlace.{there_is, from_map, pair_at}
 use Rattle.av_space.proofs.Elements.{some_is, at_index, mapped, got, in_range}
-use Rattle.av_build.specs.Programs.{Work, Shift, Lane}
-use Rattle.av_build.specs.Selections.{Stay, shifts_by, last_work}
-use Rattle.av_build.specs.Programmed.{Lanes, Spot, IsStayFor, IsValueLane}
+use Rattle.av_build.specs.inner.Programs.{Work, Shift, Lane}
+use Rattle.av_build.specs.inner.Selections.{Stay, shifts_by, last_work}
+use Rattle.av_build.specs.inner.Programmed.{Lanes, Spot, IsStayFor, IsValueLane}
 use Rattle.av_build.specs.inner.Blueprints.{seen, spot_of}
 use Rattle.av_build.specs.inner.Works.{shift_in}
 use Rattle.av_build.proofs.Appended.{get_cases}
@@ -51,9 +51,13 @@ module _ (w : ArrayMade) (lanes : Lanes) (p : ℕ) (cell : Cell) (v : Variable) 
     stay i t e =
         let low = in_range stays i t e in
         let at = there_is spots i (omega (arith, low, many)) in
-        let is = at_index (λ (at : SpotMade). (at.cell ≡ p) × (0 < length at.slots) × IsSpot w at) spots are.each i at.0 at.1 in
-        (at.0.number, view_piece at.0.piece.now, mapped (λ (at : SpotMade). at.number) spots i at.0 at.1, of_variable at.0 is.0 is.2,
-        subst (λ (s : Spot). IsStayFor (seen w) lanes s t) (spot_is at.0 is.0 is.2) (for i at.0 t at.1 e))
+        let is = at_index (λ (at : SpotMade). (at.cell ≡ p) × (0 < length at.slots) × IsSpot w at) spots are.each i at.0 at.1 in (
+          at.0.number,
+          view_piece at.0.piece.now,
+          mapped (λ (at : SpotMade). at.number) spots i at.0 at.1,
+          of_variable at.0 is.0 is.2,
+          subst (λ (s : Spot). IsStayFor (seen w) lanes s t) (spot_is at.0 is.0 is.2) (for i at.0 t at.1 e),
+        )
 
     every : (k : ℕ) (piece : Piece) → slice_get v.pieces k ≡ Some piece → (c n : ℕ) (z : Point) → ComputesIn w p c n z → IsTrue (has piece.domain z)
         → (i : ℕ) × (t : Stay) × (slice_get stays i ≡ Some t) × (slice_get (map (λ (at : SpotMade). at.number) spots) i ≡ Some k)

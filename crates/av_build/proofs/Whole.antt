@@ -14,10 +14,10 @@ use Rattle.av_flat.specs.Helped.{HelperWords, IsHelpedSolution}
 use Rattle.av_space.specs.Standing.{IsUsed, AreCells}
 use Rattle.av_space.specs.Listings.{AreAtLines}
 use Rattle.av_space.specs.Ports.{is_output_cell, output_cells}
-use Rattle.av_build.specs.Labels.{number_in, labels}
-use Rattle.av_build.specs.Programs.{Source, Link, Site, Shift, Lane, Program, EachOfSite, EachOfWork, EachOfCell, IsPlaced, IsProgram}
-use Rattle.av_build.specs.Modules.{cell_built, module_of}
-use Rattle.av_build.specs.Programmed.{Array, Lanes, IsLaneFor, of_value, of_helper, IsProgramFor}
+use Rattle.av_build.specs.inner.Labels.{number_in, labels}
+use Rattle.av_build.specs.inner.Programs.{Source, Link, Site, Shift, Lane, Program, EachOfSite, EachOfWork, EachOfCell, IsPlaced, IsProgram}
+use Rattle.av_build.specs.inner.Modules.{cell_built, module_of}
+use Rattle.av_build.specs.inner.Programmed.{Array, Lanes, IsLaneFor, of_value, of_helper, IsProgramFor}
 use Rattle.av_build.proofs.Declared.{declared_once}
 use Rattle.av_build.proofs.Fine.{FineBuilt}
 use Rattle.av_build.proofs.ArrayForm.{IsOwn, MayRead, cell_reads}

@@ -5,9 +5,9 @@ use Rattle.av_space.specs.declared.array.Array.{Array as ArrayMade}
 use Rattle.av_space.specs.declared.cells.Cells.{Cells}
 use Rattle.av_space.specs.Spots.{helpers_of}
 use Rattle.av_build.specs.declared.blueprint.Blueprint.{Blueprint}
-use Rattle.av_build.specs.Programs.{Lane, Program}
-use Rattle.av_build.specs.Built.{array_of}
-use Rattle.av_build.specs.Programmed.{Array, Lanes, IsProgramFor}
+use Rattle.av_build.specs.inner.Programs.{Lane, Program}
+use Rattle.av_build.specs.inner.Built.{array_of}
+use Rattle.av_build.specs.inner.Programmed.{Array, Lanes, IsProgramFor}
 use Rattle.av_build.specs.inner.Blueprints.{seen, lanes_of, IsBlueprint}
 use Rattle.av_build.specs.inner.Works.{AreBuilt, IsProgrammed}
 use Rattle.av_build.specs.inner.Written.{LaneMade, lane_of}

@@ -9,11 +9,11 @@ use Rattle.av_flat.specs.Points.{has}
 use Rattle.av_space.specs.declared.cells.Cells.{Cells}
 use Rattle.av_space.specs.Ports.{is_output_cell}
 use Rattle.av_space.proofs.Elements.{some_is, get_contained, in_range, each_weaker}
-use Rattle.av_build.specs.Programs.{Source, word, input, line, Work, Shift, Lane, Program, EachOfCell, IsPlaced}
-use Rattle.av_build.specs.Programmed.{Array, IsStayFor, IsLaneFor, of_value, of_helper}
-use Rattle.av_build.specs.Selections.{Stay, stretch_of}
-use Rattle.av_build.specs.Trees.{site_count}
-use Rattle.av_build.specs.Built.{array_of}
+use Rattle.av_build.specs.inner.Programs.{Source, word, input, line, Work, Shift, Lane, Program, EachOfCell, IsPlaced}
+use Rattle.av_build.specs.inner.Programmed.{Array, IsStayFor, IsLaneFor, of_value, of_helper}
+use Rattle.av_build.specs.inner.Selections.{Stay, stretch_of}
+use Rattle.av_build.specs.inner.Trees.{site_count}
+use Rattle.av_build.specs.inner.Built.{array_of}
 use Rattle.av_build.specs.inner.Works.{IsProgrammed}
 use Rattle.av_build.specs.inner.Written.{IsThere, HasSites, HasAllSites, IsWritable}
 use Rattle.av_build.proofs.ArrayForm.{IsOwn}

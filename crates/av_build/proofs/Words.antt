@@ -7,8 +7,8 @@ use Rattle.av_flat.specs.Points.{has}
 use Rattle.av_flat.specs.Values.{Scene}
 use Rattle.av_flat.specs.Broadcasts.{references}
 use Rattle.av_flat.specs.Helped.{PointWords, HasHelped, IsOfPiece}
-use Rattle.av_build.specs.Trees.{site_count, value_by}
-use Rattle.av_build.specs.Serving.{EachPlace}
+use Rattle.av_build.specs.inner.Trees.{site_count, value_by}
+use Rattle.av_build.specs.inner.Serving.{EachPlace}
 
 pub place_weaker : (R Q : ℕ → ℕ → Tree → Type 0) → ((k i : ℕ) (t : Tree) → R k i t → Q k i t) → (s n : ℕ) (t : Tree) → EachPlace R s n t → EachPlace Q s n t
 place_weaker R Q f s n (reference place m) h = f s n (reference place m) h

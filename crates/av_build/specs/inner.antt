@@ -1,3 +1,16 @@
+pub mod Gates
+pub mod Trees
+pub mod Choices
+pub mod Cells
+pub mod Names
+pub mod Programs
+pub mod Labels
+pub mod Modules
+pub mod Serving
+pub mod Selections
+pub mod Programmed
+pub mod Built
+pub mod Kinds
 pub mod Written
 pub mod Numbered
 pub mod Added

@@ -18,8 +18,7 @@ use std::alloc::Global;
 // A list lies in memory, and so its length is a word of the machine.
 fn fits_memory<T>(items: &[T])
     ensures { length items.now < 2 ^ 64 }
-{
-}
+{}
 
 // The lists of a module, whose lengths are the numbers in its names.
 fn module_fits_memory(made: &Module)

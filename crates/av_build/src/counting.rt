@@ -1,9 +1,9 @@
 //! The counter of cycles, where a program has to count them.
 
 ghost use Rattle.std.specs.Prelude.{◌≡◌, IfOk};
-ghost use Rattle.av_build.specs.Names.{next_name};
-ghost use Rattle.av_build.specs.Programs.{selects, cell_counts, counts};
-ghost use Rattle.av_build.specs.Modules.{next_drive, counter_step};
+ghost use Rattle.av_build.specs.inner.Names.{next_name};
+ghost use Rattle.av_build.specs.inner.Programs.{selects, cell_counts, counts};
+ghost use Rattle.av_build.specs.inner.Modules.{next_drive, counter_step};
 ghost use Rattle.av_build.specs.inner.Written.{work_of, lane_of, program_of};
 
 use crate::program::{Lane, Program, Work};

@@ -2,7 +2,7 @@
 
 ghost use Rattle.std.specs.Prelude.{◌≡◌, ◌++◌, map, OnOk};
 ghost use Rattle.std.specs.List.{range_with_len};
-ghost use Rattle.av_build.specs.Modules.{port};
+ghost use Rattle.av_build.specs.inner.Modules.{port};
 ghost use Rattle.av_build.specs.inner.Numbered.{register_in, step_in};
 
 use crate::naming::LaneNames;

@@ -1,9 +1,9 @@
 //! The names of the lanes of a program.
 
 ghost use Rattle.std.specs.Prelude.{◌≡◌, ◌+◌, ◌*◌, ◌^◌, ◌<◌, ◌≤◌, length, IfOk};
-ghost use Rattle.av_build.specs.Labels.{labels};
-ghost use Rattle.av_build.specs.Modules.{operand_of};
-ghost use Rattle.av_build.specs.Names.{input_name, output_name};
+ghost use Rattle.av_build.specs.inner.Labels.{labels};
+ghost use Rattle.av_build.specs.inner.Modules.{operand_of};
+ghost use Rattle.av_build.specs.inner.Names.{input_name, output_name};
 ghost use Rattle.av_build.specs.inner.Written.{program_of, source_of, IsThere};
 ghost use Rattle.av_build.specs.inner.Numbered.{IsNaming};
 

@@ -2,10 +2,10 @@
 
 ghost use Rattle.std.specs.Prelude.{◌≡◌, ◌<◌, ◌++◌, length, OnOk, IfOk};
 ghost use Rattle.std.specs.List.{AllByRecursion};
-ghost use Rattle.av_build.specs.Gates.{drives_from, ports_from};
-ghost use Rattle.av_build.specs.Labels.{labels};
-ghost use Rattle.av_build.specs.Programs.{counts};
-ghost use Rattle.av_build.specs.Modules.{input_ports, output_ports, output_drives, module_of};
+ghost use Rattle.av_build.specs.inner.Gates.{drives_from, ports_from};
+ghost use Rattle.av_build.specs.inner.Labels.{labels};
+ghost use Rattle.av_build.specs.inner.Programs.{counts};
+ghost use Rattle.av_build.specs.inner.Modules.{input_ports, output_ports, output_drives, module_of};
 ghost use Rattle.av_build.specs.inner.Written.{program_of, IsWritable};
 ghost use Rattle.av_build.specs.inner.Numbered.{wire_in};
 ghost use Rattle.av_build.specs.inner.Added.{AddsLaneAt, AddsCounter, ArePartsOf};

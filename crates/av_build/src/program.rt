@@ -11,10 +11,7 @@ pub(crate) enum Source {
     /// An input port, by its number.
     Input(usize),
     /// The word of a lane so many cycles before.
-    Line {
-        lane: usize,
-        delay: u32,
-    },
+    Line { lane: usize, delay: u32 },
 }
 
 /// A stretch of cycles, bounds included.

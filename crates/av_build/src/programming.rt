@@ -7,7 +7,7 @@ ghost use Rattle.av_space.specs.SpaceFaults.{IsSpaceFault};
 ghost use Rattle.av_space.specs.Whole.{IsWhole};
 ghost use Rattle.av_space.specs.declared.spots.Spot.{Spot as SpotSeen};
 ghost use Rattle.av_space.specs.Spots.{IsSpot, AreSites, helpers_of, cells_of};
-ghost use Rattle.av_build.specs.Selections.{stretch_of};
+ghost use Rattle.av_build.specs.inner.Selections.{stretch_of};
 ghost use Rattle.av_build.specs.inner.Blueprints.{IsBlueprint, IsSpotAt, HasHelper, seen, spot_of, lanes_of};
 ghost use Rattle.av_build.specs.inner.Works.{IsWorkFor, IsBuiltBy, AreBuilt, IsProgrammed};
 ghost use Rattle.av_build.specs.inner.Written.{as_stretch, work_of, lane_of, program_of};
@@ -35,12 +35,7 @@ fn stretch(own: Ends, stay: Ends) -> Stretch
 
 impl<'a> Blueprint<'a> {
     // A piece on a cell, with what brings the word of each of its places that read.
-    fn work(
-        &self,
-        alloc: Global,
-        spot: &Spot<'a>,
-        places: &[Site<'a>],
-    ) -> Result<Work<'a>, Memory>
+    fn work(&self, alloc: Global, spot: &Spot<'a>, places: &[Site<'a>]) -> Result<Work<'a>, Memory>
         requires blueprint { IsBlueprint self.now }
         requires spot { IsSpot self.now.array spot.now }
         requires places { AreSites self.now.array spot.now places.now }
@@ -95,12 +90,7 @@ impl<'a> Blueprint<'a> {
     }
 
     // The lane of the word of a helper on a cell.
-    fn pipeline(
-        &self,
-        alloc: Global,
-        cell: usize,
-        helper: HelperPlan,
-    ) -> Result<Lane<'a>, Memory>
+    fn pipeline(&self, alloc: Global, cell: usize, helper: HelperPlan) -> Result<Lane<'a>, Memory>
         requires blueprint { IsBlueprint self.now }
         requires helper { HasHelper self.now cell helper }
         requires ranks { length (helpers_of self.now.array) < 18446744073709551615 }

@@ -2,12 +2,12 @@
 
 ghost use Rattle.std.specs.Prelude.{◌≡◌, length, map, IfOk};
 ghost use Rattle.std.specs.List.{AllByRecursion};
-ghost use Rattle.av_build.specs.Choices.{span_built, tap_built};
-ghost use Rattle.av_build.specs.Cells.{taps_built};
-ghost use Rattle.av_build.specs.Names.{counter_name};
-ghost use Rattle.av_build.specs.Labels.{labels};
-ghost use Rattle.av_build.specs.Programs.{EachOfSite};
-ghost use Rattle.av_build.specs.Modules.{bound, counter_width, span_of, tap_of};
+ghost use Rattle.av_build.specs.inner.Choices.{span_built, tap_built};
+ghost use Rattle.av_build.specs.inner.Cells.{taps_built};
+ghost use Rattle.av_build.specs.inner.Names.{counter_name};
+ghost use Rattle.av_build.specs.inner.Labels.{labels};
+ghost use Rattle.av_build.specs.inner.Programs.{EachOfSite};
+ghost use Rattle.av_build.specs.inner.Modules.{bound, counter_width, span_of, tap_of};
 ghost use Rattle.av_build.specs.inner.Written.{program_of, as_stretch, site_of, IsThere};
 ghost use Rattle.av_build.specs.inner.Numbered.{wire_in};
 ghost use Rattle.av_build.specs.inner.Added.{AddsBuilt, AddsTaken, choice_built, counter};

@@ -1,6 +1,6 @@
 ghost use Rattle.std.specs.Prelude.{◌≡◌, IfOk};
 ghost use Rattle.av_flat.specs.Trees.{view};
-ghost use Rattle.av_build.specs.Trees.{site_count};
+ghost use Rattle.av_build.specs.inner.Trees.{site_count};
 ghost use Rattle.av_build.specs.inner.Written.{program_of, one_place, IsWritable};
 
 use crate::netlist::netlist;
@@ -222,7 +222,12 @@ fn the_increment_is_one_sum(rt: HostRuntime) -> Result<(), Fail> {
     let sum = plus_one(alloc)?;
     let module = written(alloc, &increment(alloc, &sum)?)?;
     let text = text_of(alloc, &module)?;
-    assert!(rt; is(&text, "i0 8; / o0 8; / c0 8; / / c0 = i0 Add 8'd1; o0 = c0; / "));
+    assert!(rt;
+        is(
+            &text,
+            "i0 8; / o0 8; / c0 8; / / c0 = i0 Add 8'd1; o0 = c0; / "
+        )
+    );
     Ok(())
 }
 
@@ -233,6 +238,11 @@ fn lanes_of_a_cell_share_its_numbers(rt: HostRuntime) -> Result<(), Fail> {
     let read = place();
     let module = written(alloc, &two_lanes(alloc, &read, &sum)?)?;
     let text = text_of(alloc, &module)?;
-    assert!(rt; is(&text, "i0 8; / o0 8; / c0_3 1; c0_1 8; c0_2 8; c0_4 1; c0_6 1; c0_8 1; c0 8; cyc_next 12; / r0_1 8; cyc 12; / c0_3 = cyc LessEqual 12'd3; c0_1 = c0_3 ? i0 : r0_1; c0_2 = 8'd7 Add 8'd1; c0_4 = cyc GreaterEqual 12'd2; c0_6 = cyc LessEqual 12'd5; c0_8 = c0_4 And c0_6; c0 = c0_8 ? c0_1 : c0_2; o0 = c0; cyc_next = cyc Add 12'd1; / r0_1 <= c0_1; cyc <= cyc_next; "));
+    assert!(rt;
+        is(
+            &text,
+            "i0 8; / o0 8; / c0_3 1; c0_1 8; c0_2 8; c0_4 1; c0_6 1; c0_8 1; c0 8; cyc_next 12; / r0_1 8; cyc 12; / c0_3 = cyc LessEqual 12'd3; c0_1 = c0_3 ? i0 : r0_1; c0_2 = 8'd7 Add 8'd1; c0_4 = cyc GreaterEqual 12'd2; c0_6 = cyc LessEqual 12'd5; c0_8 = c0_4 And c0_6; c0 = c0_8 ? c0_1 : c0_2; o0 = c0; cyc_next = cyc Add 12'd1; / r0_1 <= c0_1; cyc <= cyc_next; "
+        )
+    );
     Ok(())
 }

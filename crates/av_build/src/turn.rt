@@ -1,10 +1,10 @@
 //! The pieces of a lane, each in its turn.
 
 ghost use Rattle.std.specs.Prelude.{length, map, IfOk};
-ghost use Rattle.av_build.specs.Cells.{part_built, turns_built};
-ghost use Rattle.av_build.specs.Labels.{labels};
-ghost use Rattle.av_build.specs.Programs.{EachOfWork, EachOfCell};
-ghost use Rattle.av_build.specs.Modules.{part_of, turn_of};
+ghost use Rattle.av_build.specs.inner.Cells.{part_built, turns_built};
+ghost use Rattle.av_build.specs.inner.Labels.{labels};
+ghost use Rattle.av_build.specs.inner.Programs.{EachOfWork, EachOfCell};
+ghost use Rattle.av_build.specs.inner.Modules.{part_of, turn_of};
 ghost use Rattle.av_build.specs.inner.Written.{program_of, work_of, shift_of, lane_of, IsThere, HasSites, HasAllSites};
 ghost use Rattle.av_build.specs.inner.Numbered.{wire_in};
 ghost use Rattle.av_build.specs.inner.Added.{AddsBuilt, counter};
@@ -40,7 +40,15 @@ fn piece(
         whole => {
             let operands = selections(alloc, width, program, names, gates, sites)?;
             let mut site = 0;
-            tree(alloc, names, width, operands.as_slice(), gates, &mut site, whole)
+            tree(
+                alloc,
+                names,
+                width,
+                operands.as_slice(),
+                gates,
+                &mut site,
+                whole,
+            )
         }
     }
 }

@@ -7,14 +7,14 @@ use Rattle.av_net.specs.declared.operation.Operation.{Operation}
 use Rattle.av_net.specs.declared.operation.Operation.TheVariants.{Choose}
 use Rattle.av_build.specs.declared.gates.Gate.{Gate}
 use Rattle.av_build.specs.declared.netlist.Parts.{Parts}
-use Rattle.av_build.specs.Names.{counter_name, next_name}
-use Rattle.av_build.specs.Labels.{labels}
-use Rattle.av_build.specs.Gates.{Naming, Built, built, Named, named}
-use Rattle.av_build.specs.Trees.{one_bit}
-use Rattle.av_build.specs.Choices.{Span, span_built}
-use Rattle.av_build.specs.Cells.{Taken}
-use Rattle.av_build.specs.Programs.{Lane, Program}
-use Rattle.av_build.specs.Modules.{port, cell_wires, cell_registers, cell_drives, cell_steps, of_lanes, counter_width, next_drive, counter_step}
+use Rattle.av_build.specs.inner.Names.{counter_name, next_name}
+use Rattle.av_build.specs.inner.Labels.{labels}
+use Rattle.av_build.specs.inner.Gates.{Naming, Built, built, Named, named}
+use Rattle.av_build.specs.inner.Trees.{one_bit}
+use Rattle.av_build.specs.inner.Choices.{Span, span_built}
+use Rattle.av_build.specs.inner.Cells.{Taken}
+use Rattle.av_build.specs.inner.Programs.{Lane, Program}
+use Rattle.av_build.specs.inner.Modules.{port, cell_wires, cell_registers, cell_drives, cell_steps, of_lanes, counter_width, next_drive, counter_step}
 
 -- the wires are these, and the operation is the root
 pub record Adds (gates : List Gate) (b : Built) (root : Operation) : Type 0 where

@@ -12,7 +12,7 @@ use Rattle.av_build.specs.declared.blueprint.CellPlan.{CellPlan}
 use Rattle.av_build.specs.declared.blueprint.HelperPlan.{HelperPlan}
 use Rattle.av_build.specs.declared.blueprint.LanePlan.{LanePlan}
 use Rattle.av_build.specs.declared.blueprint.Pieces.{Pieces}
-use Rattle.av_build.specs.Programmed.{Array, Lanes, Spot, later}
+use Rattle.av_build.specs.inner.Programmed.{Array, Lanes, Spot, later}
 
 -- ---- the array
 

@@ -9,9 +9,9 @@ use Rattle.av_space.specs.declared.layout.Slot.{Slot}
 use Rattle.av_space.specs.Taps.{Handing}
 use Rattle.av_space.specs.Spots.{own_way}
 use Rattle.av_build.specs.declared.moments.Moment.{Moment as MomentMade}
-use Rattle.av_build.specs.Programs.{Source}
-use Rattle.av_build.specs.Selections.{Moment}
-use Rattle.av_build.specs.Programmed.{Array, Lanes, Spot, IsReferenceSource, IsPickSource, IsHandSource}
+use Rattle.av_build.specs.inner.Programs.{Source}
+use Rattle.av_build.specs.inner.Selections.{Moment}
+use Rattle.av_build.specs.inner.Programmed.{Array, Lanes, Spot, IsReferenceSource, IsPickSource, IsHandSource}
 use Rattle.av_build.specs.inner.Written.{source_of}
 
 -- where it is read, by itself

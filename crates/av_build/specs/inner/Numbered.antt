@@ -3,10 +3,10 @@ use Rattle.std.specs.Prelude.{◌≡◌, ℕ, suc, zero, ◌+◌, ◌*◌, nat_e
 use Rattle.av_net.specs.declared.operation.Operand.TheVariants.{Name}
 use Rattle.av_net.specs.declared.netlist.Step.{Step}
 use Rattle.av_build.specs.declared.naming.LaneNames.{LaneNames}
-use Rattle.av_build.specs.Names.{value_name, wire_name, register_name}
-use Rattle.av_build.specs.Programs.{Program}
-use Rattle.av_build.specs.Gates.{Naming}
-use Rattle.av_build.specs.Labels.{labels}
+use Rattle.av_build.specs.inner.Names.{value_name, wire_name, register_name}
+use Rattle.av_build.specs.inner.Programs.{Program}
+use Rattle.av_build.specs.inner.Gates.{Naming}
+use Rattle.av_build.specs.inner.Labels.{labels}
 
 -- the numbers of a lane are those that leave its rank
 abbrev pub number_of : LaneNames → ℕ → ℕ

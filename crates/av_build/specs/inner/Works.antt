@@ -15,12 +15,12 @@ use Rattle.av_build.specs.declared.blueprint.Blueprint.{Blueprint}
 use Rattle.av_build.specs.declared.blueprint.HelperPlan.{HelperPlan}
 use Rattle.av_build.specs.declared.blueprint.LanePlan.{LanePlan}
 use Rattle.av_build.specs.declared.program.Site.{Site as SiteMade}
-use Rattle.av_build.specs.Programs.{Site, Work, Shift, Lane, Program}
-use Rattle.av_build.specs.Selections.{Stay, stretch_of}
-use Rattle.av_build.specs.Serving.{EachPlace}
-use Rattle.av_build.specs.Trees.{site_count}
-use Rattle.av_build.specs.Built.{array_of}
-use Rattle.av_build.specs.Programmed.{Array, Lanes, Spot, IsPlaceSource, IsSiteFor, IsValueLane, IsHelper, IsHelperLane, IsProgramFor}
+use Rattle.av_build.specs.inner.Programs.{Site, Work, Shift, Lane, Program}
+use Rattle.av_build.specs.inner.Selections.{Stay, stretch_of}
+use Rattle.av_build.specs.inner.Serving.{EachPlace}
+use Rattle.av_build.specs.inner.Trees.{site_count}
+use Rattle.av_build.specs.inner.Built.{array_of}
+use Rattle.av_build.specs.inner.Programmed.{Array, Lanes, Spot, IsPlaceSource, IsSiteFor, IsValueLane, IsHelper, IsHelperLane, IsProgramFor}
 use Rattle.av_build.specs.inner.Blueprints.{seen, lanes_of}
 use Rattle.av_build.specs.inner.Written.{LaneMade, site_of, lane_of}
 

@@ -9,8 +9,8 @@ use Rattle.av_build.specs.declared.program.Stretch.{Stretch as StretchMade}
 use Rattle.av_build.specs.declared.program.Stretch.TheVariants as stretch
 use Rattle.av_build.specs.declared.program.Link.{Link as LinkMade}
 use Rattle.av_build.specs.declared.program.Site.{Site as SiteMade}
-use Rattle.av_build.specs.Trees.{site_count}
-use Rattle.av_build.specs.Programs.{Source, word, input, line, Stretch, until, since, between, Link, Site, Work, Shift, Lane, Program, EachOfCell}
+use Rattle.av_build.specs.inner.Trees.{site_count}
+use Rattle.av_build.specs.inner.Programs.{Source, word, input, line, Stretch, until, since, between, Link, Site, Work, Shift, Lane, Program, EachOfCell}
 
 pub record WorkMade : Type 0 where
   pub sites : List SiteMade

@@ -1,5 +1,5 @@
 use Rattle.std.proofs.Common.{refl}
-use Rattle.av_build.specs.Built.{array_of}
+use Rattle.av_build.specs.inner.Built.{array_of}
 use Rattle.av_build.specs.inner.Written.{program_of}
 use Rattle.av_build.proofs.Promised.{few_cycles_of, promised}
 use Rattle.av_build.proofs.SmallNumbers.{small_numbers}

@@ -1,6 +1,6 @@
 use Rattle.std.proofs.Common.{◌≡◌, map, drop}
 use Rattle.std.specs.List.{list_any}
-use Rattle.av_build.specs.Programs.{cell_counts}
+use Rattle.av_build.specs.inner.Programs.{cell_counts}
 use Rattle.av_build.specs.inner.Written.{lane_of}
 use Rattle.av_build.proofs.counting.counts.Given as goal
 

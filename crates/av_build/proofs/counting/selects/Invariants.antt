@@ -1,6 +1,6 @@
 use Rattle.std.proofs.Common.{◌≡◌, map, drop}
 use Rattle.std.specs.List.{list_any}
-use Rattle.av_build.specs.Programs.{is_some_link}
+use Rattle.av_build.specs.inner.Programs.{is_some_link}
 use Rattle.av_build.specs.inner.Written.{site_of}
 use Rattle.av_build.proofs.counting.selects.Given as goal
 

@@ -1,5 +1,5 @@
 use Rattle.std.proofs.Common.{ℕ, List, ap}
-use Rattle.av_build.specs.Modules.{port}
+use Rattle.av_build.specs.inner.Modules.{port}
 use Rattle.av_build.specs.inner.Numbered.{register_in}
 use Rattle.av_build.proofs.Placing.{range_more}
 use Rattle.av_build.proofs.delay_line.add_registers.Goals as goal

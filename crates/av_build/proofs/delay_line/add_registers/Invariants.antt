@@ -1,6 +1,6 @@
 use Rattle.std.proofs.Common.{◌≡◌, ◌++◌, map}
 use Rattle.std.specs.List.{range_with_len}
-use Rattle.av_build.specs.Modules.{port}
+use Rattle.av_build.specs.inner.Modules.{port}
 use Rattle.av_build.specs.inner.Numbered.{register_in}
 use Rattle.av_build.proofs.delay_line.add_registers.Given as goal
 

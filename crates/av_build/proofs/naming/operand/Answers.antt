@@ -1,8 +1,8 @@
 use Rattle.std.proofs.Common.{◌≡◌, ◌∙◌, sym, subst, ap}
 use Rattle.av_net.specs.declared.operation.Operand.TheVariants.{Name}
 use Rattle.av_build.specs.declared.program.Source.{Source as SourceMade}
-use Rattle.av_build.specs.Labels.{labels}
-use Rattle.av_build.specs.Modules.{operand_of}
+use Rattle.av_build.specs.inner.Labels.{labels}
+use Rattle.av_build.specs.inner.Modules.{operand_of}
 use Rattle.av_build.specs.inner.Written.{program_of, source_of}
 use Rattle.av_build.proofs.Placing.{line_named}
 use Rattle.av_build.proofs.naming.operand.Goals as goal

@@ -1,5 +1,5 @@
 use Rattle.std.proofs.Common.{◌≡◌, ◌++◌, map}
-use Rattle.av_build.specs.Gates.{drives_from, ports_from}
+use Rattle.av_build.specs.inner.Gates.{drives_from, ports_from}
 use Rattle.av_build.specs.inner.Numbered.{wire_in}
 use Rattle.av_build.proofs.netlist.add_gates.Given as goal
 

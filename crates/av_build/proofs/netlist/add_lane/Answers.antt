@@ -4,9 +4,9 @@ use Rattle.std.proofs.lemmas.Result.{on_ok_weaker}
 use Rattle.std.specs.List.{range_with_len}
 use Rattle.av_net.specs.declared.netlist.Port.{Port}
 use Rattle.av_net.specs.declared.netlist.Step.{Step}
-use Rattle.av_build.specs.Programs.{EachOfCell}
-use Rattle.av_build.specs.Labels.{labels}
-use Rattle.av_build.specs.Modules.{port, part_of, turn_of}
+use Rattle.av_build.specs.inner.Programs.{EachOfCell}
+use Rattle.av_build.specs.inner.Labels.{labels}
+use Rattle.av_build.specs.inner.Modules.{port, part_of, turn_of}
 use Rattle.av_build.specs.inner.Written.{LaneMade, ProgramMade, program_of, work_of, shift_of, lane_of, IsThere, HasAllSites}
 use Rattle.av_build.specs.inner.Numbered.{wire_in, register_in, step_in}
 use Rattle.av_build.proofs.Placing.{each_read, read_mapped}

@@ -1,5 +1,5 @@
 use Rattle.std.proofs.Common.{◌≡◌, ◌∙◌, ℕ, ◌<◌, List, length, get_or, ap, rules, arith}
-use Rattle.av_build.specs.Labels.{labels}
+use Rattle.av_build.specs.inner.Labels.{labels}
 use Rattle.av_build.specs.inner.Written.{ProgramMade, program_of}
 use Rattle.av_build.proofs.Placing.{next_output}
 use Rattle.av_build.proofs.netlist.add_output_drives.Goals as goal

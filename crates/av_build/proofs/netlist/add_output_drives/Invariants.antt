@@ -1,6 +1,6 @@
 use Rattle.std.proofs.Common.{◌≡◌, ◌++◌, take}
-use Rattle.av_build.specs.Labels.{labels}
-use Rattle.av_build.specs.Modules.{output_drives}
+use Rattle.av_build.specs.inner.Labels.{labels}
+use Rattle.av_build.specs.inner.Modules.{output_drives}
 use Rattle.av_build.specs.inner.Written.{program_of}
 use Rattle.av_build.proofs.netlist.add_output_drives.Given as goal
 

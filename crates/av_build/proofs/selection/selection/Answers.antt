@@ -1,8 +1,8 @@
 use Rattle.std.proofs.Common.{◌≡◌, ◌+◌, ◌-◌, ◌<◌, List, length, get_or, refl, ap, rules, arith}
 use Rattle.av_build.specs.declared.program.Link.{Link as LinkMade}
-use Rattle.av_build.specs.Labels.{labels}
-use Rattle.av_build.specs.Modules.{operand_of}
-use Rattle.av_build.specs.Programs.{Link}
+use Rattle.av_build.specs.inner.Labels.{labels}
+use Rattle.av_build.specs.inner.Modules.{operand_of}
+use Rattle.av_build.specs.inner.Programs.{Link}
 use Rattle.av_build.specs.inner.Written.{program_of, source_of, link_of, IsThere}
 use Rattle.av_build.specs.inner.Numbered.{wire_in}
 use Rattle.av_build.proofs.Placing.{each_read}

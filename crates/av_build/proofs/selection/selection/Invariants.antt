@@ -1,7 +1,7 @@
 use Rattle.std.proofs.Common.{map, drop, length}
-use Rattle.av_build.specs.Choices.{options_built}
-use Rattle.av_build.specs.Labels.{labels}
-use Rattle.av_build.specs.Modules.{operand_of, option_of}
+use Rattle.av_build.specs.inner.Choices.{options_built}
+use Rattle.av_build.specs.inner.Labels.{labels}
+use Rattle.av_build.specs.inner.Modules.{operand_of, option_of}
 use Rattle.av_build.specs.inner.Written.{program_of, source_of, link_of}
 use Rattle.av_build.specs.inner.Numbered.{wire_in}
 use Rattle.av_build.specs.inner.Added.{AddsBuilt, counter}

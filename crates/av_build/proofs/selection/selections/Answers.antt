@@ -1,6 +1,6 @@
 use Rattle.std.proofs.Common.{length}
-use Rattle.av_build.specs.Labels.{labels}
-use Rattle.av_build.specs.Programs.{EachOfSite}
+use Rattle.av_build.specs.inner.Labels.{labels}
+use Rattle.av_build.specs.inner.Programs.{EachOfSite}
 use Rattle.av_build.specs.inner.Written.{program_of, site_of, IsThere}
 use Rattle.av_build.specs.inner.Numbered.{wire_in}
 use Rattle.av_build.proofs.Placing.{each_read}

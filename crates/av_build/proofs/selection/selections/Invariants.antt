@@ -1,6 +1,6 @@
 use Rattle.std.proofs.Common.{map, drop}
-use Rattle.av_build.specs.Labels.{labels}
-use Rattle.av_build.specs.Modules.{tap_of}
+use Rattle.av_build.specs.inner.Labels.{labels}
+use Rattle.av_build.specs.inner.Modules.{tap_of}
 use Rattle.av_build.specs.inner.Written.{program_of, site_of}
 use Rattle.av_build.specs.inner.Numbered.{wire_in}
 use Rattle.av_build.proofs.Chosen.{AreTaken}

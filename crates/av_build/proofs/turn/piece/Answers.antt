@@ -3,11 +3,11 @@ use Rattle.av_net.specs.declared.operation.Operand.{Operand}
 use Rattle.av_flat.specs.declared.tree.Tree.{Tree as TreeMade}
 use Rattle.av_flat.specs.Trees.{view}
 use Rattle.av_build.specs.declared.program.Site.{Site as SiteMade}
-use Rattle.av_build.specs.Choices.{Tap}
-use Rattle.av_build.specs.Cells.{operand_at, taps_built, piece_built}
-use Rattle.av_build.specs.Trees.{site_count, tree_built}
-use Rattle.av_build.specs.Labels.{labels}
-use Rattle.av_build.specs.Modules.{tap_of}
+use Rattle.av_build.specs.inner.Choices.{Tap}
+use Rattle.av_build.specs.inner.Cells.{operand_at, taps_built, piece_built}
+use Rattle.av_build.specs.inner.Trees.{site_count, tree_built}
+use Rattle.av_build.specs.inner.Labels.{labels}
+use Rattle.av_build.specs.inner.Modules.{tap_of}
 use Rattle.av_build.specs.inner.Written.{WorkMade, program_of, site_of}
 use Rattle.av_build.specs.inner.Numbered.{wire_in}
 use Rattle.av_build.specs.inner.Added.{AddsBuilt, counter}

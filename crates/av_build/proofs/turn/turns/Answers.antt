@@ -1,8 +1,8 @@
 use Rattle.std.proofs.Common.{◌≡◌, ◌∙◌, ◌+◌, ◌-◌, ◌<◌, List, length, get_or, ap, rules, arith, subst, sym}
-use Rattle.av_build.specs.Programs.{Shift, EachOfWork}
-use Rattle.av_build.specs.Labels.{labels}
-use Rattle.av_build.specs.Cells.{part_built}
-use Rattle.av_build.specs.Modules.{part_of, span_of}
+use Rattle.av_build.specs.inner.Programs.{Shift, EachOfWork}
+use Rattle.av_build.specs.inner.Labels.{labels}
+use Rattle.av_build.specs.inner.Cells.{part_built}
+use Rattle.av_build.specs.inner.Modules.{part_of, span_of}
 use Rattle.av_build.specs.inner.Written.{WorkMade, ShiftMade, LaneMade, program_of, as_stretch, work_of, shift_of, IsThere, HasSites}
 use Rattle.av_build.specs.inner.Numbered.{wire_in}
 use Rattle.av_build.specs.inner.Added.{AddsBuilt, choice_built, counter}

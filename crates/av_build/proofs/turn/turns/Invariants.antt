@@ -1,7 +1,7 @@
 use Rattle.std.proofs.Common.{map, drop, length}
-use Rattle.av_build.specs.Cells.{turns_built}
-use Rattle.av_build.specs.Labels.{labels}
-use Rattle.av_build.specs.Modules.{part_of, turn_of}
+use Rattle.av_build.specs.inner.Cells.{turns_built}
+use Rattle.av_build.specs.inner.Labels.{labels}
+use Rattle.av_build.specs.inner.Modules.{part_of, turn_of}
 use Rattle.av_build.specs.inner.Written.{program_of, work_of, shift_of}
 use Rattle.av_build.specs.inner.Numbered.{wire_in}
 use Rattle.av_build.specs.inner.Added.{AddsBuilt, counter}

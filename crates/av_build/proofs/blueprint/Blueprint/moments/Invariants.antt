@@ -2,7 +2,7 @@ use Rattle.std.proofs.Common.{◌≡◌, length}
 use Rattle.av_flat.specs.Trees.{view}
 use Rattle.av_space.specs.declared.layout.Slot.{Slot}
 use Rattle.av_build.specs.declared.moments.Moment.{Moment}
-use Rattle.av_build.specs.Programmed.{IsPlaceSource}
+use Rattle.av_build.specs.inner.Programmed.{IsPlaceSource}
 use Rattle.av_build.specs.inner.Blueprints.{seen, spot_of, lanes_of}
 use Rattle.av_build.specs.inner.Written.{source_of}
 use Rattle.av_build.proofs.Pairwise.{ArePairs}

@@ -4,7 +4,7 @@ use Rattle.av_space.specs.declared.origin.Origin.{Origin}
 use Rattle.av_space.specs.declared.origin.Origin.TheVariants as origin
 use Rattle.av_space.specs.Sites.{place_of}
 use Rattle.av_space.specs.Spots.{IsOriginBy}
-use Rattle.av_build.specs.Programs.{input, line, word}
+use Rattle.av_build.specs.inner.Programs.{input, line, word}
 use Rattle.av_build.specs.inner.Blueprints.{lanes_of}
 use Rattle.av_build.proofs.OriginCells.{value_in}
 use Rattle.av_build.proofs.PlaceSources.{own_source}

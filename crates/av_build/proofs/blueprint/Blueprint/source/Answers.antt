@@ -1,7 +1,7 @@
 use Rattle.std.proofs.Common.{◌≡◌, ℕ, refl, sym, ap, subst, Option}
 use Rattle.av_flat.specs.Trees.{view, view_piece}
 use Rattle.av_space.specs.Taps.{Handing, IsReadAt}
-use Rattle.av_build.specs.Programs.{line}
+use Rattle.av_build.specs.inner.Programs.{line}
 use Rattle.av_build.specs.inner.Blueprints.{lanes_of}
 use Rattle.av_build.specs.inner.Written.{source_of}
 use Rattle.av_build.proofs.Handovers.{lane_here}

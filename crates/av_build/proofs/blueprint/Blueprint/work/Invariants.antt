@@ -2,7 +2,7 @@ use Rattle.std.proofs.Common.{◌≡◌, length}
 use Rattle.av_flat.specs.Trees.{view}
 use Rattle.av_space.specs.declared.spots.Site.{Site as Place}
 use Rattle.av_build.specs.declared.program.Site.{Site}
-use Rattle.av_build.specs.Programmed.{IsPlaceSource, IsSiteFor}
+use Rattle.av_build.specs.inner.Programmed.{IsPlaceSource, IsSiteFor}
 use Rattle.av_build.specs.inner.Blueprints.{seen, spot_of, lanes_of}
 use Rattle.av_build.specs.inner.Written.{site_of}
 use Rattle.av_build.proofs.Pairwise.{ArePairs}

@@ -17,10 +17,10 @@ use Rattle.av_space.specs.Standing.{Computes}
 use Rattle.av_flat.specs.Broadcasts.{Reference, references}
 use Rattle.av_flat.specs.Helped.{before}
 use Rattle.av_space.specs.Links.{IsInLink, line_length}
-use Rattle.av_build.specs.Programs.{Source, word, input, line, Site, Work, Lane, Program}
-use Rattle.av_build.specs.Trees.{site_count}
-use Rattle.av_build.specs.Serving.{EachPlace}
-use Rattle.av_build.specs.Selections.{Run, AreInTurn, site_by, Stay, shifts_by, last_work}
+use Rattle.av_build.specs.inner.Programs.{Source, word, input, line, Site, Work, Lane, Program}
+use Rattle.av_build.specs.inner.Trees.{site_count}
+use Rattle.av_build.specs.inner.Serving.{EachPlace}
+use Rattle.av_build.specs.inner.Selections.{Run, AreInTurn, site_by, Stay, shifts_by, last_work}
 
 -- what an array is built from
 pub record Array : Type 0 where

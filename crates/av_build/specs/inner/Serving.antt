@@ -12,9 +12,9 @@ use Rattle.av_flat.specs.declared.timed.Helper.{Helper}
 use Rattle.av_flat.specs.Broadcasts.{Reference, references}
 use Rattle.av_flat.specs.Helped.{before, IsEntry}
 use Rattle.av_space.specs.Taps.{Handing, helper_at}
-use Rattle.av_build.specs.Trees.{site_count}
-use Rattle.av_build.specs.Names.{input_name}
-use Rattle.av_build.specs.Programs.{Source, word, input, line, Lane, work_in, site_source, Program}
+use Rattle.av_build.specs.inner.Trees.{site_count}
+use Rattle.av_build.specs.inner.Names.{input_name}
+use Rattle.av_build.specs.inner.Programs.{Source, word, input, line, Lane, work_in, site_source, Program}
 
 -- the point of the variable at this place is computed on this lane in this cycle
 abbrev pub Placement : Type 1

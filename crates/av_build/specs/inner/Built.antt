@@ -8,10 +8,10 @@ use Rattle.av_net.specs.declared.design.Design.{Design}
 use Rattle.av_space.specs.declared.cells.Cells.{Cells}
 use Rattle.av_space.specs.Coordinates.{Placing}
 use Rattle.av_space.specs.Arrays.{IsArrayOf}
-use Rattle.av_build.specs.Labels.{number_in, labels}
-use Rattle.av_build.specs.Programs.{Lane, Program}
-use Rattle.av_build.specs.Modules.{cell_built, module_of}
-use Rattle.av_build.specs.Programmed.{Array, Lanes, IsProgramFor}
+use Rattle.av_build.specs.inner.Labels.{number_in, labels}
+use Rattle.av_build.specs.inner.Programs.{Lane, Program}
+use Rattle.av_build.specs.inner.Modules.{cell_built, module_of}
+use Rattle.av_build.specs.inner.Programmed.{Array, Lanes, IsProgramFor}
 
 abbrev pub array_of : Timed → Cells → List Placing → Array
 array_of t a placings = record { system = view_system t.flat; helpers = t.helpers; times = placings; cells = a.cells; links = a.links; ports = a.inputs }
