@@ -1,14 +1,13 @@
 -- The operators of the lanes of one cell, and those of the pieces that stand on it.
-use Rattle.std.proofs.Common.{◌≡◌, ◌≢◌, ℕ, zero, suc, ◌+◌, ◌<◌, ◌≤◌, Some, List, [], ◌∷◌, length, map, take, get_or, refl, sym, arith, ◌∙◌, ap, Bool, true, false}
+use Rattle.std.proofs.Common.{◌≡◌, ◌≢◌, ℕ, zero, suc, ◌+◌, ◌<◌, ◌≤◌, Some, List, [], ◌∷◌, length, map, take, get_or, refl, sym, arith, ◌∙◌, ap, Bool, true, false, if◌then◌else◌}
 use Rattle.std.specs.Prelude.{slice_get, nat_eq, sum}
 use Rattle.std.proofs.lemmas.Bool.{eqb-true}
 use Rattle.std.proofs.lemmas.List.Sums.{sum_by-cons}
 use Rattle.std.proofs.lemmas.Option.{get_or_from_slice_get}
 use Rattle.av_flat.specs.Trees.{Piece, Variable}
-use Rattle.av_flat.specs.Points.{has}
 use Rattle.av_space.specs.ArrayForm.{Sort, operators}
 use Rattle.av_space.proofs.Elements.{some_is}
-use Rattle.av_build.specs.inner.Programs.{Work, Lane, counts}
+use Rattle.av_build.specs.inner.Programs.{Work, Lane}
 use Rattle.av_build.specs.inner.Selections.{Stay, shifts_by, last_work}
 use Rattle.av_build.specs.inner.Kinds.{of_tree, of_shifts, of_lane}
 use Rattle.av_build.proofs.Sorts.{unit, tree_has}
