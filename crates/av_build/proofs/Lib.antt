@@ -60,6 +60,9 @@ pub mod SpotNodes
 pub mod Handovers
 pub mod CellUses
 pub mod Pairwise
+pub mod CellPieces
+pub mod CellSpots
+pub mod CellHelpers
 pub mod LaneSearch
 pub mod HelperSteps
 pub mod OriginCells

@@ -1,6 +1,6 @@
 use Rattle.std.proofs.Common.{ℕ, List, [], ap}
-use Rattle.av_build.specs.Names.{output_name}
-use Rattle.av_build.specs.Modules.{port}
+use Rattle.av_build.specs.inner.Names.{output_name}
+use Rattle.av_build.specs.inner.Modules.{port}
 use Rattle.av_build.proofs.Placing.{range_more}
 use Rattle.av_build.proofs.netlist.output_ports.Goals as goal
 
