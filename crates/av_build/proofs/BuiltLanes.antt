@@ -1,7 +1,7 @@
 -- The lanes of a blueprint as they are built.
-use Rattle.std.proofs.Common.{◌≡◌, ℕ, suc, ◌+◌, ◌-◌, ◌<◌, ◌≤◌, List, [], ◌∷◌, ◌++◌, length, refl, sym, ap, subst, ◌∙◌, arith, Option, Some, None}
+use Rattle.std.proofs.Common.{◌≡◌, ℕ, suc, ◌+◌, ◌-◌, ◌<◌, List, [], ◌∷◌, ◌++◌, length, refl, sym, ap, subst, ◌∙◌, arith, Some, None}
 use Rattle.std.specs.Prelude.{slice_get}
-use Rattle.av_flat.specs.Trees.{view, view_variable}
+use Rattle.av_flat.specs.Trees.{view}
 use Rattle.av_flat.specs.Nodes.{nodes}
 use Rattle.av_space.specs.declared.array.Array.{Array as ArrayMade}
 use Rattle.av_space.specs.declared.layout.Slot.{Slot}

@@ -1,5 +1,5 @@
 -- The pieces of a cell as the lane of its value takes them, one after another.
-use Rattle.std.proofs.Common.{◌≡◌, ◌∙◌, ◌-◌, ◌+◌, ◌<◌, ◌≤◌, ℕ, List, length, get_or, sym, ap, subst, arith, Some}
+use Rattle.std.proofs.Common.{◌≡◌, ◌∙◌, ◌<◌, ℕ, List, length, get_or, sym, ap, subst, arith, Some}
 use Rattle.std.specs.Prelude.{AllPairs, slice_get}
 use Rattle.av_space.specs.declared.layout.Slot.{Slot}
 use Rattle.av_space.specs.declared.spots.Spot.{Spot as SpotMade}

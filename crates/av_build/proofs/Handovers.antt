@@ -1,12 +1,11 @@
 -- Where a helper has a lane: on a cell on which its word is read later, and on the cell from which a link hands it on.
-use Rattle.std.proofs.Common.{◌≡◌, ℕ, refl, sym, ap, subst, ◌∙◌, IsTrue, Option, Some}
+use Rattle.std.proofs.Common.{◌≡◌, ℕ, refl, sym, ap, subst, ◌∙◌, IsTrue, Some}
 use Rattle.std.specs.Prelude.{slice_get}
 use Rattle.av_tree.specs.Points.{Point}
 use Rattle.av_flat.specs.Trees.{Tree, Piece, FlatSystem, view, view_piece, view_variable, reference}
 use Rattle.av_flat.specs.Points.{has}
 use Rattle.av_flat.specs.Broadcasts.{references}
 use Rattle.av_flat.specs.Helped.{before}
-use Rattle.av_flat.specs.Nodes.{number_at}
 use Rattle.av_flat.specs.Signatures.{signatures}
 use Rattle.av_space.specs.declared.layout.Slot.{Slot}
 use Rattle.av_space.specs.declared.spots.Site.{Site as PlaceMade}

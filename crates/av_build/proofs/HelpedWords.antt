@@ -1,7 +1,7 @@
 -- The source of a reference with a helper, by whether the helper's word is read later on the cell.
-use Rattle.std.proofs.Common.{◌≡◌, ℕ, ◌<◌, refl, sym, subst, ◌∙◌, arith, Bool, true, false, Some}
+use Rattle.std.proofs.Common.{◌≡◌, ℕ, ◌<◌, refl, subst, arith, Bool, true, false, Some}
 use Rattle.std.specs.Prelude.{nat_le}
-use Rattle.av_flat.specs.Trees.{Tree, view, reference}
+use Rattle.av_flat.specs.Trees.{view}
 use Rattle.av_flat.specs.Broadcasts.{references}
 use Rattle.av_flat.specs.Signatures.{signatures}
 use Rattle.av_space.specs.declared.array.Array.{Array as ArrayMade}

@@ -1,5 +1,5 @@
 -- The lane of a helper on a cell.
-use Rattle.std.proofs.Common.{◌≡◌, ℕ, zero, suc, ◌+◌, ◌<◌, List, [], ◌∷◌, ◌++◌, length, map, refl, sym, ap, subst, ◌∙◌, arith, inl, inr, IsTrue, true, Option, Some, None, length-append}
+use Rattle.std.proofs.Common.{◌≡◌, ℕ, zero, suc, ◌+◌, ◌<◌, List, [], ◌∷◌, ◌++◌, length, map, refl, sym, ap, subst, ◌∙◌, arith, inl, inr, IsTrue, Some, length-append}
 use Rattle.std.specs.Prelude.{slice_get}
 use Rattle.av_affine.specs.declared.map.Map.{Map}
 use Rattle.av_tree.specs.Points.{Point}
@@ -7,32 +7,31 @@ use Rattle.av_flat.specs.declared.timed.Helper.{Helper}
 use Rattle.av_flat.specs.Trees.{Tree, Piece, Variable, FlatSystem, view, view_piece, view_variable, reference, constant, binary, choice, restriction, cases, dependence, reduction, pick}
 use Rattle.av_flat.specs.Points.{has}
 use Rattle.av_flat.specs.Broadcasts.{Reference, references}
-use Rattle.av_flat.specs.Chained.{IsChained}
 use Rattle.av_flat.specs.Helped.{before}
-use Rattle.av_flat.specs.Nodes.{is_node, nodes, number_at}
+use Rattle.av_flat.specs.Nodes.{nodes, number_at}
 use Rattle.av_flat.specs.Signatures.{signatures}
 use Rattle.av_space.specs.declared.array.Array.{Array as ArrayMade}
 use Rattle.av_space.specs.declared.cells.Cell.{Cell}
 use Rattle.av_space.specs.declared.spots.Site.{Site as PlaceMade}
 use Rattle.av_space.specs.declared.spots.Spot.{Spot as SpotMade}
 use Rattle.av_space.specs.Sites.{place_of}
-use Rattle.av_space.specs.Spots.{system_of, helpers_of, ComputesIn, IsArray, IsSpot, IsSiteOf, AreSpots, AreSites, handing_by}
+use Rattle.av_space.specs.Spots.{system_of, helpers_of, ComputesIn, IsArray, IsSpot, IsSiteOf, handing_by}
 use Rattle.av_space.specs.Taps.{Handing, helper_at, node_place, Place, places_in}
 use Rattle.av_space.proofs.ByPlace.{there_is, from_map}
 use Rattle.av_space.proofs.Elements.{some_is, at_index, in_range, got}
 use Rattle.av_space.proofs.Helpers.{found_helper}
-use Rattle.av_space.proofs.Nodes.{passing, own_place, node_variable}
+use Rattle.av_space.proofs.Nodes.{own_place}
 use Rattle.av_space.proofs.NodePlaces.{node_at}
 use Rattle.av_space.proofs.SpotPlaces.{IsPlaceBy, place_read}
 use Rattle.av_space.proofs.SpotReadings.{known}
 use Rattle.av_build.specs.declared.blueprint.HelperPlan.{HelperPlan}
 use Rattle.av_build.specs.declared.blueprint.Pieces.{Pieces}
 use Rattle.av_build.specs.inner.Programs.{Source, Site, Lane}
-use Rattle.av_build.specs.inner.Programmed.{Array, Lanes, Spot, later, helper_length, IsHandSource, IsSiteFor, IsHelper, IsHelperLane}
-use Rattle.av_build.specs.inner.Blueprints.{seen, spot_of, ArePieces, IsPlaceOn, IsHelperOn}
+use Rattle.av_build.specs.inner.Programmed.{Lanes, Spot, later, helper_length, IsHandSource, IsSiteFor, IsHelper, IsHelperLane}
+use Rattle.av_build.specs.inner.Blueprints.{seen, spot_of, ArePieces, IsHelperOn}
 use Rattle.av_build.specs.inner.Moments.{IsHandBy}
 use Rattle.av_build.proofs.Appended.{get_left, get_right, get_cases}
-use Rattle.av_build.proofs.HelperPlans.{IsReference, by_tree}
+use Rattle.av_build.proofs.HelperPlans.{by_tree}
 use Rattle.av_build.proofs.SpotNodes.{node_of}
 
 -- ---- the place of a reference

@@ -1,8 +1,7 @@
 -- The helpers with lanes on a cell, place by place.
-use Rattle.std.proofs.Common.{◌≡◌, ◌≢◌, ℕ, zero, suc, ◌+◌, ◌<◌, ◌≤◌, ◌⊎◌, inl, inr, List, [], ◌∷◌, ◌++◌, length, map, get_or, refl, sym, ap, ap₂, subst, ◌∙◌, arith, IsTrue, Bool, true, false, Option, Some, None}
-use Rattle.std.specs.Prelude.{slice_get, All, AllPairs, Contains}
+use Rattle.std.proofs.Common.{◌≡◌, ◌≢◌, ℕ, ◌+◌, ◌<◌, ◌≤◌, ◌⊎◌, inl, inr, List, [], ◌∷◌, ◌++◌, length, refl, sym, ap, ap₂, subst, ◌∙◌, arith, Some}
+use Rattle.std.specs.Prelude.{slice_get, Contains}
 use Rattle.std.proofs.lemmas.Bool.{cases_lt}
-use Rattle.std.proofs.lemmas.Option.{slice_get-get_or}
 use Rattle.std.proofs.lemmas.List.Elements.{All-push, All-weaker, Contains-append_left, Contains-push}
 use Rattle.std.proofs.lemmas.List.Quantifiers.{all_pairs_push}
 use Rattle.av_affine.specs.declared.map.Map.{Map}
@@ -12,7 +11,7 @@ use Rattle.av_space.specs.declared.array.Array.{Array as ArrayMade}
 use Rattle.av_space.specs.declared.spots.Site.{Site as PlaceMade}
 use Rattle.av_space.specs.declared.spots.Spot.{Spot as SpotMade}
 use Rattle.av_space.specs.Sites.{place_of}
-use Rattle.av_space.specs.Spots.{helpers_of, handing_by, IsSpot, IsSiteOf, AreSpots, AreSites}
+use Rattle.av_space.specs.Spots.{helpers_of, handing_by, IsSiteOf}
 use Rattle.av_space.specs.Taps.{Handing, helper_at, Place, places_in}
 use Rattle.av_space.proofs.ByPlace.{pair_at}
 use Rattle.av_space.proofs.Elements.{some_is, at_index, mapped, in_range}
@@ -20,8 +19,7 @@ use Rattle.av_space.proofs.Helpers.{found_helper}
 use Rattle.av_space.proofs.SpotPlaces.{place_read}
 use Rattle.av_build.specs.declared.blueprint.HelperPlan.{HelperPlan}
 use Rattle.av_build.specs.declared.blueprint.Pieces.{Pieces}
-use Rattle.av_build.specs.inner.Programmed.{later}
-use Rattle.av_build.specs.inner.Blueprints.{seen, ArePieces, IsPlaceOn, IsHelperOn, IsBeforeAt, AreHelpers}
+use Rattle.av_build.specs.inner.Blueprints.{ArePieces, IsHelperOn, IsBeforeAt, AreHelpers}
 use Rattle.av_build.proofs.PlaceNumbers.{one_reference}
 
 -- ---- a helper is of one place

@@ -1,5 +1,5 @@
 -- The helpers with lanes on a cell, after one more place.
-use Rattle.std.proofs.Common.{◌≡◌, ℕ, suc, ◌+◌, ◌<◌, ◌≤◌, List, [], ◌∷◌, ◌++◌, refl, sym, ap, ap₂, subst, ◌∙◌, arith, IsTrue, true, false, Option, Some, None}
+use Rattle.std.proofs.Common.{◌≡◌, ℕ, ◌+◌, ◌<◌, ◌≤◌, List, [], ◌∷◌, ◌++◌, refl, sym, ap, ap₂, ◌∙◌, arith, true, Some, None}
 use Rattle.std.specs.Prelude.{slice_get, nat_le}
 use Rattle.av_space.specs.declared.array.Array.{Array as ArrayMade}
 use Rattle.av_space.specs.declared.spots.Site.{Site as PlaceMade}
@@ -8,7 +8,7 @@ use Rattle.av_space.specs.Taps.{Handing}
 use Rattle.av_space.proofs.Elements.{some_is}
 use Rattle.av_build.specs.declared.blueprint.HelperPlan.{HelperPlan}
 use Rattle.av_build.specs.declared.blueprint.Pieces.{Pieces}
-use Rattle.av_build.specs.inner.Programmed.{later, helper_length}
+use Rattle.av_build.specs.inner.Programmed.{helper_length}
 use Rattle.av_build.specs.inner.Blueprints.{seen, ArePieces, IsHelperOn, AreHelpers}
 use Rattle.av_build.proofs.HelperPlans.{no_helper, one_helper}
 

@@ -1,11 +1,10 @@
 -- The module of a program of an array is in array form, and its cells read registers of those alone that they are linked to.
-use Rattle.std.proofs.Common.{◌≡◌, ◌≢◌, ℕ, zero, suc, ◌+◌, ◌^◌, ◌<◌, ◌≤◌, ◌⊎◌, Option, None, Some, List, [], ◌∷◌, ◌++◌, length, map, take, get_or, refl, sym, subst, arith, ◌∙◌, ap, Bool, true, false, true≢false, if◌then◌else◌, inl, inr}
-use Rattle.std.specs.Prelude.{All, AllPairs, Contains, slice_get, slice_index_or, decimal, codes, nat_eq, nat_lt, ◌&&◌, sum}
+use Rattle.std.proofs.Common.{◌≡◌, ◌≢◌, ℕ, zero, suc, ◌+◌, ◌^◌, ◌<◌, ◌≤◌, ◌⊎◌, Option, None, Some, List, [], ◌∷◌, ◌++◌, length, map, take, refl, sym, subst, arith, ◌∙◌, ap, Bool, true, false, true≢false, if◌then◌else◌, inl, inr}
+use Rattle.std.specs.Prelude.{All, Contains, slice_get, slice_index_or, decimal, nat_eq, nat_lt, ◌&&◌, sum}
 use Rattle.std.specs.List.{AllByRecursion, range_with_len}
 use Rattle.std.proofs.lemmas.Bool.{eqb-true, eq-eqb}
 use Rattle.std.proofs.lemmas.List.{length-map}
-use Rattle.std.proofs.lemmas.List.Sums.{sum_by-cons}
-use Rattle.std.proofs.lemmas.List.Elements.{All-from_recursion, All-contains, All-map, All-filter, Contains-append_left, Contains-append_right, Contains-append_cases}
+use Rattle.std.proofs.lemmas.List.Elements.{All-from_recursion, All-contains, All-map, All-filter, Contains-append_left, Contains-append_right}
 use Rattle.std.proofs.lemmas.Option.{slice_get_within, get_or_from_slice_get}
 use Rattle.av_base.specs.declared.width.Width.{Width}
 use Rattle.av_tree.specs.Points.{Point}
@@ -26,35 +25,33 @@ use Rattle.av_net.specs.Meaning.{Widths, EachOperand}
 use Rattle.av_net.specs.Names.{names_of, width_of}
 use Rattle.av_space.specs.declared.cells.Cells.{Cells}
 use Rattle.av_space.specs.declared.cells.Cell.{Cell}
-use Rattle.av_space.specs.declared.cells.InPort.{InPort}
 use Rattle.av_space.specs.declared.cells.Link.{Link as LinkMade}
 use Rattle.av_space.specs.Ports.{output_cells, is_output_cell}
 use Rattle.av_space.specs.Standing.{IsUsed, Computes}
 use Rattle.av_space.specs.Quantities.{IsUse}
-use Rattle.av_space.specs.ArrayForm.{IsWire, IsRegister, MayName, MayTake, operands_of, Sort, rest, IsOfSort, AreOfSorts, ended, sorted, how_many, is_same, operators, ArePiecesOn, AreDrivesOf, of_cell, other, HasFewOperators, HasCounter, counting, without, IsArrayForm}
+use Rattle.av_space.specs.ArrayForm.{IsWire, IsRegister, MayName, MayTake, operands_of, Sort, rest, AreOfSorts, ended, sorted, how_many, is_same, operators, ArePiecesOn, AreDrivesOf, of_cell, other, HasFewOperators, HasCounter, counting, without, IsArrayForm}
 use Rattle.av_space.proofs.ByPlace.{there_is, from_map, pairs_by_place}
 use Rattle.av_space.proofs.Elements.{some_is, both_each, each_at, in_range, get_contained, mapped, at_index}
 use Rattle.av_space.proofs.Timely.{some_piece_of}
 use Rattle.av_build.specs.declared.gates.Gate.{Gate}
-use Rattle.av_build.specs.inner.Names.{Labels, input_name, output_name, value_name, wire_name, register_name, line_name, counter_name, next_name}
-use Rattle.av_build.specs.inner.Labels.{label_in, number_in, lane_value, lane_wire, lane_register, labels}
+use Rattle.av_build.specs.inner.Names.{Labels, input_name, output_name, value_name, line_name, counter_name, next_name}
+use Rattle.av_build.specs.inner.Labels.{label_in, lane_value, lane_register, labels}
 use Rattle.av_build.specs.inner.Gates.{Naming, drives_from, ports_from}
-use Rattle.av_build.specs.inner.Choices as choices
-use Rattle.av_build.specs.inner.Cells.{Part, Turn, Plan}
-use Rattle.av_build.specs.inner.Programs.{Source, word, input, line, Link, Site, Work, Shift, Lane, Program, counts}
-use Rattle.av_build.specs.inner.Programmed.{Array, Lanes, IsLaneFor, of_value, of_helper, IsStayFor, IsValueLane}
+use Rattle.av_build.specs.inner.Cells.{Turn}
+use Rattle.av_build.specs.inner.Programs.{Source, word, input, line, Site, Work, Shift, Lane, Program, counts}
+use Rattle.av_build.specs.inner.Programmed.{Array, IsLaneFor, of_value, of_helper, IsStayFor, IsValueLane}
 use Rattle.av_build.specs.inner.Selections.{Stay, shifts_by, last_work}
-use Rattle.av_build.specs.inner.Modules.{of_lanes, operand_of, tap_of, part_of, turn_of, plan_of, port, bound, counter_width, cell_built, cell_drives, cell_wires, cell_registers, cell_steps, line_step, output_drives, if_counted, next_drive, counter_step, module_of}
-use Rattle.av_build.specs.inner.Kinds.{of_operation, of_gates, of_tree, of_shifts, of_lane}
-use Rattle.av_build.specs.inner.Built.{IsProgramOf, array_of, design_of}
+use Rattle.av_build.specs.inner.Modules.{of_lanes, operand_of, tap_of, turn_of, plan_of, port, bound, counter_width, cell_built, cell_drives, cell_wires, cell_registers, cell_steps, line_step, output_drives, if_counted, next_drive, counter_step, module_of}
+use Rattle.av_build.specs.inner.Kinds.{of_operation, of_tree, of_shifts, of_lane}
+use Rattle.av_build.specs.inner.Built.{IsProgramOf, array_of}
 use Rattle.av_build.proofs.CellOperators.{taken_at, take_has, lane_stays, same_operators, total_is, have_most, piece_at, IsStayOf, stays_have, pieces_have, lanes_have}
-use Rattle.av_build.proofs.NameParts.{decimal_once, owner, owner_numbered, sort, sort_numbered, each_of_range, numbered_injective}
-use Rattle.av_build.proofs.Declared.{Each, later_each, one_number, one_owner, value_sort, wire_list, register_list, wires_are, registers_are}
+use Rattle.av_build.proofs.NameParts.{decimal_once, owner, owner_numbered, sort, sort_numbered, numbered_injective}
+use Rattle.av_build.proofs.Declared.{Each, later_each, one_number, one_owner, value_sort}
 use Rattle.av_build.proofs.Fine.{Known, IsKnown, FineGates, FineBuilt, Fine}
 use Rattle.av_build.proofs.ArrayForm.{MayRead}
 use Rattle.av_build.proofs.Form.{value_wire, inner_wire, line_register, may_name, may_link, register_owner, register_sort}
-use Rattle.av_build.proofs.Counted.{of_built, lane_has}
-use Rattle.av_build.proofs.Sorts.{NotCounter, Good, GoodGates, GoodBuilt, Among, sort_in, is_sort, more_sorts, unit, operation_has, gates_have, tree_has, plan_good, FreeTap, FreePart}
+use Rattle.av_build.proofs.Counted.{lane_has}
+use Rattle.av_build.proofs.Sorts.{NotCounter, Good, GoodGates, GoodBuilt, Among, sort_in, is_sort, more_sorts, unit, operation_has, gates_have, plan_good, FreeTap, FreePart}
 use Rattle.av_build.proofs.Listed.{value_label, place_of}
 use Rattle.av_build.proofs.Connected.{given, legal_array}
 use Rattle.av_build.proofs.Whole.{module_reads}

@@ -1,6 +1,6 @@
 -- The site of a place from its sources by cycle.
-use Rattle.std.proofs.Common.{◌≡◌, ℕ, zero, suc, ◌<◌, List, [], ◌∷◌, length, map, refl, sym, ap, subst, ◌∙◌, arith, IsTrue, Some}
-use Rattle.std.specs.Prelude.{slice_get, AllPairs}
+use Rattle.std.proofs.Common.{◌≡◌, ℕ, suc, ◌<◌, List, [], ◌∷◌, map, refl, sym, ap, subst, ◌∙◌, arith, IsTrue, Some}
+use Rattle.std.specs.Prelude.{slice_get}
 use Rattle.std.specs.List.{AllByRecursion}
 use Rattle.av_tree.specs.Points.{Point}
 use Rattle.av_flat.specs.Points.{has}
@@ -9,7 +9,7 @@ use Rattle.av_space.specs.declared.layout.Slot.{Slot}
 use Rattle.av_space.specs.declared.spots.Spot.{Spot as SpotMade}
 use Rattle.av_space.specs.Spots.{ComputesIn, IsSlotIn, AreSlotsIn}
 use Rattle.av_space.proofs.ByPlace.{there_is, from_map, pair_at}
-use Rattle.av_space.proofs.Elements.{some_is, at_index, mapped, got, in_range}
+use Rattle.av_space.proofs.Elements.{at_index, mapped, got, in_range}
 use Rattle.av_build.specs.declared.moments.Moment.{Moment as MomentMade}
 use Rattle.av_build.specs.inner.Programs.{Source, Site}
 use Rattle.av_build.specs.inner.Selections.{Moment, runs_of, site_by}

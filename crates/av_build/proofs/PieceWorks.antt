@@ -1,6 +1,6 @@
 -- The pieces of a cell with the sources of their places.
-use Rattle.std.proofs.Common.{◌≡◌, ℕ, zero, suc, ◌+◌, ◌<◌, ◌≤◌, List, [], ◌∷◌, ◌++◌, length, map, refl, sym, ap, subst, ◌∙◌, arith, Some}
-use Rattle.std.specs.Prelude.{slice_get, Contains}
+use Rattle.std.proofs.Common.{◌≡◌, ℕ, ◌+◌, ◌≤◌, List, [], ◌∷◌, ◌++◌, length, map, refl, sym, ap, subst, ◌∙◌, arith, Some}
+use Rattle.std.specs.Prelude.{slice_get}
 use Rattle.std.proofs.lemmas.List.{length-map}
 use Rattle.std.proofs.lemmas.List.Elements.{All-contains}
 use Rattle.av_flat.specs.Trees.{Tree, view, view_piece, view_variable}
@@ -11,7 +11,7 @@ use Rattle.av_space.specs.declared.spots.Ends.{Ends}
 use Rattle.av_space.specs.declared.spots.Site.{Site as PlaceMade}
 use Rattle.av_space.specs.declared.spots.Spot.{Spot as SpotMade}
 use Rattle.av_space.specs.Sites.{place_of}
-use Rattle.av_space.specs.Spots.{system_of, helpers_of, placings_of, cells_of, ComputesIn, IsArray, IsSpot, IsSlotIn, AreEnds, AreSites}
+use Rattle.av_space.specs.Spots.{system_of, placings_of, cells_of, ComputesIn, IsArray, IsSpot, IsSlotIn, AreEnds, AreSites}
 use Rattle.av_space.specs.Taps.{node_place, Place, places_in}
 use Rattle.av_space.proofs.ByPlace.{there_is, from_map}
 use Rattle.av_space.proofs.Elements.{some_is, in_range, mapped, get_contained}
@@ -20,8 +20,6 @@ use Rattle.av_space.proofs.Scheduling.{scheduled}
 use Rattle.av_build.specs.declared.program.Site.{Site as SiteMade}
 use Rattle.av_build.specs.inner.Programs.{Site, Work, Shift}
 use Rattle.av_build.specs.inner.Selections.{Stay, shifts_by, last_work}
-use Rattle.av_build.specs.inner.Serving.{EachPlace}
-use Rattle.av_build.specs.inner.Trees.{site_count}
 use Rattle.av_build.specs.inner.Programmed.{Lanes, IsPlaceSource, IsSiteFor, IsStayFor}
 use Rattle.av_build.specs.inner.Blueprints.{seen, spot_of}
 use Rattle.av_build.specs.inner.Works.{AreWorkSites, IsWorkFor, shift_in}

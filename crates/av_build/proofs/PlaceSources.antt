@@ -1,6 +1,6 @@
 -- Sources of places from where these read.
-use Rattle.std.proofs.Common.{◌≡◌, ℕ, ◌<◌, ◌≤◌, refl, sym, ap, subst, ◌∙◌, arith, IsTrue, Bool, true, false, Option, Some, None}
-use Rattle.std.specs.Prelude.{slice_get, nat_le}
+use Rattle.std.proofs.Common.{◌≡◌, ℕ, refl, sym, ap, subst, ◌∙◌, IsTrue, Bool, true, false, Option, Some, None}
+use Rattle.std.specs.Prelude.{slice_get}
 use Rattle.av_tree.specs.Points.{Point}
 use Rattle.av_affine.specs.declared.map.Map.{Map}
 use Rattle.av_flat.specs.Trees.{Tree, reference, constant, binary, choice, restriction, cases, dependence, reduction, pick, view}
@@ -16,10 +16,10 @@ use Rattle.av_space.specs.declared.spots.Site.{Site as PlaceMade}
 use Rattle.av_space.specs.declared.spots.Spot.{Spot as SpotMade}
 use Rattle.av_space.specs.Sites.{place_of}
 use Rattle.av_space.specs.Spots.{IsSpot, IsSiteOf, IsLinkedBy, IsReferenceOrigin, at_port, over_link, IsPickOrigin, IsOriginBy, own_way, handed_tap, handing_by, helpers_of, system_of}
-use Rattle.av_space.specs.Taps.{Handing, helper_at, node_place, Place, Way, each, handed, Tap}
+use Rattle.av_space.specs.Taps.{Handing, helper_at, node_place, Place, Way, each, handed}
 use Rattle.av_space.proofs.SpotPlaces.{place_read}
 use Rattle.av_build.specs.inner.Programs.{Source, word, input, line}
-use Rattle.av_build.specs.inner.Programmed.{Array, Lanes, Spot, IsLinked, IsReferenceSource, by_port, by_link, IsHandSource, IsHandedSource, IsHelpedSource, IsPickSource, IsPlaceSource, later}
+use Rattle.av_build.specs.inner.Programmed.{Lanes, IsLinked, IsReferenceSource, by_port, by_link, IsHandSource, IsHandedSource, IsHelpedSource, IsPickSource, IsPlaceSource, later}
 use Rattle.av_build.specs.inner.Blueprints.{seen, spot_of}
 use Rattle.av_build.specs.inner.Moments.{IsOwnSource, IsHandBy}
 

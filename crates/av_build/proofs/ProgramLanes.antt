@@ -1,8 +1,7 @@
 -- The lanes of a blueprint make the program of its array.
-use Rattle.std.proofs.Common.{◌≡◌, ℕ, suc, ◌<◌, ◌≤◌, inl, inr, List, length, map, refl, sym, ap, subst, ◌∙◌, arith, IsTrue, Option, Some, None}
+use Rattle.std.proofs.Common.{◌≡◌, ℕ, suc, ◌<◌, inl, inr, List, length, map, refl, sym, ap, subst, ◌∙◌, arith, IsTrue, Option, Some, None}
 use Rattle.std.specs.Prelude.{slice_get, IfSome}
 use Rattle.std.proofs.lemmas.Bool.{cases_lt}
-use Rattle.std.proofs.lemmas.Option.{slice_get-get_or}
 use Rattle.av_tree.specs.Points.{Point}
 use Rattle.av_flat.specs.declared.timed.Helper.{Helper}
 use Rattle.av_flat.specs.declared.timed.Timed.{Timed}
@@ -13,7 +12,6 @@ use Rattle.av_flat.specs.Trees.{Piece, Variable, view_piece, view_variable}
 use Rattle.av_space.specs.declared.array.Array.{Array as ArrayMade}
 use Rattle.av_space.specs.declared.cells.Cell.{Cell}
 use Rattle.av_space.specs.declared.cells.Cells.{Cells}
-use Rattle.av_space.specs.declared.layout.Slot.{Slot}
 use Rattle.av_space.specs.declared.spots.Spot.{Spot as SpotMade}
 use Rattle.av_space.specs.Whole.{IsWhole}
 use Rattle.av_space.specs.Coordinates.{Placing}
@@ -25,10 +23,10 @@ use Rattle.av_build.specs.declared.blueprint.Blueprint.{Blueprint}
 use Rattle.av_build.specs.declared.blueprint.CellPlan.{CellPlan}
 use Rattle.av_build.specs.declared.blueprint.HelperPlan.{HelperPlan}
 use Rattle.av_build.specs.declared.blueprint.LanePlan.{LanePlan}
-use Rattle.av_build.specs.inner.Programs.{Lane, Program}
+use Rattle.av_build.specs.inner.Programs.{Lane}
 use Rattle.av_build.specs.inner.Built.{array_of}
-use Rattle.av_build.specs.inner.Programmed.{Array, Lanes, later, IsHelper, IsValueLane, IsHelperLane, IsLaneFor, of_value, of_helper, IsProgramFor}
-use Rattle.av_build.specs.inner.Blueprints.{seen, lanes_of, number_in, ArePieces, IsHelperOn, IsBlueprint, HasLane}
+use Rattle.av_build.specs.inner.Programmed.{later, IsHelper, IsValueLane, IsHelperLane, IsLaneFor, of_value, of_helper, IsProgramFor}
+use Rattle.av_build.specs.inner.Blueprints.{seen, lanes_of, number_in, IsHelperOn, IsBlueprint, HasLane}
 use Rattle.av_build.specs.inner.Works.{IsBuiltBy, AreBuilt}
 use Rattle.av_build.specs.inner.Written.{LaneMade, lane_of}
 use Rattle.av_build.proofs.HelperLanes.{helped, helper_there}

@@ -1,5 +1,5 @@
 -- The design of the program of a whole array is what is promised.
-use Rattle.std.proofs.Common.{◌≡◌, ℕ, ◌≤◌, inl, inr, refl, sym, ap, ap₂, subst, ◌∙◌, arith}
+use Rattle.std.proofs.Common.{◌≡◌, ◌≤◌, inl, inr, sym, ap₂, subst}
 use Rattle.std.proofs.lemmas.Bool.{cases_lt}
 use Rattle.av_base.specs.declared.width.Width.{Width}
 use Rattle.av_flat.specs.declared.timed.Timed.{Timed}
@@ -13,7 +13,7 @@ use Rattle.av_space.specs.declared.fault.SpaceFault.TheVariants as fault
 use Rattle.av_space.specs.SpaceFaults.{IsSpaceFault}
 use Rattle.av_space.specs.Whole.{IsWhole}
 use Rattle.av_build.specs.ArrayDesigns.{IsDesignOf}
-use Rattle.av_build.specs.inner.Built.{HasSmallNumbers, design_of}
+use Rattle.av_build.specs.inner.Built.{HasSmallNumbers}
 use Rattle.av_build.specs.inner.Modules.{module_of}
 use Rattle.av_build.specs.inner.Programs.{Program}
 use Rattle.av_build.specs.inner.Works.{IsProgrammed}

@@ -1,10 +1,10 @@
 -- The site of a place, moment after moment.
-use Rattle.std.proofs.Common.{◌≡◌, ℕ, List, [], ◌∷◌, ◌++◌, map, refl, sym, ap, ap₂, subst, ◌∙◌, true, false, append_assoc}
+use Rattle.std.proofs.Common.{◌≡◌, List, [], ◌∷◌, ◌++◌, map, refl, sym, ap, ap₂, subst, ◌∙◌, true, false, append_assoc}
 use Rattle.std.proofs.lemmas.List.{append-nil, map-append}
 use Rattle.av_build.specs.declared.moments.Moment.{Moment as MomentMade}
 use Rattle.av_build.specs.declared.program.Link.{Link as LinkMade}
 use Rattle.av_build.specs.inner.Programs.{Source, Link, Site, until}
-use Rattle.av_build.specs.inner.Selections.{Moment, same_source}
+use Rattle.av_build.specs.inner.Selections.{same_source}
 use Rattle.av_build.specs.inner.Moments.{moment_of}
 use Rattle.av_build.specs.inner.Written.{source_of, link_of}
 use Rattle.av_build.proofs.SiteRuns.{moments_site, same_next, ended, other_next}

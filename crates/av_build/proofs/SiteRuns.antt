@@ -1,7 +1,7 @@
 -- The site of a place as a loop over its moments makes it: one that has the source of the next one adds nothing.
-use Rattle.std.proofs.Common.{◌≡◌, ℕ, List, [], ◌∷◌, ◌++◌, refl, sym, ap, ap₂, ◌∙◌, Bool, true, false, if◌then◌else◌}
-use Rattle.av_build.specs.inner.Programs.{Source, Link, Site, until}
-use Rattle.av_build.specs.inner.Selections.{Run, Moment, with_run, site_by, same_source, run_at, goes_on, runs_of}
+use Rattle.std.proofs.Common.{◌≡◌, ℕ, List, [], ◌∷◌, refl, sym, ap, ap₂, ◌∙◌, Bool, true, false, if◌then◌else◌}
+use Rattle.av_build.specs.inner.Programs.{Source, Site, until}
+use Rattle.av_build.specs.inner.Selections.{Run, Moment, site_by, same_source, run_at, goes_on, runs_of}
 use Rattle.av_build.proofs.Runs.{is_source}
 
 -- the first run has the source of the first moment

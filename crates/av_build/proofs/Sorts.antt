@@ -1,7 +1,7 @@
 -- Each wire of a lane is of one kind: an operator, a comparison without the counter, or a choice; and kind by kind there are just as many
 -- as the pieces of the lane have operators.
-use Rattle.std.proofs.Common.{◌≡◌, ◌≢◌, ℕ, zero, suc, ◌+◌, List, [], ◌∷◌, ◌++◌, length, map, refl, sym, subst, arith, ◌∙◌, ap, inl, inr}
-use Rattle.std.specs.Prelude.{Contains, sum, slice_index_or}
+use Rattle.std.proofs.Common.{◌≡◌, ◌≢◌, ℕ, zero, suc, ◌+◌, List, [], ◌∷◌, ◌++◌, length, map, refl, sym, subst, arith, inl, inr}
+use Rattle.std.specs.Prelude.{Contains}
 use Rattle.std.specs.List.{AllByRecursion}
 use Rattle.std.proofs.lemmas.List.Sums.{sum_by-cons}
 use Rattle.av_base.specs.declared.width.Width.{Width}

@@ -1,7 +1,7 @@
 -- The design of a program of a whole array is a sound design: its names and numbers are those of the subset, and its lines may be
 -- listed.
-use Rattle.std.proofs.Common.{◌≡◌, ◌↔◌, ℕ, ◌≤◌, ◌<◌, Bool, true, false, not, IsTrue, List, [], ◌∷◌, ◌++◌, length, map, get_or, Some, refl, sym, subst, arith, ap, ◌∙◌, inl, inr}
-use Rattle.std.specs.Prelude.{All, Contains, slice_get, nat_abs, nat_eq, codes}
+use Rattle.std.proofs.Common.{◌≡◌, ℕ, ◌≤◌, ◌<◌, Bool, true, false, not, IsTrue, List, [], ◌∷◌, length, map, get_or, Some, refl, sym, subst, arith, ap, ◌∙◌, inl, inr}
+use Rattle.std.specs.Prelude.{All, Contains, slice_get, nat_abs}
 use Rattle.std.specs.List.{range_with_len}
 use Rattle.std.proofs.lemmas.List.{length-map}
 use Rattle.std.proofs.lemmas.List.Elements.{All-weaker, Contains-append_left, Contains-append_right}
@@ -16,7 +16,7 @@ use Rattle.av_flat.specs.declared.flat.Kind.TheVariants as kind
 use Rattle.av_flat.specs.declared.timed.Timed.{Timed}
 use Rattle.av_flat.specs.Trees.{Variable, FlatSystem, view_system}
 use Rattle.av_flat.specs.Points.{has}
-use Rattle.av_flat.specs.Signatures.{is_kind, is_input, is_shown, rank, signatures}
+use Rattle.av_flat.specs.Signatures.{is_kind, is_input, is_shown, rank}
 use Rattle.av_flat.specs.Chained.{IsChainedVariable}
 use Rattle.av_flat.specs.Nodes.{is_node, nodes}
 use Rattle.av_flat.proofs.Sets.{has_is}
@@ -27,8 +27,6 @@ use Rattle.av_net.specs.declared.operation.Operand.TheVariants.{Name, Literal}
 use Rattle.av_net.specs.declared.operation.Operation.{Operation}
 use Rattle.av_net.specs.declared.operation.Operation.TheVariants.{Plain, Binary, Signed, Choose}
 use Rattle.av_net.specs.declared.netlist.Port.{Port}
-use Rattle.av_net.specs.declared.netlist.Drive.{Drive}
-use Rattle.av_net.specs.declared.netlist.Step.{Step}
 use Rattle.av_net.specs.declared.design.Entry.{Entry}
 use Rattle.av_net.specs.Listed.{MayBeListed}
 use Rattle.av_net.specs.Meaning.{EachOperand}

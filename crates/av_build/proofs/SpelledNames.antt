@@ -1,7 +1,7 @@
 -- The names of the module of a program are names of the subset: a letter, a number, and with it `_` and a second number or not; or
 -- one of the names of the counter.
-use Rattle.std.proofs.Common.{◌≡◌, ℕ, zero, suc, ◌+◌, ◌^◌, ◌<◌, ◌≤◌, List, [], ◌∷◌, ◌++◌, length, map, refl, sym, subst, arith, ◌∙◌, ap, Bool, true, false, if◌then◌else◌}
-use Rattle.std.specs.Prelude.{All, Contains, decimal, nat_eq, slice_get, codes, ◌&&◌, ◌||◌}
+use Rattle.std.proofs.Common.{◌≡◌, ℕ, suc, ◌+◌, ◌^◌, ◌<◌, ◌≤◌, List, [], ◌∷◌, ◌++◌, length, map, refl, sym, subst, arith, ◌∙◌, Bool, true, false, if◌then◌else◌}
+use Rattle.std.specs.Prelude.{All, Contains, decimal, nat_eq, codes, ◌&&◌, ◌||◌}
 use Rattle.std.specs.List.{AllByRecursion, range_with_len, list_all}
 use Rattle.std.specs.Char.{is_ascii_digit, is_ascii_alphabetic}
 use Rattle.std.specs.Str.{all_ascii_digits}
@@ -15,12 +15,12 @@ use Rattle.av_net.specs.Names.{names_of, all_names}
 use Rattle.av_net.proofs.Distinct.{apart}
 use Rattle.av_net.proofs.Tested.{are_distinct, distinct_tested}
 use Rattle.av_space.proofs.Elements.{both_each}
-use Rattle.av_build.specs.inner.Names.{input_name, output_name, value_name, wire_name, counter_name, next_name}
+use Rattle.av_build.specs.inner.Names.{value_name, wire_name, counter_name, next_name}
 use Rattle.av_build.specs.inner.Labels.{number_in, lane_value, lane_wire, lane_register, labels}
 use Rattle.av_build.specs.inner.Programs.{Lane, Program, counts}
 use Rattle.av_build.specs.inner.Modules.{of_lanes, cell_built, if_counted, module_of}
 use Rattle.av_build.proofs.NameParts.{decimal_some, digits_of, each_of_range}
-use Rattle.av_build.proofs.Declared.{Each, later_each, IsSmallLane, AreSmall, own_wires, own_registers, below, below_line, same_wires, same_registers, moved, wires_of, registers_in, input_list, output_list, wire_list, register_list, inputs_are, outputs_are, wires_are, registers_are}
+use Rattle.av_build.proofs.Declared.{Each, later_each, IsSmallLane, AreSmall, own_wires, own_registers, below, below_line, same_wires, same_registers, moved, wires_of, registers_in, wire_list, register_list, inputs_are, outputs_are, wires_are, registers_are}
 
 -- ---- one name
 

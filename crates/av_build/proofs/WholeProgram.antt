@@ -1,5 +1,5 @@
 -- The program of the array that was given.
-use Rattle.std.proofs.Common.{◌≡◌, ℕ, suc, ◌+◌, ◌<◌, List, length, map, refl, sym, ap, subst, ◌∙◌, arith}
+use Rattle.std.proofs.Common.{◌≡◌, ℕ, suc, ◌+◌, ◌<◌, List, length, map, sym, ap, subst, ◌∙◌, arith}
 use Rattle.std.specs.Prelude.{All, filter}
 use Rattle.std.specs.List.{AllByRecursion, range_with_len}
 use Rattle.std.proofs.lemmas.List.{map-id}
@@ -14,7 +14,6 @@ use Rattle.av_space.specs.Whole.{IsWhole}
 use Rattle.av_flat.specs.Trees.{view_system}
 use Rattle.av_build.specs.declared.blueprint.Blueprint.{Blueprint}
 use Rattle.av_build.specs.inner.Programs.{Lane, Program}
-use Rattle.av_build.specs.inner.Built.{array_of}
 use Rattle.av_build.specs.inner.Programmed.{Array, Lanes, IsProgramFor}
 use Rattle.av_build.specs.inner.Blueprints.{seen, lanes_of, IsBlueprint}
 use Rattle.av_build.specs.inner.Works.{AreBuilt, IsProgrammed}

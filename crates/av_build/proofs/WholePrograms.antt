@@ -10,15 +10,14 @@ use Rattle.av_space.specs.declared.cells.Cells.{Cells}
 use Rattle.av_space.specs.Ports.{is_output_cell}
 use Rattle.av_space.proofs.Elements.{some_is, get_contained, in_range, each_weaker}
 use Rattle.av_build.specs.inner.Programs.{Source, word, input, line, Work, Shift, Lane, Program, EachOfCell, IsPlaced}
-use Rattle.av_build.specs.inner.Programmed.{Array, IsStayFor, IsLaneFor, of_value, of_helper}
-use Rattle.av_build.specs.inner.Selections.{Stay, stretch_of}
+use Rattle.av_build.specs.inner.Programmed.{Array, IsLaneFor, of_value, of_helper}
 use Rattle.av_build.specs.inner.Trees.{site_count}
 use Rattle.av_build.specs.inner.Built.{array_of}
 use Rattle.av_build.specs.inner.Works.{IsProgrammed}
 use Rattle.av_build.specs.inner.Written.{IsThere, HasSites, HasAllSites, IsWritable}
 use Rattle.av_build.proofs.ArrayForm.{IsOwn}
 use Rattle.av_build.proofs.Connected.{legal_array, words_fit, few_cycles}
-use Rattle.av_build.proofs.Joined.{Legal, arranged}
+use Rattle.av_build.proofs.Joined.{arranged}
 use Rattle.av_build.proofs.Listed.{place_of}
 use Rattle.av_build.proofs.Owned.{AreFew, AreWords, GoodLane, good_value, good_helper, each_found, stays_good}
 use Rattle.av_build.proofs.Serving.{computed_node, Arranged}

@@ -1,5 +1,5 @@
 -- The lanes of an array before they are built: what stands on each cell, and what each lane is for.
-use Rattle.std.specs.Prelude.{◌≡◌, ◌≢◌, ℕ, suc, ◌<◌, ◌≤◌, ◌⊎◌, ◌&&◌, Bool, nat_eq, IsTrue, Option, Some, None, IfSome, List, [], ◌∷◌, All, AllPairs, Contains, slice_get, length, map, if◌then◌else◌}
+use Rattle.std.specs.Prelude.{◌≡◌, ◌≢◌, ℕ, suc, ◌<◌, ◌≤◌, ◌⊎◌, ◌&&◌, Bool, nat_eq, IsTrue, Option, Some, None, IfSome, List, [], ◌∷◌, All, AllPairs, Contains, slice_get, length, if◌then◌else◌}
 use Rattle.av_flat.specs.Trees.{view_piece, view_variable}
 use Rattle.av_space.specs.declared.array.Array.{Array as ArrayMade}
 use Rattle.av_space.specs.declared.spots.Site.{Site as Place}

@@ -1,5 +1,4 @@
-use Rattle.std.proofs.Common.{◌≡◌, ◌∙◌, ◌+◌, ◌<◌, ◌++◌, [], ◌∷◌, ℕ, List, length, sym, ap, subst, arith, Some}
-use Rattle.std.specs.Prelude.{slice_get}
+use Rattle.std.proofs.Common.{◌≡◌, ◌∙◌, ◌+◌, ◌++◌, [], ◌∷◌, ℕ, List, length, sym, ap, subst, arith, Some}
 use Rattle.av_space.specs.declared.spots.Site.{Site}
 use Rattle.av_space.specs.Taps.{Handing}
 use Rattle.av_space.proofs.ByPlace.{there_is}
@@ -8,7 +7,7 @@ use Rattle.av_build.specs.inner.Programmed.{helper_length}
 use Rattle.av_build.specs.inner.Blueprints.{seen, AreHelpers}
 use Rattle.av_build.proofs.HelperPlans.{next_piece}
 use Rattle.av_build.proofs.HelperSteps.{no_handing, no_line, with_line}
-use Rattle.av_build.proofs.Pairwise.{element, element_of}
+use Rattle.av_build.proofs.Pairwise.{element_of}
 use Rattle.av_build.proofs.blueprint.add_helpers.Goals as goal
 use Rattle.av_build.proofs.blueprint.add_helpers.Goals.{then-line_length-gt0+in_ok-push, else-line_length-gt0}
 

@@ -1,4 +1,4 @@
-use Rattle.std.proofs.Common.{◌≡◌, ◌+◌, ◌∙◌, List, get_or, drop, refl, sym, subst}
+use Rattle.std.proofs.Common.{◌+◌, ◌∙◌, List, get_or, drop, refl, sym, subst}
 use Rattle.std.proofs.lemmas.List.{drop_more}
 use Rattle.av_build.specs.declared.moments.Moment.{Moment}
 use Rattle.av_build.specs.declared.program.Link.{Link}

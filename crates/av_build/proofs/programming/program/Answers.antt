@@ -1,9 +1,7 @@
-use Rattle.std.proofs.Common.{◌≡◌, ◌∙◌, ◌+◌, ◌<◌, ℕ, List, length, map, refl, sym, ap, subst}
+use Rattle.std.proofs.Common.{◌∙◌, ◌+◌, ◌<◌, ℕ, List, length, map, refl, sym, ap, subst}
 use Rattle.std.specs.Prelude.{All}
 use Rattle.av_flat.specs.declared.timed.Helper.{Helper}
-use Rattle.av_flat.specs.declared.timed.Timed.{Timed}
 use Rattle.av_space.specs.declared.array.Array.{Array}
-use Rattle.av_space.specs.declared.cells.Cells.{Cells}
 use Rattle.av_space.specs.declared.cells.InPort.{InPort}
 use Rattle.av_space.specs.Spots.{cells_of}
 use Rattle.av_build.specs.inner.Blueprints.{lanes_of}

@@ -1,4 +1,4 @@
-use Rattle.std.proofs.Common.{◌≡◌, get_or, Option, None, refl, sym, subst}
+use Rattle.std.proofs.Common.{get_or, Option, None, refl, sym, subst}
 use Rattle.av_build.specs.declared.blueprint.HelperPlan.{HelperPlan}
 use Rattle.av_build.specs.declared.blueprint.LanePlan.{LanePlan}
 use Rattle.av_build.specs.inner.Works.{IsBuiltBy}

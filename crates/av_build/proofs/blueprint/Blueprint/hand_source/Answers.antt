@@ -1,4 +1,4 @@
-use Rattle.std.proofs.Common.{◌≡◌, ℕ, ◌∙◌, refl, sym, ap, subst, Option}
+use Rattle.std.proofs.Common.{ℕ, ◌∙◌, refl, sym, ap, subst, Option}
 use Rattle.av_flat.specs.Trees.{view, view_piece}
 use Rattle.av_space.specs.Taps.{Handing, IsReadAt}
 use Rattle.av_build.specs.inner.Programs.{line}

@@ -1,4 +1,4 @@
-use Rattle.std.proofs.Common.{◌≡◌, ◌∙◌, ◌+◌, ◌<◌, ◌++◌, [], ◌∷◌, ℕ, List, length, map, refl, ap, ap₂, arith, rules}
+use Rattle.std.proofs.Common.{◌≡◌, ◌∙◌, ◌+◌, ◌++◌, [], ◌∷◌, List, map, refl, ap, ap₂, arith, rules}
 use Rattle.av_flat.specs.Trees.{Tree, view}
 use Rattle.av_space.specs.declared.tap.Place.{Place}
 use Rattle.av_build.specs.declared.moments.Moment.{Moment}

@@ -1,4 +1,4 @@
-use Rattle.std.proofs.Common.{◌≡◌, ◌∙◌, ◌<◌, ℕ, refl, sym, ap, subst, arith}
+use Rattle.std.proofs.Common.{◌∙◌, ℕ, refl, sym, ap, subst, arith}
 use Rattle.av_flat.specs.Trees.{view}
 use Rattle.av_space.specs.Taps.{Handing}
 use Rattle.av_space.specs.Spots.{cells_of}

@@ -1,11 +1,10 @@
-use Rattle.std.proofs.Common.{◌≡◌, ◌∙◌, ◌-◌, ◌+◌, ◌<◌, ◌≤◌, ◌++◌, [], ◌∷◌, ℕ, List, length, get_or, map, refl, sym, ap, subst, arith, Some, None}
+use Rattle.std.proofs.Common.{◌≡◌, ◌∙◌, ◌-◌, ◌+◌, ◌<◌, ℕ, List, length, map, refl, sym, ap, subst, arith, None}
 use Rattle.std.specs.Prelude.{slice_get}
 use Rattle.std.proofs.lemmas.List.{map-append}
 use Rattle.av_space.specs.declared.layout.Slot.{Slot}
 use Rattle.av_space.specs.declared.spots.Spot.{Spot}
 use Rattle.av_space.specs.Spots.{AreEnds}
 use Rattle.av_space.proofs.ByPlace.{there_is}
-use Rattle.av_build.specs.declared.blueprint.CellPlan.{CellPlan}
 use Rattle.av_build.specs.inner.Blueprints.{lanes_of, IsSpotAt}
 use Rattle.av_build.specs.inner.Programs.{Shift}
 use Rattle.av_build.specs.inner.Works.{IsBuiltBy}

@@ -1,4 +1,4 @@
-use Rattle.std.proofs.Common.{◌≡◌, ◌∙◌, List, map, refl, sym, ap}
+use Rattle.std.proofs.Common.{◌∙◌, List, map, refl, ap}
 use Rattle.av_flat.specs.Trees.{view}
 use Rattle.av_space.specs.declared.spots.Site.{Site as Place}
 use Rattle.av_build.specs.declared.moments.Moment.{Moment}

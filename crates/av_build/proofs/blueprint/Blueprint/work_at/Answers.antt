@@ -1,11 +1,10 @@
-use Rattle.std.proofs.Common.{◌≡◌, ◌∙◌, List, sym, ap, subst}
+use Rattle.std.proofs.Common.{◌∙◌, List, sym, subst}
 use Rattle.std.proofs.lemmas.Result.{IfOk-weaker}
 use Rattle.av_space.specs.declared.spots.Site.{Site}
 use Rattle.av_space.specs.declared.spots.Spot.{Spot}
 use Rattle.av_space.specs.Spots.{AreSites}
 use Rattle.av_space.proofs.Elements.{some_is, in_range}
-use Rattle.av_build.specs.declared.program.Work.{Work}
-use Rattle.av_build.specs.inner.Blueprints.{IsSpotAt, seen, spot_of, lanes_of}
+use Rattle.av_build.specs.inner.Blueprints.{seen, spot_of, lanes_of}
 use Rattle.av_build.specs.inner.Works.{IsWorkFor}
 use Rattle.av_build.specs.inner.Written.{work_of}
 use Rattle.av_build.proofs.CellPieces.{plan_at, spot_at, own_at, piece_at, piece_within}
