@@ -59,6 +59,7 @@ pub(crate) struct FlipFlop {
 impl Reading {
     ghost use Rattle.av_clock.specs.Gates.{reading_word, IsWithin};
 
+    #[inline(always)]
     pub(crate) fn word(self, words: &[u64]) -> u64
         requires { IsWithin (length words.now) self }
         ensures { result ≡ reading_word words.now self }
@@ -73,6 +74,7 @@ impl Reading {
 impl Gate {
     ghost use Rattle.av_clock.specs.Gates.{gate_word, CanTake};
 
+    #[inline(always)]
     pub(crate) fn word(self, words: &[u64]) -> u64
         requires { CanTake words.now self }
         ensures { result ≡ gate_word words.now self }
@@ -108,6 +110,7 @@ impl Gate {
 }
 
 // Two unsigned words under an operator.
+#[inline(always)]
 fn operated(symbol: Symbol, left: u64, right: u64, width: Width) -> u64
     requires left { IsWord width.bits left }
     requires right { IsWord width.bits right }
@@ -130,6 +133,7 @@ fn operated(symbol: Symbol, left: u64, right: u64, width: Width) -> u64
 }
 
 // Whether two words are so ordered as two's complement.
+#[inline(always)]
 fn is_ordered(symbol: Symbol, left: u64, right: u64, width: Width) -> bool
     requires left { IsWord width.bits left }
     requires right { IsWord width.bits right }
