@@ -34,3 +34,5 @@ pub mod WrittenGrammar
 pub mod NoRows
 pub mod WrittenListing
 pub mod RoundTrip
+pub mod Verdicts
+pub mod Beginning

@@ -27,7 +27,7 @@ append_words : {texts others : List (List ℕ)} {ts a rest : List Token} → Are
 append_words no_word w = w
 append_words (next_word k e v) w = next_word k e (append_words v w)
 
-width_bits : (n : ℕ) → n ≤ 63 → (width_for n).bits ≡ n + 1
+pub width_bits : (n : ℕ) → n ≤ 63 → (width_for n).bits ≡ n + 1
 width_bits n h = bits_of (n + 1) (grind arith)
 
 range_took : (ts : List Token) (y : Width × List Token) → range_at ts ≡ Ok y → IsRange ts y.1 y.0
@@ -136,13 +136,13 @@ symbol_is text s e = go (arithmetic_of text) (bitwise_of text) refl refl e
     go None (Some y) f g h = bitwise_is text s (g ∙ h)
     go None None f g h = (order_is text s h).0
 
-symbol_took : (ts : List Token) (s : Symbol) → symbol_at ts ≡ Some s → IsWordAt (spelling s) ts (after ts)
+pub symbol_took : (ts : List Token) (s : Symbol) → symbol_at ts ≡ Some s → IsWordAt (spelling s) ts (after ts)
 unfolding symbol_at
 symbol_took [] s e = absurd cc
 symbol_took (t ∷ ts) s e =
     chosen (same t.kind kind.Name) _ _ _ e (λ h r. absurd cc) (λ h r. next_word (other_than t.kind h) (symbol_is t.text s r) no_word)
 
-order_took : (ts : List Token) (y : Symbol × List Token) → order_at ts ≡ Ok y → IsWordAt (spelling y.0) ts y.1 × IsOrder y.0
+pub order_took : (ts : List Token) (y : Symbol × List Token) → order_at ts ≡ Ok y → IsWordAt (spelling y.0) ts y.1 × IsOrder y.0
 unfolding order_at order_by
 order_took [] y e = absurd cc
 order_took (t ∷ ts) y e =

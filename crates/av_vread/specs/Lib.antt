@@ -6,5 +6,6 @@ pub mod Scoped
 pub mod Lines
 pub mod Entries
 pub mod Listings
+pub mod Beginnings
 pub mod Faults
 pub mod Checked

@@ -15,7 +15,7 @@ use std::alloc::Global;
 ///
 /// Of several faults the first of the table is answered: `VByte`, `VSyntax`, `VListing`, `VTwice`, `VName`,
 /// `VUnassigned`, `VOrder` and then `VWidth`, each over the whole text. The place of a `VSyntax` is that of
-/// the first token that no text continues, and no clause says so.
+/// the first token that no text continues.
 pub fn read_design(alloc: Global, bytes: &[u8]) -> Result<Design, VFault>
     requires { length bytes.now < 4294967295 }
 

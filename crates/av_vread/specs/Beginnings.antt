@@ -1,0 +1,29 @@
+-- Which tokens begin a design text, and the first token that no text continues (IEEE 1364-2005, A.1 to A.8, as far as the
+-- grammar of this subset goes).
+use Rattle.std.specs.Prelude.{◌≡◌, ℕ, List, [], ◌∷◌, ◌++◌}
+use Rattle.av_base.specs.declared.place.Place.{Place}
+use Rattle.av_base.specs.Tokens.{start}
+use Rattle.av_net.specs.Lexemes.{Token, AreTokens}
+use Rattle.av_net.specs.Grammar.{Text, IsText}
+
+-- with some tokens behind them, or none, these say a text
+pub record Begins (tokens : List Token) : Type 0 where
+  pub more : List Token
+  pub said : Text
+  pub says : IsText (tokens ++ more) said
+
+-- the tokens before the one at this place begin a text, and with it they begin none
+pub record StopsAt (tokens : List Token) (place : Place) : Type 0 where
+  pub before : List Token
+  pub token : Token
+  pub after : List Token
+  pub whole : tokens ≡ before ++ (token ∷ after)
+  pub stands : token.place ≡ place
+  pub begins : Begins before
+  pub none : Begins (before ++ (token ∷ [])) → ⊥
+
+-- the bytes spell tokens, and no text continues with the one at this place
+pub record BreaksOff (bytes : List ℕ) (place : Place) : Type 0 where
+  pub tokens : List Token
+  pub lexed : AreTokens start bytes tokens
+  pub stops : StopsAt tokens place
