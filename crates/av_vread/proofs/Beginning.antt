@@ -29,10 +29,10 @@ use Rattle.av_vread.proofs.Verdicts.{Ends, ends_some, left_ends, Puts, puts_none
 
 -- ---- tokens to complete with
 
-word_token : List ℕ → Token
+unfoldable pub word_token : List ℕ → Token
 word_token text = record { kind = kind.Symbol; text = text; place = start }
 
-name_token : List ℕ → Token
+unfoldable pub name_token : List ℕ → Token
 name_token text = record { kind = kind.Name; text = text; place = start }
 
 number_token : Token
@@ -44,25 +44,25 @@ literal_token = record { kind = kind.Literal; text = codes "1'd0"; place = start
 
 -- ---- single tokens
 
-abbrev Word : List ℕ → List Token → List Token → Unit {0} → Type 0
+abbrev pub Word : List ℕ → List Token → List Token → Unit {0} → Type 0
 Word text ts rest x = IsWordAt text ts rest
 
-abbrev Words : List (List ℕ) → List Token → List Token → Unit {0} → Type 0
+abbrev pub Words : List (List ℕ) → List Token → List Token → Unit {0} → Type 0
 Words texts ts rest x = AreWords texts ts rest
 
-abbrev Name : List Token → List Token → List ℕ → Type 0
+abbrev pub Name : List Token → List Token → List ℕ → Type 0
 Name ts rest x = IsNameAt ts rest x
 
-abbrev ThisName : List ℕ → List Token → List Token → Unit {0} → Type 0
+abbrev pub ThisName : List ℕ → List Token → List Token → Unit {0} → Type 0
 ThisName text ts rest x = IsNameAt ts rest text
 
-abbrev Number : List Token → List Token → ℕ → Type 0
+abbrev pub Number : List Token → List Token → ℕ → Type 0
 Number ts rest n = IsNumberAt ts rest n × (n ≤ 63)
 
-abbrev LiteralIs : List Token → List Token → Sized → Type 0
+abbrev pub LiteralIs : List Token → List Token → Sized → Type 0
 LiteralIs ts rest x = IsLiteralAt ts rest x.width x.value
 
-word_reads : (text : List ℕ) → bytes_eq [] text ≡ false → Reads true alone (Word text) (word_at text)
+pub word_reads : (text : List ℕ) → bytes_eq [] text ≡ false → Reads true alone (Word text) (word_at text)
 unfolding word_at word_token
 word_reads text e =
     one_token (is_word text) (λ t. tt) not_end yes no (λ t k h. word_took text (t ∷ k) k (yes t k h))
@@ -77,7 +77,7 @@ word_reads text e =
     no : (t : Token) (k : List Token) → is_word text t ≡ false → word_at text (t ∷ k) ≡ Err t.place
     no t k h = rw h refl
 
-name_reads : Reads true pair Name name_at
+pub name_reads : Reads true pair Name name_at
 unfolding name_at name_token
 name_reads =
     one_token (λ t. same t.kind kind.Name) (λ t. t.text) (λ t k e. rw k refl) yes (λ t k h. rw h refl) (λ t k h. name_took (t ∷ k) (t.text, k) (yes t k h))
@@ -86,7 +86,7 @@ name_reads =
     yes : (t : Token) (k : List Token) → same t.kind kind.Name ≡ true → name_at (t ∷ k) ≡ Ok (t.text, k)
     yes t k h = rw h refl
 
-this_name_reads : (text : List ℕ) → Reads true alone (ThisName text) (this_name_at text)
+pub this_name_reads : (text : List ℕ) → Reads true alone (ThisName text) (this_name_at text)
 unfolding this_name_at name_token
 this_name_reads text =
     one_token (λ t. same t.kind kind.Name && bytes_eq t.text text) (λ t. tt) (λ t k e. rw k refl) yes (λ t k h. rw h refl) (λ t k h. this_name_took text (t ∷ k) k (yes t k h))
@@ -135,11 +135,11 @@ literal_reads =
 -- ---- words in a row
 
 -- no text is empty
-abbrev AreFilled : List (List ℕ) → Type 0
+abbrev pub AreFilled : List (List ℕ) → Type 0
 AreFilled [] = Unit {0}
 AreFilled (text ∷ texts) = (bytes_eq [] text ≡ false) × AreFilled texts
 
-words_read : (text : List ℕ) (texts : List (List ℕ)) → AreFilled (text ∷ texts) → Reads true alone (Words (text ∷ texts)) (words_at (text ∷ texts))
+pub words_read : (text : List ℕ) (texts : List (List ℕ)) → AreFilled (text ∷ texts) → Reads true alone (Words (text ∷ texts)) (words_at (text ∷ texts))
 words_read text [] h = reads_as one (map_reads Ok (λ x. x) (λ x k. refl) (word_reads text h.0))
   where
     one : (ts rest : List Token) (x : Unit {0}) → Mapped (Word text) (λ x. x) ts rest x → Words (text ∷ []) ts rest x
@@ -161,11 +161,11 @@ alike_test test one (t ∷ a) (u ∷ b) h = one t a b ∙ ap (λ z. test (z ∷ 
     first : (t u : Token) → ◌≡◌ {A = List Token} (t ∷ []) (u ∷ []) → t ≡ u
     first t u e = cc
 
-alike_word : (text : List ℕ) (a b : List Token) → Alike a b → is_at text a ≡ is_at text b
+pub alike_word : (text : List ℕ) (a b : List Token) → Alike a b → is_at text a ≡ is_at text b
 alike_word text a b h = alike_test (is_at text) (λ t a b. refl) a b h
 
 -- a word is not the end
-word_left : (text : List ℕ) → bytes_eq [] text ≡ false → (t : Token) (ts : List Token) → Ends (t ∷ ts) → is_word text t ≡ true → Ends ts
+pub word_left : (text : List ℕ) → bytes_eq [] text ≡ false → (t : Token) (ts : List Token) → Ends (t ∷ ts) → is_word text t ≡ true → Ends ts
 word_left text some t ts e h = left_ends t ts e (λ k f. absurd (true≢false (sym h ∙ end_is k f)))
   where
     end_is : t.kind ≡ kind.End → t.text ≡ [] → is_word text t ≡ false

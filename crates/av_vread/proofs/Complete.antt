@@ -41,12 +41,12 @@ port_gives : {words : List (List ℕ)} {ts rest : List Token} {port : Port} (p :
 unfolding port_at
 port_gives p = rw (range_gives p.range (name_there p.name (codes "[")), name_gives p.name) refl
 
-directed_gives : (direction : List ℕ) (ts rest : List Token) (port : Port) → IsPort (codes "," ∷ direction ∷ []) ts rest port → directed_at direction ts ≡ Ok (port, rest)
+pub directed_gives : (direction : List ℕ) (ts rest : List Token) (port : Port) → IsPort (codes "," ∷ direction ∷ []) ts rest port → directed_at direction ts ≡ Ok (port, rest)
 unfolding directed_at
 directed_gives direction ts rest port p = rw (words_give p.words_first) (port_gives p)
 
 -- two words
-two_there : (direction : List ℕ) (ts rest : List Token) → AreWords (codes "," ∷ direction ∷ []) ts rest → are_at (codes ",") direction ts ≡ true
+pub two_there : (direction : List ℕ) (ts rest : List Token) → AreWords (codes "," ∷ direction ∷ []) ts rest → are_at (codes ",") direction ts ≡ true
 two_there direction ts rest (next_word {t = t} k e (next_word {t = u} l f (no_word))) = rw (kind_other t.kind k, is_text t.text (codes ",") e, kind_other u.kind l, is_text u.text direction f) refl
 
 declared_gives : {word : List ℕ} {ts a rest : List Token} {port : Port} (p : IsPort (word ∷ []) ts a port) → IsWordAt (codes ";") a rest → declared_at p.a ≡ Ok (port, rest)
@@ -61,7 +61,7 @@ declaration_gives ts rest x (wire_declaration p s) =
 declaration_gives ts rest x (register_declaration p s) =
     rw (other_there p.words_first (codes "wire") refl, word_gives p.words_first, declared_gives p s) refl
 
-declaration_begins : (ts rest : List Token) (x : Declaration) → IsDeclaration ts rest x → begins_declaration ts ≡ true
+pub declaration_begins : (ts rest : List Token) (x : Declaration) → IsDeclaration ts rest x → begins_declaration ts ≡ true
 declaration_begins ts rest x (wire_declaration p s) = rw ((word_there p.words_first).0) refl
 declaration_begins ts rest x (register_declaration p s) = rw (other_there p.words_first (codes "wire") refl, (word_there p.words_first).0) refl
 
@@ -192,7 +192,7 @@ unfolding item_at
 item_gives ts rest x (assignment d) = rw ((word_there d.assigns).0, drive_gives d) refl
 item_gives ts rest x (at_an_edge s) = rw ((edge_first s.at_edge).1) (step_gives s)
 
-item_begins : (ts rest : List Token) (x : Item) → IsItem ts rest x → begins_item ts ≡ true
+pub item_begins : (ts rest : List Token) (x : Item) → IsItem ts rest x → begins_item ts ≡ true
 item_begins ts rest x (assignment d) = rw ((word_there d.assigns).0) refl
 item_begins ts rest x (at_an_edge s) = let f = edge_first s.at_edge in rw (f.1, f.0) refl
 

@@ -16,11 +16,13 @@ use Rattle.av_vread.specs.declared.fault.VFault.TheVariants.{VByte, VSyntax, VLi
 use Rattle.av_vread.specs.Lexing.{Lexed, lexed_of}
 use Rattle.av_vread.specs.Reading.{text_at}
 use Rattle.av_vread.specs.Listings.{Listed, no_lines, listing_at}
-use Rattle.av_vread.specs.Faults.{or_row, first_row, SaysNothing, ListsBadly, HasRow, IsFault, GivesDesign, GivesFault}
+use Rattle.av_vread.specs.Beginnings.{BreaksOff}
+use Rattle.av_vread.specs.Faults.{or_row, first_row, ListsBadly, HasRow, IsFault, GivesDesign, GivesFault}
 use Rattle.av_vread.specs.Checked.{Checked, checked_row, checked_listing, checked_text, checked_tokens, checked_of, FaultIs}
 use Rattle.av_vread.proofs.Readings.{read_sound, read_fault, read_complete, fault_complete}
 use Rattle.av_vread.proofs.Sound.{text_took}
 use Rattle.av_vread.proofs.Complete.{text_gives}
+use Rattle.av_vread.proofs.BeginningTexts.{stops_there, one_stop, stops_say_none, lexed_ends}
 use Rattle.av_vread.proofs.NamesSpelled.{tokens_named, IsNamed, text_named, are_words}
 use Rattle.av_vread.proofs.ListingLines.{read_listed, listing_is, listing_read, bad_is, bad_read, kept_listed}
 use Rattle.av_vread.proofs.SoundDesigns.{spelled_sound}
@@ -177,35 +179,28 @@ module _ (bytes : List ℕ) where
   pub said_err : (f : VFault) → checked_of bytes ≡ Err f → IsFault bytes f
   said_err f c = by_tokens (lexed_of (length bytes) start bytes) refl c
     where
-      nothing : (tokens : List Token) (p : Place) → lexed_of (length bytes) start bytes ≡ Ok tokens → text_at tokens ≡ Err p → SaysNothing bytes
-      nothing tokens p e g = record {
-        tokens = tokens;
-        lexed = read_sound (length bytes) start bytes tokens e;
-        none = λ x t. let z : ◌≡◌ {A = Result Text Place} (Err p) (Ok x) = sym g ∙ text_gives tokens x t in cc;
-      }
+      broken : (tokens : List Token) (p : Place) → lexed_of (length bytes) start bytes ≡ Ok tokens → text_at tokens ≡ Err p → BreaksOff bytes p
+      broken tokens p e g =
+          let lexed = read_sound (length bytes) start bytes tokens e in
+          record { tokens = tokens; lexed = lexed; stops = stops_there tokens p (lexed_ends lexed) g }
 
       by_text : (tokens : List Token) → lexed_of (length bytes) start bytes ≡ Ok tokens → (r : Result Text Place) → text_at tokens ≡ r → checked_text bytes (first_line tokens) r ≡ Err f → IsFault bytes f
       by_text tokens e (Ok x) g c = fault_listing f x (first_line tokens) (listing_of bytes x (first_line tokens)) (says_by bytes tokens x e g) refl c
-      by_text tokens e (Err p) g c = subst (IsFault bytes) (err_fault (VSyntax p) f c) (nothing tokens p e g)
+      by_text tokens e (Err p) g c = subst (IsFault bytes) (err_fault (VSyntax p) f c) (broken tokens p e g)
 
       by_tokens : (r : Lexed) → lexed_of (length bytes) start bytes ≡ r → checked_tokens bytes r ≡ Err f → IsFault bytes f
       by_tokens (Ok tokens) e c = by_text tokens e (text_at tokens) refl c
       by_tokens (Err p) e c = subst (IsFault bytes) (err_fault (VByte p) f c) (read_fault (length bytes) start bytes p (omega arith) e)
 
-  -- where nothing is said, the fault is one of syntax
-  pub record IsSyntax : Type 0 where
-    pub place : Place
-    pub is : checked_of bytes ≡ Err (VSyntax place)
-
-  syntax_of : SaysNothing bytes → IsSyntax
-  syntax_of s = go (text_at s.tokens) refl
+  break_answer : (p : Place) → BreaksOff bytes p → checked_of bytes ≡ Err (VSyntax p)
+  break_answer p s = ap (checked_tokens bytes) lexed ∙ ap (checked_text bytes (first_line s.tokens)) (go (text_at s.tokens) refl)
     where
       lexed : lexed_of (length bytes) start bytes ≡ Ok s.tokens
       lexed = read_complete s.lexed (length bytes) (omega arith)
 
-      go : (r : Result Text Place) → text_at s.tokens ≡ r → IsSyntax
-      go (Ok x) e = absurd (s.none x (text_took s.tokens x e))
-      go (Err p) e = record { place = p; is = ap (checked_tokens bytes) lexed ∙ ap (checked_text bytes (first_line s.tokens)) e }
+      go : (r : Result Text Place) → text_at s.tokens ≡ r → text_at s.tokens ≡ Err p
+      go (Ok x) e = absurd (stops_say_none s.tokens p x s.stops (text_took s.tokens x e))
+      go (Err q) e = e ∙ ap (λ z. Err z) (one_stop s.tokens q p (stops_there s.tokens q (lexed_ends s.lexed) e) s.stops)
 
   bad_answer : (n : ℕ) → ListsBadly bytes n → checked_of bytes ≡ Err (VListing n)
   bad_answer n h = checked_said bytes h.said h.line h.says ∙ ap (checked_listing h.said) (bad_given bytes h.said h.line h.says n h.bad)
@@ -263,13 +258,9 @@ module _ (bytes : List ℕ) where
   fault (VWidth n) c = inr (said_err (VWidth n) c)
 
   -- what checking answers where a fault is the first
-  abbrev IsAnswered : VFault → Type 0
-  IsAnswered (VSyntax p) = IsSyntax
-  IsAnswered f = checked_of bytes ≡ Err f
-
-  answered : (f : VFault) → IsFault bytes f → IsAnswered f
+  answered : (f : VFault) → IsFault bytes f → checked_of bytes ≡ Err f
   answered (VByte p) h = ap (checked_tokens bytes) (fault_complete h (length bytes) (omega arith))
-  answered (VSyntax p) h = syntax_of h
+  answered (VSyntax p) h = break_answer p h
   answered (VListing n) h = bad_answer n h
   answered (VTwice n) h = row_answer (VTwice n) h
   answered (VName n) h = row_answer (VName n) h
@@ -279,15 +270,7 @@ module _ (bytes : List ℕ) where
   answered Memory h = absurd h
 
   pub refused_ok : (read : Text × Listing) (f : VFault) → checked_of bytes ≡ Ok read → IsFault bytes f → ⊥
-  refused_ok read (VByte p) c h = ok_or_err (sym c ∙ answered (VByte p) h)
-  refused_ok read (VSyntax p) c h = ok_or_err (sym c ∙ (syntax_of h).is)
-  refused_ok read (VListing n) c h = ok_or_err (sym c ∙ answered (VListing n) h)
-  refused_ok read (VTwice n) c h = ok_or_err (sym c ∙ answered (VTwice n) h)
-  refused_ok read (VName n) c h = ok_or_err (sym c ∙ answered (VName n) h)
-  refused_ok read (VUnassigned n) c h = ok_or_err (sym c ∙ answered (VUnassigned n) h)
-  refused_ok read (VOrder n) c h = ok_or_err (sym c ∙ answered (VOrder n) h)
-  refused_ok read (VWidth n) c h = ok_or_err (sym c ∙ answered (VWidth n) h)
-  refused_ok read Memory c h = h
+  refused_ok read f c h = ok_or_err (sym c ∙ answered f h)
 
   -- the answer where one fault is the first and another was met
   same_fault : (f g : VFault) → checked_of bytes ≡ Err f → checked_of bytes ≡ Err g → f ≡ g
@@ -308,7 +291,7 @@ module _ (bytes : List ℕ) where
   gives_same : (f : VFault) → GivesFault (Err f) f
   gives_same Memory = tt
   gives_same (VByte p) = refl
-  gives_same (VSyntax p) = tt
+  gives_same (VSyntax p) = refl
   gives_same (VListing p) = refl
   gives_same (VTwice p) = refl
   gives_same (VName p) = refl
@@ -319,27 +302,11 @@ module _ (bytes : List ℕ) where
   pub refused_err : (g f : VFault) → FaultIs g (checked_of bytes) → IsFault bytes f → GivesFault (Err g) f
   refused_err g f c h = elim (told g c) [
     | inl e ↦ subst (λ z. GivesFault (Err z) f) (sym e) (memory f)
-    | inr d ↦ by f h d
+    | inr d ↦ subst (λ z. GivesFault (Err z) f) (same_fault f g (answered f h) d) (gives_same f)
   ]
     where
       memory : (f : VFault) → GivesFault (Err Memory) f
       memory f = tt
-
-      equal : (f : VFault) → checked_of bytes ≡ Err f → checked_of bytes ≡ Err g → GivesFault (Err g) f
-      equal f e d = subst (λ z. GivesFault (Err z) f) (same_fault f g e d) (gives_same f)
-
-      by : (f : VFault) → IsFault bytes f → checked_of bytes ≡ Err g → GivesFault (Err g) f
-      by (VSyntax q) h d =
-          let s = syntax_of h in
-          subst (λ z. GivesFault (Err z) (VSyntax q)) (same_fault (VSyntax s.place) g s.is d) tt
-      by Memory h d = absurd h
-      by (VByte p) h d = equal (VByte p) (answered (VByte p) h) d
-      by (VListing n) h d = equal (VListing n) (answered (VListing n) h) d
-      by (VTwice p) h d = equal (VTwice p) (answered (VTwice p) h) d
-      by (VName p) h d = equal (VName p) (answered (VName p) h) d
-      by (VUnassigned p) h d = equal (VUnassigned p) (answered (VUnassigned p) h) d
-      by (VOrder p) h d = equal (VOrder p) (answered (VOrder p) h) d
-      by (VWidth p) h d = equal (VWidth p) (answered (VWidth p) h) d
 
 -- each text spells a design or has a first fault
 pub either : (bytes : List ℕ) → ((design : Design) × Spells bytes design) ⊎ ((f : VFault) × IsFault bytes f)

@@ -36,3 +36,4 @@ pub mod WrittenListing
 pub mod RoundTrip
 pub mod Verdicts
 pub mod Beginning
+pub mod BeginningTexts

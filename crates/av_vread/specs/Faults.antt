@@ -4,21 +4,16 @@ use Rattle.av_base.specs.Tokens.{start}
 use Rattle.av_net.specs.declared.design.Design.{Design}
 use Rattle.av_net.specs.declared.design.Listing.{Listing}
 use Rattle.av_net.specs.Names.{names_of, wire_names}
-use Rattle.av_net.specs.Lexemes.{Token, AreTokens, HasBadByte}
-use Rattle.av_net.specs.Grammar.{Text, IsText}
+use Rattle.av_net.specs.Lexemes.{HasBadByte}
+use Rattle.av_net.specs.Grammar.{Text}
 use Rattle.av_net.specs.Listed.{listing_lines, IsListing, IsBadLine}
 use Rattle.av_net.specs.Rows.{module_of, declared_twice, driven_twice, wrong_name, undriven_name, early_name, unsuited_name}
 use Rattle.av_net.specs.Designs.{Says}
+use Rattle.av_vread.specs.Beginnings.{BreaksOff}
 use Rattle.av_vread.specs.declared.fault.VFault.{VFault}
 use Rattle.av_vread.specs.declared.fault.VFault.TheVariants.{VByte, VSyntax, VListing, VTwice, VName, VUnassigned, VOrder, VWidth, Memory}
 
 -- ---- the rows
-
--- the bytes spell tokens that say no text
-pub record SaysNothing (bytes : List ℕ) : Type 0 where
-  pub tokens : List Token
-  pub lexed : AreTokens start bytes tokens
-  pub none : (x : Text) → IsText tokens x → ⊥
 
 -- the bytes say a text, and this is the first line before its module that makes its listing none
 pub record ListsBadly (bytes : List ℕ) (number : ℕ) : Type 0 where
@@ -47,10 +42,10 @@ pub record HasRow (bytes : List ℕ) (fault : VFault) : Type 0 where
   pub lists : IsListing (names_of said.inputs) (wire_names (module_of said)) (listing_lines bytes line) listing
   pub row : first_row said ≡ Some fault
 
--- this is the first fault of the bytes; of a `VSyntax` the place is not said
+-- this is the first fault of the bytes
 abbrev pub IsFault : List ℕ → VFault → Type 0
 IsFault bytes (VByte p) = HasBadByte start bytes p
-IsFault bytes (VSyntax p) = SaysNothing bytes
+IsFault bytes (VSyntax p) = BreaksOff bytes p
 IsFault bytes (VListing number) = ListsBadly bytes number
 IsFault bytes (VTwice name) = HasRow bytes (VTwice name)
 IsFault bytes (VName name) = HasRow bytes (VName name)
@@ -74,9 +69,8 @@ GivesDesign (Err (VUnassigned name)) wanted = ⊥
 GivesDesign (Err (VOrder name)) wanted = ⊥
 GivesDesign (Err (VWidth name)) wanted = ⊥
 
--- the answer is this fault, where it is a `VSyntax` at any place, or want of memory
+-- the answer is this fault, or want of memory
 abbrev pub GivesFault : Result Design VFault → VFault → Type 0
 GivesFault (Err Memory) wanted = Unit {0}
-GivesFault (Err (VSyntax p)) (VSyntax q) = Unit {0}
 GivesFault (Err fault) wanted = fault ≡ wanted
 GivesFault (Ok design) wanted = ⊥

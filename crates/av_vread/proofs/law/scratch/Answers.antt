@@ -1,5 +1,5 @@
 use Rattle.std.proofs.Common.{refl}
-use Rattle.av_vread.proofs.Beginning.{item_reads}
+use Rattle.av_vread.proofs.BeginningTexts.{stops_there, one_stop, stops_say_none, lexed_ends}
 use Rattle.av_vread.proofs.law.scratch.Goals as goal
 
 pub returns : goal.returns
