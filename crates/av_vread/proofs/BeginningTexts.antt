@@ -18,7 +18,7 @@ use Rattle.av_vread.proofs.Sound.{width_bits, text_took}
 use Rattle.av_vread.proofs.Complete.{directed_gives, two_there, declaration_begins, item_begins, text_gives}
 use Rattle.av_vread.proofs.Ends.{port_end, declaration_end, item_end}
 use Rattle.av_vread.proofs.Verdicts.{Ends, last, before, ends_some, left_ends, Puts, puts_none, puts_one, puts_both, Alike, alike_put, Looks, looks_alike, looks_same, Completes, Verdict, past, stops, Reads, pair, alone, Follows, follows, then_reads, reads_as}
-use Rattle.av_vread.proofs.Beginning.{word_token, name_token, Word, Words, Name, ThisName, word_reads, name_reads, this_name_reads, words_read, alike_test, alike_word, word_left, directed_reads, declaration_reads, item_reads}
+use Rattle.av_vread.proofs.BeginningParts.{word_token, name_token, Word, Words, Name, ThisName, word_reads, name_reads, this_name_reads, words_read, alike_test, alike_word, word_left, directed_reads, declaration_reads, item_reads}
 
 -- ---- lists
 
@@ -39,7 +39,7 @@ module _ {A : Type 0} (Is : List Token → List Token → A → Type 0) (begins 
   module _ (none : begins [] ≡ false) (parts : (ts : List Token) → Ends ts → Verdict true pair Is read ts)
       (does_begin : (ts rest : List Token) (x : A) → Is ts rest x → begins ts ≡ true)
       (goes_on : (front : List Token → List Token) (t : Token) (rest : List Token) → Puts front → begins (front (t ∷ rest)) ≡ true → ((k : List Token) → read (front (t ∷ k)) ≡ Err t.place)
-        → (k : List Token) → begins (front (t ∷ k)) ≡ true)
+      → (k : List Token) → begins (front (t ∷ k)) ≡ true)
       (shorter : (ts rest : List Token) (x : A) → Is ts rest x → length rest < length ts) where
     -- one turn of the loop
     turned : (n : ℕ) (found : List A) (ts : List Token) → length ts ≤ n → begins ts ≡ true → (r : Result (A × List Token) Place) → read ts ≡ r
@@ -63,14 +63,14 @@ module _ {A : Type 0} (Is : List Token → List Token → A → Type 0) (begins 
         behind_part front rest x p is again spells (all_parts more left xs q same left_ends none_left once says) =
             all_parts (λ k. front (more k)) left (x ∷ xs) (puts_both p q) (is ∙ ap front same) left_ends none_left
             (λ n k found le b.
-              let turn = turned n found (front (more k)) le (does_begin _ _ _ (spells (more k))) (Ok (x, more k)) (again (more k)) in
-              turn.1.1 ∙ once turn.0 k (found ++ x ∷ []) (omega (arith, shorter _ _ _ (spells (more k)), le, turn.1.0)) b ∙ ap (λ (z : List A). Ok (z, k)) (append_assoc found (x ∷ []) xs))
+            let turn = turned n found (front (more k)) le (does_begin _ _ _ (spells (more k))) (Ok (x, more k)) (again (more k)) in
+            turn.1.1 ∙ once turn.0 k (found ++ x ∷ []) (omega (arith, shorter _ _ _ (spells (more k)), le, turn.1.0)) b ∙ ap (λ (z : List A). Ok (z, k)) (append_assoc found (x ∷ []) xs))
             (λ k. one_more (spells (more k)) (says k))
         behind_part front rest x p is again spells (part_stops more t left q same stopped starts c) =
             part_stops (λ k. front (more k)) t left (puts_both p q) (is ∙ ap front same)
             (λ n k found le.
-              let turn = turned n found (front (more (t ∷ k))) le (does_begin _ _ _ (spells (more (t ∷ k)))) (Ok (x, more (t ∷ k))) (again (more (t ∷ k))) in
-              turn.1.1 ∙ stopped turn.0 k (found ++ x ∷ []) (omega (arith, shorter _ _ _ (spells (more (t ∷ k))), le, turn.1.0)))
+            let turn = turned n found (front (more (t ∷ k))) le (does_begin _ _ _ (spells (more (t ∷ k)))) (Ok (x, more (t ∷ k))) (again (more (t ∷ k))) in
+            turn.1.1 ∙ stopped turn.0 k (found ++ x ∷ []) (omega (arith, shorter _ _ _ (spells (more (t ∷ k))), le, turn.1.0)))
             (λ k. does_begin _ _ _ (spells (more (t ∷ k))))
             (record { back = c.back; value = x ∷ c.value; spells = λ k. one_more (spells (more (c.back k))) (c.spells k) })
 
@@ -324,8 +324,8 @@ module _ (called : List ℕ) where
       with_comma ts rest1 t u left xs ys front more p is in_none ins are_ins q same out_none outs are_outs comma =
           stops (λ k. front (more (t ∷ k))) u left (puts_both p (puts_both q (puts_one t))) (is ∙ ap front same)
           (λ k. through (front (more (t ∷ u ∷ k))) (more (t ∷ u ∷ k)) (t ∷ u ∷ k) xs ys
-            (ins (more (t ∷ u ∷ k)) (two_ports (codes "input") more t u k left q ∙ ap (are_at (codes ",") (codes "input")) (sym same) ∙ in_none)) (outs (t ∷ u ∷ k) out_none)
-            (Err u.place) (comma_closes t u k comma))
+          (ins (more (t ∷ u ∷ k)) (two_ports (codes "input") more t u k left q ∙ ap (are_at (codes ",") (codes "input")) (sym same) ∙ in_none)) (outs (t ∷ u ∷ k) out_none)
+          (Err u.place) (comma_closes t u k comma))
           (record {
             back = λ k. word_token (codes "output") ∷ name_token clk ∷ closing k;
             value = header_of xs (ys ++ record { name = clk; width = width_for 0 } ∷ []);
@@ -478,8 +478,25 @@ as_text ts x
     (follows_last {mid = f} (follows {mid = a} m (follows {mid = b} {x = called} n (follows {mid = c} k t))) (follows_last {mid = g} {x = ds} d (follows_last {mid = h} {x = items} i (follows_last {mid = j} w e)))) =
     subst (IsText ts) (sym e.1)
     (record {
-      a = a; b = b; c = c; d = t.a; e = t.b; f = f; g = g; h = h; i = j;
-      begins = m; name = subst (λ z. IsNameAt a b z) (sym t.named) n; clocked = k; inputs = t.inputs; outputs = t.outputs; closes = t.closes; declarations = d; items = i; stops = w; ends = e.0;
+      a = a;
+      b = b;
+      c = c;
+      d = t.a;
+      e = t.b;
+      f = f;
+      g = g;
+      h = h;
+      i = j;
+      begins = m;
+      name = subst (λ z. IsNameAt a b z) (sym t.named) n;
+      clocked = k;
+      inputs = t.inputs;
+      outputs = t.outputs;
+      closes = t.closes;
+      declarations = d;
+      items = i;
+      stops = w;
+      ends = e.0;
     })
 
 -- ---- where a text breaks off
@@ -505,8 +522,8 @@ stops_there tokens p e f = go (text_reads.judged tokens e)
           stands = same_place t.place (sym (again rest) ∙ ap text_at (sym is) ∙ f);
           begins = record { more = more; said = x; says = subst (λ z. IsText z x) (q.is more) (as_text (front more) x says) };
           none = λ b.
-            let there : front (t ∷ b.more) ≡ (q.tokens ++ (t ∷ [])) ++ b.more = q.is (t ∷ b.more) ∙ sym (append_assoc q.tokens (t ∷ []) b.more) in
-            read_not b.said t.place (sym (text_gives _ b.said b.says) ∙ ap text_at (sym there) ∙ again b.more);
+              let there : front (t ∷ b.more) ≡ (q.tokens ++ (t ∷ [])) ++ b.more = q.is (t ∷ b.more) ∙ sym (append_assoc q.tokens (t ∷ []) b.more) in
+              read_not b.said t.place (sym (text_gives _ b.said b.says) ∙ ap text_at (sym there) ∙ again b.more);
         }
       where
         read_not : (x : Text) (q : Place) → ◌≡◌ {A = Result Text Place} (Ok x) (Err q) → ⊥

@@ -35,5 +35,5 @@ pub mod NoRows
 pub mod WrittenListing
 pub mod RoundTrip
 pub mod Verdicts
-pub mod Beginning
+pub mod BeginningParts
 pub mod BeginningTexts

@@ -34,8 +34,3 @@ pub fn one_text()
     ensures { (some other : Spelled) → IsSoundDesign some → IsSoundDesign other → text some ≡ text other
         → some ≡ other }
 {}
-
-/// Scratch.
-pub fn scratch()
-    ensures { (bytes : Items ℕ) → bytes ≡ bytes }
-{}
