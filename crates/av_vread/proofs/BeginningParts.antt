@@ -1,12 +1,9 @@
 -- How each reader of a part of a text ends.
-use Rattle.std.proofs.Common.{◌≡◌, ◌≢◌, ℕ, zero, suc, ◌+◌, ◌<◌, ◌≤◌, Bool, true, false, cond, not, true≢false, List, [], ◌∷◌, ◌++◌, length, take, Option, Some, None, Result, Ok, Err, refl, sym, ap, subst, ◌∙◌, arith}
-use Rattle.std.specs.Prelude.{◌&&◌, ◌||◌, nat_eq, nat_le, is_some, codes}
+use Rattle.std.proofs.Common.{◌≡◌, ℕ, ◌≤◌, Bool, true, false, cond, true≢false, List, [], ◌∷◌, Option, Some, None, Ok, Err, refl, sym, ap, ◌∙◌, arith}
+use Rattle.std.specs.Prelude.{◌&&◌, nat_le, is_some, codes}
 use Rattle.std.specs.Str.{bytes_eq}
-use Rattle.std.proofs.lemmas.Bool.{leb-true}
-use Rattle.av_base.specs.declared.place.Place.{Place}
 use Rattle.av_base.specs.Tokens.{number_of, start}
 use Rattle.av_base.specs.declared.width.Width.{Width}
-use Rattle.av_net.specs.declared.token_kind.TokenKind.{TokenKind}
 use Rattle.av_net.specs.declared.token_kind.TokenKind.TheVariants as kind
 use Rattle.av_net.specs.declared.operation.Symbol.{Symbol}
 use Rattle.av_net.specs.declared.operation.Symbol.TheVariants as symbol
@@ -16,16 +13,14 @@ use Rattle.av_net.specs.declared.operation.Operation.{Operation}
 use Rattle.av_net.specs.declared.operation.Operation.TheVariants as operation
 use Rattle.av_net.specs.declared.netlist.Port.{Port}
 use Rattle.av_net.specs.declared.netlist.Drive.{Drive}
-use Rattle.av_net.specs.declared.netlist.Step.{Step}
 use Rattle.av_net.specs.Names.{clk, rst}
 use Rattle.av_net.specs.Sound.{IsOrder}
 use Rattle.av_net.specs.Lexemes.{Token}
-use Rattle.av_net.specs.Grammar.{Declaration, wire, register, Item, drive, step as step_item, AreWords, no_word, next_word, IsWordAt, IsNameAt, name, IsNumberAt, number, IsLiteral, IsLiteralAt, literal, IsRange, no_range, range, IsPort, IsDeclaration, wire_declaration, register_declaration, IsOperand, named, constant, spelling, IsSigned, IsOperation, plain, binary, signed, choice, IsDrive, IsEdge, IsStep, IsItem, assignment, at_an_edge, IsClocked}
-use Rattle.av_vread.specs.Bits.{width_of}
-use Rattle.av_vread.specs.Reading.{◌>>=◌, Read, same, after, is_word, is_at, are_at, word_at, words_at, name_at, this_name_at, number_at, Sized, is_literal, sized_in, literal_by, literal_at, width_for, range_at, port_at, directed_at, declared_at, begins_declaration, declaration_at, begins_literal, operand_at, order_of, symbol_of, symbol_at, order_by, order_at, signed_at, comparison_at, choice_at, binary_by, operation_by, operation_at, drive_at, edge_at, reset_at, step_at, begins_item, item_at, clocked_at}
-use Rattle.av_vread.proofs.Steps.{same_is, same_self, other_than, text_is, word_took, name_took, this_name_took, number_took, literal_took, at_word}
+use Rattle.av_net.specs.Grammar.{Declaration, wire, register, Item, drive, step as step_item, AreWords, no_word, next_word, IsWordAt, IsNameAt, name, IsNumberAt, number, IsLiteralAt, IsRange, no_range, range, IsPort, IsDeclaration, wire_declaration, register_declaration, IsOperand, named, constant, spelling, IsSigned, IsOperation, plain, binary, signed, choice, IsDrive, IsEdge, IsItem, assignment, at_an_edge}
+use Rattle.av_vread.specs.Reading.{◌>>=◌, Read, same, after, is_word, is_at, word_at, words_at, name_at, this_name_at, number_at, Sized, is_literal, sized_in, literal_by, literal_at, width_for, range_at, port_at, directed_at, declared_at, declaration_at, begins_literal, operand_at, order_of, symbol_at, order_by, order_at, signed_at, comparison_at, choice_at, binary_by, operation_by, operation_at, drive_at, edge_at, reset_at, step_at, item_at}
+use Rattle.av_vread.proofs.Steps.{word_took, name_took, this_name_took, number_took, literal_took, at_word}
 use Rattle.av_vread.proofs.Sound.{width_bits, symbol_took, order_took, Reset}
-use Rattle.av_vread.proofs.Verdicts.{Ends, ends_some, left_ends, Puts, puts_none, puts_one, Alike, Completes, Verdict, past, stops, Reads, pair, alone, one_token, Follows, follows, then_reads, Mapped, mapped, unmap, map_reads, verdict_as, reads_as, verdict_of, opened, when_true, when_false, behind}
+use Rattle.av_vread.proofs.Verdicts.{Ends, ends_some, left_ends, puts_none, Alike, Verdict, past, Reads, pair, alone, one_token, Follows, follows, then_reads, Mapped, mapped, unmap, map_reads, verdict_as, reads_as, opened, when_true, when_false, behind}
 
 -- ---- tokens to complete with
 

@@ -1,5 +1,5 @@
 -- How the readers of lists and of a whole text end, and that a text breaks off where its reader stops.
-use Rattle.std.proofs.Common.{◌≡◌, ◌≢◌, ℕ, zero, suc, ◌+◌, ◌<◌, ◌≤◌, Bool, true, false, cond, true≢false, List, [], ◌∷◌, ◌++◌, length, take, Result, Ok, Err, refl, sym, ap, subst, ◌∙◌, arith, append_assoc, inl, inr, ◌⊎◌}
+use Rattle.std.proofs.Common.{◌≡◌, ◌≢◌, ℕ, zero, suc, ◌<◌, ◌≤◌, Bool, true, false, true≢false, List, [], ◌∷◌, ◌++◌, length, Result, Ok, Err, refl, sym, ap, subst, ◌∙◌, arith, append_assoc}
 use Rattle.std.specs.Prelude.{◌&&◌, codes}
 use Rattle.std.specs.Str.{bytes_eq}
 use Rattle.std.proofs.lemmas.List.{append-nil}
@@ -9,12 +9,12 @@ use Rattle.av_net.specs.declared.token_kind.TokenKind.TheVariants as kind
 use Rattle.av_net.specs.declared.netlist.Port.{Port}
 use Rattle.av_net.specs.Names.{clk, rst}
 use Rattle.av_net.specs.Lexemes.{Token, IsSpelled, AreTokens, end as end_of_bytes, blank, comment, token}
-use Rattle.av_net.specs.Grammar.{Text, Declaration, Item, AreWords, no_word, next_word, IsWordAt, IsNameAt, name, IsEnd, end, IsRange, no_range, IsPort, IsDeclaration, IsItem, AreMany, no_more, one_more, IsClocked, IsText}
+use Rattle.av_net.specs.Grammar.{Text, Declaration, Item, AreWords, no_word, next_word, IsWordAt, IsNameAt, name, IsEnd, end, no_range, IsPort, IsDeclaration, IsItem, AreMany, no_more, one_more, IsClocked, IsText}
 use Rattle.av_vread.specs.Beginnings.{Begins, StopsAt}
-use Rattle.av_vread.specs.Reading.{◌>>=◌, Read, same, after, place_of, is_word, is_at, are_at, word_at, words_at, end_at, width_for, directed_at, begins_declaration, declaration_at, begins_item, item_at, many_at, all_at, ports_at, declarations_at, items_at, Header, closed_at, clocked_at, header_at, text_at}
+use Rattle.av_vread.specs.Reading.{◌>>=◌, Read, same, is_word, is_at, are_at, words_at, end_at, width_for, directed_at, begins_declaration, declaration_at, begins_item, item_at, many_at, all_at, ports_at, declarations_at, items_at, Header, closed_at, clocked_at, header_at, text_at}
 use Rattle.av_vread.proofs.Tables.{both}
 use Rattle.av_vread.proofs.Steps.{same_is, same_self, at_word, other_there}
-use Rattle.av_vread.proofs.Sound.{width_bits, text_took}
+use Rattle.av_vread.proofs.Sound.{width_bits}
 use Rattle.av_vread.proofs.Complete.{directed_gives, two_there, declaration_begins, item_begins, text_gives}
 use Rattle.av_vread.proofs.Ends.{port_end, declaration_end, item_end}
 use Rattle.av_vread.proofs.Verdicts.{Ends, last, before, ends_some, left_ends, Puts, puts_none, puts_one, puts_both, Alike, alike_put, Looks, looks_alike, looks_same, Completes, Verdict, past, stops, Reads, pair, alone, Follows, follows, then_reads, reads_as}
