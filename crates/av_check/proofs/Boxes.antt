@@ -15,7 +15,7 @@ use Rattle.av_poly.specs.Search.{IsBetween}
 use Rattle.av_poly.specs.Rational.{HasNoBounds, entry_of}
 use Rattle.av_poly.proofs.Dividing.{counted_most, constant_most}
 use Rattle.av_poly.proofs.Rationals.{point_is_rational, point_within_bounds}
-use Rattle.av_check.specs.Clipped.{clip}
+use Rattle.av_check.specs.inner.Clipped.{clip}
 
 -- ---- normalised rows keep their limits
 

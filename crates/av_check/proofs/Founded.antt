@@ -10,7 +10,7 @@ use Rattle.av_flat.specs.Signatures.{Signature}
 use Rattle.av_flat.specs.WellFormed.{Fits, FitAll, EachPart, EachPartOfAll, HasSmallRows}
 use Rattle.av_flat.specs.Quantities.{steps_under, composed_maps, composed_maps_of_all}
 use Rattle.av_normal.proofs.Laid.{all_parts}
-use Rattle.av_check.specs.Standing.{reach, HasSmallForms, IsChain, IsReached, Stands, StandAll, StandsInside}
+use Rattle.av_check.specs.inner.Standing.{reach, HasSmallForms, IsChain, IsReached, Stands, StandAll, StandsInside}
 
 reached : (ds : List Map) (z : Point) → IsChain ds z → All HasSmallForms ds → All HasSmallForms (steps_under ds) → IsReached ds z
 reached [] z h u c = h

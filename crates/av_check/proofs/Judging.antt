@@ -13,7 +13,7 @@ use Rattle.av_check.specs.declared.verdict.Blame.{Blame}
 use Rattle.av_check.specs.declared.verdict.Verdict.{Verdict}
 use Rattle.av_check.specs.declared.verdict.Verdict.TheVariants as verdict
 use Rattle.av_check.specs.Blame.{where_none, or_else, blamed, blamed_of_all}
-use Rattle.av_check.specs.Verdicts.{IsOf, IsVerdict, IsVerdictOfAll, IsReading}
+use Rattle.av_check.specs.inner.Verdicts.{IsOf, IsVerdict, IsVerdictOfAll, IsReading}
 
 -- ---- numbers
 

@@ -9,7 +9,7 @@ use Rattle.std.specs.Option.{is_some}
 use Rattle.std.proofs.lemmas.Bool.Decides.{Decides-int_eq}
 use Rattle.av_poly.specs.Search.{IsNotAfter}
 use Rattle.av_tree.specs.Points.{Point}
-use Rattle.av_check.specs.Least.{IsLeast, not_after, first_of}
+use Rattle.av_check.specs.inner.Least.{IsLeast, not_after, first_of}
 
 -- ---- two entries
 

@@ -5,7 +5,7 @@ use Rattle.std.proofs.Math.Seq.{drop-cons}
 use Rattle.av_affine.specs.declared.map.Map.{Map}
 use Rattle.av_flat.specs.declared.tree.Tree.{Tree as TreeMade}
 use Rattle.av_flat.specs.Trees.{view, trees_of}
-use Rattle.av_check.specs.Standing.{Stands, StandAll}
+use Rattle.av_check.specs.inner.Standing.{Stands, StandAll}
 use denote.Param.Weighed.{most}
 use Rattle.av_flat.specs.declared.tree.Tree.TheVariants as made
 use Rattle.av_flat.specs.declared.tree.Tree.TheViews.{sized-Case}

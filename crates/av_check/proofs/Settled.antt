@@ -20,13 +20,13 @@ use Rattle.av_check.specs.declared.fault.CheckFault.{CheckFault}
 use Rattle.av_check.specs.declared.fault.CheckFault.TheVariants as fault
 use Rattle.av_check.specs.declared.verdict.Blame.{Blame}
 use Rattle.av_check.specs.declared.verdict.Verdict.TheVariants as verdict
-use Rattle.av_check.specs.Verdicts.{IsVerdict}
-use Rattle.av_check.specs.Least.{IsLeast}
-use Rattle.av_check.specs.Having.{IsOff}
+use Rattle.av_check.specs.inner.Verdicts.{IsVerdict}
+use Rattle.av_check.specs.inner.Least.{IsLeast}
+use Rattle.av_check.specs.inner.Having.{IsOff}
 use Rattle.av_check.specs.Wrong.{IsWrongAt, IsLeastWrong, IsFirstWrong}
 use Rattle.av_check.specs.Blame.{blamed, named}
 use Rattle.av_check.specs.CheckFaults.{IsFaultOf, IsFault}
-use Rattle.av_check.specs.Ready.{IsReady, AreReady, HasNoWrong}
+use Rattle.av_check.specs.inner.Ready.{IsReady, AreReady, HasNoWrong}
 use Rattle.av_check.proofs.Lexicographic.{least_same, same_point}
 
 -- ---- one variable
@@ -161,7 +161,7 @@ same_head x y xs ys e = cc
 same_tail : {X : Type 0} (x y : X) (xs ys : List X) → x ∷ xs ≡ y ∷ ys → xs ≡ ys
 same_tail x y xs ys e = cc
 
-first_is_one : {X : Type 0} (P : X → Type 0) (b a c d : List X) (x y : X) → b ++ x ∷ a ≡ c ++ y ∷ d → All (λ u. P u → ⊥) b → P x → All (λ u. P u → ⊥) c → P y → x ≡ y
+pub first_is_one : {X : Type 0} (P : X → Type 0) (b a c d : List X) (x y : X) → b ++ x ∷ a ≡ c ++ y ∷ d → All (λ u. P u → ⊥) b → P x → All (λ u. P u → ⊥) c → P y → x ≡ y
 first_is_one P [] a [] d x y e h p k q = same_head x y a d e
 first_is_one P [] a (u ∷ c) d x y e h p k q = absurd (All-head (λ v. P v → ⊥) u c k (subst P (same_head x u a (c ++ y ∷ d) e) p))
 first_is_one P (u ∷ b) a [] d x y e h p k q = absurd (All-head (λ v. P v → ⊥) u b h (subst P (sym (same_head u y (b ++ x ∷ a) d e)) q))

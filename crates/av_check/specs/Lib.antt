@@ -1,9 +1,4 @@
 pub mod Wrong
 pub mod Blame
 pub mod CheckFaults
-pub mod Least
-pub mod Having
-pub mod Clipped
-pub mod Standing
-pub mod Verdicts
-pub mod Ready
+pub mod inner

@@ -5,8 +5,8 @@ ghost use Rattle.av_affine.specs.Numbers.{AtMost};
 ghost use Rattle.av_flat.specs.Trees.{view, trees_of, view_variable, view_piece, restriction};
 ghost use Rattle.av_flat.specs.Signatures.{signature};
 ghost use Rattle.av_flat.specs.WellFormed.{dimension_of};
-ghost use Rattle.av_check.specs.Standing.{reach, Stands, StandAll, StandsInside};
-ghost use Rattle.av_check.specs.Verdicts.{IsReading, IsVerdict, IsVerdictOfAll};
+ghost use Rattle.av_check.specs.inner.Standing.{reach, Stands, StandAll, StandsInside};
+ghost use Rattle.av_check.specs.inner.Verdicts.{IsReading, IsVerdict, IsVerdictOfAll};
 
 use crate::images::{image_under, point_under, within};
 use crate::verdict::{Blame, Verdict, both, either};

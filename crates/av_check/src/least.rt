@@ -6,9 +6,9 @@ ghost use Rattle.av_affine.specs.Numbers.{AtMost};
 ghost use Rattle.av_affine.specs.Forms.{IsWithinLimits};
 ghost use Rattle.av_poly.specs.Points.{Has};
 ghost use Rattle.av_poly.specs.Search.{IsBetween};
-ghost use Rattle.av_check.specs.Clipped.{clip};
-ghost use Rattle.av_check.specs.Least.{IsLeast};
-ghost use Rattle.av_check.specs.Having.{IsOff, IsInside, IsOrdinary};
+ghost use Rattle.av_check.specs.inner.Clipped.{clip};
+ghost use Rattle.av_check.specs.inner.Least.{IsLeast};
+ghost use Rattle.av_check.specs.inner.Having.{IsOff, IsInside, IsOrdinary};
 
 use crate::order::lesser;
 use crate::outside::least_left;

@@ -1,7 +1,7 @@
 //! Points in lexicographic order.
 
 ghost use Rattle.std.specs.Prelude.{◌≡◌, Some};
-ghost use Rattle.av_check.specs.Least.{not_after, first_of};
+ghost use Rattle.av_check.specs.inner.Least.{not_after, first_of};
 
 use av_base::Point;
 

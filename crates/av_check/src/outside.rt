@@ -3,8 +3,8 @@
 ghost use Rattle.std.specs.Prelude.{ℤ, ℕ, List as Items, ◌≡◌, ◌≤◌, ◌^◌, ◌<◌, ◌↔◌, ◌⊎◌, unsigned_abs, IfOk, OnOk, All};
 ghost use Rattle.av_affine.specs.Numbers.{AtMost};
 ghost use Rattle.av_poly.specs.Points.{Has};
-ghost use Rattle.av_check.specs.Least.{IsLeast};
-ghost use Rattle.av_check.specs.Having.{having, IsInAny, IsInside, IsOrdinary};
+ghost use Rattle.av_check.specs.inner.Least.{IsLeast};
+ghost use Rattle.av_check.specs.inner.Having.{having, IsInAny, IsInside, IsOrdinary};
 
 use crate::order::lesser;
 use crate::sets::{least_point, normalised};

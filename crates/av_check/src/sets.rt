@@ -5,8 +5,8 @@ ghost use Rattle.av_affine.specs.Numbers.{AtMost};
 ghost use Rattle.av_affine.specs.Forms.{IsWithinLimits};
 ghost use Rattle.av_poly.specs.Normal.{AreNormalised};
 ghost use Rattle.av_poly.specs.Points.{Has};
-ghost use Rattle.av_check.specs.Least.{IsLeast};
-ghost use Rattle.av_check.specs.Having.{IsInside};
+ghost use Rattle.av_check.specs.inner.Least.{IsLeast};
+ghost use Rattle.av_check.specs.inner.Having.{IsInside};
 
 use crate::opposed::are_contrary;
 use av_affine::Form;

@@ -2,7 +2,7 @@
 
 ghost use Rattle.std.specs.Prelude.{◌≡◌, ℕ, ◌+◌, ◌*◌, Option};
 ghost use Rattle.av_check.specs.Blame.{where_none, or_else};
-ghost use Rattle.av_check.specs.Verdicts.{IsOf};
+ghost use Rattle.av_check.specs.inner.Verdicts.{IsOf};
 
 use av_base::Point;
 

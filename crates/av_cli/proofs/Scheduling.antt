@@ -21,14 +21,16 @@ use Rattle.av_cli.specs.Refusals.{refusal_line}
 use Rattle.av_cli.specs.SystemRefusals.{system_reason}
 use Rattle.av_cli.specs.Schedules.{RefusesSchedule, GivesSchedule, RefusesScheduleWith, GivesScheduleWith}
 use Rattle.av_cli.specs.Written.{IsPut, IsAnswered, refused, given, no_memory}
-use Rattle.av_cli.proofs.Checking.{one_flat, exclusive, memory_or_not}
+use Rattle.av_compile.proofs.OneChain.{one_flat}
+use Rattle.av_compile.proofs.OneRefusal.{memory_or_not}
+use Rattle.av_cli.proofs.Checking.{exclusive}
 use Rattle.av_cli.proofs.GivenSizes.{with_sizes}
 
 -- ---- refused or given, and not both
 
 one_normal : (bytes : List ℕ) (sizes : List Size) (bits : ℕ) (s t : FlatSystem) → Normalises bytes sizes bits s → Normalises bytes sizes bits t → s ≡ t
 one_normal bytes sizes bits s t a b =
-    let same = one_flat bytes sizes bits a.flat b.flat a.flattens b.flattens in
+    let same = one_flat bytes sizes bits b.flat a.flat b.flattens a.flattens in
     normal.unique b.flat s t (subst (λ (x : FlatSystem). normalised.IsGiven x s) same a.given).form b.given.form
 
 one_serial : (bytes : List ℕ) (sizes : List Size) (bits : ℕ) (s t : FlatSystem) → Serialises bytes sizes bits s → Serialises bytes sizes bits t → s ≡ t

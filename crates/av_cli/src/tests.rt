@@ -1,7 +1,7 @@
 ghost use Rattle.std.specs.Prelude.{◌≤◌, IfOk};
 
 use crate::standard::{StdSink, StdSource};
-use crate::{LIMIT, Status, alphav};
+use crate::{Status, alphav};
 use av_base::{Failed, List, MemSink, MemSource, Name, Sink, Source};
 use av_vread::read_design;
 use av_vtext::write_design;
@@ -136,6 +136,7 @@ const USAGE: &str =
 
 mod checks;
 mod designs;
+mod faults;
 mod pieces;
 mod quantities;
 mod schedules;
@@ -246,21 +247,6 @@ fn written_again(alloc: Global, text: &str, sink: &mut MemSink) -> bool {
         Ok(design) => write_design(&design, sink).is_ok(),
         Err(_fault) => false,
     }
-}
-
-#[test]
-fn a_text_above_the_limit_is_refused(rt: HostRuntime) -> Result<(), Fail> {
-    let alloc = rt.alloc();
-    let mut text = List::new(alloc);
-    for _ in 0..=LIMIT {
-        text.push(b' ')?;
-    }
-    let mut source = MemSource::new(text, 4096, numbers(alloc, &[])?);
-    let mut sink = MemSink::new(alloc, 4096, 4096, numbers(alloc, &[])?)?;
-    let status = answer(alloc, WIDTH_8, &mut source, &mut sink)?;
-    assert_eq!(rt; status, Status::Refused);
-    assert_eq!(rt; sink.held(), b"refused: too long\n".as_slice());
-    Ok(())
 }
 
 #[test]

@@ -5,6 +5,8 @@ use Rattle.std.specs.Result.{IsErrAnd}
 use Rattle.av_base.specs.declared.place.Place.{Place}
 use Rattle.av_base.specs.Tokens.{Token, IsText, start}
 use Rattle.av_tree.specs.Trees.{System}
+use Rattle.av_tree.specs.declared.system.System.{System as Tree}
+use Rattle.av_tree.specs.Fronts.{IsSyntaxPlace, IsDepthPlace}
 use Rattle.av_tree.specs.Grammar.{IsProgram, IsProgramText, levels}
 use Rattle.av_lex.specs.declared.token.Token.{Token as Found}
 use Rattle.av_lex.specs.declared.fault.LexFault.{LexFault}
@@ -45,11 +47,14 @@ bytes_refused bytes words width r (lex.BadByte p) found bad number was e not_mem
 bytes_refused bytes words width r (lex.Number p) found bad number was e not_memory = in_bytes (lex.Number p) e (number p was)
 bytes_refused bytes words width r lex.Memory found bad number was e not_memory = absurd (not_memory e)
 
-pub tokens_refused : (bytes : List ℕ) (words : List Size) (width : ℕ) (r : Refusal) (f : ParseFault) (tokens : List Token)
-    → IsText start bytes tokens → ((s : System) → IsProgram levels tokens s → f ≡ parse.Memory) → r ≡ of_parse f → r ≢ refusal.Memory
-    → IsRefused bytes words width r
-tokens_refused bytes words width r f tokens text only_memory e not_memory =
-    in_tokens f e tokens text (λ s program. not_memory (e ∙ ap of_parse (only_memory s program)))
+pub tokens_refused : (bytes : List ℕ) (words : List Size) (width : ℕ) (r : Refusal) (f : ParseFault) (tokens : List Token) (found : Result Tree ParseFault)
+    → IsText start bytes tokens
+    → ((bytes : List ℕ) (p : Place) → IsText start bytes tokens → found ≡ Err (parse.Syntax p) → IsSyntaxPlace tokens p)
+    → ((p : Place) → found ≡ Err (parse.Depth p) → IsDepthPlace tokens p)
+    → found ≡ Err f → r ≡ of_parse f → r ≢ refusal.Memory → IsRefused bytes words width r
+tokens_refused bytes words width r (parse.Syntax p) tokens found text syntax depth was e not_memory = in_tokens (parse.Syntax p) e tokens text (syntax bytes p text was)
+tokens_refused bytes words width r (parse.Depth p) tokens found text syntax depth was e not_memory = in_tokens (parse.Depth p) e tokens text (depth p was)
+tokens_refused bytes words width r parse.Memory tokens found text syntax depth was e not_memory = absurd (not_memory e)
 
 pub names_refused : (bytes : List ℕ) (words : List Size) (width : ℕ) (r : Refusal) (f : NameFault) (s : System)
     → IsProgramText bytes s → (f ≡ names.Memory) ⊎ IsRefusal s words f → r ≡ of_names f → r ≢ refusal.Memory → IsRefused bytes words width r

@@ -1,5 +1,6 @@
 mod FirstFaults
-mod OneChain
+pub mod OneChain
+pub mod OneRefusal
 pub mod Pipelined
 mod OnlySolution
 mod Unscheduled

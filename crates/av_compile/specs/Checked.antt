@@ -2,12 +2,13 @@
 use Rattle.std.specs.Prelude.{◌≡◌, ℕ, List}
 use Rattle.av_base.specs.Tokens.{Token, IsText, start}
 use Rattle.av_tree.specs.Trees.{System}
-use Rattle.av_tree.specs.Grammar.{IsProgram, IsProgramText, levels}
+use Rattle.av_tree.specs.Grammar.{IsProgramText}
 use Rattle.av_flat.specs.Trees.{FlatSystem}
 use Rattle.av_flat.specs.Proper.{IsProper}
 use Rattle.av_lex.specs.declared.fault.LexFault.{LexFault}
 use Rattle.av_lex.specs.Faults as lexed
 use Rattle.av_parse.specs.declared.fault.ParseFault.{ParseFault}
+use Rattle.av_parse.specs.Parsing as parsed
 use Rattle.av_names.specs.declared.size.Size.{Size}
 use Rattle.av_names.specs.declared.fault.NameFault.{NameFault}
 use Rattle.av_names.specs.Accepted.{instance_of}
@@ -40,12 +41,11 @@ pub record IsChecked (bytes : List ℕ) (words : List Size) (width : ℕ) (t : F
   pub given : IsGiven flat t
   pub proper : IsProper flat
 
--- the first fault, each behind the steps that found none: of the bytes, of the tokens, which spell no program, of the names, of
--- the pieces, of the points
+-- the first fault, each behind the steps that found none: of the bytes, of the tokens, with its place, of the names, of the
+-- pieces, of the points
 pub data IsRefused (bytes : List ℕ) (words : List Size) (width : ℕ) (r : Refusal) : Type 0 where
   in_bytes : (f : LexFault) → r ≡ of_lex f → lexed.IsFault start bytes f → IsRefused bytes words width r
-  in_tokens : (f : ParseFault) → r ≡ of_parse f → (tokens : List Token) → IsText start bytes tokens → ((s : System) → IsProgram levels tokens s → ⊥)
-      → IsRefused bytes words width r
+  in_tokens : (f : ParseFault) → r ≡ of_parse f → (tokens : List Token) → IsText start bytes tokens → parsed.IsFault tokens f → IsRefused bytes words width r
   in_names : (f : NameFault) → r ≡ of_names f → (s : System) → IsProgramText bytes s → IsRefusal s words f → IsRefused bytes words width r
   in_pieces : (f : NormalFault) → r ≡ of_normal f → (s : FlatSystem) → Flattens bytes words width s → normalised.IsFault s f → IsRefused bytes words width r
   in_points : (f : CheckFault) → r ≡ of_check f → (s : FlatSystem) → Flattens bytes words width s → HasNormalForm s → checked.IsFault s f

@@ -1,4 +1,4 @@
-ghost use Rattle.std.specs.Prelude.{◌≡◌, ◌≢◌, ◌<◌, length, IfOk, IfErr, Err};
+ghost use Rattle.std.specs.Prelude.{◌≡◌, ◌≢◌, ◌<◌, ◌⊎◌, length, IfOk, IfErr, Err};
 ghost use Rattle.av_flat.specs.Trees.{FlatSystem, view_system};
 ghost use Rattle.av_flat.specs.Proper.{IsProper};
 ghost use Rattle.av_flat.specs.WellFormed.{IsWellFormed};
@@ -50,6 +50,9 @@ pub fn checked(alloc: Global, bytes: &[u8], sizes: &[Size], width: Width) -> Res
 
     // A text is refused for its first fault, unless memory runs out.
     ensures refused { (f : Refused) → result ≡ Err f → f ≢ refusal.Memory → IsRefused bytes.now sizes.now width.bits f }
+
+    // Where a text has a first fault, it is refused for that one, unless memory runs out.
+    ensures cause { (f : Refused) → IsRefused bytes.now sizes.now width.bits f → f ≢ refusal.Memory → (result ≡ Err f) ⊎ (result ≡ Err refusal.Memory) }
 
     // A proper system that has a normal form is not refused.
     ensures complete { (s : FlatSystem) → Flattens bytes.now sizes.now width.bits s → HasNormalForm s → IsProper s → IfErr result (λ f. f ≡ refusal.Memory) }

@@ -5,8 +5,8 @@ use Rattle.av_affine.proofs.Ring.{ring}
 use Rattle.av_affine.proofs.Order.{product_nonneg, nonneg_by}
 use Rattle.av_poly.specs.Rational.{IsRationalPoint, HasRationalPoint, HasRayAlong, IsWithinBounds, IsBounded, IsEndless, Spans}
 use Rattle.av_elim.specs.declared.span.Span.{Span}
-use Rattle.av_elim.specs.Span.{Ways, Tells}
-use Rattle.av_elim.specs.Rows.{factor}
+use Rattle.av_elim.specs.inner.Span.{Ways, Tells}
+use Rattle.av_elim.specs.inner.Rows.{factor}
 
 module _ (dim i : ℕ) (rows : List (List ℤ)) (g : Span) (t : Tells dim rows i g) where
   pub no_point : g.flat ≡ false → HasRationalPoint dim rows → ⊥

@@ -9,8 +9,8 @@ use Rattle.av_affine.proofs.Ring.{ring}
 use Rattle.av_elim.proofs.Steps.{split}
 use Rattle.av_elim.proofs.Merging.{all_append}
 use Rattle.av_elim.proofs.Lift.{factor_combine}
-use Rattle.av_elim.specs.Rows.{factor, Clear, Small}
-use Rattle.av_elim.specs.Step.{pairs_of, all_pairs, flats, combination, eliminated}
+use Rattle.av_elim.specs.inner.Rows.{factor, Clear, Small}
+use Rattle.av_elim.specs.inner.Step.{pairs_of, all_pairs, flats, combination, eliminated}
 
 -- what rows without k and combinations have, each row out has
 module _ (P Q : List ℤ → Type 0) (k : ℕ) (flat : (r : List ℤ) → P r → factor k r ≡ pos 0 → Q r)

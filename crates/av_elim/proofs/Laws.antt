@@ -12,9 +12,9 @@ use Rattle.av_elim.specs.declared.answer.Elim.{Elim}
 use Rattle.av_elim.specs.declared.answer.Elim.TheVariants.{Constraints, Unbounded, Empty, Memory}
 use Rattle.av_elim.specs.declared.span.Span.{Span}
 use Rattle.av_elim.specs.Faults.{IsCause}
-use Rattle.av_elim.specs.Rows.{Shadow, Clear}
-use Rattle.av_elim.specs.Span.{Tells, scanned, whole}
-use Rattle.av_elim.specs.Step.{eliminated}
+use Rattle.av_elim.specs.inner.Rows.{Shadow, Clear}
+use Rattle.av_elim.specs.inner.Span.{Tells, scanned, whole}
+use Rattle.av_elim.specs.inner.Step.{eliminated}
 use Rattle.av_elim.proofs.Steps.{projects}
 use Rattle.av_elim.proofs.Growth.{clear_here, clear_kept}
 use Rattle.av_elim.proofs.Merging.{stands_same}

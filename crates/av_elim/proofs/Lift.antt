@@ -6,7 +6,7 @@ use Rattle.av_affine.proofs.Ring.{ring, cube}
 use Rattle.av_elim.proofs.Core.{core, Flat, Pairs, weaker}
 use Rattle.av_affine.specs.Numbers.{dot}
 use Rattle.av_poly.specs.Rational.{Satisfies}
-use Rattle.av_elim.specs.Rows.{scale, combine, factor}
+use Rattle.av_elim.specs.inner.Rows.{scale, combine, factor}
 
 -- the entry at k apart from the rest
 pub dot_set : (r v : List ℤ) (k : ℕ) (t : ℤ) → k < length v → dot r (set v k t) ≡ factor k r *ℤ t +ℤ dot r (set v k (pos 0))

@@ -5,9 +5,9 @@ use Rattle.std.specs.Ordering.{int_eq}
 use Rattle.av_affine.specs.declared.form.Form.{Form}
 use Rattle.av_poly.specs.Rational.{homogeneous}
 use Rattle.av_elim.specs.declared.span.Span.{Span}
-use Rattle.av_elim.specs.Rows.{line, factor, StandsFor}
-use Rattle.av_elim.specs.Step.{pairs_of, all_pairs, flats, combination}
-use Rattle.av_elim.specs.Span.{scanned, stepped}
+use Rattle.av_elim.specs.inner.Rows.{line, factor, StandsFor}
+use Rattle.av_elim.specs.inner.Step.{pairs_of, all_pairs, flats, combination}
+use Rattle.av_elim.specs.inner.Span.{scanned, stepped}
 use Rattle.av_elim.proofs.Merging.{stands_after, stands_before}
 
 -- rows more are out

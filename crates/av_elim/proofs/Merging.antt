@@ -17,7 +17,7 @@ use Rattle.av_affine.proofs.Order.{product_nonneg, nonneg_by}
 use Rattle.av_affine.proofs.Exact.{exact, divided}
 use Rattle.av_affine.proofs.Dots.{entry_most}
 use Rattle.av_poly.specs.Rational.{homogeneous}
-use Rattle.av_elim.specs.Rows.{line, scale, combine, factor, Small, IsReduced, StandsFor}
+use Rattle.av_elim.specs.inner.Rows.{line, scale, combine, factor, Small, IsReduced, StandsFor}
 use Rattle.av_elim.proofs.Lift.{dot_scale', factor_scale}
 
 pub all_append : {X : Type 0} (Q : X → Type 0) (xs ys : List X) → AllByRecursion Q xs → AllByRecursion Q ys → AllByRecursion Q (xs ++ ys)

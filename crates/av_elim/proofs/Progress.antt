@@ -6,8 +6,8 @@ use Rattle.std.proofs.lemmas.Bool.{cases_eq, cases_lt}
 use Rattle.av_affine.specs.declared.form.Form.{Form}
 use Rattle.av_affine.specs.Forms.{IsWithinLimits}
 use Rattle.av_poly.specs.Rational.{homogeneous}
-use Rattle.av_elim.specs.Rows.{line, Small, Shadow, Clear, StandsFor}
-use Rattle.av_elim.specs.Step.{eliminated, growth}
+use Rattle.av_elim.specs.inner.Rows.{line, Small, Shadow, Clear, StandsFor}
+use Rattle.av_elim.specs.inner.Step.{eliminated, growth}
 use Rattle.av_elim.proofs.Core.{weaker}
 use Rattle.av_elim.proofs.Steps.{projects_by}
 use Rattle.av_elim.proofs.Growth.{clear_here, clear_kept, small_eliminated}

@@ -4,8 +4,8 @@ use Rattle.std.proofs.Math.ListN.{set}
 use Rattle.av_affine.specs.declared.form.Form.{Form}
 use Rattle.av_poly.specs.Rational.{homogeneous, IsWithinBounds, IsBounded, Spans, AreBounds, HasGap}
 use Rattle.av_elim.specs.declared.span.Span.{Span}
-use Rattle.av_elim.specs.Span.{Tells}
-use Rattle.av_elim.specs.Rows.{factor}
+use Rattle.av_elim.specs.inner.Span.{Tells}
+use Rattle.av_elim.specs.inner.Rows.{factor}
 use Rattle.av_elim.proofs.Answering.{bounded, spans, no_whole}
 
 -- what stands after some indices

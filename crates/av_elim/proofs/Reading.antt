@@ -8,8 +8,8 @@ use Rattle.av_affine.proofs.Ring.{ring, times_sum, cube}
 use Rattle.av_affine.proofs.Order.{product_nonneg, nonneg_by, positive_by}
 use Rattle.av_affine.proofs.Exact.{div_bounds}
 use Rattle.av_elim.specs.declared.span.Span.{Span}
-use Rattle.av_elim.specs.Rows.{factor}
-use Rattle.av_elim.specs.Span.{InSpan, Near, Ways, higher, lower, stepped, scanned}
+use Rattle.av_elim.specs.inner.Rows.{factor}
+use Rattle.av_elim.specs.inner.Span.{InSpan, Near, Ways, higher, lower, stepped, scanned}
 
 -- a row holds at x from its quotient on
 pub fits_from : (c a x : ℤ) → pos 0 <ℤ a → neg_ℤ (int_div_euclid c a) ≤ℤ x → pos 0 ≤ℤ (c *ℤ pos 1 +ℤ a *ℤ x)

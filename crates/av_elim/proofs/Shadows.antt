@@ -6,7 +6,7 @@ use Rattle.av_affine.proofs.Ring.{times_times}
 use Rattle.av_affine.proofs.Order.{positive_product, product_nonneg}
 use Rattle.av_elim.proofs.Lift.{factor_scale, length_scale}
 use Rattle.av_affine.specs.Numbers.{dot}
-use Rattle.av_elim.specs.Rows.{scale, factor, Projects, Shadow, StandsFor}
+use Rattle.av_elim.specs.inner.Rows.{scale, factor, Projects, Shadow, StandsFor}
 
 pub shadow_none : (n k : ℕ) (rows out : List (List ℤ)) → StandsFor rows out → Shadow n k rows out
 shadow_none n k rows out s = record {

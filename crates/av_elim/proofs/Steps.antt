@@ -10,8 +10,8 @@ use Rattle.av_elim.proofs.Core.{Flat}
 use Rattle.av_elim.proofs.Lift.{complete, dot_combine, dot_at}
 use Rattle.av_affine.specs.Numbers.{dot}
 use Rattle.av_poly.specs.Rational.{Satisfies}
-use Rattle.av_elim.specs.Rows.{factor, Projects, StandsFor}
-use Rattle.av_elim.specs.Step.{pairs_of, all_pairs, flats, combination, eliminated}
+use Rattle.av_elim.specs.inner.Rows.{factor, Projects, StandsFor}
+use Rattle.av_elim.specs.inner.Step.{pairs_of, all_pairs, flats, combination, eliminated}
 
 pub holds_append : (xs ys : List (List ℤ)) (v : List ℤ) → Satisfies xs v → Satisfies ys v → Satisfies (xs ++ ys) v
 holds_append [] ys v h k = k

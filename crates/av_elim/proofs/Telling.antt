@@ -9,12 +9,12 @@ use Rattle.av_elim.proofs.Shadows.{dot_two, shadow_none, shadow_more}
 use Rattle.av_elim.proofs.Merging.{stands_same}
 use Rattle.av_elim.proofs.Steps.{projects}
 use Rattle.av_elim.proofs.Growth.{clear_here, clear_kept}
-use Rattle.av_elim.specs.Step.{eliminated}
+use Rattle.av_elim.specs.inner.Step.{eliminated}
 use Rattle.std.proofs.lemmas.Bool.{cases_eq, cases_lt}
-use Rattle.av_elim.specs.Span.{Tells, scanned, whole}
+use Rattle.av_elim.specs.inner.Span.{Tells, scanned, whole}
 use Rattle.av_elim.proofs.Reading.{Fits, AllFit, in_all, out_all, near_all, ways_all, all_ways}
 use Rattle.av_poly.specs.Rational.{Satisfies, IsRationalPoint, IsDirection, IsWithinBounds}
-use Rattle.av_elim.specs.Rows.{factor, Shadow, Clear}
+use Rattle.av_elim.specs.inner.Rows.{factor, Shadow, Clear}
 
 fits_of : (v : List ℤ) (k : ℕ) (out : List (List ℤ)) → 0 < k → k < length v → ((j : ℕ) → 0 < j → j ≢ k → j < length v → Clear j out) → Satisfies out v → AllFit k (factor 0 v) (factor k v) out
 fits_of v k [] i l c h = tt

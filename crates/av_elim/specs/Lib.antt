@@ -1,4 +1,2 @@
 pub mod Faults
-pub mod Rows
-pub mod Step
-pub mod Span
+pub mod inner

@@ -4,8 +4,8 @@
 ghost use Rattle.std.specs.Prelude.{◌≡◌, ◌≤◌, ◌<◌, ◌+◌, ◌^◌, ◌++◌, ◌*ℤ◌, ◌+ℤ◌, suc, unsigned_abs, All, OnOk, IfOk};
 ghost use Rattle.std.proofs.Math.IntN.{neg_ℤ};
 ghost use Rattle.av_poly.specs.Rational.{homogeneous};
-ghost use Rattle.av_elim.specs.Rows.{line, factor, Small, StandsFor};
-ghost use Rattle.av_elim.specs.Step.{combination, pairs_of, eliminated};
+ghost use Rattle.av_elim.specs.inner.Rows.{line, factor, Small, StandsFor};
+ghost use Rattle.av_elim.specs.inner.Step.{combination, pairs_of, eliminated};
 
 use crate::merge::add;
 use av_affine::Form;

@@ -5,7 +5,7 @@ ghost use Rattle.std.specs.Prelude.{◌≡◌, ◌≤◌, ◌^◌, ◌<ℤ◌, �
 ghost use Rattle.std.specs.Int.{IsGcd, int_div_euclid};
 ghost use Rattle.av_affine.specs.Numbers.{AtMost, IsGcdOf};
 ghost use Rattle.av_poly.specs.Rational.{homogeneous};
-ghost use Rattle.av_elim.specs.Rows.{line, Small, IsReduced, StandsFor};
+ghost use Rattle.av_elim.specs.inner.Rows.{line, Small, IsReduced, StandsFor};
 
 use av_affine::Form;
 use av_base::{List, Memory};

@@ -3,8 +3,8 @@
 ghost use Rattle.std.specs.Prelude.{ℕ, ◌≡◌, ◌≢◌, ◌≤◌, ◌<◌, ◌+◌, ◌^◌, ◌⊎◌, suc, All, IfOk};
 ghost use Rattle.av_affine.specs.Forms.{IsWithinLimits};
 ghost use Rattle.av_poly.specs.Rational.{homogeneous};
-ghost use Rattle.av_elim.specs.Rows.{line, Small, StandsFor, Shadow, Clear};
-ghost use Rattle.av_elim.specs.Span.{Tells};
+ghost use Rattle.av_elim.specs.inner.Rows.{line, Small, StandsFor, Shadow, Clear};
+ghost use Rattle.av_elim.specs.inner.Span.{Tells};
 
 use crate::eliminate::eliminate;
 use crate::merge::add;

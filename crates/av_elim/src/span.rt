@@ -3,9 +3,9 @@
 ghost use Rattle.std.specs.Prelude.{◌≡◌, ◌≤◌, ◌<◌, ◌^◌, ◌<ℤ◌, ◌⊎◌, pos, suc, Some, None, unsigned_abs, All, IfSome, IfNone};
 ghost use Rattle.std.specs.Int.{int_div_euclid};
 ghost use Rattle.av_poly.specs.Rational.{homogeneous};
-ghost use Rattle.av_elim.specs.Rows.{line, factor, Small};
-ghost use Rattle.av_elim.specs.Step.{combination, pairs_of, eliminated};
-ghost use Rattle.av_elim.specs.Span.{higher, lower, stepped, scanned, whole};
+ghost use Rattle.av_elim.specs.inner.Rows.{line, factor, Small};
+ghost use Rattle.av_elim.specs.inner.Step.{combination, pairs_of, eliminated};
+ghost use Rattle.av_elim.specs.inner.Span.{higher, lower, stepped, scanned, whole};
 
 use crate::eliminate::combined_number;
 use av_affine::Form;

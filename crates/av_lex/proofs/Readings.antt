@@ -16,7 +16,7 @@ use Rattle.av_lex.specs.declared.scan.Piece.TheVariants as piece
 use Rattle.av_lex.specs.Faults.{BeginsNone, IsFault, bad_byte, number, past_blank, past_comment, past_token}
 use Rattle.av_lex.specs.Lexing.{LieInOrder, views, Gives}
 use Rattle.av_lex.specs.declared.token.Token.{Token as Code}
-use Rattle.av_lex.specs.Reading.{Reading, with_token, read_by, read_of}
+use Rattle.av_lex.specs.inner.Reading.{Reading, with_token, read_by, read_of}
 use Rattle.av_lex.specs.Scan.{piece_of, is_in_range}
 use Rattle.av_lex.proofs.Tables.{reserved_word, IsSymbol, symbol_is}
 use Rattle.av_lex.proofs.Moves.{moved-append}

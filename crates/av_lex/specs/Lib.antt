@@ -1,4 +1,4 @@
 pub mod Faults
 pub mod Lexing
-pub mod Reading
 pub mod Scan
+pub mod inner

@@ -3,7 +3,7 @@ ghost use Rattle.av_base.specs.declared.place.Place.{Place};
 ghost use Rattle.av_base.specs.Tokens.{Token as Spelled, IsText, start};
 ghost use Rattle.av_lex.specs.Faults.{IsFault};
 ghost use Rattle.av_lex.specs.Lexing.{views, Gives, LieInOrder};
-ghost use Rattle.av_lex.specs.Reading.{read_of};
+ghost use Rattle.av_lex.specs.inner.Reading.{read_of};
 ghost use Rattle.av_lex.specs.declared.fault.LexFault.{LexFault};
 
 use crate::number::is_in_range;

@@ -16,7 +16,7 @@ use Rattle.av_flat.specs.declared.tree.Tree.TheVariants as made
 use Rattle.av_flat.specs.Trees as flat
 use Rattle.av_flat.specs.Trees.{trees_of}
 use Rattle.av_flat.proofs.Views as views
-use Rattle.av_names.specs.Fitting.{FitsIn, FitAllIn}
+use Rattle.av_names.specs.inner.Fitting.{FitsIn, FitAllIn}
 use Rattle.av_names.specs.Flattened.{flat_tree, flat_trees}
 use Rattle.av_names.specs.Forms.{Context}
 use Rattle.av_names.proofs.Cases.{view_case}

@@ -8,11 +8,11 @@ use Rattle.av_tree.specs.Points.{Sizes}
 use Rattle.av_tree.specs.Domains.{variables, context, given_or}
 use Rattle.av_tree.specs.Counts.{Instance}
 use Rattle.av_flat.specs.Trees.{Piece}
-use Rattle.av_names.specs.Building.{FitsRight}
-use Rattle.av_names.specs.Fitting.{FitsIn}
+use Rattle.av_names.specs.inner.Building.{FitsRight}
+use Rattle.av_names.specs.inner.Fitting.{FitsIn}
 use Rattle.av_names.specs.Flattened.{equation_of, flat_tree, pieces_of}
 use Rattle.av_names.specs.Forms.{over, set_of}
-use Rattle.av_names.specs.Seen.{names_at}
+use Rattle.av_names.specs.inner.Seen.{names_at}
 use Rattle.av_names.proofs.Among.{Among, all_at}
 use Rattle.av_names.proofs.Lookups.{declared_at}
 

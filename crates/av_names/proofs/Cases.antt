@@ -9,7 +9,7 @@ use Rattle.av_tree.specs.Trees.{cases, more, view, view_row, view_all}
 use Rattle.av_names.specs.declared.part.Part.{Part as PartMade}
 use Rattle.av_names.specs.Forms.{Context}
 use Rattle.av_names.specs.Parts.{Part, parts_of, parts_of_all}
-use Rattle.av_names.specs.Seen.{part, context}
+use Rattle.av_names.specs.inner.Seen.{part, context}
 
 -- a row of branches, read as a list
 view_row_is : (n : _) (row : Row_of-Expr n) → view_row row ≡ view_all (items-the_row-Expr n row)

@@ -12,7 +12,7 @@ use Rattle.av_tree.specs.Counts.{Instance}
 use Rattle.av_base.specs.declared.place.Place.{Place}
 use Rattle.av_names.specs.declared.fault.NameFault.TheVariants as fault
 use Rattle.av_names.specs.declared.size.Size.{Size}
-use Rattle.av_names.specs.Building.{FitsDomain, FitsRight}
+use Rattle.av_names.specs.inner.Building.{FitsDomain, FitsRight}
 use Rattle.av_names.specs.Flattened.{input_of, computed_of, flat_of}
 use Rattle.av_names.specs.Quantities.{above, too_many_variables}
 use Rattle.av_names.specs.Refusals.{rules, IsAccepted}

@@ -5,7 +5,7 @@ use Rattle.av_tree.specs.declared.domain.IndexExpr.{IndexExpr}
 use Rattle.av_tree.specs.Trees.{Text}
 use Rattle.av_tree.specs.Rows.{is_index}
 use Rattle.av_names.specs.Reductions.{plain_name, gives_next, gives_names}
-use Rattle.av_names.specs.Seen.{SameNames}
+use Rattle.av_names.specs.inner.Seen.{SameNames}
 use Rattle.av_names.proofs.Repeats.{step}
 
 and_false : (b : Bool) → (b && false) ≡ false

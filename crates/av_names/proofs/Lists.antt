@@ -12,7 +12,7 @@ use Rattle.av_tree.specs.Rows.{is_index}
 use Rattle.av_names.specs.Equations.{equation_found, declaration_found, second_equation}
 use Rattle.av_names.specs.Parts.{parts}
 use Rattle.av_names.specs.Repetitions.{NameList, repeated, repeated_size, repeated_variable, repeated_index, of_declaration, of_equation, of_part}
-use Rattle.av_names.specs.Seen.{part, SameNames, equations_seen}
+use Rattle.av_names.specs.inner.Seen.{part, SameNames, equations_seen}
 use Rattle.av_names.proofs.Sooner.{first_append, first_map, first_filter_map}
 use Rattle.av_names.proofs.Repeats.{again_same, step}
 

@@ -16,7 +16,7 @@ use Rattle.av_names.specs.Arities.{arity, listed_arity, equation_arity, expressi
 use Rattle.av_names.specs.Forms.{over}
 use Rattle.av_names.specs.Found.{sooner, first_place}
 use Rattle.av_names.specs.Parts.{Part, parts, parts_of, equation_parts, arity_of}
-use Rattle.av_names.specs.Seen.{part, equations_seen, names_at}
+use Rattle.av_names.specs.inner.Seen.{part, equations_seen, names_at}
 use Rattle.av_names.proofs.Repeats.{step}
 use Rattle.av_names.proofs.Lists.{equations_are}
 use Rattle.av_names.proofs.Sooner.{first_map}

@@ -18,7 +18,7 @@ use Rattle.av_tree.specs.Rows.{is_index}
 use Rattle.av_names.specs.Forms.{Context, over, nameless, names_or}
 use Rattle.av_names.specs.Found.{Found, sooner, first_of, first_found, found_where}
 use Rattle.av_names.specs.Parts.{Part, parts_of, parts_of_all}
-use Rattle.av_names.specs.Seen.{SameNames}
+use Rattle.av_names.specs.inner.Seen.{SameNames}
 use Rattle.av_names.specs.Unknowns.{named_unknown, unknown_term, unknown_index, unknown_side, unknown_written}
 use Rattle.av_names.specs.Written.{Written, written_at}
 use Rattle.av_names.proofs.Cases.{parts_append}

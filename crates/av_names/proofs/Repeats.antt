@@ -5,7 +5,7 @@ use Rattle.std.proofs.lemmas.List.{get_or-map, length-map}
 use Rattle.av_tree.specs.declared.system.Declaration.{Declaration}
 use Rattle.av_tree.specs.Trees.{Text}
 use Rattle.av_tree.specs.Rows.{is_index}
-use Rattle.av_names.specs.Seen.{SameNames}
+use Rattle.av_names.specs.inner.Seen.{SameNames}
 use Rattle.av_names.specs.Repetitions.{again, second, repeated_variable}
 use Rattle.av_names.proofs.Sets.{one_more}
 

@@ -7,7 +7,7 @@ use Rattle.av_names.specs.declared.fault.NameFault.{NameFault}
 use Rattle.av_names.specs.declared.found.Found.{Found as FoundMade}
 use Rattle.av_names.specs.Found.{Found}
 use Rattle.av_names.specs.Refusals.{first_rule}
-use Rattle.av_names.specs.Seen.{found, SameNames}
+use Rattle.av_names.specs.inner.Seen.{found, SameNames}
 use Rattle.av_names.proofs.Lists.{find_same}
 
 -- the rule finds this

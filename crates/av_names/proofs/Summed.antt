@@ -19,7 +19,7 @@ use Rattle.av_tree.specs.Points.{Sizes}
 use Rattle.av_tree.specs.Rows as rows
 use Rattle.av_tree.specs.Rows.{compared}
 use Rattle.av_names.specs.declared.size.Size.{Size}
-use Rattle.av_names.specs.Fitting.{FitsRows}
+use Rattle.av_names.specs.inner.Fitting.{FitsRows}
 use Rattle.av_names.specs.Forms.{filled, index_form, form_of_row, rows_over}
 use Rattle.av_names.specs.Found.{sooner, first_of}
 use Rattle.av_names.specs.Quantities.{Counted, greatest, exceeds}
@@ -27,10 +27,10 @@ use Rattle.av_names.specs.SizeWords.{sizes_of}
 use Rattle.av_names.specs.declared.measure.Measure.{Measure}
 use Rattle.av_names.specs.declared.measure.Measure.TheVariants as measure
 use Rattle.av_names.specs.declared.written.Written.{Written as WrittenMade}
-use Rattle.av_names.specs.Sums.{of_index, of_row, numbers_of, limit_of, great, written}
+use Rattle.av_names.specs.inner.Sums.{of_index, of_row, numbers_of, limit_of, great, written}
 use Rattle.av_names.specs.declared.part.Part.{Part as PartMade}
 use Rattle.av_names.specs.Parts.{parts}
-use Rattle.av_names.specs.Seen.{part}
+use Rattle.av_names.specs.inner.Seen.{part}
 use Rattle.av_names.specs.Texts.{IsShortWritten, HasShortSums}
 use Rattle.av_names.specs.Written.{Written, all_written, written_at, written_sizes, written_declaration}
 use Rattle.av_tree.specs.declared.system.Declaration.{Declaration}

@@ -10,13 +10,10 @@ pub mod Arities
 pub mod Reductions
 pub mod Quantities
 pub mod Refusals
-pub mod Seen
 pub mod Flattened
 pub mod Regular
 pub mod Limits
 pub mod Same
 pub mod Accepted
 pub mod Texts
-pub mod Fitting
-pub mod Sums
-pub mod Building
+pub mod inner

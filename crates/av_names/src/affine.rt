@@ -4,11 +4,11 @@ ghost use Rattle.std.specs.Prelude.{◌≡◌, ◌≤◌, ◌<◌, ◌^◌, ◌+
 ghost use Rattle.av_affine.specs.Forms.{IsWithinLimits};
 ghost use Rattle.av_affine.specs.Numbers.{AtMost};
 ghost use Rattle.av_tree.specs.Rows as rows;
-ghost use Rattle.av_names.specs.Fitting.{FitsForm, FitsRows, FitsMap, FitsAccess};
+ghost use Rattle.av_names.specs.inner.Fitting.{FitsForm, FitsRows, FitsMap, FitsAccess};
 ghost use Rattle.av_names.specs.Forms as forms;
 ghost use Rattle.av_names.specs.Forms.{form_of, form_of_row, rows_over};
-ghost use Rattle.av_names.specs.Seen.{context as seen};
-ghost use Rattle.av_names.specs.Sums.{sizes_in, HasSmallValues};
+ghost use Rattle.av_names.specs.inner.Seen.{context as seen};
+ghost use Rattle.av_names.specs.inner.Sums.{sizes_in, HasSmallValues};
 ghost use Rattle.av_names.specs.Texts.{AreShort, HasShortTerms};
 
 use crate::part::Context;

@@ -8,7 +8,7 @@ ghost use Rattle.av_names.specs.Arities as rules;
 ghost use Rattle.av_names.specs.Parts as list;
 ghost use Rattle.av_names.specs.Found as finds;
 ghost use Rattle.av_names.specs.Found.{first_place};
-ghost use Rattle.av_names.specs.Seen.{context as seen, part, names_at};
+ghost use Rattle.av_names.specs.inner.Seen.{context as seen, part, names_at};
 
 use crate::found::sooner_place;
 use crate::index::{by_name, names_of};

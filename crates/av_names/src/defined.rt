@@ -5,7 +5,7 @@ ghost use Rattle.av_tree.specs.Rows.{is_index};
 ghost use Rattle.av_tree.specs.Trees.{view_system};
 ghost use Rattle.av_names.specs.Unknowns.{declared_as};
 ghost use Rattle.av_names.specs.Equations as rules;
-ghost use Rattle.av_names.specs.Seen.{found, SameNames, equations_seen};
+ghost use Rattle.av_names.specs.inner.Seen.{found, SameNames, equations_seen};
 
 use crate::found::Found;
 use crate::name_set::NameSet;

@@ -3,14 +3,14 @@
 ghost use Rattle.std.specs.Prelude.{◌≡◌, ◌++◌, [], ◌∷◌, map, All, IfOk, OnOk};
 ghost use Rattle.av_tree.specs.Trees as text;
 ghost use Rattle.av_flat.specs.Trees as flat;
-ghost use Rattle.av_names.specs.Building.{instance_in, AreTables, AreNames, FitsDomain};
-ghost use Rattle.av_names.specs.Fitting.{FitsIn};
+ghost use Rattle.av_names.specs.inner.Building.{instance_in, AreTables, AreNames, FitsDomain};
+ghost use Rattle.av_names.specs.inner.Fitting.{FitsIn};
 ghost use Rattle.av_names.specs.Flattened as rules;
 ghost use Rattle.av_names.specs.Forms.{over, set_of};
 ghost use Rattle.av_names.specs.Accepted.{instance_of};
 ghost use Rattle.av_names.specs.Refusals.{IsAccepted};
 ghost use Rattle.av_names.specs.SizeWords.{sizes_of};
-ghost use Rattle.av_names.specs.Sums.{sizes_in};
+ghost use Rattle.av_names.specs.inner.Sums.{sizes_in};
 ghost use Rattle.av_names.specs.Texts.{AreSmall, IsOfText};
 ghost use Rattle.av_tree.specs.Trees.{Text};
 

@@ -3,7 +3,7 @@
 ghost use Rattle.std.specs.Prelude.{◌≡◌, ◌≤◌, map, length, option_map, bytes_eq, IfOk};
 ghost use Rattle.indexmap.specs.IndexMap.{get_by};
 ghost use Rattle.av_tree.specs.Trees.{Text, view_equation, view_equations};
-ghost use Rattle.av_names.specs.Building.{place_or};
+ghost use Rattle.av_names.specs.inner.Building.{place_or};
 ghost use Rattle.av_names.specs.Flattened.{equation_of, place_of};
 
 use av_base::Memory;

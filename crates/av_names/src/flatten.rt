@@ -4,12 +4,12 @@ ghost use Rattle.std.specs.Prelude.{◌≡◌, ◌≤◌, map, All, IfOk};
 ghost use Rattle.av_tree.specs.Domains.{variables};
 ghost use Rattle.av_tree.specs.Trees as text;
 ghost use Rattle.av_flat.specs.Trees.{view};
-ghost use Rattle.av_names.specs.Building.{instance_in, AreTables};
-ghost use Rattle.av_names.specs.Fitting.{FitsIn, FitsRows};
+ghost use Rattle.av_names.specs.inner.Building.{instance_in, AreTables};
+ghost use Rattle.av_names.specs.inner.Fitting.{FitsIn, FitsRows};
 ghost use Rattle.av_names.specs.Flattened.{flat_tree, place_of};
 ghost use Rattle.av_names.specs.Forms.{whole, names_or, restriction_set};
-ghost use Rattle.av_names.specs.Seen.{context as seen};
-ghost use Rattle.av_names.specs.Sums.{sizes_in};
+ghost use Rattle.av_names.specs.inner.Seen.{context as seen};
+ghost use Rattle.av_names.specs.inner.Sums.{sizes_in};
 
 use crate::affine::{affine_map, read_map, set};
 use crate::part::Context;

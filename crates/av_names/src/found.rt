@@ -2,7 +2,7 @@
 
 ghost use Rattle.std.specs.Prelude.{◌≡◌, option_map};
 ghost use Rattle.av_names.specs.Found as first;
-ghost use Rattle.av_names.specs.Seen.{found};
+ghost use Rattle.av_names.specs.inner.Seen.{found};
 
 use av_base::{Name, Place};
 

@@ -6,7 +6,7 @@ ghost use Rattle.av_names.specs.Forms.{Context, names_or};
 ghost use Rattle.av_names.specs.Found as finds;
 ghost use Rattle.av_names.specs.Found.{first_found};
 ghost use Rattle.av_names.specs.Parts as list;
-ghost use Rattle.av_names.specs.Seen.{found, SameNames};
+ghost use Rattle.av_names.specs.inner.Seen.{found, SameNames};
 ghost use Rattle.av_names.specs.Unknowns as rules;
 ghost use Rattle.av_names.specs.Written.{behind, written_at};
 

@@ -5,7 +5,7 @@ ghost use Rattle.indexmap.specs.IndexMap.{get_by};
 ghost use Rattle.av_tree.specs.Trees.{Text, view_system};
 ghost use Rattle.av_tree.specs.Domains as domains;
 ghost use Rattle.av_names.specs.Parts as list;
-ghost use Rattle.av_names.specs.Seen.{part, names_at};
+ghost use Rattle.av_names.specs.inner.Seen.{part, names_at};
 
 use crate::part::{Context, Part, gather};
 use av_base::{Memory, Name};

@@ -9,10 +9,10 @@ ghost use Rattle.av_names.specs.Found as finds;
 ghost use Rattle.av_names.specs.Found.{first_of};
 ghost use Rattle.av_names.specs.Parts as list;
 ghost use Rattle.av_names.specs.Quantities as rules;
-ghost use Rattle.av_names.specs.Seen.{part};
+ghost use Rattle.av_names.specs.inner.Seen.{part};
 ghost use Rattle.av_names.specs.SizeWords.{sizes_of};
-ghost use Rattle.av_names.specs.Sums as seen;
-ghost use Rattle.av_names.specs.Sums.{sizes_in, HasSmallValues, limit_of};
+ghost use Rattle.av_names.specs.inner.Sums as seen;
+ghost use Rattle.av_names.specs.inner.Sums.{sizes_in, HasSmallValues, limit_of};
 ghost use Rattle.av_names.specs.Texts.{AreShort, AreSmall, HasShortTerms, HasShortSides, IsOfText, IsShortWritten};
 ghost use Rattle.av_names.specs.Written.{all_written};
 

@@ -1,6 +1,6 @@
 ghost use Rattle.std.specs.Prelude.{◌≡◌, ◌∷◌, [], not, IfOk, OnOk};
 ghost use Rattle.av_tree.specs.Rows.{is_index};
-ghost use Rattle.av_names.specs.Seen.{SameNames};
+ghost use Rattle.av_names.specs.inner.Seen.{SameNames};
 
 use av_base::{Memory, Name};
 use indexmap::IndexSet;

@@ -5,7 +5,7 @@ ghost use Rattle.av_tree.specs.Domains as domains;
 ghost use Rattle.av_tree.specs.Points as points;
 ghost use Rattle.av_tree.specs.Trees.{view_system};
 ghost use Rattle.av_names.specs.SizeWords as words;
-ghost use Rattle.av_names.specs.Sums.{sizes_in, HasSmallValues};
+ghost use Rattle.av_names.specs.inner.Sums.{sizes_in, HasSmallValues};
 ghost use Rattle.av_names.specs.Texts.{AreShort, AreSmall, HasShortSides, IsOfText};
 
 use crate::Size;

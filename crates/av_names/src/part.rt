@@ -3,7 +3,7 @@
 ghost use Rattle.std.specs.Prelude.{◌≡◌, ◌++◌, map, OnOk};
 ghost use Rattle.av_tree.specs.Trees.{view, view_all};
 ghost use Rattle.av_names.specs.Parts as list;
-ghost use Rattle.av_names.specs.Seen.{part, context as seen};
+ghost use Rattle.av_names.specs.inner.Seen.{part, context as seen};
 
 use av_base::{Memory, Name};
 use av_tree::Expr;

@@ -4,7 +4,7 @@ ghost use Rattle.std.specs.Prelude.{◌≡◌, [], map, IfOk, option_map};
 ghost use Rattle.av_tree.specs.Trees.{System, view};
 ghost use Rattle.av_names.specs.Parts as list;
 ghost use Rattle.av_names.specs.Reductions as rules;
-ghost use Rattle.av_names.specs.Seen.{part};
+ghost use Rattle.av_names.specs.inner.Seen.{part};
 
 use crate::found::sooner_place;
 use crate::name_set::NameSet;

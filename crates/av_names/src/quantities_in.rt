@@ -9,8 +9,8 @@ ghost use Rattle.av_names.specs.Forms.{over};
 ghost use Rattle.av_names.specs.Found.{first_of, at_option};
 ghost use Rattle.av_names.specs.Parts as list;
 ghost use Rattle.av_names.specs.Quantities as rules;
-ghost use Rattle.av_names.specs.Seen.{part, names_at};
-ghost use Rattle.av_names.specs.Sums.{counted};
+ghost use Rattle.av_names.specs.inner.Seen.{part, names_at};
+ghost use Rattle.av_names.specs.inner.Sums.{counted};
 
 use crate::index::{by_name, context};
 use crate::measure::{Counted, number_of, sooner};

@@ -6,7 +6,7 @@ ghost use Rattle.av_tree.specs.Trees.{view_system};
 ghost use Rattle.av_names.specs.Parts as list;
 ghost use Rattle.av_names.specs.Refusals as rules;
 ghost use Rattle.av_names.specs.Refusals.{first_rule};
-ghost use Rattle.av_names.specs.Seen.{part};
+ghost use Rattle.av_names.specs.inner.Seen.{part};
 ghost use Rattle.av_names.specs.Texts.{IsOfText, AreSmall};
 
 use crate::arity::arity;

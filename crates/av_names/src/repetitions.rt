@@ -6,7 +6,7 @@ ghost use Rattle.av_tree.specs.Trees.{view, view_equation, view_system};
 ghost use Rattle.av_names.specs.Found.{at_option, first_found};
 ghost use Rattle.av_names.specs.Parts as list;
 ghost use Rattle.av_names.specs.Repetitions as repeats;
-ghost use Rattle.av_names.specs.Seen.{found, part};
+ghost use Rattle.av_names.specs.inner.Seen.{found, part};
 
 use crate::found::{Found, sooner};
 use crate::name_set::NameSet;

@@ -4,7 +4,7 @@ ghost use Rattle.std.specs.Prelude.{◌≡◌, IfOk};
 ghost use Rattle.av_tree.specs.Rows.{or_zero};
 ghost use Rattle.av_tree.specs.Trees.{Text};
 ghost use Rattle.av_names.specs.SizeWords.{sizes_of};
-ghost use Rattle.av_names.specs.Sums.{sizes_in};
+ghost use Rattle.av_names.specs.inner.Sums.{sizes_in};
 
 use crate::Size;
 use av_base::{Memory, Name};

@@ -2,7 +2,7 @@
 
 ghost use Rattle.std.specs.Prelude.{◌≡◌, [], map, not, find, IfOk, option_map};
 ghost use Rattle.av_tree.specs.Rows.{is_index};
-ghost use Rattle.av_names.specs.Seen.{SameNames};
+ghost use Rattle.av_names.specs.inner.Seen.{SameNames};
 ghost use Rattle.av_names.specs.SizeWords as words;
 
 use crate::Size;

@@ -6,7 +6,7 @@
 ghost use Rattle.std.specs.Prelude.{◌≡◌, ◌≤◌, ◌<◌, ◌^◌, ◌*ℤ◌, ◌-ℤ◌, pos, unsigned_abs, if◌then◌else◌};
 ghost use Rattle.av_tree.specs.Points as points;
 ghost use Rattle.av_tree.specs.Rows as rows;
-ghost use Rattle.av_names.specs.Sums.{sizes_in, HasSmallValues};
+ghost use Rattle.av_names.specs.inner.Sums.{sizes_in, HasSmallValues};
 ghost use Rattle.av_names.specs.Texts.{AreShort};
 
 use crate::size_table::value_of;

@@ -9,7 +9,7 @@ ghost use Rattle.av_names.specs.Forms.{over};
 ghost use Rattle.av_names.specs.Found as finds;
 ghost use Rattle.av_names.specs.Found.{first_found};
 ghost use Rattle.av_names.specs.Parts as list;
-ghost use Rattle.av_names.specs.Seen.{found, part, names_at, SameNames};
+ghost use Rattle.av_names.specs.inner.Seen.{found, part, names_at, SameNames};
 ghost use Rattle.av_names.specs.Unknowns as rules;
 ghost use Rattle.av_names.specs.Written.{written_at, all_written};
 

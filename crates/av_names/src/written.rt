@@ -5,8 +5,8 @@ ghost use Rattle.av_tree.specs.Domains as domains;
 ghost use Rattle.av_tree.specs.Trees.{view_system};
 ghost use Rattle.av_names.specs.Forms.{names_or};
 ghost use Rattle.av_names.specs.Parts as list;
-ghost use Rattle.av_names.specs.Seen.{part};
-ghost use Rattle.av_names.specs.Sums as seen;
+ghost use Rattle.av_names.specs.inner.Seen.{part};
+ghost use Rattle.av_names.specs.inner.Sums as seen;
 ghost use Rattle.av_names.specs.Written.{written_at, written_sizes, written_declaration, all_written};
 
 use crate::part::{Context, Part};

@@ -3,7 +3,7 @@ use Rattle.std.proofs.Common.{◌≡◌, ℕ, ◌+◌, ◌-◌, ◌*◌, ◌^◌
 use Rattle.std.proofs.lemmas.Grind.{common_steps}
 use Rattle.av_flat.specs.Trees.{Piece, Variable, restriction, trees_of, right_side}
 use Rattle.av_flat.specs.Quantities.{piece_count, piece_count_of_all}
-use Rattle.av_normal.specs.Counted.{pieces_counted}
+use Rattle.av_normal.specs.inner.Counted.{pieces_counted}
 
 pub capped_product : (a b : ℕ) → min (min a (2 ^ 128 - 1) * min b (2 ^ 128 - 1)) (2 ^ 128 - 1) ≡ min (a * b) (2 ^ 128 - 1)
 capped_product a b = grind (arith, common_steps)

@@ -13,8 +13,8 @@ use Rattle.av_flat.specs.Quantities.{of_set, measured, IsOver, IsOverBox, HasLar
 use Rattle.av_normal.specs.declared.fault.NormalFault.{NormalFault}
 use Rattle.av_normal.specs.declared.fault.NormalFault.TheVariants as fault
 use Rattle.av_normal.specs.NormalFaults.{HasFewPieces, HasNarrowSets, HasEnds, IsFault}
-use Rattle.av_normal.specs.Counted.{HasFew, IsOfMany}
-use Rattle.av_normal.specs.Spread.{IsWideIn}
+use Rattle.av_normal.specs.inner.Counted.{HasFew, IsOfMany}
+use Rattle.av_normal.specs.inner.Spread.{IsWideIn}
 use Rattle.av_normal.specs.Alongside.{Alongside, IsFirstOf}
 use Rattle.av_normal.specs.Domains.{HasNarrowDomain, IsDeclaredExtent, HasEnd, IsWithoutEnd, IsEndless, IsSmallExtent, IsLargeExtent}
 use Rattle.av_normal.proofs.Firsts.{IsMany, computed, first_with, no_first, along_first, along_all, along_each, never_first, first_of_many, none_of_many}

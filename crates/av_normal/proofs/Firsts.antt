@@ -7,7 +7,7 @@ use Rattle.av_flat.specs.Trees.{Variable, right_side}
 use Rattle.av_flat.specs.Signatures.{is_computed}
 use Rattle.av_flat.specs.Quantities.{IsFirst, piece_count}
 use Rattle.av_normal.specs.Alongside.{Alongside, IsFirstOf}
-use Rattle.av_normal.specs.Counted.{IsOfFew, HasFew, IsFirstOfMany}
+use Rattle.av_normal.specs.inner.Counted.{IsOfFew, HasFew, IsFirstOfMany}
 
 -- Q holds of the first of which P holds
 abbrev pub FirstWith : {X : Type 0} → (X → Type 0) → (X → Type 0) → List X → Type 0

@@ -6,7 +6,7 @@ use Rattle.std.proofs.lemmas.Bool.{cases_lt}
 use Rattle.std.proofs.lemmas.List.{length-map}
 use Rattle.av_flat.specs.Trees.{Tree}
 use Rattle.av_flat.specs.Pieces.{Part, part, in_pairs, in_fours}
-use Rattle.av_normal.specs.Numbered.{part_at}
+use Rattle.av_normal.specs.inner.Numbered.{part_at}
 
 -- ---- lists of parts
 

@@ -11,10 +11,10 @@ use Rattle.av_flat.specs.Trees.{Piece, Variable, right_side, view_piece}
 use Rattle.av_flat.specs.Signatures.{Signature}
 use Rattle.av_flat.specs.Pieces.{Part, part, parts, filled, pieces_of}
 use Rattle.av_normal.specs.NormalForm.{set_of, AreKeptOf, ended, dropped, kept, IsNormalVariable, AreNormalVariables}
-use Rattle.av_normal.specs.Spread.{IsSpreadPart, AreSpreadParts, IsSpread, AreSpread}
+use Rattle.av_normal.specs.inner.Spread.{IsSpreadPart, AreSpreadParts, IsSpread, AreSpread}
 use Rattle.av_normal.specs.Alongside.{Alongside}
 use Rattle.av_normal.specs.Domains.{IsDeclaredExtent, IsSmallExtent}
-use Rattle.av_normal.specs.Sifted.{IsEmpty, AreSifted, nothing, left_out, stays, IsSifted, IsInside, IsHeld}
+use Rattle.av_normal.specs.inner.Sifted.{IsEmpty, AreSifted, nothing, left_out, stays, IsSifted, IsInside, IsHeld}
 use Rattle.av_normal.proofs.Boxes.{greatest_append, most_at}
 use Rattle.av_normal.proofs.Reaches.{no_point}
 use Rattle.av_normal.proofs.DomainBoxes.{normal_point}

@@ -1,14 +1,7 @@
 pub mod NormalForm
 pub mod NormalFaults
 pub mod Searches
-pub mod Standing
-pub mod Numbered
-pub mod Chosen
-pub mod Filling
 pub mod Extents
-pub mod Counted
-pub mod Spread
-pub mod Making
 pub mod Alongside
 pub mod Domains
-pub mod Sifted
+pub mod inner

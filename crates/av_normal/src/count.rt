@@ -4,7 +4,7 @@ ghost use Rattle.std.specs.Prelude.{◌≡◌, ◌-◌, ◌^◌, IfSome, IfNone,
 ghost use Rattle.av_flat.specs.Trees.{view, view_piece, view_variable, trees_of};
 ghost use Rattle.av_flat.specs.Signatures.{is_computed};
 ghost use Rattle.av_flat.specs.Quantities.{piece_count, piece_count_of_all};
-ghost use Rattle.av_normal.specs.Counted.{pieces_counted, HasMany, IsOfFew, HasFew, IsOfMany};
+ghost use Rattle.av_normal.specs.inner.Counted.{pieces_counted, HasMany, IsOfFew, HasFew, IsOfMany};
 
 use crate::NormalFault;
 use av_flat::{Kind, Piece, Tree, Var};

@@ -5,7 +5,7 @@ ghost use Rattle.std.specs.List.{AllByRecursion};
 ghost use Rattle.av_affine.specs.Numbers.{AtMost};
 ghost use Rattle.av_flat.specs.Trees.{view_piece, view_variable};
 ghost use Rattle.av_normal.specs.Alongside.{Alongside};
-ghost use Rattle.av_normal.specs.Sifted.{AreSifted, IsSifted, IsInside, IsHeld};
+ghost use Rattle.av_normal.specs.inner.Sifted.{AreSifted, IsSifted, IsInside, IsHeld};
 
 use crate::keep::has_point;
 use crate::rows::copy_set;

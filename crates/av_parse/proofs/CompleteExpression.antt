@@ -47,22 +47,22 @@ product_stops : {n : ℕ} {a : Expression} {ts rest : List Token} {e : Expressio
 product_stops product_ends ends = ends.0
 product_stops (times {p = p} {ts = ts} is u t) ends = known (λ z. EndsPostfix (z ∷ ts)) p is (refl, refl)
 
-close_ends : (c : Token) (ts : List Token) → IsSymbol (codes ")") c → EndsSum (c ∷ ts)
+pub close_ends : (c : Token) (ts : List Token) → IsSymbol (codes ")") c → EndsSum (c ∷ ts)
 close_ends c ts is = known (λ z. EndsSum (z ∷ ts)) c is (((refl, refl), refl), refl, refl)
 
-comma_ends : (c : Token) (ts : List Token) → IsSymbol (codes ",") c → EndsSum (c ∷ ts)
+pub comma_ends : (c : Token) (ts : List Token) → IsSymbol (codes ",") c → EndsSum (c ∷ ts)
 comma_ends c ts is = known (λ z. EndsSum (z ∷ ts)) c is (((refl, refl), refl), refl, refl)
 
 pub semicolon_ends : (c : Token) (ts : List Token) → IsSymbol (codes ";") c → EndsSum (c ∷ ts)
 semicolon_ends c ts is = known (λ z. EndsSum (z ∷ ts)) c is (((refl, refl), refl), refl, refl)
 
-then_ends : (c : Token) (ts : List Token) → IsReserved (codes "then") c → EndsSum (c ∷ ts)
+pub then_ends : (c : Token) (ts : List Token) → IsReserved (codes "then") c → EndsSum (c ∷ ts)
 then_ends c ts is = known (λ z. EndsSum (z ∷ ts)) c is (((refl, refl), refl), refl, refl)
 
-else_ends : (c : Token) (ts : List Token) → IsReserved (codes "else") c → EndsSum (c ∷ ts)
+pub else_ends : (c : Token) (ts : List Token) → IsReserved (codes "else") c → EndsSum (c ∷ ts)
 else_ends c ts is = known (λ z. EndsSum (z ∷ ts)) c is (((refl, refl), refl), refl, refl)
 
-compare_ends : (r : Relation) (q : Token) (ts : List Token) → IsCompare r q → EndsSum (q ∷ ts)
+pub compare_ends : (r : Relation) (q : Token) (ts : List Token) → IsCompare r q → EndsSum (q ∷ ts)
 compare_ends relation.Less q ts is = known (λ z. EndsSum (z ∷ ts)) q is (((refl, refl), refl), refl, refl)
 compare_ends relation.LessEqual q ts is = known (λ z. EndsSum (z ∷ ts)) q is (((refl, refl), refl), refl, refl)
 compare_ends relation.Greater q ts is = known (λ z. EndsSum (z ∷ ts)) q is (((refl, refl), refl), refl, refl)
@@ -113,20 +113,20 @@ expr_begins (restricted (domain {o = o} {ts = ts} is names bounds c) colon e) = 
 expr_begins (chosen {i = i} {t0 = t0} is a q b t x s y) = known (λ z. begins_word (codes "esac") (z ∷ t0) ≡ false) i is refl
 expr_begins (plain s) = (sum_begins s).2
 
-branches_begin : {n : ℕ} {ts rest : List Token} {es : Expressions} → IsBranches n ts rest es → begins_word (codes "esac") ts ≡ false
+pub branches_begin : {n : ℕ} {ts rest : List Token} {es : Expressions} → IsBranches n ts rest es → begins_word (codes "esac") ts ≡ false
 branches_begin (last_branch e s) = expr_begins e
 branches_begin (branch e s others) = expr_begins e
 
 -- ---- operators and comparisons
 
-op_found : (f : Op) (x : Token) (ts : List Token) → IsOp f x → op_at (x ∷ ts) ≡ Some f
+pub op_found : (f : Op) (x : Token) (ts : List Token) → IsOp f x → op_at (x ∷ ts) ≡ Some f
 unfolding op_at
 op_found op.Add x ts is = known (λ z. op_at (z ∷ ts) ≡ Some op.Add) x is refl
 op_found op.Mul x ts is = known (λ z. op_at (z ∷ ts) ≡ Some op.Mul) x is refl
 op_found op.Min x ts is = known (λ z. op_at (z ∷ ts) ≡ Some op.Min) x is refl
 op_found op.Max x ts is = known (λ z. op_at (z ∷ ts) ≡ Some op.Max) x is refl
 
-compare_found : (r : Relation) (q : Token) (ts : List Token) → IsCompare r q → compare_at (q ∷ ts) ≡ Some r
+pub compare_found : (r : Relation) (q : Token) (ts : List Token) → IsCompare r q → compare_at (q ∷ ts) ≡ Some r
 unfolding compare_at relation_at
 compare_found relation.Less q ts is = known (λ z. compare_at (z ∷ ts) ≡ Some relation.Less) q is refl
 compare_found relation.LessEqual q ts is = known (λ z. compare_at (z ∷ ts) ≡ Some relation.LessEqual) q is refl
@@ -137,12 +137,12 @@ compare_found relation.Unequal q ts is = known (λ z. compare_at (z ∷ ts) ≡ 
 
 -- ---- one step each
 
-brackets_complete : {ts rest : List Token} {at : Access} → IsBrackets ts rest at → begins_symbol (codes "[") rest ≡ false → brackets_of ts ≡ Ok (at, rest)
+pub brackets_complete : {ts rest : List Token} {at : Access} → IsBrackets ts rest at → begins_symbol (codes "[") rest ≡ false → brackets_of ts ≡ Ok (at, rest)
 unfolding brackets_of
 brackets_complete no_brackets ends = rw ends refl
 brackets_complete (brackets {o = o} {c = c} {rest = rest} opened close) ends = rw (symbol_yes (codes "[") o (c ∷ rest) opened, symbol_gives (codes "]") c rest close) refl
 
-indexed_gives : (x : Token) (ts rest : List Token) (c : Token) (es : List IndexExpr) → IsOptionalIndices ts (c ∷ rest) es → IsSymbol (codes "]") c
+pub indexed_gives : (x : Token) (ts rest : List Token) (c : Token) (es : List IndexExpr) → IsOptionalIndices ts (c ∷ rest) es → IsSymbol (codes "]") c
     → indexed_of x.text x.place ts ≡ Ok (reference x.text (access.Indices es) x.place, rest)
 unfolding indexed_of
 indexed_gives x ts rest c es list close =
@@ -151,23 +151,23 @@ indexed_gives x ts rest c es list close =
 module _ (b : Readers) where
   -- ---- primaries
 
-  parenthesis_gives : (o c : Token) (ts rest : List Token) (e : Expression) → IsSymbol (codes "(") o → b.expr ts ≡ Ok (e, c ∷ rest) → IsSymbol (codes ")") c
+  pub parenthesis_gives : (o c : Token) (ts rest : List Token) (e : Expression) → IsSymbol (codes "(") o → b.expr ts ≡ Ok (e, c ∷ rest) → IsSymbol (codes ")") c
       → primary_of b (o ∷ ts) ≡ Ok (e, rest)
   unfolding primary_of parenthesis_of
   parenthesis_gives o c ts rest e opened x close = rw (symbol_yes (codes "(") o ts opened, x, symbol_gives (codes ")") c rest close) refl
 
-  extreme_gives : (g : Sign) (p : Place) (o q c : Token) (ts mid rest : List Token) (x y : Expression) → b.opening (o ∷ ts) ≡ Ok (o, ts)
+  pub extreme_gives : (g : Sign) (p : Place) (o q c : Token) (ts mid rest : List Token) (x y : Expression) → b.opening (o ∷ ts) ≡ Ok (o, ts)
       → b.expr ts ≡ Ok (x, q ∷ mid) → IsSymbol (codes ",") q
       → b.expr mid ≡ Ok (y, c ∷ rest) → IsSymbol (codes ")") c → extreme_of b g p (o ∷ ts) ≡ Ok (binary g x y p, rest)
   unfolding extreme_of
   extreme_gives g p o q c ts mid rest x y opened first comma second close =
       rw (opened, first, symbol_gives (codes ",") q mid comma, second, symbol_gives (codes ")") c rest close) refl
 
-  least_gives : (w : Token) (ts : List Token) (y : Expression × List Token) → IsReserved (codes "min") w → extreme_of b sign.Min w.place ts ≡ Ok y → primary_of b (w ∷ ts) ≡ Ok y
+  pub least_gives : (w : Token) (ts : List Token) (y : Expression × List Token) → IsReserved (codes "min") w → extreme_of b sign.Min w.place ts ≡ Ok y → primary_of b (w ∷ ts) ≡ Ok y
   unfolding primary_of
   least_gives w ts y is e = known (λ z. extreme_of b sign.Min z.place ts ≡ Ok y → primary_of b (z ∷ ts) ≡ Ok y) w is (λ f. f) e
 
-  greatest_gives : (w : Token) (ts : List Token) (y : Expression × List Token) → IsReserved (codes "max") w → extreme_of b sign.Max w.place ts ≡ Ok y → primary_of b (w ∷ ts) ≡ Ok y
+  pub greatest_gives : (w : Token) (ts : List Token) (y : Expression × List Token) → IsReserved (codes "max") w → extreme_of b sign.Max w.place ts ≡ Ok y → primary_of b (w ∷ ts) ≡ Ok y
   unfolding primary_of
   greatest_gives w ts y is e = known (λ z. extreme_of b sign.Max z.place ts ≡ Ok y → primary_of b (z ∷ ts) ≡ Ok y) w is (λ f. f) e
 
@@ -182,14 +182,14 @@ module _ (b : Readers) where
   unfolding branches_of
   branch_gives m s ts mid rest e es x semicolon goes_on others = rw (x, symbol_gives (codes ";") s mid semicolon, goes_on, others) refl
 
-  cases_gives : (w s : Token) (ts rest : List Token) (es : Expressions) → IsReserved (codes "case") w → branches_of b (length ts) ts ≡ Ok (es, s ∷ rest)
+  pub cases_gives : (w s : Token) (ts rest : List Token) (es : Expressions) → IsReserved (codes "case") w → branches_of b (length ts) ts ≡ Ok (es, s ∷ rest)
       → IsReserved (codes "esac") s
       → primary_of b (w ∷ ts) ≡ Ok (cases es w.place, rest)
   unfolding primary_of cases_of
   cases_gives w s ts rest es is x end =
       known (λ z. primary_of b (z ∷ ts) ≡ Ok (cases es z.place, rest)) w is (rw (x, word_gives (codes "esac") s rest end) refl)
 
-  reduction_gives : (w o f q p c : Token) (ts mid rest : List Token) (g : Op) (m : MapText) (e : Expression) → IsReserved (codes "reduce") w
+  pub reduction_gives : (w o f q p c : Token) (ts mid rest : List Token) (g : Op) (m : MapText) (e : Expression) → IsReserved (codes "reduce") w
       → b.opening (o ∷ f ∷ q ∷ ts) ≡ Ok (o, f ∷ q ∷ ts)
       → IsOp g f → IsSymbol (codes ",") q → IsMap ts (p ∷ mid) m → IsSymbol (codes ",") p → b.expr mid ≡ Ok (e, c ∷ rest) → IsSymbol (codes ")") c
       → primary_of b (w ∷ o ∷ f ∷ q ∷ ts) ≡ Ok (reduction g m e w.place, rest)
@@ -317,7 +317,7 @@ module _ (b : Readers) where
 
 -- ---- where an expression is spelled there is room
 
-opening_room : {n : ℕ} {ts rest : List Token} {e : Expression} → IsExpr n ts rest e → (o : Token) (t0 : List Token)
+pub opening_room : {n : ℕ} {ts rest : List Token} {e : Expression} → IsExpr n ts rest e → (o : Token) (t0 : List Token)
     → IsSymbol (codes "(") o → (readers n).opening (o ∷ t0) ≡ Ok (o, t0)
 unfolding readers
 opening_room (restricted d c e) o t0 is = symbol_gives (codes "(") o t0 is

@@ -39,7 +39,7 @@ optional_names_complete (some_names {ts = ts} names) ends = rw (names_begin name
 
 -- ---- index expressions
 
-term_complete : {s : ℤ} {ts rest : List Token} {t : Term} → IsTerm s ts rest t → EndsTerm rest → term_of s ts ≡ Ok (t, rest)
+pub term_complete : {s : ℤ} {ts rest : List Token} {t : Term} → IsTerm s ts rest t → EndsTerm rest → term_of s ts ≡ Ok (t, rest)
 unfolding term_of number_term_of name_term_of
 term_complete (number {x = x} {rest = rest} is) ends = rw (same_self x.kind kind.Number is, ends.0, ends.1) refl
 term_complete (name {y = y} {rest = rest} is) ends = rw (kind_not kind.Name kind.Number y rest is refl, same_self y.kind kind.Name is, ends.1) refl
@@ -49,12 +49,12 @@ term_complete (number_times_name {x = x} {p = p} {y = y} {rest = rest} is star c
 term_complete (name_times_number {y = y} {p = p} {x = x} {rest = rest} called star is) ends =
     rw (kind_not kind.Name kind.Number y (p ∷ x ∷ rest) called refl, same_self y.kind kind.Name called, symbol_yes (codes "*") p (x ∷ rest) star, expect_gives kind.Number x rest is) refl
 
-terms_stop : {ts rest : List Token} {more : List Term} → IsTerms ts rest more → EndsIndex rest → EndsTerm ts
+pub terms_stop : {ts rest : List Token} {more : List Term} → IsTerms ts rest more → EndsIndex rest → EndsTerm ts
 terms_stop terms_end ends = (ends.0, ends.1)
 terms_stop (plus_term {p = p} {ts = ts} is first others) ends = known (λ z. EndsTerm (z ∷ ts)) p is (refl, refl)
 terms_stop (minus_term {p = p} {ts = ts} is first others) ends = known (λ z. EndsTerm (z ∷ ts)) p is (refl, refl)
 
-terms_complete : {ts rest : List Token} {more : List Term} → IsTerms ts rest more → EndsIndex rest → (n : ℕ) → length ts ≤ n → terms_of n ts ≡ Ok (more, rest)
+pub terms_complete : {ts rest : List Token} {more : List Term} → IsTerms ts rest more → EndsIndex rest → (n : ℕ) → length ts ≤ n → terms_of n ts ≡ Ok (more, rest)
 unfolding terms_of
 terms_complete terms_end ends zero few = refl
 terms_complete terms_end ends (suc n) few = rw (ends.2, ends.3) refl
@@ -65,67 +65,67 @@ terms_complete (plus_term {p = p} {ts = ts} is first others) ends (suc n) few =
 terms_complete (minus_term {p = p} {ts = ts} is first others) ends (suc n) few =
     rw (text_not kind.Symbol (codes "-") (codes "+") p ts is refl, symbol_yes (codes "-") p ts is, term_complete first (terms_stop others ends), terms_complete others ends n (let h = term_takes first in omega arith)) refl
 
-signed_gives : (s : ℤ) (p : Place) (ts mid rest : List Token) (t : Term) (more : List Term) → IsTerm s ts mid t → IsTerms mid rest more → EndsIndex rest
+pub signed_gives : (s : ℤ) (p : Place) (ts mid rest : List Token) (t : Term) (more : List Term) → IsTerm s ts mid t → IsTerms mid rest more → EndsIndex rest
     → signed_index_of s p ts ≡ Ok (record { terms = t ∷ more; place = p }, rest)
 unfolding signed_index_of
 signed_gives s p ts mid rest t more first others ends = rw (term_complete first (terms_stop others ends), terms_complete others ends (length mid) (omega arith)) refl
 
 -- ---- where spellings begin
 
-data BeginsTerm : List Token → Type 0 where
+pub data BeginsTerm : List Token → Type 0 where
   by_number : {x : Token} {ts : List Token} → IsNumber x → BeginsTerm (x ∷ ts)
   by_name : {x : Token} {ts : List Token} → IsName x → BeginsTerm (x ∷ ts)
 
-data BeginsIndex : List Token → Type 0 where
+pub data BeginsIndex : List Token → Type 0 where
   by_term : {ts : List Token} → BeginsTerm ts → BeginsIndex ts
   by_minus : {m : Token} {ts : List Token} → IsSymbol (codes "-") m → BeginsIndex (m ∷ ts)
 
-data BeginsSide : List Token → Type 0 where
+pub data BeginsSide : List Token → Type 0 where
   by_index : {ts : List Token} → BeginsIndex ts → BeginsSide ts
   by_list : {o : Token} {ts : List Token} → IsSymbol (codes "(") o → BeginsSide (o ∷ ts)
 
-term_begins : {s : ℤ} {ts rest : List Token} {t : Term} → IsTerm s ts rest t → BeginsTerm ts
+pub term_begins : {s : ℤ} {ts rest : List Token} {t : Term} → IsTerm s ts rest t → BeginsTerm ts
 term_begins (number is) = by_number is
 term_begins (name is) = by_name is
 term_begins (number_name is called) = by_number is
 term_begins (number_times_name is star called) = by_number is
 term_begins (name_times_number called star is) = by_name called
 
-index_begins : {ts rest : List Token} {e : IndexExpr} → IsIndex ts rest e → BeginsIndex ts
+pub index_begins : {ts rest : List Token} {e : IndexExpr} → IsIndex ts rest e → BeginsIndex ts
 index_begins (index first others) = by_term (term_begins first)
 index_begins (minus_index is first others) = by_minus is
 
-indices_begin : {ts rest : List Token} {es : List IndexExpr} → IsIndices ts rest es → BeginsIndex ts
+pub indices_begin : {ts rest : List Token} {es : List IndexExpr} → IsIndices ts rest es → BeginsIndex ts
 indices_begin (last_index is) = index_begins is
 indices_begin (more_indices is comma others) = index_begins is
 
-side_begins : {ts rest : List Token} {es : List IndexExpr} → IsSide ts rest es → BeginsSide ts
+pub side_begins : {ts rest : List Token} {es : List IndexExpr} → IsSide ts rest es → BeginsSide ts
 side_begins (one_side is) = by_index (index_begins is)
 side_begins (list_side is es few close) = by_list is
 
-constraint_begins : {ts rest : List Token} {cs : List Constraint} → IsConstraint ts rest cs → BeginsSide ts
+pub constraint_begins : {ts rest : List Token} {cs : List Constraint} → IsConstraint ts rest cs → BeginsSide ts
 constraint_begins (constraint side chain) = side_begins side
 
-constraints_begin : {ts rest : List Token} {cs : List Constraint} → IsConstraints ts rest cs → BeginsSide ts
+pub constraints_begin : {ts rest : List Token} {cs : List Constraint} → IsConstraints ts rest cs → BeginsSide ts
 constraints_begin (last_constraint is) = constraint_begins is
 constraints_begin (closed_constraint is s) = constraint_begins is
 constraints_begin (more_constraints is s others) = constraint_begins is
 
-no_symbol : (text : Text) (ts : List Token) → BeginsTerm ts → begins_symbol text ts ≡ false
+pub no_symbol : (text : Text) (ts : List Token) → BeginsTerm ts → begins_symbol text ts ≡ false
 no_symbol text [] is = elim is [ ]
 no_symbol text (x ∷ ts) (by_number is) = with_not kind.Number kind.Symbol text x ts is refl
 no_symbol text (x ∷ ts) (by_name is) = with_not kind.Name kind.Symbol text x ts is refl
 
-no_list : (ts : List Token) → BeginsIndex ts → begins_symbol (codes "(") ts ≡ false
+pub no_list : (ts : List Token) → BeginsIndex ts → begins_symbol (codes "(") ts ≡ false
 no_list ts (by_term is) = no_symbol (codes "(") ts is
 no_list (m ∷ ts) (by_minus is) = text_not kind.Symbol (codes "-") (codes "(") m ts is refl
 
-no_close : (ts : List Token) → BeginsSide ts → begins_symbol (codes "}") ts ≡ false
+pub no_close : (ts : List Token) → BeginsSide ts → begins_symbol (codes "}") ts ≡ false
 no_close ts (by_index (by_term is)) = no_symbol (codes "}") ts is
 no_close (m ∷ ts) (by_index (by_minus is)) = text_not kind.Symbol (codes "-") (codes "}") m ts is refl
 no_close (o ∷ ts) (by_list is) = text_not kind.Symbol (codes "(") (codes "}") o ts is refl
 
-index_is_there : (ts : List Token) → BeginsIndex ts → begins_index ts ≡ true
+pub index_is_there : (ts : List Token) → BeginsIndex ts → begins_index ts ≡ true
 index_is_there [] (by_term is) = elim is [ ]
 index_is_there (x ∷ ts) (by_term (by_number is)) = known (λ z. begins_index (z ∷ ts) ≡ true) x (is, refl) refl
 index_is_there (x ∷ ts) (by_term (by_name is)) = known (λ z. begins_index (z ∷ ts) ≡ true) x (is, refl) refl
@@ -140,10 +140,10 @@ index_complete (index {x = x} {ts = ts} {mid = mid} {rest = rest} {t = t} {more 
 index_complete (minus_index {m = m} {ts = ts} {mid = mid} {rest = rest} {t = t} {more = more} is first others) ends =
     rw (symbol_yes (codes "-") m ts is) (signed_gives minus_one m.place ts mid rest t more first others ends)
 
-comma_ends : (c : Token) (ts : List Token) → IsSymbol (codes ",") c → EndsIndex (c ∷ ts)
+pub comma_ends : (c : Token) (ts : List Token) → IsSymbol (codes ",") c → EndsIndex (c ∷ ts)
 comma_ends c ts is = known (λ z. EndsIndex (z ∷ ts)) c is (refl, refl, refl, refl)
 
-indices_complete : {ts rest : List Token} {es : List IndexExpr} → IsIndices ts rest es → EndsIndex rest → begins_symbol (codes ",") rest ≡ false → (n : ℕ) → length es ≤ suc n
+pub indices_complete : {ts rest : List Token} {es : List IndexExpr} → IsIndices ts rest es → EndsIndex rest → begins_symbol (codes ",") rest ≡ false → (n : ℕ) → length es ≤ suc n
     → indices_of n ts ≡ Ok (es, rest)
 unfolding indices_of
 indices_complete (last_index is) ends comma zero few = rw (index_complete is ends) refl
@@ -164,14 +164,14 @@ optional_indices_complete (some_indices {ts = ts} is) ends =
 
 -- ---- comparisons
 
-list_gives : (o c : Token) (ts rest : List Token) (es : List IndexExpr) → IsSymbol (codes "(") o → IsIndices ts (c ∷ rest) es → length es ≤ 8 → IsSymbol (codes ")") c
+pub list_gives : (o c : Token) (ts rest : List Token) (es : List IndexExpr) → IsSymbol (codes "(") o → IsIndices ts (c ∷ rest) es → length es ≤ 8 → IsSymbol (codes ")") c
     → list_of (o ∷ ts) ≡ Ok (es, rest)
 unfolding list_of
 list_gives o c ts rest es opened is few close =
     let inner = indices_complete is (known (λ z. EndsIndex (z ∷ rest)) c close (refl, refl, refl, refl)) (text_not kind.Symbol (codes ")") (codes ",") c rest close refl) 7 (omega arith) in
     rw (symbol_gives (codes "(") o ts opened, inner, symbol_gives (codes ")") c rest close) refl
 
-side_complete : {ts rest : List Token} {es : List IndexExpr} → IsSide ts rest es → EndsIndex rest → side_of ts ≡ Ok (es, rest)
+pub side_complete : {ts rest : List Token} {es : List IndexExpr} → IsSide ts rest es → EndsIndex rest → side_of ts ≡ Ok (es, rest)
 unfolding side_of
 side_complete (one_side {ts = ts} is) ends = rw (no_list ts (index_begins is), index_complete is ends) refl
 side_complete (list_side {o = o} {c = c} {ts = ts} {rest = rest} {es = es} opened is few close) ends =
@@ -186,7 +186,7 @@ relation_found relation.GreaterEqual q ts is = known (λ z. relation_at (z ∷ t
 relation_found relation.Equal q ts is = known (λ z. relation_at (z ∷ ts) ≡ Some relation.Equal) q is.1 refl
 relation_found relation.Unequal q ts is = absurd (is.0 refl)
 
-relation_ends : (r : Relation) (q : Token) (ts : List Token) → IsRelation r q → EndsIndex (q ∷ ts)
+pub relation_ends : (r : Relation) (q : Token) (ts : List Token) → IsRelation r q → EndsIndex (q ∷ ts)
 relation_ends relation.Less q ts is = known (λ z. EndsIndex (z ∷ ts)) q is.1 (refl, refl, refl, refl)
 relation_ends relation.LessEqual q ts is = known (λ z. EndsIndex (z ∷ ts)) q is.1 (refl, refl, refl, refl)
 relation_ends relation.Greater q ts is = known (λ z. EndsIndex (z ∷ ts)) q is.1 (refl, refl, refl, refl)
@@ -195,15 +195,15 @@ relation_ends relation.Equal q ts is = known (λ z. EndsIndex (z ∷ ts)) q is.1
 relation_ends relation.Unequal q ts is = absurd (is.0 refl)
 
 -- a chain begins with a comparison
-chain_begins : {lefts : List IndexExpr} {ts rest : List Token} {cs : List Constraint} → IsChain lefts ts rest cs → EndsIndex ts × (is_there (relation_at ts) ≡ true)
+pub chain_begins : {lefts : List IndexExpr} {ts rest : List Token} {cs : List Constraint} → IsChain lefts ts rest cs → EndsIndex ts × (is_there (relation_at ts) ≡ true)
 chain_begins (last_side {q = q} {r = r} {ts = ts} is side) = (relation_ends r q ts is, ap is_there (relation_found r q ts is))
 chain_begins (more_sides {q = q} {r = r} {ts = ts} is side others) = (relation_ends r q ts is, ap is_there (relation_found r q ts is))
 
 -- what ends a constraint
-abbrev EndsChain : List Token → Type 0
+abbrev pub EndsChain : List Token → Type 0
 EndsChain ts = EndsIndex ts × (relation_at ts ≡ None)
 
-chain_complete : {lefts : List IndexExpr} {ts rest : List Token} {cs : List Constraint} → IsChain lefts ts rest cs → EndsChain rest → (n : ℕ) → length ts ≤ n
+pub chain_complete : {lefts : List IndexExpr} {ts rest : List Token} {cs : List Constraint} → IsChain lefts ts rest cs → EndsChain rest → (n : ℕ) → length ts ≤ n
     → chain_of n lefts ts ≡ Ok (cs, rest)
 unfolding chain_of relation_by
 chain_complete x ends zero few = absurd (let h = chain_takes x in omega arith)
@@ -212,15 +212,15 @@ chain_complete (more_sides {q = q} {r = r} {ts = ts} is side others) ends (suc n
     let starts = chain_begins others in
     rw (relation_found r q ts is, side_complete side starts.0, starts.1, chain_complete others ends n (let h = side_takes side in omega arith)) refl
 
-constraint_complete : {ts rest : List Token} {cs : List Constraint} → IsConstraint ts rest cs → EndsChain rest → constraint_of ts ≡ Ok (cs, rest)
+pub constraint_complete : {ts rest : List Token} {cs : List Constraint} → IsConstraint ts rest cs → EndsChain rest → constraint_of ts ≡ Ok (cs, rest)
 unfolding constraint_of
 constraint_complete (constraint {mid = mid} side chain) ends = rw (side_complete side (chain_begins chain).0) (chain_complete chain ends (length mid) (omega arith))
 
-semicolon_ends : (s : Token) (ts : List Token) → IsSymbol (codes ";") s → EndsChain (s ∷ ts)
+pub semicolon_ends : (s : Token) (ts : List Token) → IsSymbol (codes ";") s → EndsChain (s ∷ ts)
 unfolding relation_at
 semicolon_ends s ts is = known (λ z. EndsChain (z ∷ ts)) s is ((refl, refl, refl, refl), refl)
 
-close_ends : (c : Token) (ts : List Token) → IsSymbol (codes "}") c → EndsChain (c ∷ ts)
+pub close_ends : (c : Token) (ts : List Token) → IsSymbol (codes "}") c → EndsChain (c ∷ ts)
 unfolding relation_at
 close_ends c ts is = known (λ z. EndsChain (z ∷ ts)) c is ((refl, refl, refl, refl), refl)
 
@@ -242,19 +242,19 @@ constraints_complete (more_constraints {s = s} {mid = mid} is semicolon others) 
 
 -- ---- domains and maps
 
-conditions_complete : {c : Token} {ts rest : List Token} {cs : List Constraint} → IsConditions ts (c ∷ rest) cs → IsSymbol (codes "}") c → conditions_of ts ≡ Ok (cs, c ∷ rest)
+pub conditions_complete : {c : Token} {ts rest : List Token} {cs : List Constraint} → IsConditions ts (c ∷ rest) cs → IsSymbol (codes "}") c → conditions_of ts ≡ Ok (cs, c ∷ rest)
 unfolding conditions_of bar_of
 conditions_complete {c = c} {rest = rest} no_bar close = rw (text_not kind.Symbol (codes "}") (codes "|") c rest close refl) refl
 conditions_complete {c = c} {rest = rest} (bar {b = b} is) close = rw (symbol_yes (codes "|") b (c ∷ rest) is, symbol_yes (codes "}") c rest close) refl
 conditions_complete (conditions {b = b} {ts = ts} is cs) close =
     rw (symbol_yes (codes "|") b ts is, no_close ts (constraints_begin cs)) (constraints_complete cs close (length ts) (omega arith))
 
-conditions_stop : {c : Token} {ts rest : List Token} {cs : List Constraint} → IsConditions ts (c ∷ rest) cs → IsSymbol (codes "}") c → EndsNames ts
+pub conditions_stop : {c : Token} {ts rest : List Token} {cs : List Constraint} → IsConditions ts (c ∷ rest) cs → IsSymbol (codes "}") c → EndsNames ts
 conditions_stop {c = c} {rest = rest} no_bar close = known (λ z. EndsNames (z ∷ rest)) c close (refl, refl)
 conditions_stop {c = c} {rest = rest} (bar {b = b} is) close = known (λ z. EndsNames (z ∷ c ∷ rest)) b is (refl, refl)
 conditions_stop (conditions {b = b} {ts = ts} is cs) close = known (λ z. EndsNames (z ∷ ts)) b is (refl, refl)
 
-domain_rest_gives : (p : Place) (c : Token) (ts mid rest : List Token) (ns : List Text) (cs : List Constraint) → IsOptionalNames ts mid ns
+pub domain_rest_gives : (p : Place) (c : Token) (ts mid rest : List Token) (ns : List Text) (cs : List Constraint) → IsOptionalNames ts mid ns
     → IsConditions mid (c ∷ rest) cs → IsSymbol (codes "}") c
     → domain_rest_of p ts ≡ Ok (record { names = ns; constraints = cs; place = p }, rest)
 unfolding domain_rest_of

@@ -29,7 +29,7 @@ declaration_complete (declaration {c = c} {o = o} {i = i} {ts = ts} {mid = mid} 
       word_gives (codes "integer") i rest integer_is,
     ) refl
 
-declaration_begins : {ts rest : List Token} {ds : List Declaration} → IsDeclaration ts rest ds → begins kind.Name ts ≡ true
+pub declaration_begins : {ts rest : List Token} {ds : List Declaration} → IsDeclaration ts rest ds → begins kind.Name ts ≡ true
 declaration_begins (declaration names c d o i) = names_begin names
 
 declarations_begin : {ts rest : List Token} {ds : List Declaration} → IsDeclarations ts rest ds → begins kind.Name ts ≡ true
@@ -52,7 +52,7 @@ declarations_complete {c = c} {rest = rest} (closed_declaration {s = s} d is_sem
 declarations_complete (more_declarations {s = s} {mid = mid} d is_semicolon others) close (suc n) few =
     rw (declaration_complete d, symbol_yes (codes ";") s mid is_semicolon, declarations_begin others, declarations_complete others close n (let h = declaration_takes d in omega arith)) refl
 
-inputs_complete : {c : Token} {ts rest : List Token} {ds : List Declaration} → IsInputs ts (c ∷ rest) ds → IsSymbol (codes ")") c → inputs_of ts ≡ Ok (ds, c ∷ rest)
+pub inputs_complete : {c : Token} {ts rest : List Token} {ds : List Declaration} → IsInputs ts (c ∷ rest) ds → IsSymbol (codes ")") c → inputs_of ts ≡ Ok (ds, c ∷ rest)
 unfolding inputs_of
 inputs_complete {c = c} {rest = rest} no_inputs close = rw (kind_not kind.Symbol kind.Name c rest close.0 refl) refl
 inputs_complete (inputs {ts = ts} ds) close = rw (declarations_begin ds) (declarations_complete ds close (length ts) (omega arith))
@@ -67,7 +67,7 @@ variables_complete {l = l} {rest = rest} (last_variable {s = s} d is_semicolon) 
 variables_complete (more_variables {s = s} {mid = mid} d is_semicolon others) end (suc n) few =
     rw (declaration_complete d, symbol_gives (codes ";") s mid is_semicolon, variables_begin others, variables_complete others end n (let h = declaration_takes d in omega arith)) refl
 
-locals_complete : {l : Token} {ts rest : List Token} {ds : List Declaration} → IsLocals ts (l ∷ rest) ds → IsReserved (codes "let") l → locals_of ts ≡ Ok (ds, l ∷ rest)
+pub locals_complete : {l : Token} {ts rest : List Token} {ds : List Declaration} → IsLocals ts (l ∷ rest) ds → IsReserved (codes "let") l → locals_of ts ≡ Ok (ds, l ∷ rest)
 unfolding locals_of
 locals_complete {l = l} {rest = rest} no_locals end = rw (text_not kind.Reserved (codes "let") (codes "var") l rest end refl) refl
 locals_complete (locals {v = v} {ts = ts} is ds) end = rw (word_yes (codes "var") v ts is) (variables_complete ds end (length ts) (omega arith))
@@ -79,7 +79,7 @@ sizes_complete (sizes {c = c} {ts = ts} is d) opened = rw (symbol_yes (codes ":"
 
 -- ---- equations
 
-index_names_complete : {q : Token} {ts rest : List Token} {ns : Option (List Text)} → IsIndexNames ts (q ∷ rest) ns → IsSymbol (codes "=") q → index_names_of ts ≡ Ok (ns, q ∷ rest)
+pub index_names_complete : {q : Token} {ts rest : List Token} {ns : Option (List Text)} → IsIndexNames ts (q ∷ rest) ns → IsSymbol (codes "=") q → index_names_of ts ≡ Ok (ns, q ∷ rest)
 unfolding index_names_of
 index_names_complete {q = q} {rest = rest} no_brackets equals = rw (text_not kind.Symbol (codes "=") (codes "[") q rest equals refl) refl
 index_names_complete {q = q} {rest = rest} (brackets {o = o} {c = c} {ts = ts} opened names close) equals =
@@ -96,7 +96,7 @@ equation_complete (equation {x = x} {q = q} {s = s} {ts = ts} {mid = mid} {rest 
       symbol_gives (codes ";") s rest is_semicolon,
     ) refl
 
-equation_begins : {n : ℕ} {ts rest : List Token} {e : Equation} → IsEquation n ts rest e → begins kind.Name ts ≡ true
+pub equation_begins : {n : ℕ} {ts rest : List Token} {e : Equation} → IsEquation n ts rest e → begins kind.Name ts ≡ true
 equation_begins (equation {x = x} is names equals right is_semicolon) = same_self x.kind kind.Name is
 
 -- equations, and the word tel
@@ -111,11 +111,11 @@ equations_complete (more_equations e others) end (suc m) few =
 
 -- ---- the whole
 
-semicolon_complete : {e : Token} {ts rest : List Token} → IsSemicolon ts (e ∷ rest) → e.kind ≡ kind.End → semicolon_of ts ≡ e ∷ rest
+pub semicolon_complete : {e : Token} {ts rest : List Token} → IsSemicolon ts (e ∷ rest) → e.kind ≡ kind.End → semicolon_of ts ≡ e ∷ rest
 semicolon_complete {e = e} {rest = rest} no_semicolon end = rw (with_not kind.End kind.Symbol (codes ";") e rest end refl) refl
 semicolon_complete {e = e} {rest = rest} (semicolon {s = s} is) end = rw (symbol_yes (codes ";") s (e ∷ rest) is) refl
 
-header_gives : (w x o c r p d s : Token) (t0 t1 t2 rest : List Token) (z : DomainText) (ins outs : List Declaration)
+pub header_gives : (w x o c r p d s : Token) (t0 t1 t2 rest : List Token) (z : DomainText) (ins outs : List Declaration)
     → IsReserved (codes "system") w → IsName x → IsSizes x.place t0 (o ∷ t1) z → IsSymbol (codes "(") o → IsInputs t1 (c ∷ r ∷ p ∷ t2) ins → IsSymbol (codes ")") c
     → IsReserved (codes "returns") r → IsSymbol (codes "(") p → IsDeclarations t2 (d ∷ s ∷ rest) outs → IsSymbol (codes ")") d → IsSymbol (codes ";") s
     → header_of (w ∷ x ∷ t0) ≡ Ok (record { name = x.text; sizes = z; inputs = ins; outputs = outs }, rest)

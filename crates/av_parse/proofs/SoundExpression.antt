@@ -33,7 +33,7 @@ pub record Sound (n : ℕ) (b : Readers) : Type 0 where
 
 -- ---- operators and comparisons
 
-op_at_sound : (ts : List Token) → Chosen (λ f. Starts (IsOp f) ts (after ts)) (op_at ts)
+pub op_at_sound : (ts : List Token) → Chosen (λ f. Starts (IsOp f) ts (after ts)) (op_at ts)
 unfolding op_at
 op_at_sound ts =
     first_of_two _ op.Add _ (λ e. symbol_starts (codes "+") ts e)
@@ -41,12 +41,12 @@ op_at_sound ts =
     (first_of_two _ op.Min _ (λ e. word_starts (codes "min") ts e)
     (first_of_two _ op.Max _ (λ e. word_starts (codes "max") ts e) nothing)))
 
-op_by_sound : (o : Option Op) (ts : List Token) → Chosen (λ f. Starts (IsOp f) ts (after ts)) o → Holds (λ y. Starts (IsOp y.0) ts y.1) (op_by o ts)
+pub op_by_sound : (o : Option Op) (ts : List Token) → Chosen (λ f. Starts (IsOp f) ts (after ts)) o → Holds (λ y. Starts (IsOp y.0) ts y.1) (op_by o ts)
 unfolding op_by
 op_by_sound None ts is = failed
 op_by_sound (Some f) ts (one is) = fine is
 
-compare_at_sound : (ts : List Token) → Chosen (λ r. Starts (IsCompare r) ts (after ts)) (compare_at ts)
+pub compare_at_sound : (ts : List Token) → Chosen (λ r. Starts (IsCompare r) ts (after ts)) (compare_at ts)
 unfolding compare_at
 compare_at_sound ts = first_of_two _ relation.Unequal _ (λ e. symbol_starts (codes "<>") ts e) (forget (relation_at ts) (relation_at_sound ts))
   where
@@ -55,33 +55,33 @@ compare_at_sound ts = first_of_two _ relation.Unequal _ (λ e. symbol_starts (co
     forget (Some r) (one is) = one (is.0, is.1, is.2.1)
 
 -- the sign of a sum
-abbrev IsSumSign : Sign → Token → Type 0
+abbrev pub IsSumSign : Sign → Token → Type 0
 IsSumSign sign.Add p = IsSymbol (codes "+") p
 IsSumSign sign.Sub p = IsSymbol (codes "-") p
 IsSumSign _ p = ⊥
 
-sign_at_sound : (ts : List Token) → Chosen (λ s. Starts (IsSumSign s) ts (after ts)) (sign_at ts)
+pub sign_at_sound : (ts : List Token) → Chosen (λ s. Starts (IsSumSign s) ts (after ts)) (sign_at ts)
 sign_at_sound ts =
     first_of_two _ sign.Add _ (λ e. symbol_starts (codes "+") ts e)
     (first_of_two _ sign.Sub _ (λ e. symbol_starts (codes "-") ts e) nothing)
 
 -- ---- primaries
 
-brackets_sound : (ts : List Token) → Holds (λ y. IsBrackets ts y.1 y.0) (brackets_of ts)
+pub brackets_sound : (ts : List Token) → Holds (λ y. IsBrackets ts y.1 y.0) (brackets_of ts)
 unfolding brackets_of
 brackets_sound ts =
     by_symbol (codes "[") ts _ _
     (λ o rest all opened. rw all (symbol (codes "]") rest _ (λ c t1 end close. rw end (fine (brackets opened close)))))
     (λ no. fine no_brackets)
 
-indexed_sound : (n : ℕ) (x o : Token) (ts : List Token) → IsName x → IsSymbol (codes "[") o → Holds (λ y. IsPrimary (suc n) (x ∷ o ∷ ts) y.1 y.0) (indexed_of x.text x.place ts)
+pub indexed_sound : (n : ℕ) (x o : Token) (ts : List Token) → IsName x → IsSymbol (codes "[") o → Holds (λ y. IsPrimary (suc n) (x ∷ o ∷ ts) y.1 y.0) (indexed_of x.text x.place ts)
 unfolding indexed_of
 indexed_sound n x o ts is opened =
     bind _ (optional_indices_sound ts) (λ es t1 list.
     symbol (codes "]") t1 _ (λ c t2 end close. fine (indexed is opened (rw end at list) close)))
 
 module _ (n : ℕ) (b : Readers) (s : Sound n b) where
-  parenthesis_sound : (o : Token) (ts : List Token) → IsSymbol (codes "(") o → Holds (λ y. IsPrimary (suc n) (o ∷ ts) y.1 y.0) (parenthesis_of b ts)
+  pub parenthesis_sound : (o : Token) (ts : List Token) → IsSymbol (codes "(") o → Holds (λ y. IsPrimary (suc n) (o ∷ ts) y.1 y.0) (parenthesis_of b ts)
   unfolding parenthesis_of
   parenthesis_sound o ts opened =
       bind _ (s.expr ts) (λ e t1 is.
@@ -101,7 +101,7 @@ module _ (n : ℕ) (b : Readers) (s : Sound n b) where
       bind _ (s.expr t3) (λ y t4 second.
       symbol (codes ")") t4 _ (λ c t5 end close. fine (makes o q c t1 t3 t5 x y opened.1 (rw between at first) comma (rw end at second) close)))))))
 
-  branches_sound : (m : ℕ) (ts : List Token) → Holds (λ y. IsBranches n ts y.1 y.0) (branches_of b m ts)
+  pub branches_sound : (m : ℕ) (ts : List Token) → Holds (λ y. IsBranches n ts y.1 y.0) (branches_of b m ts)
   unfolding branches_of
   branches_sound zero ts = failed
   branches_sound (suc m) ts =
@@ -129,7 +129,7 @@ module _ (n : ℕ) (b : Readers) (s : Sound n b) where
       symbol (codes ")") t6 _ (λ c t7 end close.
       fine (reduced is opened.1 operator.2 comma (rw after_map at projection) second_comma (rw end at body) close)))))))))))
 
-  primary_sound : (ts : List Token) → Holds (λ y. IsPrimary (suc n) ts y.1 y.0) (primary_of b ts)
+  pub primary_sound : (ts : List Token) → Holds (λ y. IsPrimary (suc n) ts y.1 y.0) (primary_of b ts)
   unfolding primary_of
   primary_sound ts =
       by_symbol (codes "(") ts _ _ (λ o rest all is. rw all (parenthesis_sound o rest is))
@@ -164,7 +164,7 @@ module _ (n : ℕ) (b : Readers) (s : Sound n b) where
       (λ d t2 all dot. rw all (bind _ (map_sound t2) (λ m t3 map. weaker (s.postfix_tail _ t3) (λ y others. number_mapped is (rw all at around) dot map others))))
       (λ no. fine (number is around)))
 
-  postfix_sound : (ts : List Token) → Holds (λ y. IsPostfix (suc n) ts y.1 y.0) (postfix_of b ts)
+  pub postfix_sound : (ts : List Token) → Holds (λ y. IsPostfix (suc n) ts y.1 y.0) (postfix_of b ts)
   unfolding postfix_of
   postfix_sound ts =
       by_kind kind.Name ts _ _ (λ x rest all is. rw all (named_sound x rest is))
@@ -173,7 +173,7 @@ module _ (n : ℕ) (b : Readers) (s : Sound n b) where
 
   -- ---- operators
 
-  unary_sound : (ts : List Token) → Holds (λ y. IsUnary (suc n) ts y.1 y.0) (unary_of b ts)
+  pub unary_sound : (ts : List Token) → Holds (λ y. IsUnary (suc n) ts y.1 y.0) (unary_of b ts)
   unfolding unary_of
   unary_sound ts =
       by_symbol (codes "-") ts _ _
@@ -187,7 +187,7 @@ module _ (n : ℕ) (b : Readers) (s : Sound n b) where
       (λ p rest all is. rw all (bind _ (s.unary rest) (λ e t1 factor. weaker (s.product_tail _ t1) (λ y others. times is factor others))))
       (λ no. fine product_ends)
 
-  product_sound : (ts : List Token) → Holds (λ y. IsProduct (suc n) ts y.1 y.0) (product_of b ts)
+  pub product_sound : (ts : List Token) → Holds (λ y. IsProduct (suc n) ts y.1 y.0) (product_of b ts)
   unfolding product_of
   product_sound ts = bind _ (unary_sound ts) (λ a t1 first. weaker (product_tail_sound a t1) (λ y others. product first others))
 
@@ -235,7 +235,7 @@ module _ (n : ℕ) (b : Readers) (s : Sound n b) where
       (λ no. by_word (codes "if") ts _ _ (λ w rest all is. rw all (choice_sound w rest is))
       (λ no. weaker (sum_sound ts) (λ y p. plain p)))
 
-opening_sound : (ts : List Token) → Holds (λ y. (ts ≡ y.0 ∷ y.1) × IsSymbol (codes "(") y.0) (expect_symbol (codes "(") ts)
+pub opening_sound : (ts : List Token) → Holds (λ y. (ts ≡ y.0 ∷ y.1) × IsSymbol (codes "(") y.0) (expect_symbol (codes "(") ts)
 opening_sound ts = expected kind.Symbol (codes "(") ts
 
 pub all_sound : (n : ℕ) → Sound n (readers n)

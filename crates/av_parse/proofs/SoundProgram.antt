@@ -94,7 +94,7 @@ equations_sound n (suc m) ts =
 
 -- ---- the whole
 
-semicolon_sound : (ts : List Token) → IsSemicolon ts (semicolon_of ts)
+pub semicolon_sound : (ts : List Token) → IsSemicolon ts (semicolon_of ts)
 semicolon_sound [] = no_semicolon
 semicolon_sound (x ∷ ts) = split (same x.kind kind.Symbol && bytes_eq x.text (codes ";")) refl
   where
@@ -127,7 +127,7 @@ header_sound ts =
     fine (header is_system is_name (rw all_opened at domain) is_opened (rw all_second at (rw all_returns at (rw all_close at given))) is_close is_returns is_second
     (rw all_semicolon at (rw all_end at found)) is_end is_semicolon))))))))))))))
 
-with_header : {n : ℕ} {l t : Token} {ts t3 t4 t5 rest : List Token} {h : Header} {locs : List Declaration} {es : List Equation}
+pub with_header : {n : ℕ} {l t : Token} {ts t3 t4 t5 rest : List Token} {h : Header} {locs : List Declaration} {es : List Equation}
     → IsHeader ts t3 h → IsLocals t3 (l ∷ t4) locs → IsReserved (codes "let") l → IsEquations n t4 (t ∷ t5) es → IsReserved (codes "tel") t → IsSemicolon t5 rest
     → IsSystem n ts rest (record { name = h.name; sizes = h.sizes; inputs = h.inputs; outputs = h.outputs; locals = locs; equations = es })
 with_header (header w x z o ins c r p outs d s) locs l es t end = system w x z o ins c r p outs d s locs l es t end

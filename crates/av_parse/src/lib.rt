@@ -14,7 +14,7 @@ mod text;
 mod whole;
 
 pub use fault::ParseFault;
-pub use laws::one_program;
+pub use laws::{beginnings, one_program, program_or_fault};
 pub use whole::parse;
 
 #[cfg(test)]

@@ -11,6 +11,16 @@ use av_base::{Place, TokenKind};
 use av_lex::Token;
 use std::alloc::Global;
 
+/// The place of the first of these tokens; line 1, column 1, where there is none.
+pub(crate) fn first_place(tokens: &[Token]) -> Place
+    ensures { result ≡ place_of (views tokens.now) }
+{
+    match tokens {
+        [first, ..] => first.place,
+        [] => Place { line: 1, column: 1 },
+    }
+}
+
 /// The tokens that are left.
 #[derive(Drop)]
 pub(crate) struct Parser<'t, 'a> {
@@ -69,10 +79,7 @@ impl<'t, 'a> Parser<'t, 'a> {
     pub(crate) fn place(&self) -> Place
         ensures { result ≡ place_of (views self.now.rest.now) }
     {
-        match self.rest {
-            [first, ..] => first.place,
-            [] => Place { line: 1, column: 1 },
-        }
+        first_place(self.rest)
     }
 
     fn step(&mut self)

@@ -469,6 +469,23 @@ fn prefers_syntax_at_one_place(rt: HostRuntime) -> Result<(), Fail> {
     Ok(())
 }
 
+/// Of a token that no program goes on with and one on level 257 the first is told.
+#[test]
+fn tells_the_first_of_two_faults(rt: HostRuntime) -> Result<(), Fail> {
+    let alloc = rt.alloc();
+    let deep = nested(alloc, "(", "X", ")", 257)?;
+    let inner = deep.as_str();
+    assert_rights(
+        &rt,
+        alloc,
+        &[
+            (format!(in alloc; "X ] {inner}")?.as_str(), "syntax 4:3"),
+            (format!(in alloc; "{inner} ]")?.as_str(), "depth 4:258"),
+            (format!(in alloc; "X + {inner}")?.as_str(), "depth 4:261"),
+        ],
+    )
+}
+
 /// The first bytes of the matrix-vector text.
 fn cut(bytes: usize) -> &'static str {
     let all = MATRIX_VECTOR.as_bytes();

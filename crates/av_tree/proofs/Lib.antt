@@ -1,6 +1,5 @@
 pub mod Fibres
 pub mod Words
-pub mod FirstTexts
 mod Shorthand
 mod Examples
 mod RowExamples

@@ -3,6 +3,10 @@ pub mod Parts
 pub mod IndexGrammar
 pub mod ExpressionGrammar
 pub mod Grammar
+pub mod FrontsParts
+pub mod FrontsIndex
+pub mod FrontsExpression
+pub mod Fronts
 pub mod Points
 pub mod Domains
 pub mod Counts
@@ -11,4 +15,3 @@ pub mod Values
 pub mod Solutions
 pub mod Rows
 pub mod Proper
-pub mod FirstForm

@@ -3,8 +3,6 @@ ghost use Rattle.av_tree.specs.Trees.{Text, Expression};
 ghost use Rattle.av_tree.specs.Points.{Point};
 ghost use Rattle.av_tree.specs.Counts.{Instance, count};
 ghost use Rattle.av_tree.specs.Values.{Assignment, HasValue};
-ghost use Rattle.av_tree.specs.Grammar.{IsProgramText};
-ghost use Rattle.av_tree.specs.FirstForm.{Form, IsText, tree};
 
 /// A law on values: under one assignment an expression has at most one word at a point.
 pub fn one_word()
@@ -14,9 +12,4 @@ pub fn one_word()
 /// A law on values: an expression has a word only at points where its count is 1.
 pub fn counted_word()
     ensures { (i : Instance) (u : Assignment) (names : List Text) (e : Expression) (z : Point) (w : ℕ) → HasValue i u names e z w → count i names e z ≡ 1 }
-{}
-
-/// A law on the first form: a text of it is a program text, and the grammar gives it the form's tree.
-pub fn first_form()
-    ensures { (bytes : List ℕ) (form : Form) (text : IsText bytes form) → IsProgramText bytes (tree form text.tokens) }
 {}

@@ -5,15 +5,13 @@
 mod domain;
 mod expression;
 mod laws;
-mod operator;
 mod relation;
 mod sign;
 mod system;
 
 pub use domain::{Constraint, DomainText, IndexExpr, MapText, Term};
 pub use expression::{Access, Expr};
-pub use laws::{counted_word, first_form, one_word};
-pub use operator::Operator;
+pub use laws::{counted_word, one_word};
 pub use relation::Relation;
 pub use sign::Sign;
 pub use system::{Declaration, Equation, System};

@@ -7,7 +7,7 @@ use Rattle.av_net.specs.declared.netlist.Port.{Port}
 use Rattle.av_net.specs.Names.{width_in}
 use Rattle.av_net.specs.Grammar.{Item}
 use Rattle.av_net.specs.Rows.{Among, is_in, target_of, reads_early, first_early, wires_of, registers_in}
-use Rattle.av_vread.specs.Scoped.{Bytes, texts, width_found}
+use Rattle.av_vread.specs.inner.Scoped.{Bytes, texts, width_found}
 use Rattle.av_vread.specs.declared.parsed.Item.{Item as FoundItem}
 use Rattle.av_vread.specs.declared.parsed.Declaration.{Declaration as FoundDeclaration}
 use Rattle.av_vread.specs.declared.parsed.Declaration.TheVariants as declaration

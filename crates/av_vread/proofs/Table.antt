@@ -10,7 +10,7 @@ use Rattle.av_base.specs.declared.width.Width.{Width}
 use Rattle.av_net.specs.declared.netlist.Port.{Port}
 use Rattle.av_net.specs.Names.{names_of, width_in}
 use Rattle.av_net.specs.Rows.{is_in}
-use Rattle.av_vread.specs.Scoped.{Bytes}
+use Rattle.av_vread.specs.inner.Scoped.{Bytes}
 use denote.Ref.{Bor}
 
 pub flip : (a b : List ℕ) → bytes_eq a b ≡ bytes_eq b a

@@ -8,7 +8,7 @@ use Rattle.std.proofs.lemmas.Slice.Eq.{bytes_eq-Decides}
 use Rattle.av_net.specs.declared.netlist.Port.{Port}
 use Rattle.av_net.specs.Names.{names_of, width_in}
 use Rattle.av_net.specs.Rows.{is_in, first_from}
-use Rattle.av_vread.specs.Scoped.{width_found}
+use Rattle.av_vread.specs.inner.Scoped.{width_found}
 
 -- ---- where a walk stands
 

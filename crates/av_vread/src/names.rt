@@ -23,7 +23,7 @@ impl<'a> Model for Names<'a> {
 }
 
 impl<'a> Names<'a> {
-    ghost use Rattle.av_vread.specs.Scoped.{texts, Bytes};
+    ghost use Rattle.av_vread.specs.inner.Scoped.{texts, Bytes};
 
     pub(crate) fn new(alloc: Global) -> Names<'a>
         ensures { result ≡ [] }

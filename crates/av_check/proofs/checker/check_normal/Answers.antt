@@ -6,7 +6,7 @@ use Rattle.av_flat.specs.Trees.{FlatSystem, view_variable, view_system}
 use Rattle.av_flat.specs.Signatures.{signature}
 use Rattle.av_flat.specs.Proper.{IsProper}
 use Rattle.av_check.specs.CheckFaults.{IsFault}
-use Rattle.av_check.specs.Ready.{AreReady, HasNoWrong}
+use Rattle.av_check.specs.inner.Ready.{AreReady, HasNoWrong}
 use Rattle.av_check.proofs.Prepared.{are_ready}
 use Rattle.av_check.proofs.Settled.{proper_where_fine, refuses, complete, found_at}
 use Rattle.av_check.proofs.checker.check_normal.Goals as goal

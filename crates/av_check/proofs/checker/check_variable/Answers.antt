@@ -6,9 +6,9 @@ use Rattle.av_flat.specs.declared.flat.Piece.{Piece as PieceMade}
 use Rattle.av_flat.specs.Trees.{view_variable, view_piece}
 use Rattle.av_flat.specs.Signatures.{signature, is_computed}
 use Rattle.av_normal.proofs.Limits.{all_sources}
-use Rattle.av_check.specs.Least.{IsLeast}
-use Rattle.av_check.specs.Having.{IsOff, IsOrdinary}
-use Rattle.av_check.specs.Standing.{StandsInside}
+use Rattle.av_check.specs.inner.Least.{IsLeast}
+use Rattle.av_check.specs.inner.Having.{IsOff, IsOrdinary}
+use Rattle.av_check.specs.inner.Standing.{StandsInside}
 use Rattle.av_check.proofs.Settled.{least_is_wrong, none_is_wrong}
 use Rattle.av_check.proofs.checker.check_variable.Goals as goal
 

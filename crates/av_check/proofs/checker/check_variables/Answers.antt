@@ -4,7 +4,7 @@ use Rattle.std.proofs.lemmas.Result.{err_from_is_err_and}
 use Rattle.av_flat.specs.declared.flat.Var.{Var}
 use Rattle.av_flat.specs.Trees.{view_variable}
 use Rattle.av_flat.specs.Signatures.{signature}
-use Rattle.av_check.specs.Ready.{HasNoWrong}
+use Rattle.av_check.specs.inner.Ready.{HasNoWrong}
 use Rattle.av_check.proofs.Settled.{ready_size, ready_mapped, fine_more, fault_found}
 use Rattle.av_check.proofs.checker.check_variables.Goals as goal
 

@@ -1,7 +1,7 @@
 use Rattle.std.proofs.Common.{map, take, All}
 use Rattle.av_flat.specs.Trees.{view_variable}
 use Rattle.av_flat.specs.Signatures.{signature}
-use Rattle.av_check.specs.Ready.{HasNoWrong}
+use Rattle.av_check.specs.inner.Ready.{HasNoWrong}
 use Rattle.av_check.proofs.checker.check_variables.Given as goal
 
 -- no variable so far has a wrong point

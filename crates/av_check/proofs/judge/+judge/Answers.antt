@@ -9,8 +9,8 @@ use Rattle.av_flat.specs.Points.{has}
 use Rattle.av_tree.specs.Points.{Point}
 use Rattle.av_check.specs.declared.verdict.Verdict.TheVariants as verdict
 use Rattle.av_check.specs.Blame.{blamed}
-use Rattle.av_check.specs.Standing.{reach, Stands, StandAll}
-use Rattle.av_check.specs.Verdicts.{IsVerdict, IsVerdictOfAll}
+use Rattle.av_check.specs.inner.Standing.{reach, Stands, StandAll}
+use Rattle.av_check.specs.inner.Verdicts.{IsVerdict, IsVerdictOfAll}
 use Rattle.av_check.proofs.Judging.{of_two, of_four, inside, outside, has_true, has_false, branch_more}
 use Rattle.av_check.proofs.Looking.{less_deep, next_stands}
 use Rattle.av_check.proofs.judge.+judge.Goals as goal

@@ -1,8 +1,8 @@
 use Rattle.std.proofs.Common.{map, take, drop}
 use Rattle.av_flat.specs.Trees.{view, trees_of, view_variable}
 use Rattle.av_flat.specs.Signatures.{signature}
-use Rattle.av_check.specs.Standing.{reach, StandAll}
-use Rattle.av_check.specs.Verdicts.{IsVerdictOfAll}
+use Rattle.av_check.specs.inner.Standing.{reach, StandAll}
+use Rattle.av_check.specs.inner.Verdicts.{IsVerdictOfAll}
 use Rattle.av_check.proofs.judge.+judge.Given as goal
 
 -- what is known of the branches so far, and that those to come stand

@@ -2,7 +2,7 @@ use Rattle.std.proofs.Common.{map}
 use Rattle.std.proofs.lemmas.Result.{IfOk-weaker}
 use Rattle.av_flat.specs.Trees.{view, view_variable, restriction}
 use Rattle.av_flat.specs.Signatures.{signature}
-use Rattle.av_check.specs.Verdicts.{IsVerdict}
+use Rattle.av_check.specs.inner.Verdicts.{IsVerdict}
 use Rattle.av_check.proofs.Judging.{inside, outside, has_true, has_false}
 use Rattle.av_check.proofs.judge.judge_piece.Goals as goal
 

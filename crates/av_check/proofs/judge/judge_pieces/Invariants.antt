@@ -1,7 +1,7 @@
 use Rattle.std.proofs.Common.{map, take}
 use Rattle.av_flat.specs.Trees.{trees_of, view_variable, view_piece, restriction}
 use Rattle.av_flat.specs.Signatures.{signature}
-use Rattle.av_check.specs.Verdicts.{IsVerdictOfAll}
+use Rattle.av_check.specs.inner.Verdicts.{IsVerdictOfAll}
 use Rattle.av_check.proofs.judge.judge_pieces.Given as goal
 
 abbrev pub invariant-loop-piece : goal.invariant-loop-piece

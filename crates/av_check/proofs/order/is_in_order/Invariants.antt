@@ -1,5 +1,5 @@
 use Rattle.std.proofs.Common.{◌≡◌, ◌≤◌, length, drop}
-use Rattle.av_check.specs.Least.{not_after}
+use Rattle.av_check.specs.inner.Least.{not_after}
 use Rattle.av_check.proofs.order.is_in_order.Given as goal
 
 -- what is left is in order where the whole is

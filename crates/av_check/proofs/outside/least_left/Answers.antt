@@ -1,7 +1,7 @@
 use Rattle.std.proofs.Common.{◌≡◌, List, subst}
 use Rattle.av_poly.specs.Points.{Set, Has}
-use Rattle.av_check.specs.Least.{IsLeast}
-use Rattle.av_check.specs.Having.{having, IsInAny}
+use Rattle.av_check.specs.inner.Least.{IsLeast}
+use Rattle.av_check.specs.inner.Having.{having, IsInAny}
 use Rattle.av_check.proofs.Lexicographic.{least_same}
 use Rattle.av_check.proofs.outside.least_left.Goals as goal
 

@@ -1,6 +1,6 @@
 use Rattle.std.proofs.Common.{◌≡◌, ◌↔◌, take, ℤ, List, All}
 use Rattle.av_poly.specs.Points.{Has}
-use Rattle.av_check.specs.Having.{having, IsInAny, IsInside}
+use Rattle.av_check.specs.inner.Having.{having, IsInAny, IsInside}
 use Rattle.av_check.proofs.outside.left_of.Given as goal
 
 abbrev pub invariant-loop-set : goal.invariant-loop-set

@@ -1,11 +1,17 @@
-use Rattle.std.proofs.Common.{◌≡◌, ap, sym, subst}
-use Rattle.std.specs.Prelude.{Err}
+use Rattle.std.proofs.Common.{◌≡◌, ◌≢◌, ◌⊎◌, ℕ, List, ap, sym, subst}
+use Rattle.std.specs.Prelude.{Result, Ok, Err}
+use Rattle.std.specs.Result.{IsErrAnd}
+use Rattle.av_flat.specs.declared.flat.Flat.{Flat}
 use Rattle.av_flat.specs.Proper.{IsProper}
 use Rattle.av_flat.specs.Trees.{view_system}
-use Rattle.av_compile.specs.Checked.{HasNormalForm, in_pieces, in_points}
+use Rattle.av_names.specs.declared.size.Size.{Size}
+use Rattle.av_compile.specs.declared.refusal.Refusal.{Refusal}
+use Rattle.av_compile.specs.declared.refusal.Refusal.TheVariants as refusal
+use Rattle.av_compile.specs.Checked.{HasNormalForm, IsChecked, IsRefused, in_pieces, in_points}
 use Rattle.av_compile.specs.Refusals.{of_normal, of_check}
 use Rattle.av_compile.proofs.FirstFaults.{told, memory_only}
 use Rattle.av_compile.proofs.OneChain.{one_flat}
+use Rattle.av_compile.proofs.OneRefusal.{caused}
 use Rattle.av_compile.proofs.front.checked.Goals as goal
 
 -- ---- the first fault
@@ -48,3 +54,34 @@ returns-in_err-check-clause-complete c = λ s h has_form proper.
     let flat = one_flat c.args.bytes.now c.args.sizes.now c.args.width.bits s (view_system c.in_ok-flat.flat) h c.in_ok-flat.ensures.found in
     memory_only c.from_residual-in_err-check.result (of_check fault) c.from_residual-in_err-check.ensures.1
     (ap of_check (c.in_err-check.ensures.complete (subst IsProper (sym flat) proper)))
+
+-- ---- each cause has its answer
+
+-- an error's first fault, by the clause that says it
+module _ (bytes : List ℕ) (words : List Size) (width : ℕ) where
+  of_error : (r : Result Flat Refusal) (e : Refusal) → IsErrAnd r (λ y. y ≡ e) → ((f : Refusal) → r ≡ Err f → f ≢ refusal.Memory → IsRefused bytes words width f)
+      → (f : Refusal) → IsRefused bytes words width f → f ≢ refusal.Memory → (r ≡ Err f) ⊎ (r ≡ Err refusal.Memory)
+  of_error (Ok to) e h refused = absurd h
+  of_error (Err g) e h refused = caused bytes words width (Err g) tt refused
+
+pub returns-in_err-flat-clause-cause : goal.returns-in_err-flat-clause-cause
+returns-in_err-flat-clause-cause c =
+    of_error c.args.bytes.now c.args.sizes.now c.args.width.bits c.from_residual.result c.in_err-flat.field-0.0 c.from_residual.ensures.1 (returns-in_err-flat-clause-refused c)
+
+pub returns-in_err-normal-clause-cause : goal.returns-in_err-normal-clause-cause
+returns-in_err-normal-clause-cause c =
+    of_error c.args.bytes.now c.args.sizes.now c.args.width.bits c.from_residual-in_err-normal.result (of_normal c.in_err-normal.field-0.0) c.from_residual-in_err-normal.ensures.1 (returns-in_err-normal-clause-refused c)
+
+pub returns-in_err-check-clause-cause : goal.returns-in_err-check-clause-cause
+returns-in_err-check-clause-cause c =
+    of_error c.args.bytes.now c.args.sizes.now c.args.width.bits c.from_residual-in_err-check.result (of_check c.in_err-check.field-0.0) c.from_residual-in_err-check.ensures.1 (returns-in_err-check-clause-refused c)
+
+pub returns-clause-cause : goal.returns-clause-cause
+returns-clause-cause c =
+    let found : IsChecked c.args.bytes.now c.args.sizes.now c.args.width.bits (view_system c.in_ok-normal.normal) = record {
+      flat = view_system c.in_ok-flat.flat;
+      flattens = c.in_ok-flat.ensures.found;
+      given = c.in_ok-normal.ensures.gives;
+      proper = c.in_ok-check.ensures.proper;
+    } in
+    caused c.args.bytes.now c.args.sizes.now c.args.width.bits (Ok c.in_ok-normal.normal) found (λ f is. absurd cc)

@@ -21,8 +21,8 @@ returns-in_err-system-clause-refused c = λ f is not_memory.
     let fault = c.in_err-system.field-0.0 in
     let e : f ≡ of_parse fault = told c.from_residual-in_err-system.result (of_parse fault) f c.from_residual-in_err-system.ensures.1 is in
     let text = subst (λ (ts : List Found). IsText start c.args.bytes.now (views ts)) (sym c.as_slice.ensures) c.in_ok-tokens.ensures.found in
-    tokens_refused c.args.bytes.now c.args.sizes.now c.args.width.bits f fault (views c.as_slice.result.now) text
-    (λ s program. c.parse.ensures.refused fault s c.in_err-system.was program) e not_memory
+    tokens_refused c.args.bytes.now c.args.sizes.now c.args.width.bits f fault (views c.as_slice.result.now) c.parse.result text
+    c.parse.ensures.syntax c.parse.ensures.depth c.in_err-system.was e not_memory
 
 pub returns-in_err-resolve-clause-refused : goal.returns-in_err-resolve-clause-refused
 returns-in_err-resolve-clause-refused c = λ f is not_memory.

@@ -2,8 +2,8 @@ use Rattle.std.proofs.Common.{rules, ◌≡◌, ◌<◌, ◌+◌, ◌^◌, ◌++
 use Rattle.std.proofs.lemmas.Int.{ints}
 use Rattle.av_affine.specs.declared.form.Form.{Form}
 use Rattle.av_poly.specs.Rational.{homogeneous}
-use Rattle.av_elim.specs.Rows.{line, factor, Small, StandsFor}
-use Rattle.av_elim.specs.Step.{pairs_of}
+use Rattle.av_elim.specs.inner.Rows.{line, factor, Small, StandsFor}
+use Rattle.av_elim.specs.inner.Step.{pairs_of}
 use Rattle.av_elim.proofs.Growth.{small_combination}
 use Rattle.av_elim.proofs.Loops.{grown, pairs_in, pairs_out}
 use Rattle.av_elim.proofs.eliminate.add_pairs.Goals as goal

@@ -1,7 +1,7 @@
 use Rattle.std.proofs.Common.{◌++◌, drop, suc}
 use Rattle.av_poly.specs.Rational.{homogeneous}
-use Rattle.av_elim.specs.Rows.{line, StandsFor}
-use Rattle.av_elim.specs.Step.{pairs_of}
+use Rattle.av_elim.specs.inner.Rows.{line, StandsFor}
+use Rattle.av_elim.specs.inner.Step.{pairs_of}
 use Rattle.av_elim.proofs.eliminate.add_pairs.Given as goal
 
 -- what is out, with what comes of the rows left

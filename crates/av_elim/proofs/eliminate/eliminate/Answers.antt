@@ -3,8 +3,8 @@ use Rattle.std.specs.Ordering.{int_eq}
 use Rattle.std.proofs.lemmas.Int.{ints}
 use Rattle.av_affine.specs.declared.form.Form.{Form}
 use Rattle.av_poly.specs.Rational.{homogeneous}
-use Rattle.av_elim.specs.Rows.{line, factor, StandsFor}
-use Rattle.av_elim.specs.Step.{pairs_of, all_pairs, flats}
+use Rattle.av_elim.specs.inner.Rows.{line, factor, StandsFor}
+use Rattle.av_elim.specs.inner.Step.{pairs_of, all_pairs, flats}
 use Rattle.av_elim.proofs.Merging.{stands_before}
 use Rattle.av_elim.proofs.Loops.{grown, grown_by, flats_in, flats_out, all_in, all_out, append_none, none_left}
 use Rattle.av_elim.proofs.eliminate.eliminate.Goals as goal

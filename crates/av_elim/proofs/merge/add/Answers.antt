@@ -2,7 +2,7 @@ use Rattle.std.proofs.Common.{◌∷◌, [], ◌++◌, ◌∙◌, ap, sym, subst
 use Rattle.std.proofs.lemmas.Result.{on_ok_weaker}
 use Rattle.av_affine.specs.declared.form.Form.{Form}
 use Rattle.av_poly.specs.Rational.{homogeneous}
-use Rattle.av_elim.specs.Rows.{line, IsReduced, StandsFor}
+use Rattle.av_elim.specs.inner.Rows.{line, IsReduced, StandsFor}
 use Rattle.av_elim.proofs.Merging.{stands_after, stands_behind, stands_reduced}
 use Rattle.av_elim.proofs.Loops.{homogeneous_push}
 use Rattle.av_elim.proofs.merge.add.Goals as goal

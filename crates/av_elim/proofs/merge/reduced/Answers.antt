@@ -4,7 +4,7 @@ use Rattle.std.specs.Int.RustNames.{unsigned_abs}
 use Rattle.std.proofs.lemmas.Int.{ints}
 use Rattle.std.proofs.lemmas.List.{get_or_default}
 use Rattle.av_affine.proofs.Exact.{divided}
-use Rattle.av_elim.specs.Rows.{line, IsReduced}
+use Rattle.av_elim.specs.inner.Rows.{line, IsReduced}
 use Rattle.av_elim.proofs.Merging.{reduced_same, reduced_by}
 use Rattle.av_elim.proofs.merge.reduced.Goals as goal
 

@@ -4,7 +4,7 @@ use Rattle.std.proofs.lemmas.Slice.Eq.{slice_eq-Decides}
 use Rattle.std.proofs.lemmas.Bool.Decides.{Decides-int_eq}
 use Rattle.av_affine.specs.declared.form.Form.{Form}
 use Rattle.av_poly.specs.Rational.{homogeneous}
-use Rattle.av_elim.specs.Rows.{line, StandsFor}
+use Rattle.av_elim.specs.inner.Rows.{line, StandsFor}
 use Rattle.av_elim.proofs.Merging.{stands_replaced, stands_stronger}
 use Rattle.av_elim.proofs.merge.replaced.Goals as goal
 

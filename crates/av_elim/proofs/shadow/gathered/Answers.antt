@@ -1,7 +1,7 @@
 use Rattle.std.proofs.Common.{◌+◌, [], pos, drop, get_or}
 use Rattle.av_affine.specs.declared.form.Form.{Form}
 use Rattle.av_poly.specs.Rational.{homogeneous}
-use Rattle.av_elim.specs.Rows.{line}
+use Rattle.av_elim.specs.inner.Rows.{line}
 use Rattle.av_elim.proofs.Loops.{grown, next_row}
 use Rattle.av_elim.proofs.shadow.gathered.Goals as goal
 

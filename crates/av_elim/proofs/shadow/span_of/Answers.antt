@@ -1,8 +1,8 @@
 use Rattle.std.proofs.Common.{◌∙◌, suc, List, ap, sym, subst}
 use Rattle.av_affine.specs.declared.form.Form.{Form}
 use Rattle.av_poly.specs.Rational.{homogeneous}
-use Rattle.av_elim.specs.Span.{Tells, scanned, whole}
-use Rattle.av_elim.specs.Step.{eliminated}
+use Rattle.av_elim.specs.inner.Span.{Tells, scanned, whole}
+use Rattle.av_elim.specs.inner.Step.{eliminated}
 use Rattle.av_elim.proofs.Telling.{tells_one, tells_last}
 use Rattle.av_elim.proofs.shadow.span_of.Goals as goal
 

@@ -2,8 +2,8 @@ use Rattle.std.proofs.Common.{◌^◌, List, sym, subst, arith, suc}
 use Rattle.std.specs.List.{All}
 use Rattle.av_affine.specs.declared.form.Form.{Form}
 use Rattle.av_poly.specs.Rational.{homogeneous}
-use Rattle.av_elim.specs.Rows.{line, Small, StandsFor}
-use Rattle.av_elim.specs.Step.{eliminated}
+use Rattle.av_elim.specs.inner.Rows.{line, Small, StandsFor}
+use Rattle.av_elim.specs.inner.Step.{eliminated}
 use Rattle.av_elim.proofs.Progress.{first, ready, next, skip, small_left}
 use Rattle.av_elim.proofs.shadow.without_others.Goals as goal
 use Rattle.av_elim.proofs.shadow.without_others.Goals.{then-other-index+in_ok-out-2, else-other-index}

@@ -1,8 +1,8 @@
 use Rattle.std.proofs.Common.{rules, ◌∙◌, ap₂, sym, zero, suc, get_or, pos, FitsSigned, to_z-of_z, arith, w64}
 use mir.Syntax.{w128}
 use Rattle.std.proofs.Math.IntN.{neg_ℤ}
-use Rattle.av_elim.specs.Rows.{line, factor}
-use Rattle.av_elim.specs.Span.{stepped}
+use Rattle.av_elim.specs.inner.Rows.{line, factor}
+use Rattle.av_elim.specs.inner.Span.{stepped}
 use Rattle.av_elim.proofs.Lift.{factor_combine}
 use Rattle.av_elim.proofs.span.pair_step.Goals as goal
 

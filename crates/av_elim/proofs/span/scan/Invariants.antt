@@ -1,6 +1,6 @@
 use Rattle.std.proofs.Common.{◌≡◌, drop, suc}
 use Rattle.av_poly.specs.Rational.{homogeneous}
-use Rattle.av_elim.specs.Span.{scanned, whole}
+use Rattle.av_elim.specs.inner.Span.{scanned, whole}
 use Rattle.av_elim.proofs.span.scan.Given as goal
 
 abbrev pub invariant-loop-row : goal.invariant-loop-row

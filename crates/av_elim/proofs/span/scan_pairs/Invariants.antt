@@ -1,8 +1,8 @@
 use Rattle.std.proofs.Common.{◌≡◌, drop, suc}
 use Rattle.av_poly.specs.Rational.{homogeneous}
-use Rattle.av_elim.specs.Rows.{line}
-use Rattle.av_elim.specs.Step.{pairs_of}
-use Rattle.av_elim.specs.Span.{scanned}
+use Rattle.av_elim.specs.inner.Rows.{line}
+use Rattle.av_elim.specs.inner.Step.{pairs_of}
+use Rattle.av_elim.specs.inner.Span.{scanned}
 use Rattle.av_elim.proofs.span.scan_pairs.Given as goal
 
 abbrev pub invariant-loop-above : goal.invariant-loop-above

@@ -2,9 +2,9 @@ use Rattle.std.proofs.Common.{rules, ◌≡◌, ◌<◌, ◌+◌, ◌∙◌, suc
 use Rattle.std.proofs.lemmas.Int.{ints}
 use Rattle.av_affine.specs.declared.form.Form.{Form}
 use Rattle.av_poly.specs.Rational.{homogeneous}
-use Rattle.av_elim.specs.Rows.{line, factor}
-use Rattle.av_elim.specs.Step.{pairs_of, all_pairs}
-use Rattle.av_elim.specs.Span.{scanned}
+use Rattle.av_elim.specs.inner.Rows.{line, factor}
+use Rattle.av_elim.specs.inner.Step.{pairs_of, all_pairs}
+use Rattle.av_elim.specs.inner.Span.{scanned}
 use Rattle.av_elim.specs.declared.span.Span.{Span}
 use Rattle.av_elim.proofs.Loops.{all_in, all_out, scanned_append}
 use Rattle.av_elim.proofs.span.scan_without.Goals as goal

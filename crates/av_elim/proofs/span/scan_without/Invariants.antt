@@ -1,7 +1,7 @@
 use Rattle.std.proofs.Common.{◌≡◌, ◌++◌, drop, suc}
 use Rattle.av_poly.specs.Rational.{homogeneous}
-use Rattle.av_elim.specs.Step.{flats, all_pairs, eliminated}
-use Rattle.av_elim.specs.Span.{scanned, whole}
+use Rattle.av_elim.specs.inner.Step.{flats, all_pairs, eliminated}
+use Rattle.av_elim.specs.inner.Span.{scanned, whole}
 use Rattle.av_elim.proofs.span.scan_without.Given as goal
 
 abbrev pub invariant-loop-row : goal.invariant-loop-row

@@ -1,7 +1,7 @@
 use Rattle.std.proofs.Common.{ap, ◌∙◌, arith, length, map, take, take_all}
 use Rattle.std.proofs.lemmas.List.{length-map}
 use Rattle.av_names.specs.Forms.{form_of}
-use Rattle.av_names.specs.Sums.{sizes_in}
+use Rattle.av_names.specs.inner.Sums.{sizes_in}
 use Rattle.av_names.proofs.affine.forms_over.Goals as goal
 
 pub from_slice-requires : goal.from_slice-requires

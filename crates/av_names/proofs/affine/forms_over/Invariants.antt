@@ -1,6 +1,6 @@
 use Rattle.std.proofs.Common.{◌≡◌, map, take}
 use Rattle.av_names.specs.Forms.{form_of}
-use Rattle.av_names.specs.Sums.{sizes_in}
+use Rattle.av_names.specs.inner.Sums.{sizes_in}
 use Rattle.av_names.proofs.affine.forms_over.Given as goal
 
 abbrev pub invariant-loop-index : goal.invariant-loop-index

@@ -3,7 +3,7 @@ use Rattle.std.proofs.lemmas.List.Elements.{All-head, All-tail}
 use Rattle.av_affine.specs.Forms.{IsWithinLimits}
 use Rattle.av_tree.specs.Rows as rows
 use Rattle.av_names.specs.Forms.{form_of_row}
-use Rattle.av_names.specs.Sums.{sizes_in}
+use Rattle.av_names.specs.inner.Sums.{sizes_in}
 use Rattle.av_names.proofs.affine.push_rows.Goals as goal
 
 pub row-requires-clause-fits : goal.row-requires-clause-fits

@@ -1,6 +1,6 @@
 use Rattle.std.proofs.Common.{drop}
 use Rattle.av_names.specs.Forms.{rows_over}
-use Rattle.av_names.specs.Sums.{sizes_in}
+use Rattle.av_names.specs.inner.Sums.{sizes_in}
 use Rattle.av_names.proofs.Summed.{front_small}
 use Rattle.av_names.proofs.affine.set.Goals as goal
 

@@ -3,7 +3,7 @@ use Rattle.std.specs.Prelude.{option_map, bytes_eq}
 use Rattle.indexmap.specs.IndexMap.{get_by}
 use Rattle.av_names.specs.Arities as rules
 use Rattle.av_names.specs.Found.{sooner}
-use Rattle.av_names.specs.Seen.{part, names_at}
+use Rattle.av_names.specs.inner.Seen.{part, names_at}
 use Rattle.av_names.proofs.Sooner.{first_more}
 use Rattle.av_names.proofs.arity.parts_arity.Goals as goal
 

@@ -1,5 +1,5 @@
 use Rattle.std.proofs.Common.{map, take}
-use Rattle.av_names.specs.Seen.{SameNames}
+use Rattle.av_names.specs.inner.Seen.{SameNames}
 use Rattle.av_names.proofs.defined.defined.Given as goal
 
 abbrev pub invariant-loop-equation : goal.invariant-loop-equation

@@ -2,7 +2,7 @@ use Rattle.std.proofs.Common.{ap, ◌∙◌}
 use Rattle.std.specs.Prelude.{option_map, find}
 use Rattle.av_tree.specs.Rows.{is_index}
 use Rattle.av_names.specs.Equations.{equation_found}
-use Rattle.av_names.specs.Seen.{equations_seen}
+use Rattle.av_names.specs.inner.Seen.{equations_seen}
 use Rattle.av_names.specs.Unknowns.{declared_as}
 use Rattle.av_names.proofs.Lists.{input_found}
 use Rattle.av_names.proofs.defined.defines_input.Goals as goal

@@ -1,7 +1,7 @@
 use Rattle.std.proofs.Common.{◌≡◌, drop}
 use Rattle.std.specs.Prelude.{find}
 use Rattle.av_tree.specs.Rows.{is_index}
-use Rattle.av_names.specs.Seen.{equations_seen}
+use Rattle.av_names.specs.inner.Seen.{equations_seen}
 use Rattle.av_names.proofs.defined.defines_one_of.Given as goal
 
 abbrev pub invariant-loop-equation : goal.invariant-loop-equation

@@ -1,6 +1,6 @@
 use Rattle.std.proofs.Common.{◌≡◌, [], drop}
 use Rattle.av_names.specs.Equations as rules
-use Rattle.av_names.specs.Seen.{equations_seen}
+use Rattle.av_names.specs.inner.Seen.{equations_seen}
 use Rattle.av_names.proofs.defined.second_equation.Given as goal
 
 abbrev pub invariant-loop-equation : goal.invariant-loop-equation

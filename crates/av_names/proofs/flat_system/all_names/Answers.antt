@@ -6,7 +6,7 @@ use Rattle.av_tree.specs.declared.system.Declaration.{Declaration}
 use Rattle.av_tree.specs.Domains as domains
 use Rattle.av_tree.specs.Trees.{view_equations, view_system}
 use Rattle.av_names.specs.Flattened.{equation_of, place_of}
-use Rattle.av_names.specs.Sums.{sizes_in}
+use Rattle.av_names.specs.inner.Sums.{sizes_in}
 use Rattle.av_names.proofs.FlatSystem.{few_variables, rights_fit}
 use Rattle.av_names.proofs.Summed.{small_values}
 use Rattle.av_names.proofs.flat_system.all_names.Goals as goal

@@ -4,9 +4,9 @@ use Rattle.std.proofs.lemmas.Result.{IfOk-weaker}
 use Rattle.indexmap.specs.IndexMap.{get_by}
 use Rattle.av_tree.specs.Trees.{view_equation, view_system}
 use Rattle.av_flat.specs.Trees.{view_piece}
-use Rattle.av_names.specs.Building.{instance_in}
+use Rattle.av_names.specs.inner.Building.{instance_in}
 use Rattle.av_names.specs.Flattened.{equation_of, pieces_of}
-use Rattle.av_names.specs.Sums.{sizes_in}
+use Rattle.av_names.specs.inner.Sums.{sizes_in}
 use Rattle.av_names.proofs.Built.{context_found, right_there, pieces_are}
 use Rattle.av_names.proofs.flat_system.pieces.Goals as goal
 

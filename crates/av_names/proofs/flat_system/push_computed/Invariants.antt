@@ -1,6 +1,6 @@
 use Rattle.std.proofs.Common.{◌≡◌, ◌++◌, map, take}
 use Rattle.av_flat.specs.Trees as flat
-use Rattle.av_names.specs.Building.{instance_in}
+use Rattle.av_names.specs.inner.Building.{instance_in}
 use Rattle.av_names.specs.Flattened as rules
 use Rattle.av_names.proofs.flat_system.push_computed.Given as goal
 

@@ -1,6 +1,6 @@
 use Rattle.std.proofs.Common.{◌≡◌, ◌≤◌, ◌+◌, length, map, drop}
 use Rattle.av_tree.specs.Trees.{Text}
-use Rattle.av_names.specs.Building.{place_or}
+use Rattle.av_names.specs.inner.Building.{place_or}
 use Rattle.av_names.specs.Flattened.{place_of}
 use Rattle.av_names.proofs.flat_tables.place_table.Given as goal
 

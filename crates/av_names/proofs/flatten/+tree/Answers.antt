@@ -1,11 +1,11 @@
 use Rattle.std.proofs.Common.{sym, ap, ◌∙◌, map, subst, List, All}
 use Rattle.av_tree.specs.declared.expression.Expr.{Expr}
 use Rattle.av_tree.specs.Trees as text
-use Rattle.av_names.specs.Building.{instance_in}
-use Rattle.av_names.specs.Fitting.{FitsIn}
+use Rattle.av_names.specs.inner.Building.{instance_in}
+use Rattle.av_names.specs.inner.Fitting.{FitsIn}
 use Rattle.av_names.specs.Flattened.{flat_tree}
-use Rattle.av_names.specs.Seen.{context as seen}
-use Rattle.av_names.specs.Sums.{sizes_in}
+use Rattle.av_names.specs.inner.Seen.{context as seen}
+use Rattle.av_names.specs.inner.Sums.{sizes_in}
 use Rattle.av_names.proofs.Branches.{branches_fit, case_built, less_deep}
 use Rattle.av_names.proofs.flatten.+tree.Goals as goal
 

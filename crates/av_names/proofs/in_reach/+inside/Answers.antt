@@ -3,7 +3,7 @@ use Rattle.std.specs.Prelude.{option_map}
 use Rattle.av_tree.specs.Trees.{view, view_all}
 use Rattle.av_tree.specs.Rows.{is_index}
 use Rattle.av_names.specs.Forms.{over, nameless}
-use Rattle.av_names.specs.Seen.{found}
+use Rattle.av_names.specs.inner.Seen.{found}
 use Rattle.av_names.proofs.Cases.{view_case}
 use Rattle.av_names.proofs.Reach.{rule_of, in_reference, in_constant, in_binary, in_choice, in_restriction, in_cases, in_dependence, in_reduction, branch_more}
 use Rattle.av_names.proofs.in_reach.+inside.Goals as goal

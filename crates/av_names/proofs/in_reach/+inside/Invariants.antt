@@ -4,7 +4,7 @@ use Rattle.av_tree.specs.Trees.{view_all}
 use Rattle.av_names.specs.Forms.{Context}
 use Rattle.av_names.specs.Found.{first_found}
 use Rattle.av_names.specs.Parts as list
-use Rattle.av_names.specs.Seen.{found, SameNames}
+use Rattle.av_names.specs.inner.Seen.{found, SameNames}
 use Rattle.av_names.specs.Unknowns as rules
 use Rattle.av_names.specs.Written.{written_at}
 use Rattle.av_names.proofs.in_reach.+inside.Given as goal

@@ -3,7 +3,7 @@ use Rattle.std.specs.Prelude.{option_map}
 use Rattle.std.proofs.lemmas.Result.{IfOk-weaker}
 use Rattle.av_tree.specs.Trees.{view}
 use Rattle.av_names.specs.Forms.{Context, names_or}
-use Rattle.av_names.specs.Seen.{found, SameNames}
+use Rattle.av_names.specs.inner.Seen.{found, SameNames}
 use Rattle.av_names.specs.Found.{first_found}
 use Rattle.av_names.specs.Unknowns as rules
 use Rattle.av_names.specs.Written.{written_at}

@@ -1,7 +1,7 @@
 use Rattle.std.proofs.Common.{ap, ◌∙◌}
 use Rattle.std.specs.Prelude.{option_map}
 use Rattle.av_names.specs.Found.{sooner}
-use Rattle.av_names.specs.Seen.{found}
+use Rattle.av_names.specs.inner.Seen.{found}
 use Rattle.av_names.specs.Unknowns as rules
 use Rattle.av_names.proofs.Sooner.{first_more}
 use Rattle.av_names.proofs.in_reach.unknown_in_terms.Goals as goal

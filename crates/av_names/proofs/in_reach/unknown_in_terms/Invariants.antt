@@ -1,7 +1,7 @@
 use Rattle.std.proofs.Common.{◌≡◌, take}
 use Rattle.std.specs.Prelude.{option_map}
 use Rattle.av_names.specs.Found.{first_found}
-use Rattle.av_names.specs.Seen.{found}
+use Rattle.av_names.specs.inner.Seen.{found}
 use Rattle.av_names.specs.Unknowns as rules
 use Rattle.av_names.proofs.in_reach.unknown_in_terms.Given as goal
 

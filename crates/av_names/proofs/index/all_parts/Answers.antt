@@ -3,7 +3,7 @@ use Rattle.std.specs.Prelude.{bytes_eq}
 use Rattle.indexmap.specs.IndexMap.{get_by}
 use Rattle.av_tree.specs.Trees.{view, view_system}
 use Rattle.av_names.specs.Parts.{parts_of}
-use Rattle.av_names.specs.Seen.{part}
+use Rattle.av_names.specs.inner.Seen.{part}
 use Rattle.av_names.proofs.Lookups.{context_is, parts_more, parts_all}
 use Rattle.av_names.proofs.index.all_parts.Goals as goal
 

@@ -1,7 +1,7 @@
 use Rattle.std.proofs.Common.{◌≡◌, take, option_map}
 use Rattle.av_names.specs.Found.{first_of}
 use Rattle.av_names.specs.Quantities.{exceeds}
-use Rattle.av_names.specs.Sums.{sizes_in, limit_of, numbers_of, counted, written}
+use Rattle.av_names.specs.inner.Sums.{sizes_in, limit_of, numbers_of, counted, written}
 use Rattle.av_names.proofs.measure.great.Given as goal
 
 abbrev pub invariant-loop-written : goal.invariant-loop-written

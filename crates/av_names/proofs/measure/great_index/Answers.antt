@@ -1,7 +1,7 @@
 use Rattle.std.proofs.Common.{ap, ◌∙◌, option_map}
 use Rattle.av_names.specs.Found.{sooner}
 use Rattle.av_names.specs.Quantities.{exceeds}
-use Rattle.av_names.specs.Sums.{sizes_in, limit_of, of_index, counted}
+use Rattle.av_names.specs.inner.Sums.{sizes_in, limit_of, of_index, counted}
 use Rattle.av_names.proofs.Sooner.{first_more}
 use Rattle.av_names.proofs.Summed.{index_exceeds}
 use Rattle.av_names.proofs.measure.great_index.Goals as goal

@@ -1,7 +1,7 @@
 use Rattle.std.proofs.Common.{◌≡◌, take, option_map}
 use Rattle.av_names.specs.Found.{first_of}
 use Rattle.av_names.specs.Quantities.{exceeds}
-use Rattle.av_names.specs.Sums.{sizes_in, limit_of, of_index, counted}
+use Rattle.av_names.specs.inner.Sums.{sizes_in, limit_of, of_index, counted}
 use Rattle.av_names.proofs.measure.great_index.Given as goal
 
 abbrev pub invariant-loop-entry : goal.invariant-loop-entry

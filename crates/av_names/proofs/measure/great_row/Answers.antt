@@ -1,7 +1,7 @@
 use Rattle.std.proofs.Common.{ap, ◌∙◌, option_map}
 use Rattle.av_names.specs.Found.{sooner}
 use Rattle.av_names.specs.Quantities.{exceeds}
-use Rattle.av_names.specs.Sums.{sizes_in, limit_of, of_row, counted}
+use Rattle.av_names.specs.inner.Sums.{sizes_in, limit_of, of_row, counted}
 use Rattle.av_names.proofs.Sooner.{first_more}
 use Rattle.av_names.proofs.Summed.{row_exceeds}
 use Rattle.av_names.proofs.measure.great_row.Goals as goal

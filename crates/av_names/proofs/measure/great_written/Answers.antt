@@ -1,5 +1,5 @@
 use Rattle.std.proofs.Common.{◌∙◌, option_map}
-use Rattle.av_names.specs.Sums.{sizes_in, limit_of, counted, written}
+use Rattle.av_names.specs.inner.Sums.{sizes_in, limit_of, counted, written}
 use Rattle.av_names.proofs.Summed.{written_exceeds}
 use Rattle.av_names.proofs.measure.great_written.Goals as goal
 

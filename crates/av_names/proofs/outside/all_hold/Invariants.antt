@@ -1,6 +1,6 @@
 use Rattle.std.proofs.Common.{◌≡◌, drop}
 use Rattle.av_tree.specs.Domains as domains
-use Rattle.av_names.specs.Sums.{sizes_in}
+use Rattle.av_names.specs.inner.Sums.{sizes_in}
 use Rattle.av_names.proofs.outside.all_hold.Given as goal
 
 abbrev pub invariant-loop-constraint : goal.invariant-loop-constraint

@@ -1,5 +1,5 @@
 use Rattle.av_names.proofs.Summed.{small_there}
-use Rattle.av_names.specs.Sums.{sizes_in}
+use Rattle.av_names.specs.inner.Sums.{sizes_in}
 use Rattle.av_names.proofs.outside.small_size.Goals as goal
 
 pub returns-clause-small : goal.returns-clause-small

@@ -1,6 +1,6 @@
 use Rattle.std.proofs.Common.{refl}
 use Rattle.std.proofs.lemmas.Result.{on_ok_weaker}
-use Rattle.av_names.specs.Seen.{context as seen}
+use Rattle.av_names.specs.inner.Seen.{context as seen}
 use Rattle.av_names.proofs.Cases.{case_parts, one_more_branch}
 use Rattle.av_names.proofs.part.+gather.Goals as goal
 

@@ -1,7 +1,7 @@
 use Rattle.std.proofs.Common.{◌≡◌, ◌++◌, map, take}
 use Rattle.av_tree.specs.Trees.{view_all}
 use Rattle.av_names.specs.Parts as list
-use Rattle.av_names.specs.Seen.{part, context}
+use Rattle.av_names.specs.inner.Seen.{part, context}
 use Rattle.av_names.proofs.part.+gather.Given as goal
 
 abbrev pub invariant-gather_all-loop-branch : goal.invariant-gather_all-loop-branch

@@ -1,7 +1,7 @@
 use Rattle.std.proofs.Common.{ap, sym, ◌∙◌}
 use Rattle.av_names.specs.Found.{sooner, first_place}
 use Rattle.av_names.specs.Reductions as rules
-use Rattle.av_names.specs.Seen.{part}
+use Rattle.av_names.specs.inner.Seen.{part}
 use Rattle.av_names.proofs.Sooner.{first_more, first_map, first_whole}
 use Rattle.av_names.proofs.projection.projection.Goals as goal
 

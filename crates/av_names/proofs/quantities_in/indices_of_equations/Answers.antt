@@ -1,7 +1,7 @@
 use Rattle.std.proofs.Common.{ap, ◌∙◌}
 use Rattle.std.specs.Prelude.{option_map}
 use Rattle.av_names.specs.Found.{sooner, first_of}
-use Rattle.av_names.specs.Sums.{counted}
+use Rattle.av_names.specs.inner.Sums.{counted}
 use Rattle.av_names.specs.Quantities as rules
 use Rattle.av_tree.specs.Trees.{view_equation}
 use Rattle.av_names.specs.Found.{at_option}

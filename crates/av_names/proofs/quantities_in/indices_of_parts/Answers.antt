@@ -1,9 +1,9 @@
 use Rattle.std.proofs.Common.{ap, ◌∙◌}
 use Rattle.std.specs.Prelude.{option_map}
 use Rattle.av_names.specs.Found.{sooner, first_of}
-use Rattle.av_names.specs.Sums.{counted}
+use Rattle.av_names.specs.inner.Sums.{counted}
 use Rattle.av_names.specs.Quantities as rules
-use Rattle.av_names.specs.Seen.{part}
+use Rattle.av_names.specs.inner.Seen.{part}
 use Rattle.av_names.proofs.Sooner.{first_more}
 use Rattle.av_names.proofs.quantities_in.indices_of_parts.Goals as goal
 

@@ -1,7 +1,7 @@
 use Rattle.std.proofs.Common.{◌≡◌, take}
 use Rattle.std.specs.Prelude.{option_map}
 use Rattle.av_names.specs.Found.{first_of}
-use Rattle.av_names.specs.Sums.{counted}
+use Rattle.av_names.specs.inner.Sums.{counted}
 use Rattle.av_names.specs.Quantities as rules
 use Rattle.av_names.proofs.quantities_in.indices_of_variables.Given as goal
 

@@ -1,7 +1,7 @@
 use Rattle.std.proofs.Common.{◌≡◌, take}
 use Rattle.std.specs.Prelude.{option_map}
 use Rattle.av_names.specs.Found.{first_of}
-use Rattle.av_names.specs.Sums.{counted}
+use Rattle.av_names.specs.inner.Sums.{counted}
 use Rattle.std.proofs.Common.{false, length}
 use Rattle.std.specs.Prelude.{bytes_eq}
 use Rattle.indexmap.specs.IndexMap.{get_by}
@@ -10,7 +10,7 @@ use Rattle.av_tree.specs.Trees.{view}
 use Rattle.av_names.specs.Forms.{over}
 use Rattle.av_names.specs.Parts as list
 use Rattle.av_names.specs.Quantities as rules
-use Rattle.av_names.specs.Seen.{names_at}
+use Rattle.av_names.specs.inner.Seen.{names_at}
 use Rattle.av_names.proofs.quantities_in.nodes_of_equations.Given as goal
 
 abbrev pub invariant-loop-equation : goal.invariant-loop-equation

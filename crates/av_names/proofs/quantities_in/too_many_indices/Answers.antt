@@ -2,7 +2,7 @@ use Rattle.std.proofs.Common.{refl, ap, ◌∙◌}
 use Rattle.std.specs.Prelude.{option_map}
 use Rattle.av_tree.specs.Trees.{view_system}
 use Rattle.av_names.specs.Found.{sooner}
-use Rattle.av_names.specs.Sums.{counted}
+use Rattle.av_names.specs.inner.Sums.{counted}
 use Rattle.av_names.proofs.Unknown.{indices_are}
 use Rattle.av_names.proofs.quantities_in.too_many_indices.Goals as goal
 

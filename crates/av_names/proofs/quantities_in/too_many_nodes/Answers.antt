@@ -2,7 +2,7 @@ use Rattle.std.proofs.Common.{refl, ◌∙◌}
 use Rattle.std.specs.Prelude.{option_map, bytes_eq}
 use Rattle.indexmap.specs.IndexMap.{get_by}
 use Rattle.av_tree.specs.Trees.{view_system}
-use Rattle.av_names.specs.Sums.{counted}
+use Rattle.av_names.specs.inner.Sums.{counted}
 use Rattle.av_names.proofs.Unknown.{nodes_are}
 use Rattle.av_names.proofs.quantities_in.too_many_nodes.Goals as goal
 

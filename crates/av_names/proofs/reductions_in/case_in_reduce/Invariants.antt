@@ -1,7 +1,7 @@
 use Rattle.std.proofs.Common.{◌≡◌, take}
 use Rattle.av_names.specs.Found.{first_place}
 use Rattle.av_names.specs.Reductions as rules
-use Rattle.av_names.specs.Seen.{part}
+use Rattle.av_names.specs.inner.Seen.{part}
 use Rattle.av_names.proofs.reductions_in.case_in_reduce.Given as goal
 
 abbrev pub invariant-loop-part : goal.invariant-loop-part

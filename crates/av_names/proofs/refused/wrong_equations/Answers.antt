@@ -2,7 +2,7 @@ use Rattle.std.proofs.Common.{[], Some, refl, ap, sym, ◌∙◌}
 use Rattle.av_tree.specs.Trees.{view_system}
 use Rattle.av_names.specs.declared.fault.NameFault.TheVariants as fault
 use Rattle.av_names.specs.Equations as rules
-use Rattle.av_names.specs.Seen.{found}
+use Rattle.av_names.specs.inner.Seen.{found}
 use Rattle.av_names.proofs.Lists.{equations_are}
 use Rattle.av_names.proofs.Rules.{rule_found, rule_passed, something, nothing}
 use Rattle.av_names.proofs.refused.wrong_equations.Goals as goal

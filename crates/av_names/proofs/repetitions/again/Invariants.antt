@@ -1,7 +1,7 @@
 use Rattle.std.proofs.Common.{◌≡◌, ◌≤◌, length, drop}
 use Rattle.std.specs.Prelude.{option_map}
 use Rattle.av_names.specs.Repetitions as repeats
-use Rattle.av_names.specs.Seen.{SameNames}
+use Rattle.av_names.specs.inner.Seen.{SameNames}
 use Rattle.av_names.proofs.repetitions.again.Given as goal
 
 abbrev pub invariant-loop-rest : goal.invariant-loop-rest

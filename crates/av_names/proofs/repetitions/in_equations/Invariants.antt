@@ -3,7 +3,7 @@ use Rattle.std.specs.Prelude.{option_map}
 use Rattle.av_tree.specs.Trees.{view_equation}
 use Rattle.av_names.specs.Found.{at_option, first_found}
 use Rattle.av_names.specs.Repetitions as repeats
-use Rattle.av_names.specs.Seen.{found}
+use Rattle.av_names.specs.inner.Seen.{found}
 use Rattle.av_names.proofs.repetitions.in_equations.Given as goal
 
 abbrev pub invariant-loop-equation : goal.invariant-loop-equation

@@ -2,7 +2,7 @@ use Rattle.std.proofs.Common.{◌≡◌, take}
 use Rattle.std.specs.Prelude.{option_map}
 use Rattle.av_names.specs.Found.{at_option, first_found}
 use Rattle.av_names.specs.Repetitions as repeats
-use Rattle.av_names.specs.Seen.{found, part}
+use Rattle.av_names.specs.inner.Seen.{found, part}
 use Rattle.av_names.proofs.repetitions.in_parts.Given as goal
 
 abbrev pub invariant-loop-part : goal.invariant-loop-part

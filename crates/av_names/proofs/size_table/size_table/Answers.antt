@@ -1,7 +1,7 @@
 use Rattle.std.proofs.Common.{rules, ◌-◌, ◌≡◌, arith, w64, FitsSigned, to_z-of_z}
 use mir.Val.{to_z, of_z}
 use Rattle.std.proofs.lemmas.Map.Text.{hash_map_updates_str}
-use Rattle.av_names.specs.Sums.{sizes_in}
+use Rattle.av_names.specs.inner.Sums.{sizes_in}
 use Rattle.av_names.proofs.Summed.{one_size_earlier}
 use Rattle.av_names.proofs.size_table.size_table.Goals as goal
 

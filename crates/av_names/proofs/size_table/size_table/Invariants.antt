@@ -1,7 +1,7 @@
 use Rattle.std.proofs.Common.{◌≡◌, ◌≤◌, length, drop}
 use Rattle.av_tree.specs.Trees.{Text}
 use Rattle.av_names.specs.SizeWords.{sizes_of}
-use Rattle.av_names.specs.Sums.{sizes_in}
+use Rattle.av_names.specs.inner.Sums.{sizes_in}
 use Rattle.av_names.proofs.size_table.size_table.Given as goal
 
 abbrev pub invariant-loop-rest : goal.invariant-loop-rest

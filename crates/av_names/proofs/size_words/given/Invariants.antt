@@ -1,5 +1,5 @@
 use Rattle.std.proofs.Common.{take}
-use Rattle.av_names.specs.Seen.{SameNames}
+use Rattle.av_names.specs.inner.Seen.{SameNames}
 use Rattle.av_names.specs.SizeWords.{names_of}
 use Rattle.av_names.proofs.size_words.given.Given as goal
 

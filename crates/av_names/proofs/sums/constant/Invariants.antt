@@ -1,7 +1,7 @@
 use Rattle.std.proofs.Common.{◌≡◌, ◌≤◌, ◌*◌, ◌^◌, ◌+ℤ◌, drop}
 use Rattle.std.specs.Int.RustNames.{unsigned_abs}
 use Rattle.av_tree.specs.Rows as rows
-use Rattle.av_names.specs.Sums.{sizes_in}
+use Rattle.av_names.specs.inner.Sums.{sizes_in}
 use Rattle.av_names.proofs.sums.constant.Given as goal
 
 abbrev pub invariant-loop-term : goal.invariant-loop-term

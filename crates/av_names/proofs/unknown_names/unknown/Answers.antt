@@ -2,7 +2,7 @@ use Rattle.std.proofs.Common.{refl, ap, ◌∙◌}
 use Rattle.std.specs.Prelude.{option_map}
 use Rattle.av_tree.specs.Trees.{view_system}
 use Rattle.av_names.specs.Found.{sooner}
-use Rattle.av_names.specs.Seen.{found}
+use Rattle.av_names.specs.inner.Seen.{found}
 use Rattle.av_names.proofs.Unknown.{unknown_is}
 use Rattle.av_names.proofs.unknown_names.unknown.Goals as goal
 

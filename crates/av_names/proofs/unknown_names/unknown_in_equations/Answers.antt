@@ -1,7 +1,7 @@
 use Rattle.std.proofs.Common.{ap, ◌∙◌}
 use Rattle.std.specs.Prelude.{option_map}
 use Rattle.av_names.specs.Found.{sooner}
-use Rattle.av_names.specs.Seen.{found}
+use Rattle.av_names.specs.inner.Seen.{found}
 use Rattle.std.proofs.Common.{not}
 use Rattle.av_tree.specs.Rows.{is_index}
 use Rattle.av_names.specs.Found as finds

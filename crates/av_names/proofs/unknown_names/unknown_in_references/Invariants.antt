@@ -1,7 +1,7 @@
 use Rattle.std.proofs.Common.{◌≡◌, take}
 use Rattle.std.specs.Prelude.{option_map}
 use Rattle.av_names.specs.Found.{first_found}
-use Rattle.av_names.specs.Seen.{found, part}
+use Rattle.av_names.specs.inner.Seen.{found, part}
 use Rattle.av_names.specs.Unknowns as rules
 use Rattle.av_names.proofs.unknown_names.unknown_in_references.Given as goal
 

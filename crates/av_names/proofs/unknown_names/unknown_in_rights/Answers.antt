@@ -1,7 +1,7 @@
 use Rattle.std.proofs.Common.{ap, ◌∙◌}
 use Rattle.std.specs.Prelude.{option_map}
 use Rattle.av_names.specs.Found.{sooner, first_found}
-use Rattle.av_names.specs.Seen.{found}
+use Rattle.av_names.specs.inner.Seen.{found}
 use Rattle.std.proofs.Common.{false}
 use Rattle.std.specs.Prelude.{bytes_eq}
 use Rattle.indexmap.specs.IndexMap.{get_by}
@@ -9,7 +9,7 @@ use Rattle.av_tree.specs.Domains as domains
 use Rattle.av_tree.specs.Trees.{view}
 use Rattle.av_names.specs.Forms.{over}
 use Rattle.av_names.specs.Parts as list
-use Rattle.av_names.specs.Seen.{names_at}
+use Rattle.av_names.specs.inner.Seen.{names_at}
 use Rattle.av_names.specs.Unknowns as rules
 use Rattle.av_names.specs.Written.{written_at}
 use Rattle.av_names.proofs.Sooner.{first_more}

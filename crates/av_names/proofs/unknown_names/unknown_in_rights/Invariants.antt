@@ -6,7 +6,7 @@ use Rattle.av_tree.specs.Trees.{view}
 use Rattle.av_names.specs.Forms.{over}
 use Rattle.av_names.specs.Found.{first_found}
 use Rattle.av_names.specs.Parts as list
-use Rattle.av_names.specs.Seen.{found, names_at}
+use Rattle.av_names.specs.inner.Seen.{found, names_at}
 use Rattle.av_names.specs.Unknowns as rules
 use Rattle.av_names.specs.Written.{written_at}
 use Rattle.av_names.proofs.unknown_names.unknown_in_rights.Given as goal

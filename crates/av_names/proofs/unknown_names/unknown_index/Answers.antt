@@ -3,7 +3,7 @@ use Rattle.std.specs.Prelude.{option_map, bytes_eq}
 use Rattle.indexmap.specs.IndexMap.{get_by}
 use Rattle.av_tree.specs.Trees.{view_system}
 use Rattle.av_names.specs.Found.{sooner}
-use Rattle.av_names.specs.Seen.{found}
+use Rattle.av_names.specs.inner.Seen.{found}
 use Rattle.av_names.proofs.Unknown.{index_is}
 use Rattle.av_names.proofs.unknown_names.unknown_index.Goals as goal
 

@@ -1,7 +1,7 @@
 use Rattle.std.proofs.Common.{◌≡◌, ◌∷◌, ◌++◌, map, take}
 use Rattle.av_tree.specs.Trees.{view_system}
-use Rattle.av_names.specs.Seen.{part}
-use Rattle.av_names.specs.Sums.{written}
+use Rattle.av_names.specs.inner.Seen.{part}
+use Rattle.av_names.specs.inner.Sums.{written}
 use Rattle.av_names.specs.Written.{written_at, written_sizes, written_declaration}
 use Rattle.av_names.proofs.written.written_all.Given as goal
 

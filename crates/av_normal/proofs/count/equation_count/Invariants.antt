@@ -1,6 +1,6 @@
 use Rattle.std.proofs.Common.{◌≡◌, ◌≤◌, ◌+◌, ◌-◌, ◌^◌, min, map, drop}
 use Rattle.av_flat.specs.Trees.{view_piece}
-use Rattle.av_normal.specs.Counted.{pieces_counted}
+use Rattle.av_normal.specs.inner.Counted.{pieces_counted}
 use Rattle.av_normal.proofs.count.equation_count.Given as goal
 
 -- those so far and those to come are all

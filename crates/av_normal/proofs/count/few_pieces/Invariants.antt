@@ -1,6 +1,6 @@
 use Rattle.std.proofs.Common.{map, drop}
 use Rattle.av_flat.specs.Trees.{view_variable}
-use Rattle.av_normal.specs.Counted.{HasFew, IsOfMany}
+use Rattle.av_normal.specs.inner.Counted.{HasFew, IsOfMany}
 use Rattle.av_normal.specs.declared.fault.NormalFault.{NormalFault}
 use Rattle.av_normal.proofs.count.few_pieces.Given as goal
 

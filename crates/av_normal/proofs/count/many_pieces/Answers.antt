@@ -2,7 +2,7 @@ use Rattle.std.proofs.Common.{◌≡◌, ◌-◌, ◌^◌, min, map, sym, ap, �
 use Rattle.av_flat.specs.declared.flat.Piece.{Piece as PieceMade}
 use Rattle.av_flat.specs.Trees.{view_piece, view_variable, right_side}
 use Rattle.av_flat.specs.Quantities.{piece_count}
-use Rattle.av_normal.specs.Counted.{pieces_counted}
+use Rattle.av_normal.specs.inner.Counted.{pieces_counted}
 use Rattle.av_normal.proofs.Capped.{counted_right_side}
 use Rattle.av_normal.proofs.count.many_pieces.Goals as goal
 use Rattle.av_normal.proofs.count.many_pieces.Goals.{else-is_computed-via-then-is_computed+else-count-gt-MOST_PIECES, else-is_computed-via-else-is_computed}

@@ -5,9 +5,9 @@ use Rattle.av_poly.specs.declared.poly.Bounds.{Bounds}
 use Rattle.av_flat.specs.declared.flat.Var.{Var}
 use Rattle.av_flat.specs.Trees.{view_variable, view_system}
 use Rattle.av_flat.specs.Signatures.{signatures}
-use Rattle.av_normal.specs.Counted.{HasFew, IsOfMany}
+use Rattle.av_normal.specs.inner.Counted.{HasFew, IsOfMany}
 use Rattle.av_normal.specs.NormalForm.{IsNormalForm}
-use Rattle.av_normal.specs.Spread.{AreSpread}
+use Rattle.av_normal.specs.inner.Spread.{AreSpread}
 use Rattle.av_normal.specs.Alongside.{Alongside}
 use Rattle.av_normal.specs.Domains.{HasNarrowDomain, IsDeclaredExtent, IsEndless, IsSmallExtent}
 use Rattle.av_normal.proofs.Causes.{few_indices, narrow_domains, many_fault, wide_fault, endless_fault, box_fault, no_cause, bounded_domains}

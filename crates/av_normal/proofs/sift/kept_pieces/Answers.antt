@@ -2,7 +2,7 @@ use Rattle.std.proofs.Common.{map, List, Option, sym, subst}
 use Rattle.av_poly.specs.declared.poly.Bounds.{Bounds}
 use Rattle.av_flat.specs.declared.flat.Piece.{Piece as PieceMade}
 use Rattle.av_flat.specs.Trees.{view_piece, view_variable}
-use Rattle.av_normal.specs.Sifted.{AreSifted, IsHeld}
+use Rattle.av_normal.specs.inner.Sifted.{AreSifted, IsHeld}
 use Rattle.av_normal.proofs.Sifting.{all_left_out}
 use Rattle.av_normal.proofs.sift.kept_pieces.Goals as goal
 

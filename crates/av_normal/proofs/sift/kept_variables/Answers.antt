@@ -2,7 +2,7 @@ use Rattle.std.proofs.Common.{◌≡◌, ◌++◌, [], map, List, inl, inr, ⊎_
 use Rattle.std.proofs.lemmas.List.{length-map}
 use Rattle.av_flat.specs.Trees.{Variable, view_variable}
 use Rattle.av_normal.specs.Alongside.{Alongside}
-use Rattle.av_normal.specs.Sifted.{IsSifted, IsHeld}
+use Rattle.av_normal.specs.inner.Sifted.{IsSifted, IsHeld}
 use Rattle.av_normal.proofs.Firsts.{made_along, none_left}
 use Rattle.av_normal.proofs.sift.kept_variables.Goals as goal
 

@@ -1,7 +1,7 @@
 use Rattle.std.proofs.Common.{map, ◌++◌, List}
 use Rattle.av_flat.specs.Trees.{Variable, view_variable}
 use Rattle.av_normal.specs.Alongside.{Alongside}
-use Rattle.av_normal.specs.Sifted.{IsSifted, IsHeld}
+use Rattle.av_normal.specs.inner.Sifted.{IsSifted, IsHeld}
 use Rattle.av_normal.proofs.sift.kept_variables.Given as goal
 
 -- those kept so far, and what holds of those to come

@@ -3,7 +3,7 @@ use Rattle.std.specs.List.{AllByRecursion}
 use Rattle.av_flat.specs.declared.flat.Piece.{Piece as PieceMade}
 use Rattle.av_flat.specs.Trees.{Piece, view_piece}
 use Rattle.av_normal.specs.Extents.{SaysPoint}
-use Rattle.av_normal.specs.Sifted.{AreSifted, IsInside}
+use Rattle.av_normal.specs.inner.Sifted.{AreSifted, IsInside}
 use Rattle.av_normal.proofs.Dropping.{next_item, nothing_left}
 use Rattle.av_normal.proofs.Sifting.{one_left_out, one_stays, sifted_all, seen_push}
 use Rattle.av_normal.proofs.sift.pieces_within.Goals as goal

@@ -1,7 +1,7 @@
 use Rattle.std.proofs.Common.{map, drop, ◌++◌, List}
 use Rattle.std.specs.List.{AllByRecursion}
 use Rattle.av_flat.specs.Trees.{Piece, view_piece}
-use Rattle.av_normal.specs.Sifted.{AreSifted, IsInside}
+use Rattle.av_normal.specs.inner.Sifted.{AreSifted, IsInside}
 use Rattle.av_normal.proofs.sift.pieces_within.Given as goal
 
 -- those kept so far, and what holds of those to come

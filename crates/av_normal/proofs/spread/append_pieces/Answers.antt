@@ -6,9 +6,9 @@ use Rattle.av_flat.specs.Trees.{Piece, view, view_piece}
 use Rattle.av_flat.specs.Pieces.{Part, parts, with_rows}
 use Rattle.av_flat.specs.Quantities.{of_set}
 use Rattle.av_normal.specs.NormalForm.{set_of}
-use Rattle.av_normal.specs.Numbered.{part_at, signatures_of}
+use Rattle.av_normal.specs.inner.Numbered.{part_at, signatures_of}
 use Rattle.av_normal.specs.Searches.{AreNarrow}
-use Rattle.av_normal.specs.Making.{parts_measured, held, StandsFor, AreMade, Continues}
+use Rattle.av_normal.specs.inner.Making.{parts_measured, held, StandsFor, AreMade, Continues}
 use Rattle.av_normal.proofs.Trying.{past, refused}
 use Rattle.av_normal.proofs.Making.{held_at, number_below, numbers_end, one_made, all_made}
 use Rattle.av_normal.proofs.spread.append_pieces.Goals as goal

@@ -1,8 +1,8 @@
 use Rattle.std.proofs.Common.{◌≡◌, ◌++◌, List, [], map, drop}
 use Rattle.av_flat.specs.Trees.{Piece, view, view_piece}
 use Rattle.av_flat.specs.Pieces.{parts, with_rows}
-use Rattle.av_normal.specs.Numbered.{signatures_of}
-use Rattle.av_normal.specs.Making.{parts_measured, StandsFor, AreMade, Continues}
+use Rattle.av_normal.specs.inner.Numbered.{signatures_of}
+use Rattle.av_normal.specs.inner.Making.{parts_measured, StandsFor, AreMade, Continues}
 use Rattle.av_normal.proofs.spread.append_pieces.Given as goal
 
 abbrev pub invariant-loop-number : goal.invariant-loop-number

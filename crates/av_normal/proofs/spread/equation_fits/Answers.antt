@@ -3,8 +3,8 @@ use Rattle.std.proofs.lemmas.Result.{err_from_is_err_and}
 use Rattle.av_flat.specs.declared.flat.Piece.{Piece as PieceMade}
 use Rattle.av_flat.specs.Trees.{Piece, view, view_piece}
 use Rattle.av_flat.specs.Quantities.{of_map, composed_maps}
-use Rattle.av_normal.specs.Standing.{StandsUnder}
-use Rattle.av_normal.specs.Making.{maps_measured}
+use Rattle.av_normal.specs.inner.Standing.{StandsUnder}
+use Rattle.av_normal.specs.inner.Making.{maps_measured}
 use Rattle.av_normal.proofs.Trying.{past, refused, next_stands}
 use Rattle.av_normal.proofs.Making.{all_at}
 use Rattle.av_normal.proofs.spread.equation_fits.Goals as goal

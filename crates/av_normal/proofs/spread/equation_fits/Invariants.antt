@@ -1,6 +1,6 @@
 use Rattle.std.proofs.Common.{map, drop}
 use Rattle.av_flat.specs.Trees.{view_piece}
-use Rattle.av_normal.specs.Making.{maps_measured, StandsFor}
+use Rattle.av_normal.specs.inner.Making.{maps_measured, StandsFor}
 use Rattle.av_normal.proofs.spread.equation_fits.Given as goal
 
 abbrev pub invariant-loop-piece : goal.invariant-loop-piece

@@ -5,9 +5,9 @@ use Rattle.av_flat.specs.Trees.{view}
 use Rattle.av_flat.specs.Pieces.{parts}
 use Rattle.av_flat.specs.Quantities.{of_set}
 use Rattle.av_normal.specs.NormalForm.{set_of}
-use Rattle.av_normal.specs.Numbered.{part_at, signatures_of}
+use Rattle.av_normal.specs.inner.Numbered.{part_at, signatures_of}
 use Rattle.av_normal.specs.Searches.{IsNarrow, IsWideOne}
-use Rattle.av_normal.specs.Making.{held}
+use Rattle.av_normal.specs.inner.Making.{held}
 use Rattle.av_normal.proofs.Filled.{same_set}
 use Rattle.av_normal.proofs.Searching.{wide_here}
 use Rattle.av_normal.proofs.spread.made_piece.Goals as goal

@@ -7,9 +7,9 @@ use Rattle.av_flat.specs.declared.flat.Piece.{Piece as PieceMade}
 use Rattle.av_flat.specs.Trees.{view, view_piece}
 use Rattle.av_flat.specs.Pieces.{parts, with_rows}
 use Rattle.av_flat.specs.Quantities.{Measured}
-use Rattle.av_normal.specs.Numbered.{signatures_of}
+use Rattle.av_normal.specs.inner.Numbered.{signatures_of}
 use Rattle.av_normal.specs.Searches.{AreNarrow, IsWide}
-use Rattle.av_normal.specs.Making.{parts_measured, held_parts, StandsFor, AreMade, AreAdded, IsParted, Continues}
+use Rattle.av_normal.specs.inner.Making.{parts_measured, held_parts, StandsFor, AreMade, AreAdded, IsParted, Continues}
 use Rattle.av_normal.proofs.Dropping.{next_item, nothing_left}
 use Rattle.av_normal.proofs.Filled.{same_set}
 use Rattle.av_normal.proofs.Trying.{past, refused, next_stands, parts_append}

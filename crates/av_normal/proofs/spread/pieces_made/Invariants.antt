@@ -1,7 +1,7 @@
 use Rattle.std.proofs.Common.{map, drop}
 use Rattle.av_flat.specs.Trees.{view_piece}
-use Rattle.av_normal.specs.Numbered.{signatures_of}
-use Rattle.av_normal.specs.Making.{parts_measured, held_parts, StandsFor, AreMade, Continues}
+use Rattle.av_normal.specs.inner.Numbered.{signatures_of}
+use Rattle.av_normal.specs.inner.Making.{parts_measured, held_parts, StandsFor, AreMade, Continues}
 use Rattle.av_normal.proofs.spread.pieces_made.Given as goal
 
 abbrev pub invariant-loop-piece : goal.invariant-loop-piece

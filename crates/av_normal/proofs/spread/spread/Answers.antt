@@ -7,10 +7,10 @@ use Rattle.av_flat.specs.Trees.{Variable, view_variable, view_system}
 use Rattle.av_flat.specs.Signatures.{signatures}
 use Rattle.av_flat.specs.WellFormed.{IsWellFormedVariable}
 use Rattle.av_flat.specs.Quantities.{measured}
-use Rattle.av_normal.specs.Counted.{HasFew}
+use Rattle.av_normal.specs.inner.Counted.{HasFew}
 use Rattle.av_normal.specs.Searches.{AreNarrow, IsWide}
-use Rattle.av_normal.specs.Making.{Continues}
-use Rattle.av_normal.specs.Spread.{AreSpread}
+use Rattle.av_normal.specs.inner.Making.{Continues}
+use Rattle.av_normal.specs.inner.Spread.{AreSpread}
 use Rattle.av_normal.proofs.Dropping.{next_item, nothing_left}
 use Rattle.av_normal.proofs.Trying.{past, refused, next_stands, narrow_sets, wide_in}
 use Rattle.av_normal.proofs.Making.{all_at, one_made, all_made}

@@ -3,8 +3,8 @@ use Rattle.std.specs.List.{flat_map}
 use Rattle.av_flat.specs.Trees.{view_variable, view_system}
 use Rattle.av_flat.specs.Signatures.{signatures}
 use Rattle.av_flat.specs.Quantities.{measured}
-use Rattle.av_normal.specs.Making.{StandsFor, Continues}
-use Rattle.av_normal.specs.Spread.{AreSpread}
+use Rattle.av_normal.specs.inner.Making.{StandsFor, Continues}
+use Rattle.av_normal.specs.inner.Spread.{AreSpread}
 use Rattle.av_normal.proofs.spread.spread.Given as goal
 
 abbrev pub invariant-loop-var : goal.invariant-loop-var

@@ -6,8 +6,8 @@ use Rattle.av_flat.specs.Trees.{Piece, view_piece}
 use Rattle.av_flat.specs.Pieces.{Part, filled}
 use Rattle.av_flat.specs.Quantities.{of_set, body_sets}
 use Rattle.av_normal.specs.Searches.{AreNarrow}
-use Rattle.av_normal.specs.Making.{bodies_measured, filled_part, StandsFor, IsHolder, Continues}
-use Rattle.av_normal.specs.Spread.{AreSpreadParts}
+use Rattle.av_normal.specs.inner.Making.{bodies_measured, filled_part, StandsFor, IsHolder, Continues}
+use Rattle.av_normal.specs.inner.Spread.{AreSpreadParts}
 use Rattle.av_normal.proofs.Trying.{past, refused}
 use Rattle.av_normal.proofs.Making.{all_at, made_at, parts_end, one_made, all_made}
 use Rattle.av_normal.proofs.spread.trees_filled.Goals as goal

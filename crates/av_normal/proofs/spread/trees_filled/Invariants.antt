@@ -1,8 +1,8 @@
 use Rattle.std.proofs.Common.{ℕ, List, map, drop}
 use Rattle.av_flat.specs.Trees.{view_piece}
 use Rattle.av_flat.specs.Pieces.{Part}
-use Rattle.av_normal.specs.Making.{bodies_measured, filled_part, StandsFor, AreMade, Continues}
-use Rattle.av_normal.specs.Spread.{AreSpreadParts}
+use Rattle.av_normal.specs.inner.Making.{bodies_measured, filled_part, StandsFor, AreMade, Continues}
+use Rattle.av_normal.specs.inner.Spread.{AreSpreadParts}
 use Rattle.av_normal.proofs.spread.trees_filled.Given as goal
 
 abbrev pub invariant-loop-piece : goal.invariant-loop-piece

@@ -1,5 +1,5 @@
 use Rattle.std.proofs.Common.{◌≡◌, drop}
-use Rattle.av_vread.specs.Scoped.{texts}
+use Rattle.av_vread.specs.inner.Scoped.{texts}
 use Rattle.av_net.specs.Rows.{first_repeated}
 use Rattle.av_vread.proofs.rows.first_repeated.Given as goal
 

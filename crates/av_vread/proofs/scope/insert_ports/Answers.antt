@@ -1,6 +1,6 @@
 use Rattle.std.proofs.Common.{List, ◌++◌, refl}
 use Rattle.av_net.specs.declared.netlist.Port.{Port}
-use Rattle.av_vread.specs.Scoped.{width_found}
+use Rattle.av_vread.specs.inner.Scoped.{width_found}
 use Rattle.av_vread.proofs.Walks.{width_put}
 use Rattle.av_vread.proofs.RowWalks.{widths_more}
 use Rattle.av_vread.proofs.scope.insert_ports.Goals as goal

@@ -1,5 +1,5 @@
 use Rattle.std.proofs.Common.{◌≡◌, ◌++◌, drop}
-use Rattle.av_vread.specs.Scoped.{Bytes, width_found}
+use Rattle.av_vread.specs.inner.Scoped.{Bytes, width_found}
 use Rattle.av_vread.proofs.scope.insert_ports.Given as goal
 
 abbrev pub invariant-loop-port : goal.invariant-loop-port

@@ -1,5 +1,5 @@
 use Rattle.std.proofs.Common.{take}
-use Rattle.av_names.specs.Seen.{SameNames}
+use Rattle.av_names.specs.inner.Seen.{SameNames}
 use Rattle.av_names.proofs.name_set.NameSet.of.Given as goal
 
 abbrev pub invariant-loop-name : goal.invariant-loop-name

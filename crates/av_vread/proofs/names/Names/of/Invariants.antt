@@ -1,5 +1,5 @@
 use Rattle.std.proofs.Common.{◌≡◌, ◌++◌, drop}
-use Rattle.av_vread.specs.Scoped.{texts, Bytes}
+use Rattle.av_vread.specs.inner.Scoped.{texts, Bytes}
 use Rattle.av_net.specs.Rows.{is_in}
 use Rattle.av_vread.proofs.names.Names.of.Given as goal
 

@@ -6,8 +6,8 @@ use Rattle.av_flat.specs.Trees.{Tree, Trees}
 use Rattle.av_flat.specs.Signatures.{Signature}
 use Rattle.av_flat.specs.Pieces.{parts, parts_of_all}
 use Rattle.av_flat.specs.Quantities.{piece_count, piece_count_of_all}
-use Rattle.av_normal.specs.Numbered.{part_at}
-use Rattle.av_normal.specs.Standing.{AreReadable}
+use Rattle.av_normal.specs.inner.Numbered.{part_at}
+use Rattle.av_normal.specs.inner.Standing.{AreReadable}
 
 -- where there is a part with this number, its rows were put behind the old ones, and its tree was made
 abbrev pub IsPartAt : List Signature → List Map → Tree → ℕ → List Form → List Form → Tree → Type 0

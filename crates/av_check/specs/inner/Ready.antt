@@ -8,8 +8,8 @@ use Rattle.av_flat.specs.Trees.{Variable, right_side}
 use Rattle.av_flat.specs.Signatures.{Signature}
 use Rattle.av_flat.specs.Counts.{count}
 use Rattle.av_check.specs.Wrong.{IsWrongAt}
-use Rattle.av_check.specs.Having.{having, IsOrdinary}
-use Rattle.av_check.specs.Standing.{StandsInside}
+use Rattle.av_check.specs.inner.Having.{having, IsOrdinary}
+use Rattle.av_check.specs.inner.Standing.{StandsInside}
 
 -- the domain is small, trees stand at its points, and as many words are there as kept pieces
 pub record IsReady (vs : List Signature) (v kept : Variable) : Type 0 where

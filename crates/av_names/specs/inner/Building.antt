@@ -9,10 +9,10 @@ use Rattle.av_tree.specs.Domains.{variables, context}
 use Rattle.av_tree.specs.Counts.{Instance}
 use Rattle.av_names.specs.declared.flatten.Tables.{Tables}
 use Rattle.av_names.specs.declared.flat_system.Names.{Names}
-use Rattle.av_names.specs.Fitting.{FitsRows, FitsIn}
+use Rattle.av_names.specs.inner.Fitting.{FitsRows, FitsIn}
 use Rattle.av_names.specs.Flattened.{equation_of, place_of}
 use Rattle.av_names.specs.Forms.{over}
-use Rattle.av_names.specs.Sums.{sizes_in, HasSmallValues}
+use Rattle.av_names.specs.inner.Sums.{sizes_in, HasSmallValues}
 
 -- the place that a table has for a name, or else this one
 abbrev pub place_or : {S : Type 0} → ℕ → HashMap (Bor Text) ℕ S → Text → ℕ

@@ -5,7 +5,7 @@ use Rattle.std.specs.Ordering.{int_eq}
 use Rattle.std.specs.Int.{int_max, int_min, int_div_euclid}
 use Rattle.av_poly.specs.Rational.{IsRationalPoint, IsDirection, IsWithinBounds, entry_of}
 use Rattle.av_elim.specs.declared.span.Span.{Span}
-use Rattle.av_elim.specs.Rows.{factor}
+use Rattle.av_elim.specs.inner.Rows.{factor}
 
 abbrev pub higher : Option ℤ → ℤ → ℤ
 higher None x = x

@@ -3,7 +3,7 @@
 use Rattle.std.specs.Prelude.{ℕ, zero, suc, ◌^◌, ◌*◌, ℤ, pos, cond, List, [], ◌∷◌, ◌++◌, int_lt}
 use Rattle.std.specs.Ordering.{int_eq}
 use Rattle.std.proofs.Math.IntN.{neg_ℤ}
-use Rattle.av_elim.specs.Rows.{combine, factor}
+use Rattle.av_elim.specs.inner.Rows.{combine, factor}
 
 -- the combination of a row that bounds place k from below and one that bounds it from above
 abbrev pub combination : ℕ → List ℤ → List ℤ → List ℤ
