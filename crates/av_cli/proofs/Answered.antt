@@ -1,5 +1,5 @@
 -- How the program's clauses follow from what its steps did.
-use Rattle.std.proofs.Common.{◌≡◌, ◌≢◌, ℕ, ◌<◌, ◌≤◌, List, ◌∷◌, ◌++◌, length, length-append, codes, Option, Some, None, refl, sym, ◌∙◌, ap, subst, inl, inr, arith}
+use Rattle.std.proofs.Common.{◌≡◌, ◌≢◌, ℕ, ◌<◌, ◌≤◌, true, false, List, ◌∷◌, ◌++◌, length, length-append, codes, Option, Some, None, refl, sym, ◌∙◌, ap, subst, inl, inr, arith, true≢false}
 use Rattle.std.specs.Prelude.{IfSome, slice_index_or}
 use Rattle.std.proofs.lemmas.List.{append-nil}
 use Rattle.av_base.specs.Outside.{Takes, TakesMore, IsAtEnd, HasRisen}
@@ -16,9 +16,9 @@ use Rattle.av_cli.specs.declared.status.Status.{Status}
 use Rattle.av_cli.specs.declared.status.Status.TheVariants.{Done, Refused, Words, ReadFault, WriteFault, Memory}
 use Rattle.av_cli.specs.declared.program.TheConstants.{LIMIT}
 use Rattle.av_cli.specs.declared.words.Command.{Command}
-use Rattle.av_cli.specs.declared.words.Command.TheVariants.{Check, Schedule, Table, Emit, Sim}
-use Rattle.av_cli.specs.Commands.{Asks, IsCheck, IsSchedule, IsTable, IsEmit, IsSim, AreRead}
-use Rattle.av_cli.specs.CommandsSeen.{Are}
+use Rattle.av_cli.specs.declared.words.Command.TheVariants.{Check, Schedule, Table, Emit, Run, Trace, Sim, Demo}
+use Rattle.av_cli.specs.Commands.{Asks, IsCheck, IsSchedule, IsTable, IsEmit, IsRun, IsTrace, IsSim, IsDemo, TakeInput, AskDemo, AreRead}
+use Rattle.av_cli.specs.CommandsSeen.{Are, takes_input}
 use Rattle.av_cli.specs.Refusals.{refusal_line}
 use Rattle.av_cli.specs.Sims.{RefusesSim, no_mark, bad_text, bad_stimulus, GivesSim}
 use Rattle.av_cli.specs.Asked.{Refuses, Gives}
@@ -28,38 +28,61 @@ use Rattle.av_cli.specs.Checks.{RefusesCheck, GivesCheck}
 use Rattle.av_cli.specs.Emits.{RefusesEmit, GivesEmit}
 use Rattle.av_cli.specs.Schedules.{RefusesSchedule, GivesSchedule}
 use Rattle.av_cli.specs.Tables.{RefusesTable, GivesTable}
+use Rattle.av_cli.specs.Runs.{RefusesRun, GivesResults, GivesTrace}
 use Rattle.av_cli.proofs.Checking.{exclusive_check}
 use Rattle.av_cli.proofs.Scheduling.{exclusive_schedule}
 use Rattle.av_cli.proofs.Tabling.{exclusive_table}
 use Rattle.av_cli.proofs.Emitting.{exclusive_emit}
+use Rattle.av_cli.proofs.Reporting.{exclusive_run}
 use Rattle.av_cli.proofs.GivenSizes.{one_asked}
 use Rattle.av_cli.proofs.Presenting.{given_distinct}
 
+pub input_of : (command : Command) (words : List (List ℕ)) → Are command words → takes_input command ≡ true → TakeInput words
+input_of (Check width) words (sizes, are) t = inr (inr (inl (width.bits, sizes, are)))
+input_of (Schedule width reach) words (sizes, are) t = inr (inr (inr (inl (width.bits, reach.size, sizes, are))))
+input_of (Table width reach) words (sizes, are) t = inr (inr (inr (inr (inl (width.bits, reach.size, sizes, are)))))
+input_of (Run width reach) words (sizes, are) t = inr (inr (inr (inr (inr (inl (width.bits, reach.size, sizes, are))))))
+input_of (Trace width reach) words (sizes, are) t = inr (inr (inr (inr (inr (inr (width.bits, reach.size, sizes, are))))))
+input_of (Emit width reach) words (sizes, are) t = inl (width.bits, reach.size, sizes, are)
+input_of Sim words are t = inr (inl are)
+input_of (Demo width reach k) words are t = absurd (true≢false (sym t))
+
 pub read_of : (command : Command) (words : List (List ℕ)) → Are command words → AreRead words
-read_of (Check width) words (sizes, are) = inr (inr (inl (width.bits, sizes, are)))
-read_of (Schedule width reach) words (sizes, are) = inr (inr (inr (inl (width.bits, reach.size, sizes, are))))
-read_of (Table width reach) words (sizes, are) = inr (inr (inr (inr (width.bits, reach.size, sizes, are))))
-read_of (Emit width reach) words (sizes, are) = inl (width.bits, reach.size, sizes, are)
-read_of Sim words are = inr (inl are)
+read_of (Check width) words are = inl (input_of (Check width) words are refl)
+read_of (Schedule width reach) words are = inl (input_of (Schedule width reach) words are refl)
+read_of (Table width reach) words are = inl (input_of (Table width reach) words are refl)
+read_of (Run width reach) words are = inl (input_of (Run width reach) words are refl)
+read_of (Trace width reach) words are = inl (input_of (Trace width reach) words are refl)
+read_of (Emit width reach) words are = inl (input_of (Emit width reach) words are refl)
+read_of Sim words are = inl (input_of Sim words are refl)
+read_of (Demo width reach k) words are = inr (width.bits, reach.size, k, are)
 
 refusal_of : (command : Command) (words : List (List ℕ)) (bytes reason : List ℕ) → Are command words → length bytes ≤ LIMIT → Refuses command words bytes reason → IsRefused words bytes reason
 refusal_of (Check width) words bytes reason are within (sizes, is, r) = inr (inr (inr (inl (within, (width.bits, sizes, is, r)))))
 refusal_of (Schedule width reach) words bytes reason are within (sizes, is, r) = inr (inr (inr (inr (inl (within, (width.bits, reach.size, sizes, is, r))))))
-refusal_of (Table width reach) words bytes reason are within (sizes, is, r) = inr (inr (inr (inr (inr (within, (width.bits, reach.size, sizes, is, r))))))
+refusal_of (Table width reach) words bytes reason are within (sizes, is, r) = inr (inr (inr (inr (inr (inl (within, (width.bits, reach.size, sizes, is, r)))))))
+refusal_of (Run width reach) words bytes reason are within (sizes, is, r) = inr (inr (inr (inr (inr (inr (inl (within, (width.bits, reach.size, sizes, is, r))))))))
+refusal_of (Trace width reach) words bytes reason are within (sizes, is, r) = inr (inr (inr (inr (inr (inr (inr (within, (width.bits, reach.size, sizes, is, r))))))))
 refusal_of (Emit width reach) words bytes reason are within (sizes, is, r) = inr (inl (within, (width.bits, reach.size, sizes, is, r)))
 refusal_of Sim words bytes reason are within r = inr (inr (inl (within, are, r)))
+refusal_of (Demo width reach k) words bytes reason are within r = absurd r
 
-writes_output : (command : Command) (words : List (List ℕ)) (left left' : Option (List ℕ)) (bytes out : List ℕ) → Are command words → Takes left left' bytes → IsAtEnd left' → length bytes ≤ LIMIT → Gives command words bytes out
-    → Writes Done words left left' out
-writes_output (Check w) words left left' bytes out are takes end within (sizes, is, g) =
+writes_output : (command : Command) (words : List (List ℕ)) (left left' : Option (List ℕ)) (bytes out : List ℕ) → Are command words → takes_input command ≡ true → Takes left left' bytes → IsAtEnd left' → length bytes ≤ LIMIT
+    → Gives command words bytes out → Writes Done words left left' out
+writes_output (Check w) words left left' bytes out are t takes end within (sizes, is, g) =
     inr (inr (inl (record { bits = w.bits; sizes = sizes; read = is; taken = bytes; takes = takes; whole = end; within = within; gives = g })))
-writes_output (Schedule w r) words left left' bytes out are takes end within (sizes, is, g) =
+writes_output (Schedule w r) words left left' bytes out are t takes end within (sizes, is, g) =
     inr (inr (inr (inl (record { bits = w.bits; box = r.size; sizes = sizes; read = is; taken = bytes; takes = takes; whole = end; within = within; gives = g }))))
-writes_output (Table w r) words left left' bytes out are takes end within (sizes, is, g) =
-    inr (inr (inr (inr (record { bits = w.bits; box = r.size; sizes = sizes; read = is; taken = bytes; takes = takes; whole = end; within = within; gives = g }))))
-writes_output (Emit w r) words left left' bytes out are takes end within (sizes, is, g) =
+writes_output (Table w r) words left left' bytes out are t takes end within (sizes, is, g) =
+    inr (inr (inr (inr (inl (record { bits = w.bits; box = r.size; sizes = sizes; read = is; taken = bytes; takes = takes; whole = end; within = within; gives = g })))))
+writes_output (Run w r) words left left' bytes out are t takes end within (sizes, is, g) =
+    inr (inr (inr (inr (inr (inl (record { bits = w.bits; box = r.size; sizes = sizes; read = is; taken = bytes; takes = takes; whole = end; within = within; gives = g }))))))
+writes_output (Trace w r) words left left' bytes out are t takes end within (sizes, is, g) =
+    inr (inr (inr (inr (inr (inr (inl (record { bits = w.bits; box = r.size; sizes = sizes; read = is; taken = bytes; takes = takes; whole = end; within = within; gives = g })))))))
+writes_output (Emit w r) words left left' bytes out are t takes end within (sizes, is, g) =
     inl (record { bits = w.bits; box = r.size; sizes = sizes; read = is; taken = bytes; takes = takes; whole = end; within = within; gives = g })
-writes_output Sim words left left' bytes out are takes end within g = inr (inl (record { read = are; taken = bytes; takes = takes; whole = end; within = within; gives = g }))
+writes_output Sim words left left' bytes out are t takes end within g = inr (inl (record { read = are; taken = bytes; takes = takes; whole = end; within = within; gives = g }))
+writes_output (Demo w r k) words left left' bytes out are t takes end within g = absurd (true≢false (sym t))
 
 -- ---- refused or given, and not both
 
@@ -72,6 +95,9 @@ begins name words bits box sizes is = (is.rest, is.first)
 
 begins_sim : (words : List (List ℕ)) → IsSim words → Begins (codes "sim") words
 begins_sim words is = (is.rest, is.first)
+
+begins_demo : (words : List (List ℕ)) (bits box k : ℕ) → IsDemo words bits box k → Begins (codes "demo") words
+begins_demo words bits box k is = (is.before ++ (is.word ∷ is.after), is.parts)
 
 same_name : (a b : List ℕ) (words : List (List ℕ)) → Begins a words → Begins b words → a ≡ b
 same_name a b words (rest, p) (more, q) =
@@ -104,53 +130,68 @@ exclude : (name : List ℕ) (words : List (List ℕ)) (bytes : List ℕ) → Beg
     → (codes "check" ≡ name → (bits : ℕ) (sizes : List Size) → IsCheck words bits sizes → (reason : List ℕ) → RefusesCheck sizes bits bytes reason → ⊥)
     → (codes "schedule" ≡ name → (bits box : ℕ) (sizes : List Size) → IsSchedule words bits box sizes → (reason : List ℕ) → RefusesSchedule sizes bits box bytes reason → ⊥)
     → (codes "table" ≡ name → (bits box : ℕ) (sizes : List Size) → IsTable words bits box sizes → (reason : List ℕ) → RefusesTable sizes bits box bytes reason → ⊥)
+    → (codes "run" ≡ name → (bits box : ℕ) (sizes : List Size) → IsRun words bits box sizes → (reason : List ℕ) → RefusesRun sizes bits box bytes reason → ⊥)
+    → (codes "trace" ≡ name → (bits box : ℕ) (sizes : List Size) → IsTrace words bits box sizes → (reason : List ℕ) → RefusesRun sizes bits box bytes reason → ⊥)
     → HasRefusal words bytes → ⊥
-exclude name words bytes is within emit sim check schedule table (reason, inl (long, e)) = omega arith
-exclude name words bytes is within emit sim check schedule table (reason, inr (inl (short, (bits, box, sizes, other, r)))) =
+exclude name words bytes is within emit sim check schedule table run trace (reason, inl (long, input, e)) = absurd (omega (arith, long, within))
+exclude name words bytes is within emit sim check schedule table run trace (reason, inr (inl (short, (bits, box, sizes, other, r)))) =
     emit (same_name (codes "emit") name words (begins (codes "emit") words bits box sizes other) is) bits box sizes other reason r
-exclude name words bytes is within emit sim check schedule table (reason, inr (inr (inl (short, other, r)))) = sim (same_name (codes "sim") name words (begins_sim words other) is) reason r
-exclude name words bytes is within emit sim check schedule table (reason, inr (inr (inr (inl (short, (bits, sizes, other, r)))))) =
+exclude name words bytes is within emit sim check schedule table run trace (reason, inr (inr (inl (short, other, r)))) = sim (same_name (codes "sim") name words (begins_sim words other) is) reason r
+exclude name words bytes is within emit sim check schedule table run trace (reason, inr (inr (inr (inl (short, (bits, sizes, other, r)))))) =
     check (same_name (codes "check") name words (begins (codes "check") words bits other.0 sizes other.1) is) bits sizes other reason r
-exclude name words bytes is within emit sim check schedule table (reason, inr (inr (inr (inr (inl (short, (bits, box, sizes, other, r))))))) =
+exclude name words bytes is within emit sim check schedule table run trace (reason, inr (inr (inr (inr (inl (short, (bits, box, sizes, other, r))))))) =
     schedule (same_name (codes "schedule") name words (begins (codes "schedule") words bits box sizes other) is) bits box sizes other reason r
-exclude name words bytes is within emit sim check schedule table (reason, inr (inr (inr (inr (inr (short, (bits, box, sizes, other, r))))))) =
+exclude name words bytes is within emit sim check schedule table run trace (reason, inr (inr (inr (inr (inr (inl (short, (bits, box, sizes, other, r)))))))) =
     table (same_name (codes "table") name words (begins (codes "table") words bits box sizes other) is) bits box sizes other reason r
+exclude name words bytes is within emit sim check schedule table run trace (reason, inr (inr (inr (inr (inr (inr (inl (short, (bits, box, sizes, other, r))))))))) =
+    run (same_name (codes "run") name words (begins (codes "run") words bits box sizes other) is) bits box sizes other reason r
+exclude name words bytes is within emit sim check schedule table run trace (reason, inr (inr (inr (inr (inr (inr (inr (short, (bits, box, sizes, other, r))))))))) =
+    trace (same_name (codes "trace") name words (begins (codes "trace") words bits box sizes other) is) bits box sizes other reason r
 
--- the names of two commands differ in their first letter
-table_no_check : codes "table" ≡ codes "check" → ⊥
-table_no_check e = let f : 116 ≡ 99 = ap (λ (l : List ℕ). slice_index_or l 0 0) e in omega (arith, f)
-
-check_no_table : codes "check" ≡ codes "table" → ⊥
-check_no_table e = table_no_check (sym e)
+-- names that differ in a letter differ
+letter : (k : ℕ) (a b : List ℕ) → (slice_index_or a k 0 ≡ slice_index_or b k 0 → ⊥) → a ≡ b → ⊥
+letter k a b differ e = differ (ap (λ (l : List ℕ). slice_index_or l k 0) e)
 
 exclude_check : (words : List (List ℕ)) (bits : ℕ) (bytes out : List ℕ) (sizes : List Size) → IsCheck words bits sizes → length bytes ≤ LIMIT → GivesCheck sizes bits bytes out → HasRefusal words bytes → ⊥
 exclude_check words bits bytes out sizes is within g refusal =
-    exclude (codes "check") words bytes (begins (codes "check") words bits is.0 sizes is.1) within (λ e. cc) (λ e. cc)
+    exclude (codes "check") words bytes (begins (codes "check") words bits is.0 sizes is.1) within
+    (λ e. absurd (letter 0 (codes "emit") (codes "check") (λ (f : 101 ≡ 99). omega (arith, f)) e))
+    (λ e. absurd (letter 0 (codes "sim") (codes "check") (λ (f : 115 ≡ 99). omega (arith, f)) e))
     (λ _ n others other reason r.
     let (same_bits, _, same_sizes) = one_asked (codes "check") words bits n is.0 other.0 sizes others is.1 other.1 in
     exclusive_check others n bytes reason out r (subst (λ (m : ℕ). GivesCheck others m bytes out) same_bits (subst (λ (xs : List Size). GivesCheck xs bits bytes out) same_sizes g)))
-    (λ e. cc) (λ e. absurd (table_no_check e))
+    (λ e. absurd (letter 0 (codes "schedule") (codes "check") (λ (f : 115 ≡ 99). omega (arith, f)) e))
+    (λ e. absurd (letter 0 (codes "table") (codes "check") (λ (f : 116 ≡ 99). omega (arith, f)) e))
+    (λ e. absurd (letter 0 (codes "run") (codes "check") (λ (f : 114 ≡ 99). omega (arith, f)) e))
+    (λ e. absurd (letter 0 (codes "trace") (codes "check") (λ (f : 116 ≡ 99). omega (arith, f)) e))
     refusal
 
-exclude_schedule : (words : List (List ℕ)) (bits box : ℕ) (bytes out : List ℕ) (sizes : List Size) → IsSchedule words bits box sizes → length bytes ≤ LIMIT → GivesSchedule sizes bits box bytes out → HasRefusal words bytes
-    → ⊥
+exclude_schedule : (words : List (List ℕ)) (bits box : ℕ) (bytes out : List ℕ) (sizes : List Size) → IsSchedule words bits box sizes → length bytes ≤ LIMIT → GivesSchedule sizes bits box bytes out → HasRefusal words bytes → ⊥
 exclude_schedule words bits box bytes out sizes is within g refusal =
-    exclude (codes "schedule") words bytes (begins (codes "schedule") words bits box sizes is) within (λ e. cc) (λ e. cc) (λ e. cc)
+    exclude (codes "schedule") words bytes (begins (codes "schedule") words bits box sizes is) within
+    (λ e. absurd (letter 0 (codes "emit") (codes "schedule") (λ (f : 101 ≡ 115). omega (arith, f)) e))
+    (λ e. absurd (letter 1 (codes "sim") (codes "schedule") (λ (f : 105 ≡ 99). omega (arith, f)) e))
+    (λ e. absurd (letter 0 (codes "check") (codes "schedule") (λ (f : 99 ≡ 115). omega (arith, f)) e))
     (λ _ n c others other reason r.
     let (same_bits, same_box, same_sizes) = one_asked (codes "schedule") words bits n box c sizes others is other in
-    exclusive_schedule others n c bytes reason out r
-    (subst (λ (m : ℕ). GivesSchedule others m c bytes out) same_bits (subst (λ (m : ℕ). GivesSchedule others bits m bytes out) same_box (subst (λ (xs : List Size). GivesSchedule xs bits box bytes out) same_sizes g))))
-    (λ e. cc)
+    exclusive_schedule others n c bytes reason out r (subst (λ (m : ℕ). GivesSchedule others m c bytes out) same_bits (subst (λ (m : ℕ). GivesSchedule others bits m bytes out) same_box (subst (λ (xs : List Size). GivesSchedule xs bits box bytes out) same_sizes g))))
+    (λ e. absurd (letter 0 (codes "table") (codes "schedule") (λ (f : 116 ≡ 115). omega (arith, f)) e))
+    (λ e. absurd (letter 0 (codes "run") (codes "schedule") (λ (f : 114 ≡ 115). omega (arith, f)) e))
+    (λ e. absurd (letter 0 (codes "trace") (codes "schedule") (λ (f : 116 ≡ 115). omega (arith, f)) e))
     refusal
 
-exclude_table : (words : List (List ℕ)) (bits box : ℕ) (bytes out : List ℕ) (sizes : List Size) → IsTable words bits box sizes → length bytes ≤ LIMIT → GivesTable sizes bits box bytes out → HasRefusal words bytes
-    → ⊥
+exclude_table : (words : List (List ℕ)) (bits box : ℕ) (bytes out : List ℕ) (sizes : List Size) → IsTable words bits box sizes → length bytes ≤ LIMIT → GivesTable sizes bits box bytes out → HasRefusal words bytes → ⊥
 exclude_table words bits box bytes out sizes is within g refusal =
-    exclude (codes "table") words bytes (begins (codes "table") words bits box sizes is) within (λ e. cc) (λ e. cc) (λ e. absurd (check_no_table e)) (λ e. cc)
+    exclude (codes "table") words bytes (begins (codes "table") words bits box sizes is) within
+    (λ e. absurd (letter 0 (codes "emit") (codes "table") (λ (f : 101 ≡ 116). omega (arith, f)) e))
+    (λ e. absurd (letter 0 (codes "sim") (codes "table") (λ (f : 115 ≡ 116). omega (arith, f)) e))
+    (λ e. absurd (letter 0 (codes "check") (codes "table") (λ (f : 99 ≡ 116). omega (arith, f)) e))
+    (λ e. absurd (letter 0 (codes "schedule") (codes "table") (λ (f : 115 ≡ 116). omega (arith, f)) e))
     (λ _ n c others other reason r.
     let (same_bits, same_box, same_sizes) = one_asked (codes "table") words bits n box c sizes others is other in
-    exclusive_table others n c bytes reason out r
-    (subst (λ (m : ℕ). GivesTable others m c bytes out) same_bits (subst (λ (m : ℕ). GivesTable others bits m bytes out) same_box (subst (λ (xs : List Size). GivesTable xs bits box bytes out) same_sizes g))))
+    exclusive_table others n c bytes reason out r (subst (λ (m : ℕ). GivesTable others m c bytes out) same_bits (subst (λ (m : ℕ). GivesTable others bits m bytes out) same_box (subst (λ (xs : List Size). GivesTable xs bits box bytes out) same_sizes g))))
+    (λ e. absurd (letter 0 (codes "run") (codes "table") (λ (f : 114 ≡ 116). omega (arith, f)) e))
+    (λ e. absurd (letter 1 (codes "trace") (codes "table") (λ (f : 114 ≡ 97). omega (arith, f)) e))
     refusal
 
 exclude_emit : (words : List (List ℕ)) (bits box : ℕ) (bytes out : List ℕ) (sizes : List Size) → IsEmit words bits box sizes → length bytes ≤ LIMIT → GivesEmit sizes bits box bytes out → HasRefusal words bytes → ⊥
@@ -158,18 +199,90 @@ exclude_emit words bits box bytes out sizes is within g refusal =
     exclude (codes "emit") words bytes (begins (codes "emit") words bits box sizes is) within
     (λ _ n c others other reason r.
     let (same_bits, same_box, same_sizes) = one_asked (codes "emit") words bits n box c sizes others is other in
-    exclusive_emit others n c bytes reason out r
-    (subst (λ (m : ℕ). GivesEmit others m c bytes out) same_bits (subst (λ (m : ℕ). GivesEmit others bits m bytes out) same_box (subst (λ (xs : List Size). GivesEmit xs bits box bytes out) same_sizes g))))
-    (λ e. cc) (λ e. cc) (λ e. cc) (λ e. cc)
+    exclusive_emit others n c bytes reason out r (subst (λ (m : ℕ). GivesEmit others m c bytes out) same_bits (subst (λ (m : ℕ). GivesEmit others bits m bytes out) same_box (subst (λ (xs : List Size). GivesEmit xs bits box bytes out) same_sizes g))))
+    (λ e. absurd (letter 0 (codes "sim") (codes "emit") (λ (f : 115 ≡ 101). omega (arith, f)) e))
+    (λ e. absurd (letter 0 (codes "check") (codes "emit") (λ (f : 99 ≡ 101). omega (arith, f)) e))
+    (λ e. absurd (letter 0 (codes "schedule") (codes "emit") (λ (f : 115 ≡ 101). omega (arith, f)) e))
+    (λ e. absurd (letter 0 (codes "table") (codes "emit") (λ (f : 116 ≡ 101). omega (arith, f)) e))
+    (λ e. absurd (letter 0 (codes "run") (codes "emit") (λ (f : 114 ≡ 101). omega (arith, f)) e))
+    (λ e. absurd (letter 0 (codes "trace") (codes "emit") (λ (f : 116 ≡ 101). omega (arith, f)) e))
     refusal
+
+exclude_run : (words : List (List ℕ)) (bits box : ℕ) (bytes out : List ℕ) (sizes : List Size) → IsRun words bits box sizes → length bytes ≤ LIMIT → GivesResults sizes bits box bytes out → HasRefusal words bytes → ⊥
+exclude_run words bits box bytes out sizes is within g refusal =
+    exclude (codes "run") words bytes (begins (codes "run") words bits box sizes is) within
+    (λ e. absurd (letter 0 (codes "emit") (codes "run") (λ (f : 101 ≡ 114). omega (arith, f)) e))
+    (λ e. absurd (letter 0 (codes "sim") (codes "run") (λ (f : 115 ≡ 114). omega (arith, f)) e))
+    (λ e. absurd (letter 0 (codes "check") (codes "run") (λ (f : 99 ≡ 114). omega (arith, f)) e))
+    (λ e. absurd (letter 0 (codes "schedule") (codes "run") (λ (f : 115 ≡ 114). omega (arith, f)) e))
+    (λ e. absurd (letter 0 (codes "table") (codes "run") (λ (f : 116 ≡ 114). omega (arith, f)) e))
+    (λ _ n c others other reason r.
+    let (same_bits, same_box, same_sizes) = one_asked (codes "run") words bits n box c sizes others is other in
+    (let h = (subst (λ (m : ℕ). GivesResults others m c bytes out) same_bits (subst (λ (m : ℕ). GivesResults others bits m bytes out) same_box (subst (λ (xs : List Size). GivesResults xs bits box bytes out) same_sizes g))) in exclusive_run others n c bytes reason h.timed h.cells h.design h.inputs r h.has))
+    (λ e. absurd (letter 0 (codes "trace") (codes "run") (λ (f : 116 ≡ 114). omega (arith, f)) e))
+    refusal
+
+exclude_trace : (words : List (List ℕ)) (bits box : ℕ) (bytes out : List ℕ) (sizes : List Size) → IsTrace words bits box sizes → length bytes ≤ LIMIT → GivesTrace sizes bits box bytes out → HasRefusal words bytes → ⊥
+exclude_trace words bits box bytes out sizes is within g refusal =
+    exclude (codes "trace") words bytes (begins (codes "trace") words bits box sizes is) within
+    (λ e. absurd (letter 0 (codes "emit") (codes "trace") (λ (f : 101 ≡ 116). omega (arith, f)) e))
+    (λ e. absurd (letter 0 (codes "sim") (codes "trace") (λ (f : 115 ≡ 116). omega (arith, f)) e))
+    (λ e. absurd (letter 0 (codes "check") (codes "trace") (λ (f : 99 ≡ 116). omega (arith, f)) e))
+    (λ e. absurd (letter 0 (codes "schedule") (codes "trace") (λ (f : 115 ≡ 116). omega (arith, f)) e))
+    (λ e. absurd (letter 1 (codes "table") (codes "trace") (λ (f : 97 ≡ 114). omega (arith, f)) e))
+    (λ e. absurd (letter 0 (codes "run") (codes "trace") (λ (f : 114 ≡ 116). omega (arith, f)) e))
+    (λ _ n c others other reason r.
+    let (same_bits, same_box, same_sizes) = one_asked (codes "trace") words bits n box c sizes others is other in
+    (let h = (subst (λ (m : ℕ). GivesTrace others m c bytes out) same_bits (subst (λ (m : ℕ). GivesTrace others bits m bytes out) same_box (subst (λ (xs : List Size). GivesTrace xs bits box bytes out) same_sizes g))) in exclusive_run others n c bytes reason h.timed h.cells h.design h.inputs r h.has))
+    refusal
+
+exclude_sim : (words : List (List ℕ)) (bytes out : List ℕ) → IsSim words → length bytes ≤ LIMIT → GivesSim bytes out → HasRefusal words bytes → ⊥
+exclude_sim words bytes out is within g refusal =
+    exclude (codes "sim") words bytes (begins_sim words is) within
+    (λ e. absurd (letter 0 (codes "emit") (codes "sim") (λ (f : 101 ≡ 115). omega (arith, f)) e))
+    (λ _ reason r. exclusive_sim bytes reason out r g)
+    (λ e. absurd (letter 0 (codes "check") (codes "sim") (λ (f : 99 ≡ 115). omega (arith, f)) e))
+    (λ e. absurd (letter 1 (codes "schedule") (codes "sim") (λ (f : 99 ≡ 105). omega (arith, f)) e))
+    (λ e. absurd (letter 0 (codes "table") (codes "sim") (λ (f : 116 ≡ 115). omega (arith, f)) e))
+    (λ e. absurd (letter 0 (codes "run") (codes "sim") (λ (f : 114 ≡ 115). omega (arith, f)) e))
+    (λ e. absurd (letter 0 (codes "trace") (codes "sim") (λ (f : 116 ≡ 115). omega (arith, f)) e))
+    refusal
+
+-- words that ask for a demo ask for nothing else
+pub demo_alone : (words : List (List ℕ)) → TakeInput words → AskDemo words → ⊥
+demo_alone words input (m, b, k, demo) = by input
+  where
+    is : Begins (codes "demo") words
+    is = begins_demo words m b k demo
+
+    by : TakeInput words → ⊥
+    by (inl (bits, box, sizes, other)) = letter 0 (codes "emit") (codes "demo") (λ (f : 101 ≡ 100). omega (arith, f)) (same_name (codes "emit") (codes "demo") words (begins (codes "emit") words bits box sizes other) is)
+    by (inr (inl other)) = letter 0 (codes "sim") (codes "demo") (λ (f : 115 ≡ 100). omega (arith, f)) (same_name (codes "sim") (codes "demo") words (begins_sim words other) is)
+    by (inr (inr (inl (bits, sizes, other)))) = letter 0 (codes "check") (codes "demo") (λ (f : 99 ≡ 100). omega (arith, f)) (same_name (codes "check") (codes "demo") words (begins (codes "check") words bits other.0 sizes other.1) is)
+    by (inr (inr (inr (inl (bits, box, sizes, other))))) = letter 0 (codes "schedule") (codes "demo") (λ (f : 115 ≡ 100). omega (arith, f)) (same_name (codes "schedule") (codes "demo") words (begins (codes "schedule") words bits box sizes other) is)
+    by (inr (inr (inr (inr (inl (bits, box, sizes, other)))))) = letter 0 (codes "table") (codes "demo") (λ (f : 116 ≡ 100). omega (arith, f)) (same_name (codes "table") (codes "demo") words (begins (codes "table") words bits box sizes other) is)
+    by (inr (inr (inr (inr (inr (inl (bits, box, sizes, other))))))) = letter 0 (codes "run") (codes "demo") (λ (f : 114 ≡ 100). omega (arith, f)) (same_name (codes "run") (codes "demo") words (begins (codes "run") words bits box sizes other) is)
+    by (inr (inr (inr (inr (inr (inr (bits, box, sizes, other))))))) = letter 0 (codes "trace") (codes "demo") (λ (f : 116 ≡ 100). omega (arith, f)) (same_name (codes "trace") (codes "demo") words (begins (codes "trace") words bits box sizes other) is)
+
+pub exclude_demo : (words : List (List ℕ)) (bytes : List ℕ) → AskDemo words → HasRefusal words bytes → ⊥
+exclude_demo words bytes demo (reason, inl (long, input, e)) = demo_alone words input demo
+exclude_demo words bytes demo (reason, inr (inl (short, (bits, box, sizes, other, r)))) = demo_alone words (inl (bits, box, sizes, other)) demo
+exclude_demo words bytes demo (reason, inr (inr (inl (short, other, r)))) = demo_alone words (inr (inl other)) demo
+exclude_demo words bytes demo (reason, inr (inr (inr (inl (short, (bits, sizes, other, r)))))) = demo_alone words (inr (inr (inl (bits, sizes, other)))) demo
+exclude_demo words bytes demo (reason, inr (inr (inr (inr (inl (short, (bits, box, sizes, other, r))))))) = demo_alone words (inr (inr (inr (inl (bits, box, sizes, other))))) demo
+exclude_demo words bytes demo (reason, inr (inr (inr (inr (inr (inl (short, (bits, box, sizes, other, r)))))))) = demo_alone words (inr (inr (inr (inr (inl (bits, box, sizes, other)))))) demo
+exclude_demo words bytes demo (reason, inr (inr (inr (inr (inr (inr (inl (short, (bits, box, sizes, other, r))))))))) = demo_alone words (inr (inr (inr (inr (inr (inl (bits, box, sizes, other))))))) demo
+exclude_demo words bytes demo (reason, inr (inr (inr (inr (inr (inr (inr (short, (bits, box, sizes, other, r))))))))) = demo_alone words (inr (inr (inr (inr (inr (inr (bits, box, sizes, other))))))) demo
 
 exclusive : (command : Command) (words : List (List ℕ)) (bytes out : List ℕ) → Are command words → length bytes ≤ LIMIT → Gives command words bytes out → HasRefusal words bytes → ⊥
 exclusive (Check width) words bytes out are within g refusal = exclude_check words width.bits bytes out g.0 g.1 within g.2 refusal
 exclusive (Schedule width reach) words bytes out are within g refusal = exclude_schedule words width.bits reach.size bytes out g.0 g.1 within g.2 refusal
 exclusive (Table width reach) words bytes out are within g refusal = exclude_table words width.bits reach.size bytes out g.0 g.1 within g.2 refusal
 exclusive (Emit width reach) words bytes out are within g refusal = exclude_emit words width.bits reach.size bytes out g.0 g.1 within g.2 refusal
-exclusive Sim words bytes out are within g refusal =
-    exclude (codes "sim") words bytes (begins_sim words are) within (λ e. cc) (λ _ reason r. exclusive_sim bytes reason out r g) (λ e. cc) (λ e. cc) (λ e. cc) refusal
+exclusive (Run width reach) words bytes out are within g refusal = exclude_run words width.bits reach.size bytes out g.0 g.1 within g.2 refusal
+exclusive (Trace width reach) words bytes out are within g refusal = exclude_trace words width.bits reach.size bytes out g.0 g.1 within g.2 refusal
+exclusive Sim words bytes out are within g refusal = exclude_sim words bytes out are within g refusal
+exclusive (Demo width reach k) words bytes out are within g refusal = exclude_demo words bytes (width.bits, reach.size, k, are) refusal
 
 -- ---- what was put
 
@@ -217,29 +330,29 @@ longer : (old rest taken : List ℕ) → old ≡ taken ++ rest → LIMIT < lengt
 longer old rest taken takes long = omega (arith, length-append taken rest, ap length takes)
 
 -- more was left than the limit
-pub too_long_left : (words : List (List ℕ)) (left left' : Option (List ℕ)) → TakesMore left left' LIMIT → IfSome left (HasRefusal words)
-too_long_left words (Some old) (Some rest) (taken, takes, long) = (codes "too long", inl (longer old rest taken takes long, refl))
-too_long_left words (Some old) None (taken, takes, long) = absurd takes
-too_long_left words None left' more = tt
+pub too_long_left : (words : List (List ℕ)) (left left' : Option (List ℕ)) → TakeInput words → TakesMore left left' LIMIT → IfSome left (HasRefusal words)
+too_long_left words (Some old) (Some rest) input (taken, takes, long) = (codes "too long", inl (longer old rest taken takes long, input, refl))
+too_long_left words (Some old) None input (taken, takes, long) = absurd takes
+too_long_left words None left' input more = tt
 
 -- ---- what is due
 
-pub writes_too_long : (command : Command) (words : List (List ℕ)) (left left' : Option (List ℕ)) → Are command words → TakesMore left left' LIMIT
+pub writes_too_long : (words : List (List ℕ)) (left left' : Option (List ℕ)) → TakeInput words → TakesMore left left' LIMIT
     → WritesRefusal words left left' (refusal_line (codes "too long"))
-writes_too_long command words left left' are (taken, takes, long) = record {
-  read = read_of command words are;
+writes_too_long words left left' input (taken, takes, long) = record {
+  read = input;
   taken = taken;
   takes = takes;
   whole = λ within. absurd (omega arith);
   reason = codes "too long";
-  refused = inl (long, refl);
+  refused = inl (long, input, refl);
   line = refl;
 }
 
-writes_refusal : (command : Command) (words : List (List ℕ)) (left left' : Option (List ℕ)) (bytes reason : List ℕ) → Are command words → Takes left left' bytes → IsAtEnd left' → length bytes ≤ LIMIT
+writes_refusal : (command : Command) (words : List (List ℕ)) (left left' : Option (List ℕ)) (bytes reason : List ℕ) → Are command words → takes_input command ≡ true → Takes left left' bytes → IsAtEnd left' → length bytes ≤ LIMIT
     → Refuses command words bytes reason → WritesRefusal words left left' (refusal_line reason)
-writes_refusal command words left left' bytes reason are takes end within r = record {
-  read = read_of command words are;
+writes_refusal command words left left' bytes reason are input takes end within r = record {
+  read = input_of command words are input;
   taken = bytes;
   takes = takes;
   whole = λ _. end;
@@ -258,12 +371,13 @@ if_some_all : (o : Option (List ℕ)) (Q : List ℕ → Type 0) → ((x : List �
 if_some_all (Some x) Q f = f x
 if_some_all None Q f = tt
 
-pub complete_refused : (words : List (List ℕ)) (left : Option (List ℕ)) (status : Status) → AreRead words → IfSome left (HasRefusal words)
+pub complete_refused : (words : List (List ℕ)) (left : Option (List ℕ)) (status : Status) → TakeInput words → IfSome left (HasRefusal words)
     → status ≡ Refused → IsComplete words left status
-complete_refused words left status read refusal is = record {
-  unread = λ unread. absurd (unread read);
+complete_refused words left status input refusal is = record {
+  unread = λ unread. absurd (unread (inl input));
   refused = λ _. if_some_weaker left (HasRefusal words) _ (λ bytes h. λ _. inl is) refusal;
   done = λ _. if_some_weaker left (HasRefusal words) _ (λ bytes h. λ none. absurd (none h)) refusal;
+  demo = λ demo. absurd (demo_alone words input demo);
 }
 
 complete_done : (words : List (List ℕ)) (left : Option (List ℕ)) (status : Status) → AreRead words → IfSome left (λ bytes. HasRefusal words bytes → ⊥)
@@ -272,6 +386,7 @@ complete_done words left status read unrefused is = record {
   unread = λ unread. absurd (unread read);
   refused = λ _. if_some_weaker left (λ bytes. HasRefusal words bytes → ⊥) _ (λ bytes h. λ refusal. absurd (h refusal)) unrefused;
   done = λ _. if_some_weaker left (λ bytes. HasRefusal words bytes → ⊥) _ (λ bytes h. λ _. inl is) unrefused;
+  demo = λ _. inl is;
 }
 
 pub complete_memory : (words : List (List ℕ)) (left : Option (List ℕ)) (status : Status) → AreRead words → status ≡ Memory → IsComplete words left status
@@ -279,6 +394,7 @@ complete_memory words left status read is = record {
   unread = λ unread. absurd (unread read);
   refused = λ _. if_some_all left _ (λ bytes. λ _. inr is);
   done = λ _. if_some_all left _ (λ bytes. λ _. inr is);
+  demo = λ _. inr is;
 }
 
 -- ---- the answer of a command to the bytes of the source
@@ -289,30 +405,30 @@ by_command command other words bytes {held} {held'} {faults} {faults'} {status} 
     subst (λ x. IsAnswered (Refuses x words bytes) (Gives x words bytes) held held' faults faults' status) (sym e) answered
 
 pub answered_refused : (command : Command) (words : List (List ℕ)) (left left' : Option (List ℕ)) (bytes : List ℕ) {held held' : Option (List ℕ)} {faults faults' : ℕ} {status : Status}
-    → Are command words → Takes left left' bytes → IsAtEnd left' → length bytes ≤ LIMIT
+    → Are command words → takes_input command ≡ true → Takes left left' bytes → IsAtEnd left' → length bytes ≤ LIMIT
     → IsAnswered (Refuses command words bytes) (Gives command words bytes) held held' faults faults' status → status ≡ Refused → AddsWhole Refused words left left' held held'
-answered_refused command words left left' bytes are takes end within (refused {reason} r put) e =
-    whole Refused words left left' (writes_refusal command words left left' bytes reason are takes end within r) put (λ x. cc) e
-answered_refused command words left left' bytes are takes end within (given g put) e = absurd (no_other Refused put (λ x. cc) (λ x. cc) e)
-answered_refused command words left left' bytes are takes end within (no_memory a b) e = absurd cc
+answered_refused command words left left' bytes are input takes end within (refused {reason} r put) e =
+    whole Refused words left left' (writes_refusal command words left left' bytes reason are input takes end within r) put (λ x. cc) e
+answered_refused command words left left' bytes are input takes end within (given g put) e = absurd (no_other Refused put (λ x. cc) (λ x. cc) e)
+answered_refused command words left left' bytes are input takes end within (no_memory a b) e = absurd cc
 
 pub answered_done : (command : Command) (words : List (List ℕ)) (left left' : Option (List ℕ)) (bytes : List ℕ) {held held' : Option (List ℕ)} {faults faults' : ℕ} {status : Status}
-    → Are command words → Takes left left' bytes → IsAtEnd left' → length bytes ≤ LIMIT
+    → Are command words → takes_input command ≡ true → Takes left left' bytes → IsAtEnd left' → length bytes ≤ LIMIT
     → IsAnswered (Refuses command words bytes) (Gives command words bytes) held held' faults faults' status → status ≡ Done → AddsWhole Done words left left' held held'
-answered_done command words left left' bytes are takes end within (refused r put) e = absurd (no_other Done put (λ x. cc) (λ x. cc) e)
-answered_done command words left left' bytes are takes end within (given {out} g put) e =
-    whole Done words left left' (writes_output command words left left' bytes out are takes end within g) put (λ x. cc) e
-answered_done command words left left' bytes are takes end within (no_memory a b) e = absurd cc
+answered_done command words left left' bytes are input takes end within (refused r put) e = absurd (no_other Done put (λ x. cc) (λ x. cc) e)
+answered_done command words left left' bytes are input takes end within (given {out} g put) e =
+    whole Done words left left' (writes_output command words left left' bytes out are input takes end within g) put (λ x. cc) e
+answered_done command words left left' bytes are input takes end within (no_memory a b) e = absurd cc
 
 pub answered_fault : (command : Command) (words : List (List ℕ)) (left left' : Option (List ℕ)) (bytes : List ℕ) {held held' : Option (List ℕ)} {faults faults' : ℕ} {status : Status}
-    → Are command words → Takes left left' bytes → IsAtEnd left' → length bytes ≤ LIMIT
+    → Are command words → takes_input command ≡ true → Takes left left' bytes → IsAtEnd left' → length bytes ≤ LIMIT
     → IsAnswered (Refuses command words bytes) (Gives command words bytes) held held' faults faults' status → status ≡ WriteFault
     → HasRisen faults faults' × AddsFront words left left' held held'
-answered_fault command words left left' bytes are takes end within (refused {reason} r put) e =
-    front Refused words left left' (writes_refusal command words left left' bytes reason are takes end within r) put (λ x. cc) e
-answered_fault command words left left' bytes are takes end within (given {out} g put) e =
-    front Done words left left' (writes_output command words left left' bytes out are takes end within g) put (λ x. cc) e
-answered_fault command words left left' bytes are takes end within (no_memory a b) e = absurd cc
+answered_fault command words left left' bytes are input takes end within (refused {reason} r put) e =
+    front Refused words left left' (writes_refusal command words left left' bytes reason are input takes end within r) put (λ x. cc) e
+answered_fault command words left left' bytes are input takes end within (given {out} g put) e =
+    front Done words left left' (writes_output command words left left' bytes out are input takes end within g) put (λ x. cc) e
+answered_fault command words left left' bytes are input takes end within (no_memory a b) e = absurd cc
 
 pub answered_memory : {R G : List ℕ → Type 0} {held held' : Option (List ℕ)} {faults faults' : ℕ} {status : Status} → IsAnswered R G held held' faults faults' status → status ≡ Memory → held' ≡ held
 answered_memory (refused r put) e = absurd (no_other Memory put (λ x. cc) (λ x. cc) e)
@@ -331,12 +447,67 @@ never_read_fault (given g put) e = no_other ReadFault put (λ x. cc) (λ x. cc) 
 never_read_fault (no_memory a b) e = cc
 
 pub answered_complete : (command : Command) (words : List (List ℕ)) (left left' : Option (List ℕ)) (bytes : List ℕ) {held held' : Option (List ℕ)} {faults faults' : ℕ} {status : Status}
-    → Are command words → Takes left left' bytes → IsAtEnd left' → length bytes ≤ LIMIT
+    → Are command words → takes_input command ≡ true → Takes left left' bytes → IsAtEnd left' → length bytes ≤ LIMIT
     → IsAnswered (Refuses command words bytes) (Gives command words bytes) held held' faults faults' status → (HasRisen faults faults' → ⊥) → IsComplete words left status
-answered_complete command words left left' bytes {status = status} are takes end within (refused {reason} r put) none =
-    complete_refused words left status (read_of command words are)
+answered_complete command words left left' bytes {status = status} are input takes end within (refused {reason} r put) none =
+    complete_refused words left status (input_of command words are input)
     (all_taken left left' bytes (HasRefusal words) takes end (reason, refusal_of command words bytes reason are within r)) (as_wanted put none)
-answered_complete command words left left' bytes {status = status} are takes end within (given {out} g put) none =
+answered_complete command words left left' bytes {status = status} are input takes end within (given {out} g put) none =
     complete_done words left status (read_of command words are)
     (all_taken left left' bytes (λ bytes. HasRefusal words bytes → ⊥) takes end (exclusive command words bytes out are within g)) (as_wanted put none)
-answered_complete command words left left' bytes {status = status} are takes end within (no_memory a b) none = complete_memory words left status (read_of command words are) a
+answered_complete command words left left' bytes {status = status} are input takes end within (no_memory a b) none = complete_memory words left status (read_of command words are) a
+
+-- ---- the answer of a demo, which takes nothing from the source
+
+pub is_demo : (command : Command) (words : List (List ℕ)) → Are command words → takes_input command ≡ false → AskDemo words
+is_demo (Check width) words are t = absurd (true≢false t)
+is_demo (Schedule width reach) words are t = absurd (true≢false t)
+is_demo (Table width reach) words are t = absurd (true≢false t)
+is_demo (Run width reach) words are t = absurd (true≢false t)
+is_demo (Trace width reach) words are t = absurd (true≢false t)
+is_demo (Emit width reach) words are t = absurd (true≢false t)
+is_demo Sim words are t = absurd (true≢false t)
+is_demo (Demo width reach k) words are t = (width.bits, reach.size, k, are)
+
+demo_writes : (command : Command) (words : List (List ℕ)) (left : Option (List ℕ)) (bytes out : List ℕ) → Are command words → takes_input command ≡ false → Gives command words bytes out → Writes Done words left left out
+demo_writes (Check width) words left bytes out are t g = absurd (true≢false t)
+demo_writes (Schedule width reach) words left bytes out are t g = absurd (true≢false t)
+demo_writes (Table width reach) words left bytes out are t g = absurd (true≢false t)
+demo_writes (Run width reach) words left bytes out are t g = absurd (true≢false t)
+demo_writes (Trace width reach) words left bytes out are t g = absurd (true≢false t)
+demo_writes (Emit width reach) words left bytes out are t g = absurd (true≢false t)
+demo_writes Sim words left bytes out are t g = absurd (true≢false t)
+demo_writes (Demo width reach k) words left bytes out are t g =
+    inr (inr (inr (inr (inr (inr (inr (record { bits = width.bits; box = reach.size; k = k; read = are; untouched = refl; gives = g })))))))
+
+demo_unrefused : (command : Command) (words : List (List ℕ)) (bytes reason : List ℕ) → takes_input command ≡ false → Refuses command words bytes reason → ⊥
+demo_unrefused (Check width) words bytes reason t r = true≢false t
+demo_unrefused (Schedule width reach) words bytes reason t r = true≢false t
+demo_unrefused (Table width reach) words bytes reason t r = true≢false t
+demo_unrefused (Run width reach) words bytes reason t r = true≢false t
+demo_unrefused (Trace width reach) words bytes reason t r = true≢false t
+demo_unrefused (Emit width reach) words bytes reason t r = true≢false t
+demo_unrefused Sim words bytes reason t r = true≢false t
+demo_unrefused (Demo width reach k) words bytes reason t r = r
+
+module _ (command : Command) (words : List (List ℕ)) (left : Option (List ℕ)) (bytes : List ℕ) {held held' : Option (List ℕ)} {faults faults' : ℕ} {status : Status} (are : Are command words) (t : takes_input command ≡ false) where
+  pub demo_refused : IsAnswered (Refuses command words bytes) (Gives command words bytes) held held' faults faults' status → status ≡ Refused → AddsWhole Refused words left left held held'
+  demo_refused (refused {reason} r put) e = absurd (demo_unrefused command words bytes reason t r)
+  demo_refused (given g put) e = absurd (no_other Refused put (λ x. cc) (λ x. cc) e)
+  demo_refused (no_memory a b) e = absurd cc
+
+  pub demo_done : IsAnswered (Refuses command words bytes) (Gives command words bytes) held held' faults faults' status → status ≡ Done → AddsWhole Done words left left held held'
+  demo_done (refused {reason} r put) e = absurd (demo_unrefused command words bytes reason t r)
+  demo_done (given {out} g put) e = whole Done words left left (demo_writes command words left bytes out are t g) put (λ x. cc) e
+  demo_done (no_memory a b) e = absurd cc
+
+  pub demo_fault : IsAnswered (Refuses command words bytes) (Gives command words bytes) held held' faults faults' status → status ≡ WriteFault → HasRisen faults faults' × AddsFront words left left held held'
+  demo_fault (refused {reason} r put) e = absurd (demo_unrefused command words bytes reason t r)
+  demo_fault (given {out} g put) e = front Done words left left (demo_writes command words left bytes out are t g) put (λ x. cc) e
+  demo_fault (no_memory a b) e = absurd cc
+
+  pub demo_complete : IsAnswered (Refuses command words bytes) (Gives command words bytes) held held' faults faults' status → (HasRisen faults faults' → ⊥) → IsComplete words left status
+  demo_complete (refused {reason} r put) none = absurd (demo_unrefused command words bytes reason t r)
+  demo_complete (given {out} g put) none =
+      complete_done words left status (read_of command words are) (if_some_all left (λ bytes. HasRefusal words bytes → ⊥) (λ bytes. exclude_demo words bytes (is_demo command words are t))) (as_wanted put none)
+  demo_complete (no_memory a b) none = complete_memory words left status (read_of command words are) a

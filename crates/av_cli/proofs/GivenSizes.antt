@@ -177,3 +177,9 @@ one_asked name words m n b c some others x y =
 
 pub with_sizes : (name : List ℕ) (words : List (List ℕ)) (bits reach : ℕ) (found others : List Size) → Asks name words bits reach found → GiveSizes words others → Asks name words bits reach others
 with_sizes name words bits reach found others is give = record { rest = is.rest; first = is.first; options = is.options; say = is.say; bits_are = is.bits_are; box_is = is.box_is; give = give }
+
+pub run_is_no_size : IsSize (codes "run") → ⊥
+run_is_no_size is = let k = text_is (codes "run") is in cc
+
+pub trace_is_no_size : IsSize (codes "trace") → ⊥
+trace_is_no_size is = let k = text_is (codes "trace") is in cc

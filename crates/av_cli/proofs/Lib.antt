@@ -13,3 +13,13 @@ pub mod Answered
 pub mod Scheduling
 pub mod Tabling
 pub mod Emitting
+pub mod Fed
+pub mod Watched
+pub mod Watching
+mod DemoPlaces
+mod Chained
+pub mod Reporting
+pub mod Entering
+mod ResultLines
+mod Totals
+mod Telling

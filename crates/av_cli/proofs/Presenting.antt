@@ -115,7 +115,7 @@ abbrev target_in : Drive → List ℕ
 target_in drive = drive.target
 
 -- the drive of a target
-drive_there : (drives : List Drive) (w : ℕ) (name : List ℕ) → slice_get (targets_of drives) w ≡ Some name → (drive : Drive) × (slice_get drives w ≡ Some drive) × (drive.target ≡ name)
+pub drive_there : (drives : List Drive) (w : ℕ) (name : List ℕ) → slice_get (targets_of drives) w ≡ Some name → (drive : Drive) × (slice_get drives w ≡ Some drive) × (drive.target ≡ name)
 drive_there drives w name e = by (slice_get drives w) refl (sym (slice_get-map target_in drives w) ∙ e)
   where
     text : Option (List ℕ) → List ℕ
@@ -162,3 +162,11 @@ pub words_noted : (ports : List Port) (f : Port → ℕ) (words : List ℕ) → 
 words_noted [] f words le h = refl
 words_noted (p ∷ ports) f [] le h = absurd (omega arith)
 words_noted (p ∷ ports) f (w ∷ words) le h = ap (λ z. z ∷ take (length ports) words) (h 0 p refl) ∙ ap (λ (z : List ℕ). f p ∷ z) (words_noted ports f words (omega arith) (λ k port e. h (suc k) port e))
+
+-- the name of a port is at its place
+pub port_named : (ports : List Port) (i : ℕ) (port : Port) → i < length ports → port ≡ get_or ports i port → (i < length (names_of ports)) × (port.name ≡ get_or (names_of ports) i port.name)
+port_named ports i port lt is = let at = name_at ports i port (slice_get-get_or ports i port lt ∙ ap Some (sym is)) in (at.0, sym at.1)
+
+-- the input ports have different names
+pub inputs_apart : (m : Module) → IsSound m → AreDistinct (names_of m.inputs)
+inputs_apart m sound = front_distinct (names_of m.inputs) (names_of m.registers) (given_distinct m sound)

@@ -33,7 +33,7 @@ one_normal bytes sizes bits s t a b =
     let same = one_flat bytes sizes bits b.flat a.flat b.flattens a.flattens in
     normal.unique b.flat s t (subst (λ (x : FlatSystem). normalised.IsGiven x s) same a.given).form b.given.form
 
-one_serial : (bytes : List ℕ) (sizes : List Size) (bits : ℕ) (s t : FlatSystem) → Serialises bytes sizes bits s → Serialises bytes sizes bits t → s ≡ t
+pub one_serial : (bytes : List ℕ) (sizes : List Size) (bits : ℕ) (s t : FlatSystem) → Serialises bytes sizes bits s → Serialises bytes sizes bits t → s ≡ t
 one_serial bytes sizes bits s t a b =
     let same = one_normal bytes sizes bits a.normal b.normal a.normalises b.normalises in
     serial.unique b.normal s t (subst (λ (x : FlatSystem). serialised.IsGiven x s) same a.given).form b.given.form

@@ -20,39 +20,16 @@ use Rattle.av_data.specs.declared.fault.DataFault.TheVariants.{DataSyntax, DataU
 use Rattle.av_data.specs.declared.stimulus.Given.{Given}
 use Rattle.av_data.specs.declared.stimulus.Stimulus.{Stimulus}
 use Rattle.av_data.specs.Divisions.{IsDivided}
-use Rattle.av_data.specs.Stimuli.{SpellsStimulus, IsLaterFault, here, past_empty, past_value, IsFirstFault, past_empty_first, past_cycles, IsStimulusFault}
+use Rattle.av_data.specs.Stimuli.{SpellsStimulus, IsStimulusFault}
 use Rattle.av_data.specs.Reading.{place_of}
 use Rattle.av_data.proofs.Lined.{place_at}
 use Rattle.av_cli.specs.declared.status.Status.{Status}
 use Rattle.av_cli.specs.declared.status.Status.TheVariants.{Done, Refused, WriteFault, Memory as OutOfMemory}
-use Rattle.av_cli.specs.Refusals.{refusal_line, text_reason, data_reason, IsOfStimulus}
+use Rattle.av_cli.specs.Refusals.{refusal_line, text_reason, data_reason}
 use Rattle.av_cli.specs.Simulated.{given_word, IsStimulated, run_lines}
 use Rattle.av_cli.specs.Sims.{RefusesSim, bad_text, bad_stimulus, GivesSim, RefusesStimulus, GivesRun}
 use Rattle.av_cli.specs.Written.{IsPut, IsAnswered, refused, given, no_memory, IsClocked}
 use Rattle.av_cli.proofs.Presenting.{given_distinct}
-
--- ---- faults
-
-later_never : (inputs : List Port) (n : ℕ) (earlier : List Given) (k : ℕ) (lines : List (List ℕ)) (name : List ℕ) (point : List _) → IsLaterFault inputs n (DataMissing name point) earlier k lines → ⊥
-later_never inputs n earlier k [] name point x = elim x [ ]
-later_never inputs n earlier k (line ∷ lines) name point (here is) = is
-later_never inputs n earlier k (line ∷ lines) name point (past_empty e rest) = later_never inputs n earlier (k + 1) lines name point rest
-later_never inputs n earlier k (line ∷ lines) name point (past_value {g = g} gives apart rest) = later_never inputs n (g ∷ earlier) (k + 1) lines name point rest
-
-first_never : (inputs : List Port) (k : ℕ) (lines : List (List ℕ)) (name : List ℕ) (point : List _) → IsFirstFault inputs k lines (DataMissing name point) → ⊥
-first_never inputs k [] name point x = elim x [ ]
-first_never inputs k (line ∷ lines) name point (past_empty_first e rest) = first_never inputs (k + 1) lines name point rest
-first_never inputs k (line ∷ lines) name point (past_cycles {n = n} c rest) = later_never inputs n [] (k + 1) lines name point rest
-
--- no point is missing from a stimulus
-pub of_stimulus : (inputs : List Port) (first : ℕ) (bytes : List ℕ) (f : DataFault) → (f ≡ Memory) ⊎ IsStimulusFault inputs first bytes f → IsOfStimulus f
-of_stimulus inputs first bytes Memory h = tt
-of_stimulus inputs first bytes (DataSyntax l) h = tt
-of_stimulus inputs first bytes (DataUnknown l) h = tt
-of_stimulus inputs first bytes (DataOutside l) h = tt
-of_stimulus inputs first bytes (DataTwice l) h = tt
-of_stimulus inputs first bytes (DataMissing name point) (inl e) = absurd cc
-of_stimulus inputs first bytes (DataMissing name point) (inr is) = absurd (first_never inputs first _ name point is)
 
 -- ---- a run under the stimulus
 
@@ -60,10 +37,10 @@ abbrev word_by : List Given → ℕ → Option ℕ → ℕ
 word_by values c None = 0
 word_by values c (Some k) = given_word values c k
 
-stream_of : Module → Stimulus → Stream
+pub stream_of : Module → Stimulus → Stream
 stream_of m s = record { on_reset = λ name. 0; in_cycle = λ c name. word_by s.values c (place_of m.inputs name) }
 
-is_stream : (m : Module) (s : Stimulus) → IsSound m → IsStimulated m s (stream_of m s)
+pub is_stream : (m : Module) (s : Stimulus) → IsSound m → IsStimulated m s (stream_of m s)
 unfolding stream_of
 is_stream m s sound = record {
   on_reset = λ k d lt. refl;

@@ -1,5 +1,5 @@
 -- How the words of the command line are read.
-use Rattle.std.specs.Prelude.{◌≡◌, ◌⊎◌, ℕ, ◌≤◌, ℤ, pos, unsigned_abs, List, [], ◌∷◌, ◌++◌, Option, Some, None, codes}
+use Rattle.std.specs.Prelude.{◌≡◌, ◌⊎◌, ℕ, ◌≤◌, ℤ, pos, unsigned_abs, List, [], ◌∷◌, ◌++◌, Option, Some, None, codes, Contains}
 use Rattle.std.specs.List.{AllByRecursion}
 use Rattle.std.proofs.Math.IntN.{neg_ℤ}
 use Rattle.av_base.specs.declared.token_kind.TokenKind.TheVariants as kind
@@ -111,6 +111,12 @@ IsTable words bits reach found = Asks (codes "table") words bits reach found
 abbrev pub IsEmit : List (List ℕ) → ℕ → ℕ → List Size → Type 0
 IsEmit words bits reach found = Asks (codes "emit") words bits reach found
 
+abbrev pub IsRun : List (List ℕ) → ℕ → ℕ → List Size → Type 0
+IsRun words bits reach found = Asks (codes "run") words bits reach found
+
+abbrev pub IsTrace : List (List ℕ) → ℕ → ℕ → List Size → Type 0
+IsTrace words bits reach found = Asks (codes "trace") words bits reach found
+
 -- nothing, or `--` alone
 abbrev pub IsBare : List (List ℕ) → Type 0
 IsBare words = (words ≡ []) ⊎ (words ≡ codes "--" ∷ [])
@@ -121,13 +127,40 @@ pub record IsSim (words : List (List ℕ)) : Type 0 where
   pub first : words ≡ codes "sim" ∷ rest
   pub bare : IsBare rest
 
-abbrev pub AreRead : List (List ℕ) → Type 0
-AreRead words =
+-- `demo`, with the size of its matrices between whole options, and behind `--` nothing but that size. No word has the form of a
+-- size of a system.
+pub record IsDemo (words : List (List ℕ)) (bits box k : ℕ) : Type 0 where
+  pub before : List (List ℕ)
+  pub word : List ℕ
+  pub after : List (List ℕ)
+  pub parts : words ≡ codes "demo" ∷ (before ++ (word ∷ after))
+  pub size : SpellsUpTo 16 word k
+  pub middle : Options
+  pub options : Options
+  pub say_before : Say no_options before middle
+  pub say_after : Say middle after options
+  pub last : Contains before (codes "--") → after ≡ []
+  pub bits_are : bits ≡ given_or default_width options.width
+  pub box_is : box ≡ given_or default_box options.box
+  pub no_size : GiveSizes words []
+
+-- a command that reads an input
+abbrev pub TakeInput : List (List ℕ) → Type 0
+TakeInput words =
     ((bits : ℕ) × (reach : ℕ) × (found : List Size) × IsEmit words bits reach found)
     ⊎ IsSim words
     ⊎ ((bits : ℕ) × (found : List Size) × IsCheck words bits found)
     ⊎ ((bits : ℕ) × (reach : ℕ) × (found : List Size) × IsSchedule words bits reach found)
     ⊎ ((bits : ℕ) × (reach : ℕ) × (found : List Size) × IsTable words bits reach found)
+    ⊎ ((bits : ℕ) × (reach : ℕ) × (found : List Size) × IsRun words bits reach found)
+    ⊎ ((bits : ℕ) × (reach : ℕ) × (found : List Size) × IsTrace words bits reach found)
+
+-- `demo`, which reads none
+abbrev pub AskDemo : List (List ℕ) → Type 0
+AskDemo words = (bits : ℕ) × (reach : ℕ) × (k : ℕ) × IsDemo words bits reach k
+
+abbrev pub AreRead : List (List ℕ) → Type 0
+AreRead words = TakeInput words ⊎ AskDemo words
 
 abbrev pub usage_line : List ℕ
 usage_line = codes "usage: alphav check|schedule|table|emit|run|trace [--width W] [--box C] [NAME=VALUE ...] | sim | demo K\n"

@@ -12,3 +12,7 @@ pub mod Written
 pub mod Program
 pub mod Schedules
 pub mod Tables
+pub mod Shown
+pub mod Runs
+pub mod Demos
+pub mod inner

@@ -6,25 +6,29 @@ use Rattle.av_names.specs.declared.size.Size.{Size}
 use Rattle.av_cli.specs.declared.status.Status.{Status}
 use Rattle.av_cli.specs.declared.status.Status.TheVariants.{Done, Refused, Words, ReadFault, WriteFault, Memory}
 use Rattle.av_cli.specs.declared.program.TheConstants.{LIMIT}
-use Rattle.av_cli.specs.Commands.{IsCheck, IsSchedule, IsTable, IsEmit, IsSim, AreRead, usage_line}
+use Rattle.av_cli.specs.Commands.{IsCheck, IsSchedule, IsTable, IsEmit, IsRun, IsTrace, IsSim, IsDemo, TakeInput, AskDemo, AreRead, usage_line}
 use Rattle.av_cli.specs.Refusals.{refusal_line}
 use Rattle.av_cli.specs.Checks.{RefusesCheck, GivesCheck}
 use Rattle.av_cli.specs.Schedules.{RefusesSchedule, GivesSchedule}
 use Rattle.av_cli.specs.Tables.{RefusesTable, GivesTable}
 use Rattle.av_cli.specs.Emits.{RefusesEmit, GivesEmit}
 use Rattle.av_cli.specs.Sims.{RefusesSim, GivesSim}
+use Rattle.av_cli.specs.Runs.{RefusesRun, GivesResults, GivesTrace}
+use Rattle.av_cli.specs.Demos.{GivesDemo}
 
 -- ---- refusals, in their order
 
--- the command of these words refuses these bytes of a source for this reason
+-- the command of these words refuses these bytes of a source for this reason; `demo` refuses none
 abbrev pub IsRefused : List (List ℕ) → List ℕ → List ℕ → Type 0
 IsRefused words bytes reason =
-    ((LIMIT < length bytes) × (reason ≡ codes "too long"))
+    ((LIMIT < length bytes) × TakeInput words × (reason ≡ codes "too long"))
     ⊎ ((length bytes ≤ LIMIT) × ((bits : ℕ) × (box : ℕ) × (sizes : List Size) × IsEmit words bits box sizes × RefusesEmit sizes bits box bytes reason))
     ⊎ ((length bytes ≤ LIMIT) × IsSim words × RefusesSim bytes reason)
     ⊎ ((length bytes ≤ LIMIT) × ((bits : ℕ) × (sizes : List Size) × IsCheck words bits sizes × RefusesCheck sizes bits bytes reason))
     ⊎ ((length bytes ≤ LIMIT) × ((bits : ℕ) × (box : ℕ) × (sizes : List Size) × IsSchedule words bits box sizes × RefusesSchedule sizes bits box bytes reason))
     ⊎ ((length bytes ≤ LIMIT) × ((bits : ℕ) × (box : ℕ) × (sizes : List Size) × IsTable words bits box sizes × RefusesTable sizes bits box bytes reason))
+    ⊎ ((length bytes ≤ LIMIT) × ((bits : ℕ) × (box : ℕ) × (sizes : List Size) × IsRun words bits box sizes × RefusesRun sizes bits box bytes reason))
+    ⊎ ((length bytes ≤ LIMIT) × ((bits : ℕ) × (box : ℕ) × (sizes : List Size) × IsTrace words bits box sizes × RefusesRun sizes bits box bytes reason))
 
 -- ---- what is written
 
@@ -36,7 +40,7 @@ pub record WritesUsage (words : List (List ℕ)) (left left' : Option (List ℕ)
 
 -- a refusal: its line, for what was taken from the source
 pub record WritesRefusal (words : List (List ℕ)) (left left' : Option (List ℕ)) (out : List ℕ) : Type 0 where
-  pub read : AreRead words
+  pub read : TakeInput words
   pub taken : List ℕ
   pub takes : Takes left left' taken
   pub whole : length taken ≤ LIMIT → IsAtEnd left'
@@ -100,11 +104,56 @@ pub record WritesTable (words : List (List ℕ)) (left left' : Option (List ℕ)
   pub within : length taken ≤ LIMIT
   pub gives : GivesTable sizes bits box taken out
 
+-- the output of `run`: the solution's words of the outputs, for the text and the data that the source gave up to its end
+pub record WritesResults (words : List (List ℕ)) (left left' : Option (List ℕ)) (out : List ℕ) : Type 0 where
+  pub bits : ℕ
+  pub box : ℕ
+  pub sizes : List Size
+  pub read : IsRun words bits box sizes
+  pub taken : List ℕ
+  pub takes : Takes left left' taken
+  pub whole : IsAtEnd left'
+  pub within : length taken ≤ LIMIT
+  pub gives : GivesResults sizes bits box taken out
+
+-- the output of `trace`: a design of the text that the source gave, and its run on the data up to the source's end
+pub record WritesTrace (words : List (List ℕ)) (left left' : Option (List ℕ)) (out : List ℕ) : Type 0 where
+  pub bits : ℕ
+  pub box : ℕ
+  pub sizes : List Size
+  pub read : IsTrace words bits box sizes
+  pub taken : List ℕ
+  pub takes : Takes left left' taken
+  pub whole : IsAtEnd left'
+  pub within : length taken ≤ LIMIT
+  pub gives : GivesTrace sizes bits box taken out
+
+-- the output of `demo`: the totals of an array and the sum of what it computes; the source is as it was
+pub record WritesDemo (words : List (List ℕ)) (left left' : Option (List ℕ)) (out : List ℕ) : Type 0 where
+  pub bits : ℕ
+  pub box : ℕ
+  pub k : ℕ
+  pub read : IsDemo words bits box k
+  pub untouched : left' ≡ left
+  pub gives : GivesDemo k bits box out
+
+-- what a command writes where it is done
+abbrev pub WritesOutput : List (List ℕ) → Option (List ℕ) → Option (List ℕ) → List ℕ → Type 0
+WritesOutput words left left' out =
+    WritesDesign words left left' out
+    ⊎ WritesRun words left left' out
+    ⊎ WritesVerdict words left left' out
+    ⊎ WritesSchedule words left left' out
+    ⊎ WritesTable words left left' out
+    ⊎ WritesResults words left left' out
+    ⊎ WritesTrace words left left' out
+    ⊎ WritesDemo words left left' out
+
 -- what a status writes, where it writes something whole
 abbrev pub Writes : Status → List (List ℕ) → Option (List ℕ) → Option (List ℕ) → List ℕ → Type 0
 Writes Words words left left' out = WritesUsage words left left' out
 Writes Refused words left left' out = WritesRefusal words left left' out
-Writes Done words left left' out = WritesDesign words left left' out ⊎ WritesRun words left left' out ⊎ WritesVerdict words left left' out ⊎ WritesSchedule words left left' out ⊎ WritesTable words left left' out
+Writes Done words left left' out = WritesOutput words left left' out
 Writes ReadFault words left left' out = ⊥
 Writes WriteFault words left left' out = ⊥
 Writes Memory words left left' out = ⊥
@@ -127,3 +176,5 @@ pub record IsComplete (words : List (List ℕ)) (left : Option (List ℕ)) (stat
   pub unread : (AreRead words → ⊥) → status ≡ Words
   pub refused : AreRead words → IfSome left (λ bytes. HasRefusal words bytes → (status ≡ Refused) ⊎ (status ≡ Memory))
   pub done : AreRead words → IfSome left (λ bytes. (HasRefusal words bytes → ⊥) → (status ≡ Done) ⊎ (status ≡ Memory))
+  -- `demo` refuses nothing, whatever the source has
+  pub demo : AskDemo words → (status ≡ Done) ⊎ (status ≡ Memory)

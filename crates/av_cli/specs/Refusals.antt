@@ -34,12 +34,3 @@ data_reason (data_fault.DataOutside number) = codes "data outside " ++ decimal n
 data_reason (data_fault.DataTwice number) = codes "data twice " ++ decimal number
 data_reason (data_fault.DataMissing name point) = codes "data missing " ++ name ++ codes " " ++ point_text point
 data_reason data_fault.Memory = []
-
--- a stimulus may have this fault
-abbrev pub IsOfStimulus : DataFault → Type 0
-IsOfStimulus (data_fault.DataSyntax number) = Unit {0}
-IsOfStimulus (data_fault.DataUnknown number) = Unit {0}
-IsOfStimulus (data_fault.DataOutside number) = Unit {0}
-IsOfStimulus (data_fault.DataTwice number) = Unit {0}
-IsOfStimulus (data_fault.DataMissing name point) = ⊥
-IsOfStimulus data_fault.Memory = Unit {0}

@@ -3,13 +3,16 @@
 #![tactic(auto)]
 
 mod check;
+mod demo;
 mod emit;
 mod numbers;
 mod options;
 mod program;
 mod put;
 mod refusals;
+mod runs;
 mod schedule;
+mod shown;
 mod sim;
 mod simulation;
 mod size_word;
@@ -24,6 +27,7 @@ mod words;
 
 use av_base::{List, Memory, Name};
 pub use program::{LIMIT, alphav};
+pub use shown::shown;
 use standard::{StdSink, StdSource};
 pub use status::Status;
 use std::env;

@@ -33,17 +33,11 @@ pub(crate) fn read_options(words: &[Name], from: usize) -> Option<Options>
     ensures read { IfSome result (λ o. Say no_options (drop from words.now) (seen o)) }
     ensures unread { IfNone result ((p : Said) → Say no_options (drop from words.now) p → ⊥) }
 {
-    let mut options = Options {
+    let none = Options {
         width: None,
         reach: None,
     };
-    let mut at = from;
-    while at < words.len() {
-        let (more, next) = options.read(words, at)?;
-        options = more;
-        at = next;
-    }
-    Some(options)
+    none.read_after(words, from)
 }
 
 // Whether the words from this place on are sizes.
@@ -78,6 +72,22 @@ fn option_at<'a>(words: &'a [Name], at: usize, name: &[u8]) -> Option<(&'a [u8],
 }
 
 impl Options {
+    /// The options of the words from this place on, after these.
+    pub(crate) fn read_after(self, words: &[Name], from: usize) -> Option<Options>
+        requires { from ≤ length words.now }
+        ensures read { IfSome result (λ o. Say (seen self) (drop from words.now) (seen o)) }
+        ensures unread { IfNone result ((p : Said) → Say (seen self) (drop from words.now) p → ⊥) }
+    {
+        let mut options = self;
+        let mut at = from;
+        while at < words.len() {
+            let (more, next) = options.read(words, at)?;
+            options = more;
+            at = next;
+        }
+        Some(options)
+    }
+
     // Reads the word at a place, and its value where it is an option: the options with it, and the place behind.
     fn read(self, words: &[Name], at: usize) -> Option<(Options, usize)>
         requires { at < length words.now }

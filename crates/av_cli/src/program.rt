@@ -6,8 +6,10 @@ ghost use Rattle.av_cli.specs.Asked.{Refuses, Gives};
 ghost use Rattle.av_cli.specs.CommandsSeen.{Are};
 
 use crate::check::check;
+use crate::demo::demo;
 use crate::emit::emit;
 use crate::put::put;
+use crate::runs::{Report, answer_run};
 use crate::schedule::schedule;
 use crate::sim::sim;
 use crate::status::Status;
@@ -25,7 +27,7 @@ const USAGE: &str =
 const TOO_LONG: &str = "refused: too long\n";
 
 /// All that the program does: it reads the words, then the source to its end, computes all that is to
-/// be written, and then writes it.
+/// be written, and then writes it. `demo` reads no source.
 pub fn alphav<S: Source, K: Sink>(
     alloc: Global,
     words: &[Name],
@@ -47,6 +49,9 @@ pub fn alphav<S: Source, K: Sink>(
     let Some(command) = read_words(words) else {
         return put(sink, USAGE, Status::Words);
     };
+    if !command.takes_input() {
+        return answer(alloc, words, command, &[], sink);
+    }
     match read_all(alloc, source, LIMIT) {
         Err(ReadAll::ReadFault) => Status::ReadFault,
         Err(ReadAll::Memory) => Status::Memory,
@@ -72,6 +77,13 @@ fn answer<K: Sink>(
         Command::Schedule { width, reach } => { schedule(alloc, words, bytes, width, reach, sink) }
         Command::Table { width, reach } => table(alloc, words, bytes, width, reach, sink),
         Command::Emit { width, reach } => emit(alloc, words, bytes, width, reach, sink),
+        Command::Run { width, reach } => {
+            answer_run(alloc, words, bytes, width, reach, Report::Results, sink)
+        }
+        Command::Trace { width, reach } => {
+            answer_run(alloc, words, bytes, width, reach, Report::Trace, sink)
+        }
         Command::Sim => sim(alloc, bytes, sink),
+        Command::Demo { width, reach, size } => demo(alloc, size, width, reach, sink),
     }
 }

@@ -9,7 +9,7 @@ ghost use Rattle.av_space.specs.Arrays.{IsArrayOf};
 ghost use Rattle.av_vread.specs.declared.fault.VFault.TheVariants as text_fault;
 ghost use Rattle.av_data.specs.declared.fault.DataFault.TheVariants as data_fault;
 ghost use Rattle.av_compile.specs.declared.refusal.Refusal.TheVariants as system_refusal;
-ghost use Rattle.av_cli.specs.Refusals.{refusal_line, text_reason, data_reason, IsOfStimulus};
+ghost use Rattle.av_cli.specs.Refusals.{refusal_line, text_reason, data_reason};
 ghost use Rattle.av_cli.specs.SystemRefusals.{system_reason};
 ghost use Rattle.av_cli.specs.Written.{IsPut};
 
@@ -80,9 +80,8 @@ pub(crate) fn put_text_refusal<K: Sink>(sink: &mut K, fault: &VFault) -> Status
     }
 }
 
-/// Adds the line of the refusal of a stimulus. Out of memory has no line: the status tells it.
+/// Adds the line of the refusal of a stimulus or of data. Out of memory has no line: the status tells it.
 pub(crate) fn put_data_refusal<K: Sink>(sink: &mut K, fault: &DataFault) -> Status
-    requires { IsOfStimulus fault.now }
     ensures memory { fault.now ≡ data_fault.Memory → (result ≡ Status.Memory) × (K.held sink.new ≡ K.held sink.old) }
     ensures refused { (fault.now ≡ data_fault.Memory → ⊥) → IsPut (K.held sink.old) (K.held sink.new) (K.faults sink.old) (K.faults sink.new) (refusal_line (data_reason fault.now)) Status.Refused result }
 {

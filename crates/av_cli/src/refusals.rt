@@ -1,14 +1,15 @@
-//! The lines of refusals of design texts and stimuli.
+//! The lines of refusals of design texts, stimuli and data.
 
 ghost use Rattle.std.specs.Prelude.{◌++◌, decimal, OnOk, OnErr, IsErr};
 ghost use Rattle.av_base.specs.Outside.{Adds, AddsPrefix, HasRisen};
 ghost use Rattle.av_page.specs.Pages.{Puts};
-ghost use Rattle.av_cli.specs.Refusals.{refusal_line, place_text, text_reason, data_reason, IsOfStimulus};
+ghost use Rattle.av_cli.specs.Refusals.{refusal_line, place_text, text_reason, data_reason};
 
 use av_base::{Name, Place, Sink, WriteFault};
 use av_data::DataFault;
 use av_page::Page;
 use av_vread::VFault;
+use av_vtext::write_point;
 
 fn put_number<K: Sink>(page: &mut Page, sink: &mut K, words: &str, number: u32)
     ensures { Puts (K.held sink.old) (K.held sink.new) (K.faults sink.old) (K.faults sink.new) page.old page.new (words.now ++ decimal number) }
@@ -52,7 +53,6 @@ fn put_text_reason<K: Sink>(page: &mut Page, sink: &mut K, fault: &VFault)
 }
 
 fn put_data_reason<K: Sink>(page: &mut Page, sink: &mut K, fault: &DataFault)
-    requires { IsOfStimulus fault.now }
     ensures { Puts (K.held sink.old) (K.held sink.new) (K.faults sink.old) (K.faults sink.new) page.old page.new (data_reason fault.now) }
 {
     match fault {
@@ -60,7 +60,11 @@ fn put_data_reason<K: Sink>(page: &mut Page, sink: &mut K, fault: &DataFault)
         DataFault::DataUnknown(number) => put_number(page, sink, "data unknown ", *number),
         DataFault::DataOutside(number) => put_number(page, sink, "data outside ", *number),
         DataFault::DataTwice(number) => put_number(page, sink, "data twice ", *number),
-        DataFault::DataMissing(_, _) => unreachable!(),
+        DataFault::DataMissing(name, point) => {
+            put_name(page, sink, "data missing ", name);
+            page.put(sink, " ");
+            write_point(page, sink, point);
+        }
         DataFault::Memory => page.put(sink, ""),
     }
 }
@@ -78,9 +82,8 @@ pub(crate) fn write_text_refusal<K: Sink>(fault: &VFault, sink: &mut K) -> Resul
     page.finish(sink)
 }
 
-/// Writes the line of the refusal of a stimulus.
+/// Writes the line of the refusal of a stimulus or of data.
 pub(crate) fn write_data_refusal<K: Sink>(fault: &DataFault, sink: &mut K) -> Result<(), WriteFault>
-    requires { IsOfStimulus fault.now }
     ensures added { OnOk result (Adds (K.held sink.old) (K.held sink.new) (refusal_line (data_reason fault.now))) }
     ensures fault { IsErr result → HasRisen (K.faults sink.old) (K.faults sink.new) }
     ensures front { OnErr result (AddsPrefix (K.held sink.old) (K.held sink.new) (refusal_line (data_reason fault.now))) }

@@ -49,7 +49,7 @@ fn header_ports(alloc: Global, of: &Module) -> Result<List<Port>, Memory>
     Ok(ports)
 }
 
-fn targets(alloc: Global, drives: &[Drive]) -> Result<Places<'_>, Memory>
+pub(crate) fn targets(alloc: Global, drives: &[Drive]) -> Result<Places<'_>, Memory>
     requires { AreDistinct (targets_of drives.now) }
     ensures { IfOk result (λ targets. targets ≡ targets_of drives.now) }
 {
@@ -60,8 +60,8 @@ fn targets(alloc: Global, drives: &[Drive]) -> Result<Places<'_>, Memory>
     Ok(targets)
 }
 
-// The place of a name, as a number of 32 bits. With so many names that it is greater the answer is out of memory.
-fn place_of(targets: &Places, name: &Name) -> Result<u32, Memory>
+/// The place of a name, as a number of 32 bits. With so many names that it is greater the answer is out of memory.
+pub(crate) fn place_of(targets: &Places, name: &Name) -> Result<u32, Memory>
     requires { Contains targets.now name.now }
     ensures { IfOk result (λ place. slice_get targets.now place ≡ Some name.now) }
 {
@@ -87,7 +87,7 @@ fn wires(alloc: Global, of: &Module) -> Result<List<u32>, Memory>
     Ok(wires)
 }
 
-fn zeros(alloc: Global, count: usize) -> Result<List<u64>, Memory>
+pub(crate) fn zeros(alloc: Global, count: usize) -> Result<List<u64>, Memory>
     ensures { IfOk result (λ words. length words ≡ count) }
 {
     let mut words = List::new(alloc);
@@ -132,9 +132,9 @@ fn word_next(given: &[Given], next: usize, cycle: u32, port: u32) -> (u64, usize
     (0, next)
 }
 
-// Presents at all input ports what is given to them in a cycle, and notes it. The values for it begin at
-// `first`, and where those for the next cycle begin is the answer.
-fn present(
+/// Presents at all input ports what is given to them in a cycle, and notes it. The values for it begin at
+/// `first`, and where those for the next cycle begin is the answer.
+pub(crate) fn present(
     clock: &mut Clock<'_>,
     inputs: u32,
     given: &[Given],

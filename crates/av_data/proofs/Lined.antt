@@ -16,7 +16,8 @@ use Rattle.av_data.specs.declared.fault.DataFault.{DataFault}
 use Rattle.av_data.specs.declared.fault.DataFault.TheVariants.{DataSyntax, DataUnknown, DataOutside, DataTwice, DataMissing, Memory}
 use Rattle.av_data.specs.Lines.{uncommented, parts_of}
 use Rattle.av_data.specs.Stimuli.{IsCycles, IsAt, Gives, IsSame, IsOutside, NamesNone, IsOutOf, GivesAgain, IsLineFault}
-use Rattle.av_data.specs.Reading.{first_part, is_empty, cycles_digits, cycles_by, cycles_at, Setting, setting_in, place_of, bits_of, width_at, is_given, placed, added, given_as, is_within, given_at, given_by, value_at}
+use Rattle.av_data.specs.Reading.{first_part, is_empty, cycles_digits, cycles_by, cycles_at, Setting, setting_in, place_of, bits_of, width_at, added, given_as, is_within, given_at, given_by, value_at}
+use Rattle.av_data.specs.Kept.{is_given, placed}
 use Rattle.av_data.proofs.Parted.{end_is, end_of, part_of, some_part}
 use Rattle.av_data.proofs.Spelled.{cycles_is, cycles_of, IsSetting, setting_is, setting_of}
 use Rattle.av_data.proofs.Sorting.{Sorts, given_before, given_none, again_given}

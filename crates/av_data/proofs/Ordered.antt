@@ -9,8 +9,7 @@ use Rattle.std.specs.BTreeMap.{insert_entry}
 use Rattle.std.proofs.lemmas.Bool.{ltb-true, eqb-true}
 use Rattle.std.proofs.Common.{arith}
 use Rattle.av_data.specs.declared.stimulus.Given.{Given}
-use Rattle.av_data.specs.Kept.{entry_given}
-use Rattle.av_data.specs.Reading.{is_same, is_before, is_given, placed}
+use Rattle.av_data.specs.Kept.{entry_given, is_same, is_before, is_given, placed}
 
 abbrev Entry : Type 0
 Entry = (ℕ × ℕ) × ℕ
@@ -22,12 +21,12 @@ abbrev pub key_of : Given → ℕ × ℕ
 key_of g = (g.cycle, g.port)
 
 -- what a comparison of numbers answers, with the tests that go with it
-data Compared (m n : ℕ) : Ordering → Bool → Bool → Type 0 where
+pub data Compared (m n : ℕ) : Ordering → Bool → Bool → Type 0 where
   less : Compared m n Less true false
   equal : Compared m n Equal false true
   greater : Compared m n Greater false false
 
-compared : (m n : ℕ) → Compared m n (nat_cmp m n) (nat_lt m n) (nat_eq m n)
+pub compared : (m n : ℕ) → Compared m n (nat_cmp m n) (nat_lt m n) (nat_eq m n)
 compared m n = by (nat_lt m n) (nat_eq m n) refl refl
   where
     by : (t u : Bool) → nat_lt m n ≡ t → nat_eq m n ≡ u → Compared m n (cond t Less (cond u Equal Greater)) t u

@@ -7,10 +7,10 @@ use Rattle.av_net.specs.Listed.{longer}
 use Rattle.av_data.specs.Lines.{is_gap, separated}
 use Rattle.av_data.specs.Reading.{is_part_byte, without_gap, first_part, after_part, is_empty}
 
-prefix_yes : (p : ℕ → Bool) (b : ℕ) (bytes : List ℕ) → p b ≡ true → prefix_len p (b ∷ bytes) ≡ suc (prefix_len p bytes)
+pub prefix_yes : (p : ℕ → Bool) (b : ℕ) (bytes : List ℕ) → p b ≡ true → prefix_len p (b ∷ bytes) ≡ suc (prefix_len p bytes)
 prefix_yes p b bytes h = rw h (omega arith)
 
-prefix_no : (p : ℕ → Bool) (b : ℕ) (bytes : List ℕ) → p b ≡ false → prefix_len p (b ∷ bytes) ≡ 0
+pub prefix_no : (p : ℕ → Bool) (b : ℕ) (bytes : List ℕ) → p b ≡ false → prefix_len p (b ∷ bytes) ≡ 0
 prefix_no p b bytes h = rw h refl
 
 -- what stands before the first blank or tab, and from it on
@@ -42,7 +42,7 @@ run_splits b (c ∷ bytes) h = by (is_gap c) refl (λ k. run_splits c bytes k)
     by false k ih =
         goes_step b c bytes h k ∙ ap (longer b) (ih k) ∙ ap (λ z. (b ∷ z) ∷ separated (rest bytes)) (sym (run_yes c bytes k).0) ∙ ap (λ z. (b ∷ run (c ∷ bytes)) ∷ separated z) (sym (run_yes c bytes k).1)
 
-never_zero : (n : ℕ) → nat_eq (suc n) 0 ≡ false
+pub never_zero : (n : ℕ) → nat_eq (suc n) 0 ≡ false
 never_zero n = by (nat_eq (suc n) 0) refl
   where
     by : (t : Bool) → nat_eq (suc n) 0 ≡ t → t ≡ false
@@ -85,15 +85,15 @@ end_is text h = by (first_there text)
     by (inl e) = e.1
     by (inr e) = absurd (true≢false (sym h ∙ e.0))
 
-abbrev head_of : List (List ℕ) → List ℕ
+abbrev pub head_of : List (List ℕ) → List ℕ
 head_of [] = []
 head_of (x ∷ xs) = x
 
-abbrev tail_of : List (List ℕ) → List (List ℕ)
+abbrev pub tail_of : List (List ℕ) → List (List ℕ)
 tail_of [] = []
 tail_of (x ∷ xs) = xs
 
-abbrev count : List (List ℕ) → Bool
+abbrev pub count : List (List ℕ) → Bool
 count [] = false
 count (x ∷ xs) = true
 

@@ -6,7 +6,7 @@ use Rattle.std.proofs.lemmas.List.Elements.{All-nil, All-cons, All-head, All-tai
 use Rattle.std.proofs.lemmas.List.Kept.{AllPairs-cons}
 use Rattle.av_data.specs.declared.stimulus.Given.{Given}
 use Rattle.av_data.specs.Stimuli.{IsSame, IsBefore}
-use Rattle.av_data.specs.Reading.{is_same, is_before, is_given, placed}
+use Rattle.av_data.specs.Kept.{is_same, is_before, is_given, placed}
 use Rattle.av_data.proofs.Spelled.{both, one_and}
 
 -- ---- elements and pairs
@@ -105,7 +105,7 @@ placed_ascends g (h ∷ values) ascending none =
         AllPairs-cons IsBefore g (h ∷ values) (All-cons (IsBefore g) h values first (All-weaker (IsBefore h) (IsBefore g) (λ k later. before_chain g h k first later) values (pairs_head h values ascending))) ascending
     by false e apart ih = AllPairs-cons IsBefore h (placed g values) (placed_all (IsBefore h) g values (before_other g h e apart) (pairs_head h values ascending)) ih
 
-placed_has : (g : Given) (values : List Given) → Contains (placed g values) g
+pub placed_has : (g : Given) (values : List Given) → Contains (placed g values) g
 placed_has g [] = contains_here g []
 placed_has g (h ∷ values) = by (is_before g h) (placed_has g values)
   where
@@ -113,7 +113,7 @@ placed_has g (h ∷ values) = by (is_before g h) (placed_has g values)
     by true ih = contains_here g (h ∷ values)
     by false ih = contains_later h (placed g values) g ih
 
-placed_keeps : (g : Given) (values : List Given) (x : Given) → Contains values x → Contains (placed g values) x
+pub placed_keeps : (g : Given) (values : List Given) (x : Given) → Contains values x → Contains (placed g values) x
 placed_keeps g [] x c = absurd (contains_none x c)
 placed_keeps g (h ∷ values) x c = by (is_before g h) (contains_cases h values x c) (placed_keeps g values x)
   where
@@ -122,7 +122,7 @@ placed_keeps g (h ∷ values) x c = by (is_before g h) (contains_cases h values 
     by false (inl e) ih = subst (Contains (h ∷ placed g values)) e (contains_here h (placed g values))
     by false (inr k) ih = contains_later h (placed g values) x (ih k)
 
-placed_only : (g : Given) (values : List Given) (x : Given) → Contains (placed g values) x → (g ≡ x) ⊎ Contains values x
+pub placed_only : (g : Given) (values : List Given) (x : Given) → Contains (placed g values) x → (g ≡ x) ⊎ Contains values x
 placed_only g [] x c = contains_cases g [] x c
 placed_only g (h ∷ values) x c = by (is_before g h) c (placed_only g values x)
   where

@@ -42,10 +42,10 @@ some_if {A = A} false x y e = absurd (true≢false (sym (ap is_there e)))
 
 -- ---- all bytes of a text pass a test
 
-all_pass : (p : ℕ → Bool) (xs : List ℕ) → nat_eq (prefix_len p xs) (length xs) ≡ true → All (λ x. IsTrue (p x)) xs
+pub all_pass : (p : ℕ → Bool) (xs : List ℕ) → nat_eq (prefix_len p xs) (length xs) ≡ true → All (λ x. IsTrue (p x)) xs
 all_pass p xs h = let e = eqb-true (prefix_len p xs) (length xs) h in All-from_get_or (λ x. IsTrue (p x)) xs 0 (λ i lt. prefix_len_passes p xs i 0 (omega (arith, e)))
 
-pass_all : (p : ℕ → Bool) (xs : List ℕ) → All (λ x. IsTrue (p x)) xs → nat_eq (prefix_len p xs) (length xs) ≡ true
+pub pass_all : (p : ℕ → Bool) (xs : List ℕ) → All (λ x. IsTrue (p x)) xs → nat_eq (prefix_len p xs) (length xs) ≡ true
 pass_all p xs all = elim (cases_lt (prefix_len p xs) (length xs)) [
   | inl lt ↦ absurd (true≢false (sym (All-get_or (λ x. IsTrue (p x)) xs (prefix_len p xs) 0 lt all) ∙ prefix_len_stops p xs 0 lt))
   | inr le ↦ eq-eqb (prefix_len p xs) (length xs) (omega (arith, prefix_len-le-length p xs))
@@ -78,10 +78,10 @@ identifier_to : (text : List ℕ) → IsIdentifier text → is_identifier text �
 identifier_to [] h = absurd h
 identifier_to (b ∷ bytes) h = one_and (begins_name b) (nat_eq (prefix_len is_word_byte bytes) (length bytes)) h.0 (pass_all is_word_byte bytes h.1)
 
-not_true : (t : Bool) → not t ≡ true → t ≡ true → ⊥
+pub not_true : (t : Bool) → not t ≡ true → t ≡ true → ⊥
 not_true t e f = true≢false (sym e ∙ ap not f)
 
-is_false : (t : Bool) → (t ≡ true → ⊥) → not t ≡ true
+pub is_false : (t : Bool) → (t ≡ true → ⊥) → not t ≡ true
 is_false true h = absurd (h refl)
 is_false false h = refl
 

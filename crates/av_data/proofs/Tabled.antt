@@ -1,6 +1,6 @@
 -- Lines of cells that are written one after another.
-use Rattle.std.proofs.Common.{◌≡◌, ℕ, zero, suc, ◌+◌, ◌<◌, List, [], ◌∷◌, ◌++◌, length, get_or, take, drop, Option, Some, option_map, Bool, true, refl, sym, ap, subst, ◌∙◌, append_assoc, arith, All, map}
-use Rattle.std.specs.Prelude.{slice_get, filter, codes, decimal}
+use Rattle.std.proofs.Common.{◌≡◌, ℕ, zero, suc, ◌+◌, ◌<◌, List, [], ◌∷◌, ◌++◌, length, get_or, take, Option, Some, option_map, true, sym, ap, subst, ◌∙◌, append_assoc, arith, All, map}
+use Rattle.std.specs.Prelude.{slice_get, filter}
 use Rattle.std.proofs.lemmas.List.{append-nil, take-map, get_or_default}
 use Rattle.std.proofs.lemmas.Option.{slice_get-get_or, slice_get-map, slice_get_within}
 use Rattle.std.proofs.lemmas.List.Elements.{All-weaker}

@@ -9,7 +9,8 @@ use Rattle.av_data.specs.declared.fault.DataFault.{DataFault}
 use Rattle.av_data.specs.declared.fault.DataFault.TheVariants.{DataSyntax, DataUnknown, DataOutside, DataTwice, DataMissing, Memory}
 use Rattle.av_data.specs.Lines.{data_lines, parts_of}
 use Rattle.av_data.specs.Stimuli.{IsCycles, Gives, IsSame, AreGiven, no_line, empty_line, value_line, AreSaid, empty_first, cycles_first, SpellsStimulus, IsLaterFault, here, past_empty, past_value, IsFirstFault, no_cycles, other_first, past_empty_first, past_cycles, IsStimulusFault, GivesStimulus, GivesFault}
-use Rattle.av_data.specs.Reading.{placed, cycles_at, value_at, stimulus_from, stimulus_of, ◌>>=◌, FaultIs, Answers}
+use Rattle.av_data.specs.Reading.{cycles_at, value_at, stimulus_from, stimulus_of, ◌>>=◌, FaultIs, Answers}
+use Rattle.av_data.specs.Kept.{placed}
 use Rattle.av_data.proofs.Sorting.{Sorts, sorts_none, sorts_more, none_given, one_order}
 use Rattle.av_data.proofs.Lined.{First, empty, said, other, first_line_is, cycles_read, empty_read, other_read, Outcome, nothing, one, faulty, outcome, nothing_read, gives_read, fault_read}
 
@@ -17,7 +18,7 @@ abbrev is_ok : {A : Type 0} → Result A DataFault → Bool
 is_ok (Ok x) = true
 is_ok (Err f) = false
 
-ok_err : {A : Type 0} {x : A} {f : DataFault} → Ok x ≡ Err f → ⊥
+pub ok_err : {A : Type 0} {x : A} {f : DataFault} → Ok x ≡ Err f → ⊥
 ok_err e = true≢false (ap is_ok e)
 
 abbrev ok_or : {A : Type 0} → A → Result A DataFault → A

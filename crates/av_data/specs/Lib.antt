@@ -8,3 +8,7 @@ pub mod Named
 pub mod Divisions
 pub mod Schedules
 pub mod Tables
+pub mod Inputs
+pub mod Data
+pub mod Results
+pub mod inner

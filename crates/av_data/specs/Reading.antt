@@ -1,5 +1,5 @@
 -- Reading a stimulus from left to right and line by line.
-use Rattle.std.specs.Prelude.{◌≡◌, ℕ, ◌+◌, ◌^◌, Bool, false, not, ◌&&◌, ◌||◌, if◌then◌else◌, nat_eq, nat_lt, nat_le, List, [], ◌∷◌, codes, length, take, drop, Option, Some, None, Result, Ok, Err, slice_get}
+use Rattle.std.specs.Prelude.{◌≡◌, ℕ, ◌+◌, ◌^◌, Bool, false, not, ◌&&◌, if◌then◌else◌, nat_eq, nat_lt, nat_le, List, [], ◌∷◌, codes, length, take, drop, Option, Some, None, Result, Ok, Err, slice_get}
 use Rattle.std.specs.List.{prefix_len, list_any, position}
 use Rattle.std.specs.Str.{bytes_eq}
 use Rattle.std.specs.Char.{is_ascii_digit}
@@ -13,6 +13,7 @@ use Rattle.av_data.specs.declared.stimulus.Stimulus.{Stimulus}
 use Rattle.av_data.specs.declared.fault.DataFault.{DataFault}
 use Rattle.av_data.specs.declared.fault.DataFault.TheVariants.{DataSyntax, DataUnknown, DataOutside, DataTwice, Memory}
 use Rattle.av_data.specs.Lines.{data_lines, uncommented, is_gap}
+use Rattle.av_data.specs.Kept.{is_given, placed}
 
 -- ---- one line at the front of some bytes
 
@@ -121,20 +122,6 @@ bits_of (Some port) = port.width.bits
 -- the width of the port there, or 0
 abbrev pub width_at : List Port → ℕ → ℕ
 width_at inputs k = bits_of (slice_get inputs k)
-
-abbrev pub is_same : Given → Given → Bool
-is_same g h = nat_eq g.cycle h.cycle && nat_eq g.port h.port
-
-abbrev pub is_before : Given → Given → Bool
-is_before g h = nat_lt g.cycle h.cycle || (nat_eq g.cycle h.cycle && nat_lt g.port h.port)
-
-abbrev pub is_given : List Given → Given → Bool
-is_given values g = list_any (is_same g) values
-
--- a value put in its place
-abbrev pub placed : Given → List Given → List Given
-placed g [] = g ∷ []
-placed g (h ∷ values) = if is_before g h then g ∷ h ∷ values else h ∷ placed g values
 
 abbrev pub added : ℕ → List Given → Given → Result (List Given) DataFault
 added k values g = if is_given values g then Err (DataTwice k) else Ok (placed g values)

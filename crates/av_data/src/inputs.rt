@@ -1,67 +1,37 @@
-//! The input ports of a module, found by their names.
+//! The words that inputs are given.
 
-ghost use Rattle.std.specs.Prelude.{◌≡◌, ◌<◌, length, IfOk, IfSome};
-ghost use Rattle.av_net.specs.Names.{AreDistinct, names_of};
-ghost use Rattle.av_data.specs.Reading.{place_of, width_at};
+ghost use Rattle.std.specs.Prelude.{◌≡◌, Some, None, IfSome, IfNone};
+ghost use Rattle.av_data.specs.Inputs.{words_of};
 
-use crate::places::Places;
-use av_base::{Memory, Width};
-use av_net::Port;
-use std::alloc::Global;
+use crate::name_table::NameTable;
+use crate::word_map::WordMap;
+use av_base::{Name, Point, Word};
 use std::marker::Model;
 
-/// Input ports with different names, as which contracts see them, and their names in the same order.
+/// The words of the points of a system's inputs, which contracts see as a finite map from points to words.
 #[derive(Drop)]
-pub(crate) struct Inputs<'a> {
-    ports: &'a [Port],
-    names: Places<'a>,
+pub struct Inputs {
+    /// The names of the system's variables, in order.
+    pub(crate) names: NameTable,
+    /// The words of points, by the places of their variables.
+    pub(crate) words: WordMap,
 }
 
-impl<'a> Model for Inputs<'a> {
-    ghost use Rattle.std.specs.Prelude.{List as Items};
-    ghost use Rattle.av_net.specs.declared.netlist.Port.{Port as Declared};
+impl Model for Inputs {
+    ghost use Rattle.av_data.specs.Inputs.{InputWords};
 
-    ghost Value = { Items Declared };
+    ghost Value = { InputWords };
 
-    ghost use Rattle.av_data.specs.Named.{AreNamed};
-
-    ghost view = { λ inputs. inputs.ports.now };
-
-    ghost invariant = { AreNamed };
+    ghost view = { λ inputs. record { names = inputs.names; words = inputs.words } };
 }
 
-impl<'a> Inputs<'a> {
-    pub(crate) fn new(alloc: Global, ports: &'a [Port]) -> Result<Inputs<'a>, Memory>
-        requires { AreDistinct (names_of ports.now) }
-        ensures { IfOk result (λ inputs. inputs ≡ ports.now) }
+impl Inputs {
+    /// The word of a point of the input with this name, or `None` where the map has no such point. It takes no memory.
+    pub fn word(&self, variable: &Name, point: &Point) -> Option<Word>
+        ensures some { IfSome result (λ word. words_of self.now variable.now point.now ≡ Some word.bits) }
+        ensures none { IfNone result (words_of self.now variable.now point.now ≡ None) }
     {
-        let mut names = Places::new(alloc);
-        for port in ports {
-            names.push(&port.name)?;
-        }
-        Ok(Inputs { ports, names })
-    }
-
-    /// The place of the port with a name. Places are numbers of 32 bits: so many ports that a place is
-    /// greater count as want of memory.
-    pub(crate) fn place(&self, name: &[u8]) -> Result<Option<u32>, Memory>
-        ensures place { IfOk result (λ place. place ≡ place_of self.now name.now) }
-        ensures within { IfOk result (λ place. IfSome place (λ k. k < length self.now)) }
-    {
-        match self.names.find(name) {
-            None => Ok(None),
-            Some(place) => match u32::try_from(place) {
-                Ok(place) => Ok(Some(place)),
-                Err(_) => Err(Memory),
-            },
-        }
-    }
-
-    /// The width of the port there.
-    pub(crate) fn width(&self, place: u32) -> Width
-        requires { place < length self.now }
-        ensures { result.bits ≡ width_at self.now place }
-    {
-        self.ports[place as usize].width
+        let place = self.names.find(variable)?;
+        self.words.word(place, point)
     }
 }

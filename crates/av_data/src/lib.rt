@@ -2,26 +2,41 @@
 #![tactic(auto)]
 
 mod cycle;
+mod data;
+mod data_lines;
 mod division;
+mod entries;
 mod fault;
 mod forms;
+mod input_ports;
 mod inputs;
 mod lines;
+mod missing;
+mod name_table;
+mod pieces;
 mod places;
 mod reader;
+mod result;
+mod saying;
 mod schedule;
 mod spelling;
 mod stimulus;
 mod table;
 mod timeline;
+mod whole;
+mod word_map;
 
 pub use cycle::write_cycle;
+pub use data::read_data;
 pub use division::{Division, divide};
 pub use fault::DataFault;
+pub use inputs::Inputs;
 pub use places::Places;
+pub use result::write_result;
 pub use schedule::write_schedule;
 pub use stimulus::{Given, Stimulus, read_stimulus};
-pub use table::write_table;
+pub use table::{write_table, write_totals};
+pub use timeline::Timeline;
 
 #[cfg(test)]
 mod tests;

@@ -4,7 +4,7 @@ ghost use Rattle.std.specs.Prelude.{◌≡◌, ◌≤◌, length, drop};
 ghost use Rattle.std.specs.List.{prefix_len};
 ghost use Rattle.av_net.specs.Listed.{begins_feed};
 ghost use Rattle.av_data.specs.Lines.{is_commented, uncommented, is_gap};
-ghost use Rattle.av_data.specs.Reading.{is_part_byte, begins_return, first_line, line_size, first_part, after_part};
+ghost use Rattle.av_data.specs.Reading.{is_part_byte, begins_return, first_line, line_size, first_part, after_part, is_empty};
 
 /// The bytes from an index on.
 pub(crate) fn from(text: &[u8], at: usize) -> &[u8]
@@ -76,7 +76,7 @@ fn is_gap(byte: u8) -> bool
     byte == b' ' || byte == b'\t'
 }
 
-fn gap_len(text: &[u8]) -> usize
+pub(crate) fn gap_len(text: &[u8]) -> usize
     ensures len { result ≡ prefix_len is_gap text.now }
     ensures within { result ≤ length text.now }
 {
@@ -99,4 +99,11 @@ pub(crate) fn first_part(text: &[u8]) -> (&[u8], &[u8])
     let text = from(text, gap_len(text));
     let len = part_len(text);
     (&text[..len], from(text, len))
+}
+
+/// Whether a text has no part.
+pub(crate) fn is_empty(text: &[u8]) -> bool
+    ensures { result ≡ is_empty (first_part text.now) }
+{
+    first_part(text).0.is_empty()
 }

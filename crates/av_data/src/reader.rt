@@ -2,13 +2,13 @@
 
 ghost use Rattle.std.specs.Prelude.{◌≡◌, ◌<◌, ◌+◌, ◌≤◌, length, drop, Ok, Err, Some, [], OnOk, IfErr, IfOk};
 ghost use Rattle.av_net.specs.Names.{AreDistinct, names_of};
-ghost use Rattle.av_data.specs.Reading.{is_empty, first_part, cycles_digits, cycles_at, cycles_by, value_at, given_at, place_of, stimulus_of, FaultIs, Answers};
+ghost use Rattle.av_data.specs.Reading.{cycles_digits, cycles_at, cycles_by, value_at, given_at, place_of, stimulus_of, FaultIs, Answers};
 ghost use Rattle.av_data.specs.Said.{said};
 
 use crate::DataFault;
 use crate::forms::{Setting, cycles_digits, setting_in};
-use crate::inputs::Inputs;
-use crate::lines::{first_line, first_part, from, uncommented};
+use crate::input_ports::InputPorts;
+use crate::lines::{first_line, from, is_empty, uncommented};
 use crate::spelling::{number_below, word_of};
 use crate::stimulus::{Given, Stimulus};
 use crate::timeline::Timeline;
@@ -17,12 +17,6 @@ use std::alloc::Global;
 
 // The greatest number of cycles.
 const LIMIT: u32 = 4096;
-
-fn is_empty(text: &[u8]) -> bool
-    ensures { result ≡ is_empty (first_part text.now) }
-{
-    first_part(text).0.is_empty()
-}
 
 fn cycles_said(line: u32, text: &[u8]) -> Result<Option<u32>, DataFault>
     ensures { Answers result (cycles_by line (cycles_digits text.now)) }
@@ -50,7 +44,7 @@ fn cycles_at(line: u32, text: &[u8]) -> Result<Option<u32>, DataFault>
 
 // Puts the value in its place, if the line says one for an input port that has none in that cycle.
 fn give(
-    inputs: &Inputs,
+    inputs: &InputPorts,
     cycles: u32,
     values: &mut Timeline,
     line: u32,
@@ -78,7 +72,7 @@ fn give(
 // Takes a line that stands behind the one that says how many cycles there are.
 #[tactic(auto, unfolding(crate::specs::Reading::value_at))]
 fn value_at(
-    inputs: &Inputs,
+    inputs: &InputPorts,
     cycles: u32,
     values: &mut Timeline,
     line: u32,
@@ -108,7 +102,7 @@ pub(crate) fn read(
     requires names { AreDistinct (names_of ports.now) }
     ensures { Answers result (stimulus_of ports.now first bytes.now) }
 {
-    let inputs = Inputs::new(alloc, ports)?;
+    let inputs = InputPorts::new(alloc, ports)?;
     let mut values = Timeline::new(alloc);
     let mut cycles = None;
     let mut line = first;

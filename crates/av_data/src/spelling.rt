@@ -44,13 +44,13 @@ fn begins_name(byte: u8) -> bool
     byte.is_ascii_alphabetic() || byte == b'_'
 }
 
-fn is_word_byte(byte: u8) -> bool
+pub(crate) fn is_word_byte(byte: u8) -> bool
     ensures { result ≡ is_word_byte byte }
 {
     byte.is_ascii_alphabetic() || byte.is_ascii_digit() || byte == b'_'
 }
 
-fn word_len(text: &[u8]) -> usize
+pub(crate) fn word_len(text: &[u8]) -> usize
     ensures len { result ≡ prefix_len is_word_byte text.now }
     ensures within { result ≤ length text.now }
 {
@@ -66,7 +66,7 @@ fn is_identifier(text: &[u8]) -> bool
     }
 }
 
-fn is_one_of(text: &[u8], words: &[&str]) -> bool
+pub(crate) fn is_one_of(text: &[u8], words: &[&str]) -> bool
     ensures { result ≡ list_any (λ word. bytes_eq text.now word.now) words.now }
 {
     words.iter().any(|word| text == word.as_bytes())

@@ -95,7 +95,8 @@ fn write_listed<K: Sink>(page: &mut Page, sink: &mut K, word: &str, entry: &Entr
     page.put(sink, "\n");
 }
 
-fn write_totals<K: Sink>(page: &mut Page, sink: &mut K, cells: &Cells)
+/// Puts the line of the totals on the page.
+pub fn write_totals<K: Sink>(page: &mut Page, sink: &mut K, cells: &Cells)
     ensures { Puts (K.held sink.old) (K.held sink.new) (K.faults sink.old) (K.faults sink.new) page.old page.new (totals_line cells.now) }
 {
     write_total(page, sink, "cycles ", cells.cycles as usize);

@@ -1,7 +1,7 @@
 //! Values that ports carry in cycles.
 
 ghost use Rattle.std.specs.Prelude.{◌≡◌, [], not, if◌then◌else◌, IfOk, OnOk};
-ghost use Rattle.av_data.specs.Reading.{is_given, placed};
+ghost use Rattle.av_data.specs.Kept.{is_given, placed};
 
 use crate::stimulus::Given;
 use av_base::{List, Memory};
@@ -11,7 +11,7 @@ use std::marker::Model;
 
 /// Values by cycle and port, in ascending order.
 #[derive(Drop)]
-pub(crate) struct Timeline {
+pub struct Timeline {
     found: BTreeMap<(u32, u32), u64>,
 }
 
@@ -27,7 +27,7 @@ impl Model for Timeline {
 }
 
 impl Timeline {
-    pub(crate) fn new(alloc: Global) -> Timeline
+    pub fn new(alloc: Global) -> Timeline
         ensures { result ≡ [] }
     {
         Timeline {
@@ -36,7 +36,7 @@ impl Timeline {
     }
 
     /// Puts a value in its place, if its port has none in its cycle. Whether it had none.
-    pub(crate) fn give(&mut self, given: Given) -> Result<bool, Memory>
+    pub fn give(&mut self, given: Given) -> Result<bool, Memory>
         ensures is_new { IfOk result (λ is_new. is_new ≡ not (is_given self.old given)) }
         ensures all { OnOk result (self.new ≡ (if is_given self.old given then self.old else placed given self.old)) }
     {
@@ -51,7 +51,7 @@ impl Timeline {
     }
 
     /// The values, in order.
-    pub(crate) fn list(&self, alloc: Global) -> Result<List<Given>, Memory>
+    pub fn list(&self, alloc: Global) -> Result<List<Given>, Memory>
         ensures { IfOk result (λ list. list ≡ self.now) }
     {
         let mut list = List::new(alloc);

@@ -1,12 +1,14 @@
 use Rattle.std.proofs.Common.{subst}
 use Rattle.av_cli.specs.declared.words.Command.{Command}
-use Rattle.av_cli.specs.declared.words.Command.TheVariants.{Check, Schedule, Table, Emit, Sim}
+use Rattle.av_cli.specs.declared.words.Command.TheVariants.{Check, Schedule, Table, Emit, Run, Trace, Sim, Demo}
 use Rattle.av_cli.specs.CommandsSeen.{Are}
 use Rattle.av_cli.proofs.Answered.{by_command}
 use Rattle.av_cli.proofs.Checking.{check_answered}
 use Rattle.av_cli.proofs.Scheduling.{schedule_answered}
 use Rattle.av_cli.proofs.Tabling.{table_answered}
 use Rattle.av_cli.proofs.Emitting.{emit_answered}
+use Rattle.av_cli.proofs.Reporting.{run_words, trace_words}
+use Rattle.av_cli.proofs.Telling.{told_given}
 use Rattle.av_cli.proofs.program.answer.Goals as goal
 
 pub returns-in-Check : goal.returns-in-Check
@@ -45,3 +47,24 @@ returns-in-Emit g c =
 
 pub returns-in-Sim : goal.returns-in-Sim
 returns-in-Sim g c = by_command c.args.command Sim c.args.words.now c.args.bytes.now c.in-Sim.is c.sim.ensures
+
+pub returns-in-Run : goal.returns-in-Run
+returns-in-Run g c =
+    let words = c.args.words.now in
+    let bytes = c.args.bytes.now in
+    let width = c.in-Run.width in
+    let reach = c.in-Run.reach in
+    by_command c.args.command (Run width reach) words bytes c.in-Run.is
+    (run_words words width.bits reach.size bytes (subst (λ (x : Command). Are x words) c.in-Run.is c.requires.read) c.answer_run.ensures)
+
+pub returns-in-Trace : goal.returns-in-Trace
+returns-in-Trace g c =
+    let words = c.args.words.now in
+    let bytes = c.args.bytes.now in
+    let width = c.in-Trace.width in
+    let reach = c.in-Trace.reach in
+    by_command c.args.command (Trace width reach) words bytes c.in-Trace.is
+    (trace_words words width.bits reach.size bytes (subst (λ (x : Command). Are x words) c.in-Trace.is c.requires.read) c.answer_run-in-Trace.ensures)
+
+pub returns-in-Demo : goal.returns-in-Demo
+returns-in-Demo g c = by_command c.args.command (Demo c.in-Demo.width c.in-Demo.reach c.in-Demo.size) c.args.words.now c.args.bytes.now c.in-Demo.is (told_given (λ out given. given) c.demo.ensures)

@@ -1,10 +1,7 @@
 use Rattle.std.proofs.Common.{refl}
 use Rattle.av_cli.proofs.Walking.{all_left}
-use Rattle.av_cli.proofs.Simulating.{of_stimulus, stimulus_refused, run_answered}
+use Rattle.av_cli.proofs.Simulating.{stimulus_refused, run_answered}
 use Rattle.av_cli.proofs.sim.sim_module.Goals as goal
-
-pub put_data_refusal-requires : goal.put_data_refusal-requires
-put_data_refusal-requires g c = of_stimulus c.args.of.now.inputs c.args.first_line c.args.bytes.now c.in-Err.fault (c.in-Err.ensures.fault c.in-Err.fault refl)
 
 pub clock_module-requires-clause-left : goal.clock_module-requires-clause-left
 clock_module-requires-clause-left g c = all_left c.args.of.now.inputs c.args.bytes.now c.in-Ok.stimulus c.in-Ok.ensures.found

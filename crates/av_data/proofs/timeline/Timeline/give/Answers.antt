@@ -1,5 +1,5 @@
 use Rattle.std.proofs.Common.{◌≡◌, sym, ap, ◌∙◌, true, false, refl}
-use Rattle.av_data.specs.Reading.{is_given, placed}
+use Rattle.av_data.specs.Kept.{is_given, placed}
 use Rattle.av_data.proofs.Ordered.{found_given, entry_placed}
 use Rattle.av_data.proofs.timeline.Timeline.give.Goals as goal
 use Rattle.av_data.proofs.timeline.Timeline.give.Goals.{in-Ok, in-Err}

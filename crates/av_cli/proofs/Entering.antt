@@ -1,0 +1,136 @@
+-- How the answer of `demo` follows from what its steps did.
+use Rattle.std.proofs.Common.{◌≡◌, ℕ, ◌<◌, ◌≤◌, Bool, true, false, List, [], ◌∷◌, length, get_or, map, pos, Option, Some, None, slice_get, refl, sym, ap, ◌∙◌, subst, arith, IsTrue, true≢false}
+use Rattle.std.specs.Prelude.{◌↔◌, ◌^◌, if◌then◌else◌, codes, All, IsSome}
+use Rattle.std.proofs.lemmas.List.Elements.{All-weaker}
+use Rattle.std.proofs.lemmas.Option.{slice_get-get_or}
+use Rattle.av_base.specs.Words.{IsWord, residue}
+use Rattle.av_tree.specs.Trees.{Text}
+use Rattle.av_tree.specs.Points.{Point}
+use Rattle.av_tree.specs.Values.{Assignment}
+use Rattle.av_tree.specs.Domains.{is_declared}
+use Rattle.av_tree.specs.Counts.{Instance}
+use Rattle.av_tree.specs.Solutions as tree
+use Rattle.av_flat.specs.declared.timed.Timed.{Timed}
+use Rattle.av_names.specs.declared.size.Size.{Size}
+use Rattle.av_names.specs.Accepted.{instance_of}
+use Rattle.av_net.specs.declared.netlist.Port.{Port}
+use Rattle.av_net.specs.declared.design.Entry.{Entry}
+use Rattle.av_net.specs.declared.design.Design.{Design}
+use Rattle.av_net.specs.Presented.{HasFittingWord, HaveFittingWords}
+use Rattle.av_space.specs.declared.cells.Cells.{Cells}
+use Rattle.av_compile.specs.Headline.{Headline}
+use Rattle.av_cli.specs.Shown.{IsFed, IsFedRun, AreShown}
+use Rattle.av_cli.specs.Demos.{product_text, product_sizes, AreEntries, GivesDemo}
+use Rattle.av_cli.specs.declared.status.Status.{Status}
+use Rattle.av_cli.specs.inner.Tellings.{IsTold, told, untold}
+use Rattle.av_cli.specs.inner.DemoData.{entry, entries, IsEntered, IsSummed}
+use Rattle.av_cli.proofs.Fed.{some_one, shows_words}
+use Rattle.av_cli.proofs.Reporting.{clockable, port_widths, presented_inputs}
+use Rattle.std.proofs.Math.Nat.{mod-lt, one-le-pow}
+
+-- a residue is a word
+residue_fits : (bits a : ℕ) → IsWord bits (residue bits a)
+residue_fits bits a = mod-lt a (one-le-pow bits 2 (omega arith))
+
+-- ---- a design can be clocked on the entries
+
+pub entered : (bytes : List ℕ) (sizes : List Size) (bits box : ℕ) (t : Timed) (a : Cells) (d : Design) → length bytes < 4294967295 → Headline bytes sizes bits box t a d → IsEntered d bits
+entered bytes sizes bits box t a d short h =
+    let ready = clockable bytes sizes bits box t a d h in
+    record {
+      sound = ready.sound;
+      apart = ready.apart;
+      fitting = λ k e lt.
+          let line = get_or d.listing.ins k e in
+          let w = residue bits (entry line.variable line.point) in (
+            w,
+            refl,
+            All-weaker (λ (p : Port). p.width.bits ≡ bits) (λ (p : Port). line.wire ≡ p.name → IsWord p.width.bits w) (λ p is wire. subst (λ n. IsWord n w) (sym is) (residue_fits bits (entry line.variable line.point))) d.module.inputs
+                (port_widths bytes sizes bits box t a d short h),
+          );
+    }
+
+-- ---- the entries as words of the text's inputs
+
+-- the entries, at declared points of inputs alone
+abbrev pub matrices : Instance → ℕ → Assignment
+matrices i bits name z = if is_declared i.sizes i.system.inputs name z then entries bits name z else None
+
+matrices_are : (i : Instance) (bits : ℕ) → i.width ≡ bits → tree.AreInputs i (matrices i bits)
+matrices_are i bits width = record {
+  declared = λ name z. both (is_declared i.sizes i.system.inputs name z) (entries bits name z) refl;
+  words = λ name z w e. by (is_declared i.sizes i.system.inputs name z) name z w e;
+}
+  where
+    both : (b : Bool) (o : Option ℕ) → IsSome o → IsSome (if b then o else None) ↔ IsTrue b
+    both true o some = (λ h. refl, λ h. some)
+    both false o some = (λ h. absurd (true≢false (sym h)), λ h. absurd (true≢false (sym h)))
+
+    by : (b : Bool) (name : Text) (z : Point) (w : ℕ) → (if b then entries bits name z else None) ≡ Some w → IsWord i.width w
+    by true name z w e = subst (λ n. IsWord n w) (sym width) (subst (IsWord bits) (some_one e) (residue_fits bits (entry name z)))
+    by false name z w e = absurd cc
+
+matrices_entries : (i : Instance) (bits : ℕ) → AreEntries bits (matrices i bits)
+matrices_entries i bits = record {
+  left = λ j k w e. sym (word (is_declared i.sizes i.system.inputs (codes "A") (pos j ∷ pos k ∷ [])) (entry (codes "A") (pos j ∷ pos k ∷ [])) w e);
+  right = λ k j w e. sym (word (is_declared i.sizes i.system.inputs (codes "B") (pos k ∷ pos j ∷ [])) (entry (codes "B") (pos k ∷ pos j ∷ [])) w e);
+}
+  where
+    word : (b : Bool) (n w : ℕ) → (if b then Some (residue bits n) else None) ≡ Some w → residue bits n ≡ w
+    word true n w e = some_one e
+    word false n w e = absurd cc
+
+-- ---- the answer
+
+pub product_short : length product_text < 4294967295
+product_short = omega arith
+
+module _ (k bits box : ℕ) (t : Timed) (a : Cells) (d : Design) (h : Headline product_text (product_sizes k) bits box t a d) (short : length product_text < 4294967295) where
+  abbrev own : Instance
+  own = instance_of h.system (product_sizes k) bits
+
+  same_on : All (λ line. matrices own bits line.variable line.point ≡ entries bits line.variable line.point) d.listing.ins
+  same_on =
+      All-weaker (λ (l : Entry). IsTrue (is_declared own.sizes own.system.inputs l.variable l.point)) (λ (l : Entry). matrices own bits l.variable l.point ≡ entries bits l.variable l.point)
+      (λ l declared. ap (λ (b : Bool). if b then entries bits l.variable l.point else None) declared) d.listing.ins (presented_inputs product_text (product_sizes k) bits box t a d short h)
+
+  fits : HaveFittingWords d (matrices own bits)
+  fits = λ j e lt.
+      let (w, has, each) = (entered product_text (product_sizes k) bits box t a d short h).fitting j e lt in
+      (w, same_on j e lt ∙ has, each)
+
+  shown_too : (words : List ℕ) → AreShown d (entries bits) words → AreShown d (matrices own bits) words
+  shown_too words shown =
+      let fed = shown.clocked.fed in
+      record {
+        cycles = shown.cycles;
+        run = shown.run;
+        clocked = record {
+          stream = shown.clocked.stream;
+          fed = record { on_reset = fed.on_reset; listed = λ j e lt. fed.listed j e lt ∙ sym (same_on j e lt); idle = fed.idle };
+          powered = shown.clocked.powered;
+          clocked = shown.clocked.clocked;
+        };
+        reached = shown.reached;
+        words_are = shown.words_are;
+      }
+
+  pub demo_given : (out : List ℕ) → IsSummed a d bits out → GivesDemo k bits box out
+  demo_given out summed =
+      let x = matrices own bits in
+      let inputs = matrices_are own bits refl in
+      let one = h.computes.one_solution x inputs in
+      record {
+        timed = t;
+        cells = a;
+        design = d;
+        computes = h;
+        inputs = x;
+        are_inputs = inputs;
+        entries = matrices_entries own bits;
+        solution = one.solution;
+        solves = one.solves;
+        words = summed.words;
+        solved = shows_words d x one.solution summed.words fits (h.computes.shows x one.solution inputs one.solves) (shown_too summed.words summed.shown);
+        lines = summed.lines;
+      }

@@ -1,0 +1,343 @@
+-- How the answers of `run` and `trace` follow from what their steps did.
+use Rattle.std.proofs.Common.{◌≡◌, ℕ, zero, suc, ◌+◌, ◌<◌, ◌≤◌, Bool, true, false, not, ◌||◌, ◌&&◌, nat_eq, cond, List, [], ◌∷◌, ◌++◌, length, get_or, map, Option, Some, None, slice_get, refl, sym, ap, ◌∙◌, subst, arith, inl, inr, IsTrue, true≢false}
+use Rattle.std.specs.Prelude.{◌⊎◌, ◌↔◌, ◌≢◌, if◌then◌else◌, codes, bytes_eq, All, AllPairs, IsSome}
+use Rattle.std.specs.List.{list_any}
+use Rattle.std.proofs.lemmas.Bool.{cases_lt}
+use Rattle.std.proofs.lemmas.Slice.Eq.{bytes_eq-Decides}
+use Rattle.std.proofs.lemmas.Option.{slice_get-get_or}
+use Rattle.std.proofs.lemmas.List.Elements.{All-nil, All-cons, All-head, All-tail, All-weaker}
+use Rattle.av_base.specs.Words.{IsWord}
+use Rattle.av_tree.specs.Trees.{System, Text}
+use Rattle.av_tree.specs.Grammar.{IsProgramText}
+use Rattle.av_tree.specs.Points.{Point}
+use Rattle.av_tree.specs.Values.{Assignment}
+use Rattle.av_tree.specs.Domains.{IsDeclared, is_declared}
+use Rattle.av_tree.specs.Solutions as tree
+use Rattle.av_flat.specs.declared.flat.Kind.{Kind}
+use Rattle.av_flat.specs.declared.flat.Kind.TheVariants as kind
+use Rattle.av_flat.specs.declared.timed.Timed.{Timed}
+use Rattle.av_flat.specs.Trees.{FlatSystem, Variable, view_system}
+use Rattle.av_flat.specs.Signatures as flat
+use Rattle.av_flat.specs.Signatures.{Signature, signatures, is_input, is_kind, is_shown}
+use Rattle.av_flat.specs.Points.{has}
+use Rattle.av_flat.specs.Nodes.{is_node}
+use Rattle.av_flat.proofs.Solving.{declared_from, declares}
+use Rattle.av_flat.specs.Shown.{SameMeaning}
+use Rattle.av_flat.specs.Solutions.{shows_of, declares_of}
+use Rattle.av_names.specs.declared.size.Size.{Size}
+use Rattle.av_names.specs.Accepted.{instance_of}
+use Rattle.av_names.specs.Same.{shows_in, declares_in}
+use Rattle.av_net.specs.declared.netlist.Port.{Port}
+use Rattle.av_net.specs.declared.design.Entry.{Entry}
+use Rattle.av_net.specs.declared.design.Design.{Design}
+use Rattle.av_net.specs.declared.design.Listing.{Listing}
+use Rattle.av_net.specs.Presented.{AreApart, HasFittingWord, HaveFittingWords}
+use Rattle.av_space.specs.declared.cells.Cells.{Cells}
+use Rattle.av_space.specs.Listings.{AtLine, IsAtLine}
+use Rattle.av_space.specs.Whole.{IsPresented}
+use Rattle.av_space.proofs.ByPlace.{from_map, pair_at, all_by_place, place_of}
+use Rattle.av_space.proofs.Elements.{some_is}
+use Rattle.av_data.proofs.Spelled.{one_and}
+use Rattle.av_data.proofs.Outcome.{readable}
+use Rattle.av_data.proofs.OneData.{not_both}
+use Rattle.av_data.specs.declared.fault.DataFault.{DataFault}
+use Rattle.av_data.specs.declared.fault.DataFault.TheVariants as data_fault
+use Rattle.av_data.specs.Divisions.{IsDivided, HasNoMark}
+use Rattle.av_data.specs.Results.{result_line}
+use Rattle.av_data.specs.Data.{SpellsInputs, IsInputFault}
+use Rattle.av_data.specs.Inputs.{AreInputsOf}
+use Rattle.av_compile.specs.declared.refusal.Refusal.{Refusal}
+use Rattle.av_compile.specs.declared.refusal.Refusal.TheVariants as refusal
+use Rattle.av_compile.specs.Mapped.{IsMapped, IsUnmapped}
+use Rattle.av_compile.specs.Headline.{Headline}
+use Rattle.av_cli.specs.declared.status.Status.{Status}
+use Rattle.av_cli.specs.declared.status.Status.TheVariants.{Done, Refused, Memory}
+use Rattle.av_cli.specs.declared.runs.Report.{Report}
+use Rattle.av_cli.specs.declared.runs.Report.TheVariants.{Results, Trace}
+use Rattle.av_cli.specs.Commands.{GiveSizes, IsRun, IsTrace}
+use Rattle.av_cli.proofs.GivenSizes.{with_sizes}
+use Rattle.av_cli.specs.Refusals.{refusal_line, data_reason}
+use Rattle.av_cli.specs.SystemRefusals.{system_reason}
+use Rattle.av_cli.specs.Tables.{RefusesTable}
+use Rattle.av_cli.specs.Runs.{RefusesRun, no_mark, bad_system, bad_data, HasData, results, is_result, AreSolved, GivesResults, GivesTrace}
+use Rattle.av_cli.specs.Written.{IsPut, IsAnswered, refused, given, no_memory}
+use Rattle.av_cli.specs.inner.Reported.{GivesReport, RefusesRunWith, GivesReportWith, IsClockable, names_output, is_output_named, RefusesLines, AreResultsOf, IsTraceOf, IsReport, GivesReported}
+use Rattle.av_cli.specs.inner.Tellings.{IsTold, told, untold}
+use Rattle.av_cli.proofs.Chained.{meaning}
+use Rattle.av_cli.proofs.Scheduling.{one_serial}
+use Rattle.av_compile.proofs.OneRefusal.{memory_or_not}
+use Rattle.av_cli.proofs.Tabling.{not_unmapped}
+use Rattle.av_cli.proofs.Fed.{all_at, shows_words}
+
+-- ---- a design of a text can be clocked
+
+-- a word of an input fits a port of the system's width
+pub fitting_words : (t : Timed) (a : Cells) (d : Design) (x : Assignment) → ((line : Entry) → IsPresented (view_system t.flat) a line → IsTrue (flat.is_declared is_input (signatures (view_system t.flat)) line.variable line.point))
+    → All (IsPresented (view_system t.flat) a) d.listing.ins → All (λ (p : Port). p.width.bits ≡ (view_system t.flat).width) d.module.inputs → AreInputsOf (view_system t.flat) x → HaveFittingWords d x
+fitting_words t a d x declared presented widths inputs =
+    All-weaker (IsPresented (view_system t.flat) a) (HasFittingWord d.module.inputs x)
+    (λ line is. by line (x line.variable line.point) refl ((inputs.declared line.variable line.point).1 (declared line is))) d.listing.ins presented
+  where
+    by : (line : Entry) (o : Option ℕ) → x line.variable line.point ≡ o → IsSome (x line.variable line.point) → HasFittingWord d.module.inputs x line
+    by line None e some = absurd (true≢false (sym (subst (λ (z : Option ℕ). IsSome z) e some)))
+    by line (Some w) e some = (
+      w,
+      e,
+      All-weaker (λ (p : Port). p.width.bits ≡ (view_system t.flat).width) (λ (p : Port). line.wire ≡ p.name → IsWord p.width.bits w)
+          (λ p is wire. subst (λ (n : ℕ). IsWord n w) (sym is) (inputs.words line.variable line.point w e)) d.module.inputs widths,
+    )
+
+pub clockable : (bytes : List ℕ) (sizes : List Size) (bits box : ℕ) (t : Timed) (a : Cells) (d : Design) → Headline bytes sizes bits box t a d → IsClockable t d
+clockable bytes sizes bits box t a d h =
+    let carries = h.design.carries in
+    let whole = carries.whole in
+    record {
+      chained = whole.legal.chained;
+      sound = h.design.sound;
+      apart = subst (λ (l : Listing). AreApart l.ins) (sym carries.listing) whole.apart;
+      fitting = λ x inputs. fitting_words t a d x (λ line is. is.0) (subst (λ (l : Listing). All (IsPresented (view_system t.flat) a) l.ins) (sym carries.listing) whole.presented) carries.inputs.widths inputs;
+    }
+
+-- ---- outputs
+
+either : (a b : Bool) → (a || b) ≡ true → (a ≡ true) ⊎ (b ≡ true)
+either true b e = inl refl
+either false b e = inr e
+
+-- results by two tests that agree are the same
+pub same_results : (f g : Entry → Bool) (lines : List Entry) (words : List ℕ) → All (λ line. f line ≡ g line) lines → results f lines words ≡ results g lines words
+same_results f g [] words same = refl
+same_results f g (line ∷ lines) [] same = refl
+same_results f g (line ∷ lines) (w ∷ words) same =
+    ap (λ (b : Bool). (if b then result_line line.variable line.point w else []) ++ results f lines words) (All-head (λ (l : Entry). f l ≡ g l) line lines same)
+    ∙ ap (λ (z : List ℕ). (if g line then result_line line.variable line.point w else []) ++ z) (same_results f g lines words (All-tail (λ (l : Entry). f l ≡ g l) line lines same))
+
+-- a variable of this name is an output
+named_output : (vs : List Variable) (name : Text) → list_any (is_output_named name) vs ≡ true → (place : ℕ) × (v : Variable) × (slice_get vs place ≡ Some v) × IsTrue (is_kind v.kind kind.Output) × (v.name ≡ name)
+named_output [] name e = absurd (true≢false (sym e))
+named_output (v ∷ vs) name e = by (is_output_named name v) refl (named_output vs name) e
+  where
+    by : (t : Bool) → is_output_named name v ≡ t → (list_any (is_output_named name) vs ≡ true → (place : ℕ) × (w : Variable) × (slice_get vs place ≡ Some w) × IsTrue (is_kind w.kind kind.Output) × (w.name ≡ name))
+        → (t || list_any (is_output_named name) vs) ≡ true → (place : ℕ) × (w : Variable) × (slice_get (v ∷ vs) place ≡ Some w) × IsTrue (is_kind w.kind kind.Output) × (w.name ≡ name)
+    by true is rest e = let both = both_of (is_kind v.kind kind.Output) (bytes_eq v.name name) is in (0, v, refl, both.0, (bytes_eq-Decides v.name name).0 both.1)
+      where
+        both_of : (a b : Bool) → (a && b) ≡ true → (a ≡ true) × (b ≡ true)
+        both_of true true e = (refl, refl)
+        both_of true false e = absurd (true≢false (sym e))
+        both_of false b e = absurd (true≢false (sym e))
+    by false is rest e = let (place, w, at, output, named) = rest e in (suc place, w, at, output, named)
+
+output_named : (vs : List Variable) (name : Text) (place : ℕ) (v : Variable) → slice_get vs place ≡ Some v → IsTrue (is_kind v.kind kind.Output) → v.name ≡ name → list_any (is_output_named name) vs ≡ true
+output_named [] name place v e output named = absurd cc
+output_named (w ∷ vs) name zero v e output named =
+    let same : w ≡ v = some_is w v e in
+    let here : is_output_named name w ≡ true = rw same (one_and (is_kind v.kind kind.Output) (bytes_eq v.name name) output ((bytes_eq-Decides v.name name).1 named)) in
+    ap (λ t. t || list_any (is_output_named name) vs) here
+output_named (w ∷ vs) name (suc place) v e output named = ap (λ t. is_output_named name w || t) (output_named vs name place v e output named) ∙ or_true (is_output_named name w)
+  where
+    or_true : (t : Bool) → (t || true) ≡ true
+    or_true true = refl
+    or_true false = refl
+
+-- both tests hold, or neither
+same_test : (a b : Bool) → (a ≡ true → b ≡ true) → (b ≡ true → a ≡ true) → a ≡ b
+same_test true b f g = sym (f refl)
+same_test false true f g = g refl
+same_test false false f g = refl
+
+-- the kinds that a test tells
+input_kind : (k : Kind) → is_kind kind.Input k ≡ is_input k
+input_kind kind.Input = refl
+input_kind kind.Output = refl
+input_kind kind.Local = refl
+input_kind kind.Partial = refl
+
+output_kind : (k : Kind) → is_kind k kind.Output ≡ is_kind kind.Output k
+output_kind kind.Input = refl
+output_kind kind.Output = refl
+output_kind kind.Local = refl
+output_kind kind.Partial = refl
+
+same_declared : (f g : Kind → Bool) → ((k : Kind) → f k ≡ g k) → (vs : List Signature) (name : Text) (z : Point) → flat.is_declared f vs name z ≡ flat.is_declared g vs name z
+same_declared f g each [] name z = refl
+same_declared f g each (v ∷ vs) name z =
+    ap (λ t. (t && bytes_eq v.name name && has v.domain z) || flat.is_declared f vs name z) (each v.kind)
+    ∙ ap (λ t. (g v.kind && bytes_eq v.name name && has v.domain z) || t) (same_declared f g each vs name z)
+
+-- two variables of one name are one
+one_variable : (vs : List Variable) → AllPairs (λ a b. a.name ≢ b.name) vs → (i j : ℕ) (v w : Variable) → slice_get vs i ≡ Some v → slice_get vs j ≡ Some w → v.name ≡ w.name → v ≡ w
+one_variable vs apart i j v w at there same = elim (cases_lt i j) [
+  | inl lt ↦ absurd (pair_at (λ (a b : Variable). a.name ≢ b.name) vs apart i j v w at there lt same)
+  | inr ge ↦ elim (cases_lt j i) [
+    | inl lt ↦ absurd (pair_at (λ (a b : Variable). a.name ≢ b.name) vs apart j i w v there at lt (sym same))
+    | inr le ↦ let eq : i ≡ j = omega (arith, ge, le) in some_is v w (sym at ∙ ap (slice_get vs) eq ∙ there)
+  ]
+]
+
+module _ (bytes : List ℕ) (sizes : List Size) (bits box : ℕ) (t : Timed) (a : Cells) (d : Design) (short : length bytes < 4294967295) (h : Headline bytes sizes bits box t a d) where
+  abbrev own : FlatSystem
+  own = view_system t.flat
+
+  same : SameMeaning (shows_in (instance_of h.system sizes bits)) (declares_in (instance_of h.system sizes bits)) (shows_of own) (declares_of own)
+  same = meaning bytes sizes bits own short h.mapped.pipelined.serialises h.system h.program
+
+  width_is : own.width ≡ bits
+  width_is =
+      let chain = h.mapped.pipelined.serialises in
+      chain.given.form.width ∙ chain.normalises.given.form.width ∙ ap (λ (f : FlatSystem). f.width) chain.normalises.flattens.flat
+
+  -- ---- inputs of the chained system are inputs of the text
+
+  pub tree_inputs : (x : Assignment) → AreInputsOf own x → tree.AreInputs (instance_of h.system sizes bits) x
+  tree_inputs x inputs = record {
+    declared = λ name z.
+        let into = same.declared kind.Input refl name z in
+        let kinds = same_declared (is_kind kind.Input) is_input input_kind (signatures own) name z in (
+          (λ some. into.1 (kinds ∙ (inputs.declared name z).0 some)),
+          (λ declared. (inputs.declared name z).1 (sym kinds ∙ into.0 declared)),
+        );
+    words = λ name z w e. subst (λ n. IsWord n w) width_is (inputs.words name z w e);
+  }
+
+  -- ---- ports and input lines
+
+  pub port_widths : All (λ (p : Port). p.width.bits ≡ bits) d.module.inputs
+  port_widths = All-weaker (λ (p : Port). p.width.bits ≡ own.width) (λ (p : Port). p.width.bits ≡ bits) (λ p is. is ∙ width_is) d.module.inputs h.design.carries.inputs.widths
+
+  -- each of the listed input points is declared
+  pub presented_inputs : All (λ line. IsTrue (is_declared (instance_of h.system sizes bits).sizes h.system.inputs line.variable line.point)) d.listing.ins
+  presented_inputs =
+      All-weaker (IsPresented own a) (λ (l : Entry). IsTrue (is_declared (instance_of h.system sizes bits).sizes h.system.inputs l.variable l.point))
+      (λ l is.
+      let kinds = same_declared (is_kind kind.Input) is_input input_kind (signatures own) l.variable l.point in
+      (same.declared kind.Input refl l.variable l.point).1 (kinds ∙ is.0)) d.listing.ins (subst (λ (x : Listing). All (IsPresented own a) x.ins) (sym h.design.carries.listing) h.design.carries.whole.presented)
+
+  -- ---- the lines of outputs
+
+  line_there : (i : ℕ) (line : Entry) → slice_get a.listing.ats i ≡ Some line → IsTrue (flat.is_declared is_shown (signatures own) line.variable line.point)
+  line_there i line e =
+      let list = h.mapped.whole.list in
+      let b = from_map (λ (l : AtLine). l.entry) list.ats.lines i line (sym (ap (λ (es : List Entry). slice_get es i) list.ats.entries) ∙ e) in
+      let is = all_at (IsAtLine own list.placings a.cells a.outputs) list.ats.lines i b.0 list.ats.each b.1 in
+      let computation = is.computes.stands.computation in
+      let one : computation.variable ≡ is.variable = some_is computation.variable is.variable (sym computation.is ∙ is.is_variable) in
+      let within : IsTrue (has is.variable.domain b.0.entry.point) = subst (λ (v : Variable). IsTrue (has v.domain b.0.entry.point)) one computation.declared in
+      let at = place_of is_node own.variables b.0.node is.variable is.is_variable in
+      let there = declares own.variables is_shown at.0 is.variable b.0.entry.point at.1 within is.shown in
+      subst (λ (l : Entry). IsTrue (flat.is_declared is_shown (signatures own) l.variable l.point)) b.2
+      (subst (λ (n : Text). IsTrue (flat.is_declared is_shown (signatures own) n b.0.entry.point)) (sym is.variable_is) there)
+
+  same_line : (i : ℕ) (line : Entry) → slice_get a.listing.ats i ≡ Some line → names_output own line.variable ≡ is_result (instance_of h.system sizes bits) line
+  same_line i line e = same_test (names_output own line.variable) (is_result (instance_of h.system sizes bits) line) into back
+    where
+      names : AllPairs (λ (a b : Variable). a.name ≢ b.name) own.variables
+      names = h.mapped.pipelined.legal.chained.names
+
+      into : names_output own line.variable ≡ true → is_result (instance_of h.system sizes bits) line ≡ true
+      into is =
+          let (place, v, at, output, named) = named_output own.variables line.variable is in
+          let from = declared_from own.variables is_shown line.variable line.point (line_there i line e) in
+          let one : from.variable ≡ v = one_variable own.variables names from.place place from.variable v from.at at (from.named ∙ sym named) in
+          let within : IsTrue (has v.domain line.point) = subst (λ (u : Variable). IsTrue (has u.domain line.point)) one from.within in
+          let there = declares own.variables (is_kind kind.Output) place v line.point at within (sym (output_kind v.kind) ∙ output) in
+          (same.declared kind.Output refl line.variable line.point).1 (subst (λ n. IsTrue (flat.is_declared (is_kind kind.Output) (signatures own) n line.point)) named there)
+
+      back : is_result (instance_of h.system sizes bits) line ≡ true → names_output own line.variable ≡ true
+      back is =
+          let declared = (same.declared kind.Output refl line.variable line.point).0 is in
+          let from = declared_from own.variables (is_kind kind.Output) line.variable line.point declared in
+          output_named own.variables line.variable from.place from.variable from.at (output_kind from.variable.kind ∙ from.kind) from.named
+
+  -- ---- what is told of the run
+
+  pub results_given : (x : Assignment) (out : List ℕ) (rest whole : List ℕ) (first : ℕ) → IsDivided whole bytes rest first → SpellsInputs own rest x → AreInputsOf own x → AreResultsOf t d x out → GivesResults sizes bits box whole out
+  results_given x out rest whole first divided spelled inputs shows =
+      let i = instance_of h.system sizes bits in
+      let tree_is = tree_inputs x inputs in
+      let one = h.computes.one_solution x tree_is in
+      let fits = (clockable bytes sizes bits box t a d h).fitting x inputs in
+      let lines_same : All (λ (l : Entry). names_output own l.variable ≡ is_result i l) d.listing.ats =
+      subst (λ (l : Listing). All (λ (e : Entry). names_output own e.variable ≡ is_result i e) l.ats) (sym h.design.carries.listing) (all_by_place (λ (e : Entry). names_output own e.variable ≡ is_result i e) a.listing.ats same_line) in
+      record {
+        timed = t;
+        cells = a;
+        design = d;
+        inputs = x;
+        has = record { before = bytes; rest = rest; first = first; divided = divided; computes = h; spelled = spelled; are_inputs = tree_is };
+        solution = one.solution;
+        solves = one.solves;
+        words = shows.words;
+        solved = shows_words d x one.solution shows.words fits (h.computes.shows x one.solution tree_is one.solves) shows.shown;
+        lines = shows.lines ∙ same_results (λ (l : Entry). names_output own l.variable) (is_result i) d.listing.ats shows.words lines_same;
+      }
+
+  pub trace_given : (x : Assignment) (out : List ℕ) (rest whole : List ℕ) (first : ℕ) → IsDivided whole bytes rest first → SpellsInputs own rest x → AreInputsOf own x → IsTraceOf a d x out → GivesTrace sizes bits box whole out
+  trace_given x out rest whole first divided spelled inputs shows = record {
+    timed = t;
+    cells = a;
+    design = d;
+    inputs = x;
+    has = record { before = bytes; rest = rest; first = first; divided = divided; computes = h; spelled = spelled; are_inputs = tree_inputs x inputs };
+    run = shows.run;
+    clocked = shows.clocked;
+    lines = shows.lines;
+  }
+
+  pub report_given : (report : Report) (out : List ℕ) (rest whole : List ℕ) (first : ℕ) → IsDivided whole bytes rest first → GivesReported report t a d rest out → GivesReport report sizes bits box whole out
+  report_given Results out rest whole first divided g = results_given g.inputs out rest whole first divided g.spelled g.are g.reports
+  report_given Trace out rest whole first divided g = trace_given g.inputs out rest whole first divided g.spelled g.are g.reports
+
+  -- the answer to the lines of data, told of the whole input
+  pub report_answered : (words : List (List ℕ)) (report : Report) (rest whole : List ℕ) (first : ℕ) {held held' : Option (List ℕ)} {faults faults' : ℕ} {status : Status} → IsDivided whole bytes rest first → GiveSizes words sizes
+      → IsAnswered (RefusesLines t first rest) (GivesReported report t a d rest) held held' faults faults' status
+      → IsAnswered (RefusesRunWith words bits box whole) (GivesReportWith report words bits box whole) held held' faults faults' status
+  report_answered words report rest whole first divided give (refused r put) = refused (record { sizes = sizes; give = give; refuses = bad_data r.fault divided h.mapped r.is r.told }) put
+  report_answered words report rest whole first divided give (given {out} g put) = given (record { sizes = sizes; give = give; gives = report_given report out rest whole first divided g }) put
+  report_answered words report rest whole first divided give (no_memory x y) = no_memory x y
+
+-- ---- refusals
+
+pub run_refused : (Given : List ℕ → Type 0) (words : List (List ℕ)) (sizes : List Size) (bits box : ℕ) (before rest whole : List ℕ) (first : ℕ) (f : Refusal) {held held' : Option (List ℕ)} {faults faults' : ℕ} {status : Status}
+    → IsDivided whole before rest first → GiveSizes words sizes → (f ≢ refusal.Memory → IsUnmapped before sizes bits box f) → (f ≡ refusal.Memory → (status ≡ Memory) × (held' ≡ held))
+    → ((f ≡ refusal.Memory → ⊥) → IsPut held held' faults faults' (refusal_line (system_reason f)) Refused status)
+    → IsAnswered (RefusesRunWith words bits box whole) Given held held' faults faults' status
+run_refused Given words sizes bits box before rest whole first f divided give is none put =
+    elim (memory_or_not f) [
+      | inl memory ↦ (let (x, y) = none memory in no_memory x y)
+      | inr some ↦ refused (record { sizes = sizes; give = give; refuses = bad_system divided (record { cause = f; first = is some; some = some; told = refl }) }) (put some)
+    ]
+
+-- ---- refused or given, and not both
+
+pub exclusive_run : (sizes : List Size) (bits box : ℕ) (bytes reason : List ℕ) (t : Timed) (a : Cells) (d : Design) (x : Assignment) → RefusesRun sizes bits box bytes reason → HasData sizes bits box bytes t a d x → ⊥
+exclusive_run sizes bits box bytes reason t a d x (no_mark none e) has = let marked = has.divided.marked in omega (arith, none, marked)
+exclusive_run sizes bits box bytes reason t a d x (bad_system {before} divided r) has =
+    let same : has.before ≡ before = has.divided.text_is ∙ sym divided.text_is in
+    not_unmapped sizes bits box before reason t a r (subst (λ b. IsMapped b sizes bits box t a) same has.computes.mapped)
+exclusive_run sizes bits box bytes reason t a d x (bad_data {before} {rest} {first} {timed} {cells} fault divided mapped is e) has =
+    let same : has.before ≡ before = has.divided.text_is ∙ sym divided.text_is in
+    let behind : has.rest ≡ rest = has.divided.rest_is ∙ sym divided.rest_is in
+    let own = subst (λ b. IsMapped b sizes bits box t a) same has.computes.mapped in
+    let one : view_system t.flat ≡ view_system timed.flat = one_serial before sizes bits (view_system t.flat) (view_system timed.flat) own.pipelined.serialises mapped.pipelined.serialises in
+    let spelled : SpellsInputs (view_system timed.flat) rest x = subst (λ (s : FlatSystem). SpellsInputs s rest x) one (subst (λ r. SpellsInputs (view_system t.flat) r x) behind has.spelled) in
+    not_both (view_system timed.flat) (readable (view_system timed.flat) (inr mapped.pipelined.legal.chained)) first rest x fault spelled is
+
+-- ---- the words are those that the command was read from
+
+pub run_words : (words : List (List ℕ)) (bits box : ℕ) (bytes : List ℕ) {held held' : Option (List ℕ)} {faults faults' : ℕ} {status : Status} → ((found : List Size) × IsRun words bits box found)
+    → IsAnswered (RefusesRunWith words bits box bytes) (GivesReportWith Results words bits box bytes) held held' faults faults' status
+    → IsAnswered (λ reason. (sizes : List Size) × IsRun words bits box sizes × RefusesRun sizes bits box bytes reason)
+    (λ out. (sizes : List Size) × IsRun words bits box sizes × GivesResults sizes bits box bytes out)
+    held held' faults faults' status
+run_words words bits box bytes (found, is) (refused r put) = refused (r.sizes, with_sizes (codes "run") words bits box found r.sizes is r.give, r.refuses) put
+run_words words bits box bytes (found, is) (given g put) = given (g.sizes, with_sizes (codes "run") words bits box found g.sizes is g.give, g.gives) put
+run_words words bits box bytes found (no_memory a b) = no_memory a b
+
+pub trace_words : (words : List (List ℕ)) (bits box : ℕ) (bytes : List ℕ) {held held' : Option (List ℕ)} {faults faults' : ℕ} {status : Status} → ((found : List Size) × IsTrace words bits box found)
+    → IsAnswered (RefusesRunWith words bits box bytes) (GivesReportWith Trace words bits box bytes) held held' faults faults' status
+    → IsAnswered (λ reason. (sizes : List Size) × IsTrace words bits box sizes × RefusesRun sizes bits box bytes reason)
+    (λ out. (sizes : List Size) × IsTrace words bits box sizes × GivesTrace sizes bits box bytes out)
+    held held' faults faults' status
+trace_words words bits box bytes (found, is) (refused r put) = refused (r.sizes, with_sizes (codes "trace") words bits box found r.sizes is r.give, r.refuses) put
+trace_words words bits box bytes (found, is) (given g put) = given (g.sizes, with_sizes (codes "trace") words bits box found g.sizes is g.give, g.gives) put
+trace_words words bits box bytes found (no_memory a b) = no_memory a b

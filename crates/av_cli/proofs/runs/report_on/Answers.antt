@@ -1,0 +1,34 @@
+use Rattle.std.proofs.Common.{List, ℕ, refl, sym, subst}
+use Rattle.av_data.specs.Inputs.{words_of}
+use Rattle.av_cli.specs.declared.runs.Report.{Report}
+use Rattle.av_cli.specs.inner.Reported.{GivesReported, IsReport}
+use Rattle.av_cli.proofs.Telling.{data_refused, told_given}
+use Rattle.av_cli.proofs.runs.report_on.Goals as goal
+
+pub returns-in-Err : goal.returns-in-Err
+returns-in-Err g c =
+    let compiled = c.args.compiled.now in
+    data_refused compiled.timed c.args.first_line c.args.bytes.now (GivesReported c.args.report compiled.timed compiled.cells compiled.design c.args.bytes.now) c.in-Err.fault (c.in-Err.ensures.fault c.in-Err.fault refl)
+    c.put_data_refusal.ensures.memory c.put_data_refusal.ensures.refused
+
+pub returns-in-Results : goal.returns-in-Results
+returns-in-Results g c =
+    let compiled = c.args.compiled.now in
+    let x = words_of c.in-Ok.inputs in
+    told_given (λ (out : List ℕ) told. record {
+      inputs = x;
+      spelled = c.in-Ok.ensures.found;
+      are = c.in-Ok.ensures.inputs;
+      reports = subst (λ (r : Report). IsReport r compiled.timed compiled.cells compiled.design x out) (sym c.in-Results.is) told;
+    }) c.put_results.ensures
+
+pub returns : goal.returns
+returns g c =
+    let compiled = c.args.compiled.now in
+    let x = words_of c.in-Ok.inputs in
+    told_given (λ (out : List ℕ) told. record {
+      inputs = x;
+      spelled = c.in-Ok.ensures.found;
+      are = c.in-Ok.ensures.inputs;
+      reports = subst (λ (r : Report). IsReport r compiled.timed compiled.cells compiled.design x out) (sym c.in-Trace.is) told;
+    }) c.put_trace.ensures

@@ -1,0 +1,13 @@
+use Rattle.std.proofs.Common.{◌≤◌}
+use Rattle.av_base.specs.Outside.{Adds}
+use Rattle.av_flat.specs.Trees.{view_system}
+use Rattle.av_cli.specs.inner.Reported.{names_output}
+use Rattle.av_cli.specs.inner.Watching.{bits_of}
+use Rattle.av_cli.proofs.ResultLines.{first_results}
+use Rattle.av_cli.proofs.runs.write_results.Given as goal
+
+abbrev pub invariant-loop-k : goal.invariant-loop-k
+invariant-loop-k g l =
+    let H = g.K.Sink.held in
+    let F = g.K.Sink.faults in
+    Adds (H l.fn.sink) (H l.sink) (first_results (λ line. names_output (view_system l.flat) line.variable) l.k l.lines (bits_of l.words)) × (F l.fn.sink ≤ F l.sink)

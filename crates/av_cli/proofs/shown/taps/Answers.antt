@@ -1,0 +1,23 @@
+use Rattle.std.proofs.Common.{◌≡◌, Some, slice_get, sym, ap, ◌∙◌, subst}
+use Rattle.std.specs.Prelude.{Contains}
+use Rattle.std.proofs.lemmas.List.Elements.{All-contains}
+use Rattle.av_net.specs.declared.design.Entry.{Entry}
+use Rattle.av_net.specs.Names.{targets_of, wire_names}
+use Rattle.av_cli.proofs.Fed.{at_index, all_at}
+use Rattle.av_cli.proofs.Watched.{taps_more}
+use Rattle.av_cli.proofs.shown.taps.Goals as goal
+
+pub place_of-requires : goal.place_of-requires
+place_of-requires c =
+    let line = c.line-item.result in
+    let there : slice_get c.args.lines.now c.loop-line.line-index ≡ Some line = at_index c.args.lines.now c.loop-line.line-index line c.loop-line-test.true c.line-item.is in
+    let wire = all_at (λ (l : Entry). Contains (wire_names c.args.of.now) l.wire) c.args.lines.now c.loop-line.line-index line c.requires.wires there in
+    subst (λ ts. Contains ts line.wire) (sym (c.in_ok-targets.ensures ∙ ap targets_of c.as_slice.ensures)) (All-contains (Contains (targets_of c.args.of.now.drives)) (wire_names c.args.of.now) line.wire c.requires.sound.wires_driven wire)
+
+pub loop-line-preserved : goal.loop-line-preserved
+loop-line-preserved c =
+    let line = c.line-item.result in
+    let there : slice_get c.args.lines.now c.loop-line.line-index ≡ Some line = at_index c.args.lines.now c.loop-line.line-index line c.loop-line-test.true c.line-item.is in
+    let here : slice_get (targets_of c.args.of.now.drives) c.in_ok-place_of.field-0 ≡ Some line.wire =
+    ap (λ ts. slice_get ts c.in_ok-place_of.field-0) (sym (c.in_ok-targets.ensures ∙ ap targets_of c.as_slice.ensures)) ∙ c.in_ok-place_of.ensures in
+    taps_more c.args.of.now c.args.lines.now c.loop-line.line-index c.loop-line.taps c.push.new.self c.in_ok-place_of.field-0 line c.loop-line.invariant there here c.in_ok-push.ensures.ok

@@ -1,0 +1,85 @@
+-- What `run` and `trace` make of a compiled text and the lines of its data.
+use Rattle.std.specs.Prelude.{◌≡◌, ℕ, ◌++◌, Bool, ◌&&◌, List, codes}
+use Rattle.std.specs.List.{list_any}
+use Rattle.std.specs.Str.{bytes_eq}
+use Rattle.av_tree.specs.Values.{Assignment}
+use Rattle.av_flat.specs.declared.flat.Kind.TheVariants as kind
+use Rattle.av_flat.specs.declared.timed.Timed.{Timed}
+use Rattle.av_flat.specs.Trees.{FlatSystem, Variable, view_system}
+use Rattle.av_flat.specs.Signatures.{is_kind}
+use Rattle.av_flat.specs.Chained.{IsChained}
+use Rattle.av_names.specs.declared.size.Size.{Size}
+use Rattle.av_net.specs.declared.design.Design.{Design}
+use Rattle.av_net.specs.Clocked.{Run}
+use Rattle.av_net.specs.Designs.{IsSoundDesign}
+use Rattle.av_net.specs.Presented.{AreApart, HaveFittingWords}
+use Rattle.av_net.specs.Texts.{text}
+use Rattle.av_space.specs.declared.cells.Cells.{Cells}
+use Rattle.av_data.specs.declared.fault.DataFault.{DataFault}
+use Rattle.av_data.specs.Data.{SpellsInputs, IsInputFault}
+use Rattle.av_data.specs.Inputs.{AreInputsOf}
+use Rattle.av_cli.specs.declared.runs.Report.{Report}
+use Rattle.av_cli.specs.declared.runs.Report.TheVariants.{Results, Trace}
+use Rattle.av_cli.specs.Commands.{GiveSizes}
+use Rattle.av_cli.specs.Refusals.{data_reason}
+use Rattle.av_cli.specs.Simulated.{run_lines}
+use Rattle.av_cli.specs.Shown.{AreShown, IsFedRun}
+use Rattle.av_cli.specs.Runs.{RefusesRun, GivesResults, GivesTrace, results}
+
+-- ---- with the words at hand
+
+abbrev pub GivesReport : Report → List Size → ℕ → ℕ → List ℕ → List ℕ → Type 0
+GivesReport Results sizes bits box bytes out = GivesResults sizes bits box bytes out
+GivesReport Trace sizes bits box bytes out = GivesTrace sizes bits box bytes out
+
+pub record RefusesRunWith (words : List (List ℕ)) (bits box : ℕ) (bytes reason : List ℕ) : Type 0 where
+  pub sizes : List Size
+  pub give : GiveSizes words sizes
+  pub refuses : RefusesRun sizes bits box bytes reason
+
+pub record GivesReportWith (report : Report) (words : List (List ℕ)) (bits box : ℕ) (bytes out : List ℕ) : Type 0 where
+  pub sizes : List Size
+  pub give : GiveSizes words sizes
+  pub gives : GivesReport report sizes bits box bytes out
+
+-- ---- with the compiled text at hand
+
+-- a design that can be clocked on all words of the inputs
+pub record IsClockable (timed : Timed) (design : Design) : Type 0 where
+  pub chained : IsChained (view_system timed.flat)
+  pub sound : IsSoundDesign design
+  pub apart : AreApart design.listing.ins
+  pub fitting : (x : Assignment) → AreInputsOf (view_system timed.flat) x → HaveFittingWords design x
+
+-- one of the outputs has this name
+abbrev pub is_output_named : List ℕ → Variable → Bool
+is_output_named name v = is_kind v.kind kind.Output && bytes_eq v.name name
+
+abbrev pub names_output : FlatSystem → List ℕ → Bool
+names_output s name = list_any (is_output_named name) s.variables
+
+pub record RefusesLines (timed : Timed) (first : ℕ) (bytes reason : List ℕ) : Type 0 where
+  pub fault : DataFault
+  pub is : IsInputFault (view_system timed.flat) first bytes fault
+  pub told : reason ≡ data_reason fault
+
+-- of words that the inputs have
+pub record AreResultsOf (timed : Timed) (design : Design) (x : Assignment) (out : List ℕ) : Type 0 where
+  pub words : List ℕ
+  pub shown : AreShown design x words
+  pub lines : out ≡ results (λ line. names_output (view_system timed.flat) line.variable) design.listing.ats words
+
+pub record IsTraceOf (cells : Cells) (design : Design) (x : Assignment) (out : List ℕ) : Type 0 where
+  pub run : Run
+  pub clocked : IsFedRun design x cells.cycles run
+  pub lines : out ≡ text design ++ codes "%%\n" ++ run_lines design.module run.in_cycle cells.cycles
+
+abbrev pub IsReport : Report → Timed → Cells → Design → Assignment → List ℕ → Type 0
+IsReport Results timed cells design x out = AreResultsOf timed design x out
+IsReport Trace timed cells design x out = IsTraceOf cells design x out
+
+pub record GivesReported (report : Report) (timed : Timed) (cells : Cells) (design : Design) (bytes out : List ℕ) : Type 0 where
+  pub inputs : Assignment
+  pub spelled : SpellsInputs (view_system timed.flat) bytes inputs
+  pub are : AreInputsOf (view_system timed.flat) inputs
+  pub reports : IsReport report timed cells design inputs out

@@ -1,0 +1,187 @@
+//! The commands `run` and `trace`.
+
+ghost use Rattle.std.specs.Prelude.{◌≡◌, ◌<◌, ◌≤◌, ◌+◌, ◌++◌, codes, length, IsErr, OnOk, OnErr};
+ghost use Rattle.av_base.specs.Outside.{Adds, AddsPrefix, HasRisen};
+ghost use Rattle.av_flat.specs.Trees.{view_system, view_variable};
+ghost use Rattle.av_net.specs.Clocked.{Stream as Ports, Run as Clocked, IsRun};
+ghost use Rattle.av_net.specs.Texts.{text};
+ghost use Rattle.av_data.specs.Inputs.{words_of, AreInputsOf};
+ghost use Rattle.av_cli.specs.declared.program.TheConstants.{LIMIT};
+ghost use Rattle.av_cli.specs.Clocking.{AreLeft, IsPrepared};
+ghost use Rattle.av_cli.specs.Runs.{results};
+ghost use Rattle.av_cli.specs.Simulated.{IsStimulated, run_lines};
+ghost use Rattle.av_cli.specs.Written.{IsAnswered};
+ghost use Rattle.av_cli.specs.inner.Reported.{RefusesRunWith, GivesReportWith, IsClockable, is_output_named, names_output, RefusesLines, IsReport, GivesReported};
+ghost use Rattle.av_cli.specs.inner.Tellings.{IsTold};
+ghost use Rattle.av_cli.specs.inner.Watching.{bits_of};
+ghost use Rattle.av_cli.specs.declared.runs.Report.TheVariants as report;
+
+use crate::put::{put, put_data_refusal, put_system_refusal};
+use crate::shown::{feed, shown};
+use crate::simulation::{Prepared, make_ready, run};
+use crate::sizes::sizes;
+use crate::status::Status;
+use av_base::{Memory, Name, Sink, Width, Word, WriteFault, write_all};
+use av_compile::{Compiled, compile};
+use av_data::{Inputs, Stimulus, divide, read_data, write_result};
+use av_flat::{Flat, Kind, Reach, Var};
+use av_net::{Design, Entry};
+use av_vtext::write_design;
+use std::alloc::Global;
+
+const NO_MARK: &str = "refused: no mark\n";
+
+const MARK: &str = "%%\n";
+
+/// What is told of a run: the words of the outputs, or the design and each cycle.
+#[derive(Clone, Copy, Debug)]
+pub(crate) enum Report {
+    Results,
+    Trace,
+}
+
+/// Answers an Alpha text, a line `%%` and data, with the sizes among the words.
+pub(crate) fn answer_run<K: Sink>(
+    alloc: Global,
+    words: &[Name],
+    bytes: &[u8],
+    width: Width,
+    reach: Reach,
+    report: Report,
+    sink: &mut K,
+) -> Status
+    requires { length bytes.now ≤ LIMIT }
+    ensures { IsAnswered (RefusesRunWith words.now width.bits reach.size bytes.now) (GivesReportWith report words.now width.bits reach.size bytes.now) (K.held sink.old) (K.held sink.new) (K.faults sink.old) (K.faults sink.new) result }
+{
+    let sizes = match sizes(alloc, words) {
+        Err(Memory) => return Status::Memory,
+        Ok(sizes) => sizes,
+    };
+    let Some(parts) = divide(bytes) else {
+        return put(sink, NO_MARK, Status::Refused);
+    };
+    match compile(alloc, parts.text, sizes.as_slice(), width, reach) {
+        Err(refusal) => put_system_refusal(sink, &refusal),
+        Ok(compiled) => { report_on(alloc, &compiled, parts.rest, parts.first_line, report, sink) }
+    }
+}
+
+// Reads the data for a compiled text, and tells the run on it.
+fn report_on<K: Sink>(
+    alloc: Global,
+    compiled: &Compiled,
+    bytes: &[u8],
+    first_line: u32,
+    report: Report,
+    sink: &mut K,
+) -> Status
+    requires clockable { IsClockable compiled.now.timed compiled.now.design }
+    requires lines { first_line + length bytes.now < 4294967295 }
+    ensures { IsAnswered (RefusesLines compiled.now.timed first_line bytes.now) (GivesReported report compiled.now.timed compiled.now.cells compiled.now.design bytes.now) (K.held sink.old) (K.held sink.new) (K.faults sink.old) (K.faults sink.new) result }
+{
+    match read_data(alloc, bytes, first_line, &compiled.timed.flat) {
+        Err(fault) => put_data_refusal(sink, &fault),
+        Ok(inputs) => match report {
+            Report::Results => put_results(alloc, compiled, &inputs, sink),
+            Report::Trace => put_trace(alloc, compiled, &inputs, sink),
+        },
+    }
+}
+
+// Adds a line for each point of an output.
+fn put_results<K: Sink>(alloc: Global, compiled: &Compiled, inputs: &Inputs, sink: &mut K) -> Status
+    requires clockable { IsClockable compiled.now.timed compiled.now.design }
+    requires inputs { AreInputsOf (view_system compiled.now.timed.flat) (words_of inputs.now) }
+    ensures { IsTold (IsReport report.Results compiled.now.timed compiled.now.cells compiled.now.design (words_of inputs.now)) (K.held sink.old) (K.held sink.new) (K.faults sink.old) (K.faults sink.new) result }
+{
+    match shown(alloc, &compiled.design, inputs) {
+        Err(Memory) => Status::Memory,
+        Ok(words) => {
+            let lines = compiled.design.listing.ats.as_slice();
+            match write_results(&compiled.timed.flat, lines, words.as_slice(), sink) {
+                Ok(()) => Status::Done,
+                Err(_) => Status::WriteFault,
+            }
+        }
+    }
+}
+
+// Whether the variable is an output with this name.
+fn is_output_named(var: &Var, name: &Name) -> bool
+    ensures { result ≡ is_output_named name.now (view_variable var.now) }
+{
+    match var.kind {
+        Kind::Output => var.name.as_str() == name.as_str(),
+        Kind::Input | Kind::Local | Kind::Partial => false,
+    }
+}
+
+fn names_output(flat: &Flat, name: &Name) -> bool
+    ensures { result ≡ names_output (view_system flat.now) name.now }
+{
+    for var in flat.vars.as_slice() {
+        if is_output_named(var, name) {
+            return true;
+        }
+    }
+    false
+}
+
+// Writes the words of the lines that list points of outputs.
+fn write_results<K: Sink>(
+    flat: &Flat,
+    lines: &[Entry],
+    words: &[Word],
+    sink: &mut K,
+) -> Result<(), WriteFault>
+    requires { length words.now ≡ length lines.now }
+    ensures added { OnOk result (Adds (K.held sink.old) (K.held sink.new) (results (λ line. names_output (view_system flat.now) line.variable) lines.now (bits_of words.now))) }
+    ensures fault { IsErr result → HasRisen (K.faults sink.old) (K.faults sink.new) }
+    ensures front { OnErr result (AddsPrefix (K.held sink.old) (K.held sink.new) (results (λ line. names_output (view_system flat.now) line.variable) lines.now (bits_of words.now))) }
+{
+    for (k, line) in lines.iter().enumerate() {
+        if names_output(flat, &line.variable) {
+            write_result(line.variable.as_str(), &line.point, words[k], sink)?;
+        }
+    }
+    Ok(())
+}
+
+// Adds the text of the design, a line `%%`, and a line for each cycle of the design's run.
+fn put_trace<K: Sink>(alloc: Global, compiled: &Compiled, inputs: &Inputs, sink: &mut K) -> Status
+    requires clockable { IsClockable compiled.now.timed compiled.now.design }
+    requires inputs { AreInputsOf (view_system compiled.now.timed.flat) (words_of inputs.now) }
+    ensures { IsTold (IsReport report.Trace compiled.now.timed compiled.now.cells compiled.now.design (words_of inputs.now)) (K.held sink.old) (K.held sink.new) (K.faults sink.old) (K.faults sink.new) result }
+{
+    let design = &compiled.design;
+    match feed(alloc, design, inputs, compiled.cells.cycles) {
+        Err(Memory) => Status::Memory,
+        Ok(stimulus) => match make_ready(alloc, &design.module) {
+            Err(Memory) => Status::Memory,
+            Ok(mut parts) => match write_trace(design, &mut parts, &stimulus, sink) {
+                Ok(()) => Status::Done,
+                Err(_) => Status::WriteFault,
+            },
+        },
+    }
+}
+
+// Writes the text of the design, a line `%%`, and the lines of its run under a stimulus. It takes no memory.
+fn write_trace<K: Sink>(
+    design: &Design,
+    parts: &mut Prepared<'_>,
+    stimulus: &Stimulus,
+    sink: &mut K,
+) -> Result<(), WriteFault>
+    requires prepared { IsPrepared design.now.module parts.old }
+    requires left { AreLeft design.now.module.inputs stimulus.now.values 0 0 stimulus.now.values }
+    ensures added { OnOk result ((stream : Ports) (run : Clocked) → IsStimulated design.now.module stimulus.now stream → IsRun design.now.module stimulus.now.cycles stream run
+        → Adds (K.held sink.old) (K.held sink.new) (text design.now ++ codes "%%\n" ++ run_lines design.now.module run.in_cycle stimulus.now.cycles)) }
+    ensures fault { IsErr result → HasRisen (K.faults sink.old) (K.faults sink.new) }
+    ensures front { OnErr result ((stream : Ports) (run : Clocked) → IsStimulated design.now.module stimulus.now stream → IsRun design.now.module stimulus.now.cycles stream run
+        → AddsPrefix (K.held sink.old) (K.held sink.new) (text design.now ++ codes "%%\n" ++ run_lines design.now.module run.in_cycle stimulus.now.cycles)) }
+{
+    write_design(design, sink)?;
+    write_all(sink, MARK.as_bytes())?;
+    run(parts, stimulus, sink)
+}

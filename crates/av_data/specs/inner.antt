@@ -1,0 +1,4 @@
+pub mod Parts
+pub mod Sayings
+pub mod ReadData
+pub mod Walks

@@ -1,0 +1,67 @@
+//! The input ports of a module, found by their names.
+
+ghost use Rattle.std.specs.Prelude.{◌≡◌, ◌<◌, length, IfOk, IfSome};
+ghost use Rattle.av_net.specs.Names.{AreDistinct, names_of};
+ghost use Rattle.av_data.specs.Reading.{place_of, width_at};
+
+use crate::places::Places;
+use av_base::{Memory, Width};
+use av_net::Port;
+use std::alloc::Global;
+use std::marker::Model;
+
+/// Input ports with different names, as which contracts see them, and their names in the same order.
+#[derive(Drop)]
+pub(crate) struct InputPorts<'a> {
+    ports: &'a [Port],
+    names: Places<'a>,
+}
+
+impl<'a> Model for InputPorts<'a> {
+    ghost use Rattle.std.specs.Prelude.{List as Items};
+    ghost use Rattle.av_net.specs.declared.netlist.Port.{Port as Declared};
+
+    ghost Value = { Items Declared };
+
+    ghost use Rattle.av_data.specs.Named.{AreNamed};
+
+    ghost view = { λ inputs. inputs.ports.now };
+
+    ghost invariant = { AreNamed };
+}
+
+impl<'a> InputPorts<'a> {
+    pub(crate) fn new(alloc: Global, ports: &'a [Port]) -> Result<InputPorts<'a>, Memory>
+        requires { AreDistinct (names_of ports.now) }
+        ensures { IfOk result (λ inputs. inputs ≡ ports.now) }
+    {
+        let mut names = Places::new(alloc);
+        for port in ports {
+            names.push(&port.name)?;
+        }
+        Ok(InputPorts { ports, names })
+    }
+
+    /// The place of the port with a name. Places are numbers of 32 bits: so many ports that a place is
+    /// greater count as want of memory.
+    pub(crate) fn place(&self, name: &[u8]) -> Result<Option<u32>, Memory>
+        ensures place { IfOk result (λ place. place ≡ place_of self.now name.now) }
+        ensures within { IfOk result (λ place. IfSome place (λ k. k < length self.now)) }
+    {
+        match self.names.find(name) {
+            None => Ok(None),
+            Some(place) => match u32::try_from(place) {
+                Ok(place) => Ok(Some(place)),
+                Err(_) => Err(Memory),
+            },
+        }
+    }
+
+    /// The width of the port there.
+    pub(crate) fn width(&self, place: u32) -> Width
+        requires { place < length self.now }
+        ensures { result.bits ≡ width_at self.now place }
+    {
+        self.ports[place as usize].width
+    }
+}
