@@ -11,3 +11,4 @@ pub mod Inverses
 pub mod Pairs
 pub mod Exact
 pub mod Completing
+pub mod Fours

@@ -5,6 +5,7 @@
 mod cells;
 mod completion;
 mod compose;
+mod divisor;
 mod form;
 mod map;
 mod pivot;
@@ -13,6 +14,7 @@ mod rows;
 mod square;
 
 pub use completion::{Placed, complete};
+pub use divisor::{coefficients_over, gcd, gcd_of};
 pub use form::Form;
 pub use map::{Map, Over};
 pub use rows::Rows;

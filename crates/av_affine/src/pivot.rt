@@ -10,7 +10,7 @@ ghost use Rattle.av_affine.specs.Cells.{IsPivot, skip};
 pub(crate) enum Pivot {
     // The last entry 1 or -1.
     One(usize),
-    // The last entry 3 or -3, and the last entry of absolute value 2 or 4, told by its place among
+    // The last entry 3 or -3, and the last entry of absolute value 2 or 4, identified by its place among
     // the positions other than the first.
     Two(usize, usize),
 }

@@ -1,9 +1,10 @@
 //! The primitive vector of a vector: its entries divided by their greatest common divisor.
 
 ghost use Rattle.std.specs.Prelude.{◌≡◌, ◌≢◌, ◌≤◌, ◌<ℤ◌, ◌*ℤ◌, pos, length, map, Any};
-ghost use Rattle.std.specs.Int.{IsGcd, int_div_euclid};
+ghost use Rattle.std.specs.Int.{int_div_euclid};
 ghost use Rattle.av_affine.specs.Numbers.{AtMost, IsGcdOf};
 
+use crate::divisor::gcd_of;
 use arrayvec::ArrayVec;
 
 // A vector without a common divisor but 1, and the divisor that was taken out.
@@ -28,31 +29,6 @@ pub(crate) fn primitive_of(vector: &[i64]) -> Primitive
         entries: quotients(vector, gcd),
         gcd,
     }
-}
-
-// The greatest common divisor of two numbers.
-fn gcd(a: u64, b: u64) -> u64
-    ensures { IsGcd a b result }
-{
-    let mut x = a;
-    let mut y = b;
-    while y != 0 {
-        let rest = x % y;
-        x = y;
-        y = rest;
-    }
-    x
-}
-
-// The greatest common divisor of the absolute values.
-fn gcd_of(numbers: &[i64]) -> u64
-    ensures { IsGcdOf numbers.now result }
-{
-    let mut divisor: u64 = 0;
-    for number in numbers {
-        divisor = gcd(divisor, number.unsigned_abs());
-    }
-    divisor
 }
 
 // Each number divided by the divisor.

@@ -12,6 +12,7 @@ mod place;
 mod point;
 mod sink;
 mod source;
+mod spelling;
 mod stream;
 #[cfg(test)]
 mod tests;
@@ -28,6 +29,7 @@ pub use place::Place;
 pub use point::Point;
 pub use sink::{Sink, WriteFault, write_all};
 pub use source::{Failed, ReadAll, Source, read_all};
+pub use spelling::{digits_len, is_blank, is_one_of, is_reserved_word, is_word_byte, word_len};
 pub use stream::{MemSink, MemSource};
 pub use token_kind::TokenKind;
 pub use width::Width;

@@ -1,6 +1,6 @@
 use std::alloc::{AllocError, AllocFailed};
 
-/// Want of memory. No contract says when it comes.
+/// Out of memory. No contract says when it comes.
 #[derive(Clone, Copy, Debug, PartialEq, Eq)]
 pub struct Memory;
 

@@ -20,10 +20,9 @@ ghost use Rattle.av_check.specs.declared.fault.CheckFault.{CheckFault as FaultSe
 use crate::CheckFault;
 use crate::judge::judge_pieces;
 use crate::least::least_wrong;
-use crate::sets::copy_set;
 use crate::verdict::{Blame, Verdict};
 use av_base::{List, Memory, Name, Point};
-use av_flat::{Flat, Kind, Piece, Var};
+use av_flat::{Flat, Kind, Piece, Var, copy_set};
 use av_poly::Poly;
 use std::alloc::Global;
 

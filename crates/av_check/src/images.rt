@@ -6,18 +6,10 @@ ghost use Rattle.av_affine.specs.Forms.{IsWithinLimits};
 ghost use Rattle.av_affine.specs.Maps.{image, composition};
 ghost use Rattle.av_check.specs.inner.Standing.{reach, IsImage, IsReached};
 
-use av_affine::{Map, Rows};
+use av_affine::Map;
 use av_base::{List, Memory, Point};
+use av_flat::copy_map;
 use std::alloc::Global;
-
-fn copy_map(map: &Map) -> Map
-    ensures { result ≡ map.now }
-{
-    Map {
-        from: map.from,
-        rows: Rows::from_slice(map.rows.as_slice()),
-    }
-}
 
 // A map in front of those that it stands under.
 pub(crate) fn within(alloc: Global, own: &Map, under: &[Map]) -> Result<List<Map>, Memory>

@@ -1,6 +1,6 @@
-//! Sets once more, with normalised rows, and their least points.
+//! Sets with normalised rows, and their least points.
 
-ghost use Rattle.std.specs.Prelude.{ℤ, List as Items, ◌≡◌, ◌≤◌, ◌↔◌, IfOk, OnOk, All, IsTrue};
+ghost use Rattle.std.specs.Prelude.{ℤ, List as Items, ◌≡◌, ◌≤◌, ◌↔◌, IfOk};
 ghost use Rattle.av_affine.specs.Numbers.{AtMost};
 ghost use Rattle.av_affine.specs.Forms.{IsWithinLimits};
 ghost use Rattle.av_poly.specs.Normal.{AreNormalised};
@@ -9,28 +9,10 @@ ghost use Rattle.av_check.specs.inner.Least.{IsLeast};
 ghost use Rattle.av_check.specs.inner.Having.{IsInside};
 
 use crate::opposed::are_contrary;
-use av_affine::Form;
-use av_base::{List, Memory, Point};
+use av_base::{Memory, Point};
+use av_flat::copy_set;
 use av_poly::{Bounds, Poly};
 use std::alloc::Global;
-
-fn copy_rows(alloc: Global, rows: &[Form]) -> Result<List<Form>, Memory>
-    ensures { IfOk result (λ to. to ≡ rows.now) }
-{
-    let mut to = List::new(alloc);
-    for row in rows {
-        to.push(*row)?;
-    }
-    Ok(to)
-}
-
-// The set in memory of its own.
-pub(crate) fn copy_set(alloc: Global, set: &Poly) -> Result<Poly, Memory>
-    ensures { IfOk result (λ to. to ≡ set.now) }
-{
-    let rows = copy_rows(alloc, set.rows.as_slice())?;
-    Ok(Poly { dim: set.dim, rows })
-}
 
 // The set with normalised rows, in memory of its own.
 pub(crate) fn normalised(alloc: Global, set: &Poly) -> Result<Poly, Memory>

@@ -71,7 +71,7 @@ fn product_sizes(alloc: Global, size: u32) -> Result<List<Size>, Memory>
 
 /// Multiplies two matrices of this size by an array: its totals, and the sum of the product's entries.
 ///
-/// No size up to 16 meets a limit, so that nothing but want of memory keeps the text from being compiled.
+/// No size up to 16 meets a limit, so that only running out of memory keeps the text from being compiled.
 pub(crate) fn demo<K: Sink>(
     alloc: Global,
     size: u32,

@@ -35,7 +35,7 @@ err_or f (Err g) = g
 one_err : (f g : DataFault) (r : Result Stimulus DataFault) → r ≡ Err f → r ≡ Err g → f ≡ g
 one_err f g r e h = ap (err_or f) (sym e ∙ h)
 
--- want of memory aside, an answer that is a fault is what reading gives
+-- out of memory aside, an answer that is a fault is what reading gives
 told_err : (f : DataFault) (wanted : Result Stimulus DataFault) → FaultIs f wanted → (f ≡ Memory) ⊎ (wanted ≡ Err f)
 told_err Memory wanted h = inl refl
 told_err (DataSyntax l) wanted h = inr h

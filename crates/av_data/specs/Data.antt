@@ -171,7 +171,7 @@ IsInputFault s first bytes fault = IsFirstFault s first (data_lines bytes) fault
 
 -- ---- answers
 
--- the answer is this map, or want of memory
+-- the answer is this map, or out of memory
 abbrev pub GivesInputs : Result InputWords DataFault → Assignment → Type 0
 GivesInputs (Ok inputs) wanted = words_of inputs ≡ wanted
 GivesInputs (Err Memory) wanted = Unit {0}
@@ -181,7 +181,7 @@ GivesInputs (Err (DataOutside l)) wanted = ⊥
 GivesInputs (Err (DataTwice l)) wanted = ⊥
 GivesInputs (Err (DataMissing name point)) wanted = ⊥
 
--- the answer is this fault, or want of memory
+-- the answer is this fault, or out of memory
 abbrev pub RefusesInputs : Result InputWords DataFault → DataFault → Type 0
 RefusesInputs (Err Memory) wanted = Unit {0}
 RefusesInputs (Err fault) wanted = fault ≡ wanted

@@ -135,7 +135,7 @@ IsStimulusFault inputs first bytes fault = IsFirstFault inputs first (data_lines
 
 -- ---- answers
 
--- the answer is this stimulus, or want of memory
+-- the answer is this stimulus, or out of memory
 abbrev pub GivesStimulus : Result Stimulus DataFault → Stimulus → Type 0
 GivesStimulus (Ok s) wanted = s ≡ wanted
 GivesStimulus (Err Memory) wanted = Unit {0}
@@ -145,7 +145,7 @@ GivesStimulus (Err (DataOutside l)) wanted = ⊥
 GivesStimulus (Err (DataTwice l)) wanted = ⊥
 GivesStimulus (Err (DataMissing name point)) wanted = ⊥
 
--- the answer is this fault, or want of memory
+-- the answer is this fault, or out of memory
 abbrev pub GivesFault : Result Stimulus DataFault → DataFault → Type 0
 GivesFault (Err Memory) wanted = Unit {0}
 GivesFault (Err fault) wanted = fault ≡ wanted

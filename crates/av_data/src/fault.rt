@@ -18,7 +18,7 @@ pub enum DataFault {
     DataTwice(u32),
     /// No line gives a value for this point of this input. A stimulus has no such fault.
     DataMissing(Name, Point),
-    /// Want of memory. No contract says when it comes.
+    /// Out of memory. No contract says when it comes.
     Memory,
 }
 

@@ -43,7 +43,7 @@ impl<'a> InputPorts<'a> {
     }
 
     /// The place of the port with a name. Places are numbers of 32 bits: so many ports that a place is
-    /// greater count as want of memory.
+    /// greater count as out of memory.
     pub(crate) fn place(&self, name: &[u8]) -> Result<Option<u32>, Memory>
         ensures place { IfOk result (λ place. place ≡ place_of self.now name.now) }
         ensures within { IfOk result (λ place. IfSome place (λ k. k < length self.now)) }

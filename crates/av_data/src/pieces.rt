@@ -7,7 +7,7 @@ ghost use Rattle.av_data.specs.Reading.{is_empty};
 ghost use Rattle.av_data.specs.inner.Parts.{is_joined, piece_len, first_piece, after_piece};
 
 use crate::lines::{from, gap_len};
-use crate::spelling::is_word_byte;
+use av_base::is_word_byte;
 
 fn is_joined(byte: u8) -> bool
     ensures { result ≡ is_joined byte }

@@ -1,26 +1,17 @@
 //! What a line of data says.
 
 ghost use Rattle.std.specs.Prelude.{ℕ, ℤ, List as Items, ◌≡◌, ◌&&◌, codes, Some, None, IfSome, IfNone};
-ghost use Rattle.std.specs.List.{list_any};
 ghost use Rattle.std.specs.Str.{bytes_eq};
-ghost use Rattle.std.specs.Char.{is_ascii_alphabetic};
 ghost use Rattle.av_data.specs.Reading.{is_empty};
 ghost use Rattle.av_data.specs.Data.{Says};
 ghost use Rattle.av_data.specs.inner.Parts.{pieces_of, first_piece};
-ghost use Rattle.av_data.specs.inner.Sayings.{is_alpha_word, is_alpha_reserved, is_alpha_name, Keeps, SaysOnly, entries_in, said_behind, said_of};
+ghost use Rattle.av_data.specs.inner.Sayings.{is_alpha_word, is_alpha_name, Keeps, SaysOnly, entries_in, said_behind, said_of};
 
 use crate::entries::Entries;
 use crate::lines::uncommented;
 use crate::pieces::{first_piece, is_close, is_comma, is_end};
-use crate::spelling::{is_one_of, word_len};
 use crate::whole::whole_in;
-use av_base::{Width, Word};
-
-// Words that a program text keeps for itself.
-const RESERVED_WORDS: [&str; 16] = [
-    "system", "returns", "var", "let", "tel", "case", "esac", "if", "then", "else", "reduce",
-    "min", "max", "of", "integer", "word",
-];
+use av_base::{Width, Word, is_reserved_word, word_len};
 
 /// A point of a variable, and its word.
 #[derive(Drop)]
@@ -39,17 +30,11 @@ fn is_alpha_word(text: &[u8]) -> bool
     }
 }
 
-fn is_alpha_reserved(text: &[u8]) -> bool
-    ensures { result ≡ is_alpha_reserved text.now }
-{
-    is_one_of(text, &RESERVED_WORDS)
-}
-
 // A name as in a program text: a letter, then letters, digits and `_`, and no reserved word.
 fn is_alpha_name(text: &[u8]) -> bool
     ensures { result ≡ is_alpha_name text.now }
 {
-    is_alpha_word(text) && !is_alpha_reserved(text)
+    is_alpha_word(text) && !is_reserved_word(text)
 }
 
 // Whether a point of a variable begins with these parts: its name, and `(`.

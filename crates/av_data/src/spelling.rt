@@ -1,60 +1,17 @@
 //! How digits and names are spelled.
 
-ghost use Rattle.std.specs.Prelude.{◌≡◌, ◌^◌, ◌<◌, ◌≤◌, length, IfSome, IfNone};
-ghost use Rattle.std.specs.List.{prefix_len, list_any};
-ghost use Rattle.std.specs.Str.{bytes_eq};
-ghost use Rattle.std.specs.Char.{is_ascii_digit};
-ghost use Rattle.av_base.specs.Tokens.{is_word_byte, number_of};
-ghost use Rattle.av_net.specs.Lexemes.{begins_name};
-ghost use Rattle.av_data.specs.Reading.{are_digits, is_identifier, is_reserved, is_name};
+ghost use Rattle.std.specs.Prelude.{◌≡◌, ◌^◌, ◌<◌, ◌≤◌, IfSome, IfNone};
+ghost use Rattle.av_base.specs.Tokens.{number_of};
+ghost use Rattle.av_data.specs.Reading.{are_digits, is_identifier, is_name};
 
-use av_base::{Width, Word, decimal_value};
-
-const RESERVED_WORDS: [&str; 11] = [
-    "module",
-    "endmodule",
-    "input",
-    "output",
-    "wire",
-    "reg",
-    "assign",
-    "always",
-    "posedge",
-    "if",
-    "else",
-];
-
-fn digits_len(text: &[u8]) -> usize
-    ensures len { result ≡ prefix_len is_ascii_digit text.now }
-    ensures within { result ≤ length text.now }
-{
-    text.iter().take_while(|byte| byte.is_ascii_digit()).count()
-}
+use av_base::{Width, Word, decimal_value, digits_len, word_len};
+use av_net::{begins_name, is_keyword};
 
 /// One or more digits.
 pub(crate) fn are_digits(text: &[u8]) -> bool
     ensures { result ≡ are_digits text.now }
 {
     !text.is_empty() && digits_len(text) == text.len()
-}
-
-fn begins_name(byte: u8) -> bool
-    ensures { result ≡ begins_name byte }
-{
-    byte.is_ascii_alphabetic() || byte == b'_'
-}
-
-pub(crate) fn is_word_byte(byte: u8) -> bool
-    ensures { result ≡ is_word_byte byte }
-{
-    byte.is_ascii_alphabetic() || byte.is_ascii_digit() || byte == b'_'
-}
-
-pub(crate) fn word_len(text: &[u8]) -> usize
-    ensures len { result ≡ prefix_len is_word_byte text.now }
-    ensures within { result ≤ length text.now }
-{
-    text.iter().take_while(|byte| is_word_byte(**byte)).count()
 }
 
 fn is_identifier(text: &[u8]) -> bool
@@ -66,23 +23,11 @@ fn is_identifier(text: &[u8]) -> bool
     }
 }
 
-pub(crate) fn is_one_of(text: &[u8], words: &[&str]) -> bool
-    ensures { result ≡ list_any (λ word. bytes_eq text.now word.now) words.now }
-{
-    words.iter().any(|word| text == word.as_bytes())
-}
-
-fn is_reserved(text: &[u8]) -> bool
-    ensures { result ≡ is_reserved text.now }
-{
-    is_one_of(text, &RESERVED_WORDS)
-}
-
 /// A name as in a design text: a letter or `_`, then letters, digits and `_`, and no reserved word.
 pub(crate) fn is_name(text: &[u8]) -> bool
     ensures { result ≡ is_name text.now }
 {
-    is_identifier(text) && !is_reserved(text)
+    is_identifier(text) && !is_keyword(text)
 }
 
 /// The decimal value of digits, if it is below a bound.

@@ -11,7 +11,7 @@ use av_base::List;
 use av_net::Module;
 use std::alloc::Global;
 
-/// A value that an input port carries in a cycle. The port is told by its place in the module's `inputs`.
+/// A value that an input port carries in a cycle. The port is identified by its place in the module's `inputs`.
 #[derive(Clone, Copy, Debug, PartialEq, Eq)]
 pub struct Given {
     pub cycle: u32,

@@ -1,4 +1,4 @@
--- Laws: rays and indices without an end, and that answers exclude each other.
+-- Laws: rays and unbounded indices, and that answers exclude each other.
 use Rattle.std.proofs.Common.{◌≡◌, ◌≢◌, ℕ, zero, suc, ◌<◌, ◌≤◌, arith, ℤ, pos, ◌+ℤ◌, ◌-ℤ◌, ◌*ℤ◌, ◌≤ℤ◌, ◌<ℤ◌, ⊎_elim, List, length, refl, ap, sym, ◌∙◌, subst, Option, Some, None}
 use Rattle.std.proofs.lemmas.Int.{ints}
 use Rattle.std.proofs.lemmas.Bool.{cases_eq, cases_lt}
@@ -85,7 +85,7 @@ ray_of_endless dim i rows within e =
     (λ l a. by_option g.high (λ n. ray_above dim i rows g s.1 n) (λ h b. absurd (endless_not_bounded dim i rows (bounded dim i rows g s.1 l h a b) e))) in
     (r.0, (r.1, entry_any r.0 i r.2))
 
--- a direction that moves an index leaves one of its sides without an end
+-- a direction that moves an index leaves one of its sides unbounded
 endless_of_entry : (dim i : ℕ) (rows : List (List ℤ)) (d : List ℤ) → i < dim → HasRationalPoint dim rows → IsDirection dim rows d → entry_of d i ≢ pos 0 → IsEndless dim rows i
 endless_of_entry dim i rows d within p r n =
     let s = has_span dim i rows within in

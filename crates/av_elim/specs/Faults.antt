@@ -1,4 +1,4 @@
--- Why a set has no bounds, each answer exactly: its rows, an index without an end, no rational point or a gap.
+-- Why a set has no bounds, each answer exactly: its rows, an unbounded index, no rational point or a gap.
 use Rattle.std.specs.Prelude.{◌≡◌, ◌<◌, ◌≤◌, length}
 use Rattle.av_poly.specs.Points.{Set}
 use Rattle.av_poly.specs.Rational.{IsFirstEndless, HasNoBounds}

@@ -94,7 +94,7 @@ fn index_bounds(alloc: Global, rows: &[Form], dim: usize) -> Result<Bounds, Elim
 /// rational points of the rows as they stand. For the bounds of the whole points alone, as near as rows
 /// tell them, normalise the set before.
 ///
-/// The indices are looked at in order: an index without an end is told before a later one that has no
+/// The indices are looked at in order: an unbounded index is told before a later one that has no
 /// whole number between its bounds.
 pub fn bounds(alloc: Global, poly: &Poly) -> Result<Bounds, Elim>
     requires dim { poly.now.dim ≤ 4 }

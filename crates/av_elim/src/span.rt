@@ -10,7 +10,7 @@ ghost use Rattle.av_elim.specs.inner.Span.{higher, lower, stepped, scanned, whol
 use crate::eliminate::combined_number;
 use av_affine::Form;
 
-// The whole numbers from `low` to `high`, if `flat` holds: None is a side without an end.
+// The whole numbers from `low` to `high`, if `flat` holds: None is an unbounded side.
 #[derive(Clone, Copy, Debug)]
 pub(crate) struct Span {
     pub(crate) flat: bool,

@@ -115,7 +115,7 @@ fn a_table_of_sets(rt: HostRuntime) -> Result<(), Fail> {
             ],
             within([1, 0, 0, 0], [2, 1, 0, 0]),
         ),
-        // i - j >= 1 and j - i >= 0: no rational point, and rows without an end.
+        // i - j >= 1 and j - i >= 0: no rational point, and unbounded rows.
         (
             2,
             &[form([1, -1, 0, 0], -1), form([-1, 1, 0, 0], 0)],

@@ -16,7 +16,7 @@ use Rattle.av_flat.specs.declared.flat.Var.{Var}
 use Rattle.av_flat.specs.declared.flat.Flat.{Flat}
 
 mutual
-  -- the right side of a piece, or a part of it; a variable is told by its place
+  -- the right side of a piece, or a part of it; a variable is identified by its place
   pub data Tree : Type 0 where
     reference : ℕ → Map → Tree
     constant : ℕ → Tree

@@ -179,7 +179,8 @@ pub fn copy_set(alloc: Global, set: &Poly) -> Result<Poly, Memory>
     Ok(Poly { dim: set.dim, rows })
 }
 
-fn copy_rows(alloc: Global, rows: &[Form]) -> Result<List<Form>, Memory>
+/// The same rows.
+pub fn copy_rows(alloc: Global, rows: &[Form]) -> Result<List<Form>, Memory>
     ensures { IfOk result (λ to. to ≡ rows.now) }
 {
     let mut to = List::new(alloc);

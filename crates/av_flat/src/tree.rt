@@ -11,7 +11,7 @@ pub struct Choice {
 }
 
 /// The right side of a piece, or a part of it, over the indices of its context (Mauras 1989; Wilde's reports
-/// on Alpha). A variable is told by its place in `Flat::vars`.
+/// on Alpha). A variable is identified by its place in `Flat::vars`.
 #[derive(Debug, Drop)]
 pub enum Tree {
     /// A variable at the image of the point.

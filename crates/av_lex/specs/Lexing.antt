@@ -19,7 +19,7 @@ LieInOrder p bytes [] = Unit {0}
 LieInOrder p bytes (t ∷ tokens) =
     (gap : List ℕ) × (rest : List ℕ) × (bytes ≡ gap ++ (t.text ++ rest)) × (t.place ≡ moved p gap) × LieInOrder (moved t.place t.text) rest tokens
 
--- the answer is this one, or want of memory
+-- the answer is this one, or out of memory
 abbrev pub Gives : Result (List Found) LexFault → Result (List Token) LexFault → Type 0
 Gives (Ok tokens) wanted = wanted ≡ Ok (views tokens)
 Gives (Err (BadByte p)) wanted = wanted ≡ Err (BadByte p)

@@ -10,7 +10,7 @@ pub enum LexFault {
     BadByte(Place),
     /// The number there is above 18446744073709551615.
     Number(Place),
-    /// Want of memory. No contract says when it comes.
+    /// Out of memory. No contract says when it comes.
     Memory,
 }
 

@@ -1,18 +1,10 @@
 //! What stands at the front of a text.
 
 ghost use Rattle.std.specs.Prelude.{◌≡◌, ◌<◌, ◌-◌, length, drop, slice_index};
-ghost use Rattle.std.specs.List.{prefix_len, list_any};
-ghost use Rattle.std.specs.Str.{bytes_eq};
-ghost use Rattle.std.specs.Char.{is_ascii_digit};
-ghost use Rattle.av_base.specs.Tokens.{is_blank, is_word_byte};
-ghost use Rattle.av_lex.specs.Scan.{is_not_feed, is_dashed, is_reserved, is_single, is_pair, begins_pair, symbol_of, word_kind, token_of, piece_of, FitsIn};
+ghost use Rattle.std.specs.List.{prefix_len};
+ghost use Rattle.av_lex.specs.Scan.{is_not_feed, is_dashed, is_single, is_pair, begins_pair, symbol_of, word_kind, token_of, piece_of, FitsIn};
 
-use av_base::TokenKind;
-
-const RESERVED_WORDS: [&str; 16] = [
-    "system", "returns", "var", "let", "tel", "case", "esac", "if", "then", "else", "reduce",
-    "min", "max", "of", "integer", "word",
-];
+use av_base::{TokenKind, digits_len, is_blank, is_reserved_word, word_len};
 
 /// What stands at the front of a text.
 #[derive(Clone, Copy, Debug)]
@@ -23,30 +15,6 @@ pub enum Piece {
     Token(TokenKind, usize),
     /// A byte that begins no token.
     Bad,
-}
-
-fn is_word_byte(byte: u8) -> bool
-    ensures { result ≡ is_word_byte byte }
-{
-    byte.is_ascii_alphabetic() || byte.is_ascii_digit() || byte == b'_'
-}
-
-fn is_blank(byte: u8) -> bool
-    ensures { result ≡ is_blank byte }
-{
-    matches!(byte, b' ' | b'\t' | b'\r' | b'\n')
-}
-
-fn word_len(text: &[u8]) -> usize
-    ensures { result ≡ prefix_len is_word_byte text.now }
-{
-    text.iter().take_while(|byte| is_word_byte(**byte)).count()
-}
-
-fn digits_len(text: &[u8]) -> usize
-    ensures { result ≡ prefix_len is_ascii_digit text.now }
-{
-    text.iter().take_while(|byte| byte.is_ascii_digit()).count()
 }
 
 fn line_len(text: &[u8]) -> usize
@@ -64,22 +32,10 @@ fn is_dashed(text: &[u8]) -> bool
     }
 }
 
-fn is_one_of(text: &[u8], words: &[&str]) -> bool
-    ensures { result ≡ list_any (λ word. bytes_eq text.now word.now) words.now }
-{
-    words.iter().any(|word| text == word.as_bytes())
-}
-
-fn is_reserved(text: &[u8]) -> bool
-    ensures { result ≡ is_reserved text.now }
-{
-    is_one_of(text, &RESERVED_WORDS)
-}
-
 fn word_kind(text: &[u8]) -> TokenKind
     ensures { result ≡ word_kind text.now }
 {
-    if is_reserved(text) {
+    if is_reserved_word(text) {
         TokenKind::Reserved
     } else {
         TokenKind::Name

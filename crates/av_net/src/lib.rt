@@ -7,12 +7,14 @@ mod design;
 mod law;
 mod netlist;
 mod operation;
+mod spelling;
 mod token_kind;
 
 pub use design::{Design, Entry, Listing};
 pub use law::{presented, runs, settled_once};
 pub use netlist::{Drive, Module, Port, Step};
 pub use operation::{Operand, Operation, Symbol};
+pub use spelling::{begins_name, is_keyword};
 pub use token_kind::TokenKind;
 
 #[cfg(test)]

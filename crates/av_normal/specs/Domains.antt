@@ -1,4 +1,4 @@
--- The boxes of the declared domains of variables, and the first that is without an end or large. Only private contracts cite this.
+-- The boxes of the declared domains of variables, and the first that is unbounded or large. Only private contracts cite this.
 use Rattle.std.specs.Prelude.{◌≡◌, ◌≤◌, ◌≤ℤ◌, pos, ◌++◌, List, length, Option, Some, None}
 use Rattle.av_affine.specs.declared.form.Form.{Form}
 use Rattle.av_affine.specs.Numbers.{greatest}
@@ -32,11 +32,11 @@ IsDeclaredExtent v extent = (rows : List Form) × AreNormalised v.domain.dim v.d
 abbrev pub HasEnd : Variable → Type 0
 HasEnd v = IsUnbounded v.domain → ⊥
 
--- the domain is without an end, and the variable has this name
+-- the domain is unbounded, and the variable has this name
 abbrev pub IsWithoutEnd : Text → Variable → Type 0
 IsWithoutEnd name v = (name ≡ v.name) × IsUnbounded v.domain
 
--- the fault is of the first variable without an end, or out of memory
+-- the fault is of the first unbounded variable, or out of memory
 abbrev pub IsEndless : List Variable → NormalFault → Type 0
 IsEndless vs (fault.Unbounded name) = IsFirstOf HasEnd (IsWithoutEnd name) vs
 IsEndless vs (fault.Pieces n) = ⊥

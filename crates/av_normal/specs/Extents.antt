@@ -16,7 +16,7 @@ abbrev pub IsExtent : Set → Option Bounds → Type 0
 IsExtent set None = HasNoBounds set
 IsExtent set (Some b) = AreBounds set b × ((z : List ℤ) → Has set z → IsBetween b.low b.high z)
 
--- the set goes on without an end, and the fault has this name; or memory was wanted
+-- the set is unbounded, and the fault has this name; or memory was wanted
 abbrev pub IsEndlessOf : Text → Set → NormalFault → Type 0
 IsEndlessOf name set (fault.Unbounded n) = (n ≡ name) × (index : ℕ) × IsFirstEndless set index
 IsEndlessOf name set (fault.Pieces n) = ⊥

@@ -20,7 +20,7 @@ HasFewPieces s = (n : ℕ) → HasManyPieces s n → ⊥
 abbrev pub HasNarrowSets : FlatSystem → Type 0
 HasNarrowSets s = (kind : Quantity) (n : ℕ) → HasWideSets s kind n → ⊥
 
--- no domain is without an end
+-- no domain is unbounded
 abbrev pub HasEnds : FlatSystem → Type 0
 HasEnds s = (name : Text) → HasUnbounded s name → ⊥
 

@@ -11,10 +11,9 @@ ghost use Rattle.av_normal.specs.Domains.{HasNarrowDomain, HasFourEntries, IsDec
 ghost use Rattle.av_normal.specs.Extents.{IsExtent, IsEndlessOf, IsOverBounds};
 
 use crate::NormalFault;
-use crate::rows::copy_set;
 use av_base::{List, Name};
 use av_elim::{Elim, bounds};
-use av_flat::{Quantity, Var};
+use av_flat::{Quantity, Var, copy_set};
 use av_poly::{Bounds, Poly};
 use std::alloc::Global;
 

@@ -10,10 +10,9 @@ ghost use Rattle.av_normal.specs.Searches.{IsNarrow, AreNarrow, IsWideOne, IsWid
 ghost use Rattle.av_normal.specs.inner.Standing.{composed_under, AreChained, StandsUnder};
 
 use crate::NormalFault;
-use crate::rows::copy_map;
 use av_affine::{Map, Over};
 use av_base::{List, Memory};
-use av_flat::{Quantity, Tree};
+use av_flat::{Quantity, Tree, copy_map};
 use std::alloc::Global;
 
 // A map after one that it stands under.

@@ -6,7 +6,7 @@ use av_flat::Quantity;
 use std::alloc::{AllocError, AllocFailed};
 
 /// Why a system has no normal form. Where several of these hold, the first of these is answered: pieces, limits of
-/// sets and composed maps, domains without an end, limits of boxes.
+/// sets and composed maps, unbounded domains, limits of boxes.
 #[derive(Debug, Drop)]
 pub enum NormalFault {
     /// How many pieces an equation has, which is above 256: the first such equation. A number that 128 bits do not

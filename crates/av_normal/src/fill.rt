@@ -13,9 +13,8 @@ ghost use Rattle.av_normal.specs.inner.Filling.{inner_of, IsFoldable, IsFillable
 
 use crate::NormalFault;
 use crate::measure::narrowed;
-use crate::rows::copy_map;
 use av_affine::Map;
-use av_flat::{Tree, copy_tree};
+use av_flat::{Tree, copy_map, copy_tree};
 use av_poly::Poly;
 use std::alloc::Global;
 

@@ -37,7 +37,7 @@ fn normal_form(alloc: Global, flat: &Flat) -> Result<Flat, NormalFault>
 ///
 /// What it refuses it refuses for the first of these that holds: more than 256 pieces in an equation, counted before
 /// any is dropped; a set or a composed map above a limit, variable by variable, and in each its domain, its maps,
-/// its pieces and their bodies; a declared domain without an end; a declared domain with a coordinate above 4,095 or
+/// its pieces and their bodies; an unbounded declared domain; a declared domain with a coordinate above 4,095 or
 /// a box of more than 65,536 points.
 #[derive(Clone, Copy, Debug, Drop)]
 pub struct Normal;

@@ -15,10 +15,9 @@ ghost use Rattle.av_normal.specs.inner.Chosen.{IsPartAt, AreFourNumbers};
 use crate::compose::within;
 use crate::count::piece_count;
 use crate::distribute::{append_before, append_under, composed_map};
-use crate::rows::{copy_map, copy_rows};
 use av_affine::{Form, Map};
 use av_base::{List, Memory};
-use av_flat::{Piece, Tree, Var, copy_tree};
+use av_flat::{Piece, Tree, Var, copy_map, copy_rows, copy_tree};
 use av_poly::Poly;
 use std::alloc::Global;
 

@@ -8,9 +8,8 @@ ghost use Rattle.av_normal.specs.Alongside.{Alongside};
 ghost use Rattle.av_normal.specs.inner.Sifted.{AreSifted, IsSifted, IsInside, IsHeld};
 
 use crate::keep::has_point;
-use crate::rows::copy_set;
 use av_base::{List, Memory, Name};
-use av_flat::{Piece, Var, copy_tree};
+use av_flat::{Piece, Var, copy_set, copy_tree};
 use av_poly::Bounds;
 use std::alloc::Global;
 

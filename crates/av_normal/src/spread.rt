@@ -22,9 +22,8 @@ use crate::count::piece_count;
 use crate::fill::filled;
 use crate::measure::narrowed;
 use crate::piece::piece_at;
-use crate::rows::copy_set;
 use av_base::{List, Memory, Name};
-use av_flat::{Flat, Piece, Tree, Var};
+use av_flat::{Flat, Piece, Tree, Var, copy_set};
 use av_poly::Poly;
 use std::alloc::Global;
 

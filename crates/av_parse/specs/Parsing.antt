@@ -7,7 +7,7 @@ use Rattle.av_tree.specs.Fronts.{IsSyntaxPlace, IsDepthPlace}
 use Rattle.av_parse.specs.declared.fault.ParseFault.{ParseFault}
 use Rattle.av_parse.specs.declared.fault.ParseFault.TheVariants.{Syntax, Depth, Memory}
 
--- the answer is this tree, or want of memory
+-- the answer is this tree, or out of memory
 abbrev pub Answers : Result SystemMade ParseFault → System → Type 0
 Answers (Ok found) tree = view_system found ≡ tree
 Answers (Err Memory) tree = Unit {0}
@@ -19,7 +19,7 @@ IsFault tokens (Syntax place) = IsSyntaxPlace tokens place
 IsFault tokens (Depth place) = IsDepthPlace tokens place
 IsFault tokens Memory = ⊥
 
--- the answer is this fault, or want of memory
+-- the answer is this fault, or out of memory
 abbrev pub Refuses : Result SystemMade ParseFault → ParseFault → Type 0
 Refuses (Ok found) fault = ⊥
 Refuses (Err found) fault = (found ≡ Memory) ⊎ (found ≡ fault)

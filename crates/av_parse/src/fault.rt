@@ -11,7 +11,7 @@ pub enum ParseFault {
     Syntax(Place),
     /// The token there lies deeper than level 256.
     Depth(Place),
-    /// Want of memory. No contract says when it comes.
+    /// Out of memory. No contract says when it comes.
     Memory,
 }
 

@@ -20,7 +20,7 @@ pub(crate) fn name_of(alloc: Global, text: &[u8]) -> Result<Name, Memory>
     }
 }
 
-/// The value of digits. A lexed number fits 64 bits; a greater one is answered as want of memory.
+/// The value of digits. A lexed number fits 64 bits; a greater one is answered as out of memory.
 pub(crate) fn value_of(digits: &[u8]) -> Result<u64, Memory>
     ensures { IfOk result (λ value. value ≡ number_of digits.now) }
 {

@@ -44,7 +44,7 @@ fn read(alloc: Global, tokens: &[Token]) -> Result<System, Stop>
 /// The tree of the program that the tokens of a text spell, all of them, within the levels 0 to 256.
 ///
 /// The tokens are those that `lex` gives: a number above 64 bits and a name that is no UTF-8, which it
-/// does not give, are answered as want of memory. `Syntax` gives the place of the first token with which
+/// does not give, are answered as out of memory. `Syntax` gives the place of the first token with which
 /// no program goes on, `Depth` that of the first one on level 257, whichever of the two comes first. Where
 /// the last token is no `End`, as `lex` never leaves it, a program may want more tokens than there are;
 /// the place of that `Syntax` is line 1, column 1.

@@ -1,53 +1,12 @@
 //! Rows divided by the greatest common divisor of their coefficients, in place.
 
-ghost use Rattle.std.specs.Prelude.{ℤ, ◌≡◌, ◌≢◌, ◌≤◌, ◌<◌, ◌+◌, ◌^◌, ◌<ℤ◌, pos, length, map, max, take, All, IfSome, IfNone, IsTrue, false, nat_lt, if◌then◌else◌, slice_index_or};
-ghost use Rattle.std.specs.Int.{IsGcd, int_div_euclid, int_min};
-ghost use Rattle.av_affine.specs.Numbers.{AtMost, IsGcdOf};
+ghost use Rattle.std.specs.Prelude.{◌≡◌, ◌≢◌, ◌≤◌, ◌<◌, ◌+◌, ◌^◌, pos, length, take, All, IfSome, IfNone, IsTrue, false, nat_lt, if◌then◌else◌, slice_index_or};
+ghost use Rattle.std.specs.Int.{int_min};
 ghost use Rattle.av_poly.specs.Points.{IsSmall};
 ghost use Rattle.av_poly.specs.Normal.{counted, IsConstant, IsDivided, AreNormalised, impossible, Lowers, Places};
 
-use av_affine::Form;
+use av_affine::{Form, coefficients_over, gcd_of};
 use av_base::List;
-
-// The greatest common divisor of two numbers.
-fn gcd(a: u64, b: u64) -> u64
-    ensures gcd { IsGcd a b result }
-    ensures most { result ≤ max a b }
-{
-    let mut x = a;
-    let mut y = b;
-    while y != 0 {
-        let rest = x % y;
-        x = y;
-        y = rest;
-    }
-    x
-}
-
-// The greatest common divisor of coefficients.
-fn gcd_of(coef: [i64; 4]) -> u64
-    requires { AtMost (2 ^ 40) coef }
-    ensures gcd { IsGcdOf coef result }
-    ensures most { result ≤ 2 ^ 40 }
-{
-    let mut divisor: u64 = 0;
-    for k in 0..4 {
-        divisor = gcd(divisor, coef[k].unsigned_abs());
-    }
-    divisor
-}
-
-// Each coefficient divided by a common divisor.
-fn quotients(coef: [i64; 4], divisor: i64) -> [i64; 4]
-    requires { pos 0 <ℤ divisor }
-    ensures { result ≡ map (λ x. int_div_euclid x divisor) coef }
-{
-    let a = coef[0].div_euclid(divisor);
-    let b = coef[1].div_euclid(divisor);
-    let c = coef[2].div_euclid(divisor);
-    let d = coef[3].div_euclid(divisor);
-    [a, b, c, d]
-}
 
 // A coefficient that counts, or 0.
 fn counted_at(dim: u8, coef: [i64; 4], index: usize) -> i64
@@ -76,13 +35,13 @@ fn divided(dim: u8, row: &Form) -> Option<Form>
     ensures none { IfNone result (IsConstant dim row.now) }
 {
     let coef = counted_of(dim, row.coef);
-    let divisor = gcd_of(coef);
+    let divisor = gcd_of(&coef);
     if divisor == 0 {
         return None;
     }
     let divisor = divisor as i64;
     Some(Form {
-        coef: quotients(coef, divisor),
+        coef: coefficients_over(coef, divisor),
         constant: row.constant.div_euclid(divisor),
     })
 }

@@ -42,7 +42,7 @@ pub(crate) fn offsets_from(
     _flat: &Flat,
     edges: &[Edge],
     linear: &[Point],
-    low: &[i64],
+    low: &List<i64>,
 ) -> Result<Option<Vec<i64>>, Memory>
     requires chained { IsChained (view_system _flat.now) }
     requires proper { IsProper (view_system _flat.now) }
@@ -83,14 +83,14 @@ fn start_of(alloc: Global, var: &Var, linear: &Point) -> Result<i64, Memory>
 }
 
 // For each node the offset with which its first cycle is 0.
-fn starts_of(alloc: Global, flat: &Flat, linear: &[Point]) -> Result<Vec<i64>, Memory>
+fn starts_of(alloc: Global, flat: &Flat, linear: &[Point]) -> Result<List<i64>, Memory>
     requires chained { IsChained (view_system flat.now) }
     requires linear { AreVectors (view_system flat.now) 4 linear.now }
-    ensures starts { IfOk result (λ low. AreStarts (view_system flat.now) linear.now low.items) }
-    ensures small { IfOk result (λ low. AreSmall 1073741824 low.items) }
+    ensures starts { IfOk result (λ low. AreStarts (view_system flat.now) linear.now low) }
+    ensures small { IfOk result (λ low. AreSmall 1073741824 low) }
 {
     let vars = flat.vars.as_slice();
-    let mut low = Vec::new(alloc);
+    let mut low = List::new(alloc);
     for k in 0..vars.len() {
         if !is_node(&vars[k]) {
             continue;

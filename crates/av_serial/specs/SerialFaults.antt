@@ -47,7 +47,7 @@ reductions_of s = flat_map (λ v. flat_map (λ p. reductions_in v.name p.tree) v
 abbrev pub HasSteepRow : Reduced → Type 0
 HasSteepRow r = (rows : List Form) × AreNormalised r.set.dim r.set.rows rows × Any (λ row. IsUnit r.map row → ⊥) rows
 
--- a reduction is refused for a steep row, for a set without an end, for a large box: the first of these that holds
+-- a reduction is refused for a steep row, for an unbounded set, for a large box: the first of these that holds
 abbrev pub IsCauseOf : Reduced → SerialFault → Type 0
 IsCauseOf r (fault.NonUnit name) = HasSteepRow r × (name ≡ r.name)
 IsCauseOf r (fault.Unbounded name) = (HasSteepRow r → ⊥) × IsUnbounded r.set × (name ≡ r.name)

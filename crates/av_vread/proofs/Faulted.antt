@@ -276,7 +276,7 @@ module _ (bytes : List ℕ) where
   same_fault : (f g : VFault) → checked_of bytes ≡ Err f → checked_of bytes ≡ Err g → f ≡ g
   same_fault f g c d = err_fault f g (sym c ∙ d)
 
-  -- an answer that is no want of memory
+  -- an answer other than out of memory
   told : (g : VFault) → FaultIs g (checked_of bytes) → (g ≡ Memory) ⊎ (checked_of bytes ≡ Err g)
   told Memory c = inl refl
   told (VByte p) c = inr c

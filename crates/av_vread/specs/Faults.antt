@@ -56,7 +56,7 @@ IsFault bytes Memory = ⊥
 
 -- ---- answers
 
--- the answer is this design, or want of memory
+-- the answer is this design, or out of memory
 abbrev pub GivesDesign : Result Design VFault → Design → Type 0
 GivesDesign (Ok design) wanted = design ≡ wanted
 GivesDesign (Err Memory) wanted = Unit {0}
@@ -69,7 +69,7 @@ GivesDesign (Err (VUnassigned name)) wanted = ⊥
 GivesDesign (Err (VOrder name)) wanted = ⊥
 GivesDesign (Err (VWidth name)) wanted = ⊥
 
--- the answer is this fault, or want of memory
+-- the answer is this fault, or out of memory
 abbrev pub GivesFault : Result Design VFault → VFault → Type 0
 GivesFault (Err Memory) wanted = Unit {0}
 GivesFault (Err fault) wanted = fault ≡ wanted

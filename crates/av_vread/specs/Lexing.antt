@@ -40,7 +40,7 @@ view t = record { kind = t.kind; text = t.text.now; place = t.place }
 abbrev pub views : List Found → List Token
 views tokens = map view tokens
 
--- the answer is this one, or want of memory
+-- the answer is this one, or out of memory
 abbrev pub GivesTokens : Result (List Found) VFault → Lexed → Type 0
 GivesTokens (Ok tokens) wanted = wanted ≡ Ok (views tokens)
 GivesTokens (Err (VByte p)) wanted = wanted ≡ Err p

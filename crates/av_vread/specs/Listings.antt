@@ -54,7 +54,7 @@ no_lines = record { ins = []; ats = [] }
 abbrev pub listing_at : Among → Among → List ℕ → ℕ → Listed
 listing_at ports wires bytes first = with_lines ports wires no_lines (numbered 1 (take (first - 1) (lines_of bytes)))
 
--- the fault is that of the first bad line, or want of memory
+-- the fault is that of the first bad line, or out of memory
 abbrev pub IsListingFault : VFault → Listed → Type 0
 IsListingFault (VListing number) wanted = wanted ≡ Err number
 IsListingFault Memory wanted = Unit {0}
@@ -66,7 +66,7 @@ IsListingFault (VUnassigned name) wanted = ⊥
 IsListingFault (VOrder name) wanted = ⊥
 IsListingFault (VWidth name) wanted = ⊥
 
--- the answer, seen by view, is this one, or want of memory
+-- the answer, seen by view, is this one, or out of memory
 abbrev pub GivesListing : {X : Type 0} → (X → Listing) → Result X VFault → Listed → Type 0
 GivesListing view (Ok x) wanted = wanted ≡ Ok (view x)
 GivesListing view (Err fault) wanted = IsListingFault fault wanted

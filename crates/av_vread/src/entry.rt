@@ -1,9 +1,8 @@
 //! The entry of a line of the listing.
 
 ghost use Rattle.std.specs.Prelude.{◌≡◌, ◌≤◌, ◌+◌, ◌++◌, [], length, option_map, IfOk, IfSome};
-ghost use Rattle.std.specs.List.{list_any, list_all};
-ghost use Rattle.std.specs.Str.{bytes_eq};
-ghost use Rattle.av_base.specs.Tokens.{reserved_words, is_word_byte};
+ghost use Rattle.std.specs.List.{list_all};
+ghost use Rattle.av_base.specs.Tokens.{is_word_byte};
 ghost use Rattle.av_net.specs.Rows.{is_in};
 ghost use Rattle.av_vread.specs.Entries.{numeral_of, below_zero, index_of, indices_of, inside_of, point_of, is_variable, is_wire, parts_view, parts_of, entry_of, entry_at};
 
@@ -11,17 +10,10 @@ use crate::lexer::ascii;
 use crate::line::cut;
 use crate::literal::are_digits;
 use crate::names::Names;
-use crate::scan::{is_one_of, is_word_byte};
 use arrayvec::ArrayVec;
-use av_base::{Memory, Name, Point, decimal_value};
+use av_base::{Memory, Name, Point, decimal_value, is_reserved_word, is_word_byte};
 use av_net::Entry;
 use std::alloc::Global;
-
-// The words that are no Alpha names.
-const RESERVED_WORDS: [&str; 16] = [
-    "system", "returns", "var", "let", "tel", "case", "esac", "if", "then", "else", "reduce",
-    "min", "max", "of", "integer", "word",
-];
 
 // ---- numbers
 
@@ -113,19 +105,13 @@ fn are_word_bytes(text: &[u8]) -> bool
     text.iter().all(|byte| is_word_byte(*byte))
 }
 
-fn is_reserved(text: &[u8]) -> bool
-    ensures { result ≡ list_any (bytes_eq text.now) reserved_words }
-{
-    is_one_of(text, &RESERVED_WORDS)
-}
-
 // Whether the text is an Alpha name.
 fn is_variable(text: &[u8]) -> bool
     ensures { result ≡ is_variable text.now }
 {
     match text {
         [first, later @ ..] => {
-            first.is_ascii_alphabetic() && are_word_bytes(later) && !is_reserved(text)
+            first.is_ascii_alphabetic() && are_word_bytes(later) && !is_reserved_word(text)
         }
         [] => false,
     }

@@ -23,7 +23,7 @@ pub enum VFault {
     VOrder(Name),
     /// The item that drives the name has wrong widths.
     VWidth(Name),
-    /// Want of memory. No contract says when it comes.
+    /// Out of memory. No contract says when it comes.
     Memory,
 }
 

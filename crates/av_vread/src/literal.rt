@@ -5,8 +5,7 @@ ghost use Rattle.std.specs.List.{prefix_len};
 ghost use Rattle.av_base.specs.Tokens.{number_of};
 ghost use Rattle.av_vread.specs.Reading.{size_digits, value_digits, begins_base, are_digits, fits_in, is_literal, GivesOption, sized_view, literal_in};
 
-use crate::scan::digits_len;
-use av_base::{Width, Word, decimal_value};
+use av_base::{Width, Word, decimal_value, digits_len};
 
 /// A constant word and its width.
 #[derive(Clone, Copy, Debug)]

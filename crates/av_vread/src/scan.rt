@@ -1,28 +1,11 @@
 //! What stands at the front of a text.
 
 ghost use Rattle.std.specs.Prelude.{◌≡◌, ◌<◌, ◌≤◌, ◌-◌, length, drop, slice_index};
-ghost use Rattle.std.specs.List.{prefix_len, list_any};
-ghost use Rattle.std.specs.Str.{bytes_eq};
-ghost use Rattle.std.specs.Char.{is_ascii_digit};
-ghost use Rattle.av_base.specs.Tokens.{is_blank, is_word_byte};
-ghost use Rattle.av_net.specs.Lexemes.{begins_name};
-ghost use Rattle.av_vread.specs.Scan.{is_not_feed, is_slashed, is_reserved, is_single, is_pair, begins_pair, is_signed, tail_len, number_of, symbol_of, word_kind, token_of, piece_of, FitsIn};
+ghost use Rattle.std.specs.List.{prefix_len};
+ghost use Rattle.av_vread.specs.Scan.{is_not_feed, is_slashed, is_single, is_pair, begins_pair, is_signed, tail_len, number_of, symbol_of, word_kind, token_of, piece_of, FitsIn};
 
-use av_net::TokenKind;
-
-const RESERVED_WORDS: [&str; 11] = [
-    "module",
-    "endmodule",
-    "input",
-    "output",
-    "wire",
-    "reg",
-    "assign",
-    "always",
-    "posedge",
-    "if",
-    "else",
-];
+use av_base::{digits_len, is_blank, word_len};
+use av_net::{TokenKind, begins_name, is_keyword};
 
 /// What stands at the front of a text.
 #[derive(Clone, Copy, Debug)]
@@ -33,37 +16,6 @@ pub(crate) enum Piece {
     Token(TokenKind, usize),
     /// A byte that begins no token.
     Bad,
-}
-
-pub(crate) fn is_word_byte(byte: u8) -> bool
-    ensures { result ≡ is_word_byte byte }
-{
-    byte.is_ascii_alphabetic() || byte.is_ascii_digit() || byte == b'_'
-}
-
-fn begins_name(byte: u8) -> bool
-    ensures { result ≡ begins_name byte }
-{
-    byte.is_ascii_alphabetic() || byte == b'_'
-}
-
-fn is_blank(byte: u8) -> bool
-    ensures { result ≡ is_blank byte }
-{
-    matches!(byte, b' ' | b'\t' | b'\r' | b'\n')
-}
-
-fn word_len(text: &[u8]) -> usize
-    ensures { result ≡ prefix_len is_word_byte text.now }
-{
-    text.iter().take_while(|byte| is_word_byte(**byte)).count()
-}
-
-pub(crate) fn digits_len(text: &[u8]) -> usize
-    ensures len { result ≡ prefix_len is_ascii_digit text.now }
-    ensures within { result ≤ length text.now }
-{
-    text.iter().take_while(|byte| byte.is_ascii_digit()).count()
 }
 
 pub(crate) fn line_len(text: &[u8]) -> usize
@@ -82,22 +34,10 @@ fn is_slashed(text: &[u8]) -> bool
     }
 }
 
-pub(crate) fn is_one_of(text: &[u8], words: &[&str]) -> bool
-    ensures { result ≡ list_any (λ word. bytes_eq text.now word.now) words.now }
-{
-    words.iter().any(|word| text == word.as_bytes())
-}
-
-fn is_reserved(text: &[u8]) -> bool
-    ensures { result ≡ is_reserved text.now }
-{
-    is_one_of(text, &RESERVED_WORDS)
-}
-
 fn word_kind(text: &[u8]) -> TokenKind
     ensures { result ≡ word_kind text.now }
 {
-    if is_reserved(text) {
+    if is_keyword(text) {
         TokenKind::Reserved
     } else {
         TokenKind::Name

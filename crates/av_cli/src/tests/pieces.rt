@@ -139,7 +139,7 @@ const ROWS: &[Row] = &[
         "",
         "refused: limit constraints 21\n",
     ),
-    // Domains without an end.
+    // Unbounded domains.
     (
         "system t (X : {i|0<=i} of integer) returns (Y : {i|i=0} of integer); let Y = 1; tel;",
         "",

@@ -69,7 +69,7 @@ IsOutcome s first bytes (Err (DataOutside l)) = IsInputFault s first bytes (Data
 IsOutcome s first bytes (Err (DataTwice l)) = IsInputFault s first bytes (DataTwice l)
 IsOutcome s first bytes (Err (DataMissing name point)) = IsInputFault s first bytes (DataMissing name point)
 
--- the fault is that of this point of the variable at this place, or want of memory
+-- the fault is that of this point of the variable at this place, or out of memory
 abbrev pub TellsMissing : FlatSystem → ℕ → Point → DataFault → Type 0
 TellsMissing s place z Memory = Unit {0}
 TellsMissing s place z (DataMissing name point) = (v : Variable) × (slice_get s.variables place ≡ Some v) × (v.name ≡ name) × (point ≡ z)

@@ -58,7 +58,7 @@ pub(super) const ENDLESS: &str = "system t (A : {i,j,k | 0<=i<=1; 0<=j<=2; 0<=k<
   returns (Y : {i | 0<=i<=1} of integer);
 let Y[i] = reduce(+, (i,j -> i), reduce(max, (i,j,k -> i,j), A[i,j,k])); tel;";
 
-/// The outer reduction goes on without an end, and the inner one has a steep row.
+/// The outer reduction is unbounded, and the inner one has a steep row.
 pub(super) const ENDLESS_BEFORE_STEEP: &str =
     "system t (X : {i | 0<=i<=2} of integer) returns (Y : {i | 0<=i<=1} of integer);
 let Y[i] = reduce(+, (i,j -> i), reduce(max, (i,j,k -> i,j), {i,j,k | 0<=2*k<=i} : X[k])); tel;";

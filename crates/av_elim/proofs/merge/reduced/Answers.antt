@@ -3,13 +3,11 @@ use Rattle.std.specs.Int.{int_div_euclid}
 use Rattle.std.specs.Int.RustNames.{unsigned_abs}
 use Rattle.std.proofs.lemmas.Int.{ints}
 use Rattle.std.proofs.lemmas.List.{get_or_default}
+use Rattle.av_affine.specs.Numbers.{AtMost}
 use Rattle.av_affine.proofs.Exact.{divided}
 use Rattle.av_elim.specs.inner.Rows.{line, IsReduced}
 use Rattle.av_elim.proofs.Merging.{reduced_same, reduced_by}
 use Rattle.av_elim.proofs.merge.reduced.Goals as goal
-
-pub gcd_of-requires : goal.gcd_of-requires
-gcd_of-requires c = λ k d l. subst (λ (x : ℤ). unsigned_abs x ≤ 2 ^ 43) (get_or_default c.args.row.now.coef k (pos 0) d l) (c.requires.coefficients (suc k) (omega arith))
 
 pub returns-then-divisor-eq0 : goal.returns-then-divisor-eq0
 returns-then-divisor-eq0 c = reduced_same (line c.args.row.now)
@@ -24,10 +22,11 @@ returns c =
     let h = c.gcd-divisor.result in
     let f : FitsSigned w64 row.constant = search rules in
     let u = simp to_z-of_z at c.unsigned_abs.ensures.value in
-    let m : h ≤ 2 ^ 53 = omega (arith, c.gcd-divisor.ensures.most, c.gcd_of.ensures.most, u, c.requires.constant) in
+    let small : AtMost (2 ^ 43) row.coef = λ k d l. subst (λ (x : ℤ). unsigned_abs x ≤ 2 ^ 43) (get_or_default row.coef k (pos 0) d l) (c.requires.coefficients (suc k) (omega arith)) in
+    let m : h ≤ 2 ^ 53 = omega (arith, c.gcd-divisor.ensures.most, c.gcd_of.ensures.most (2 ^ 43) small, u, c.requires.constant) in
     let p : to_z w64 h ≡ pos h = omega (arith, ints, m) in
-    let q : c.quotients.result ≡ map (λ x. int_div_euclid x (to_z w64 h)) row.coef = c.quotients.ensures in
-    let q' : c.quotients.result ≡ divided row.coef h = rw p at q in
+    let q : c.coefficients_over.result ≡ map (λ x. int_div_euclid x (to_z w64 h)) row.coef = c.coefficients_over.ensures in
+    let q' : c.coefficients_over.result ≡ divided row.coef h = rw p at q in
     let d : c.div_euclid.result ≡ int_div_euclid (to_z w64 (of_z w64 row.constant)) (to_z w64 h) = c.div_euclid.ensures in
     let d' = simp to_z-of_z at (rw p at d) in
     let back : (z : ℤ) → FitsSigned w64 z → to_z w64 (of_z w64 z) ≡ z = λ z f. simp to_z-of_z in

@@ -4,9 +4,6 @@ use Rattle.av_poly.specs.Normal.{counted, IsDivided}
 use Rattle.av_poly.proofs.Dividing.{counted_most, none_counted, divided_small}
 use Rattle.av_poly.proofs.normal.divided.Goals as goal
 
-pub gcd_of-divisor-requires : goal.gcd_of-divisor-requires
-gcd_of-divisor-requires c = subst (AtMost (2 ^ 40)) (sym c.counted_of-coef.ensures) (counted_most (2 ^ 40) c.args.dim c.args.row.now.coef c.requires.coefficients)
-
 pub returns-then-divisor-eq0-clause-none : goal.returns-then-divisor-eq0-clause-none
 returns-then-divisor-eq0-clause-none c =
     let g = rw c.if-divisor-eq0.true at c.gcd_of-divisor.ensures.gcd in
@@ -14,5 +11,5 @@ returns-then-divisor-eq0-clause-none c =
 
 pub returns-clause-small : goal.returns-clause-small
 returns-clause-small c =
-    let is : IsDivided c.args.dim c.args.row.now (record { coef = c.quotients.result; constant = to_z w64 (of_z w64 c.div_euclid.result) }) = search rules in
+    let is : IsDivided c.args.dim c.args.row.now (record { coef = c.coefficients_over.result; constant = to_z w64 (of_z w64 c.div_euclid.result) }) = search rules in
     divided_small c.args.dim c.args.row.now _ is c.requires

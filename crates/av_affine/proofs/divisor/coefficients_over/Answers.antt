@@ -1,7 +1,7 @@
 use Rattle.std.proofs.Common.{rules, ◌≡◌, ◌∙◌, ℤ, pos, get_or, FitsSigned, to_z-of_z, to_z, of_z, w64, length}
 use Rattle.std.specs.Int.{int_div_euclid}
-use Rattle.av_poly.proofs.Fours.{four}
-use Rattle.av_poly.proofs.normal.quotients.Goals as goal
+use Rattle.av_affine.proofs.Fours.{four}
+use Rattle.av_affine.proofs.divisor.coefficients_over.Goals as goal
 
 pub returns : goal.returns
 returns c =

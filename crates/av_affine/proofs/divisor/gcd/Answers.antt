@@ -1,6 +1,6 @@
 use Rattle.std.proofs.Common.{arith}
 use Rattle.std.proofs.lemmas.Nat.Gcd.{IsGcd-from_mod, IsGcd-from_zero}
-use Rattle.av_elim.proofs.merge.gcd.Goals as goal
+use Rattle.av_affine.proofs.divisor.gcd.Goals as goal
 
 pub loop-y-preserved : goal.loop-y-preserved
 loop-y-preserved c =

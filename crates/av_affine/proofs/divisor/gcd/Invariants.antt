@@ -1,6 +1,6 @@
 use Rattle.std.proofs.Common.{ℕ, ◌≤◌, max}
 use Rattle.std.specs.Int.{IsGcd}
-use Rattle.av_elim.proofs.merge.gcd.Given as goal
+use Rattle.av_affine.proofs.divisor.gcd.Given as goal
 
 abbrev pub invariant-loop-y : goal.invariant-loop-y
 invariant-loop-y l = ((g : ℕ) → IsGcd l.x l.y g → IsGcd l.fn.a l.fn.b g) × (l.x ≤ max l.fn.a l.fn.b) × (l.y ≤ max l.fn.a l.fn.b)

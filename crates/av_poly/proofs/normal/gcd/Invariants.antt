@@ -1,9 +1,0 @@
-use Rattle.std.proofs.Common.{ℕ, ◌≤◌, max}
-use Rattle.std.specs.Int.{IsGcd}
-use Rattle.av_poly.proofs.normal.gcd.Given as goal
-
-abbrev pub invariant-loop-y : goal.invariant-loop-y
-invariant-loop-y l = ((g : ℕ) → IsGcd l.x l.y g → IsGcd l.fn.a l.fn.b g) × (l.x ≤ max l.fn.a l.fn.b) × (l.y ≤ max l.fn.a l.fn.b)
-
-abbrev pub decreases-loop-y : goal.decreases-loop-y
-decreases-loop-y l = l.y
