@@ -1,7 +1,7 @@
 ghost use Rattle.std.specs.Prelude.{ℕ, ◌≡◌, ◌≢◌, ◌⊎◌, Err, Some, All, IfOk, IfErr, OnOk, map};
 ghost use Rattle.av_affine.specs.Numbers.{AtMost};
 ghost use Rattle.av_flat.specs.Trees.{view_variable, view_piece, view_system};
-ghost use Rattle.av_flat.specs.Signatures.{signature, signatures, is_computed};
+ghost use Rattle.av_flat.specs.Signatures.{signature};
 ghost use Rattle.av_flat.specs.WellFormed.{IsWellFormed};
 ghost use Rattle.av_flat.specs.Proper.{IsProper};
 ghost use Rattle.av_check.specs.declared.fault.CheckFault.TheVariants as fault;
@@ -22,18 +22,9 @@ use crate::judge::judge_pieces;
 use crate::least::least_wrong;
 use crate::verdict::{Blame, Verdict};
 use av_base::{List, Memory, Name, Point};
-use av_flat::{Flat, Kind, Piece, Var, copy_set};
+use av_flat::{Flat, Piece, Var, copy_set};
 use av_poly::Poly;
 use std::alloc::Global;
-
-fn is_computed(kind: Kind) -> bool
-    ensures { result ≡ is_computed kind }
-{
-    match kind {
-        Kind::Input => false,
-        Kind::Output | Kind::Local | Kind::Partial => true,
-    }
-}
 
 // The domains of pieces.
 fn domains(alloc: Global, pieces: &[Piece]) -> Result<List<Poly>, Memory>
@@ -99,7 +90,7 @@ fn check_variable(alloc: Global, vars: &[Var], var: &Var, kept: &Var) -> Result<
     ensures fine { OnOk result (HasNoWrong (map signature (map view_variable vars.now)) (view_variable var.now)) }
     ensures wrong { IfErr result (IsFaultOf (map signature (map view_variable vars.now)) (view_variable var.now)) }
 {
-    if !is_computed(var.kind) {
+    if !var.kind.is_computed() {
         return Ok(());
     }
     let sets = domains(alloc, kept.pieces.as_slice())?;

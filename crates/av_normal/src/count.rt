@@ -2,12 +2,11 @@
 
 ghost use Rattle.std.specs.Prelude.{◌≡◌, ◌-◌, ◌^◌, IfSome, IfNone, IfErr, OnOk, min, map};
 ghost use Rattle.av_flat.specs.Trees.{view, view_piece, view_variable, trees_of};
-ghost use Rattle.av_flat.specs.Signatures.{is_computed};
 ghost use Rattle.av_flat.specs.Quantities.{piece_count, piece_count_of_all};
 ghost use Rattle.av_normal.specs.inner.Counted.{pieces_counted, HasMany, IsOfFew, HasFew, IsOfMany};
 
 use crate::NormalFault;
-use av_flat::{Kind, Piece, Tree, Var};
+use av_flat::{Piece, Tree, Var};
 
 const MOST_PIECES: u128 = 256;
 
@@ -57,22 +56,13 @@ fn equation_count(pieces: &[Piece]) -> u128
     count
 }
 
-fn is_computed(kind: Kind) -> bool
-    ensures { result ≡ is_computed kind }
-{
-    match kind {
-        Kind::Input => false,
-        Kind::Output | Kind::Local | Kind::Partial => true,
-    }
-}
-
 // How many pieces a variable's equation has, where it has one with too many.
 fn many_pieces(var: &Var) -> Option<u128>
     ensures some { IfSome result (HasMany (view_variable var.now)) }
     ensures none { IfNone result (IsOfFew (view_variable var.now)) }
 {
     let count = equation_count(var.pieces.as_slice());
-    if is_computed(var.kind) && count > MOST_PIECES {
+    if var.kind.is_computed() && count > MOST_PIECES {
         Some(count)
     } else {
         None

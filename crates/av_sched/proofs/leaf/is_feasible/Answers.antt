@@ -1,4 +1,4 @@
-use Rattle.std.proofs.Common.{◌∙◌, refl, sym, subst, List, Vec, Global, Option, IfSome, IfNone, ℤ, length}
+use Rattle.std.proofs.Common.{refl, sym, subst, List, Vec, Global, Option, IfSome, IfNone, ℤ, length}
 use Rattle.av_flat.specs.Trees.{view_system}
 use Rattle.av_sched.specs.declared.arc.Arc.{Arc}
 use Rattle.av_sched.specs.inner.Arcs.{Solves, IsLeastSolution}
