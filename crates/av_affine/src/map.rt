@@ -6,6 +6,7 @@ use crate::Rows;
 use crate::compose::{composed, most_coefficient, most_constant};
 use arrayvec::ArrayVec;
 use av_base::Point;
+use av_base::limits::{MOST_COEFFICIENT, MOST_CONSTANT};
 
 /// An affine map: how many indices it has, and the forms that give the image.
 ///
@@ -24,10 +25,6 @@ pub enum Over {
     /// The greatest absolute value of its constants, which is above 1,048,576.
     Constant(u128),
 }
-
-const MOST_COEFFICIENT: u64 = 1024;
-
-const MOST_CONSTANT: u64 = 1 << 20;
 
 impl Map {
     ghost use Rattle.av_affine.specs.Maps.{image, composition, greatest_coefficient, greatest_constant};

@@ -5,6 +5,7 @@
 mod copy;
 mod decimal;
 mod honest;
+pub mod limits;
 mod list;
 mod memory;
 mod name;

@@ -14,12 +14,13 @@ use crate::order::lesser;
 use crate::outside::least_left;
 use crate::overlap::least_overlap;
 use crate::sets::normalised;
+use av_base::limits::MOST_COORDINATE;
 use av_base::{Memory, Point};
 use av_elim::{Elim, bounds};
 use av_poly::{Bounds, Poly};
 use std::alloc::Global;
 
-const MOST: i128 = 4095;
+const MOST: i128 = MOST_COORDINATE as i128;
 
 // The nearest number of at most 4,095 in absolute value.
 fn nearest(number: i128) -> i128

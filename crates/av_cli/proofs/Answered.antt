@@ -14,7 +14,6 @@ use Rattle.av_data.proofs.Told.{not_both as not_both_stimuli}
 use Rattle.av_names.specs.declared.size.Size.{Size}
 use Rattle.av_cli.specs.declared.status.Status.{Status}
 use Rattle.av_cli.specs.declared.status.Status.TheVariants.{Done, Refused, Words, ReadFault, WriteFault, Memory}
-use Rattle.av_cli.specs.declared.program.TheConstants.{LIMIT}
 use Rattle.av_cli.specs.declared.words.Command.{Command}
 use Rattle.av_cli.specs.declared.words.Command.TheVariants.{Check, Schedule, Table, Emit, Run, Trace, Sim, Demo}
 use Rattle.av_cli.specs.Commands.{Asks, IsCheck, IsSchedule, IsTable, IsEmit, IsRun, IsTrace, IsSim, IsDemo, TakeInput, AskDemo, AreRead}
@@ -57,7 +56,7 @@ read_of (Emit width reach) words are = inl (input_of (Emit width reach) words ar
 read_of Sim words are = inl (input_of Sim words are refl)
 read_of (Demo width reach k) words are = inr (width.bits, reach.size, k, are)
 
-refusal_of : (command : Command) (words : List (List ℕ)) (bytes reason : List ℕ) → Are command words → length bytes ≤ LIMIT → Refuses command words bytes reason → IsRefused words bytes reason
+refusal_of : (command : Command) (words : List (List ℕ)) (bytes reason : List ℕ) → Are command words → length bytes ≤ 1048576 → Refuses command words bytes reason → IsRefused words bytes reason
 refusal_of (Check width) words bytes reason are within (sizes, is, r) = inr (inr (inr (inl (within, (width.bits, sizes, is, r)))))
 refusal_of (Schedule width reach) words bytes reason are within (sizes, is, r) = inr (inr (inr (inr (inl (within, (width.bits, reach.size, sizes, is, r))))))
 refusal_of (Table width reach) words bytes reason are within (sizes, is, r) = inr (inr (inr (inr (inr (inl (within, (width.bits, reach.size, sizes, is, r)))))))
@@ -67,7 +66,7 @@ refusal_of (Emit width reach) words bytes reason are within (sizes, is, r) = inr
 refusal_of Sim words bytes reason are within r = inr (inr (inl (within, are, r)))
 refusal_of (Demo width reach k) words bytes reason are within r = absurd r
 
-writes_output : (command : Command) (words : List (List ℕ)) (left left' : Option (List ℕ)) (bytes out : List ℕ) → Are command words → takes_input command ≡ true → Takes left left' bytes → IsAtEnd left' → length bytes ≤ LIMIT
+writes_output : (command : Command) (words : List (List ℕ)) (left left' : Option (List ℕ)) (bytes out : List ℕ) → Are command words → takes_input command ≡ true → Takes left left' bytes → IsAtEnd left' → length bytes ≤ 1048576
     → Gives command words bytes out → Writes Done words left left' out
 writes_output (Check w) words left left' bytes out are t takes end within (sizes, is, g) =
     inr (inr (inl (record { bits = w.bits; sizes = sizes; read = is; taken = bytes; takes = takes; whole = end; within = within; gives = g })))
@@ -124,7 +123,7 @@ exclusive_sim bytes reason out (bad_stimulus {text} {rest} {first} {design} faul
     not_both_stimuli design.module.inputs (inputs_distinct text design spelled) first rest g.stimulus fault stimulated is
 
 -- what words of a command refuse, each command by its name
-exclude : (name : List ℕ) (words : List (List ℕ)) (bytes : List ℕ) → Begins name words → length bytes ≤ LIMIT
+exclude : (name : List ℕ) (words : List (List ℕ)) (bytes : List ℕ) → Begins name words → length bytes ≤ 1048576
     → (codes "emit" ≡ name → (bits box : ℕ) (sizes : List Size) → IsEmit words bits box sizes → (reason : List ℕ) → RefusesEmit sizes bits box bytes reason → ⊥)
     → (codes "sim" ≡ name → (reason : List ℕ) → RefusesSim bytes reason → ⊥)
     → (codes "check" ≡ name → (bits : ℕ) (sizes : List Size) → IsCheck words bits sizes → (reason : List ℕ) → RefusesCheck sizes bits bytes reason → ⊥)
@@ -152,7 +151,7 @@ exclude name words bytes is within emit sim check schedule table run trace (reas
 letter : (k : ℕ) (a b : List ℕ) → (slice_index_or a k 0 ≡ slice_index_or b k 0 → ⊥) → a ≡ b → ⊥
 letter k a b differ e = differ (ap (λ (l : List ℕ). slice_index_or l k 0) e)
 
-exclude_check : (words : List (List ℕ)) (bits : ℕ) (bytes out : List ℕ) (sizes : List Size) → IsCheck words bits sizes → length bytes ≤ LIMIT → GivesCheck sizes bits bytes out → HasRefusal words bytes → ⊥
+exclude_check : (words : List (List ℕ)) (bits : ℕ) (bytes out : List ℕ) (sizes : List Size) → IsCheck words bits sizes → length bytes ≤ 1048576 → GivesCheck sizes bits bytes out → HasRefusal words bytes → ⊥
 exclude_check words bits bytes out sizes is within g refusal =
     exclude (codes "check") words bytes (begins (codes "check") words bits is.0 sizes is.1) within
     (λ e. absurd (letter 0 (codes "emit") (codes "check") (λ (f : 101 ≡ 99). omega (arith, f)) e))
@@ -166,7 +165,7 @@ exclude_check words bits bytes out sizes is within g refusal =
     (λ e. absurd (letter 0 (codes "trace") (codes "check") (λ (f : 116 ≡ 99). omega (arith, f)) e))
     refusal
 
-exclude_schedule : (words : List (List ℕ)) (bits box : ℕ) (bytes out : List ℕ) (sizes : List Size) → IsSchedule words bits box sizes → length bytes ≤ LIMIT → GivesSchedule sizes bits box bytes out → HasRefusal words bytes → ⊥
+exclude_schedule : (words : List (List ℕ)) (bits box : ℕ) (bytes out : List ℕ) (sizes : List Size) → IsSchedule words bits box sizes → length bytes ≤ 1048576 → GivesSchedule sizes bits box bytes out → HasRefusal words bytes → ⊥
 exclude_schedule words bits box bytes out sizes is within g refusal =
     exclude (codes "schedule") words bytes (begins (codes "schedule") words bits box sizes is) within
     (λ e. absurd (letter 0 (codes "emit") (codes "schedule") (λ (f : 101 ≡ 115). omega (arith, f)) e))
@@ -180,7 +179,7 @@ exclude_schedule words bits box bytes out sizes is within g refusal =
     (λ e. absurd (letter 0 (codes "trace") (codes "schedule") (λ (f : 116 ≡ 115). omega (arith, f)) e))
     refusal
 
-exclude_table : (words : List (List ℕ)) (bits box : ℕ) (bytes out : List ℕ) (sizes : List Size) → IsTable words bits box sizes → length bytes ≤ LIMIT → GivesTable sizes bits box bytes out → HasRefusal words bytes → ⊥
+exclude_table : (words : List (List ℕ)) (bits box : ℕ) (bytes out : List ℕ) (sizes : List Size) → IsTable words bits box sizes → length bytes ≤ 1048576 → GivesTable sizes bits box bytes out → HasRefusal words bytes → ⊥
 exclude_table words bits box bytes out sizes is within g refusal =
     exclude (codes "table") words bytes (begins (codes "table") words bits box sizes is) within
     (λ e. absurd (letter 0 (codes "emit") (codes "table") (λ (f : 101 ≡ 116). omega (arith, f)) e))
@@ -194,7 +193,7 @@ exclude_table words bits box bytes out sizes is within g refusal =
     (λ e. absurd (letter 1 (codes "trace") (codes "table") (λ (f : 114 ≡ 97). omega (arith, f)) e))
     refusal
 
-exclude_emit : (words : List (List ℕ)) (bits box : ℕ) (bytes out : List ℕ) (sizes : List Size) → IsEmit words bits box sizes → length bytes ≤ LIMIT → GivesEmit sizes bits box bytes out → HasRefusal words bytes → ⊥
+exclude_emit : (words : List (List ℕ)) (bits box : ℕ) (bytes out : List ℕ) (sizes : List Size) → IsEmit words bits box sizes → length bytes ≤ 1048576 → GivesEmit sizes bits box bytes out → HasRefusal words bytes → ⊥
 exclude_emit words bits box bytes out sizes is within g refusal =
     exclude (codes "emit") words bytes (begins (codes "emit") words bits box sizes is) within
     (λ _ n c others other reason r.
@@ -208,7 +207,7 @@ exclude_emit words bits box bytes out sizes is within g refusal =
     (λ e. absurd (letter 0 (codes "trace") (codes "emit") (λ (f : 116 ≡ 101). omega (arith, f)) e))
     refusal
 
-exclude_run : (words : List (List ℕ)) (bits box : ℕ) (bytes out : List ℕ) (sizes : List Size) → IsRun words bits box sizes → length bytes ≤ LIMIT → GivesResults sizes bits box bytes out → HasRefusal words bytes → ⊥
+exclude_run : (words : List (List ℕ)) (bits box : ℕ) (bytes out : List ℕ) (sizes : List Size) → IsRun words bits box sizes → length bytes ≤ 1048576 → GivesResults sizes bits box bytes out → HasRefusal words bytes → ⊥
 exclude_run words bits box bytes out sizes is within g refusal =
     exclude (codes "run") words bytes (begins (codes "run") words bits box sizes is) within
     (λ e. absurd (letter 0 (codes "emit") (codes "run") (λ (f : 101 ≡ 114). omega (arith, f)) e))
@@ -222,7 +221,7 @@ exclude_run words bits box bytes out sizes is within g refusal =
     (λ e. absurd (letter 0 (codes "trace") (codes "run") (λ (f : 116 ≡ 114). omega (arith, f)) e))
     refusal
 
-exclude_trace : (words : List (List ℕ)) (bits box : ℕ) (bytes out : List ℕ) (sizes : List Size) → IsTrace words bits box sizes → length bytes ≤ LIMIT → GivesTrace sizes bits box bytes out → HasRefusal words bytes → ⊥
+exclude_trace : (words : List (List ℕ)) (bits box : ℕ) (bytes out : List ℕ) (sizes : List Size) → IsTrace words bits box sizes → length bytes ≤ 1048576 → GivesTrace sizes bits box bytes out → HasRefusal words bytes → ⊥
 exclude_trace words bits box bytes out sizes is within g refusal =
     exclude (codes "trace") words bytes (begins (codes "trace") words bits box sizes is) within
     (λ e. absurd (letter 0 (codes "emit") (codes "trace") (λ (f : 101 ≡ 116). omega (arith, f)) e))
@@ -236,7 +235,7 @@ exclude_trace words bits box bytes out sizes is within g refusal =
     (let h = (subst (λ (m : ℕ). GivesTrace others m c bytes out) same_bits (subst (λ (m : ℕ). GivesTrace others bits m bytes out) same_box (subst (λ (xs : List Size). GivesTrace xs bits box bytes out) same_sizes g))) in exclusive_run others n c bytes reason h.timed h.cells h.design h.inputs r h.has))
     refusal
 
-exclude_sim : (words : List (List ℕ)) (bytes out : List ℕ) → IsSim words → length bytes ≤ LIMIT → GivesSim bytes out → HasRefusal words bytes → ⊥
+exclude_sim : (words : List (List ℕ)) (bytes out : List ℕ) → IsSim words → length bytes ≤ 1048576 → GivesSim bytes out → HasRefusal words bytes → ⊥
 exclude_sim words bytes out is within g refusal =
     exclude (codes "sim") words bytes (begins_sim words is) within
     (λ e. absurd (letter 0 (codes "emit") (codes "sim") (λ (f : 101 ≡ 115). omega (arith, f)) e))
@@ -274,7 +273,7 @@ exclude_demo words bytes demo (reason, inr (inr (inr (inr (inr (inl (short, (bit
 exclude_demo words bytes demo (reason, inr (inr (inr (inr (inr (inr (inl (short, (bits, box, sizes, other, r))))))))) = demo_alone words (inr (inr (inr (inr (inr (inl (bits, box, sizes, other))))))) demo
 exclude_demo words bytes demo (reason, inr (inr (inr (inr (inr (inr (inr (short, (bits, box, sizes, other, r))))))))) = demo_alone words (inr (inr (inr (inr (inr (inr (bits, box, sizes, other))))))) demo
 
-exclusive : (command : Command) (words : List (List ℕ)) (bytes out : List ℕ) → Are command words → length bytes ≤ LIMIT → Gives command words bytes out → HasRefusal words bytes → ⊥
+exclusive : (command : Command) (words : List (List ℕ)) (bytes out : List ℕ) → Are command words → length bytes ≤ 1048576 → Gives command words bytes out → HasRefusal words bytes → ⊥
 exclusive (Check width) words bytes out are within g refusal = exclude_check words width.bits bytes out g.0 g.1 within g.2 refusal
 exclusive (Schedule width reach) words bytes out are within g refusal = exclude_schedule words width.bits reach.size bytes out g.0 g.1 within g.2 refusal
 exclusive (Table width reach) words bytes out are within g refusal = exclude_table words width.bits reach.size bytes out g.0 g.1 within g.2 refusal
@@ -326,18 +325,18 @@ all_taken (Some old) (Some rest) bytes P takes end h =
 all_taken (Some old) None bytes P takes end h = absurd takes
 all_taken None left' bytes P takes end h = tt
 
-longer : (old rest taken : List ℕ) → old ≡ taken ++ rest → LIMIT < length taken → LIMIT < length old
+longer : (old rest taken : List ℕ) → old ≡ taken ++ rest → 1048576 < length taken → 1048576 < length old
 longer old rest taken takes long = omega (arith, length-append taken rest, ap length takes)
 
 -- more was left than the limit
-pub too_long_left : (words : List (List ℕ)) (left left' : Option (List ℕ)) → TakeInput words → TakesMore left left' LIMIT → IfSome left (HasRefusal words)
+pub too_long_left : (words : List (List ℕ)) (left left' : Option (List ℕ)) → TakeInput words → TakesMore left left' 1048576 → IfSome left (HasRefusal words)
 too_long_left words (Some old) (Some rest) input (taken, takes, long) = (codes "too long", inl (longer old rest taken takes long, input, refl))
 too_long_left words (Some old) None input (taken, takes, long) = absurd takes
 too_long_left words None left' input more = tt
 
 -- ---- what is due
 
-pub writes_too_long : (words : List (List ℕ)) (left left' : Option (List ℕ)) → TakeInput words → TakesMore left left' LIMIT
+pub writes_too_long : (words : List (List ℕ)) (left left' : Option (List ℕ)) → TakeInput words → TakesMore left left' 1048576
     → WritesRefusal words left left' (refusal_line (codes "too long"))
 writes_too_long words left left' input (taken, takes, long) = record {
   read = input;
@@ -349,7 +348,7 @@ writes_too_long words left left' input (taken, takes, long) = record {
   line = refl;
 }
 
-writes_refusal : (command : Command) (words : List (List ℕ)) (left left' : Option (List ℕ)) (bytes reason : List ℕ) → Are command words → takes_input command ≡ true → Takes left left' bytes → IsAtEnd left' → length bytes ≤ LIMIT
+writes_refusal : (command : Command) (words : List (List ℕ)) (left left' : Option (List ℕ)) (bytes reason : List ℕ) → Are command words → takes_input command ≡ true → Takes left left' bytes → IsAtEnd left' → length bytes ≤ 1048576
     → Refuses command words bytes reason → WritesRefusal words left left' (refusal_line reason)
 writes_refusal command words left left' bytes reason are input takes end within r = record {
   read = input_of command words are input;
@@ -405,7 +404,7 @@ by_command command other words bytes {held} {held'} {faults} {faults'} {status} 
     subst (λ x. IsAnswered (Refuses x words bytes) (Gives x words bytes) held held' faults faults' status) (sym e) answered
 
 pub answered_refused : (command : Command) (words : List (List ℕ)) (left left' : Option (List ℕ)) (bytes : List ℕ) {held held' : Option (List ℕ)} {faults faults' : ℕ} {status : Status}
-    → Are command words → takes_input command ≡ true → Takes left left' bytes → IsAtEnd left' → length bytes ≤ LIMIT
+    → Are command words → takes_input command ≡ true → Takes left left' bytes → IsAtEnd left' → length bytes ≤ 1048576
     → IsAnswered (Refuses command words bytes) (Gives command words bytes) held held' faults faults' status → status ≡ Refused → AddsWhole Refused words left left' held held'
 answered_refused command words left left' bytes are input takes end within (refused {reason} r put) e =
     whole Refused words left left' (writes_refusal command words left left' bytes reason are input takes end within r) put (λ x. cc) e
@@ -413,7 +412,7 @@ answered_refused command words left left' bytes are input takes end within (give
 answered_refused command words left left' bytes are input takes end within (no_memory a b) e = absurd cc
 
 pub answered_done : (command : Command) (words : List (List ℕ)) (left left' : Option (List ℕ)) (bytes : List ℕ) {held held' : Option (List ℕ)} {faults faults' : ℕ} {status : Status}
-    → Are command words → takes_input command ≡ true → Takes left left' bytes → IsAtEnd left' → length bytes ≤ LIMIT
+    → Are command words → takes_input command ≡ true → Takes left left' bytes → IsAtEnd left' → length bytes ≤ 1048576
     → IsAnswered (Refuses command words bytes) (Gives command words bytes) held held' faults faults' status → status ≡ Done → AddsWhole Done words left left' held held'
 answered_done command words left left' bytes are input takes end within (refused r put) e = absurd (no_other Done put (λ x. cc) (λ x. cc) e)
 answered_done command words left left' bytes are input takes end within (given {out} g put) e =
@@ -421,7 +420,7 @@ answered_done command words left left' bytes are input takes end within (given {
 answered_done command words left left' bytes are input takes end within (no_memory a b) e = absurd cc
 
 pub answered_fault : (command : Command) (words : List (List ℕ)) (left left' : Option (List ℕ)) (bytes : List ℕ) {held held' : Option (List ℕ)} {faults faults' : ℕ} {status : Status}
-    → Are command words → takes_input command ≡ true → Takes left left' bytes → IsAtEnd left' → length bytes ≤ LIMIT
+    → Are command words → takes_input command ≡ true → Takes left left' bytes → IsAtEnd left' → length bytes ≤ 1048576
     → IsAnswered (Refuses command words bytes) (Gives command words bytes) held held' faults faults' status → status ≡ WriteFault
     → HasRisen faults faults' × AddsFront words left left' held held'
 answered_fault command words left left' bytes are input takes end within (refused {reason} r put) e =
@@ -447,7 +446,7 @@ never_read_fault (given g put) e = no_other ReadFault put (λ x. cc) (λ x. cc) 
 never_read_fault (no_memory a b) e = cc
 
 pub answered_complete : (command : Command) (words : List (List ℕ)) (left left' : Option (List ℕ)) (bytes : List ℕ) {held held' : Option (List ℕ)} {faults faults' : ℕ} {status : Status}
-    → Are command words → takes_input command ≡ true → Takes left left' bytes → IsAtEnd left' → length bytes ≤ LIMIT
+    → Are command words → takes_input command ≡ true → Takes left left' bytes → IsAtEnd left' → length bytes ≤ 1048576
     → IsAnswered (Refuses command words bytes) (Gives command words bytes) held held' faults faults' status → (HasRisen faults faults' → ⊥) → IsComplete words left status
 answered_complete command words left left' bytes {status = status} are input takes end within (refused {reason} r put) none =
     complete_refused words left status (input_of command words are input)

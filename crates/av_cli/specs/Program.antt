@@ -5,7 +5,6 @@ use Rattle.av_base.specs.Outside.{Takes, Adds, AddsPrefix, IsAtEnd}
 use Rattle.av_names.specs.declared.size.Size.{Size}
 use Rattle.av_cli.specs.declared.status.Status.{Status}
 use Rattle.av_cli.specs.declared.status.Status.TheVariants.{Done, Refused, Words, ReadFault, WriteFault, Memory}
-use Rattle.av_cli.specs.declared.program.TheConstants.{LIMIT}
 use Rattle.av_cli.specs.Commands.{IsCheck, IsSchedule, IsTable, IsEmit, IsRun, IsTrace, IsSim, IsDemo, TakeInput, AskDemo, AreRead, usage_line}
 use Rattle.av_cli.specs.Refusals.{refusal_line}
 use Rattle.av_cli.specs.Checks.{RefusesCheck, GivesCheck}
@@ -21,14 +20,14 @@ use Rattle.av_cli.specs.Demos.{GivesDemo}
 -- the command of these words refuses these bytes of a source for this reason; `demo` refuses none
 abbrev pub IsRefused : List (List ℕ) → List ℕ → List ℕ → Type 0
 IsRefused words bytes reason =
-    ((LIMIT < length bytes) × TakeInput words × (reason ≡ codes "too long"))
-    ⊎ ((length bytes ≤ LIMIT) × ((bits : ℕ) × (box : ℕ) × (sizes : List Size) × IsEmit words bits box sizes × RefusesEmit sizes bits box bytes reason))
-    ⊎ ((length bytes ≤ LIMIT) × IsSim words × RefusesSim bytes reason)
-    ⊎ ((length bytes ≤ LIMIT) × ((bits : ℕ) × (sizes : List Size) × IsCheck words bits sizes × RefusesCheck sizes bits bytes reason))
-    ⊎ ((length bytes ≤ LIMIT) × ((bits : ℕ) × (box : ℕ) × (sizes : List Size) × IsSchedule words bits box sizes × RefusesSchedule sizes bits box bytes reason))
-    ⊎ ((length bytes ≤ LIMIT) × ((bits : ℕ) × (box : ℕ) × (sizes : List Size) × IsTable words bits box sizes × RefusesTable sizes bits box bytes reason))
-    ⊎ ((length bytes ≤ LIMIT) × ((bits : ℕ) × (box : ℕ) × (sizes : List Size) × IsRun words bits box sizes × RefusesRun sizes bits box bytes reason))
-    ⊎ ((length bytes ≤ LIMIT) × ((bits : ℕ) × (box : ℕ) × (sizes : List Size) × IsTrace words bits box sizes × RefusesRun sizes bits box bytes reason))
+    ((1048576 < length bytes) × TakeInput words × (reason ≡ codes "too long"))
+    ⊎ ((length bytes ≤ 1048576) × ((bits : ℕ) × (box : ℕ) × (sizes : List Size) × IsEmit words bits box sizes × RefusesEmit sizes bits box bytes reason))
+    ⊎ ((length bytes ≤ 1048576) × IsSim words × RefusesSim bytes reason)
+    ⊎ ((length bytes ≤ 1048576) × ((bits : ℕ) × (sizes : List Size) × IsCheck words bits sizes × RefusesCheck sizes bits bytes reason))
+    ⊎ ((length bytes ≤ 1048576) × ((bits : ℕ) × (box : ℕ) × (sizes : List Size) × IsSchedule words bits box sizes × RefusesSchedule sizes bits box bytes reason))
+    ⊎ ((length bytes ≤ 1048576) × ((bits : ℕ) × (box : ℕ) × (sizes : List Size) × IsTable words bits box sizes × RefusesTable sizes bits box bytes reason))
+    ⊎ ((length bytes ≤ 1048576) × ((bits : ℕ) × (box : ℕ) × (sizes : List Size) × IsRun words bits box sizes × RefusesRun sizes bits box bytes reason))
+    ⊎ ((length bytes ≤ 1048576) × ((bits : ℕ) × (box : ℕ) × (sizes : List Size) × IsTrace words bits box sizes × RefusesRun sizes bits box bytes reason))
 
 -- ---- what is written
 
@@ -43,7 +42,7 @@ pub record WritesRefusal (words : List (List ℕ)) (left left' : Option (List �
   pub read : TakeInput words
   pub taken : List ℕ
   pub takes : Takes left left' taken
-  pub whole : length taken ≤ LIMIT → IsAtEnd left'
+  pub whole : length taken ≤ 1048576 → IsAtEnd left'
   pub reason : List ℕ
   pub refused : IsRefused words taken reason
   pub line : out ≡ refusal_line reason
@@ -57,7 +56,7 @@ pub record WritesDesign (words : List (List ℕ)) (left left' : Option (List ℕ
   pub taken : List ℕ
   pub takes : Takes left left' taken
   pub whole : IsAtEnd left'
-  pub within : length taken ≤ LIMIT
+  pub within : length taken ≤ 1048576
   pub gives : GivesEmit sizes bits box taken out
 
 -- the output of `sim`: the run of the module under the stimulus that the source gave up to its end
@@ -66,7 +65,7 @@ pub record WritesRun (words : List (List ℕ)) (left left' : Option (List ℕ)) 
   pub taken : List ℕ
   pub takes : Takes left left' taken
   pub whole : IsAtEnd left'
-  pub within : length taken ≤ LIMIT
+  pub within : length taken ≤ 1048576
   pub gives : GivesSim taken out
 
 -- the output of `check`: that the text which the source gave up to its end has each declared point just once
@@ -77,7 +76,7 @@ pub record WritesVerdict (words : List (List ℕ)) (left left' : Option (List �
   pub taken : List ℕ
   pub takes : Takes left left' taken
   pub whole : IsAtEnd left'
-  pub within : length taken ≤ LIMIT
+  pub within : length taken ≤ 1048576
   pub gives : GivesCheck sizes bits taken out
 
 -- the output of `schedule`: the lines of the first schedule of the text which the source gave up to its end
@@ -89,7 +88,7 @@ pub record WritesSchedule (words : List (List ℕ)) (left left' : Option (List �
   pub taken : List ℕ
   pub takes : Takes left left' taken
   pub whole : IsAtEnd left'
-  pub within : length taken ≤ LIMIT
+  pub within : length taken ≤ 1048576
   pub gives : GivesSchedule sizes bits box taken out
 
 -- the output of `table`: the lines of the array of the text which the source gave up to its end
@@ -101,7 +100,7 @@ pub record WritesTable (words : List (List ℕ)) (left left' : Option (List ℕ)
   pub taken : List ℕ
   pub takes : Takes left left' taken
   pub whole : IsAtEnd left'
-  pub within : length taken ≤ LIMIT
+  pub within : length taken ≤ 1048576
   pub gives : GivesTable sizes bits box taken out
 
 -- the output of `run`: the solution's words of the outputs, for the text and the data that the source gave up to its end
@@ -113,7 +112,7 @@ pub record WritesResults (words : List (List ℕ)) (left left' : Option (List �
   pub taken : List ℕ
   pub takes : Takes left left' taken
   pub whole : IsAtEnd left'
-  pub within : length taken ≤ LIMIT
+  pub within : length taken ≤ 1048576
   pub gives : GivesResults sizes bits box taken out
 
 -- the output of `trace`: a design of the text that the source gave, and its run on the data up to the source's end
@@ -125,7 +124,7 @@ pub record WritesTrace (words : List (List ℕ)) (left left' : Option (List ℕ)
   pub taken : List ℕ
   pub takes : Takes left left' taken
   pub whole : IsAtEnd left'
-  pub within : length taken ≤ LIMIT
+  pub within : length taken ≤ 1048576
   pub gives : GivesTrace sizes bits box taken out
 
 -- the output of `demo`: the totals of an array and the sum of what it computes; the source is as it was

@@ -1,7 +1,6 @@
 //! The command `check`.
 
 ghost use Rattle.std.specs.Prelude.{◌≤◌, length};
-ghost use Rattle.av_cli.specs.declared.program.TheConstants.{LIMIT};
 ghost use Rattle.av_cli.specs.Checks.{RefusesWith, GivesWith};
 ghost use Rattle.av_cli.specs.Written.{IsAnswered};
 
@@ -22,7 +21,7 @@ pub(crate) fn check<K: Sink>(
     width: Width,
     sink: &mut K,
 ) -> Status
-    requires { length bytes.now ≤ LIMIT }
+    requires { length bytes.now ≤ 1048576 }
     ensures { IsAnswered (RefusesWith words.now width.bits bytes.now) (GivesWith words.now width.bits bytes.now) (K.held sink.old) (K.held sink.new) (K.faults sink.old) (K.faults sink.new) result }
 {
     let sizes = match sizes(alloc, words) {

@@ -26,7 +26,7 @@ mod tests;
 mod words;
 
 use av_base::{List, Memory, Name};
-pub use program::{LIMIT, alphav};
+pub use program::alphav;
 pub use shown::shown;
 use standard::{StdSink, StdSource};
 pub use status::Status;

@@ -15,11 +15,9 @@ use crate::sim::sim;
 use crate::status::Status;
 use crate::table::table;
 use crate::words::{Command, read_words};
+use av_base::limits::MOST_BYTES;
 use av_base::{Name, ReadAll, Sink, Source, read_all};
 use std::alloc::Global;
-
-/// The greatest number of bytes of an input.
-pub const LIMIT: usize = 1_048_576;
 
 const USAGE: &str =
     "usage: alphav check|schedule|table|emit|run|trace [--width W] [--box C] [NAME=VALUE ...] | sim | demo K\n";
@@ -52,7 +50,7 @@ pub fn alphav<S: Source, K: Sink>(
     if !command.takes_input() {
         return answer(alloc, words, command, &[], sink);
     }
-    match read_all(alloc, source, LIMIT) {
+    match read_all(alloc, source, MOST_BYTES) {
         Err(ReadAll::ReadFault) => Status::ReadFault,
         Err(ReadAll::Memory) => Status::Memory,
         Err(ReadAll::TooLong) => put(sink, TOO_LONG, Status::Refused),
@@ -69,7 +67,7 @@ fn answer<K: Sink>(
     sink: &mut K,
 ) -> Status
     requires read { Are command words.now }
-    requires within { length bytes.now ≤ LIMIT }
+    requires within { length bytes.now ≤ 1048576 }
     ensures { IsAnswered (Refuses command words.now bytes.now) (Gives command words.now bytes.now) (K.held sink.old) (K.held sink.new) (K.faults sink.old) (K.faults sink.new) result }
 {
     match command {

@@ -6,7 +6,6 @@ ghost use Rattle.av_flat.specs.Trees.{view_system, view_variable};
 ghost use Rattle.av_net.specs.Clocked.{Stream as Ports, Run as Clocked, IsRun};
 ghost use Rattle.av_net.specs.Texts.{text};
 ghost use Rattle.av_data.specs.Inputs.{words_of, AreInputsOf};
-ghost use Rattle.av_cli.specs.declared.program.TheConstants.{LIMIT};
 ghost use Rattle.av_cli.specs.Clocking.{AreLeft, IsPrepared};
 ghost use Rattle.av_cli.specs.Runs.{results};
 ghost use Rattle.av_cli.specs.Simulated.{IsStimulated, run_lines};
@@ -50,7 +49,7 @@ pub(crate) fn answer_run<K: Sink>(
     report: Report,
     sink: &mut K,
 ) -> Status
-    requires { length bytes.now ≤ LIMIT }
+    requires { length bytes.now ≤ 1048576 }
     ensures { IsAnswered (RefusesRunWith words.now width.bits reach.size bytes.now) (GivesReportWith report words.now width.bits reach.size bytes.now) (K.held sink.old) (K.held sink.new) (K.faults sink.old) (K.faults sink.new) result }
 {
     let sizes = match sizes(alloc, words) {

@@ -3,7 +3,6 @@
 ghost use Rattle.std.specs.Prelude.{◌<◌, ◌≤◌, ◌+◌, length};
 ghost use Rattle.av_net.specs.Sound.{IsSound};
 ghost use Rattle.av_net.specs.declared.netlist.Module.{Module as Netlist};
-ghost use Rattle.av_cli.specs.declared.program.TheConstants.{LIMIT};
 ghost use Rattle.av_cli.specs.Clocking.{AreLeft};
 ghost use Rattle.av_cli.specs.Sims.{RefusesSim, GivesSim, RefusesStimulus, GivesRun};
 ghost use Rattle.av_cli.specs.Written.{IsAnswered, IsClocked};
@@ -54,7 +53,7 @@ fn sim_module<K: Sink>(
 
 /// Answers a design text, a line `%%` and a stimulus.
 pub(crate) fn sim<K: Sink>(alloc: Global, bytes: &[u8], sink: &mut K) -> Status
-    requires { length bytes.now ≤ LIMIT }
+    requires { length bytes.now ≤ 1048576 }
     ensures { IsAnswered (RefusesSim bytes.now) (GivesSim bytes.now) (K.held sink.old) (K.held sink.new) (K.faults sink.old) (K.faults sink.new) result }
 {
     let Some(parts) = divide(bytes) else {

@@ -7,10 +7,8 @@ ghost use Rattle.av_base.specs.Tokens.{IsSpelled, IsWord, is_word_byte};
 ghost use Rattle.av_cli.specs.Commands.{IsSize, SpellsWhole};
 
 use crate::numbers::number_at_most;
+use av_base::limits::MOST_SIZE;
 use av_base::{is_reserved_word, word_len};
-
-// The greatest absolute value of a size.
-const GREATEST: u32 = 1_048_576;
 
 /// Whether the word is NAME=VALUE.
 pub(crate) fn is_size(word: &[u8]) -> bool
@@ -66,11 +64,11 @@ pub(crate) fn size_value(text: &[u8]) -> Option<i64>
 {
     match text.strip_prefix(b"-") {
         Some(digits) => {
-            let number = number_at_most(GREATEST, digits)?;
+            let number = number_at_most(MOST_SIZE, digits)?;
             Some(-i64::from(number))
         }
         None => {
-            let number = number_at_most(GREATEST, text)?;
+            let number = number_at_most(MOST_SIZE, text)?;
             Some(i64::from(number))
         }
     }

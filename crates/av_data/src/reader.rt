@@ -12,11 +12,12 @@ use crate::lines::{first_line, from, is_empty, uncommented};
 use crate::spelling::{number_below, word_of};
 use crate::stimulus::{Given, Stimulus};
 use crate::timeline::Timeline;
+use av_base::limits::MOST_CYCLES;
 use av_net::Port;
 use std::alloc::Global;
 
 // The greatest number of cycles.
-const LIMIT: u32 = 4096;
+const LIMIT: u32 = MOST_CYCLES as u32;
 
 fn cycles_said(line: u32, text: &[u8]) -> Result<Option<u32>, DataFault>
     ensures { Answers result (cycles_by line (cycles_digits text.now)) }

@@ -10,6 +10,7 @@ ghost use Rattle.av_depend.specs.Extents.{IsOrdinary, IsInside};
 ghost use Rattle.av_depend.specs.inner.Clipped.{clip};
 
 use av_base::Memory;
+use av_base::limits::MOST_COORDINATE;
 use av_elim::{Elim, bounds};
 use av_flat::copy_set;
 use av_poly::{Bounds, Poly};
@@ -26,7 +27,7 @@ pub(crate) fn normalised(alloc: Global, set: &Poly) -> Result<Poly, Memory>
     Ok(to)
 }
 
-const MOST: i128 = 4095;
+const MOST: i128 = MOST_COORDINATE as i128;
 
 // The nearest number of at most 4,095 in absolute value.
 fn nearest(number: i128) -> i128

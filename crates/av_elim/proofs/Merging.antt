@@ -5,12 +5,13 @@ use Rattle.std.specs.List.{AllByRecursion}
 use Rattle.std.specs.Int.{int_div_euclid}
 use Rattle.std.specs.Int.RustNames.{unsigned_abs}
 use Rattle.std.proofs.lemmas.Int.{ints, unsigned_abs-mul}
+use Rattle.std.proofs.lemmas.List.{get_or_default}
 use Rattle.std.proofs.lemmas.List.Elements.{recursion_from_All}
 use Rattle.std.proofs.Math.IntN.{*ℤ_comm}
 use Rattle.std.proofs.Math.Nat.{mul-le-mul, dvd_trans}
 use Prim.Native.Nat.{◌∣◌}
 use Rattle.av_affine.specs.declared.form.Form.{Form}
-use Rattle.av_affine.specs.Numbers.{dot, IsGcdOf}
+use Rattle.av_affine.specs.Numbers.{dot, AtMost, IsGcdOf}
 use Rattle.av_affine.specs.Forms.{IsWithinLimits}
 use Rattle.av_affine.proofs.Ring.{ring}
 use Rattle.av_affine.proofs.Order.{product_nonneg, nonneg_by}
@@ -199,3 +200,8 @@ four_combined f g p n a b c d h i e0 e1 e2 e3 = rw (e0, e1, e2, e3) (sym (ap₂ 
     four (x ∷ y ∷ z ∷ []) e = absurd (omega arith)
     four (x ∷ y ∷ z ∷ w ∷ []) e = refl
     four (x ∷ y ∷ z ∷ w ∷ v ∷ r) e = absurd (omega arith)
+
+-- the greatest common divisor of small coefficients is small
+pub divisor_small : (row : Form) (g : ℕ) → Small (2 ^ 43) (line row) → ((most : ℕ) → AtMost most row.coef → g ≤ most) → g ≤ 2 ^ 43
+divisor_small row g small most =
+    most (2 ^ 43) (λ k d l. subst (λ (x : ℤ). unsigned_abs x ≤ 2 ^ 43) (get_or_default row.coef k (pos 0) d l) (small.coefficients (suc k) (omega arith)))

@@ -10,6 +10,7 @@ ghost use Rattle.av_elim.specs.Faults.{IsCause};
 use crate::shadow::span_of;
 use crate::span::ends;
 use av_affine::Form;
+use av_base::limits::MOST_ROWS;
 use av_poly::{Bounds, Poly};
 use std::alloc::Global;
 
@@ -25,8 +26,6 @@ pub enum Elim {
     /// Memory was wanted.
     Memory,
 }
-
-const MOST_ROWS: usize = 20;
 
 // Whether rows hold that have no index.
 fn constants_hold(rows: &[Form]) -> bool

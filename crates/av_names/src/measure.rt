@@ -22,6 +22,7 @@ use crate::part::Part;
 use crate::size_table::size_table;
 use crate::sums::{coefficient, coefficient_between, constant, constant_between};
 use crate::written::{Written, written_all};
+use av_base::limits::{MOST_COEFFICIENT, MOST_CONSTANT};
 use av_base::{Memory, Name, Place};
 use av_tree::{Constraint, Declaration, IndexExpr, Relation, System, Term};
 use indexmap::IndexMap;
@@ -45,8 +46,8 @@ fn limit(measure: Measure) -> u128
     ensures { result ≡ limit_of measure }
 {
     match measure {
-        Measure::Coefficient => 1024,
-        Measure::Constant => 1048576,
+        Measure::Coefficient => MOST_COEFFICIENT as u128,
+        Measure::Constant => MOST_CONSTANT as u128,
     }
 }
 

@@ -15,16 +15,11 @@ ghost use Rattle.av_names.specs.inner.Sums.{counted};
 use crate::index::{by_name, context};
 use crate::measure::{Counted, number_of, sooner};
 use crate::part::{Context, Part, gather};
+use av_base::limits::{MOST_INDICES, MOST_NODES};
 use av_base::{Memory, Place};
 use av_tree::{Access, Declaration, Equation, Expr, MapText, System};
 use indexmap::IndexMap;
 use std::alloc::Global;
-
-/// The most index names or results that stand in one list.
-const MOST_INDICES: usize = 4;
-
-/// The most nodes of one equation.
-const MOST_NODES: usize = 4096;
 
 /// The number of variables, where it is above the limit of 32.
 pub(crate) fn too_many_variables(variables: &[&Declaration]) -> Option<u128>

@@ -11,15 +11,12 @@ ghost use Rattle.av_normal.specs.Domains.{HasNarrowDomain, HasFourEntries, IsDec
 ghost use Rattle.av_normal.specs.Extents.{IsExtent, IsEndlessOf, IsOverBounds};
 
 use crate::NormalFault;
+use av_base::limits::{MOST_COORDINATE, MOST_POINTS};
 use av_base::{List, Name};
 use av_elim::{Elim, bounds};
 use av_flat::{Quantity, Var, copy_set};
 use av_poly::{Bounds, Poly};
 use std::alloc::Global;
-
-const MOST_COORDINATE: u128 = 4095;
-
-const MOST_POINTS: i128 = 65_536;
 
 // The box of a variable's domain, whose rows are normalised; None where it has no box.
 fn extent(alloc: Global, name: &Name, domain: &Poly) -> Result<Option<Bounds>, NormalFault>

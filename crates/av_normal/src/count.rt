@@ -6,9 +6,8 @@ ghost use Rattle.av_flat.specs.Quantities.{piece_count, piece_count_of_all};
 ghost use Rattle.av_normal.specs.inner.Counted.{pieces_counted, HasMany, IsOfFew, HasFew, IsOfMany};
 
 use crate::NormalFault;
+use av_base::limits::MOST_PIECES;
 use av_flat::{Piece, Tree, Var};
-
-const MOST_PIECES: u128 = 256;
 
 // How many pieces a tree has.
 #[cycle(count)]

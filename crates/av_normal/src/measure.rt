@@ -10,14 +10,9 @@ ghost use Rattle.av_normal.specs.Searches.{IsWideRows, IsNarrow, IsWideOne};
 
 use crate::NormalFault;
 use av_affine::Form;
+use av_base::limits::{MOST_COEFFICIENT, MOST_CONSTANT, MOST_ROWS};
 use av_flat::Quantity;
 use av_poly::Poly;
-
-const MOST_COEFFICIENT: u64 = 1024;
-
-const MOST_CONSTANT: u64 = 1 << 20;
-
-const MOST_ROWS: usize = 20;
 
 // The greatest absolute value.
 fn greatest_of(numbers: &[i64]) -> u64

@@ -16,12 +16,13 @@ use crate::ParseFault;
 use crate::fault::{Fault, Stop};
 use crate::parser::{Parser, first_place};
 use av_base::Place;
+use av_base::limits::MOST_LEVEL;
 use av_lex::Token;
 use av_tree::System;
 use std::alloc::Global;
 
 /// The levels 0 to 256.
-const LEVELS: u32 = 257;
+const LEVELS: u32 = MOST_LEVEL + 1;
 
 /// The place of the token from which on so many are left.
 fn place_at(tokens: &[Token], left: usize) -> Place

@@ -118,3 +118,7 @@ divided_once dim row a b p q =
     ap₂ (λ coef constant. record { coef = coef; constant = constant })
     (p.coef ∙ ap (λ g. map (λ x. int_div_euclid x (pos g)) (counted dim row.coef)) e ∙ sym q.coef)
     (p.constant ∙ ap (λ g. int_div_euclid row.constant (pos g)) e ∙ sym q.constant)
+
+-- the greatest common divisor of the coefficients that count is small where they are
+pub divisor_small : (n : ℕ) (r xs : List ℤ) (g : ℕ) → xs ≡ counted n r → AtMost (2 ^ 40) r → ((most : ℕ) → AtMost most xs → g ≤ most) → g ≤ 2 ^ 40
+divisor_small n r xs g is small most = most (2 ^ 40) (subst (AtMost (2 ^ 40)) (sym is) (counted_most (2 ^ 40) n r small))

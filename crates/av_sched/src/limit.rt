@@ -9,11 +9,10 @@ ghost use Rattle.av_sched.specs.SchedFaults.{HasManyCandidates};
 
 use crate::node::dimensions;
 use crate::part::candidates_of;
+use av_base::limits::MOST_CANDIDATES;
 use av_base::{List, Memory};
 use av_flat::{Flat, Reach};
 use std::alloc::Global;
-
-const MOST_CANDIDATES: u128 = 4_194_304;
 
 // How many candidates the first component with too many of them has.
 pub(crate) fn too_many(

@@ -8,11 +8,10 @@ ghost use Rattle.av_serial.specs.SerialFaults.{IsGiven, IsFault};
 use crate::SerialFault;
 use crate::walk::all_nodes;
 use crate::whole::whole;
+use av_base::limits::MOST_REDUCTIONS;
 use av_flat::{Feeds, Flat, Pass, Quantity};
 use av_normal::Normal;
 use std::alloc::Global;
-
-const MOST_REDUCTIONS: u128 = 16;
 
 // The system with its reductions as chains, or the first cause that holds against it.
 fn serial_form(alloc: Global, flat: &Flat) -> Result<Flat, SerialFault>

@@ -15,15 +15,12 @@ ghost use Rattle.av_serial.specs.inner.Tries.{IsTriable, IsClean, IsFaultOf, IsS
 use crate::SerialFault;
 use crate::line::is_unit;
 use av_affine::{Form, Map};
+use av_base::limits::{MOST_COORDINATE, MOST_POINTS};
 use av_base::{Memory, Name};
 use av_elim::{Elim, bounds};
 use av_flat::{Quantity, copy_set};
 use av_poly::{Bounds, Poly};
 use std::alloc::Global;
-
-const MOST_COORDINATE: u128 = 4095;
-
-const MOST_POINTS: i128 = 65_536;
 
 // ---- rows
 

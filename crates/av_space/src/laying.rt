@@ -19,6 +19,7 @@ use crate::placement::Placement;
 use crate::placing::placements;
 use crate::ranked::{Ranked, node_ranked, run_end};
 use crate::standing::{numbers, places};
+use av_base::limits::{MOST_CELLS, MOST_CYCLES};
 use av_base::{List, Memory};
 use av_flat::Timed;
 use std::alloc::Global;
@@ -187,10 +188,6 @@ fn laid(
         cycles,
     })
 }
-
-const MOST_CYCLES: u128 = 4096;
-
-const MOST_CELLS: u128 = 2048;
 
 /// The layout of a legal timed system.
 pub(crate) fn layout(alloc: Global, timed: &Timed) -> Result<Layout, SpaceFault>

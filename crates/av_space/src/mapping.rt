@@ -21,15 +21,10 @@ use crate::ports::input_ports;
 use crate::shown::{at_lines, output_cells};
 use crate::stretch::Stretch;
 use av_base::Memory;
+use av_base::limits::{MOST_DELAYS, MOST_LINKS, MOST_OPERATORS};
 use av_flat::Timed;
 use av_net::Listing;
 use std::alloc::Global;
-
-const MOST_DELAYS: u128 = 32_768;
-
-const MOST_LINKS: usize = 16_384;
-
-const MOST_OPERATORS: u128 = 1_048_576;
 
 // The registers of the delay lines, where these, the links and the operators are within their limits.
 fn within_limits(

@@ -10,6 +10,7 @@ loop-number-preserved c =
     let x = get_or xs i (pos 0) in
     let f : FitsSigned w64 x = search rules in
     let e = simp to_z-of_z at c.unsigned_abs.ensures.value in
-    let g = rw e at c.gcd-divisor.ensures.gcd in
-    (gcd_more xs i c.loop-number.divisor c.gcd-divisor.result (omega arith) c.loop-number.invariant.0 g,
-      λ most h. let b = h i (pos 0) (omega arith) in let d = c.loop-number.invariant.1 most h in omega (arith, c.gcd-divisor.ensures.most, e, b, d))
+    let g = rw e at c.gcd-divisor.ensures.gcd in (
+      gcd_more xs i c.loop-number.divisor c.gcd-divisor.result (omega arith) c.loop-number.invariant.0 g,
+      λ most h. let b = h i (pos 0) (omega arith) in let d = c.loop-number.invariant.1 most h in omega (arith, c.gcd-divisor.ensures.most, e, b, d),
+    )

@@ -1,13 +1,26 @@
 use Rattle.std.proofs.Common.{rules, ◌≡◌, ◌≤◌, ◌<◌, ◌^◌, ◌∷◌, ◌∙◌, ap₂, sym, subst, ℕ, zero, suc, ℤ, pos, map, List, refl, arith, w64, FitsSigned, to_z, of_z, to_z-of_z}
 use Rattle.std.specs.Int.{int_div_euclid}
-use Rattle.std.specs.Int.RustNames.{unsigned_abs}
 use Rattle.std.proofs.lemmas.Int.{ints}
-use Rattle.std.proofs.lemmas.List.{get_or_default}
-use Rattle.av_affine.specs.Numbers.{AtMost}
 use Rattle.av_affine.proofs.Exact.{divided}
 use Rattle.av_elim.specs.inner.Rows.{line, IsReduced}
-use Rattle.av_elim.proofs.Merging.{reduced_same, reduced_by}
+use Rattle.av_elim.proofs.Merging.{reduced_same, reduced_by, divisor_small}
 use Rattle.av_elim.proofs.merge.reduced.Goals as goal
+
+pub overflow_cast-divisor : goal.overflow_cast-divisor
+overflow_cast-divisor c =
+    let f : FitsSigned w64 c.args.row.now.constant = search rules in
+    let u = simp to_z-of_z at c.unsigned_abs.ensures.value in
+    let most : c.gcd_of.result ≤ 2 ^ 43 = divisor_small c.args.row.now c.gcd_of.result c.requires c.gcd_of.ensures.most in
+    omega (arith, c.gcd-divisor.ensures.most, most, u, c.requires.constant)
+
+pub coefficients_over-requires : goal.coefficients_over-requires
+coefficients_over-requires c =
+    let f : FitsSigned w64 c.args.row.now.constant = search rules in
+    let u = simp to_z-of_z at c.unsigned_abs.ensures.value in
+    let most : c.gcd_of.result ≤ 2 ^ 43 = divisor_small c.args.row.now c.gcd_of.result c.requires c.gcd_of.ensures.most in
+    let m : c.gcd-divisor.result ≤ 2 ^ 53 = omega (arith, c.gcd-divisor.ensures.most, most, u, c.requires.constant) in
+    let p : to_z w64 c.gcd-divisor.result ≡ pos c.gcd-divisor.result = omega (arith, ints, m) in
+    search rules
 
 pub returns-then-divisor-eq0 : goal.returns-then-divisor-eq0
 returns-then-divisor-eq0 c = reduced_same (line c.args.row.now)
@@ -22,8 +35,7 @@ returns c =
     let h = c.gcd-divisor.result in
     let f : FitsSigned w64 row.constant = search rules in
     let u = simp to_z-of_z at c.unsigned_abs.ensures.value in
-    let small : AtMost (2 ^ 43) row.coef = λ k d l. subst (λ (x : ℤ). unsigned_abs x ≤ 2 ^ 43) (get_or_default row.coef k (pos 0) d l) (c.requires.coefficients (suc k) (omega arith)) in
-    let m : h ≤ 2 ^ 53 = omega (arith, c.gcd-divisor.ensures.most, c.gcd_of.ensures.most (2 ^ 43) small, u, c.requires.constant) in
+    let m : h ≤ 2 ^ 53 = omega (arith, c.gcd-divisor.ensures.most, divisor_small row c.gcd_of.result c.requires c.gcd_of.ensures.most, u, c.requires.constant) in
     let p : to_z w64 h ≡ pos h = omega (arith, ints, m) in
     let q : c.coefficients_over.result ≡ map (λ x. int_div_euclid x (to_z w64 h)) row.coef = c.coefficients_over.ensures in
     let q' : c.coefficients_over.result ≡ divided row.coef h = rw p at q in
