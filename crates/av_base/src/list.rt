@@ -6,8 +6,8 @@ use std::marker::Model;
 
 const MOST_ITEMS: usize = 1 << 30;
 
-/// A growing list that keeps the allocator it was made with. It has room for 1,073,741,824 items at most, so that 32 bits
-/// number them. Contracts see the list of its items.
+/// A growing list that keeps the allocator it was made with. It takes room for 1, 2, 4 and so on items, since most lists have
+/// few, and for 1,073,741,824 at most, so that 32 bits number them. Contracts see the list of its items.
 #[derive(Clone, Debug, Drop)]
 pub struct List<T> {
     items: Vec<T>,
@@ -58,8 +58,12 @@ impl<T: Drop> List<T> {
         ensures ok { OnOk result (self.new ≡ self.old ++ item ∷ []) }
         ensures err { OnErr result (self.new ≡ self.old) }
     {
-        if self.items.len() == MOST_ITEMS {
+        let count = self.items.len();
+        if count == MOST_ITEMS {
             return Err(Memory);
+        }
+        if count == self.items.capacity() {
+            self.items.reserve_exact(count.max(1))?;
         }
         self.items.push(item)?;
         Ok(())
