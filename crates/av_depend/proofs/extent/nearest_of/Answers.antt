@@ -1,6 +1,6 @@
 use Rattle.std.proofs.Common.{rules, ◌≡◌, ◌∙◌, ℤ, pos, get_or, FitsSigned, to_z-of_z, to_z, of_z, length}
 use mir.Syntax.{w128}
-use Rattle.av_poly.proofs.Fours.{four}
+use Rattle.av_affine.proofs.Fours.{four}
 use Rattle.av_depend.specs.inner.Clipped.{clip}
 use Rattle.av_depend.proofs.extent.nearest_of.Goals as goal
 
