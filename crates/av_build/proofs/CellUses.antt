@@ -10,7 +10,7 @@ use Rattle.av_space.specs.declared.layout.Slot.{Slot}
 use Rattle.av_space.specs.declared.spots.Spot.{Spot as SpotMade}
 use Rattle.av_space.specs.Layouts.{AreSlots}
 use Rattle.av_space.specs.Spots.{system_of, helpers_of, placings_of, cells_of, ComputesIn, IsArray, AreSpots}
-use Rattle.av_space.specs.Standing.{IsUsed}
+use Rattle.av_space.specs.Occupancy.{IsUsed}
 use Rattle.av_space.proofs.ByPlace.{there_is, from_map}
 use Rattle.av_space.proofs.Elements.{at_index, got, in_range, get_contained}
 use Rattle.av_space.proofs.Nodes.{passing}

@@ -19,7 +19,7 @@ use Rattle.av_net.specs.Sound.{IsSound}
 use Rattle.av_net.specs.Shown.{Shows}
 use Rattle.av_space.specs.declared.cells.Cells.{Cells}
 use Rattle.av_space.specs.Coordinates.{Placing, IsPlacing, point, space}
-use Rattle.av_space.specs.Standing.{Computes}
+use Rattle.av_space.specs.Occupancy.{Computes}
 use Rattle.av_space.specs.Listings.{AreAtLines}
 use Rattle.av_space.specs.Arrays.{IsArrayOf}
 use Rattle.av_space.proofs.OneCell.{Inverts}

@@ -8,7 +8,7 @@ use Rattle.av_flat.specs.Trees.{FlatSystem, view_system}
 use Rattle.av_flat.specs.OneSolution.{AreInputs}
 use Rattle.av_space.specs.declared.cells.Cells.{Cells}
 use Rattle.av_space.specs.declared.cells.Cell.{Cell}
-use Rattle.av_space.specs.Standing.{Computes}
+use Rattle.av_space.specs.Occupancy.{Computes}
 use Rattle.av_space.specs.Whole.{IsWhole}
 use Rattle.av_space.proofs.Elements.{some_is}
 use Rattle.av_build.specs.inner.Programs.{Program}

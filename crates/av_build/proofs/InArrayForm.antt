@@ -27,7 +27,7 @@ use Rattle.av_space.specs.declared.cells.Cells.{Cells}
 use Rattle.av_space.specs.declared.cells.Cell.{Cell}
 use Rattle.av_space.specs.declared.cells.Link.{Link as LinkMade}
 use Rattle.av_space.specs.Ports.{output_cells, is_output_cell}
-use Rattle.av_space.specs.Standing.{IsUsed, Computes}
+use Rattle.av_space.specs.Occupancy.{IsUsed, Computes}
 use Rattle.av_space.specs.Quantities.{IsUse}
 use Rattle.av_space.specs.ArrayForm.{IsWire, IsRegister, MayName, MayTake, operands_of, Sort, rest, AreOfSorts, ended, sorted, how_many, is_same, operators, ArePiecesOn, AreDrivesOf, of_cell, other, HasFewOperators, HasCounter, counting, without, IsArrayForm}
 use Rattle.av_space.proofs.ByPlace.{there_is, from_map, pairs_by_place}

@@ -11,7 +11,7 @@ use Rattle.av_flat.specs.Points.{has}
 use Rattle.av_space.specs.Coordinates.{Placing}
 use Rattle.av_flat.specs.Nodes.{nodes}
 use Rattle.av_space.specs.Taps.{node_place, Tap, taps, IsTapRead}
-use Rattle.av_space.specs.Standing.{Computes}
+use Rattle.av_space.specs.Occupancy.{Computes}
 use Rattle.av_space.specs.Links.{AreLinks}
 use Rattle.av_space.specs.Listings.{AreInLines}
 use Rattle.av_space.proofs.OneCell.{one_node, Inverts, between_cycles, same_point}

@@ -6,7 +6,7 @@ use Rattle.av_flat.specs.Trees.{Tree}
 use Rattle.av_flat.specs.Nodes.{nodes}
 use Rattle.av_space.specs.declared.cells.Link.{Link as LinkMade}
 use Rattle.av_space.specs.Taps.{Way, handed, node_of, helper_of, helper_read}
-use Rattle.av_space.specs.Standing.{Computes}
+use Rattle.av_space.specs.Occupancy.{Computes}
 use Rattle.av_space.specs.Links.{reads_line, is_same, line_length}
 use Rattle.av_build.specs.inner.Programmed.{Array, Spot, IsLinked, later}
 use Rattle.av_space.proofs.Elements.{some_is, got, get_contained, mapped}

@@ -36,7 +36,7 @@ pub mod CellOperators
 pub mod InArrayForm
 pub mod Designs
 pub mod SoundDesigns
-pub mod Chosen
+pub mod SelectionSteps
 pub mod LaneParts
 pub mod Placing
 pub mod Turning

@@ -19,7 +19,7 @@ use Rattle.av_flat.specs.Signatures.{Signature}
 use Rattle.av_flat.specs.Values.{word_of}
 use Rattle.av_flat.specs.Helped.{HelperWords, IsHelpedSolution}
 use Rattle.av_flat.specs.Nodes.{is_node, nodes, number_at}
-use Rattle.av_space.specs.Standing.{Computes}
+use Rattle.av_space.specs.Occupancy.{Computes}
 use Rattle.av_space.specs.Listings.{IsWireOf, output, value, AtLine, IsAtLine, AreAtLines}
 use Rattle.av_build.specs.inner.Names.{output_name, value_name}
 use Rattle.av_build.specs.inner.Labels.{label_in, lane_value, labels}

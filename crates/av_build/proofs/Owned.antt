@@ -19,7 +19,7 @@ use Rattle.av_flat.specs.Values.{picked}
 use Rattle.av_flat.specs.declared.timed.Helper.{Helper}
 use Rattle.av_flat.specs.Nodes.{is_node, nodes, number_at}
 use Rattle.av_space.specs.Taps.{node_place, Handing, helper_at, Way, each, entries, handed, IsTapRead, helper_of}
-use Rattle.av_space.specs.Standing.{Computes}
+use Rattle.av_space.specs.Occupancy.{Computes}
 use Rattle.av_flat.specs.Broadcasts.{Reference, references}
 use Rattle.av_flat.specs.Helped.{before}
 use Rattle.av_space.specs.Links.{line_length}

@@ -16,7 +16,7 @@ use Rattle.av_space.specs.declared.spots.Spot.{Spot as SpotMade}
 use Rattle.av_space.specs.Whole.{IsWhole}
 use Rattle.av_space.specs.Coordinates.{Placing}
 use Rattle.av_space.specs.Spots.{system_of, helpers_of, placings_of, cells_of, ComputesIn, IsArray, IsSpot, IsSlotIn}
-use Rattle.av_space.specs.Standing.{IsUsed}
+use Rattle.av_space.specs.Occupancy.{IsUsed}
 use Rattle.av_space.proofs.ByPlace.{there_is, from_map}
 use Rattle.av_space.proofs.Elements.{some_is, at_index, mapped, in_range}
 use Rattle.av_build.specs.declared.blueprint.Blueprint.{Blueprint}

@@ -14,7 +14,7 @@ use Rattle.av_flat.specs.Values.{picked}
 use Rattle.av_flat.specs.declared.timed.Helper.{Helper}
 use Rattle.av_flat.specs.Nodes.{is_node, nodes, number_at}
 use Rattle.av_space.specs.Taps.{place_from, node_place, Handing, helper_at, IsReadAt, Way, each, entries, handed, Tap, taps, IsTapRead, IsTapped}
-use Rattle.av_space.specs.Standing.{Computes}
+use Rattle.av_space.specs.Occupancy.{Computes}
 use Rattle.av_flat.specs.Broadcasts.{Reference, references}
 use Rattle.av_flat.specs.Helped.{before, IsEntry}
 use Rattle.av_space.specs.Links.{IsStretch, AreLinks}

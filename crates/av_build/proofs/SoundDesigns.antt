@@ -34,7 +34,7 @@ use Rattle.av_net.specs.Names.{names_of, wire_names, declarations}
 use Rattle.av_net.specs.Designs.{HasWidth, IsSoundDesign}
 use Rattle.av_space.specs.declared.cells.Cells.{Cells}
 use Rattle.av_space.specs.Listings.{InLine, IsInLine, AtLine, IsAtLine, IsWireOf, output, value}
-use Rattle.av_space.specs.Standing.{Computes}
+use Rattle.av_space.specs.Occupancy.{Computes}
 use Rattle.av_space.specs.Whole.{IsWhole, IsPresented}
 use Rattle.av_space.proofs.ByPlace.{from_map, all_by_place, place_of}
 use Rattle.av_space.proofs.Elements.{some_is}

@@ -22,7 +22,7 @@ use Rattle.av_build.specs.inner.Cells.{Part, Turn, taps_built, over_taps, piece_
 use Rattle.av_build.specs.inner.Modules.{operand_of, span_of, option_of, tap_of, part_of, turn_of}
 use Rattle.av_build.specs.inner.Written.{ShiftMade, source_of, as_stretch, link_of, site_of, work_of, shift_of}
 use Rattle.av_build.specs.inner.Added.{AddsNamed, AddsBuilt, choice_built, counter}
-use Rattle.av_build.proofs.Chosen.{option_added, turn_added, AreTaken, tap_added, taken_many}
+use Rattle.av_build.proofs.SelectionSteps.{option_added, turn_added, AreTaken, tap_added, taken_many}
 
 -- what is left from one place on
 rest_at : {X : Type 0} (xs : List X) (j k : ℕ) (d x : X) → j + 1 ≡ k → j < length xs → x ≡ get_or xs j d → drop j xs ≡ x ∷ drop k xs

@@ -11,7 +11,7 @@ use Rattle.av_net.specs.Shown.{Shows}
 use Rattle.av_flat.specs.Trees.{Variable}
 use Rattle.av_flat.specs.Points.{has}
 use Rattle.av_flat.specs.Helped.{HelperWords, IsHelpedSolution}
-use Rattle.av_space.specs.Standing.{IsUsed, AreCells}
+use Rattle.av_space.specs.Occupancy.{IsUsed, AreCells}
 use Rattle.av_space.specs.Listings.{AreAtLines}
 use Rattle.av_space.specs.Ports.{is_output_cell, output_cells}
 use Rattle.av_build.specs.inner.Labels.{number_in, labels}

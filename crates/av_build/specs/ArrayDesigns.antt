@@ -11,7 +11,7 @@ use Rattle.av_net.specs.Designs.{IsSoundDesign}
 use Rattle.av_net.specs.Presented.{IsPresentable}
 use Rattle.av_net.specs.Shown.{Shows}
 use Rattle.av_space.specs.declared.cells.Cells.{Cells}
-use Rattle.av_space.specs.Standing.{Computes}
+use Rattle.av_space.specs.Occupancy.{Computes}
 use Rattle.av_space.specs.Whole.{HasWholeListing}
 use Rattle.av_space.specs.ArrayForm.{IsArrayForm, IsLinked}
 

@@ -15,7 +15,7 @@ use Rattle.av_poly.specs.Search.{IsBetween}
 use Rattle.av_poly.specs.Rational.{HasNoBounds, entry_of}
 use Rattle.av_poly.proofs.Dividing.{counted_most, constant_most}
 use Rattle.av_poly.proofs.Rationals.{point_is_rational, point_within_bounds}
-use Rattle.av_check.specs.inner.Clipped.{clip}
+use Rattle.av_check.specs.inner.Clamped.{clamp}
 
 -- ---- normalised rows keep their limits
 
@@ -39,13 +39,13 @@ normalised_within dim old new (inr w) h = λ k d l.
 
 -- ---- clipped boxes
 
-clip_most : (x : ℤ) → unsigned_abs (clip x) ≤ 4095
+clip_most : (x : ℤ) → unsigned_abs (clamp x) ≤ 4095
 clip_most x = omega (arith, ints, clamps)
 
-pub clip_most_of : (xs : List ℤ) → AtMost 4095 (map clip xs)
-clip_most_of xs = All-map (λ x. unsigned_abs x ≤ 4095) clip xs (λ k d l. clip_most (get_or xs k d))
+pub clip_most_of : (xs : List ℤ) → AtMost 4095 (map clamp xs)
+clip_most_of xs = All-map (λ x. unsigned_abs x ≤ 4095) clamp xs (λ k d l. clip_most (get_or xs k d))
 
-clip_between : (low high z : List ℤ) → AllByRecursion (λ x. unsigned_abs x ≤ 4095) z → IsBetween low high z → IsBetween (map clip low) (map clip high) z
+clip_between : (low high z : List ℤ) → AllByRecursion (λ x. unsigned_abs x ≤ 4095) z → IsBetween low high z → IsBetween (map clamp low) (map clamp high) z
 clip_between low high [] a b = tt
 clip_between [] high (x ∷ z) a b = absurd b
 clip_between (l ∷ low) [] (x ∷ z) a b = absurd b
@@ -53,7 +53,7 @@ clip_between (l ∷ low) (h ∷ high) (x ∷ z) a b =
     let s = a.0 in let p = b.0 in let q = b.1 in
     (omega (arith, ints, clamps, s, p), omega (arith, ints, clamps, s, q), clip_between low high z a.1 b.2)
 
-pub clipped_between : (low high z : List ℤ) → AtMost 4095 z → IsBetween low high z → IsBetween (map clip low) (map clip high) z
+pub clipped_between : (low high z : List ℤ) → AtMost 4095 z → IsBetween low high z → IsBetween (map clamp low) (map clamp high) z
 clipped_between low high z a b = clip_between low high z (recursion_from_All (λ x. unsigned_abs x ≤ 4095) z a) b
 
 abbrev pub least_entries : List ℤ

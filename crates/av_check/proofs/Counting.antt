@@ -11,7 +11,7 @@ use Rattle.av_tree.specs.Points.{Point}
 use Rattle.av_flat.specs.Points.{has}
 use Rattle.av_flat.proofs.Sets.{has_is}
 use Rattle.av_check.specs.inner.Least.{IsLeast, first_of}
-use Rattle.av_check.specs.inner.Having.{one_in, having, IsOff, IsShared, IsSharedBy, IsInAny, IsInside}
+use Rattle.av_check.specs.inner.Coverage.{one_in, coverage, IsOff, IsShared, IsSharedBy, IsInAny, IsInside}
 use Rattle.av_check.proofs.Lexicographic.{least_of_two}
 
 pub taken : {X : Type 0} (xs : List X) (i : ℕ) (x : X) → i < length xs → x ≡ get_or xs i x → take (i + 1) xs ≡ take i xs ++ x ∷ []
@@ -24,7 +24,7 @@ one_cases z set = go (has set z) refl
     go true e = inl ((has_is set z).0 e, ap (λ b. if b then 1 else 0) e)
     go false e = inr ((λ h. true≢false (sym ((has_is set z).1 h) ∙ e)), ap (λ b. if b then 1 else 0) e)
 
-pub having_push : (z : Point) (sets : List Set) (set : Set) → having z (sets ++ set ∷ []) ≡ having z sets + one_in z set
+pub having_push : (z : Point) (sets : List Set) (set : Set) → coverage z (sets ++ set ∷ []) ≡ coverage z sets + one_in z set
 having_push z [] set = omega arith
 having_push z (s ∷ sets) set = let e = having_push z sets set in omega (arith, e)
 
@@ -83,19 +83,19 @@ off_cases zero h = inr refl
 off_cases (suc zero) h = absurd (h refl)
 off_cases (suc (suc n)) h = inl (omega arith)
 
-off_is : (domain : Set) (sets : List Set) (z : Point) → (IsShared domain sets z ⊎ (Has domain z × (having z sets ≡ 0))) ↔ IsOff domain sets z
+off_is : (domain : Set) (sets : List Set) (z : Point) → (IsShared domain sets z ⊎ (Has domain z × (coverage z sets ≡ 0))) ↔ IsOff domain sets z
 off_is domain sets z = (
   (λ h. elim h [
     | inl w ↦ let k = w.1 in (w.0, λ e. omega (arith, k, e))
     | inr w ↦ let k = w.1 in (w.0, λ e. omega (arith, k, e))
   ]),
-  (λ w. elim (off_cases (having z sets) w.1) [ inl k ↦ inl (w.0, k) | inr k ↦ inr (w.0, k) ]),
+  (λ w. elim (off_cases (coverage z sets) w.1) [ inl k ↦ inl (w.0, k) | inr k ↦ inr (w.0, k) ]),
 )
 
-pub least_off : (domain : Set) (sets : List Set) (shared left o : Option Point) → IsLeast (IsShared domain sets) shared → IsLeast (λ z. Has domain z × (having z sets ≡ 0)) left
+pub least_off : (domain : Set) (sets : List Set) (shared left o : Option Point) → IsLeast (IsShared domain sets) shared → IsLeast (λ z. Has domain z × (coverage z sets ≡ 0)) left
     → o ≡ first_of shared left → IsLeast (IsOff domain sets) o
 least_off domain sets shared left o p q e =
-    least_of_two (IsShared domain sets) (λ z. Has domain z × (having z sets ≡ 0)) (IsOff domain sets) shared left o e (off_is domain sets) p q
+    least_of_two (IsShared domain sets) (λ z. Has domain z × (coverage z sets ≡ 0)) (IsOff domain sets) shared left o e (off_is domain sets) p q
 
 -- ---- parts
 
@@ -180,10 +180,10 @@ outside_more set parts left outside new i part l e own more h z =
 
 -- what one set more leaves of the domain
 pub left_more : (domain : Set) (sets left new : List Set) (i : ℕ) (set : Set) → i < length sets → set ≡ get_or sets i set
-    → ((z : Point) → IsInAny new z ↔ (IsInAny left z × (Has set z → ⊥))) → ((z : Point) → IsInAny left z ↔ (Has domain z × (having z (take i sets) ≡ 0)))
-    → (z : Point) → IsInAny new z ↔ (Has domain z × (having z (take (i + 1) sets) ≡ 0))
+    → ((z : Point) → IsInAny new z ↔ (IsInAny left z × (Has set z → ⊥))) → ((z : Point) → IsInAny left z ↔ (Has domain z × (coverage z (take i sets) ≡ 0)))
+    → (z : Point) → IsInAny new z ↔ (Has domain z × (coverage z (take (i + 1) sets) ≡ 0))
 left_more domain sets left new i set l e more h z =
-    let P : List Set → Type 0 = λ (ss : List Set). IsInAny new z ↔ (Has domain z × (having z ss ≡ 0)) in
+    let P : List Set → Type 0 = λ (ss : List Set). IsInAny new z ↔ (Has domain z × (coverage z ss ≡ 0)) in
     let push = having_push z (take i sets) set in
     subst P (sym (taken sets i set l e)) (
       (λ w. let v = (more z).0 w in let u = (h z).0 v.0 in elim (one_cases z set) [
@@ -224,7 +224,7 @@ first_inside domain own extent new h d same f =
     subst (All (IsInside domain.dim extent)) (sym f)
     (All-push (IsInside domain.dim extent) [] own (λ k x m. absurd (omega (arith, m))) (record { dim_is = d; between = λ z k. h.between z ((same z).0 k) }))
 
-pub first_left : (domain own : Set) (new : List Set) → ((z : Point) → Has own z ↔ Has domain z) → new ≡ [] ++ own ∷ [] → (z : Point) → IsInAny new z ↔ (Has domain z × (having z [] ≡ 0))
+pub first_left : (domain own : Set) (new : List Set) → ((z : Point) → Has own z ↔ Has domain z) → new ≡ [] ++ own ∷ [] → (z : Point) → IsInAny new z ↔ (Has domain z × (coverage z [] ≡ 0))
 first_left domain own new same f z =
-    let P : List Set → Type 0 = λ (ps : List Set). IsInAny ps z ↔ (Has domain z × (having z [] ≡ 0)) in
+    let P : List Set → Type 0 = λ (ps : List Set). IsInAny ps z ↔ (Has domain z × (coverage z [] ≡ 0)) in
     subst P (sym f) ((λ w. ((same z).0 ((in_any_one own z).1 w), refl)), (λ w. (in_any_one own z).0 ((same z).1 w.0)))

@@ -10,7 +10,7 @@ use Rattle.av_flat.specs.Signatures.{Signature}
 use Rattle.av_flat.specs.WellFormed.{Fits, FitAll, EachPart, EachPartOfAll, HasSmallRows}
 use Rattle.av_flat.specs.Quantities.{steps_under, composed_maps, composed_maps_of_all}
 use Rattle.av_normal.proofs.Laid.{all_parts}
-use Rattle.av_check.specs.inner.Standing.{reach, HasSmallForms, IsChain, IsReached, Stands, StandAll, StandsInside}
+use Rattle.av_check.specs.inner.Reachable.{reach, HasSmallForms, IsChain, IsReached, IsReachable, AreReachable, IsReachableInside}
 
 reached : (ds : List Map) (z : Point) → IsChain ds z → All HasSmallForms ds → All HasSmallForms (steps_under ds) → IsReached ds z
 reached [] z h u c = h
@@ -18,7 +18,7 @@ reached (d ∷ ds) z h u c = record { from = h.0; chain = h.2; own = All-head Ha
 
 mutual
   pub founded : (vs : List Signature) (ds : List Map) (t : Tree) (z : Point) → Fits vs (length (reach ds z)) t → EachPart HasSmallRows t → All HasSmallForms (composed_maps ds t) → IsChain ds z → All HasSmallForms ds
-      → Stands vs ds t z
+      → IsReachable vs ds t z
   founded vs ds (reference place m) z f r c h u = (record { from = f.from; chain = h; own = r; under = u; composed = c }, f)
   founded vs ds (constant n) z f r c h u = tt
   founded vs ds (binary s a b) z f r c h u =
@@ -39,7 +39,7 @@ mutual
   founded vs ds (pick place choices n) z f r c h u = tt
 
   pub founded_all : (vs : List Signature) (ds : List Map) (ts : Trees) (z : Point) → FitAll vs (length (reach ds z)) ts → EachPartOfAll HasSmallRows ts → All HasSmallForms (composed_maps_of_all ds ts) → IsChain ds z → All HasSmallForms ds
-      → StandAll vs ds ts z
+      → AreReachable vs ds ts z
   founded_all vs ds none z f r c h u = tt
   founded_all vs ds (more t ts) z f r c h u =
       let p = all_parts HasSmallForms (composed_maps ds t) (composed_maps_of_all ds ts) c in
@@ -51,11 +51,11 @@ pub record IsFoundedPiece (vs : List Signature) (n : ℕ) (p : Piece) : Type 0 w
   pub rows : EachPart HasSmallRows p.tree
 
 pub pieces_stand : (vs : List Signature) (n : ℕ) (z : Point) (ps : List Piece) → length z ≡ n → n ≤ 4 → All (IsFoundedPiece vs n) ps
-    → All HasSmallForms (composed_maps_of_all [] (trees_of (map (λ p. restriction p.domain p.tree) ps))) → All (λ p. StandsInside vs p z) ps
-pieces_stand vs n z [] e few h c = All-nil (λ p. StandsInside vs p z)
+    → All HasSmallForms (composed_maps_of_all [] (trees_of (map (λ p. restriction p.domain p.tree) ps))) → All (λ p. IsReachableInside vs p z) ps
+pieces_stand vs n z [] e few h c = All-nil (λ p. IsReachableInside vs p z)
 pieces_stand vs n z (p ∷ ps) e few h c =
     let parts = all_parts HasSmallForms (composed_maps [] p.tree) (composed_maps_of_all [] (trees_of (map (λ q. restriction q.domain q.tree) ps))) c in
     let own = All-head (IsFoundedPiece vs n) p ps h in
-    All-cons (λ q. StandsInside vs q z) p ps
+    All-cons (λ q. IsReachableInside vs q z) p ps
     (e ∙ sym own.dimension, founded vs [] p.tree z (subst (λ (k : ℕ). Fits vs k p.tree) (sym e) own.fits) own.rows parts.0 (subst (λ (k : ℕ). k ≤ 4) (sym e) few) (All-nil HasSmallForms))
     (pieces_stand vs n z ps e few (All-tail (IsFoundedPiece vs n) p ps h) parts.1)

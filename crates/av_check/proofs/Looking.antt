@@ -5,7 +5,7 @@ use Rattle.std.proofs.Math.Seq.{drop-cons}
 use Rattle.av_affine.specs.declared.map.Map.{Map}
 use Rattle.av_flat.specs.declared.tree.Tree.{Tree as TreeMade}
 use Rattle.av_flat.specs.Trees.{view, trees_of}
-use Rattle.av_check.specs.inner.Standing.{Stands, StandAll}
+use Rattle.av_check.specs.inner.Reachable.{IsReachable, AreReachable}
 use denote.Param.Weighed.{most}
 use Rattle.av_flat.specs.declared.tree.Tree.TheVariants as made
 use Rattle.av_flat.specs.declared.tree.Tree.TheViews.{sized-Case}
@@ -58,9 +58,9 @@ less_deep t e es slice is same d =
     omega (arith, d, f, g, sized-Case es)
 
 -- the next of the branches stands, and those behind it
-pub next_stands : (vs : List Signature) (ds : List Map) (trees : List TreeMade) (i : ℕ) (t : TreeMade) (z : Point) → i < length trees → t ≡ get_or trees i t → StandAll vs ds (trees_of (map view (drop i trees))) z
-    → Stands vs ds (view t) z × StandAll vs ds (trees_of (map view (drop (i + 1) trees))) z
+pub next_stands : (vs : List Signature) (ds : List Map) (trees : List TreeMade) (i : ℕ) (t : TreeMade) (z : Point) → i < length trees → t ≡ get_or trees i t → AreReachable vs ds (trees_of (map view (drop i trees))) z
+    → IsReachable vs ds (view t) z × AreReachable vs ds (trees_of (map view (drop (i + 1) trees))) z
 next_stands vs ds trees i t z l e h =
     let s : suc i ≡ i + 1 = omega arith in
     let parted : drop i trees ≡ t ∷ drop (i + 1) trees = drop-cons trees i t l ∙ ap (λ x. x ∷ drop (suc i) trees) (sym e) ∙ ap (λ (j : ℕ). t ∷ drop j trees) s in
-    subst (λ (ts : List TreeMade). StandAll vs ds (trees_of (map view ts)) z) parted h
+    subst (λ (ts : List TreeMade). AreReachable vs ds (trees_of (map view ts)) z) parted h

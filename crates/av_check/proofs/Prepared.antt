@@ -28,8 +28,8 @@ use Rattle.av_normal.proofs.PieceWords.{has_normal, cond_same}
 use Rattle.av_normal.proofs.RightSides.{right_count}
 use Rattle.av_normal.proofs.Systems.{both_all, signatures_are}
 use Rattle.av_normal.proofs.Limits.{AllFit, each_fits}
-use Rattle.av_check.specs.inner.Having.{having, IsOrdinary}
-use Rattle.av_check.specs.inner.Ready.{IsReady, AreReady}
+use Rattle.av_check.specs.inner.Coverage.{coverage, IsOrdinary}
+use Rattle.av_check.specs.inner.Premises.{HasPremises, HavePremises}
 use Rattle.av_check.proofs.Founded.{IsFoundedPiece, pieces_stand}
 
 -- ---- points of bounded domains
@@ -69,7 +69,7 @@ plain_count vs set (dependence m t) r p z h = absurd (true≢false p.0.2)
 plain_count vs set (reduction o m t inner) r p z h = refl
 plain_count vs set (pick place choices n) r p z h = refl
 
-kept_count : (vs : List Signature) (v : Variable) (ps : List Piece) (z : Point) → All (IsKeptPiece vs v) ps → count_all vs (trees_of (map (λ p. restriction p.domain p.tree) ps)) z ≡ having z (map (λ p. p.domain) ps)
+kept_count : (vs : List Signature) (v : Variable) (ps : List Piece) (z : Point) → All (IsKeptPiece vs v) ps → count_all vs (trees_of (map (λ p. restriction p.domain p.tree) ps)) z ≡ coverage z (map (λ p. p.domain) ps)
 kept_count vs v [] z h = refl
 kept_count vs v (p ∷ ps) z h =
     let own = All-head (IsKeptPiece vs v) p ps h in
@@ -86,7 +86,7 @@ module _ (s t : FlatSystem) (g : IsWellFormed s) (n : IsNormalForm s t) (kept : 
   abbrev Kept : Variable → Type 0
   Kept w = IsWellFormedVariable t w × IsKeptVariable (signatures t) w
 
-  ready : (v w : Variable) → IsNormalVariable (signatures s) v w → Given v → Kept w → IsReady (signatures s) v w
+  ready : (v w : Variable) → IsNormalVariable (signatures s) v w → Given v → Kept w → HasPremises (signatures s) v w
   ready v w p a b = record {
     dim = a.0.indices;
     rows = a.0.rows;
@@ -102,14 +102,14 @@ module _ (s t : FlatSystem) (g : IsWellFormed s) (n : IsNormalForm s t) (kept : 
         ∙ kept_count (signatures t) w w.pieces z b.1.pieces;
   }
 
-  all_ready : (xs ys : List Variable) → AreNormalVariables (signatures s) xs ys → All Given xs → All Kept ys → AreReady (signatures s) xs ys
+  all_ready : (xs ys : List Variable) → AreNormalVariables (signatures s) xs ys → All Given xs → All Kept ys → HavePremises (signatures s) xs ys
   all_ready [] [] p a b = tt
   all_ready [] (w ∷ ys) p a b = absurd p
   all_ready (v ∷ xs) [] p a b = absurd p
   all_ready (v ∷ xs) (w ∷ ys) p a b =
       (ready v w p.0 (All-head Given v xs a) (All-head Kept w ys b), all_ready xs ys p.1 (All-tail Given v xs a) (All-tail Kept w ys b))
 
-  pub are_ready : AreReady (signatures s) s.variables t.variables
+  pub are_ready : HavePremises (signatures s) s.variables t.variables
   are_ready = all_ready s.variables t.variables n.variables
       (both_all (IsWellFormedVariable s) (AllFit (signatures s)) s.variables g.each (each_fits s narrow))
       (both_all (IsWellFormedVariable t) (IsKeptVariable (signatures t)) t.variables kept.well_formed.each kept.each)

@@ -17,7 +17,7 @@ use Rattle.av_flat.specs.Pieces.{composed}
 use Rattle.av_flat.specs.Quantities.{steps}
 use Rattle.av_flat.proofs.Parts.{composed_image}
 use Rattle.av_flat.proofs.Parts as parts
-use Rattle.av_check.specs.inner.Standing.{reach, HasSmallForms, IsChain, IsOnTheWay}
+use Rattle.av_check.specs.inner.Reachable.{reach, HasSmallForms, IsChain, IsOnTheWay}
 
 -- ---- compositions within limits are not refused
 

@@ -22,31 +22,31 @@ use Rattle.av_check.specs.declared.verdict.Blame.{Blame}
 use Rattle.av_check.specs.declared.verdict.Verdict.TheVariants as verdict
 use Rattle.av_check.specs.inner.Verdicts.{IsVerdict}
 use Rattle.av_check.specs.inner.Least.{IsLeast}
-use Rattle.av_check.specs.inner.Having.{IsOff}
-use Rattle.av_check.specs.Wrong.{IsWrongAt, IsLeastWrong, IsFirstWrong}
+use Rattle.av_check.specs.inner.Coverage.{IsOff}
+use Rattle.av_check.specs.Miscovered.{IsMiscoveredAt, IsLeastMiscovered, IsFirstMiscovered}
 use Rattle.av_check.specs.Blame.{blamed, named}
 use Rattle.av_check.specs.CheckFaults.{IsFaultOf, IsFault}
-use Rattle.av_check.specs.inner.Ready.{IsReady, AreReady, HasNoWrong}
+use Rattle.av_check.specs.inner.Premises.{HasPremises, HavePremises, HasNoneMiscovered}
 use Rattle.av_check.proofs.Lexicographic.{least_same, same_point}
 
 -- ---- one variable
 
-module _ (vs : List Signature) (v w : Variable) (r : IsReady vs v w) (computed : IsTrue (is_computed v.kind)) where
-  off_is_wrong : (z : Point) → IsOff v.domain (map (λ p. p.domain) w.pieces) z ↔ IsWrongAt vs v z
+module _ (vs : List Signature) (v w : Variable) (r : HasPremises vs v w) (computed : IsTrue (is_computed v.kind)) where
+  off_is_wrong : (z : Point) → IsOff v.domain (map (λ p. p.domain) w.pieces) z ↔ IsMiscoveredAt vs v z
   off_is_wrong z = (
     (λ h. record { computed = computed; declared = (has_is v.domain z).1 h.0; count = λ e. h.1 (sym (r.same z h.0) ∙ e) }),
     (λ h. let k = (has_is v.domain z).0 h.declared in (k, λ e. h.count (r.same z k ∙ e))),
   )
 
-  pub least_is_wrong : (z : Point) → IsLeast (IsOff v.domain (map (λ p. p.domain) w.pieces)) (Some z) → IsLeastWrong vs v z
+  pub least_is_wrong : (z : Point) → IsLeast (IsOff v.domain (map (λ p. p.domain) w.pieces)) (Some z) → IsLeastMiscovered vs v z
   least_is_wrong z h =
-      let k = least_same (IsOff v.domain (map (λ p. p.domain) w.pieces)) (IsWrongAt vs v) off_is_wrong (Some z) h in
+      let k = least_same (IsOff v.domain (map (λ p. p.domain) w.pieces)) (IsMiscoveredAt vs v) off_is_wrong (Some z) h in
       record { wrong = k.0; least = k.1 }
 
-  pub none_is_wrong : IsLeast (IsOff v.domain (map (λ p. p.domain) w.pieces)) None → HasNoWrong vs v
-  none_is_wrong h = least_same (IsOff v.domain (map (λ p. p.domain) w.pieces)) (IsWrongAt vs v) off_is_wrong None h
+  pub none_is_wrong : IsLeast (IsOff v.domain (map (λ p. p.domain) w.pieces)) None → HasNoneMiscovered vs v
+  none_is_wrong h = least_same (IsOff v.domain (map (λ p. p.domain) w.pieces)) (IsMiscoveredAt vs v) off_is_wrong None h
 
-pub input_is_fine : (vs : List Signature) (v : Variable) → is_computed v.kind ≡ false → HasNoWrong vs v
+pub input_is_fine : (vs : List Signature) (v : Variable) → is_computed v.kind ≡ false → HasNoneMiscovered vs v
 input_is_fine vs v e z h = true≢false (sym h.computed ∙ e)
 
 two_words : (n : ℕ) → (n ≡ 1 → ⊥) → (n ≡ 0 → ⊥) → 1 < n
@@ -54,68 +54,68 @@ two_words zero h k = absurd (k refl)
 two_words (suc zero) h k = absurd (h refl)
 two_words (suc (suc n)) h k = omega arith
 
-uncovered : (vs : List Signature) (v : Variable) (z : Point) (name : Text) (outside : Option (Text × Point)) (blame : Option Blame) → IsLeastWrong vs v z → name ≡ v.name → count vs (right_side v) z ≡ 0
+uncovered : (vs : List Signature) (v : Variable) (z : Point) (name : Text) (outside : Option (Text × Point)) (blame : Option Blame) → IsLeastMiscovered vs v z → name ≡ v.name → count vs (right_side v) z ≡ 0
     → blame ≡ blamed vs (right_side v) z → outside ≡ named vs blame → IsFaultOf vs v (fault.Uncovered name z outside)
 uncovered vs v z name outside blame h e n b o = (h, e, n, o ∙ ap (named vs) b)
 
-pub judged_counted : (vs : List Signature) (v : Variable) (z : Point) (name : Text) → IsLeastWrong vs v z → name ≡ v.name → IsVerdict vs (right_side v) z verdict.Counted → IsFaultOf vs v (fault.TwoBranches name z)
+pub judged_counted : (vs : List Signature) (v : Variable) (z : Point) (name : Text) → IsLeastMiscovered vs v z → name ≡ v.name → IsVerdict vs (right_side v) z verdict.Counted → IsFaultOf vs v (fault.TwoBranches name z)
 judged_counted vs v z name h e k = (h, e, two_words (count vs (right_side v) z) h.wrong.count k)
 
-pub judged_missing : (vs : List Signature) (v : Variable) (z : Point) (name : Text) (outside : Option (Text × Point)) (blame : Option Blame) → IsLeastWrong vs v z → name ≡ v.name
+pub judged_missing : (vs : List Signature) (v : Variable) (z : Point) (name : Text) (outside : Option (Text × Point)) (blame : Option Blame) → IsLeastMiscovered vs v z → name ≡ v.name
     → IsVerdict vs (right_side v) z (verdict.Missing blame) → outside ≡ named vs blame → IsFaultOf vs v (fault.Uncovered name z outside)
 judged_missing vs v z name outside blame h e k o = uncovered vs v z name outside blame h e k.0 k.1 o
 
 -- ---- all variables
 
-pub ready_size : (vs : List Signature) (xs ys : List Variable) → AreReady vs xs ys → length xs ≡ length ys
+pub ready_size : (vs : List Signature) (xs ys : List Variable) → HavePremises vs xs ys → length xs ≡ length ys
 ready_size vs [] [] h = refl
 ready_size vs [] (y ∷ ys) h = absurd h
 ready_size vs (x ∷ xs) [] h = absurd h
 ready_size vs (x ∷ xs) (y ∷ ys) h = ap suc (ready_size vs xs ys h.1)
 
-pub ready_at : (vs : List Signature) (xs ys : List Variable) (k : ℕ) (d e : Variable) → k < length xs → AreReady vs xs ys → IsReady vs (get_or xs k d) (get_or ys k e)
+pub ready_at : (vs : List Signature) (xs ys : List Variable) (k : ℕ) (d e : Variable) → k < length xs → HavePremises vs xs ys → HasPremises vs (get_or xs k d) (get_or ys k e)
 ready_at vs [] ys k d e l h = absurd (omega (arith, l))
 ready_at vs (x ∷ xs) [] k d e l h = absurd h
 ready_at vs (x ∷ xs) (y ∷ ys) zero d e l h = h.0
 ready_at vs (x ∷ xs) (y ∷ ys) (suc k) d e l h = ready_at vs xs ys k d e (omega (arith, l)) h.1
 
-pub ready_mapped : {X : Type 0} (f : X → Variable) (vs : List Signature) (xs ys : List X) (k : ℕ) (x y : X) → k < length xs → x ≡ get_or xs k x → y ≡ get_or ys k y → AreReady vs (map f xs) (map f ys) → IsReady vs (f x) (f y)
+pub ready_mapped : {X : Type 0} (f : X → Variable) (vs : List Signature) (xs ys : List X) (k : ℕ) (x y : X) → k < length xs → x ≡ get_or xs k x → y ≡ get_or ys k y → HavePremises vs (map f xs) (map f ys) → HasPremises vs (f x) (f y)
 ready_mapped f vs xs ys k x y l e g h =
     let n = length-map xs f in
     let m = length-map ys f in
     let size = ready_size vs (map f xs) (map f ys) h in
     let a : get_or (map f xs) k (f x) ≡ f x = get_or-map f xs k x (f x) l ∙ ap f (sym e) in
     let b : get_or (map f ys) k (f y) ≡ f y = get_or-map f ys k y (f y) (omega (arith, l, n, m, size)) ∙ ap f (sym g) in
-    subst (λ (v : Variable). IsReady vs v (f y)) a (subst (λ (w : Variable). IsReady vs (get_or (map f xs) k (f x)) w) b (ready_at vs (map f xs) (map f ys) k (f x) (f y) (omega (arith, l, n)) h))
+    subst (λ (v : Variable). HasPremises vs v (f y)) a (subst (λ (w : Variable). HasPremises vs (get_or (map f xs) k (f x)) w) b (ready_at vs (map f xs) (map f ys) k (f x) (f y) (omega (arith, l, n)) h))
 
-pub fine_more : {X : Type 0} (f : X → Variable) (vs : List Signature) (xs : List X) (k : ℕ) (x : X) → k < length xs → x ≡ get_or xs k x → All (HasNoWrong vs) (map f (take k xs)) → HasNoWrong vs (f x) → All (HasNoWrong vs) (map f (take (k + 1) xs))
+pub fine_more : {X : Type 0} (f : X → Variable) (vs : List Signature) (xs : List X) (k : ℕ) (x : X) → k < length xs → x ≡ get_or xs k x → All (HasNoneMiscovered vs) (map f (take k xs)) → HasNoneMiscovered vs (f x) → All (HasNoneMiscovered vs) (map f (take (k + 1) xs))
 fine_more f vs xs k x l e h n =
     let taken : map f (take (k + 1) xs) ≡ map f (take k xs) ++ f x ∷ [] = ap (λ ys. map f ys) (take_more xs k x l ∙ ap (λ y. take k xs ++ y ∷ []) (sym e)) ∙ pushed f (take k xs) x in
-    subst (All (HasNoWrong vs)) (sym taken) (All-push (HasNoWrong vs) (map f (take k xs)) (f x) h n)
+    subst (All (HasNoneMiscovered vs)) (sym taken) (All-push (HasNoneMiscovered vs) (map f (take k xs)) (f x) h n)
   where
     pushed : {X : Type 0} (f : X → Variable) (xs : List X) (x : X) → map f (xs ++ x ∷ []) ≡ map f xs ++ f x ∷ []
     pushed f [] x = refl
     pushed f (y ∷ xs) x = ap (λ ys. f y ∷ ys) (pushed f xs x)
 
-first_wrong : (s : FlatSystem) (v : Variable) (before after : List Variable) (z : Point) → s.variables ≡ before ++ v ∷ after → All (HasNoWrong (signatures s)) before → IsLeastWrong (signatures s) v z → IsFirstWrong s v z
+first_wrong : (s : FlatSystem) (v : Variable) (before after : List Variable) (z : Point) → s.variables ≡ before ++ v ∷ after → All (HasNoneMiscovered (signatures s)) before → IsLeastMiscovered (signatures s) v z → IsFirstMiscovered s v z
 first_wrong s v before after z e h least = record {
   first = record {
     before = before;
     after = after;
     is = e;
-    not_before = All-weaker (HasNoWrong (signatures s)) (λ y. ((x : Point) × IsWrongAt (signatures s) y x) → ⊥) (λ y k p. k p.0 p.1) before h;
+    not_before = All-weaker (HasNoneMiscovered (signatures s)) (λ y. ((x : Point) × IsMiscoveredAt (signatures s) y x) → ⊥) (λ y k p. k p.0 p.1) before h;
     here = (z, least.wrong);
   };
   least = least;
 }
 
-lifted : (s : FlatSystem) (v : Variable) (before after : List Variable) (f : CheckFault) → s.variables ≡ before ++ v ∷ after → All (HasNoWrong (signatures s)) before → IsFaultOf (signatures s) v f → IsFault s f
+lifted : (s : FlatSystem) (v : Variable) (before after : List Variable) (f : CheckFault) → s.variables ≡ before ++ v ∷ after → All (HasNoneMiscovered (signatures s)) before → IsFaultOf (signatures s) v f → IsFault s f
 lifted s v before after (fault.Uncovered name z outside) e h k = (v, first_wrong s v before after z e h k.0, k)
 lifted s v before after (fault.TwoBranches name z) e h k = (v, first_wrong s v before after z e h k.0, k)
 lifted s v before after fault.Memory e h k = tt
 
 pub fault_found : {X : Type 0} (g : X → Variable) (s : FlatSystem) (xs : List X) (k : ℕ) (x : X) (f : CheckFault) → s.variables ≡ map g xs → k < length xs → x ≡ get_or xs k x
-    → All (HasNoWrong (signatures s)) (map g (take k xs)) → IsFaultOf (signatures s) (g x) f → IsFault s f
+    → All (HasNoneMiscovered (signatures s)) (map g (take k xs)) → IsFaultOf (signatures s) (g x) f → IsFault s f
 fault_found g s xs k x f e l p h i = lifted s (g x) (map g (take k xs)) (map g (drop (suc k) xs)) f (e ∙ parted xs k x l p) h i
   where
     appended : (xs ys : List _) → map g (xs ++ ys) ≡ map g xs ++ map g ys
@@ -134,7 +134,7 @@ one_word zero h = absurd (h (λ e. omega (arith, e)))
 one_word (suc zero) h = refl
 one_word (suc (suc n)) h = absurd (h (λ e. omega (arith, e)))
 
-pub proper_where_fine : (s : FlatSystem) → ((name : Text) → HasUnbounded s name → ⊥) → All (HasNoWrong (signatures s)) s.variables → IsProper s
+pub proper_where_fine : (s : FlatSystem) → ((name : Text) → HasUnbounded s name → ⊥) → All (HasNoneMiscovered (signatures s)) s.variables → IsProper s
 proper_where_fine s ends h = record {
   bounded = none_first (λ v. IsUnbounded v.domain) s.variables (λ v first. ends v.name (record { variable = v; first = first; name_is = refl }));
   counted = λ k d l c z p. one_word (count (signatures s) (right_side (get_or s.variables k d)) z) (λ n. h k d l z (record { computed = c; declared = p; count = n }));
@@ -143,7 +143,7 @@ proper_where_fine s ends h = record {
 at_member : {X : Type 0} (P : X → Type 0) (xs before after : List X) (x : X) → xs ≡ before ++ x ∷ after → All P xs → P x
 at_member P xs before after x e h = All-head P x after (all_parts P before (x ∷ after) (subst (All P) e h)).1
 
-not_wrong : (s : FlatSystem) (v : Variable) (z : Point) → IsProper s → IsFirstWrong s v z → ⊥
+not_wrong : (s : FlatSystem) (v : Variable) (z : Point) → IsProper s → IsFirstMiscovered s v z → ⊥
 not_wrong s v z p h =
     let P : Variable → Type 0 = λ u. IsTrue (is_computed u.kind) → (y : Point) → IsTrue (has u.domain y) → count (signatures s) (right_side u) y ≡ 1 in
     h.least.wrong.count (at_member P s.variables h.first.before h.first.after v h.first.is p.counted h.least.wrong.computed z h.least.wrong.declared)
@@ -168,17 +168,17 @@ first_is_one P (u ∷ b) a [] d x y e h p k q = absurd (All-head (λ v. P v → 
 first_is_one P (u ∷ b) a (w ∷ c) d x y e h p k q =
     first_is_one P b a c d x y (same_tail u w (b ++ x ∷ a) (c ++ y ∷ d) e) (λ i v l. h (suc i) v (omega (arith, l))) p (λ i v l. k (suc i) v (omega (arith, l))) q
 
-same_first : (s : FlatSystem) (v w : Variable) (y z : Point) → IsFirstWrong s v y → IsFirstWrong s w z → v ≡ w
+same_first : (s : FlatSystem) (v w : Variable) (y z : Point) → IsFirstMiscovered s v y → IsFirstMiscovered s w z → v ≡ w
 same_first s v w y z h k =
-    first_is_one (λ u. (x : Point) × IsWrongAt (signatures s) u x) h.first.before h.first.after k.first.before k.first.after v w (sym h.first.is ∙ k.first.is)
+    first_is_one (λ u. (x : Point) × IsMiscoveredAt (signatures s) u x) h.first.before h.first.after k.first.before k.first.after v w (sym h.first.is ∙ k.first.is)
     h.first.not_before h.first.here k.first.not_before k.first.here
 
-same_least : (s : FlatSystem) (v w : Variable) (y z : Point) → IsFirstWrong s v y → IsFirstWrong s w z → y ≡ z
+same_least : (s : FlatSystem) (v w : Variable) (y z : Point) → IsFirstMiscovered s v y → IsFirstMiscovered s w z → y ≡ z
 same_least s v w y z h k =
-    let other = subst (λ (u : Variable). IsLeastWrong (signatures s) u z) (sym (same_first s v w y z h k)) k.least in
+    let other = subst (λ (u : Variable). IsLeastMiscovered (signatures s) u z) (sym (same_first s v w y z h k)) k.least in
     same_point y z (h.least.least z other.wrong) (other.least y h.least.wrong)
 
-same_count : (s : FlatSystem) (v w : Variable) (y z : Point) → IsFirstWrong s v y → IsFirstWrong s w z → count (signatures s) (right_side v) y ≡ count (signatures s) (right_side w) z
+same_count : (s : FlatSystem) (v w : Variable) (y z : Point) → IsFirstMiscovered s v y → IsFirstMiscovered s w z → count (signatures s) (right_side v) y ≡ count (signatures s) (right_side w) z
 same_count s v w y z h k = ap₂ (λ u x. count (signatures s) (right_side u) x) (same_first s v w y z h k) (same_least s v w y z h k)
 
 pub one_fault : (s : FlatSystem) (f g : CheckFault) → IsFault s f → IsFault s g → f ≢ fault.Memory → (f ≡ g) ⊎ (g ≡ fault.Memory)

@@ -1,4 +1,4 @@
-pub mod Wrong
+pub mod Miscovered
 pub mod Blame
 pub mod CheckFaults
 pub mod inner

@@ -1,6 +1,6 @@
 pub mod Least
-pub mod Having
-pub mod Clipped
-pub mod Standing
+pub mod Coverage
+pub mod Clamped
+pub mod Reachable
 pub mod Verdicts
-pub mod Ready
+pub mod Premises

@@ -4,7 +4,7 @@ ghost use Rattle.std.specs.Prelude.{◌≡◌, ◌^◌, ◌∷◌, length, All, 
 ghost use Rattle.av_affine.specs.Numbers.{AtMost};
 ghost use Rattle.av_affine.specs.Forms.{IsWithinLimits};
 ghost use Rattle.av_affine.specs.Maps.{image, composition};
-ghost use Rattle.av_check.specs.inner.Standing.{reach, IsImage, IsReached};
+ghost use Rattle.av_check.specs.inner.Reachable.{reach, IsImage, IsReached};
 
 use av_affine::Map;
 use av_base::{List, Memory, Point};

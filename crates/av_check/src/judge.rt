@@ -5,7 +5,7 @@ ghost use Rattle.av_affine.specs.Numbers.{AtMost};
 ghost use Rattle.av_flat.specs.Trees.{view, trees_of, view_variable, view_piece, restriction};
 ghost use Rattle.av_flat.specs.Signatures.{signature};
 ghost use Rattle.av_flat.specs.WellFormed.{dimension_of};
-ghost use Rattle.av_check.specs.inner.Standing.{reach, Stands, StandAll, StandsInside};
+ghost use Rattle.av_check.specs.inner.Reachable.{reach, IsReachable, AreReachable, IsReachableInside};
 ghost use Rattle.av_check.specs.inner.Verdicts.{IsReading, IsVerdict, IsVerdictOfAll};
 
 use crate::images::{image_under, point_under, within};
@@ -37,7 +37,7 @@ fn judge(
     tree: &Tree,
     z: &Point,
 ) -> Result<Verdict, Memory>
-    requires stands { Stands (map signature (map view_variable vars.now)) under.now (view tree.now) z.now }
+    requires stands { IsReachable (map signature (map view_variable vars.now)) under.now (view tree.now) z.now }
     requires small { AtMost 4095 z.now }
     ensures { IfOk result (IsVerdict (map signature (map view_variable vars.now)) (view tree.now) (reach under.now z.now)) }
 {
@@ -89,7 +89,7 @@ fn judge_all(
     trees: &[Tree],
     z: &Point,
 ) -> Result<Verdict, Memory>
-    requires stands { StandAll (map signature (map view_variable vars.now)) under.now (trees_of (map view trees.now)) z.now }
+    requires stands { AreReachable (map signature (map view_variable vars.now)) under.now (trees_of (map view trees.now)) z.now }
     requires small { AtMost 4095 z.now }
     ensures { IfOk result (IsVerdictOfAll (map signature (map view_variable vars.now)) (trees_of (map view trees.now)) (reach under.now z.now)) }
 {
@@ -103,7 +103,7 @@ fn judge_all(
 
 // What a piece has, restricted to its domain.
 fn judge_piece(alloc: Global, vars: &[Var], piece: &Piece, z: &Point) -> Result<Verdict, Memory>
-    requires stands { StandsInside (map signature (map view_variable vars.now)) (view_piece piece.now) z.now }
+    requires stands { IsReachableInside (map signature (map view_variable vars.now)) (view_piece piece.now) z.now }
     requires small { AtMost 4095 z.now }
     ensures { IfOk result (IsVerdict (map signature (map view_variable vars.now)) (restriction piece.now.domain (view piece.now.tree)) z.now) }
 {
@@ -121,7 +121,7 @@ pub(crate) fn judge_pieces(
     pieces: &[Piece],
     z: &Point,
 ) -> Result<Verdict, Memory>
-    requires stands { All (λ piece. StandsInside (map signature (map view_variable vars.now)) (view_piece piece) z.now) pieces.now }
+    requires stands { All (λ piece. IsReachableInside (map signature (map view_variable vars.now)) (view_piece piece) z.now) pieces.now }
     requires small { AtMost 4095 z.now }
     ensures { IfOk result (IsVerdictOfAll (map signature (map view_variable vars.now)) (trees_of (map (λ p. restriction p.domain p.tree) (map view_piece pieces.now))) z.now) }
 {

@@ -6,9 +6,9 @@ ghost use Rattle.av_affine.specs.Numbers.{AtMost};
 ghost use Rattle.av_affine.specs.Forms.{IsWithinLimits};
 ghost use Rattle.av_poly.specs.Points.{Has};
 ghost use Rattle.av_poly.specs.Search.{IsBetween};
-ghost use Rattle.av_check.specs.inner.Clipped.{clip};
+ghost use Rattle.av_check.specs.inner.Clamped.{clamp};
 ghost use Rattle.av_check.specs.inner.Least.{IsLeast};
-ghost use Rattle.av_check.specs.inner.Having.{IsOff, IsInside, IsOrdinary};
+ghost use Rattle.av_check.specs.inner.Coverage.{IsOff, IsInside, IsOrdinary};
 
 use crate::order::lesser;
 use crate::outside::least_left;
@@ -24,14 +24,14 @@ const MOST: i128 = MOST_COORDINATE as i128;
 
 // The nearest number of at most 4,095 in absolute value.
 fn nearest(number: i128) -> i128
-    ensures { result ≡ clip number }
+    ensures { result ≡ clamp number }
 {
     number.min(MOST).max(-MOST)
 }
 
 // The nearest of each of the numbers.
 fn nearest_of(numbers: [i128; 4]) -> [i128; 4]
-    ensures { result ≡ map clip numbers }
+    ensures { result ≡ map clamp numbers }
 {
     let a = nearest(numbers[0]);
     let b = nearest(numbers[1]);

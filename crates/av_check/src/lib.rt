@@ -1,8 +1,7 @@
 //! Each declared point exactly once: the first variable and its least point at which an equation has no word, or two.
 #![tactic(auto)]
 
-mod checker;
-mod checking;
+mod check;
 mod fault;
 mod images;
 mod judge;
@@ -16,5 +15,5 @@ mod sets;
 mod tests;
 mod verdict;
 
-pub use checking::check;
+pub use check::check;
 pub use fault::CheckFault;

@@ -4,7 +4,7 @@ ghost use Rattle.std.specs.Prelude.{ℤ, ℕ, List as Items, ◌≡◌, ◌≤�
 ghost use Rattle.av_affine.specs.Numbers.{AtMost};
 ghost use Rattle.av_poly.specs.Points.{Has};
 ghost use Rattle.av_check.specs.inner.Least.{IsLeast};
-ghost use Rattle.av_check.specs.inner.Having.{having, IsInAny, IsInside, IsOrdinary};
+ghost use Rattle.av_check.specs.inner.Coverage.{coverage, IsInAny, IsInside, IsOrdinary};
 
 use crate::order::lesser;
 use crate::sets::{least_point, normalised};
@@ -74,7 +74,7 @@ fn left_of(
     requires inside { IsInside domain.now.dim extent.now domain.now }
     requires sets { All (IsOrdinary domain.now.dim) sets.now }
     ensures inside { IfOk result (All (IsInside domain.now.dim extent.now)) }
-    ensures points { IfOk result (λ left. (z : Items ℤ) → IsInAny left z ↔ (Has domain.now z × (having z sets.now ≡ 0))) }
+    ensures points { IfOk result (λ left. (z : Items ℤ) → IsInAny left z ↔ (Has domain.now z × (coverage z sets.now ≡ 0))) }
 {
     let mut left = List::new(alloc);
     left.push(normalised(alloc, domain)?)?;
@@ -111,7 +111,7 @@ pub(crate) fn least_left(
     requires high { AtMost 4095 extent.now.high }
     requires inside { IsInside domain.now.dim extent.now domain.now }
     requires sets { All (IsOrdinary domain.now.dim) sets.now }
-    ensures { IfOk result (IsLeast (λ z. Has domain.now z × (having z sets.now ≡ 0))) }
+    ensures { IfOk result (IsLeast (λ z. Has domain.now z × (coverage z sets.now ≡ 0))) }
 {
     let left = left_of(alloc, extent, domain, sets)?;
     Ok(least_of_parts(domain.dim, extent, left.as_slice()))

@@ -4,7 +4,7 @@ ghost use Rattle.std.specs.Prelude.{◌≤◌, IfOk, All, ◌≡◌};
 ghost use Rattle.av_affine.specs.Numbers.{AtMost};
 ghost use Rattle.av_poly.specs.Points.{Has};
 ghost use Rattle.av_check.specs.inner.Least.{IsLeast};
-ghost use Rattle.av_check.specs.inner.Having.{IsInside, IsShared, IsSharedBy};
+ghost use Rattle.av_check.specs.inner.Coverage.{IsInside, IsShared, IsSharedBy};
 
 use crate::order::lesser;
 use crate::sets::{least_point, normalised};

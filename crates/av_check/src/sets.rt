@@ -6,7 +6,7 @@ ghost use Rattle.av_affine.specs.Forms.{IsWithinLimits};
 ghost use Rattle.av_poly.specs.Normal.{AreNormalised};
 ghost use Rattle.av_poly.specs.Points.{Has};
 ghost use Rattle.av_check.specs.inner.Least.{IsLeast};
-ghost use Rattle.av_check.specs.inner.Having.{IsInside};
+ghost use Rattle.av_check.specs.inner.Coverage.{IsInside};
 
 use crate::opposed::are_contrary;
 use av_base::{Memory, Point};

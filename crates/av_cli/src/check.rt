@@ -4,7 +4,7 @@ ghost use Rattle.std.specs.Prelude.{◌≤◌, length};
 ghost use Rattle.av_cli.specs.Checks.{RefusesWith, GivesWith};
 ghost use Rattle.av_cli.specs.Written.{IsAnswered};
 
-use crate::put::{put, put_system_refusal};
+use crate::put::{put, put_alpha_refusal};
 use crate::sizes::sizes;
 use crate::status::Status;
 use av_base::{Memory, Name, Sink, Width};
@@ -29,7 +29,7 @@ pub(crate) fn check<K: Sink>(
         Ok(sizes) => sizes,
     };
     match checked(alloc, bytes, sizes.as_slice(), width) {
-        Err(refusal) => put_system_refusal(sink, &refusal),
+        Err(refusal) => put_alpha_refusal(sink, &refusal),
         Ok(_) => put(sink, OK, Status::Done),
     }
 }

@@ -4,7 +4,7 @@ ghost use Rattle.std.specs.Prelude.{◌≤◌, length};
 ghost use Rattle.av_cli.specs.Emits.{RefusesEmitWith, GivesEmitWith};
 ghost use Rattle.av_cli.specs.Written.{IsAnswered};
 
-use crate::put::{put_design, put_system_refusal};
+use crate::put::{put_alpha_refusal, put_design};
 use crate::sizes::sizes;
 use crate::status::Status;
 use av_base::{Memory, Name, Sink, Width};
@@ -29,7 +29,7 @@ pub(crate) fn emit<K: Sink>(
         Ok(sizes) => sizes,
     };
     match compile(alloc, bytes, sizes.as_slice(), width, reach) {
-        Err(refusal) => put_system_refusal(sink, &refusal),
+        Err(refusal) => put_alpha_refusal(sink, &refusal),
         Ok(compiled) => put_design(sink, &compiled.design),
     }
 }

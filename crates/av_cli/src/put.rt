@@ -67,7 +67,7 @@ pub(crate) fn put_table<K: Sink>(sink: &mut K, array: &Array) -> Status
 }
 
 /// Adds the line of the refusal of a design text. Out of memory has no line: the status tells it.
-pub(crate) fn put_text_refusal<K: Sink>(sink: &mut K, fault: &VFault) -> Status
+pub(crate) fn put_verilog_refusal<K: Sink>(sink: &mut K, fault: &VFault) -> Status
     ensures memory { fault.now ≡ text_fault.Memory → (result ≡ Status.Memory) × (K.held sink.new ≡ K.held sink.old) }
     ensures refused { (fault.now ≡ text_fault.Memory → ⊥) → IsPut (K.held sink.old) (K.held sink.new) (K.faults sink.old) (K.faults sink.new) (refusal_line (text_reason fault.now)) Status.Refused result }
 {
@@ -95,7 +95,7 @@ pub(crate) fn put_data_refusal<K: Sink>(sink: &mut K, fault: &DataFault) -> Stat
 }
 
 /// Adds the line of the refusal of an Alpha text. Out of memory has no line: the status tells it.
-pub(crate) fn put_system_refusal<K: Sink>(sink: &mut K, refusal: &Refusal) -> Status
+pub(crate) fn put_alpha_refusal<K: Sink>(sink: &mut K, refusal: &Refusal) -> Status
     ensures memory { refusal.now ≡ system_refusal.Memory → (result ≡ Status.Memory) × (K.held sink.new ≡ K.held sink.old) }
     ensures refused { (refusal.now ≡ system_refusal.Memory → ⊥) → IsPut (K.held sink.old) (K.held sink.new) (K.faults sink.old) (K.faults sink.new) (refusal_line (system_reason refusal.now)) Status.Refused result }
 {

@@ -15,7 +15,7 @@ ghost use Rattle.av_cli.specs.inner.Tellings.{IsTold};
 ghost use Rattle.av_cli.specs.inner.Watching.{bits_of};
 ghost use Rattle.av_cli.specs.declared.runs.Report.TheVariants as report;
 
-use crate::put::{put, put_data_refusal, put_system_refusal};
+use crate::put::{put, put_alpha_refusal, put_data_refusal};
 use crate::shown::{feed, shown};
 use crate::simulation::{Prepared, make_ready, run};
 use crate::sizes::sizes;
@@ -60,7 +60,7 @@ pub(crate) fn answer_run<K: Sink>(
         return put(sink, NO_MARK, Status::Refused);
     };
     match compile(alloc, parts.text, sizes.as_slice(), width, reach) {
-        Err(refusal) => put_system_refusal(sink, &refusal),
+        Err(refusal) => put_alpha_refusal(sink, &refusal),
         Ok(compiled) => { report_on(alloc, &compiled, parts.rest, parts.first_line, report, sink) }
     }
 }

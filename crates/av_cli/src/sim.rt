@@ -7,7 +7,7 @@ ghost use Rattle.av_cli.specs.Clocking.{AreLeft};
 ghost use Rattle.av_cli.specs.Sims.{RefusesSim, GivesSim, RefusesStimulus, GivesRun};
 ghost use Rattle.av_cli.specs.Written.{IsAnswered, IsClocked};
 
-use crate::put::{put, put_data_refusal, put_text_refusal};
+use crate::put::{put, put_data_refusal, put_verilog_refusal};
 use crate::simulation::{make_ready, run};
 use crate::status::Status;
 use av_base::{Memory, Sink};
@@ -60,7 +60,7 @@ pub(crate) fn sim<K: Sink>(alloc: Global, bytes: &[u8], sink: &mut K) -> Status
         return put(sink, NO_MARK, Status::Refused);
     };
     match read_design(alloc, parts.text) {
-        Err(fault) => put_text_refusal(sink, &fault),
+        Err(fault) => put_verilog_refusal(sink, &fault),
         Ok(design) => sim_module(alloc, &design.module, parts.rest, parts.first_line, sink),
     }
 }

@@ -4,7 +4,7 @@ ghost use Rattle.std.specs.Prelude.{◌≤◌, length};
 ghost use Rattle.av_cli.specs.Tables.{RefusesTableWith, GivesTableWith};
 ghost use Rattle.av_cli.specs.Written.{IsAnswered};
 
-use crate::put::{put_system_refusal, put_table};
+use crate::put::{put_alpha_refusal, put_table};
 use crate::sizes::sizes;
 use crate::status::Status;
 use av_base::{Memory, Name, Sink, Width};
@@ -29,7 +29,7 @@ pub(crate) fn table<K: Sink>(
         Ok(sizes) => sizes,
     };
     match mapped(alloc, bytes, sizes.as_slice(), width, reach) {
-        Err(refusal) => put_system_refusal(sink, &refusal),
+        Err(refusal) => put_alpha_refusal(sink, &refusal),
         Ok(array) => put_table(sink, &array),
     }
 }

@@ -10,7 +10,7 @@ use Rattle.av_flat.proofs.Cycles.{node_at}
 use Rattle.av_flat.specs.Trees.{FlatSystem, view_variable, view_system}
 use Rattle.av_flat.specs.Nodes.{is_node, nodes}
 use Rattle.av_space.specs.Coordinates.{Placing}
-use Rattle.av_space.specs.Standing.{IsUsed, AreCells}
+use Rattle.av_space.specs.Occupancy.{IsUsed, AreCells}
 use Rattle.av_flat.specs.Trees.{Variable}
 use Rattle.av_space.specs.declared.cells.Cell.{Cell}
 use Rattle.av_data.specs.Tables.{name_of, named_cell_line, cell_line, cell_lines}

@@ -1,5 +1,5 @@
 pub mod Adding
-pub mod Clipped
+pub mod Clamped
 pub mod Generating
 pub mod Reaching
 pub mod Listing

@@ -7,7 +7,7 @@ ghost use Rattle.av_poly.specs.Normal.{AreNormalised};
 ghost use Rattle.av_poly.specs.Points.{Has};
 ghost use Rattle.av_poly.specs.Search.{IsBetween};
 ghost use Rattle.av_depend.specs.Extents.{IsOrdinary, IsInside};
-ghost use Rattle.av_depend.specs.inner.Clipped.{clip};
+ghost use Rattle.av_depend.specs.inner.Clamped.{clamp};
 
 use av_base::Memory;
 use av_base::limits::MOST_COORDINATE;
@@ -31,14 +31,14 @@ const MOST: i128 = MOST_COORDINATE as i128;
 
 // The nearest number of at most 4,095 in absolute value.
 fn nearest(number: i128) -> i128
-    ensures { result ≡ clip number }
+    ensures { result ≡ clamp number }
 {
     number.min(MOST).max(-MOST)
 }
 
 // The nearest of each of the numbers.
 fn nearest_of(numbers: [i128; 4]) -> [i128; 4]
-    ensures { result ≡ map clip numbers }
+    ensures { result ≡ map clamp numbers }
 {
     let a = nearest(numbers[0]);
     let b = nearest(numbers[1]);

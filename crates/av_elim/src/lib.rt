@@ -1,14 +1,14 @@
 //! The rational bounds of each index of a polyhedron, by Fourier-Motzkin elimination.
 #![tactic(auto)]
 
-mod answer;
+mod bounds;
 mod eliminate;
-mod law;
+mod laws;
 mod merge;
 mod shadow;
 mod span;
 #[cfg(test)]
 mod tests;
 
-pub use answer::{Elim, bounds};
-pub use law::{one_answer, rays};
+pub use bounds::{Elim, bounds};
+pub use laws::{one_answer, rays};

@@ -4,14 +4,14 @@
 #![tactic(auto)]
 
 mod design;
-mod law;
+mod laws;
 mod netlist;
 mod operation;
 mod spelling;
 mod token_kind;
 
 pub use design::{Design, Entry, Listing};
-pub use law::{presented, runs, settled_once};
+pub use laws::{presented, runs, settled_once};
 pub use netlist::{Drive, Module, Port, Step};
 pub use operation::{Operand, Operation, Symbol};
 pub use spelling::{begins_name, is_keyword};

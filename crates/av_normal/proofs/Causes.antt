@@ -14,8 +14,8 @@ use Rattle.av_normal.specs.declared.fault.NormalFault.{NormalFault}
 use Rattle.av_normal.specs.declared.fault.NormalFault.TheVariants as fault
 use Rattle.av_normal.specs.NormalFaults.{HasFewPieces, HasNarrowSets, HasEnds, IsFault}
 use Rattle.av_normal.specs.inner.Counted.{HasFew, IsOfMany}
-use Rattle.av_normal.specs.inner.Spread.{IsWideIn}
-use Rattle.av_normal.specs.Alongside.{Alongside, IsFirstOf}
+use Rattle.av_normal.specs.inner.AllPieces.{IsWideIn}
+use Rattle.av_normal.specs.Pairwise.{Pairwise, IsFirstOf}
 use Rattle.av_normal.specs.Domains.{HasNarrowDomain, IsDeclaredExtent, HasEnd, IsWithoutEnd, IsEndless, IsSmallExtent, IsLargeExtent}
 use Rattle.av_normal.proofs.Firsts.{IsMany, computed, first_with, no_first, along_first, along_all, along_each, never_first, first_of_many, none_of_many}
 use Rattle.av_normal.proofs.Limits.{IsWithin, none_first, all_spread_parts, few_rows}
@@ -77,7 +77,7 @@ endless_fault s few narrow fault.Memory h = tt
 abbrev Kept : Variable → Type 0
 Kept v = HasFewRows v.domain × IsBounded v.domain
 
-module _ (s : FlatSystem) (g : IsWellFormed s) (extents : List (Option Bounds)) (a : Alongside IsDeclaredExtent s.variables extents) where
+module _ (s : FlatSystem) (g : IsWellFormed s) (extents : List (Option Bounds)) (a : Pairwise IsDeclaredExtent s.variables extents) where
   abbrev IsOverAny : Variable → Type 0
   IsOverAny v = (k : Quantity) × (m : ℕ) × IsOverBox v.domain k m
 

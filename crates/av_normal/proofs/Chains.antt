@@ -7,7 +7,7 @@ use Rattle.av_affine.specs.Maps.{composition}
 use Rattle.av_flat.specs.Quantities.{of_map, steps}
 use Rattle.av_normal.specs.declared.fault.NormalFault.{NormalFault}
 use Rattle.av_normal.specs.Searches.{IsNarrow, IsWideOne, IsWide}
-use Rattle.av_normal.specs.inner.Standing.{LeadsTo, AreChained, IsUnder}
+use Rattle.av_normal.specs.inner.UnderMaps.{LeadsTo, AreChained, IsUnder}
 use Rattle.av_normal.proofs.Searching.{wide_here, wide_after}
 use Rattle.av_normal.proofs.Dropping.{next_item}
 

@@ -17,8 +17,8 @@ use Rattle.av_flat.specs.Quantities.{piece_count, piece_count_of_all}
 use Rattle.av_flat.proofs.Parts.{length_parts}
 use Rattle.av_flat.proofs.Views.{view_case}
 use Rattle.av_normal.specs.inner.Numbered.{part_at}
-use Rattle.av_normal.specs.inner.Standing.{IsReadable, AreReadable}
-use Rattle.av_normal.specs.inner.Chosen.{IsPartAt, AreShares, AreLeft}
+use Rattle.av_normal.specs.inner.UnderMaps.{IsReadable, AreReadable}
+use Rattle.av_normal.specs.inner.PieceByNumber.{IsPartAt, AreShares, AreLeft}
 use Rattle.av_normal.proofs.Dropping.{next_item}
 use Rattle.av_normal.proofs.Numbering.{at_first, at_second, at_map, at_pairs, at_fours, below}
 

@@ -9,7 +9,7 @@ use Rattle.av_flat.specs.Quantities.{of_set}
 use Rattle.av_normal.specs.declared.fault.NormalFault.{NormalFault}
 use Rattle.av_normal.specs.declared.fault.NormalFault.TheVariants as fault
 use Rattle.av_normal.specs.Searches.{IsNarrow, IsWideOne, IsWide}
-use Rattle.av_normal.specs.inner.Filling.{inner_of, IsFoldable}
+use Rattle.av_normal.specs.inner.ReductionSets.{inner_of, IsFoldable}
 use Rattle.av_normal.proofs.NormalisedBefore.{normalised_before}
 use Rattle.av_normal.proofs.Once.{narrow_within}
 use Rattle.av_normal.proofs.Searching.{wide_here}

@@ -13,7 +13,7 @@ use Rattle.av_flat.specs.Quantities.{of_set, body_sets}
 use Rattle.av_normal.specs.declared.fault.NormalFault.{NormalFault}
 use Rattle.av_normal.specs.Searches.{IsNarrow, AreNarrow, IsWide}
 use Rattle.av_normal.specs.NormalForm.{HasNormalSets}
-use Rattle.av_normal.specs.inner.Filling.{inner_of, IsFoldable}
+use Rattle.av_normal.specs.inner.ReductionSets.{inner_of, IsFoldable}
 use Rattle.av_normal.proofs.Searching.{narrow_append, wide_first, wide_second, wide_after}
 
 -- the sets of the bodies, with these rows of the holder

@@ -6,7 +6,7 @@ use Rattle.std.proofs.lemmas.List.Elements.{All-nil, All-cons}
 use Rattle.av_flat.specs.Trees.{Variable, right_side}
 use Rattle.av_flat.specs.Signatures.{is_computed}
 use Rattle.av_flat.specs.Quantities.{IsFirst, piece_count}
-use Rattle.av_normal.specs.Alongside.{Alongside, IsFirstOf}
+use Rattle.av_normal.specs.Pairwise.{Pairwise, IsFirstOf}
 use Rattle.av_normal.specs.inner.Counted.{IsOfFew, HasFew, IsFirstOfMany}
 
 -- Q holds of the first of which P holds
@@ -35,7 +35,7 @@ no_first P xs h x f = item_of (λ y. P y → ⊥) f.before x f.after (subst (λ 
 -- ---- two lists
 
 pub along_first : {X Y : Type 0} (R : X → Y → Type 0) (K H S : X → Type 0) (G Q : Y → Type 0) → ((x : X) (y : Y) → K x → R x y → G y → H x) → ((x : X) (y : Y) → K x → R x y → Q y → S x)
-    → (xs : List X) (ys : List Y) → AllByRecursion K xs → Alongside R xs ys → IsFirstOf G Q ys → IsFirstOf H S xs
+    → (xs : List X) (ys : List Y) → AllByRecursion K xs → Pairwise R xs ys → IsFirstOf G Q ys → IsFirstOf H S xs
 along_first R K H S G Q f g [] [] k a h = absurd h
 along_first R K H S G Q f g [] (y ∷ ys) k a h = absurd a
 along_first R K H S G Q f g (x ∷ xs) [] k a h = absurd a
@@ -43,14 +43,14 @@ along_first R K H S G Q f g (x ∷ xs) (y ∷ ys) k a (inl q) = inl (g x y k.0 a
 along_first R K H S G Q f g (x ∷ xs) (y ∷ ys) k a (inr h) = inr (f x y k.0 a.0 h.0, along_first R K H S G Q f g xs ys k.1 a.1 h.1)
 
 pub along_all : {X Y : Type 0} (R : X → Y → Type 0) (K H : X → Type 0) (G : Y → Type 0) → ((x : X) (y : Y) → K x → R x y → G y → H x)
-    → (xs : List X) (ys : List Y) → AllByRecursion K xs → Alongside R xs ys → AllByRecursion G ys → AllByRecursion H xs
+    → (xs : List X) (ys : List Y) → AllByRecursion K xs → Pairwise R xs ys → AllByRecursion G ys → AllByRecursion H xs
 along_all R K H G f [] [] k a h = tt
 along_all R K H G f [] (y ∷ ys) k a h = absurd a
 along_all R K H G f (x ∷ xs) [] k a h = absurd a
 along_all R K H G f (x ∷ xs) (y ∷ ys) k a h = (f x y k.0 a.0 h.0, along_all R K H G f xs ys k.1 a.1 h.1)
 
 -- the second list says nothing more
-pub along_each : {X Y : Type 0} (R : X → Y → Type 0) (H : X → Type 0) → ((x : X) (y : Y) → R x y → H x) → (xs : List X) (ys : List Y) → Alongside R xs ys → AllByRecursion H xs
+pub along_each : {X Y : Type 0} (R : X → Y → Type 0) (H : X → Type 0) → ((x : X) (y : Y) → R x y → H x) → (xs : List X) (ys : List Y) → Pairwise R xs ys → AllByRecursion H xs
 along_each R H f [] [] a = tt
 along_each R H f [] (y ∷ ys) a = absurd a
 along_each R H f (x ∷ xs) [] a = absurd a
@@ -105,15 +105,15 @@ none_of_many (v ∷ vs) h = one_few v vs (is_computed v.kind) refl h.0 (none_of_
 
 -- ---- one item more
 
-pub one_along : {X Y : Type 0} (R : X → Y → Type 0) (x : X) (xs all : List X) (y : Y) (made : List Y) → ((rest : List Y) → Alongside R (x ∷ xs) rest → Alongside R all (made ++ rest)) → R x y
-    → (rest : List Y) → Alongside R xs rest → Alongside R all ((made ++ y ∷ []) ++ rest)
-one_along R x xs all y made f r rest h = subst (λ ys. Alongside R all ys) (sym (append_assoc made (y ∷ []) rest)) (f (y ∷ rest) (r, h))
+pub one_along : {X Y : Type 0} (R : X → Y → Type 0) (x : X) (xs all : List X) (y : Y) (made : List Y) → ((rest : List Y) → Pairwise R (x ∷ xs) rest → Pairwise R all (made ++ rest)) → R x y
+    → (rest : List Y) → Pairwise R xs rest → Pairwise R all ((made ++ y ∷ []) ++ rest)
+one_along R x xs all y made f r rest h = subst (λ ys. Pairwise R all ys) (sym (append_assoc made (y ∷ []) rest)) (f (y ∷ rest) (r, h))
 
-pub made_along : {X Y : Type 0} (R : X → Y → Type 0) (all : List X) (made : List Y) → ((rest : List Y) → Alongside R [] rest → Alongside R all (made ++ rest)) → Alongside R all made
-made_along R all made f = subst (λ ys. Alongside R all ys) (append-nil made) (f [] tt)
+pub made_along : {X Y : Type 0} (R : X → Y → Type 0) (all : List X) (made : List Y) → ((rest : List Y) → Pairwise R [] rest → Pairwise R all (made ++ rest)) → Pairwise R all made
+made_along R all made f = subst (λ ys. Pairwise R all ys) (append-nil made) (f [] tt)
 
 -- where one of the two has ended, the first has
-pub none_left : {X Y : Type 0} (R : X → Y → Type 0) (xs : List X) (ys : List Y) → Alongside R xs ys → (length xs ≡ 0) ⊎ (length ys ≡ 0) → xs ≡ []
+pub none_left : {X Y : Type 0} (R : X → Y → Type 0) (xs : List X) (ys : List Y) → Pairwise R xs ys → (length xs ≡ 0) ⊎ (length ys ≡ 0) → xs ≡ []
 none_left R [] ys a h = refl
 none_left R (x ∷ xs) [] a h = absurd a
 none_left R (x ∷ xs) (y ∷ ys) a h = ⊎_elim (λ e. absurd (omega (arith, e))) (λ e. absurd (omega (arith, e))) h

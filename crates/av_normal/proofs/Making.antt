@@ -9,7 +9,7 @@ use Rattle.av_flat.specs.Pieces.{Part, parts, parts_of_all, with_rows}
 use Rattle.av_flat.specs.Quantities.{piece_count}
 use Rattle.av_flat.proofs.Parts.{length_parts}
 use Rattle.av_normal.specs.inner.Numbered.{part_at}
-use Rattle.av_normal.specs.inner.Filling.{IsFillable}
+use Rattle.av_normal.specs.inner.ReductionSets.{IsFillable}
 use Rattle.av_normal.specs.inner.Making.{held, held_parts, IsMade, AreMade, AreAdded, IsHolder, Continues}
 use Rattle.av_normal.proofs.Dropping.{nothing_left}
 use Rattle.av_normal.proofs.Laid.{all_parts}

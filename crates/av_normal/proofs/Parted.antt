@@ -16,8 +16,8 @@ use Rattle.av_flat.specs.Pieces.{Part, rows_of, parts}
 use Rattle.av_flat.specs.Quantities.{of_map, steps_under, composed_maps, composed_maps_of_all}
 use Rattle.av_normal.specs.Searches.{AreNarrow}
 use Rattle.av_normal.specs.inner.Counted.{pieces_counted, IsOfFew, HasFew}
-use Rattle.av_normal.specs.inner.Standing.{LeadsTo, AreChained, StandsUnder, StandUnder, FitsUnder, IsReadable, AreReadable}
-use Rattle.av_normal.specs.inner.Filling.{IsFillable}
+use Rattle.av_normal.specs.inner.UnderMaps.{LeadsTo, AreChained, StandsUnder, StandUnder, FitsUnder, IsReadable, AreReadable}
+use Rattle.av_normal.specs.inner.ReductionSets.{IsFillable}
 use Rattle.av_normal.specs.inner.Making.{maps_measured, held_parts, IsParted}
 use Rattle.av_normal.proofs.Searching.{narrow_first, narrow_second}
 use Rattle.av_normal.proofs.Capped.{counted_right_side}

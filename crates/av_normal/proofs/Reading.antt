@@ -11,7 +11,7 @@ use Rattle.av_flat.specs.Signatures.{Signature, signature}
 use Rattle.av_flat.specs.WellFormed.{dimension_of}
 use Rattle.av_flat.specs.Pieces.{composed, rows_of}
 use Rattle.av_normal.specs.inner.Numbered.{signatures_of}
-use Rattle.av_normal.specs.inner.Standing.{composed_under, FitsUnder}
+use Rattle.av_normal.specs.inner.UnderMaps.{composed_under, FitsUnder}
 
 pub composed_results : (m : Map) (ds : List Map) → length (composed m ds).rows ≡ length m.rows
 composed_results m [] = refl

@@ -8,7 +8,7 @@ use Rattle.av_flat.specs.declared.tree.Tree.TheVariants as made
 use Rattle.av_flat.proofs.Views.{view_case}
 use Rattle.av_normal.specs.declared.fault.NormalFault.{NormalFault}
 use Rattle.av_normal.specs.Searches.{AreNarrow, IsWide}
-use Rattle.av_normal.specs.inner.Standing.{AreUnder, StandsUnder, StandUnder}
+use Rattle.av_normal.specs.inner.UnderMaps.{AreUnder, StandsUnder, StandUnder}
 use Rattle.av_normal.proofs.Searching.{narrow_append, wide_first, wide_second}
 use Rattle.av_normal.proofs.Dropping.{next_item}
 

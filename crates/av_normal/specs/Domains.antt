@@ -10,7 +10,7 @@ use Rattle.av_flat.specs.Sets.{IsUnbounded, box_size}
 use Rattle.av_flat.specs.Quantities.{of_set}
 use Rattle.av_normal.specs.declared.fault.NormalFault.{NormalFault}
 use Rattle.av_normal.specs.declared.fault.NormalFault.TheVariants as fault
-use Rattle.av_normal.specs.Alongside.{IsFirstOf}
+use Rattle.av_normal.specs.Pairwise.{IsFirstOf}
 use Rattle.av_normal.specs.Extents.{IsExtent, IsOverBounds}
 use Rattle.av_normal.specs.Searches.{IsNarrow}
 

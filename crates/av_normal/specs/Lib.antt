@@ -2,6 +2,6 @@ pub mod NormalForm
 pub mod NormalFaults
 pub mod Searches
 pub mod Extents
-pub mod Alongside
+pub mod Pairwise
 pub mod Domains
 pub mod inner

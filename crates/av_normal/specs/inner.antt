@@ -1,8 +1,8 @@
-pub mod Standing
+pub mod UnderMaps
 pub mod Numbered
-pub mod Chosen
-pub mod Filling
+pub mod PieceByNumber
+pub mod ReductionSets
 pub mod Counted
-pub mod Spread
+pub mod AllPieces
 pub mod Making
-pub mod Sifted
+pub mod NonemptyPieces

@@ -6,7 +6,7 @@ ghost use Rattle.av_affine.specs.Numbers.{AtMost, greatest};
 ghost use Rattle.av_affine.specs.Forms.{IsWithinLimits};
 ghost use Rattle.av_flat.specs.Trees.{view_variable};
 ghost use Rattle.av_flat.specs.Sets.{box_size};
-ghost use Rattle.av_normal.specs.Alongside.{Alongside, IsFirstOf};
+ghost use Rattle.av_normal.specs.Pairwise.{Pairwise, IsFirstOf};
 ghost use Rattle.av_normal.specs.Domains.{HasNarrowDomain, HasFourEntries, IsDeclaredExtent, IsEndless, IsEndlessOne, IsSmallExtent, IsLargeExtent};
 ghost use Rattle.av_normal.specs.Extents.{IsExtent, IsEndlessOf, IsOverBounds};
 
@@ -50,7 +50,7 @@ fn declared_extent(alloc: Global, var: &Var) -> Result<Option<Bounds>, NormalFau
 // The boxes of the declared domains.
 pub(crate) fn extents(alloc: Global, vars: &[Var]) -> Result<List<Option<Bounds>>, NormalFault>
     requires { AllByRecursion HasNarrowDomain (map view_variable vars.now) }
-    ensures found { IfOk result (Alongside IsDeclaredExtent (map view_variable vars.now)) }
+    ensures found { IfOk result (Pairwise IsDeclaredExtent (map view_variable vars.now)) }
     ensures endless { IfErr result (IsEndless (map view_variable vars.now)) }
 {
     let mut extents = List::new(alloc);

@@ -7,7 +7,7 @@ ghost use Rattle.av_flat.specs.Trees.{view};
 ghost use Rattle.av_flat.specs.Pieces.{composed};
 ghost use Rattle.av_flat.specs.Quantities.{of_map, steps, steps_under, composed_maps};
 ghost use Rattle.av_normal.specs.Searches.{IsNarrow, AreNarrow, IsWideOne, IsWide};
-ghost use Rattle.av_normal.specs.inner.Standing.{composed_under, AreChained, StandsUnder};
+ghost use Rattle.av_normal.specs.inner.UnderMaps.{composed_under, AreChained, StandsUnder};
 
 use crate::NormalFault;
 use av_affine::{Map, Over};

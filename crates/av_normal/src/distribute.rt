@@ -7,7 +7,7 @@ ghost use Rattle.av_poly.specs.Preimages.{rows_before};
 ghost use Rattle.av_flat.specs.Pieces.{composed, rows_under};
 ghost use Rattle.av_flat.specs.Quantities.{of_map, steps};
 ghost use Rattle.av_normal.specs.Searches.{AreNarrow};
-ghost use Rattle.av_normal.specs.inner.Standing.{AreChained, IsRestricting};
+ghost use Rattle.av_normal.specs.inner.UnderMaps.{AreChained, IsRestricting};
 
 use crate::compose::{outwards, together};
 use crate::rows::append;

@@ -9,7 +9,7 @@ ghost use Rattle.av_flat.specs.Pieces.{filled};
 ghost use Rattle.av_flat.specs.Quantities.{of_set, body_sets};
 ghost use Rattle.av_normal.specs.NormalForm.{HasNormalSets};
 ghost use Rattle.av_normal.specs.Searches.{IsNarrow, AreNarrow, IsWide};
-ghost use Rattle.av_normal.specs.inner.Filling.{inner_of, IsFoldable, IsFillable};
+ghost use Rattle.av_normal.specs.inner.ReductionSets.{inner_of, IsFoldable, IsFillable};
 
 use crate::NormalFault;
 use crate::measure::narrowed;

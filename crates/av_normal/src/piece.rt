@@ -9,8 +9,8 @@ ghost use Rattle.av_flat.specs.WellFormed.{dimension_of};
 ghost use Rattle.av_flat.specs.Pieces.{parts, rows_of};
 ghost use Rattle.av_flat.specs.Quantities.{piece_count};
 ghost use Rattle.av_normal.specs.inner.Numbered.{part_at, signatures_of};
-ghost use Rattle.av_normal.specs.inner.Standing.{IsReadable};
-ghost use Rattle.av_normal.specs.inner.Chosen.{IsPartAt, AreFourNumbers};
+ghost use Rattle.av_normal.specs.inner.UnderMaps.{IsReadable};
+ghost use Rattle.av_normal.specs.inner.PieceByNumber.{IsPartAt, AreFourNumbers};
 
 use crate::compose::within;
 use crate::count::piece_count;

@@ -4,8 +4,8 @@ ghost use Rattle.std.specs.Prelude.{◌≡◌, IfOk, map};
 ghost use Rattle.std.specs.List.{AllByRecursion};
 ghost use Rattle.av_affine.specs.Numbers.{AtMost};
 ghost use Rattle.av_flat.specs.Trees.{view_piece, view_variable};
-ghost use Rattle.av_normal.specs.Alongside.{Alongside};
-ghost use Rattle.av_normal.specs.inner.Sifted.{AreSifted, IsSifted, IsInside, IsHeld};
+ghost use Rattle.av_normal.specs.Pairwise.{Pairwise};
+ghost use Rattle.av_normal.specs.inner.NonemptyPieces.{AreNonemptyPieces, HasNonemptyPieces, IsInside, IsHeld};
 
 use crate::keep::has_point;
 use av_base::{List, Memory, Name};
@@ -26,7 +26,7 @@ fn pieces_within(alloc: Global, pieces: &[Piece], within: &Bounds) -> Result<Lis
     requires low { AtMost 4095 within.now.low }
     requires high { AtMost 4095 within.now.high }
     requires inside { AllByRecursion (IsInside within.now) (map view_piece pieces.now) }
-    ensures { IfOk result (λ made. AreSifted (map view_piece pieces.now) (map view_piece made)) }
+    ensures { IfOk result (λ made. AreNonemptyPieces (map view_piece pieces.now) (map view_piece made)) }
 {
     let mut kept = List::new(alloc);
     for piece in pieces {
@@ -40,7 +40,7 @@ fn pieces_within(alloc: Global, pieces: &[Piece], within: &Bounds) -> Result<Lis
 // The pieces of a variable that have a point; where its domain has no box, none has one.
 fn kept_pieces(alloc: Global, var: &Var, extent: &Option<Bounds>) -> Result<List<Piece>, Memory>
     requires { IsHeld (view_variable var.now) extent.now }
-    ensures { IfOk result (λ made. AreSifted (view_variable var.now).pieces (map view_piece made)) }
+    ensures { IfOk result (λ made. AreNonemptyPieces (view_variable var.now).pieces (map view_piece made)) }
 {
     match extent {
         Some(within) => pieces_within(alloc, var.pieces.as_slice(), within),
@@ -51,7 +51,7 @@ fn kept_pieces(alloc: Global, var: &Var, extent: &Option<Bounds>) -> Result<List
 // A variable with its kept pieces.
 fn kept_variable(alloc: Global, var: &Var, extent: &Option<Bounds>) -> Result<Var, Memory>
     requires { IsHeld (view_variable var.now) extent.now }
-    ensures { IfOk result (λ made. IsSifted (view_variable var.now) (view_variable made)) }
+    ensures { IfOk result (λ made. HasNonemptyPieces (view_variable var.now) (view_variable made)) }
 {
     let name = Name::new(alloc, var.name.as_str())?;
     let domain = copy_set(alloc, &var.domain)?;
@@ -71,8 +71,8 @@ pub(crate) fn kept_variables(
     vars: &[Var],
     extents: &[Option<Bounds>],
 ) -> Result<List<Var>, Memory>
-    requires { Alongside IsHeld (map view_variable vars.now) extents.now }
-    ensures { IfOk result (λ made. Alongside IsSifted (map view_variable vars.now) (map view_variable made)) }
+    requires { Pairwise IsHeld (map view_variable vars.now) extents.now }
+    ensures { IfOk result (λ made. Pairwise HasNonemptyPieces (map view_variable vars.now) (map view_variable made)) }
 {
     let mut kept = List::new(alloc);
     for (var, extent) in vars.iter().zip(extents) {

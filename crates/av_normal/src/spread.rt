@@ -12,9 +12,9 @@ ghost use Rattle.av_normal.specs.NormalForm.{set_of};
 ghost use Rattle.av_normal.specs.NormalFaults.{HasNarrowSets};
 ghost use Rattle.av_normal.specs.inner.Numbered.{part_at, signatures_of};
 ghost use Rattle.av_normal.specs.Searches.{IsNarrow, AreNarrow, IsWide};
-ghost use Rattle.av_normal.specs.inner.Standing.{IsReadable, StandsUnder};
+ghost use Rattle.av_normal.specs.inner.UnderMaps.{IsReadable, StandsUnder};
 ghost use Rattle.av_normal.specs.inner.Making.{maps_measured, parts_measured, bodies_measured, held, held_parts, filled_part, IsMade, AreMade, AreAdded, IsParted, IsHolder};
-ghost use Rattle.av_normal.specs.inner.Spread.{IsSpreadPart, AreSpreadParts, IsSpread, AreSpread, IsWideIn};
+ghost use Rattle.av_normal.specs.inner.AllPieces.{IsPieceOfPart, ArePiecesOfParts, HasAllPieces, HaveAllPieces, IsWideIn};
 
 use crate::NormalFault;
 use crate::compose::maps_fit;
@@ -119,7 +119,7 @@ fn pieces_made(
 // A piece with its rows in the sets of its reductions.
 fn filled_piece(alloc: Global, piece: &Piece) -> Result<Piece, NormalFault>
     requires { IsHolder (view_piece piece.now) }
-    ensures spread { IfOk result (λ q. (dim : ℕ) (p : Part) → IsMade dim p (view_piece piece.now) → IsSpreadPart dim (filled_part p) (view_piece q)) }
+    ensures spread { IfOk result (λ q. (dim : ℕ) (p : Part) → IsMade dim p (view_piece piece.now) → IsPieceOfPart dim (filled_part p) (view_piece q)) }
     ensures narrow { OnOk result ((dim : ℕ) (p : Part) → IsMade dim p (view_piece piece.now) → AreNarrow (map of_set (body_sets (filled p.rows p.tree)))) }
     ensures wide { IfErr result (λ fault. (dim : ℕ) (p : Part) → IsMade dim p (view_piece piece.now) → IsWide (map of_set (body_sets (filled p.rows p.tree))) fault) }
 {
@@ -131,7 +131,7 @@ fn filled_piece(alloc: Global, piece: &Piece) -> Result<Piece, NormalFault>
 // The pieces with their rows in the sets of their reductions.
 fn trees_filled(alloc: Global, pieces: &[Piece]) -> Result<List<Piece>, NormalFault>
     requires { All IsHolder (map view_piece pieces.now) }
-    ensures spread { IfOk result (λ spread. (dim : ℕ) (ps : Items Part) → AreMade dim ps (map view_piece pieces.now) → AreSpreadParts dim (map filled_part ps) (map view_piece spread)) }
+    ensures spread { IfOk result (λ spread. (dim : ℕ) (ps : Items Part) → AreMade dim ps (map view_piece pieces.now) → ArePiecesOfParts dim (map filled_part ps) (map view_piece spread)) }
     ensures narrow { OnOk result ((dim : ℕ) (ps : Items Part) → AreMade dim ps (map view_piece pieces.now) → AreNarrow (bodies_measured ps)) }
     ensures wide { IfErr result (λ fault. (dim : ℕ) (ps : Items Part) → AreMade dim ps (map view_piece pieces.now) → IsWide (bodies_measured ps) fault) }
 {
@@ -166,7 +166,7 @@ fn spread_variable(alloc: Global, flat: &Flat, var: &Var) -> Result<Var, NormalF
     requires system { IsWellFormed (view_system flat.now) }
     requires variable { IsWellFormedVariable (view_system flat.now) (view_variable var.now) }
     requires few { IsOfFew (view_variable var.now) }
-    ensures spread { IfOk result (λ to. IsSpread (signatures (view_system flat.now)) (view_variable var.now) (view_variable to)) }
+    ensures spread { IfOk result (λ to. HasAllPieces (signatures (view_system flat.now)) (view_variable var.now) (view_variable to)) }
     ensures narrow { OnOk result (AreNarrow (measured (signatures (view_system flat.now)) (view_variable var.now))) }
     ensures wide { IfErr result (IsWide (measured (signatures (view_system flat.now)) (view_variable var.now))) }
 {
@@ -182,7 +182,7 @@ fn spread_variable(alloc: Global, flat: &Flat, var: &Var) -> Result<Var, NormalF
 pub(crate) fn spread(alloc: Global, flat: &Flat) -> Result<List<Var>, NormalFault>
     requires well_formed { IsWellFormed (view_system flat.now) }
     requires few { HasFew (view_system flat.now).variables }
-    ensures spread { IfOk result (λ made. AreSpread (signatures (view_system flat.now)) (view_system flat.now).variables (map view_variable made)) }
+    ensures spread { IfOk result (λ made. HaveAllPieces (signatures (view_system flat.now)) (view_system flat.now).variables (map view_variable made)) }
     ensures narrow { OnOk result (HasNarrowSets (view_system flat.now)) }
     ensures wide { IfErr result (IsWideIn (view_system flat.now)) }
 {

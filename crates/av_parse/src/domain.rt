@@ -7,8 +7,8 @@ ghost use Rattle.av_parse.specs.Reader.{Gives, with_front};
 ghost use Rattle.av_parse.specs.IndexReader.{list_of, side_of, relation_at, relation_of, is_there, chain_of, constraint_of, constraints_of, bar_of, conditions_of, domain_rest_of, domain_of};
 
 use crate::copy;
+use crate::cursor::Cursor;
 use crate::fault::Stop;
-use crate::parser::Parser;
 use av_base::{List, Memory, Place};
 use av_tree::{Constraint, DomainText, IndexExpr, Relation};
 use std::alloc::Global;
@@ -52,7 +52,7 @@ fn compare(
     Ok(())
 }
 
-impl<'t, 'a> Parser<'t, 'a> {
+impl<'t, 'a> Cursor<'t, 'a> {
     // `"(" index { "," index } ")"`.
     #[tactic(auto, unfolding(crate::specs::IndexReader::list_of))]
     fn list(&mut self) -> Result<List<IndexExpr>, Stop>

@@ -7,15 +7,15 @@ ghost use Rattle.av_tree.specs.Trees.{view, view_all};
 ghost use Rattle.av_parse.specs.Reader.{Gives, expect_symbol};
 ghost use Rattle.av_parse.specs.ExpressionReader.{readers, parenthesis_of, extreme_of, branches_of, cases_of, reduction_of, primary_of, postfix_of, unary_of, product_of, sum_of, choice_of, restriction_of, expr_of, begins_unary, begins_expr, begins_domain_rest};
 
+use crate::cursor::Cursor;
 use crate::fault::Stop;
-use crate::parser::Parser;
 use crate::postfix::{joined, negated};
 use crate::text::value_of;
 use av_base::{List, Place, TokenKind};
 use av_lex::Token;
 use av_tree::{DomainText, Expr, Sign};
 
-impl<'t, 'a> Parser<'t, 'a> {
+impl<'t, 'a> Cursor<'t, 'a> {
     fn begins_unary(&self) -> bool
         ensures { result ≡ begins_unary (views self.now.rest.now) }
     {

@@ -5,8 +5,8 @@ ghost use Rattle.av_lex.specs.Lexing.{views};
 ghost use Rattle.av_parse.specs.Reader.{Gives, with_front};
 ghost use Rattle.av_parse.specs.IndexReader.{sign_of, term_sign_at, names_of, optional_names_of, number_term_of, name_term_of, term_of, terms_of, signed_index_of, index_of, indices_of, begins_index, optional_indices_of, map_of};
 
+use crate::cursor::Cursor;
 use crate::fault::Stop;
-use crate::parser::Parser;
 use crate::text::{name_of, names_of, value_of};
 use av_base::{List, Name, Place, TokenKind};
 use av_lex::Token;
@@ -23,7 +23,7 @@ fn signed(negative: bool, value: u64) -> i128
     }
 }
 
-impl<'t, 'a> Parser<'t, 'a> {
+impl<'t, 'a> Cursor<'t, 'a> {
     /// `name { "," name }`, as the tokens of the names.
     pub(crate) fn names(&mut self) -> Result<List<Token<'a>>, Stop>
         ensures { Gives (λ xs. (views xs, views self.new.rest.now)) result (names_of (length (views self.old.rest.now)) (views self.old.rest.now)) }

@@ -2,20 +2,20 @@
 #![tactic(auto)]
 
 mod copy;
+mod cursor;
 mod domain;
 mod expression;
 mod fault;
 mod index;
 mod laws;
-mod parser;
+mod parse;
 mod postfix;
 mod program;
 mod text;
-mod whole;
 
 pub use fault::ParseFault;
 pub use laws::{beginnings, one_program, program_or_fault};
-pub use whole::parse;
+pub use parse::parse;
 
 #[cfg(test)]
 mod tests;

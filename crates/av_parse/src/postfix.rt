@@ -8,8 +8,8 @@ ghost use Rattle.av_parse.specs.Reader.{Gives};
 ghost use Rattle.av_parse.specs.IndexReader.{relation_by};
 ghost use Rattle.av_parse.specs.ExpressionReader.{readers, brackets_of, indexed_of, postfix_tail_of, named_of, numbered_of, op_at, op_of, sign_at, compare_at, minus_of};
 
+use crate::cursor::Cursor;
 use crate::fault::Stop;
-use crate::parser::Parser;
 use crate::text::name_of;
 use av_base::{List, Memory, Op, Place};
 use av_tree::{Access, Expr, MapText, Relation, Sign};
@@ -57,7 +57,7 @@ fn mapped(alloc: Global, map: MapText, body: Expr) -> Result<Expr, Memory>
     })
 }
 
-impl<'t, 'a> Parser<'t, 'a> {
+impl<'t, 'a> Cursor<'t, 'a> {
     /// The sign of a sum that stands next.
     pub(crate) fn sign(&self) -> Option<Sign>
         ensures { result ≡ sign_at (views self.now.rest.now) }

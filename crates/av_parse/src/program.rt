@@ -9,8 +9,8 @@ ghost use Rattle.av_parse.specs.ProgramReader.{declaration_of, declarations_of, 
 ghost use Rattle.av_parse.specs.Views.{view_header};
 
 use crate::copy;
+use crate::cursor::Cursor;
 use crate::fault::Stop;
-use crate::parser::Parser;
 use crate::text::name_of;
 use av_base::{List, Memory, Name, Place, TokenKind};
 use av_lex::Token;
@@ -45,7 +45,7 @@ fn declare(
     Ok(())
 }
 
-impl<'t, 'a> Parser<'t, 'a> {
+impl<'t, 'a> Cursor<'t, 'a> {
     // `names ":" domain "of" "integer"`, put behind these declarations.
     #[tactic(auto, using(crate::proofs::Lists::stops_then), unfolding(crate::specs::ProgramReader::declaration_of))]
     fn declaration(&mut self, found: &mut List<Declaration>) -> Result<(), Stop>

@@ -10,7 +10,7 @@ use Rattle.av_sched.specs.Offsets.{part}
 use Rattle.av_sched.specs.First.{IsFirstChoice}
 use Rattle.av_sched.specs.Order.{cost, IsLess}
 use Rattle.av_sched.specs.inner.Walk.{HasWalked, IsLike}
-use Rattle.av_sched.specs.inner.Chosen.{HasNone, IsBestChoice, AreFirstChoices, IsStuck}
+use Rattle.av_sched.specs.inner.FirstChoices.{HasNone, IsBestChoice, AreFirstChoices, IsStuck}
 use Rattle.av_sched.proofs.Tries.{SameIn, same_cost, same_feasible, first_of_all, none_of_all}
 use Rattle.std.proofs.lemmas.Option.{slice_get-get_or}
 use Rattle.av_sched.proofs.Leading.{same_default}

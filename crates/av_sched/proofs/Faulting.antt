@@ -18,7 +18,7 @@ use Rattle.av_sched.specs.Offsets.{AreLeastOffsets}
 use Rattle.av_sched.specs.Choices.{AreLinearParts, HasSchedule, candidates}
 use Rattle.av_sched.specs.First.{IsFirstChoice, IsFirstSchedule}
 use Rattle.av_sched.specs.SchedFaults.{HasManyCandidates, HasNoSchedule, IsFault}
-use Rattle.av_sched.specs.inner.Chosen.{AreFirstChoices, IsStuck}
+use Rattle.av_sched.specs.inner.FirstChoices.{AreFirstChoices, IsStuck}
 use Rattle.av_sched.proofs.Shifted.{feasible_of_schedule, schedule_of_feasible}
 
 -- linear parts that are first choices for all components, with least offsets

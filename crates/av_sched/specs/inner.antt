@@ -3,5 +3,5 @@ pub mod Leads
 pub mod Starts
 pub mod Vectors
 pub mod Walk
-pub mod Chosen
+pub mod FirstChoices
 pub mod Prices

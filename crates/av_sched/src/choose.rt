@@ -11,7 +11,7 @@ ghost use Rattle.av_depend.specs.Components.{ReadsNode, AreComponents};
 ghost use Rattle.av_sched.specs.Choices.{AreLinearParts, IsFeasible};
 ghost use Rattle.av_sched.specs.inner.Walk.{AreAllParts};
 ghost use Rattle.av_sched.specs.inner.Prices.{ArePricesTo, AreFloorsTo};
-ghost use Rattle.av_sched.specs.inner.Chosen.{IsBestChoice, IsChosen, HasNone};
+ghost use Rattle.av_sched.specs.inner.FirstChoices.{IsBestChoice, IsChosen, HasNone};
 
 use crate::cost::{floors_of, prices_of};
 use crate::node::lists_of;

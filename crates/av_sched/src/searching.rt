@@ -8,7 +8,7 @@ ghost use Rattle.av_sched.specs.First.{IsFirstSchedule};
 ghost use Rattle.av_flat.specs.Nodes.{nodes};
 ghost use Rattle.av_depend.specs.Components.{ReadsNode, AreComponents};
 ghost use Rattle.av_sched.specs.Choices.{AreLinearParts, candidates};
-ghost use Rattle.av_sched.specs.inner.Chosen.{IsStuck, AreFirstChoices};
+ghost use Rattle.av_sched.specs.inner.FirstChoices.{IsStuck, AreFirstChoices};
 ghost use Rattle.av_sched.specs.SchedFaults.{IsFault, HasManyCandidates, HasNoSchedule};
 ghost use Rattle.av_sched.specs.declared.fault.SchedFault.{SchedFault as FaultSeen};
 ghost use Rattle.av_sched.specs.declared.fault.SchedFault.TheVariants as fault;

@@ -14,7 +14,7 @@ use Rattle.av_serial.specs.SerialForm.{IsSerialForm}
 use Rattle.av_serial.specs.SerialFaults.{IsCauseOf, HasCause, reductions_of, IsRefused, HaveNodes, HasNodesIn, IsFault, IsGiven}
 use Rattle.av_serial.specs.inner.Tries.{IsClean, IsFaultOfFirst, CanTry, CanTryPieces, CanTryAll}
 use Rattle.av_serial.specs.inner.Counted.{IsCapped}
-use Rattle.av_serial.specs.inner.Ready.{AreReady}
+use Rattle.av_serial.specs.inner.Premises.{VariablesHavePremises}
 use Rattle.av_serial.specs.inner.Building.{AreWhole}
 use Rattle.av_serial.proofs.Capped.{above}
 use Rattle.av_serial.proofs.Counting.{long_variables}
@@ -68,7 +68,7 @@ many_fault s n clean count many = inr (not_refused s clean, record { kind_is = r
 
 -- ---- the whole system
 
-pub ready : (s : FlatSystem) (n : ℕ) → IsKept s → AreClean (reductions_of s) → HaveNodes HasNodesIn s.variables n → n ≤ 16 → AreReady 0 s.variables
+pub ready : (s : FlatSystem) (n : ℕ) → IsKept s → AreClean (reductions_of s) → HaveNodes HasNodesIn s.variables n → n ≤ 16 → VariablesHavePremises 0 s.variables
 ready s n k clean nodes few = record { can = can_try_all s k; clean = clean; number = n; nodes = nodes; room = omega (arith, few) }
 
 pub all_given : (s t : FlatSystem) (n : ℕ) → 1 ≤ s.width → IsKept s → AreClean (reductions_of s) → HaveNodes HasNodesIn s.variables n → n ≤ 16 → t.width ≡ s.width → AreWhole s.width s.variables t.variables → IsGiven s t

@@ -7,7 +7,7 @@ use Rattle.av_poly.proofs.Normalising.{normal_set}
 use Rattle.av_base.specs.declared.word.Op.{Op}
 use Rattle.av_affine.specs.declared.map.Map.{Map}
 use Rattle.av_flat.specs.Trees.{Tree, reduction}
-use Rattle.av_normal.specs.Alongside.{IsFirstOf}
+use Rattle.av_normal.specs.Pairwise.{IsFirstOf}
 use Rattle.av_normal.proofs.Filled.{same_set}
 use Rattle.av_serial.specs.declared.fault.SerialFault.{SerialFault}
 use Rattle.av_serial.specs.declared.fault.SerialFault.TheVariants as fault

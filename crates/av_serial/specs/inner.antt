@@ -1,5 +1,5 @@
 pub mod Lowered
 pub mod Tries
 pub mod Counted
-pub mod Ready
+pub mod Premises
 pub mod Building

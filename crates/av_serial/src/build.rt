@@ -7,7 +7,7 @@ ghost use Rattle.av_poly.specs.Points.{Set};
 ghost use Rattle.av_flat.specs.WellFormed.{IsProjection};
 ghost use Rattle.av_flat.specs.Trees.{view, view_piece, view_variable, reduction};
 ghost use Rattle.av_serial.specs.inner.Tries.{IsTriable, IsClean, IsDomain, IsDomainOf};
-ghost use Rattle.av_serial.specs.inner.Ready.{IsReady, AreReadyPieces, AreReady};
+ghost use Rattle.av_serial.specs.inner.Premises.{HasPremises, PiecesHavePremises, VariablesHavePremises};
 ghost use Rattle.av_serial.specs.inner.Building.{AreMade, IsPlaced, ArePiecesMade, IsVariableMade, AreVariablesMade};
 
 use crate::SerialFault;
@@ -87,7 +87,7 @@ fn chained(
     tree: &Tree,
     chains: &mut List<Var>,
 ) -> Result<Tree, Memory>
-    requires ready { IsReady name.now (length chains.old) (view tree.now) }
+    requires ready { HasPremises name.now (length chains.old) (view tree.now) }
     requires base { equation.base ≤ 2 ^ 31 }
     requires first { equation.first ≤ equation.base + length chains.old }
     ensures { IfOk result (λ made.
@@ -138,7 +138,7 @@ fn boxed(
     tree: &Tree,
     chains: &mut List<Var>,
 ) -> Result<Box<Tree>, Memory>
-    requires ready { IsReady name.now (length chains.old) (view tree.now) }
+    requires ready { HasPremises name.now (length chains.old) (view tree.now) }
     requires base { equation.base ≤ 2 ^ 31 }
     requires first { equation.first ≤ equation.base + length chains.old }
     ensures { IfOk result (λ made.
@@ -160,7 +160,7 @@ fn reduced(
     body: &Tree,
     chains: &mut List<Var>,
 ) -> Result<Tree, Memory>
-    requires ready { IsReady name.now (length chains.old + 1) (view body.now) }
+    requires ready { HasPremises name.now (length chains.old + 1) (view body.now) }
     requires projection { IsProjection map.now }
     requires from { map.now.from ≤ 4 }
     requires dimension { domain.dim ≡ map.now.from }
@@ -184,7 +184,7 @@ fn pieces_chained(
     pieces: &[Piece],
     chains: &mut List<Var>,
 ) -> Result<List<Piece>, Memory>
-    requires ready { AreReadyPieces name.now (length chains.old) (map view_piece pieces.now) }
+    requires ready { PiecesHavePremises name.now (length chains.old) (map view_piece pieces.now) }
     requires base { equation.base ≤ 2 ^ 31 }
     requires first { equation.first ≤ equation.base + length chains.old }
     ensures { IfOk result (λ made. ArePiecesMade name.now equation.first equation.width.bits equation.base chains.old chains.new
@@ -206,7 +206,7 @@ fn variable_chained(
     var: &Var,
     chains: &mut List<Var>,
 ) -> Result<Var, Memory>
-    requires ready { AreReadyPieces var.now.name (length chains.old) (view_variable var.now).pieces }
+    requires ready { PiecesHavePremises var.now.name (length chains.old) (view_variable var.now).pieces }
     requires base { base ≤ 2 ^ 31 }
     ensures { IfOk result (λ made. IsVariableMade base chains.old chains.new (view_variable var.now) (view_variable made)) }
 {
@@ -235,7 +235,7 @@ pub(crate) fn variables_chained(
     vars: &[Var],
     chains: &mut List<Var>,
 ) -> Result<List<Var>, Memory>
-    requires ready { AreReady (length chains.old) (map view_variable vars.now) }
+    requires ready { VariablesHavePremises (length chains.old) (map view_variable vars.now) }
     requires base { base ≤ 2 ^ 31 }
     ensures { IfOk result (λ made. (width : ℕ) → AllByRecursion (λ v. v.width ≡ width) (map view_variable vars.now) →
         AreVariablesMade width base chains.old chains.new (map view_variable vars.now) (map view_variable made)) }

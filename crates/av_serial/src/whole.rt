@@ -3,7 +3,7 @@
 ghost use Rattle.std.specs.Prelude.{ℕ, ◌≡◌, ◌++◌, IfOk, OnOk, map};
 ghost use Rattle.std.specs.List.{AllByRecursion};
 ghost use Rattle.av_flat.specs.Trees.{view_variable};
-ghost use Rattle.av_serial.specs.inner.Ready.{AreReady};
+ghost use Rattle.av_serial.specs.inner.Premises.{VariablesHavePremises};
 ghost use Rattle.av_serial.specs.inner.Building.{AreWhole};
 
 use crate::build::variables_chained;
@@ -23,7 +23,7 @@ fn append_copies(alloc: Global, vars: &mut List<Var>, more: &[Var]) -> Result<()
 
 // The variables with their reductions replaced, and the chains.
 pub(crate) fn whole(alloc: Global, given: &List<Var>) -> Result<List<Var>, Memory>
-    requires { AreReady 0 (map view_variable given.now) }
+    requires { VariablesHavePremises 0 (map view_variable given.now) }
     ensures { IfOk result (λ made. (width : ℕ) → AllByRecursion (λ v. v.width ≡ width) (map view_variable given.now) →
         AreWhole width (map view_variable given.now) (map view_variable made)) }
 {

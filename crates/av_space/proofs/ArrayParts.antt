@@ -6,7 +6,7 @@ use Rattle.av_space.specs.declared.cells.Cell.{Cell}
 use Rattle.av_space.specs.declared.cells.Cells.{Cells}
 use Rattle.av_space.specs.declared.layout.Layout.{Layout}
 use Rattle.av_space.specs.Coordinates.{Placing}
-use Rattle.av_space.specs.Standing.{AreCells}
+use Rattle.av_space.specs.Occupancy.{AreCells}
 use Rattle.av_space.specs.Links.{AreLinks}
 use Rattle.av_space.specs.Ports.{ArePorts}
 use Rattle.av_space.specs.Whole.{IsWhole}

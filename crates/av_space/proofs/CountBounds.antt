@@ -20,7 +20,7 @@ use Rattle.av_flat.proofs.Solving.{all_at}
 use Rattle.av_space.specs.declared.cells.Cell.{Cell}
 use Rattle.av_space.specs.declared.layout.Layout.{Layout}
 use Rattle.av_space.specs.Coordinates.{Placing, along}
-use Rattle.av_space.specs.Standing.{Stands, Computes}
+use Rattle.av_space.specs.Occupancy.{Occupies, Computes}
 use Rattle.av_space.specs.Taps.{places_in, places_from}
 use Rattle.av_space.specs.Quantities.{size, Use, IsUse, IsOperatorCount}
 use Rattle.av_space.specs.Layouts.{IsLayout}
@@ -52,7 +52,7 @@ computed_on t l legal layout n z is =
     let time : slice_get t.times n ≡ Some p.0.time = ap (λ (ts : List Time). slice_get ts n) (sym times) ∙ mapped (λ (q : Placing). q.time) l.placements n p.0 p.1 in
     let c = natural (cycle p.0.time z) (legal.schedule.starts n z p.0.time is time) in
     let cell : Cell = record { node = n; «at» = along p.0.rows z } in
-    let stands : Stands s l.placements cell c.0 n z = record { computation = is; placing = p.0; is_placing = p.1; node = refl; «at» = refl; in_cycle = c.1 } in
+    let stands : Occupies s l.placements cell c.0 n z = record { computation = is; placing = p.0; is_placing = p.1; node = refl; «at» = refl; in_cycle = c.1 } in
     let there = got l.cells cell (layout.are_cells.all cell (c.0, n, z, stands)) in
     record { cell = there.0; cycle = c.0; computes = record { cell = cell; is_cell = there.1; stands = stands } }
 

@@ -19,7 +19,7 @@ use Rattle.av_flat.proofs.Sets.{has_is}
 use Rattle.av_space.specs.declared.cells.Cell.{Cell}
 use Rattle.av_space.specs.declared.cells.Link.{Link}
 use Rattle.av_space.specs.Coordinates.{Placing, along}
-use Rattle.av_space.specs.Standing.{Stands, IsUsed, IsCellBefore, AreCells, Computes}
+use Rattle.av_space.specs.Occupancy.{Occupies, IsUsed, IsCellBefore, AreCells, Computes}
 use Rattle.av_space.specs.Taps.{Tap, Place, taps, node_place, IsTapped, each}
 use Rattle.av_space.specs.Links.{IsStretch, AreLinks, delay_count}
 use Rattle.av_space.specs.Ports.{output_cells}
@@ -105,7 +105,7 @@ record Spot (at : List ℤ) (c n : ℕ) (z : Point) : Type 0 where
   place : at ≡ x ∷ []
   turn : pos c ≡ y
 
-spot_of : (cell : Cell) (c n : ℕ) (z : Point) → Stands system (placing ∷ []) cell c n z → Spot cell.at c n z
+spot_of : (cell : Cell) (c n : ℕ) (z : Point) → Occupies system (placing ∷ []) cell c n z → Spot cell.at c n z
 spot_of cell c (suc n) z s = absurd (let e = s.computation.is in cc)
 spot_of cell c zero z s =
     let variable : d ≡ s.computation.variable = (let e = s.computation.is in cc) in

@@ -28,7 +28,7 @@ use Rattle.av_space.specs.declared.cells.Cell.{Cell}
 use Rattle.av_space.specs.declared.cells.InPort.{InPort}
 use Rattle.av_space.specs.declared.layout.Slot.{Slot}
 use Rattle.av_space.specs.declared.ports.Ports.{Ports as Found}
-use Rattle.av_space.specs.Standing.{Computes}
+use Rattle.av_space.specs.Occupancy.{Computes}
 use Rattle.av_space.specs.Taps.{node_of, node_place, helper_at, Handing, IsReadAt}
 use Rattle.av_space.specs.Ports.{IsFed, IsPort, IsPortBefore, ArePorts, by_node, by_piece, by_site, by_cell}
 use Rattle.av_space.specs.Listings.{input_name, InLine, IsInLine, AreInLines}

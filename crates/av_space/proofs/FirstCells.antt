@@ -4,7 +4,7 @@ use Rattle.std.specs.Prelude.{slice_get, AllPairs}
 use Rattle.std.proofs.lemmas.Bool.{cases_lt}
 use Rattle.std.proofs.lemmas.Option.{slice_get_within, get_or_from_slice_get}
 use Rattle.av_space.specs.declared.cells.Cell.{Cell}
-use Rattle.av_space.specs.Standing.{IsCellBefore}
+use Rattle.av_space.specs.Occupancy.{IsCellBefore}
 use Rattle.av_space.specs.inner.Feeding.{IsFirstOf}
 use Rattle.av_space.proofs.ByPlace.{pair_at}
 use Rattle.av_space.proofs.Elements.{some_is}

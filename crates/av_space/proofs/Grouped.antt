@@ -24,7 +24,7 @@ use Rattle.av_space.specs.declared.cells.Cell.{Cell}
 use Rattle.av_space.specs.declared.layout.Slot.{Slot}
 use Rattle.av_space.specs.declared.ranked.Ranked.{Ranked}
 use Rattle.av_space.specs.Coordinates.{Placing, IsPlacing, along}
-use Rattle.av_space.specs.Standing.{Stands, IsUsed, IsCellBefore}
+use Rattle.av_space.specs.Occupancy.{Occupies, IsUsed, IsCellBefore}
 use Rattle.av_space.specs.inner.Laying.{HasFewCycles, AreNodePoints, IsTimely, rank_from, ranked_at, place_rank, AreRanked, IsRunEnd, cell_of, AreCellsTo, AreCellsIn, IsFilled}
 use Rattle.av_space.proofs.Nodes.{computed_small, time_at}
 use Rattle.av_space.proofs.Permuted.{HasEachOnce, permuted_once}
@@ -253,7 +253,7 @@ module _ (t : Timed) (n : ℕ) (p : Placing) (legal : IsLegal t) (placing : IsPl
       omega (arith, place, time, rank)
 
   module _ (placings : List Placing) (is : slice_get placings n ≡ Some p) where
-    pub stands_at : (i : ℕ) (r : Ranked) → slice_get ranked i ≡ Some r → Stands (view_system t.flat) placings (cell_of n p r) r.slot.cycle n r.slot.point
+    pub stands_at : (i : ℕ) (r : Ranked) → slice_get ranked i ≡ Some r → Occupies (view_system t.flat) placings (cell_of n p r) r.slot.cycle n r.slot.point
     stands_at i r e =
         let k = are.each i r e in
         let time : r.slot.cycle ≡ unsigned_abs (cycle p.time r.slot.point) = ap (λ (q : Ranked). q.slot.cycle) k.2 in
@@ -266,7 +266,7 @@ module _ (t : Timed) (n : ℕ) (p : Placing) (legal : IsLegal t) (placing : IsPl
       pub cell_is : cell ≡ cell_of n p (ranked_at p z)
       pub cycle_is : c ≡ unsigned_abs (cycle p.time z)
 
-    ranked_of : (cell : Cell) (c m : ℕ) (z : Point) → cell.node ≡ n → Stands (view_system t.flat) placings cell c m z → IsRankedAt cell c z
+    ranked_of : (cell : Cell) (c m : ℕ) (z : Point) → cell.node ≡ n → Occupies (view_system t.flat) placings cell c m z → IsRankedAt cell c z
     ranked_of cell c m z e st =
         let same : m ≡ n = sym st.node ∙ e in
         let comp : IsComputation (view_system t.flat) n z = subst (λ (k : ℕ). IsComputation (view_system t.flat) k z) same st.computation in
@@ -304,8 +304,8 @@ module _ (t : Timed) (n : ℕ) (p : Placing) (legal : IsLegal t) (placing : IsPl
           let u = at_slot ranked start (end - start) k s (slice_get-get_or (map (λ (r : Ranked). r.slot) (take (end - start) (drop start ranked))) k d l) in
           let in_run = u.1 in
           let same = run.same (start + k) first u.0 (omega arith) (omega (arith, in_run)) ef u.2 in
-          let on : Stands (view_system t.flat) placings (cell_of n p first) u.0.slot.cycle n u.0.slot.point = subst (λ (cell : Cell). Stands (view_system t.flat) placings cell u.0.slot.cycle n u.0.slot.point) (one_cell (start + k) start u.0 first u.2 ef same) (stands_at (start + k) u.0 u.2) in
-          (n, subst (λ (w : Slot). Stands (view_system t.flat) placings (cell_of n p first) w.cycle n w.point) u.3 on);
+          let on : Occupies (view_system t.flat) placings (cell_of n p first) u.0.slot.cycle n u.0.slot.point = subst (λ (cell : Cell). Occupies (view_system t.flat) placings cell u.0.slot.cycle n u.0.slot.point) (one_cell (start + k) start u.0 first u.2 ef same) (stands_at (start + k) u.0 u.2) in
+          (n, subst (λ (w : Slot). Occupies (view_system t.flat) placings (cell_of n p first) w.cycle n w.point) u.3 on);
       all = λ c m z st.
           let r = ranked_of (cell_of n p first) c m z refl st in
           let x = are.each r.place (ranked_at p z) r.here in

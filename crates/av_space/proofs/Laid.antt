@@ -17,7 +17,7 @@ use Rattle.av_space.specs.declared.cells.Cell.{Cell}
 use Rattle.av_space.specs.declared.layout.Slot.{Slot}
 use Rattle.av_space.specs.declared.ranked.Ranked.{Ranked}
 use Rattle.av_space.specs.Coordinates.{Placing, IsPlacing, ArePlacings}
-use Rattle.av_space.specs.Standing.{Stands, IsUsed, IsCellBefore, AreCells, Computes}
+use Rattle.av_space.specs.Occupancy.{Occupies, IsUsed, IsCellBefore, AreCells, Computes}
 use Rattle.av_space.specs.SpaceFaults.{IsCycles}
 use Rattle.av_space.specs.Layouts.{AreSlots}
 use Rattle.av_space.specs.inner.Laying.{HasFewCycles, HasCellCount, ranked_at, cell_of, AreRanked, IsRunEnd, AreCellsTo, AreCellsIn, IsFilled, AreFilled}
@@ -105,12 +105,12 @@ slots_of_cell s placings cells slots k own h e =
     let c = there_is cells k (omega (arith, l, n)) in
     let f = h.each k c.0 own c.1 e in
     record {
-      each = All-weaker (λ (t : Slot). (n : ℕ) × Stands s placings c.0 t.cycle n t.point) (IsSlot s placings cells k) (λ t r. record { node = r.0; computes = record { cell = c.0; is_cell = c.1; stands = r.1 } }) own f.each;
+      each = All-weaker (λ (t : Slot). (n : ℕ) × Occupies s placings c.0 t.cycle n t.point) (IsSlot s placings cells k) (λ t r. record { node = r.0; computes = record { cell = c.0; is_cell = c.1; stands = r.1 } }) own f.each;
       all = λ y n z r.
           let i = r.is_cell in
           let j = c.1 in
           let same : r.cell ≡ c.0 = cc in
-          f.all y n z (subst (λ (w : Cell). Stands s placings w y n z) same r.stands);
+          f.all y n z (subst (λ (w : Cell). Occupies s placings w y n z) same r.stands);
       order = f.order;
     }
 

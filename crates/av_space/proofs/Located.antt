@@ -12,7 +12,7 @@ use Rattle.av_flat.specs.Order.{IsBefore}
 use Rattle.av_flat.specs.Schedules.{cycle}
 use Rattle.av_space.specs.declared.layout.Layout.{Layout}
 use Rattle.av_space.specs.Coordinates.{Placing, along}
-use Rattle.av_space.specs.Standing.{Stands}
+use Rattle.av_space.specs.Occupancy.{Occupies}
 use Rattle.av_space.specs.Layouts.{IsLayout}
 use Rattle.av_space.specs.inner.Laying.{IsTimely}
 use Rattle.av_space.proofs.ByPlace.{pair_at}
@@ -97,7 +97,7 @@ placed t l n z p legal h c e = record {
 }
 
 pub node_stands : (t : Timed) (l : Layout) (n : ℕ) (z : Point) (p : Placing) → IsComputation (view_system t.flat) n z → IsPlaced t l n z p
-    → Stands (view_system t.flat) l.placements (record { node = n; at = along p.rows z }) (unsigned_abs (cycle p.time z)) n z
+    → Occupies (view_system t.flat) l.placements (record { node = n; at = along p.rows z }) (unsigned_abs (cycle p.time z)) n z
 node_stands t l n z p c h = record { computation = c; placing = p; is_placing = h.is; node = refl; at = refl; in_cycle = (timely_cycle p z h.timely).0 }
 
 pub has_cell : (t : Timed) (l : Layout) (n : ℕ) (z : Point) (p : Placing) → IsLayout t l → IsComputation (view_system t.flat) n z → IsPlaced t l n z p → Contains l.cells (record { node = n; at = along p.rows z })

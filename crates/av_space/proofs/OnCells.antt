@@ -20,7 +20,7 @@ use Rattle.av_space.specs.declared.cells.Cell.{Cell}
 use Rattle.av_space.specs.declared.layout.Slot.{Slot}
 use Rattle.av_space.specs.declared.layout.Layout.{Layout}
 use Rattle.av_space.specs.Coordinates.{Placing}
-use Rattle.av_space.specs.Standing.{Computes, AreCells, IsUsed}
+use Rattle.av_space.specs.Occupancy.{Computes, AreCells, IsUsed}
 use Rattle.av_space.specs.Taps.{node_place}
 use Rattle.av_space.specs.Quantities.{IsUse}
 use Rattle.av_space.specs.Layouts.{IsSlot, AreSlots, IsLayout, places_of}

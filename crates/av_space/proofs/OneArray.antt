@@ -8,7 +8,7 @@ use Rattle.av_flat.specs.Order.{IsBefore}
 use Rattle.av_flat.specs.declared.timed.Time.{Time}
 use Rattle.av_space.specs.declared.cells.Cell.{Cell}
 use Rattle.av_space.specs.Coordinates.{Placing}
-use Rattle.av_space.specs.Standing.{AreCells, IsCellBefore, IsUsed}
+use Rattle.av_space.specs.Occupancy.{AreCells, IsCellBefore, IsUsed}
 use Rattle.av_space.specs.Quantities.{IsCycleCount}
 use Rattle.av_space.proofs.OneOrder.{one_order}
 

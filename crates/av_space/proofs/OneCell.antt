@@ -12,7 +12,7 @@ use Rattle.av_poly.specs.Points.{Set}
 use Rattle.av_space.specs.declared.cells.Cell.{Cell}
 use Rattle.av_flat.specs.Schedules.{cycle}
 use Rattle.av_space.specs.Coordinates.{Placing, along}
-use Rattle.av_space.specs.Standing.{Computes}
+use Rattle.av_space.specs.Occupancy.{Computes}
 use Rattle.av_space.proofs.Between.{Keeps, between_images}
 
 some_is : {X : Type 0} (x y : X) (o : Option X) → o ≡ Some x → o ≡ Some y → x ≡ y

@@ -19,7 +19,7 @@ use Rattle.av_space.specs.declared.layout.Slot.{Slot}
 use Rattle.av_space.specs.declared.layout.Layout.{Layout}
 use Rattle.av_space.specs.declared.stretch.Reading.{Reading}
 use Rattle.av_space.specs.Coordinates.{Placing, along}
-use Rattle.av_space.specs.Standing.{AreCells, IsCellBefore, Computes}
+use Rattle.av_space.specs.Occupancy.{AreCells, IsCellBefore, Computes}
 use Rattle.av_space.specs.Taps.{node_place, Way, each, entries, handed, Tap, taps, IsReadBy, IsTapRead}
 use Rattle.av_space.specs.Layouts.{IsLayout, IsSlot}
 use Rattle.av_space.specs.inner.Readings.{IsSiteOn, IsReadingAt}

@@ -20,7 +20,7 @@ use Rattle.av_flat.proofs.Sets.{has_is}
 use Rattle.av_space.specs.declared.cells.Cell.{Cell}
 use Rattle.av_space.specs.declared.cells.Link.{Link}
 use Rattle.av_space.specs.Coordinates.{Placing, along}
-use Rattle.av_space.specs.Standing.{Stands, IsUsed, IsCellBefore, AreCells, Computes}
+use Rattle.av_space.specs.Occupancy.{Occupies, IsUsed, IsCellBefore, AreCells, Computes}
 use Rattle.av_space.specs.Taps.{Tap, taps, node_place, IsTapped, IsTapRead, each}
 use Rattle.av_space.specs.Links.{IsStretch, IsLinkBefore, AreNeighbours, AreLinks, delay_count}
 use Rattle.av_space.specs.Ports.{output_cells}
@@ -108,7 +108,7 @@ data Spot : List ℤ → ℕ → ℕ → Point → Type 0 where
   on_y : {at : List ℤ} {c : ℕ} (x : ℤ) → (x ≡ pos 0) ⊎ (x ≡ pos 1) → at ≡ [] → pos c ≡ x +ℤ pos 3 → Spot at c 0 (x ∷ [])
   on_s : {at : List ℤ} {c : ℕ} (x z : ℤ) → (x ≡ pos 0) ⊎ (x ≡ pos 1) → (z ≡ pos 0) ⊎ (z ≡ pos 1) ⊎ (z ≡ pos 2) → at ≡ x ∷ [] → pos c ≡ z → Spot at c 1 (x ∷ z ∷ [])
 
-spot_of : (cell : Cell) (c n : ℕ) (z : Point) → Stands system placings cell c n z → Spot cell.at c n z
+spot_of : (cell : Cell) (c n : ℕ) (z : Point) → Occupies system placings cell c n z → Spot cell.at c n z
 spot_of cell c zero z h =
     let variable : y ≡ h.computation.variable = (let e = h.computation.is in cc) in
     let here : IsTrue (has line z) = subst (λ (v : Variable). IsTrue (has v.domain z)) (sym variable) h.computation.declared in
@@ -139,7 +139,7 @@ spot_of cell c (suc (suc n)) z h = absurd (let e = h.computation.is in cc)
 -- ---- cells
 
 stands : (cell : Cell) (v : Variable) (p : Placing) (n c : ℕ) (z : Point) → slice_get (nodes system) n ≡ Some v → IsTrue (has v.domain z) → slice_get placings n ≡ Some p → cell.node ≡ n
-    → cell.at ≡ along p.rows z → pos c ≡ cycle p.time z → Stands system placings cell c n z
+    → cell.at ≡ along p.rows z → pos c ≡ cycle p.time z → Occupies system placings cell c n z
 stands cell v p n c z is here pl node at time =
     record { computation = record { variable = v; is = is; declared = here }; placing = p; is_placing = pl; node = node; at = at; in_cycle = time }
 
@@ -314,7 +314,7 @@ link_of consumer producer delay first last = record { consumer = consumer; produ
 abbrev links : List Link
 links = link_of 0 1 1 3 3 ∷ link_of 0 2 2 4 4 ∷ link_of 1 1 1 1 2 ∷ link_of 2 2 1 1 2 ∷ []
 
-computes : (p c n : ℕ) (z : Point) (cell : Cell) → slice_get cells p ≡ Some cell → Stands system placings cell c n z → Computes system placings cells p c n z
+computes : (p c n : ℕ) (z : Point) (cell : Cell) → slice_get cells p ≡ Some cell → Occupies system placings cell c n z → Computes system placings cells p c n z
 computes p c n z cell e h = record { cell = cell; is_cell = e; stands = h }
 
 y_tapped : (q c d e : ℕ) (x : ℤ) → IsTrue (has line (x ∷ [])) → Computes system placings cells 0 c 0 (x ∷ []) → picked (last_of ∷ []) (x ∷ []) ≡ Some (x ∷ pos 2 ∷ []) → e + d ≡ c

@@ -16,7 +16,7 @@ use Rattle.av_flat.specs.Legal.{IsMoving, IsLegal}
 use Rattle.av_pipe.proofs.Piped.{later}
 use Rattle.av_space.specs.declared.cells.Cell.{Cell}
 use Rattle.av_space.specs.Coordinates.{Placing, ArePlacings}
-use Rattle.av_space.specs.Standing.{AreCells}
+use Rattle.av_space.specs.Occupancy.{AreCells}
 use Rattle.av_space.specs.Taps.{Handing, helper_at}
 use Rattle.av_space.proofs.Elements.{some_is, at_index}
 use Rattle.av_space.proofs.Helpers.{found_helper}

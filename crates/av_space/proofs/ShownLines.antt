@@ -23,7 +23,7 @@ use Rattle.av_space.specs.declared.cells.Cell.{Cell}
 use Rattle.av_space.specs.Coordinates.{Placing}
 use Rattle.av_space.specs.Listings.{output_name, value_name, AtLine, IsAtLine, AreAtLines, IsWireOf, output, value}
 use Rattle.av_space.specs.Ports.{is_output_cell, output_cells}
-use Rattle.av_space.specs.Standing.{AreCells, Computes}
+use Rattle.av_space.specs.Occupancy.{AreCells, Computes}
 use Rattle.av_space.specs.inner.Laying.{AreNodePoints}
 use Rattle.av_space.specs.inner.Showing.{AreLinesOf}
 use Rattle.av_space.proofs.ByPlace.{pair_at}

@@ -13,7 +13,7 @@ use Rattle.av_space.specs.declared.layout.Slot.{Slot}
 use Rattle.av_space.specs.declared.layout.Layout.{Layout}
 use Rattle.av_space.specs.declared.stretch.Reading.{Reading}
 use Rattle.av_space.specs.Coordinates.{Placing}
-use Rattle.av_space.specs.Standing.{AreCells}
+use Rattle.av_space.specs.Occupancy.{AreCells}
 use Rattle.av_space.specs.Links.{AreLinks}
 use Rattle.av_space.specs.Taps.{node_place, Tap, taps, IsTapped}
 use Rattle.av_space.specs.Layouts.{IsLayout}

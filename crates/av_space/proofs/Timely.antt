@@ -24,7 +24,7 @@ use Rattle.av_space.specs.declared.cells.Cell.{Cell as CellMade}
 use Rattle.av_space.specs.Coordinates.{Placing, along}
 use Rattle.av_flat.specs.Nodes.{is_node, nodes, number_at, IsComputation}
 use Rattle.av_flat.specs.Schedules.{cycle, IsSchedule}
-use Rattle.av_space.specs.Standing.{IsUsed, AreCells, Computes}
+use Rattle.av_space.specs.Occupancy.{IsUsed, AreCells, Computes}
 use Rattle.av_flat.specs.Broadcasts.{references}
 use Rattle.av_flat.specs.Reads.{IsRead, IsPair}
 use Rattle.av_flat.specs.Chained.{ReadsThere}

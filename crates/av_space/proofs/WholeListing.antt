@@ -30,7 +30,7 @@ use Rattle.av_net.specs.declared.design.Entry.{Entry}
 use Rattle.av_space.specs.declared.cells.Cell.{Cell}
 use Rattle.av_space.specs.declared.cells.Cells.{Cells}
 use Rattle.av_space.specs.Coordinates.{Placing, IsPlacing, along}
-use Rattle.av_space.specs.Standing.{Stands, Computes}
+use Rattle.av_space.specs.Occupancy.{Occupies, Computes}
 use Rattle.av_space.specs.Ports.{is_output_cell, output_cells}
 use Rattle.av_space.specs.Listings.{input_name, output_name, value_name, InLine, IsInLine, AtLine, IsAtLine, IsWireOf, output, value}
 use Rattle.av_space.specs.Arrays.{IsArrayOf}
@@ -223,7 +223,7 @@ module _ (t : Timed) (a : Cells) (legal : IsLegal t) (list : IsArrayOf t a) (few
       let computation : IsComputation own n z = record { variable = v; is = e; declared = here } in
       let c = natural (cycle pl.placing.time z) (legal.schedule.starts n z pl.placing.time computation pl.is_time) in
       let cell : Cell = record { node = n; at = along pl.placing.rows z } in
-      let used : Stands own pls cell c.0 n z = record { computation = computation; placing = pl.placing; is_placing = pl.is; node = refl; at = refl; in_cycle = c.1 } in
+      let used : Occupies own pls cell c.0 n z = record { computation = computation; placing = pl.placing; is_placing = pl.is; node = refl; at = refl; in_cycle = c.1 } in
       let p = got a.cells cell (list.cells.all cell (c.0, n, z, used)) in
       (p.0, c.0, record { cell = cell; is_cell = p.1; stands = used })
 

@@ -5,7 +5,7 @@ use Rattle.av_flat.specs.declared.timed.Timed.{Timed}
 use Rattle.av_flat.specs.Trees.{view_system}
 use Rattle.av_space.specs.declared.cells.Cells.{Cells}
 use Rattle.av_space.specs.Coordinates.{Placing, ArePlacings}
-use Rattle.av_space.specs.Standing.{AreCells}
+use Rattle.av_space.specs.Occupancy.{AreCells}
 use Rattle.av_space.specs.Links.{AreLinks, delay_count}
 use Rattle.av_space.specs.Ports.{ArePorts, output_cells}
 use Rattle.av_space.specs.Listings.{AreInLines, AreAtLines}

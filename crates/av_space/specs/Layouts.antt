@@ -9,7 +9,7 @@ use Rattle.av_space.specs.declared.cells.Cell.{Cell}
 use Rattle.av_space.specs.declared.layout.Slot.{Slot}
 use Rattle.av_space.specs.declared.layout.Layout.{Layout}
 use Rattle.av_space.specs.Coordinates.{Placing, ArePlacings}
-use Rattle.av_space.specs.Standing.{AreCells, Computes}
+use Rattle.av_space.specs.Occupancy.{AreCells, Computes}
 use Rattle.av_space.specs.Taps.{node_place}
 use Rattle.av_space.specs.Quantities.{IsCycleCount}
 

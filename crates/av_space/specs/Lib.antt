@@ -1,5 +1,5 @@
 pub mod Coordinates
-pub mod Standing
+pub mod Occupancy
 pub mod Taps
 pub mod Links
 pub mod Lengths

@@ -12,7 +12,7 @@ use Rattle.av_space.specs.declared.cells.Cell.{Cell}
 use Rattle.av_space.specs.declared.cells.InPort.{InPort}
 use Rattle.av_flat.specs.Order.{IsBefore}
 use Rattle.av_flat.specs.Nodes.{nodes}
-use Rattle.av_space.specs.Standing.{Computes}
+use Rattle.av_space.specs.Occupancy.{Computes}
 use Rattle.av_space.specs.Ports.{IsFed}
 
 abbrev pub input_name : ℕ → List ℕ

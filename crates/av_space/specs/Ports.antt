@@ -14,7 +14,7 @@ use Rattle.av_space.specs.declared.cells.InPort.{InPort}
 use Rattle.av_flat.specs.Broadcasts.{references}
 use Rattle.av_space.specs.Taps.{node_place, helper_at, IsReadAt, node_of}
 use Rattle.av_flat.specs.Nodes.{nodes}
-use Rattle.av_space.specs.Standing.{Computes}
+use Rattle.av_space.specs.Occupancy.{Computes}
 
 -- on the port's cell the reference reads an input in cycle c, at the point z; with a helper it reads at entry points alone
 pub record IsFed (s : FlatSystem) (hs : List Helper) (times : List Placing) (cells : List Cell) (port : InPort) (c : ℕ) (z : Point) (input : Variable) (m : Map) : Type 0 where

@@ -8,7 +8,7 @@ use Rattle.av_space.specs.declared.cells.Cell.{Cell}
 use Rattle.av_flat.specs.declared.timed.Time.{Time}
 use Rattle.av_flat.specs.Nodes.{nodes, IsComputation}
 use Rattle.av_flat.specs.Schedules.{cycle}
-use Rattle.av_space.specs.Standing.{Computes}
+use Rattle.av_space.specs.Occupancy.{Computes}
 
 -- n is above each cycle of a computation, and the least such number
 pub record IsCycleCount (s : FlatSystem) (times : List Time) (n : ℕ) : Type 0 where

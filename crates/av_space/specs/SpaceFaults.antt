@@ -8,7 +8,7 @@ use Rattle.av_space.specs.declared.cells.Link.{Link}
 use Rattle.av_space.specs.declared.fault.SpaceFault.{SpaceFault}
 use Rattle.av_space.specs.declared.fault.SpaceFault.TheVariants as fault
 use Rattle.av_space.specs.Coordinates.{Placing, ArePlacings}
-use Rattle.av_space.specs.Standing.{AreCells}
+use Rattle.av_space.specs.Occupancy.{AreCells}
 use Rattle.av_space.specs.Links.{AreLinks, delay_count}
 use Rattle.av_space.specs.Quantities.{IsCycleCount, IsOperatorCount}
 

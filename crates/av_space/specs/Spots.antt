@@ -21,7 +21,7 @@ use Rattle.av_space.specs.declared.spots.Ends.{Ends}
 use Rattle.av_space.specs.declared.spots.Site.{Site}
 use Rattle.av_space.specs.declared.spots.Spot.{Spot}
 use Rattle.av_space.specs.Coordinates.{Placing}
-use Rattle.av_space.specs.Standing.{Computes}
+use Rattle.av_space.specs.Occupancy.{Computes}
 use Rattle.av_space.specs.Taps.{node_place, Handing, helper_at, Place, places_in, Way, each, entries, handed, Tap, taps}
 use Rattle.av_space.specs.Links.{IsInLink, AreLinks}
 use Rattle.av_space.specs.Ports.{ArePorts}

@@ -14,7 +14,7 @@ use Rattle.av_space.specs.declared.cells.Cell.{Cell}
 use Rattle.av_flat.specs.Broadcasts.{references}
 use Rattle.av_flat.specs.Helped.{before, IsEntry}
 use Rattle.av_flat.specs.Nodes.{is_node, nodes, number_at}
-use Rattle.av_space.specs.Standing.{Computes}
+use Rattle.av_space.specs.Occupancy.{Computes}
 
 -- ---- places of nodes
 

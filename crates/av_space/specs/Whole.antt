@@ -19,7 +19,7 @@ use Rattle.av_net.specs.declared.design.Design.{Design}
 use Rattle.av_net.specs.Presented.{AreApart}
 use Rattle.av_space.specs.declared.cells.Cells.{Cells}
 use Rattle.av_space.specs.Coordinates.{Placing}
-use Rattle.av_space.specs.Standing.{Computes}
+use Rattle.av_space.specs.Occupancy.{Computes}
 use Rattle.av_space.specs.Listings.{input_name, output_name, value_name}
 use Rattle.av_space.specs.Arrays.{IsArrayOf}
 

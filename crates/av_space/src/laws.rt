@@ -20,7 +20,7 @@ ghost use Rattle.av_space.specs.declared.cells.Link.{Link};
 ghost use Rattle.av_flat.specs.declared.timed.Helper.{Helper};
 ghost use Rattle.av_space.specs.Links.{AreLinks};
 ghost use Rattle.av_space.specs.Coordinates.{ArePlacings};
-ghost use Rattle.av_space.specs.Standing.{AreCells};
+ghost use Rattle.av_space.specs.Occupancy.{AreCells};
 ghost use Rattle.av_space.specs.Quantities.{IsCycleCount, IsOperatorCount};
 ghost use Rattle.av_space.specs.declared.fault.SpaceFault.{SpaceFault};
 ghost use Rattle.av_space.specs.SpaceFaults.{IsSpaceFault};

@@ -6,7 +6,7 @@ ghost use Rattle.av_flat.specs.Nodes.{nodes};
 ghost use Rattle.av_flat.specs.Trees.{view_system};
 ghost use Rattle.av_space.specs.declared.cells.Cell.{Cell as CellSeen};
 ghost use Rattle.av_space.specs.Coordinates.{Placing, IsPlacing, ArePlacings};
-ghost use Rattle.av_space.specs.Standing.{AreCells};
+ghost use Rattle.av_space.specs.Occupancy.{AreCells};
 ghost use Rattle.av_space.specs.SpaceFaults.{IsCycles, IsSpaceFault};
 ghost use Rattle.av_space.specs.Layouts.{IsLayout, places_of, numbers_of};
 ghost use Rattle.av_space.specs.inner.Laying.{HasFewCycles, HasCellCount, AreCellsIn, AreFilled};

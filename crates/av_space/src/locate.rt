@@ -5,7 +5,7 @@ ghost use Rattle.av_flat.specs.Trees.{view_system};
 ghost use Rattle.av_flat.specs.Nodes.{IsComputation};
 ghost use Rattle.av_flat.specs.Legal.{IsLegal};
 ghost use Rattle.av_flat.specs.Order.{IsBefore};
-ghost use Rattle.av_space.specs.Standing.{IsCellBefore, Computes};
+ghost use Rattle.av_space.specs.Occupancy.{IsCellBefore, Computes};
 ghost use Rattle.av_space.specs.Layouts.{IsLayout};
 
 use crate::cells::Cell;

@@ -9,7 +9,7 @@ ghost use Rattle.av_space.specs.inner.SetPoints.{IsPointOf};
 ghost use Rattle.av_space.specs.Listings.{AreInLines};
 ghost use Rattle.av_space.specs.Ports.{ArePorts};
 ghost use Rattle.av_space.specs.Quantities.{IsOperatorCount};
-ghost use Rattle.av_space.specs.Standing.{IsCellBefore};
+ghost use Rattle.av_space.specs.Occupancy.{IsCellBefore};
 ghost use Rattle.av_space.specs.inner.Feeding.{is_entered, with_port, IsReadable, IsFirstOf};
 ghost use Rattle.av_space.specs.inner.NodePieces.{IsNodePiece, IsPart, IsInputSite, ArePortsAt, ArePortsOf, IsSmallNode};
 ghost use Rattle.av_space.specs.Layouts.{IsLayout};

@@ -5,7 +5,7 @@ mod check;
 mod design;
 mod entry;
 mod fault;
-mod law;
+mod laws;
 mod lexer;
 mod line;
 mod listing;
@@ -23,7 +23,7 @@ mod widths;
 
 pub use design::read_design;
 pub use fault::VFault;
-pub use law::{design_or_fault, one_design, one_text, read_back, spelled_is_sound};
+pub use laws::{design_or_fault, one_design, one_text, read_back, spelled_is_sound};
 
 #[cfg(test)]
 mod tests;

@@ -9,8 +9,8 @@ use Rattle.av_flat.specs.Quantities.{Measured, of_set, of_map, composed_maps, bo
 use Rattle.av_normal.specs.declared.fault.NormalFault.{NormalFault}
 use Rattle.av_normal.specs.NormalForm.{IsNormalised, set_of}
 use Rattle.av_normal.specs.Searches.{AreNarrow, IsWide}
-use Rattle.av_normal.specs.inner.Standing.{IsReadable}
-use Rattle.av_normal.specs.inner.Filling.{IsFillable}
+use Rattle.av_normal.specs.inner.UnderMaps.{IsReadable}
+use Rattle.av_normal.specs.inner.ReductionSets.{IsFillable}
 
 -- ---- what is tried, in its order
 

@@ -12,7 +12,7 @@ use Rattle.av_space.specs.declared.cells.Cell.{Cell}
 use Rattle.av_space.specs.declared.layout.Slot.{Slot}
 use Rattle.av_space.specs.declared.ranked.Ranked.{Ranked}
 use Rattle.av_space.specs.Coordinates.{Placing, along}
-use Rattle.av_space.specs.Standing.{Stands, IsUsed, IsCellBefore}
+use Rattle.av_space.specs.Occupancy.{Occupies, IsUsed, IsCellBefore}
 
 -- the points of a node, ascending
 pub record AreNodePoints (s : FlatSystem) (n : ℕ) (points : List Point) : Type 0 where
@@ -80,8 +80,8 @@ pub record AreCellsIn (s : FlatSystem) (placings : List Placing) (low high : ℕ
 
 -- all computations of a cell, by cycle
 pub record IsFilled (s : FlatSystem) (placings : List Placing) (cell : Cell) (slots : List Slot) : Type 0 where
-  pub each : All (λ t. (n : ℕ) × Stands s placings cell t.cycle n t.point) slots
-  pub all : (c n : ℕ) (z : Point) → Stands s placings cell c n z → Contains slots (record { cycle = c; point = z })
+  pub each : All (λ t. (n : ℕ) × Occupies s placings cell t.cycle n t.point) slots
+  pub all : (c n : ℕ) (z : Point) → Occupies s placings cell c n z → Contains slots (record { cycle = c; point = z })
   pub order : AllPairs (λ a b. a.cycle < b.cycle) slots
 
 -- those of each cell

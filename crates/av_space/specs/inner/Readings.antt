@@ -12,7 +12,7 @@ use Rattle.av_space.specs.declared.cells.Cell.{Cell}
 use Rattle.av_space.specs.declared.layout.Slot.{Slot}
 use Rattle.av_space.specs.declared.stretch.Reading.{Reading}
 use Rattle.av_space.specs.Coordinates.{Placing}
-use Rattle.av_space.specs.Standing.{Computes}
+use Rattle.av_space.specs.Occupancy.{Computes}
 use Rattle.av_space.specs.Taps.{Way, each, entries, handed, Tap, node_place, taps, IsTapRead}
 use Rattle.av_space.specs.Layouts.{AreSlots}
 use Rattle.av_space.specs.inner.Stretches.{AreByCycle}

@@ -3,7 +3,7 @@ use Rattle.av_build.specs.inner.Labels.{labels}
 use Rattle.av_build.specs.inner.Modules.{tap_of}
 use Rattle.av_build.specs.inner.Written.{program_of, site_of}
 use Rattle.av_build.specs.inner.Numbered.{wire_in}
-use Rattle.av_build.proofs.Chosen.{AreTaken}
+use Rattle.av_build.proofs.SelectionSteps.{AreTaken}
 use Rattle.av_build.proofs.selection.selections.Given as goal
 
 abbrev pub invariant-loop-site : goal.invariant-loop-site

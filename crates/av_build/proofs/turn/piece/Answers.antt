@@ -12,7 +12,7 @@ use Rattle.av_build.specs.inner.Written.{WorkMade, program_of, site_of}
 use Rattle.av_build.specs.inner.Numbered.{wire_in}
 use Rattle.av_build.specs.inner.Added.{AddsBuilt, counter}
 use Rattle.av_build.proofs.Added.{if_ok_map}
-use Rattle.av_build.proofs.Chosen.{tree_added}
+use Rattle.av_build.proofs.SelectionSteps.{tree_added}
 use Rattle.av_build.proofs.Turning.{piece_over, many_taken}
 use Rattle.av_build.proofs.turn.piece.Goals as goal
 

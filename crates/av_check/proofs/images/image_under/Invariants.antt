@@ -1,5 +1,5 @@
 use Rattle.std.proofs.Common.{drop}
-use Rattle.av_check.specs.inner.Standing.{IsOnTheWay}
+use Rattle.av_check.specs.inner.Reachable.{IsOnTheWay}
 use Rattle.av_check.proofs.images.image_under.Given as goal
 
 abbrev pub invariant-loop-outer : goal.invariant-loop-outer

@@ -9,7 +9,7 @@ use Rattle.av_flat.specs.Points.{has}
 use Rattle.av_tree.specs.Points.{Point}
 use Rattle.av_check.specs.declared.verdict.Verdict.TheVariants as verdict
 use Rattle.av_check.specs.Blame.{blamed}
-use Rattle.av_check.specs.inner.Standing.{reach, Stands, StandAll}
+use Rattle.av_check.specs.inner.Reachable.{reach, IsReachable, AreReachable}
 use Rattle.av_check.specs.inner.Verdicts.{IsVerdict, IsVerdictOfAll}
 use Rattle.av_check.proofs.Judging.{of_two, of_four, inside, outside, has_true, has_false, branch_more}
 use Rattle.av_check.proofs.Looking.{less_deep, next_stands}
@@ -21,9 +21,9 @@ judge-judge_all-requires t c =
     let ds = c.args.under.now in
     let z = c.args.z.now in
     let e = ap view c.in-Case.is ∙ view_case c.in-Case.branches in
-    let stands = subst (λ (u : Tree). Stands vs ds u z) e c.requires.stands in (
+    let stands = subst (λ (u : Tree). IsReachable vs ds u z) e c.requires.stands in (
       less_deep t c.args.tree.now c.in-Case.branches c.as_slice.result.now c.in-Case.is c.as_slice.ensures c.decreases,
-      (subst (λ (ts : List TreeMade). StandAll vs ds (trees_of (map view ts)) z) (sym c.as_slice.ensures) stands, c.requires.small),
+      (subst (λ (ts : List TreeMade). AreReachable vs ds (trees_of (map view ts)) z) (sym c.as_slice.ensures) stands, c.requires.small),
     )
 
 pub judge-returns-in_ok-right-in-Binary : goal.judge-returns-in_ok-right-in-Binary

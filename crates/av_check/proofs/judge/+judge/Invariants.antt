@@ -1,7 +1,7 @@
 use Rattle.std.proofs.Common.{map, take, drop}
 use Rattle.av_flat.specs.Trees.{view, trees_of, view_variable}
 use Rattle.av_flat.specs.Signatures.{signature}
-use Rattle.av_check.specs.inner.Standing.{reach, StandAll}
+use Rattle.av_check.specs.inner.Reachable.{reach, AreReachable}
 use Rattle.av_check.specs.inner.Verdicts.{IsVerdictOfAll}
 use Rattle.av_check.proofs.judge.+judge.Given as goal
 
@@ -9,5 +9,5 @@ use Rattle.av_check.proofs.judge.+judge.Given as goal
 abbrev pub invariant-judge_all-loop-tree : goal.invariant-judge_all-loop-tree
 invariant-judge_all-loop-tree l = record {
   so_far : IsVerdictOfAll (map signature (map view_variable l.vars)) (trees_of (map view (take l.tree-index l.trees))) (reach l.under l.z) l.verdict;
-  stand : StandAll (map signature (map view_variable l.vars)) l.under (trees_of (map view (drop l.tree-index l.trees))) l.z;
+  stand : AreReachable (map signature (map view_variable l.vars)) l.under (trees_of (map view (drop l.tree-index l.trees))) l.z;
 }

@@ -2,7 +2,7 @@ use Rattle.std.proofs.Common.{◌≤◌, ◌<◌, length, List, subst, rules}
 use Rattle.std.proofs.lemmas.List.{take_all}
 use Rattle.av_poly.specs.Points.{Set}
 use Rattle.av_check.specs.inner.Least.{IsLeast}
-use Rattle.av_check.specs.inner.Having.{IsInAny}
+use Rattle.av_check.specs.inner.Coverage.{IsInAny}
 use Rattle.av_check.proofs.Counting.{least_parts}
 use Rattle.av_check.proofs.outside.least_of_parts.Goals as goal
 

@@ -1,6 +1,6 @@
 use Rattle.std.proofs.Common.{take}
 use Rattle.av_check.specs.inner.Least.{IsLeast}
-use Rattle.av_check.specs.inner.Having.{IsInAny}
+use Rattle.av_check.specs.inner.Coverage.{IsInAny}
 use Rattle.av_check.proofs.outside.least_of_parts.Given as goal
 
 abbrev pub invariant-loop-part : goal.invariant-loop-part

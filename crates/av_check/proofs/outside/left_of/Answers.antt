@@ -1,6 +1,6 @@
 use Rattle.std.proofs.Common.{◌≡◌, ◌↔◌, ◌<◌, ◌∙◌, ◌++◌, ◌∷◌, [], ℕ, ℤ, All, length, List, ap, subst, rules}
 use Rattle.av_poly.specs.Points.{Set, Has}
-use Rattle.av_check.specs.inner.Having.{IsInAny, IsInside}
+use Rattle.av_check.specs.inner.Coverage.{IsInAny, IsInside}
 use Rattle.av_check.proofs.Counting.{first_inside, first_left, left_more}
 use Rattle.av_check.proofs.outside.left_of.Goals as goal
 

@@ -1,7 +1,7 @@
 use Rattle.std.proofs.Common.{◌↔◌, ◌≤◌, ◌<◌, ℤ, length, List, sym, subst, rules}
 use Rattle.std.proofs.lemmas.List.{take_all}
 use Rattle.av_poly.specs.Points.{Set, Has}
-use Rattle.av_check.specs.inner.Having.{IsInAny}
+use Rattle.av_check.specs.inner.Coverage.{IsInAny}
 use Rattle.av_check.proofs.Counting.{outside_more}
 use Rattle.av_check.proofs.outside.left_outside.Goals as goal
 

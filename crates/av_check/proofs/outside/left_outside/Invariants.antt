@@ -1,6 +1,6 @@
 use Rattle.std.proofs.Common.{◌↔◌, take, ℤ, List, All}
 use Rattle.av_poly.specs.Points.{Has}
-use Rattle.av_check.specs.inner.Having.{IsInAny, IsInside}
+use Rattle.av_check.specs.inner.Coverage.{IsInAny, IsInside}
 use Rattle.av_check.proofs.outside.left_outside.Given as goal
 
 abbrev pub invariant-loop-part : goal.invariant-loop-part

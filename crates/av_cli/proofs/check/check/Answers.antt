@@ -10,7 +10,7 @@ returns-in-Err-checked g c =
     let refusal = c.in-Err-checked.refusal in
     check_refused c.args.words.now c.in-Ok.sizes c.args.width.bits c.args.bytes.now refusal c.in-Ok.ensures.given
     (λ some. subst (λ (xs : List Size). IsRefused c.args.bytes.now xs c.args.width.bits refusal) c.as_slice.ensures (c.in-Err-checked.ensures.refused refusal refl some))
-    c.put_system_refusal.ensures.memory c.put_system_refusal.ensures.refused
+    c.put_alpha_refusal.ensures.memory c.put_alpha_refusal.ensures.refused
 
 pub returns : goal.returns
 returns g c =

@@ -12,7 +12,7 @@ returns-in-Err-compile g c =
     let refusal = c.in-Err-compile.refusal in
     table_refused (GivesEmitWith c.args.words.now c.args.width.bits c.args.reach.size c.args.bytes.now) c.args.words.now c.in-Ok.sizes c.args.width.bits c.args.reach.size c.args.bytes.now refusal c.in-Ok.ensures.given
     (λ some. subst (λ (xs : List Size). IsUnmapped c.args.bytes.now xs c.args.width.bits c.args.reach.size refusal) c.as_slice.ensures (c.in-Err-compile.ensures.refused refusal refl some))
-    c.put_system_refusal.ensures.memory c.put_system_refusal.ensures.refused
+    c.put_alpha_refusal.ensures.memory c.put_alpha_refusal.ensures.refused
 
 pub returns : goal.returns
 returns g c =

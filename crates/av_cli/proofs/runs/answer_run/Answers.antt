@@ -24,7 +24,7 @@ returns-in-Err-compile g c =
     run_refused (GivesReportWith c.args.report c.args.words.now bits box c.args.bytes.now) c.args.words.now c.in-Ok.sizes bits box c.in-Some.parts.text.now c.in-Some.parts.rest.now c.args.bytes.now c.in-Some.parts.first_line refusal
     c.in-Some.ensures.some c.in-Ok.ensures.given
     (λ some. subst (λ (xs : List Size). IsUnmapped c.in-Some.parts.text.now xs bits box refusal) c.as_slice.ensures (c.in-Err-compile.ensures.refused refusal refl some))
-    c.put_system_refusal.ensures.memory c.put_system_refusal.ensures.refused
+    c.put_alpha_refusal.ensures.memory c.put_alpha_refusal.ensures.refused
 
 pub returns : goal.returns
 returns g c =

@@ -9,7 +9,7 @@ returns-in-Err-scheduled g c =
     let refusal = c.in-Err-scheduled.refusal in
     schedule_refused c.args.words.now c.in-Ok.sizes c.args.width.bits c.args.reach.size c.args.bytes.now refusal c.in-Ok.ensures.given
     (λ some. subst (λ (xs : List Size). IsUnscheduled c.args.bytes.now xs c.args.width.bits c.args.reach.size refusal) c.as_slice.ensures (c.in-Err-scheduled.ensures.refused refusal refl some))
-    c.put_system_refusal.ensures.memory c.put_system_refusal.ensures.refused
+    c.put_alpha_refusal.ensures.memory c.put_alpha_refusal.ensures.refused
 
 pub returns : goal.returns
 returns g c =

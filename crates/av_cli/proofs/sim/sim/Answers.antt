@@ -16,4 +16,4 @@ returns-in-Ok g c = module_answered c.args.bytes.now c.in-Some.parts.text.now c.
 pub returns-in-Err : goal.returns-in-Err
 returns-in-Err g c =
     text_refused c.args.bytes.now c.in-Some.parts.text.now c.in-Some.parts.rest.now c.in-Some.parts.first_line c.in-Err.fault c.in-Some.ensures.some (c.in-Err.ensures.fault c.in-Err.fault refl)
-    c.put_text_refusal.ensures.memory c.put_text_refusal.ensures.refused
+    c.put_verilog_refusal.ensures.memory c.put_verilog_refusal.ensures.refused

@@ -11,7 +11,7 @@ returns-in-Err-mapped g c =
     let refusal = c.in-Err-mapped.refusal in
     table_refused (GivesTableWith c.args.words.now c.args.width.bits c.args.reach.size c.args.bytes.now) c.args.words.now c.in-Ok.sizes c.args.width.bits c.args.reach.size c.args.bytes.now refusal c.in-Ok.ensures.given
     (λ some. subst (λ (xs : List Size). IsUnmapped c.args.bytes.now xs c.args.width.bits c.args.reach.size refusal) c.as_slice.ensures (c.in-Err-mapped.ensures.refused refusal refl some))
-    c.put_system_refusal.ensures.memory c.put_system_refusal.ensures.refused
+    c.put_alpha_refusal.ensures.memory c.put_alpha_refusal.ensures.refused
 
 pub returns : goal.returns
 returns g c =

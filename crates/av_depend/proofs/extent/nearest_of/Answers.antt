@@ -1,7 +1,7 @@
 use Rattle.std.proofs.Common.{rules, ◌≡◌, ◌∙◌, ℤ, pos, get_or, FitsSigned, to_z-of_z, to_z, of_z, length}
 use mir.Syntax.{w128}
 use Rattle.av_affine.proofs.Fours.{four}
-use Rattle.av_depend.specs.inner.Clipped.{clip}
+use Rattle.av_depend.specs.inner.Clamped.{clamp}
 use Rattle.av_depend.proofs.extent.nearest_of.Goals as goal
 
 pub returns : goal.returns
@@ -17,4 +17,4 @@ returns c =
     let e1 = simp to_z-of_z at c.nearest-b.ensures in
     let e2 = simp to_z-of_z at c.nearest-c.ensures in
     let e3 = simp to_z-of_z at c.nearest-d.ensures in
-    four clip r _ _ _ _ l (back c.nearest-a.result (search rules) ∙ e0) (back c.nearest-b.result (search rules) ∙ e1) (back c.nearest-c.result (search rules) ∙ e2) (back c.nearest-d.result (search rules) ∙ e3)
+    four clamp r _ _ _ _ l (back c.nearest-a.result (search rules) ∙ e0) (back c.nearest-b.result (search rules) ∙ e1) (back c.nearest-c.result (search rules) ∙ e2) (back c.nearest-d.result (search rules) ∙ e3)

@@ -3,7 +3,7 @@ use Rattle.std.specs.List.{AllByRecursion}
 use Rattle.std.proofs.lemmas.List.{get_or_default}
 use Rattle.std.proofs.lemmas.Result.{err_from_is_err_and}
 use Rattle.av_poly.specs.declared.poly.Bounds.{Bounds}
-use Rattle.av_normal.specs.Alongside.{IsFirstOf}
+use Rattle.av_normal.specs.Pairwise.{IsFirstOf}
 use Rattle.av_normal.specs.Domains.{IsSmallExtent, IsLargeExtent}
 use Rattle.av_normal.proofs.Dropping.{next_item}
 use Rattle.av_normal.proofs.bounded.boxes_fit.Goals as goal

@@ -1,7 +1,7 @@
 use Rattle.std.proofs.Common.{drop}
 use Rattle.std.specs.List.{AllByRecursion}
 use Rattle.av_normal.specs.declared.fault.NormalFault.{NormalFault}
-use Rattle.av_normal.specs.Alongside.{IsFirstOf}
+use Rattle.av_normal.specs.Pairwise.{IsFirstOf}
 use Rattle.av_normal.specs.Domains.{IsSmallExtent, IsLargeExtent}
 use Rattle.av_normal.proofs.bounded.boxes_fit.Given as goal
 

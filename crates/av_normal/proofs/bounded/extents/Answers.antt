@@ -3,7 +3,7 @@ use Rattle.std.specs.List.{AllByRecursion}
 use Rattle.av_poly.specs.declared.poly.Bounds.{Bounds}
 use Rattle.av_flat.specs.declared.flat.Var.{Var}
 use Rattle.av_flat.specs.Trees.{view_variable}
-use Rattle.av_normal.specs.Alongside.{Alongside}
+use Rattle.av_normal.specs.Pairwise.{Pairwise}
 use Rattle.av_normal.specs.Domains.{HasNarrowDomain, IsDeclaredExtent, IsEndless}
 use Rattle.av_normal.specs.declared.fault.NormalFault.{NormalFault}
 use Rattle.av_normal.proofs.Dropping.{next_item, nothing_left}
@@ -27,12 +27,12 @@ loop-var-preserved c =
     let rest = map view_variable (drop (i + 1) vars) in
     let all = map view_variable vars in
     let next = next_item vars i c.var-item.result l c.var-item.is in
-    let made = subst (λ (vs : List Var). (es : List (Option Bounds)) → Alongside IsDeclaredExtent (map view_variable vs) es → Alongside IsDeclaredExtent all (c.loop-var.extents ++ es)) next c.loop-var.invariant.made in
+    let made = subst (λ (vs : List Var). (es : List (Option Bounds)) → Pairwise IsDeclaredExtent (map view_variable vs) es → Pairwise IsDeclaredExtent all (c.loop-var.extents ++ es)) next c.loop-var.invariant.made in
     let endless = subst (λ (vs : List Var). (f : NormalFault) → IsEndless (map view_variable vs) f → IsEndless all f) next c.loop-var.invariant.endless in
     let found = c.in_ok-declared_extent.ensures.found in
     record {
       narrow = (subst (λ (vs : List Var). AllByRecursion HasNarrowDomain (map view_variable vs)) next c.loop-var.invariant.narrow).1;
-      made = subst (λ (now : List (Option Bounds)). (es : List (Option Bounds)) → Alongside IsDeclaredExtent rest es → Alongside IsDeclaredExtent all (now ++ es)) (sym c.in_ok-push.ensures.ok)
+      made = subst (λ (now : List (Option Bounds)). (es : List (Option Bounds)) → Pairwise IsDeclaredExtent rest es → Pairwise IsDeclaredExtent all (now ++ es)) (sym c.in_ok-push.ensures.ok)
           (one_along IsDeclaredExtent v rest all c.in_ok-declared_extent.field-0 c.loop-var.extents made found);
       endless = λ f h. endless f (endless_after v rest f (has_end v c.in_ok-declared_extent.field-0 found) h);
     }
@@ -42,5 +42,5 @@ returns-clause-found c =
     let vars = c.args.vars.now in
     let all = map view_variable vars in
     let l : length vars ≤ c.loop-var.var-index = search rules in
-    let made = subst (λ (vs : List Var). (es : List (Option Bounds)) → Alongside IsDeclaredExtent (map view_variable vs) es → Alongside IsDeclaredExtent all (c.loop-var.extents ++ es)) (nothing_left vars c.loop-var.var-index l) c.loop-var.invariant.made in
+    let made = subst (λ (vs : List Var). (es : List (Option Bounds)) → Pairwise IsDeclaredExtent (map view_variable vs) es → Pairwise IsDeclaredExtent all (c.loop-var.extents ++ es)) (nothing_left vars c.loop-var.var-index l) c.loop-var.invariant.made in
     made_along IsDeclaredExtent all c.loop-var.extents made

@@ -1,6 +1,6 @@
 use Rattle.std.proofs.Common.{map, drop}
 use Rattle.av_flat.specs.Trees.{view, trees_of}
-use Rattle.av_normal.specs.inner.Standing.{AreUnder}
+use Rattle.av_normal.specs.inner.UnderMaps.{AreUnder}
 use Rattle.av_normal.proofs.compose.+maps_fit.Given as goal
 
 abbrev pub invariant-loop-branch : goal.invariant-loop-branch

@@ -1,5 +1,5 @@
 use Rattle.std.proofs.Common.{drop}
-use Rattle.av_normal.specs.inner.Standing.{IsUnder}
+use Rattle.av_normal.specs.inner.UnderMaps.{IsUnder}
 use Rattle.av_normal.proofs.compose.outwards.Given as goal
 
 abbrev pub invariant-loop-outer : goal.invariant-loop-outer

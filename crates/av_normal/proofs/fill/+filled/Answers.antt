@@ -1,6 +1,6 @@
 use Rattle.std.proofs.lemmas.Result.{err_from_is_err_and}
 use Rattle.av_flat.specs.Trees.{view}
-use Rattle.av_normal.specs.inner.Filling.{IsFoldable, IsFillable}
+use Rattle.av_normal.specs.inner.ReductionSets.{IsFoldable, IsFillable}
 use Rattle.av_normal.proofs.FilledTrees.{two_narrow, two_first, two_second, four_narrow, four_first, four_second, four_third, four_fourth, body_same, body_narrow, body_after, body_refused}
 use Rattle.av_normal.proofs.fill.+filled.Goals as goal
 

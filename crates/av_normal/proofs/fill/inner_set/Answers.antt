@@ -5,7 +5,7 @@ use Rattle.av_poly.specs.Points.{Set}
 use Rattle.av_poly.specs.Normal.{AreNormalised}
 use Rattle.av_flat.specs.Quantities.{of_set}
 use Rattle.av_normal.specs.Searches.{IsWideOne}
-use Rattle.av_normal.specs.inner.Filling.{inner_of}
+use Rattle.av_normal.specs.inner.ReductionSets.{inner_of}
 use Rattle.av_normal.proofs.Filled.{same_set, early, narrow_inner, wide_inner}
 use Rattle.av_normal.proofs.fill.inner_set.Goals as goal
 

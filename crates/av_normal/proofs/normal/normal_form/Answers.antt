@@ -7,8 +7,8 @@ use Rattle.av_flat.specs.Trees.{view_variable, view_system}
 use Rattle.av_flat.specs.Signatures.{signatures}
 use Rattle.av_normal.specs.inner.Counted.{HasFew, IsOfMany}
 use Rattle.av_normal.specs.NormalForm.{IsNormalForm}
-use Rattle.av_normal.specs.inner.Spread.{AreSpread}
-use Rattle.av_normal.specs.Alongside.{Alongside}
+use Rattle.av_normal.specs.inner.AllPieces.{HaveAllPieces}
+use Rattle.av_normal.specs.Pairwise.{Pairwise}
 use Rattle.av_normal.specs.Domains.{HasNarrowDomain, IsDeclaredExtent, IsEndless, IsSmallExtent}
 use Rattle.av_normal.proofs.Causes.{few_indices, narrow_domains, many_fault, wide_fault, endless_fault, box_fault, no_cause, bounded_domains}
 use Rattle.av_normal.proofs.KeptSystems.{kept}
@@ -49,17 +49,17 @@ returns-in_err-boxes_fit-clause-fault c =
     let s = view_system c.args.flat.now in
     let f = c.in_err-boxes_fit.field-0.0 in
     let few = subst (λ (vars : List Var). HasFew (map view_variable vars)) c.as_slice.ensures c.in_ok-few_pieces.ensures.few in
-    let found = subst (λ (vars : List Var). Alongside IsDeclaredExtent (map view_variable vars) c.in_ok-extents.extents) c.as_slice-2.ensures c.in_ok-extents.ensures.found in
-    let along = subst (λ (es : List (Option Bounds)). Alongside IsDeclaredExtent s.variables es) (sym c.as_slice-3.ensures) found in
+    let found = subst (λ (vars : List Var). Pairwise IsDeclaredExtent (map view_variable vars) c.in_ok-extents.extents) c.as_slice-2.ensures c.in_ok-extents.ensures.found in
+    let along = subst (λ (es : List (Option Bounds)). Pairwise IsDeclaredExtent s.variables es) (sym c.as_slice-3.ensures) found in
     let p = err_from_is_err_and c.from_residual-in_err-boxes_fit.result c.from_residual-in_err-boxes_fit.ensures.1 in
     rw (p.1, p.2) (box_fault s c.requires c.as_slice-3.result.now along few c.in_ok-spread.ensures.narrow f c.in_err-boxes_fit.ensures.over)
 
 pub kept_variables-requires : goal.kept_variables-requires
 kept_variables-requires c =
     let s = view_system c.args.flat.now in
-    let found = subst (λ (vars : List Var). Alongside IsDeclaredExtent (map view_variable vars) c.in_ok-extents.extents) c.as_slice-2.ensures c.in_ok-extents.ensures.found in
-    let along = subst (λ (es : List (Option Bounds)). Alongside IsDeclaredExtent s.variables es) (sym c.as_slice-5.ensures) found in
-    let spread = subst (λ (vars : List Var). AreSpread (signatures s) s.variables (map view_variable vars)) (sym c.as_slice-4.ensures) c.in_ok-spread.ensures.spread in
+    let found = subst (λ (vars : List Var). Pairwise IsDeclaredExtent (map view_variable vars) c.in_ok-extents.extents) c.as_slice-2.ensures c.in_ok-extents.ensures.found in
+    let along = subst (λ (es : List (Option Bounds)). Pairwise IsDeclaredExtent s.variables es) (sym c.as_slice-5.ensures) found in
+    let spread = subst (λ (vars : List Var). HaveAllPieces (signatures s) s.variables (map view_variable vars)) (sym c.as_slice-4.ensures) c.in_ok-spread.ensures.spread in
     let small = subst (λ (es : List (Option Bounds)). AllByRecursion IsSmallExtent es) (c.as_slice-3.ensures ∙ sym c.as_slice-5.ensures) c.in_ok-boxes_fit.ensures.fit in
     all_held (signatures s) s.variables (map view_variable c.as_slice-4.result.now) c.as_slice-5.result.now (few_indices s c.requires) spread along small
 
@@ -69,11 +69,11 @@ returns-clause-given c =
     let t = view_system (record { width = c.args.flat.now.width; vars = c.in_ok-vars.vars }) in
     let few = subst (λ (vars : List Var). HasFew (map view_variable vars)) c.as_slice.ensures c.in_ok-few_pieces.ensures.few in
     let narrow = c.in_ok-spread.ensures.narrow in
-    let found = subst (λ (vars : List Var). Alongside IsDeclaredExtent (map view_variable vars) c.in_ok-extents.extents) c.as_slice-2.ensures c.in_ok-extents.ensures.found in
-    let along = subst (λ (es : List (Option Bounds)). Alongside IsDeclaredExtent s.variables es) (sym c.as_slice-3.ensures) found in
+    let found = subst (λ (vars : List Var). Pairwise IsDeclaredExtent (map view_variable vars) c.in_ok-extents.extents) c.as_slice-2.ensures c.in_ok-extents.ensures.found in
+    let along = subst (λ (es : List (Option Bounds)). Pairwise IsDeclaredExtent s.variables es) (sym c.as_slice-3.ensures) found in
     let small = c.in_ok-boxes_fit.ensures.fit in
     let extents = c.as_slice-3.result.now in
-    let spread = subst (λ (vars : List Var). AreSpread (signatures s) s.variables (map view_variable vars)) (sym c.as_slice-4.ensures) c.in_ok-spread.ensures.spread in
+    let spread = subst (λ (vars : List Var). HaveAllPieces (signatures s) s.variables (map view_variable vars)) (sym c.as_slice-4.ensures) c.in_ok-spread.ensures.spread in
     let form : IsNormalForm s t = record {
       width = refl;
       variables = normal_variables (signatures s) s.variables (map view_variable c.as_slice-4.result.now) t.variables spread c.in_ok-vars.ensures;

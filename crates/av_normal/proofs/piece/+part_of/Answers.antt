@@ -5,8 +5,8 @@ use Rattle.av_flat.specs.declared.tree.Tree.{Tree as TreeMade}
 use Rattle.av_flat.specs.Trees.{view, constant, cases, trees_of}
 use Rattle.av_flat.proofs.Views.{view_case}
 use Rattle.av_normal.specs.inner.Numbered.{signatures_of}
-use Rattle.av_normal.specs.inner.Standing.{IsReading}
-use Rattle.av_normal.specs.inner.Chosen.{IsPartAt}
+use Rattle.av_normal.specs.inner.UnderMaps.{IsReading}
+use Rattle.av_normal.specs.inner.PieceByNumber.{IsPartAt}
 use Rattle.av_normal.proofs.Outcomes.{on_ok, if_ok}
 use Rattle.av_normal.proofs.Reading.{fits_read}
 use Rattle.av_normal.proofs.ChosenParts.{case_readable, next_branch_left, one_branch_more, branch_found, binary_part, choice_part, restriction_part, leaf_part}

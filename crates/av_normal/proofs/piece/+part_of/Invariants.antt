@@ -1,7 +1,7 @@
 use Rattle.std.proofs.Common.{◌≡◌, map, drop}
 use Rattle.av_flat.specs.Trees.{view, trees_of}
 use Rattle.av_normal.specs.inner.Numbered.{signatures_of}
-use Rattle.av_normal.specs.inner.Chosen.{AreLeft}
+use Rattle.av_normal.specs.inner.PieceByNumber.{AreLeft}
 use Rattle.av_normal.proofs.piece.+part_of.Given as goal
 
 -- the part is among those of the branches to come

@@ -1,8 +1,8 @@
 use Rattle.std.proofs.Common.{◌≡◌, ◌++◌, [], map, List, inl, inr, ⊎_elim, subst, ◌∙◌}
 use Rattle.std.proofs.lemmas.List.{length-map}
 use Rattle.av_flat.specs.Trees.{Variable, view_variable}
-use Rattle.av_normal.specs.Alongside.{Alongside}
-use Rattle.av_normal.specs.inner.Sifted.{IsSifted, IsHeld}
+use Rattle.av_normal.specs.Pairwise.{Pairwise}
+use Rattle.av_normal.specs.inner.NonemptyPieces.{HasNonemptyPieces, IsHeld}
 use Rattle.av_normal.proofs.Firsts.{made_along, none_left}
 use Rattle.av_normal.proofs.sift.kept_variables.Goals as goal
 
@@ -14,5 +14,5 @@ returns c =
     let extents = c.loop-var.var-iterator.b.rest.now in
     let gone : map view_variable vars ≡ [] =
     none_left IsHeld (map view_variable vars) extents c.loop-var.invariant.held (⊎_elim (λ h. inl (length-map vars view_variable ∙ h.1.0)) (λ h. inr h.1.0) c.in-None.ensures.steps) in
-    made_along IsSifted all made
-    (subst (λ (vs : List Variable). (rest : List Variable) → Alongside IsSifted vs rest → Alongside IsSifted all (made ++ rest)) gone c.loop-var.invariant.made)
+    made_along HasNonemptyPieces all made
+    (subst (λ (vs : List Variable). (rest : List Variable) → Pairwise HasNonemptyPieces vs rest → Pairwise HasNonemptyPieces all (made ++ rest)) gone c.loop-var.invariant.made)

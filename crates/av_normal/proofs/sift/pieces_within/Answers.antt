@@ -3,7 +3,7 @@ use Rattle.std.specs.List.{AllByRecursion}
 use Rattle.av_flat.specs.declared.flat.Piece.{Piece as PieceMade}
 use Rattle.av_flat.specs.Trees.{Piece, view_piece}
 use Rattle.av_normal.specs.Extents.{SaysPoint}
-use Rattle.av_normal.specs.inner.Sifted.{AreSifted, IsInside}
+use Rattle.av_normal.specs.inner.NonemptyPieces.{AreNonemptyPieces, IsInside}
 use Rattle.av_normal.proofs.Dropping.{next_item, nothing_left}
 use Rattle.av_normal.proofs.Sifting.{one_left_out, one_stays, sifted_all, seen_push}
 use Rattle.av_normal.proofs.sift.pieces_within.Goals as goal
@@ -20,7 +20,7 @@ loop-piece-preserved c =
     let kept = c.loop-piece.kept in
     let next = next_item pieces i c.piece-item.result l c.piece-item.is in
     let inside = subst (λ (ps : List PieceMade). AllByRecursion (IsInside c.args.within.now) (map view_piece ps)) next c.loop-piece.invariant.inside in
-    let made = subst (λ (ps : List PieceMade). (rs : List Piece) → AreSifted (map view_piece ps) rs → AreSifted all (map view_piece kept ++ rs)) next c.loop-piece.invariant.made in
+    let made = subst (λ (ps : List PieceMade). (rs : List Piece) → AreNonemptyPieces (map view_piece ps) rs → AreNonemptyPieces all (map view_piece kept ++ rs)) next c.loop-piece.invariant.made in
     let says : Bool → Type 0 = λ b. SaysPoint c.piece-item.result.domain b in
     elim c.if-branch.branch [
       | then-branch+in_ok-copy_piece+in_ok-push w ↦
@@ -29,13 +29,13 @@ loop-piece-preserved c =
           ap (λ (ps : List PieceMade). map view_piece ps) (w.kept-is ∙ w.in_ok-push.ensures.ok) ∙ seen_push kept w.in_ok-copy_piece.field-0 ∙ ap (λ (r : Piece). map view_piece kept ++ r ∷ []) w.in_ok-copy_piece.ensures in
           record {
             inside = inside.1;
-            made = subst (λ (now : List Piece). (rs : List Piece) → AreSifted rest rs → AreSifted all (now ++ rs)) (sym e) (one_stays q rest all (map view_piece kept) made z.0 z.1);
+            made = subst (λ (now : List Piece). (rs : List Piece) → AreNonemptyPieces rest rs → AreNonemptyPieces all (now ++ rs)) (sym e) (one_stays q rest all (map view_piece kept) made z.0 z.1);
           }
       | else-branch w ↦
           let none = subst says w.if-branch.false c.in_ok-has_point.ensures in
           record {
             inside = inside.1;
-            made = subst (λ (now : List PieceMade). (rs : List Piece) → AreSifted rest rs → AreSifted all (map view_piece now ++ rs)) (sym w.kept-is) (one_left_out q rest all (map view_piece kept) made none);
+            made = subst (λ (now : List PieceMade). (rs : List Piece) → AreNonemptyPieces rest rs → AreNonemptyPieces all (map view_piece now ++ rs)) (sym w.kept-is) (one_left_out q rest all (map view_piece kept) made none);
           }
     ]
 
@@ -45,5 +45,5 @@ returns c =
     let all = map view_piece pieces in
     let kept = c.loop-piece.kept in
     let l : length pieces ≤ c.loop-piece.piece-index = search rules in
-    let made = subst (λ (ps : List PieceMade). (rs : List Piece) → AreSifted (map view_piece ps) rs → AreSifted all (map view_piece kept ++ rs)) (nothing_left pieces c.loop-piece.piece-index l) c.loop-piece.invariant.made in
+    let made = subst (λ (ps : List PieceMade). (rs : List Piece) → AreNonemptyPieces (map view_piece ps) rs → AreNonemptyPieces all (map view_piece kept ++ rs)) (nothing_left pieces c.loop-piece.piece-index l) c.loop-piece.invariant.made in
     sifted_all all (map view_piece kept) made

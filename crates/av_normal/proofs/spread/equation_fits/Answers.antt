@@ -3,7 +3,7 @@ use Rattle.std.proofs.lemmas.Result.{err_from_is_err_and}
 use Rattle.av_flat.specs.declared.flat.Piece.{Piece as PieceMade}
 use Rattle.av_flat.specs.Trees.{Piece, view, view_piece}
 use Rattle.av_flat.specs.Quantities.{of_map, composed_maps}
-use Rattle.av_normal.specs.inner.Standing.{StandsUnder}
+use Rattle.av_normal.specs.inner.UnderMaps.{StandsUnder}
 use Rattle.av_normal.specs.inner.Making.{maps_measured}
 use Rattle.av_normal.proofs.Trying.{past, refused, next_stands}
 use Rattle.av_normal.proofs.Making.{all_at}

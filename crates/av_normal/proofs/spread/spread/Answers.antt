@@ -10,7 +10,7 @@ use Rattle.av_flat.specs.Quantities.{measured}
 use Rattle.av_normal.specs.inner.Counted.{HasFew}
 use Rattle.av_normal.specs.Searches.{AreNarrow, IsWide}
 use Rattle.av_normal.specs.inner.Making.{Continues}
-use Rattle.av_normal.specs.inner.Spread.{AreSpread}
+use Rattle.av_normal.specs.inner.AllPieces.{HaveAllPieces}
 use Rattle.av_normal.proofs.Dropping.{next_item, nothing_left}
 use Rattle.av_normal.proofs.Trying.{past, refused, next_stands, narrow_sets, wide_in}
 use Rattle.av_normal.proofs.Making.{all_at, one_made, all_made}
@@ -62,11 +62,11 @@ loop-var-preserved c =
     let var = c.in_ok-spread_variable.field-0 in
     let old = map view_variable c.loop-var.made in
     let longer = ap (λ (xs : List Var). map view_variable xs) c.in_ok-push.ensures.ok ∙ map-append view_variable c.loop-var.made (var ∷ []) in
-    let made = subst (λ (xs : List Var). Continues (AreSpread vs) whole old (map view_variable xs)) (next_item vars i c.var-item.result l c.var-item.is) c.loop-var.invariant.made in
+    let made = subst (λ (xs : List Var). Continues (HaveAllPieces vs) whole old (map view_variable xs)) (next_item vars i c.var-item.result l c.var-item.is) c.loop-var.invariant.made in
     record {
       left = past (measured vs v) (flat_map (measured vs) rest) all next c.in_ok-spread_variable.ensures.narrow;
-      made = subst (λ (ws : List Variable). Continues (AreSpread vs) whole ws rest) (sym longer)
-          (one_made (AreSpread vs) whole old v rest (view_variable var) made (λ ws a. (c.in_ok-spread_variable.ensures.spread, a)));
+      made = subst (λ (ws : List Variable). Continues (HaveAllPieces vs) whole ws rest) (sym longer)
+          (one_made (HaveAllPieces vs) whole old v rest (view_variable var) made (λ ws a. (c.in_ok-spread_variable.ensures.spread, a)));
     }
 
 pub returns-clause-spread : goal.returns-clause-spread
@@ -77,8 +77,8 @@ returns-clause-spread c =
     let l : length vars ≤ i = search rules in
     let made = map view_variable c.loop-var.made in
     let whole = map view_variable vars in
-    let end = subst (λ (xs : List Var). Continues (AreSpread vs) whole made (map view_variable xs)) (nothing_left vars i l) c.loop-var.invariant.made in
-    subst (λ (xs : List Var). AreSpread vs (map view_variable xs) made) c.as_slice-var-items.ensures (all_made (AreSpread vs) whole made tt end)
+    let end = subst (λ (xs : List Var). Continues (HaveAllPieces vs) whole made (map view_variable xs)) (nothing_left vars i l) c.loop-var.invariant.made in
+    subst (λ (xs : List Var). HaveAllPieces vs (map view_variable xs) made) c.as_slice-var-items.ensures (all_made (HaveAllPieces vs) whole made tt end)
 
 pub returns-clause-narrow : goal.returns-clause-narrow
 returns-clause-narrow c =

@@ -4,7 +4,7 @@ use Rattle.av_flat.specs.Trees.{view_variable, view_system}
 use Rattle.av_flat.specs.Signatures.{signatures}
 use Rattle.av_flat.specs.Quantities.{measured}
 use Rattle.av_normal.specs.inner.Making.{StandsFor, Continues}
-use Rattle.av_normal.specs.inner.Spread.{AreSpread}
+use Rattle.av_normal.specs.inner.AllPieces.{HaveAllPieces}
 use Rattle.av_normal.proofs.spread.spread.Given as goal
 
 abbrev pub invariant-loop-var : goal.invariant-loop-var
@@ -14,5 +14,5 @@ invariant-loop-var l =
     let rest = map view_variable (drop l.var-index l.var-items) in
     record {
       left : StandsFor (flat_map (measured vs) rest) (flat_map (measured vs) all);
-      made : Continues (AreSpread vs) all (map view_variable l.made) rest;
+      made : Continues (HaveAllPieces vs) all (map view_variable l.made) rest;
     }

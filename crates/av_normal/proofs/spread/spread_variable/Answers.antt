@@ -6,7 +6,7 @@ use Rattle.av_flat.specs.declared.flat.Var.{Var}
 use Rattle.av_flat.specs.Trees.{Piece, view_piece, view_variable, view_system}
 use Rattle.av_flat.specs.Signatures.{signatures}
 use Rattle.av_normal.specs.inner.Numbered.{signatures_of}
-use Rattle.av_normal.specs.inner.Standing.{StandsUnder}
+use Rattle.av_normal.specs.inner.UnderMaps.{StandsUnder}
 use Rattle.av_normal.specs.inner.Making.{held_parts, IsParted, IsHolder}
 use Rattle.av_normal.proofs.Trying.{pieces_are, all_narrow, wide_maps, wide_pieces, wide_bodies}
 use Rattle.av_normal.proofs.Making.{holders}

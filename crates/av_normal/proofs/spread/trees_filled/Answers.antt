@@ -7,7 +7,7 @@ use Rattle.av_flat.specs.Pieces.{Part, filled}
 use Rattle.av_flat.specs.Quantities.{of_set, body_sets}
 use Rattle.av_normal.specs.Searches.{AreNarrow}
 use Rattle.av_normal.specs.inner.Making.{bodies_measured, filled_part, StandsFor, IsHolder, Continues}
-use Rattle.av_normal.specs.inner.Spread.{AreSpreadParts}
+use Rattle.av_normal.specs.inner.AllPieces.{ArePiecesOfParts}
 use Rattle.av_normal.proofs.Trying.{past, refused}
 use Rattle.av_normal.proofs.Making.{all_at, made_at, parts_end, one_made, all_made}
 use Rattle.av_normal.proofs.spread.trees_filled.Goals as goal
@@ -47,9 +47,9 @@ loop-piece-preserved c =
       spread = λ dim ps made.
           let r = made_at view_piece dim ps pieces i c.piece-item.result l c.piece-item.is made in
           let all = map filled_part ps in
-          let rest = subst (λ (qs : List Part). Continues (AreSpreadParts dim) all (map view_piece spread) (map filled_part qs)) r.rest (c.loop-piece.invariant.spread dim ps made) in
-          subst (λ (qs : List Piece). Continues (AreSpreadParts dim) all qs (map filled_part (drop (i + 1) ps))) (sym longer)
-          (one_made (AreSpreadParts dim) all (map view_piece spread) (filled_part r.part) (map filled_part (drop (i + 1) ps)) (view_piece piece) rest
+          let rest = subst (λ (qs : List Part). Continues (ArePiecesOfParts dim) all (map view_piece spread) (map filled_part qs)) r.rest (c.loop-piece.invariant.spread dim ps made) in
+          subst (λ (qs : List Piece). Continues (ArePiecesOfParts dim) all qs (map filled_part (drop (i + 1) ps))) (sym longer)
+          (one_made (ArePiecesOfParts dim) all (map view_piece spread) (filled_part r.part) (map filled_part (drop (i + 1) ps)) (view_piece piece) rest
           (λ qs a. (c.in_ok-filled_piece.ensures.spread dim r.part r.made, a)));
     }
 
@@ -61,7 +61,7 @@ returns-clause-spread c = λ dim ps made.
     let none = parts_end view_piece dim ps pieces i l made in
     let all = map filled_part ps in
     let spread = map view_piece c.loop-piece.spread in
-    all_made (AreSpreadParts dim) all spread tt (subst (λ (qs : List Part). Continues (AreSpreadParts dim) all spread (map filled_part qs)) none (c.loop-piece.invariant.spread dim ps made))
+    all_made (ArePiecesOfParts dim) all spread tt (subst (λ (qs : List Part). Continues (ArePiecesOfParts dim) all spread (map filled_part qs)) none (c.loop-piece.invariant.spread dim ps made))
 
 pub returns-clause-narrow : goal.returns-clause-narrow
 returns-clause-narrow c = λ dim ps made.

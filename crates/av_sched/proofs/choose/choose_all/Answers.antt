@@ -1,6 +1,6 @@
 use Rattle.std.proofs.Common.{rules, ◌<◌, subst, length, List, Vec, Global, Option, IfSome, IfNone, ℕ}
 use Rattle.av_flat.specs.Trees.{view_system}
-use Rattle.av_sched.specs.inner.Chosen.{IsBestChoice, HasNone}
+use Rattle.av_sched.specs.inner.FirstChoices.{IsBestChoice, HasNone}
 use Rattle.av_sched.proofs.Choosing.{chosen_more, stuck_at, at_index}
 use Rattle.av_sched.proofs.choose.choose_all.Goals as goal
 

@@ -11,7 +11,7 @@ use Rattle.av_sched.specs.First.{IsFirstChoice}
 use Rattle.av_tree.specs.Points.{Point}
 use Rattle.std.proofs.lemmas.List.Elements.{All-weaker}
 use Rattle.av_sched.proofs.Whole.{not_none}
-use Rattle.av_sched.specs.inner.Chosen.{AreFirstChoices}
+use Rattle.av_sched.specs.inner.FirstChoices.{AreFirstChoices}
 use Rattle.av_sched.specs.SchedFaults.{HasManyCandidates, HasNoSchedule}
 use Rattle.av_sched.proofs.Inside.{vectors_of}
 use Rattle.av_sched.proofs.Schedule.{is_schedule}

@@ -7,12 +7,12 @@ use Rattle.av_flat.specs.Trees.{Tree, view, reduction}
 use Rattle.av_normal.proofs.Outcomes.{if_ok}
 use Rattle.av_serial.specs.Lines.{choices_of}
 use Rattle.av_serial.specs.inner.Tries.{IsDomainOf}
-use Rattle.av_serial.specs.inner.Ready.{IsReady}
+use Rattle.av_serial.specs.inner.Premises.{HasPremises}
 use Rattle.av_serial.specs.inner.Building.{AreMade}
 use Rattle.av_serial.proofs.Building.{made_two, made_four, made_empty, made_within, made_reduction, made_grows}
 use Rattle.av_serial.proofs.Falling.{left_falls, right_falls, first_falls, second_falls, third_falls, fourth_falls, body_falls}
 use Rattle.av_serial.proofs.Finding.{set_point}
-use Rattle.av_serial.proofs.Ready.{ready_left, ready_right, ready_first, ready_second, ready_third, ready_fourth, ready_inside}
+use Rattle.av_serial.proofs.Premises.{ready_left, ready_right, ready_first, ready_second, ready_third, ready_fourth, ready_inside}
 use Rattle.av_serial.proofs.build.+chained.Goals as goal
 
 -- ---- what is required of the parts
@@ -20,7 +20,7 @@ use Rattle.av_serial.proofs.build.+chained.Goals as goal
 pub chained-boxed-requires : goal.chained-boxed-requires
 chained-boxed-requires t c =
     let e = c.args.equation in
-    let Ready : TreeMade → _ = λ (u : TreeMade). IsReady c.args.name.now (length c.args.chains.now) (view u) in
+    let Ready : TreeMade → _ = λ (u : TreeMade). HasPremises c.args.name.now (length c.args.chains.now) (view u) in
     let all = subst Ready c.in-Binary.is c.requires.ready in (
       left_falls t c.args.tree.now c.deref.result.now c.decreases c.in-Binary.sign c.in-Binary.left c.in-Binary.right c.in-Binary.is c.deref.ensures,
       (
@@ -35,11 +35,11 @@ chained-boxed-requires-in-Binary t c =
     let name = c.args.name.now in
     let l = view c.in-Binary.left.value in
     let a = view c.in_ok-left-in-Binary.left.value in
-    let all = subst (λ (u : TreeMade). IsReady name (length c.args.chains.now) (view u)) c.in-Binary.is c.requires.ready in
+    let all = subst (λ (u : TreeMade). HasPremises name (length c.args.chains.now) (view u)) c.in-Binary.is c.requires.ready in
     let made = rw c.deref.ensures at c.in_ok-left-in-Binary.ensures in (
       right_falls t c.args.tree.now c.deref-in-Binary.result.now c.decreases c.in-Binary.sign c.in-Binary.left c.in-Binary.right c.in-Binary.is c.deref-in-Binary.ensures,
       (
-        subst (λ (u : TreeMade). IsReady name (length c.boxed.new.chains) (view u)) (sym c.deref-in-Binary.ensures)
+        subst (λ (u : TreeMade). HasPremises name (length c.boxed.new.chains) (view u)) (sym c.deref-in-Binary.ensures)
             (ready_right name e.first e.width.bits e.base c.in-Binary.sign l (view c.in-Binary.right.value) a c.args.chains.now c.boxed.new.chains all made),
         (c.requires.base, made_grows name e.first e.width.bits e.base c.args.chains.now c.boxed.new.chains l a made c.requires.first),
       ),
@@ -49,10 +49,10 @@ pub chained-boxed-requires-in-Choose : goal.chained-boxed-requires-in-Choose
 chained-boxed-requires-in-Choose t c =
     let e = c.args.equation in
     let name = c.args.name.now in
-    let all = subst (λ (u : TreeMade). IsReady name (length c.args.chains.now) (view u)) c.in-Choose.is c.requires.ready in (
+    let all = subst (λ (u : TreeMade). HasPremises name (length c.args.chains.now) (view u)) c.in-Choose.is c.requires.ready in (
       first_falls t c.args.tree.now c.deref-in-Choose.result.now c.decreases c.in-Choose.compare c.in-Choose.left c.in-Choose.right c.in-Choose.yes c.in-Choose.no c.in-Choose.is c.deref-in-Choose.ensures,
       (
-        subst (λ (u : TreeMade). IsReady name (length c.args.chains.now) (view u)) (sym c.deref-in-Choose.ensures)
+        subst (λ (u : TreeMade). HasPremises name (length c.args.chains.now) (view u)) (sym c.deref-in-Choose.ensures)
             (ready_first name e.first e.width.bits e.base c.in-Choose.compare (view c.in-Choose.left.value) (view c.in-Choose.right.value) (view c.in-Choose.yes.value) (view c.in-Choose.no.value)
             (length c.args.chains.now) all),
         (c.requires.base, c.requires.first),
@@ -63,12 +63,12 @@ pub chained-boxed-requires-in-Choose-2 : goal.chained-boxed-requires-in-Choose-2
 chained-boxed-requires-in-Choose-2 t c =
     let e = c.args.equation in
     let name = c.args.name.now in
-    let all = subst (λ (u : TreeMade). IsReady name (length c.args.chains.now) (view u)) c.in-Choose.is c.requires.ready in
+    let all = subst (λ (u : TreeMade). HasPremises name (length c.args.chains.now) (view u)) c.in-Choose.is c.requires.ready in
     let made1 = rw c.deref-in-Choose.ensures at c.in_ok-left-in-Choose.ensures in
     let grown1 = made_grows name e.first e.width.bits e.base c.args.chains.now c.boxed-in-Choose.new.chains (view c.in-Choose.left.value) (view c.in_ok-left-in-Choose.left.value) made1 c.requires.first in (
       second_falls t c.args.tree.now c.deref-in-Choose-2.result.now c.decreases c.in-Choose.compare c.in-Choose.left c.in-Choose.right c.in-Choose.yes c.in-Choose.no c.in-Choose.is c.deref-in-Choose-2.ensures,
       (
-        subst (λ (u : TreeMade). IsReady name (length c.boxed-in-Choose.new.chains) (view u)) (sym c.deref-in-Choose-2.ensures)
+        subst (λ (u : TreeMade). HasPremises name (length c.boxed-in-Choose.new.chains) (view u)) (sym c.deref-in-Choose-2.ensures)
             (ready_second name e.first e.width.bits e.base c.in-Choose.compare (view c.in-Choose.left.value) (view c.in-Choose.right.value) (view c.in-Choose.yes.value) (view c.in-Choose.no.value)
             (view c.in_ok-left-in-Choose.left.value) c.args.chains.now c.boxed-in-Choose.new.chains all made1),
         (c.requires.base, grown1),
@@ -79,14 +79,14 @@ pub chained-boxed-requires-in-Choose-3 : goal.chained-boxed-requires-in-Choose-3
 chained-boxed-requires-in-Choose-3 t c =
     let e = c.args.equation in
     let name = c.args.name.now in
-    let all = subst (λ (u : TreeMade). IsReady name (length c.args.chains.now) (view u)) c.in-Choose.is c.requires.ready in
+    let all = subst (λ (u : TreeMade). HasPremises name (length c.args.chains.now) (view u)) c.in-Choose.is c.requires.ready in
     let made1 = rw c.deref-in-Choose.ensures at c.in_ok-left-in-Choose.ensures in
     let made2 = rw c.deref-in-Choose-2.ensures at c.in_ok-right-in-Choose.ensures in
     let grown1 = made_grows name e.first e.width.bits e.base c.args.chains.now c.boxed-in-Choose.new.chains (view c.in-Choose.left.value) (view c.in_ok-left-in-Choose.left.value) made1 c.requires.first in
     let grown2 = made_grows name e.first e.width.bits e.base c.boxed-in-Choose.new.chains c.boxed-in-Choose-2.new.chains (view c.in-Choose.right.value) (view c.in_ok-right-in-Choose.right.value) made2 grown1 in (
       third_falls t c.args.tree.now c.deref-in-Choose-3.result.now c.decreases c.in-Choose.compare c.in-Choose.left c.in-Choose.right c.in-Choose.yes c.in-Choose.no c.in-Choose.is c.deref-in-Choose-3.ensures,
       (
-        subst (λ (u : TreeMade). IsReady name (length c.boxed-in-Choose-2.new.chains) (view u)) (sym c.deref-in-Choose-3.ensures)
+        subst (λ (u : TreeMade). HasPremises name (length c.boxed-in-Choose-2.new.chains) (view u)) (sym c.deref-in-Choose-3.ensures)
             (ready_third name e.first e.width.bits e.base c.in-Choose.compare (view c.in-Choose.left.value) (view c.in-Choose.right.value) (view c.in-Choose.yes.value) (view c.in-Choose.no.value)
             (view c.in_ok-left-in-Choose.left.value) (view c.in_ok-right-in-Choose.right.value) c.args.chains.now c.boxed-in-Choose.new.chains c.boxed-in-Choose-2.new.chains all made1 made2),
         (c.requires.base, grown2),
@@ -97,7 +97,7 @@ pub chained-boxed-requires-in-Choose-4 : goal.chained-boxed-requires-in-Choose-4
 chained-boxed-requires-in-Choose-4 t c =
     let e = c.args.equation in
     let name = c.args.name.now in
-    let all = subst (λ (u : TreeMade). IsReady name (length c.args.chains.now) (view u)) c.in-Choose.is c.requires.ready in
+    let all = subst (λ (u : TreeMade). HasPremises name (length c.args.chains.now) (view u)) c.in-Choose.is c.requires.ready in
     let made1 = rw c.deref-in-Choose.ensures at c.in_ok-left-in-Choose.ensures in
     let made2 = rw c.deref-in-Choose-2.ensures at c.in_ok-right-in-Choose.ensures in
     let made3 = rw c.deref-in-Choose-3.ensures at c.in_ok-yes-in-Choose.ensures in
@@ -106,7 +106,7 @@ chained-boxed-requires-in-Choose-4 t c =
     let grown3 = made_grows name e.first e.width.bits e.base c.boxed-in-Choose-2.new.chains c.boxed-in-Choose-3.new.chains (view c.in-Choose.yes.value) (view c.in_ok-yes-in-Choose.yes.value) made3 grown2 in (
       fourth_falls t c.args.tree.now c.deref-in-Choose-4.result.now c.decreases c.in-Choose.compare c.in-Choose.left c.in-Choose.right c.in-Choose.yes c.in-Choose.no c.in-Choose.is c.deref-in-Choose-4.ensures,
       (
-        subst (λ (u : TreeMade). IsReady name (length c.boxed-in-Choose-3.new.chains) (view u)) (sym c.deref-in-Choose-4.ensures)
+        subst (λ (u : TreeMade). HasPremises name (length c.boxed-in-Choose-3.new.chains) (view u)) (sym c.deref-in-Choose-4.ensures)
             (ready_fourth name e.first e.width.bits e.base c.in-Choose.compare (view c.in-Choose.left.value) (view c.in-Choose.right.value) (view c.in-Choose.yes.value) (view c.in-Choose.no.value)
             (view c.in_ok-left-in-Choose.left.value) (view c.in_ok-right-in-Choose.right.value) (view c.in_ok-yes-in-Choose.yes.value) c.args.chains.now c.boxed-in-Choose.new.chains c.boxed-in-Choose-2.new.chains c.boxed-in-Choose-3.new.chains all made1 made2 made3),
         (c.requires.base, grown3),
@@ -118,11 +118,11 @@ chained-reduced-requires t c =
     let name = c.args.name.now in
     let m = c.in-Reduce.map in
     let set = c.in-Reduce.set in
-    let all = subst (λ (u : TreeMade). IsReady name (length c.args.chains.now) (view u)) c.in-Reduce.is c.requires.ready in
+    let all = subst (λ (u : TreeMade). HasPremises name (length c.args.chains.now) (view u)) c.in-Reduce.is c.requires.ready in
     let d = subst (λ (o : Option Set). IsDomainOf m set o) c.in-Some.is c.in_ok-domain-in-Reduce.ensures in (
       body_falls t c.args.tree.now c.deref-in-Some.result.now c.decreases c.in-Reduce.op c.in-Reduce.map c.in-Reduce.body c.in-Reduce.set c.in-Reduce.is c.deref-in-Some.ensures,
       (
-        subst (λ (u : TreeMade). IsReady name (length c.args.chains.now + 1) (view u)) (sym c.deref-in-Some.ensures)
+        subst (λ (u : TreeMade). HasPremises name (length c.args.chains.now + 1) (view u)) (sym c.deref-in-Some.ensures)
             (ready_inside name c.in-Reduce.op m (view c.in-Reduce.body.value) set (length c.args.chains.now) all (set_point m set c.in-Some.domain d)),
         (all.can.0.projection, (all.can.0.few, (d.dimension ∙ all.can.0.dimension, (d.limits, (c.requires.base, c.requires.first))))),
       ),

@@ -3,9 +3,9 @@ use Rattle.av_poly.specs.Points.{Set}
 use Rattle.av_flat.specs.declared.flat.Piece.{Piece as PieceMade}
 use Rattle.av_flat.specs.Trees.{view, view_piece}
 use Rattle.av_normal.proofs.Dropping.{next_item, nothing_left}
-use Rattle.av_serial.specs.inner.Ready.{AreReadyPieces}
+use Rattle.av_serial.specs.inner.Premises.{PiecesHavePremises}
 use Rattle.av_serial.proofs.Building.{ArePiecesSoFar, pieces_step, pieces_end, made_grows, map_push}
-use Rattle.av_serial.proofs.Ready.{ready_piece, ready_pieces}
+use Rattle.av_serial.proofs.Premises.{ready_piece, ready_pieces}
 use Rattle.av_serial.proofs.build.pieces_chained.Goals as goal
 
 pub loop-piece-preserved : goal.loop-piece-preserved
@@ -25,7 +25,7 @@ loop-piece-preserved c =
     ∙ ap (λ (d : Set). made ++ record { domain = d; tree = view c.in_ok-tree.tree } ∷ []) c.in_ok-domain.ensures in
     record {
       ready = ready_pieces c.args.name.now e.first e.width.bits e.base p (view c.in_ok-tree.tree) rest c.loop-piece.chains c.chained.new.chains
-          (subst (λ (ps : List PieceMade). AreReadyPieces c.args.name.now (length c.loop-piece.chains) (map view_piece ps)) next c.loop-piece.invariant.ready) c.in_ok-tree.ensures;
+          (subst (λ (ps : List PieceMade). PiecesHavePremises c.args.name.now (length c.loop-piece.chains) (map view_piece ps)) next c.loop-piece.invariant.ready) c.in_ok-tree.ensures;
       first = made_grows c.args.name.now e.first e.width.bits e.base c.loop-piece.chains c.chained.new.chains p.tree (view c.in_ok-tree.tree) c.in_ok-tree.ensures c.loop-piece.invariant.first;
       made = pieces_step c.args.name.now e.first e.width.bits e.base c.args.chains.now c.loop-piece.chains c.chained.new.chains all rest made (map view_piece c.push.new.self) p (view c.in_ok-tree.tree) so_far c.in_ok-tree.ensures pushed;
     }
@@ -37,7 +37,7 @@ chained-requires-clause-ready c =
     let l : i < length pieces = search rules in
     let next = next_item pieces i c.piece-item.result l c.piece-item.is in
     ready_piece c.args.name.now (view_piece c.piece-item.result) (map view_piece (drop (i + 1) pieces)) (length c.loop-piece.chains)
-    (subst (λ (ps : List PieceMade). AreReadyPieces c.args.name.now (length c.loop-piece.chains) (map view_piece ps)) next c.loop-piece.invariant.ready)
+    (subst (λ (ps : List PieceMade). PiecesHavePremises c.args.name.now (length c.loop-piece.chains) (map view_piece ps)) next c.loop-piece.invariant.ready)
 
 pub returns : goal.returns
 returns c =

@@ -1,13 +1,13 @@
 use Rattle.std.proofs.Common.{◌≤◌, ◌+◌, length, drop, map}
 use Rattle.av_flat.specs.Trees.{view_piece}
-use Rattle.av_serial.specs.inner.Ready.{AreReadyPieces}
+use Rattle.av_serial.specs.inner.Premises.{PiecesHavePremises}
 use Rattle.av_serial.proofs.Building.{ArePiecesSoFar}
 use Rattle.av_serial.proofs.build.pieces_chained.Given as goal
 
 -- those so far are made, and what is made of those to come makes all
 abbrev pub invariant-loop-piece : goal.invariant-loop-piece
 invariant-loop-piece l = record {
-  ready : AreReadyPieces l.name (length l.chains) (map view_piece (drop l.piece-index l.pieces));
+  ready : PiecesHavePremises l.name (length l.chains) (map view_piece (drop l.piece-index l.pieces));
   first : l.equation.first ≤ l.equation.base + length l.chains;
   made : ArePiecesSoFar l.name l.equation.first l.equation.width.bits l.equation.base l.initial.chains l.chains (map view_piece l.pieces) (map view_piece (drop l.piece-index l.pieces)) (map view_piece l.made);
 }

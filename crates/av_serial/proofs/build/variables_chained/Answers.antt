@@ -2,9 +2,9 @@ use Rattle.std.proofs.Common.{◌≡◌, ℕ, ◌<◌, ◌≤◌, ◌+◌, ◌++
 use Rattle.av_flat.specs.declared.flat.Var.{Var}
 use Rattle.av_flat.specs.Trees.{view_variable}
 use Rattle.av_normal.proofs.Dropping.{next_item, nothing_left}
-use Rattle.av_serial.specs.inner.Ready.{AreReady}
+use Rattle.av_serial.specs.inner.Premises.{VariablesHavePremises}
 use Rattle.av_serial.proofs.Building.{HaveWidth, AreVariablesSoFar, variables_step, variables_end, map_push}
-use Rattle.av_serial.proofs.Ready.{ready_variable, ready_variables}
+use Rattle.av_serial.proofs.Premises.{ready_variable, ready_variables}
 use Rattle.av_serial.proofs.build.variables_chained.Goals as goal
 
 pub loop-var-preserved : goal.loop-var-preserved
@@ -24,7 +24,7 @@ loop-var-preserved c =
     let pushed : map view_variable c.push.new.self ≡ made ++ w ∷ [] = ap (λ (vs : List Var). map view_variable vs) c.in_ok-push.ensures.ok ∙ map_push view_variable c.loop-var.made c.in_ok-variable_chained.field-0 in
     record {
       ready = ready_variables base v w rest c.loop-var.chains c.variable_chained.new.chains
-          (subst (λ (vs : List Var). AreReady (length c.loop-var.chains) (map view_variable vs)) next c.loop-var.invariant.ready) c.in_ok-variable_chained.ensures;
+          (subst (λ (vs : List Var). VariablesHavePremises (length c.loop-var.chains) (map view_variable vs)) next c.loop-var.invariant.ready) c.in_ok-variable_chained.ensures;
       widths = λ width h. (widths width h).1;
       made = λ width h. variables_step width base c.args.chains.now c.loop-var.chains c.variable_chained.new.chains all rest made (map view_variable c.push.new.self) v w (widths width h).0 (so_far width h) c.in_ok-variable_chained.ensures pushed;
     }
@@ -36,7 +36,7 @@ variable_chained-requires-clause-ready c =
     let l : i < length vars = search rules in
     let next = next_item vars i c.var-item.result l c.var-item.is in
     ready_variable (view_variable c.var-item.result) (map view_variable (drop (i + 1) vars)) (length c.loop-var.chains)
-    (subst (λ (vs : List Var). AreReady (length c.loop-var.chains) (map view_variable vs)) next c.loop-var.invariant.ready)
+    (subst (λ (vs : List Var). VariablesHavePremises (length c.loop-var.chains) (map view_variable vs)) next c.loop-var.invariant.ready)
 
 pub returns : goal.returns
 returns c =

@@ -1,7 +1,7 @@
 use Rattle.std.proofs.Common.{◌∙◌, ◌<◌, ◌≤◌, ◌+◌, ◌-◌, ◌/◌, ℕ, Some, length, arith, sym, ap}
 use Rattle.std.proofs.lemmas.Option.{slice_get-get_or}
 use Rattle.av_space.specs.declared.cells.Cell.{Cell}
-use Rattle.av_space.specs.Standing.{IsCellBefore}
+use Rattle.av_space.specs.Occupancy.{IsCellBefore}
 use Rattle.av_space.proofs.OneArray.{cells_in_turn}
 use Rattle.av_space.proofs.Located.{higher, lower, found}
 use Rattle.av_space.proofs.locate.cell_at.Goals as goal

@@ -8,7 +8,7 @@ use Rattle.av_space.specs.declared.cells.Cell.{Cell}
 use Rattle.av_flat.specs.Trees.{view_system}
 use Rattle.av_flat.specs.Schedules.{cycle}
 use Rattle.av_space.specs.Coordinates.{along}
-use Rattle.av_space.specs.Standing.{Computes}
+use Rattle.av_space.specs.Occupancy.{Computes}
 use Rattle.av_space.proofs.Nodes.{time_at}
 use Rattle.av_space.proofs.Laid.{placing_time}
 use Rattle.av_space.proofs.Located.{own_placing, placed, has_cell, node_stands}

@@ -1,5 +1,0 @@
-use Rattle.av_net.proofs.Streams.{are_presentable}
-use Rattle.av_net.proofs.law.presented.Goals as goal
-
-pub returns : goal.returns
-returns c = are_presentable

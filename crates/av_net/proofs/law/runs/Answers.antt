@@ -1,6 +1,0 @@
-use Rattle.av_net.proofs.Cycles.{has_runs, one_run}
-use Rattle.av_net.proofs.RunFits.{runs_fit}
-use Rattle.av_net.proofs.law.runs.Goals as goal
-
-pub returns : goal.returns
-returns c = record { some = has_runs; once = one_run; fit = runs_fit }

@@ -1,5 +1,0 @@
-use Rattle.av_vread.proofs.RoundTrip.{one_text}
-use Rattle.av_vread.proofs.law.one_text.Goals as goal
-
-pub returns : goal.returns
-returns c = one_text
