@@ -33,6 +33,7 @@ pub fn alphav<S: Source, K: Sink>(
     sink: &mut K,
 ) -> Status
     ensures words { result ≡ Status.Words → AddsWhole Status.Words words.now (S.left source.old) (S.left source.new) (K.held sink.old) (K.held sink.new) }
+    ensures untouched { result ≡ Status.Words → source.new ≡ source.old }
     ensures refused { result ≡ Status.Refused → AddsWhole Status.Refused words.now (S.left source.old) (S.left source.new) (K.held sink.old) (K.held sink.new) }
     ensures done { result ≡ Status.Done → AddsWhole Status.Done words.now (S.left source.old) (S.left source.new) (K.held sink.old) (K.held sink.new) }
 

@@ -85,6 +85,35 @@ const SIXTY_FOUR_BITS: &str =
   assign sl = $signed(a) < $signed(b);
 ";
 
+// A port that its line of the listing names and the module has not.
+const LISTED: &str = "// alphav 1
+// in W (0) i9 0
+module faulty(input clk, input rst, output [3:0] o0);
+  assign o0 = 4'd0;
+";
+
+const TWICE: &str = "module faulty(input clk, input rst, output [3:0] o0);
+  wire [3:0] w;
+  wire [3:0] w;
+  assign w = 4'd1;
+  assign o0 = w;
+";
+
+const UNKNOWN: &str = "module faulty(input clk, input rst, output [3:0] o0);
+  assign o0 = w;
+";
+
+const UNASSIGNED: &str = "module faulty(input clk, input rst, output [3:0] o0);
+  wire [3:0] w;
+  assign o0 = 4'd0;
+";
+
+const WIDE: &str = "module faulty(input clk, input rst, output [3:0] o0);
+  wire [3:0] w;
+  assign w = 8'd1;
+  assign o0 = w;
+";
+
 // The module without its last line, what follows that line, the status and the output.
 const ROWS: &[(&str, &str, Status, &str)] = &[
     (
@@ -157,6 +186,36 @@ const ROWS: &[(&str, &str, Status, &str)] = &[
         "%%\ncycles 1\n",
         Status::Refused,
         "refused: verilog order w0\n",
+    ),
+    (
+        LISTED,
+        "%%\ncycles 1\n",
+        Status::Refused,
+        "refused: verilog listing 2\n",
+    ),
+    (
+        TWICE,
+        "%%\ncycles 1\n",
+        Status::Refused,
+        "refused: verilog twice w\n",
+    ),
+    (
+        UNKNOWN,
+        "%%\ncycles 1\n",
+        Status::Refused,
+        "refused: verilog unknown w\n",
+    ),
+    (
+        UNASSIGNED,
+        "%%\ncycles 1\n",
+        Status::Refused,
+        "refused: verilog unassigned w\n",
+    ),
+    (
+        WIDE,
+        "%%\ncycles 1\n",
+        Status::Refused,
+        "refused: verilog width w\n",
     ),
     (
         CHAIN,

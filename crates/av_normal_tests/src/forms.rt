@@ -1,0 +1,126 @@
+//! How many pieces the variables of a text keep, or why it has no normal form.
+
+ghost use Rattle.std.specs.Prelude.{◌<◌, ◌≤◌, length, IfOk};
+ghost use Rattle.av_flat.specs.Trees.{view_system};
+ghost use Rattle.av_flat.specs.WellFormed.{IsWellFormed};
+
+use av_base::Width;
+use av_flat::{Flat, Pass, Quantity};
+use av_lex::lex;
+use av_names::resolve;
+use av_normal::{Normal, NormalFault};
+use av_parse::parse;
+use std::alloc::Global;
+use std::fmt::Write;
+use std::test::Fail;
+
+/// The system of a text without sizes, in words of 8 bits.
+fn system(alloc: Global, text: &str) -> Result<Flat, Fail>
+    ensures { IfOk result (λ flat. IsWellFormed (view_system flat)) }
+{
+    if text.len() > 100_000 {
+        return Err(Fail::new("long"));
+    }
+    let Ok(tokens) = lex(alloc, text.as_bytes()) else {
+        return Err(Fail::new("tokens"));
+    };
+    let Ok(system) = parse(alloc, tokens.as_slice()) else {
+        return Err(Fail::new("system"));
+    };
+    let Some(width) = Width::new(8) else {
+        return Err(Fail::new("width"));
+    };
+    match resolve(alloc, &system, &[], width) {
+        Ok(flat) => Ok(flat),
+        Err(_) => Err(Fail::new("flat")),
+    }
+}
+
+fn push_fault(out: &mut String, fault: &NormalFault) -> Result<(), Fail> {
+    match fault {
+        NormalFault::Pieces(n) => write!(out, "pieces {n}")?,
+        NormalFault::Unbounded(name) => write!(out, "unbounded {}", name.as_str())?,
+        NormalFault::Limit(Quantity::Coefficient, n) => write!(out, "coefficient {n}")?,
+        NormalFault::Limit(Quantity::Constant, n) => write!(out, "constant {n}")?,
+        NormalFault::Limit(Quantity::Constraints, n) => write!(out, "constraints {n}")?,
+        NormalFault::Limit(Quantity::Coordinate, n) => write!(out, "coordinate {n}")?,
+        NormalFault::Limit(Quantity::BoxSize, n) => write!(out, "box {n}")?,
+        NormalFault::Limit(_, n) => write!(out, "limit {n}")?,
+        NormalFault::Memory => out.push_str("memory")?,
+    }
+    Ok(())
+}
+
+/// Each variable with the number of its kept pieces, or the fault.
+fn answer(alloc: Global, text: &str) -> Result<String, Fail> {
+    let flat = system(alloc, text)?;
+    let mut out = String::new(alloc);
+    match Normal.run(alloc, &flat) {
+        Ok(normal) => {
+            for var in normal.vars.as_slice() {
+                write!(out, "{} {};", var.name.as_str(), var.pieces.as_slice().len())?;
+            }
+        }
+        Err(fault) => push_fault(&mut out, &fault)?,
+    }
+    Ok(out)
+}
+
+const ROWS: &[(&str, &str)] = &[
+    // A branch for each part of the domain, one of them in no point of it.
+    (
+        "system t (X : {i|0<=i<=2} of integer) returns (Y : {i|0<=i<=2} of integer); let Y = case {i|i<=0} : X; {i|i>=1} : X + X; {i|i>=3} : X * X; esac; tel;",
+        "X 0;Y 2;",
+    ),
+    // Branches of both operands, of which two pairs meet.
+    (
+        "system t () returns (Y : {i|0<=i<=2} of integer); let Y = case {i|i<=0} : 1; {i|i>=1} : 2; esac + case {i|i<=0} : 3; {i|i>=1} : 4; esac; tel;",
+        "Y 2;",
+    ),
+    // A domain without a point, and one of a single point.
+    (
+        "system t () returns (Y : {i|1<=i<=0} of integer; Z : {i|i=0} of integer); let Y = 1; Z = 2; tel;",
+        "Y 0;Z 1;",
+    ),
+    // A restriction stands at the image of a dependence.
+    (
+        "system t (X : {i|0<=i<=9} of integer) returns (Y : {i|0<=i<=4} of integer); let Y = case ({i|i>=8} : X).(i->2i); ({i|i<=7} : X).(i->2i); esac; tel;",
+        "X 0;Y 2;",
+    ),
+    (
+        "system t () returns (Y : {i|1<=i<=0} of integer); let Y = case 1; 2; esac + case 1; 2; esac + case 1; 2; esac + case 1; 2; esac + case 1; 2; esac + case 1; 2; esac + case 1; 2; esac + case 1; 2; esac + case 1; 2; esac; tel;",
+        "pieces 512",
+    ),
+    (
+        "system t (X : {i|0<=i} of integer) returns (Y : {i|i=0} of integer); let Y = 1; tel;",
+        "unbounded X",
+    ),
+    (
+        "system t (X : {i|0<=i<=2} of integer) returns (Y : {i|i=0} of integer); let Y = (X).(i->1024i).(i->2i); tel;",
+        "coefficient 2048",
+    ),
+    (
+        "system t (X : {i|0<=i<=2} of integer) returns (Y : {i|i=0} of integer); let Y = (X).(i->i+1048576).(i->i+1).(i->i-1048576); tel;",
+        "constant 1048577",
+    ),
+    (
+        "system t (X : {i,j|0<=i;0<=j;i+2j<=9;i+3j<=9;i+4j<=9;i+5j<=9;i+6j<=9;i+7j<=9;i+8j<=9;i+9j<=9;i+10j<=9;i+11j<=9;i+12j<=9;i+13j<=9;i+14j<=9;i+15j<=9;i+16j<=9;i+17j<=9;i+18j<=9;i+19j<=9;i+20j<=9} of integer) returns (Y : {|} of integer); let Y = 1; tel;",
+        "constraints 21",
+    ),
+    (
+        "system t (X : {i|0<=i<=4096} of integer) returns (Y : {i|i=0} of integer); let Y = 1; tel;",
+        "coordinate 4096",
+    ),
+    (
+        "system t (X : {i,j|0<=i<=255;0<=j<=256} of integer) returns (Y : {i|i=0} of integer); let Y = 1; tel;",
+        "box 65792",
+    ),
+];
+
+#[test]
+fn pieces_and_faults(rt: HostRuntime) -> Result<(), Fail> {
+    for (text, wanted) in ROWS {
+        assert_eq!(rt; answer(rt.alloc(), text)?.as_str(), *wanted);
+    }
+    Ok(())
+}
