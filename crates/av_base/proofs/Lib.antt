@@ -1,3 +1,4 @@
 pub mod Moves
 pub mod Numbers
 pub mod Residues
+pub mod Passing

@@ -1,9 +1,10 @@
-ghost use Rattle.std.specs.Prelude.{◌≡◌, ◌<◌, ◌≤◌, ◌+◌, ◌∷◌, length, take, drop, if◌then◌else◌, nat_lt, IfSome, IfNone};
+ghost use Rattle.std.specs.Prelude.{◌≡◌, ◌<◌, ◌≤◌, ◌+◌, ◌∷◌, length, if◌then◌else◌, nat_lt, IfSome, IfNone};
 ghost use Rattle.std.specs.List.{prefix_len};
 ghost use Rattle.av_data.specs.Divisions.{is_mark, IsDivided, HasNoMark};
 ghost use Rattle.av_data.specs.Reading.{is_not_feed, whole_size};
 
 use crate::lines::from;
+use av_base::part;
 
 /// A text, and what stands behind the first line `%%`. The lines of that are counted from the start of the
 /// input, and its first one has the number `first_line`.
@@ -35,14 +36,6 @@ fn is_mark(line: &[u8]) -> bool
     ensures { result ≡ is_mark line.now }
 {
     line == b"%%".as_slice() || line == b"%%\n".as_slice() || line == b"%%\r\n".as_slice()
-}
-
-// So many bytes from an index on.
-fn part(bytes: &[u8], at: usize, len: usize) -> &[u8]
-    requires { at + len ≤ length bytes.now }
-    ensures { result.now ≡ take len (drop at bytes.now) }
-{
-    &bytes[at..at + len]
 }
 
 /// Divides an input at its first line `%%`, which may end with a carriage return before its line feed. `None`

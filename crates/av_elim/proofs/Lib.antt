@@ -11,4 +11,4 @@ pub mod Telling
 pub mod Answering
 pub mod Reaching
 pub mod Constants
-pub mod Laws
+pub mod Excluding

@@ -1,5 +1,4 @@
 pub mod Longest
-pub mod Moves
 pub mod Pieces
 pub mod Readings
 pub mod Tables

@@ -1,4 +1,4 @@
-ghost use Rattle.std.specs.Prelude.{◌≡◌, ◌<◌, ◌≤◌, ℕ, List as Items, length, take, drop, ◌+◌, IfOk, Ok, Err};
+ghost use Rattle.std.specs.Prelude.{◌≡◌, ◌<◌, ◌≤◌, ℕ, List as Items, length, IfOk, Ok, Err};
 ghost use Rattle.av_base.specs.declared.place.Place.{Place};
 ghost use Rattle.av_base.specs.Tokens.{Token as Spelled, IsText, start};
 ghost use Rattle.av_lex.specs.Faults.{IsFault};
@@ -7,19 +7,10 @@ ghost use Rattle.av_lex.specs.inner.Reading.{read_of};
 ghost use Rattle.av_lex.specs.declared.fault.LexFault.{LexFault};
 
 use crate::number::is_in_range;
-use crate::places::moved;
 use crate::scan::{Piece, piece_at};
 use crate::{LexFault, Token, TokenKind};
-use av_base::{List, Place};
+use av_base::{List, Place, moved, part};
 use std::alloc::Global;
-
-/// So many bytes from an index on.
-fn part(bytes: &[u8], at: usize, len: usize) -> &[u8]
-    requires { at + len ≤ length bytes.now }
-    ensures { result.now ≡ take len (drop at bytes.now) }
-{
-    &bytes[at..at + len]
-}
 
 fn tokens<'a>(alloc: Global, bytes: &'a [u8]) -> Result<List<Token<'a>>, LexFault>
     requires { length bytes.now < 4294967295 }

@@ -5,7 +5,6 @@ mod fault;
 mod laws;
 mod lexer;
 mod number;
-mod places;
 mod scan;
 mod token;
 

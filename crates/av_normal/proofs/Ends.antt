@@ -6,7 +6,7 @@ use Rattle.av_affine.specs.declared.form.Form.{Form}
 use Rattle.av_poly.specs.declared.poly.Bounds.{Bounds}
 use Rattle.av_poly.specs.Normal.{AreNormalised}
 use Rattle.av_poly.specs.Rational.{homogeneous, IsRationalRay, IsBounded}
-use Rattle.av_elim.proofs.Laws.{ray_of_endless}
+use Rattle.av_elim.proofs.Excluding.{ray_of_endless}
 use Rattle.av_flat.specs.Trees.{Variable}
 use Rattle.av_normal.specs.declared.fault.NormalFault.{NormalFault}
 use Rattle.av_normal.specs.declared.fault.NormalFault.TheVariants as fault

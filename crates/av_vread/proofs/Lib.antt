@@ -3,7 +3,6 @@ pub mod Ascii
 pub mod Faulted
 pub mod Longest
 pub mod Many
-pub mod Moves
 pub mod NamesSeen
 pub mod Pieces
 pub mod Readings

@@ -1,26 +1,17 @@
 //! From the bytes of a text to its tokens.
 
-ghost use Rattle.std.specs.Prelude.{◌≡◌, ◌<◌, ◌≤◌, length, take, drop, ◌+◌};
+ghost use Rattle.std.specs.Prelude.{◌≡◌, ◌<◌, ◌≤◌, length};
 ghost use Rattle.std.specs.Str.{IsAscii};
 ghost use Rattle.av_base.specs.Tokens.{start};
 ghost use Rattle.av_vread.specs.Lexing.{views, GivesTokens, lexed_of};
 
 use crate::VFault;
-use crate::places::moved;
 use crate::scan::{Piece, piece_at};
 use crate::token::Token;
-use av_base::{List, Place};
+use av_base::{List, Place, moved, part};
 use av_net::TokenKind;
 use std::alloc::Global;
 use std::str;
-
-// So many bytes from an index on.
-fn part(bytes: &[u8], at: usize, len: usize) -> &[u8]
-    requires { at + len ≤ length bytes.now }
-    ensures { result.now ≡ take len (drop at bytes.now) }
-{
-    &bytes[at..at + len]
-}
 
 /// ASCII bytes as text.
 pub(crate) fn ascii(bytes: &[u8]) -> &str

@@ -13,7 +13,6 @@ mod literal;
 mod module;
 mod names;
 mod parsed;
-mod places;
 mod reader;
 mod rows;
 mod scan;

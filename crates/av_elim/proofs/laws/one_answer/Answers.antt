@@ -1,4 +1,4 @@
-use Rattle.av_elim.proofs.Laws as laws
+use Rattle.av_elim.proofs.Excluding as laws
 use Rattle.av_elim.proofs.laws.one_answer.Goals as goal
 
 pub returns-clause-bounds : goal.returns-clause-bounds

@@ -1,5 +1,5 @@
 use Rattle.av_poly.specs.Rational.{homogeneous}
-use Rattle.av_elim.proofs.Laws.{ray_of_endless, endless_of_ray}
+use Rattle.av_elim.proofs.Excluding.{ray_of_endless, endless_of_ray}
 use Rattle.av_elim.proofs.laws.rays.Goals as goal
 
 pub returns : goal.returns

@@ -1,9 +1,9 @@
-//! The places of a text's bytes.
+//! The places of a text's bytes, and its parts.
 
-ghost use Rattle.std.specs.Prelude.{◌≡◌, ◌+◌, ◌^◌, ◌<◌, length};
+ghost use Rattle.std.specs.Prelude.{◌≡◌, ◌+◌, ◌^◌, ◌<◌, ◌≤◌, length, take, drop};
 ghost use Rattle.av_base.specs.Tokens.{next_place, moved};
 
-use av_base::Place;
+use crate::Place;
 
 fn next_place(place: Place, byte: u8) -> Place
     requires line { place.line + 1 < 2 ^ 32 }
@@ -24,7 +24,7 @@ fn next_place(place: Place, byte: u8) -> Place
 }
 
 /// The place after these bytes.
-pub(crate) fn moved(place: Place, bytes: &[u8]) -> Place
+pub fn moved(place: Place, bytes: &[u8]) -> Place
     requires line { place.line + length bytes.now < 2 ^ 32 }
     requires column { place.column + length bytes.now < 2 ^ 32 }
     ensures { result ≡ moved place bytes.now }
@@ -34,4 +34,12 @@ pub(crate) fn moved(place: Place, bytes: &[u8]) -> Place
         place = next_place(place, *byte);
     }
     place
+}
+
+/// So many bytes from an index on.
+pub fn part(bytes: &[u8], at: usize, len: usize) -> &[u8]
+    requires { at + len ≤ length bytes.now }
+    ensures { result.now ≡ take len (drop at bytes.now) }
+{
+    &bytes[at..at + len]
 }

@@ -1,5 +1,0 @@
-use Rattle.av_lex.proofs.Moves.{IsOnTheWay}
-use Rattle.av_lex.proofs.places.moved.Given as goal
-
-abbrev pub invariant-loop-byte : goal.invariant-loop-byte
-invariant-loop-byte l = IsOnTheWay l.fn.place l.place l.byte-index l.bytes
