@@ -1,4 +1,4 @@
-ghost use Rattle.std.specs.Prelude.{◌≡◌, ◌<◌, ◌≤◌, ◌+◌, ◌++◌, ◌↔◌, ◌⊎◌, [], ℕ, List as Items, Some, None, length, take, drop, min, Contains, IfOk, OnErr, IsErr, IsErr};
+ghost use Rattle.std.specs.Prelude.{◌≡◌, ◌<◌, ◌≤◌, ◌+◌, ◌++◌, ◌↔◌, ◌⊎◌, [], ℕ, List as Items, Some, None, length, take, drop, min, Contains, IfOk, OnOk, OnErr, IsErr};
 ghost use Rattle.av_base.specs.Outside.{Takes, Adds, IsAtEnd, HasRisen};
 ghost use Rattle.av_base.specs.Streams.{Feed, Store, next_count};
 
@@ -63,6 +63,9 @@ impl Source for MemSource {
         ensures listed { IsErr result ↔ Contains self.old.failing self.old.calls }
         ensures amount { IfOk result (λ n. n ≡ min (min (length self.old.left) self.old.per_call) (length into.old)) }
         ensures counted { self.new.calls ≡ next_count self.old.calls }
+        ensures kept { (self.new.per_call ≡ self.old.per_call) × (self.new.failing ≡ self.old.failing) }
+        ensures fine { OnOk result (self.new.faults ≡ self.old.faults) }
+        ensures fault { OnErr result (self.new.faults ≡ next_count self.old.faults) }
     {
         let call = self.calls;
         self.calls = next(call);
@@ -153,6 +156,11 @@ impl Sink for MemSink {
         ensures listed { IsErr result ↔ ((self.old.room ≡ 0) ⊎ Contains self.old.failing self.old.calls) }
         ensures amount { IfOk result (λ n. n ≡ min (min self.old.room self.old.per_call) (length piece.now)) }
         ensures counted { self.new.calls ≡ next_count self.old.calls }
+        ensures kept { (self.new.per_call ≡ self.old.per_call) × (self.new.failing ≡ self.old.failing) }
+        ensures fine { OnOk result (self.new.faults ≡ self.old.faults) }
+        ensures fault { OnErr result (self.new.faults ≡ next_count self.old.faults) }
+        ensures room { IfOk result (λ n. self.new.room + n ≡ self.old.room) }
+        ensures closed { OnErr result (self.new.room ≡ self.old.room) }
     {
         let call = self.calls;
         self.calls = next(call);

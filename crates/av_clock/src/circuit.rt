@@ -136,7 +136,7 @@ impl<'a> Circuit<'a> {
         ensures given { Agree (given_names self.now) (named self.now words.old) (named self.now words.new) }
         ensures clear { ((k : ℕ) → k < drive → IsClear stale.old k) → (k : ℕ) → k < drive + 1 → IsClear stale.new k }
     {
-        let assignment = self.assignments[drive];
+        let assignment = &self.assignments[drive];
         let word = assignment.gate.word(words);
         stale.clear(drive);
         self.write(assignment.target, word, words, stale, due);

@@ -15,7 +15,7 @@ use std::alloc::Global;
 use std::marker::Model;
 
 // The ticks of a dense clock between two at which changed registers are counted.
-const UNCOUNTED_TICKS: u32 = 15;
+const UNCOUNTED_TICKS: u32 = 63;
 
 /// A module that is clocked.
 #[derive(Drop)]
@@ -175,7 +175,7 @@ impl<'a> Clock<'a> {
     }
 
     // Whether the next tick is one of all steps. Where most registers change, marks cost more than they save; and in a dense clock
-    // counting those that change costs too, so that it is done each sixteenth time.
+    // counting those that change costs too, so that it is done each sixty-fourth time.
     fn is_dense_tick(&mut self) -> bool
         ensures kept { self.new ≡ self.old }
     {

@@ -75,9 +75,9 @@ impl Gate {
     ghost use Rattle.av_clock.specs.Gates.{gate_word, CanTake};
 
     #[inline(always)]
-    pub(crate) fn word(self, words: &[u64]) -> u64
-        requires { CanTake words.now self }
-        ensures { result ≡ gate_word words.now self }
+    pub(crate) fn word(&self, words: &[u64]) -> u64
+        requires { CanTake words.now self.now }
+        ensures { result ≡ gate_word words.now self.now }
     {
         match self {
             Gate::Buffer(input) => input.word(words),
@@ -86,13 +86,13 @@ impl Gate {
                 symbol,
                 right,
                 width,
-            } => operated(symbol, left.word(words), right.word(words), width),
+            } => operated(*symbol, left.word(words), right.word(words), *width),
             Gate::Comparator {
                 left,
                 symbol,
                 right,
                 width,
-            } => one_if(is_ordered(symbol, left.word(words), right.word(words), width)),
+            } => one_if(is_ordered(*symbol, left.word(words), right.word(words), *width)),
             Gate::Multiplexer {
                 condition,
                 first,

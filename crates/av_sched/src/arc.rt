@@ -14,8 +14,6 @@ pub(crate) struct Arc {
     pub weight: i64,
 }
 
-const MOST_NODES: usize = 1 << 30;
-
 // Whether the reader is late enough.
 fn is_late(off: &[i64], arc: Arc) -> bool
     requires arc { IsArc (length off.now) arc }
@@ -64,19 +62,16 @@ fn raise_all(off: &mut Vec<i64>, old: &[i64], arcs: &[Arc])
     }
 }
 
-// The least offsets that are at least `low` and have each reader late enough, if there are any. Offsets of more nodes than a
-// number of 30 bits tells have no room.
-pub(crate) fn least(alloc: Global, arcs: &[Arc], low: &[i64]) -> Result<Option<Vec<i64>>, Memory>
+// The least offsets that are at least `low` and have each reader late enough, if there are any.
+pub(crate) fn least(alloc: Global, arcs: &[Arc], low: &List<i64>) -> Result<Option<Vec<i64>>, Memory>
     requires arcs { All (IsArc (length low.now)) arcs.now }
     requires low { AreSmall 1073741824 low.now }
     ensures some { IfOk result (λ r. IfSome r (λ off. IsLeastSolution arcs.now low.now off.items)) }
     ensures none { IfOk result (λ r. IfNone r ((x : Items ℤ) → Solves arcs.now low.now x → ⊥)) }
 {
-    if low.len() > MOST_NODES {
-        return Err(Memory);
-    }
-    let mut off = low.to_vec(alloc)?;
-    for round in 0..low.len() + 1 {
+    let count = low.len();
+    let mut off = low.as_slice().to_vec(alloc)?;
+    for round in 0..count + 1 {
         if all_late(&off, arcs) {
             return Ok(Some(off));
         }
@@ -96,6 +91,9 @@ fn clear(numbers: &mut Vec<i64>, many: usize) -> Result<(), Memory>
     }
     Ok(())
 }
+
+// The offsets of so many nodes stay small in all rounds.
+const MOST_NODES: usize = 1 << 30;
 
 // Whether offsets from 0 on make each reader late enough. Of very many nodes it is not tried.
 pub(crate) fn settles(

@@ -12,7 +12,7 @@ ghost use Rattle.av_sched.specs.inner.Walk.{AreArcsInside};
 
 use crate::arc::{Arc, least};
 use crate::lead::arc_of;
-use av_base::{Memory, Point};
+use av_base::{List, Memory, Point};
 use av_depend::Edge;
 use av_flat::{Flat, Reach};
 use std::alloc::Global;
@@ -53,10 +53,10 @@ fn arcs_inside(
 }
 
 // So many zeros.
-pub(crate) fn no_offsets(alloc: Global, many: usize) -> Result<Vec<i64>, Memory>
-    ensures { IfOk result (λ low. low.items ≡ zeros many) }
+pub(crate) fn no_offsets(alloc: Global, many: usize) -> Result<List<i64>, Memory>
+    ensures { IfOk result (λ low. low ≡ zeros many) }
 {
-    let mut low = Vec::new(alloc);
+    let mut low = List::new(alloc);
     for _k in 0..many {
         low.push(0)?;
     }

@@ -6,7 +6,6 @@ ghost use Rattle.av_flat.specs.Nodes.{nodes};
 ghost use Rattle.av_flat.specs.Chained.{IsChained};
 ghost use Rattle.av_sched.specs.inner.Walk.{AreAllParts};
 
-use crate::placing::is_node;
 use crate::vector::vectors;
 use av_base::{List, Memory, Point};
 use av_flat::{Flat, Reach};
@@ -18,7 +17,7 @@ pub(crate) fn dimensions(alloc: Global, flat: &Flat) -> Result<Vec<u8>, Memory>
 {
     let mut dims = Vec::new(alloc);
     for var in flat.vars.as_slice() {
-        if is_node(var) {
+        if var.is_node() {
             dims.push(var.domain.dim)?;
         }
     }
@@ -55,7 +54,7 @@ pub(crate) fn place_of(flat: &Flat, node: usize) -> usize
     let vars = flat.vars.as_slice();
     let mut count: usize = 0;
     for k in 0..vars.len() {
-        if !is_node(&vars[k]) {
+        if !vars[k].is_node() {
             continue;
         }
         if count == node {

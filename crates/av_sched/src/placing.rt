@@ -2,8 +2,7 @@
 
 ghost use Rattle.std.specs.Prelude.{◌≡◌, ◌≤◌, ◌<◌, ℤ, List as Items, length, All, IfOk, IfSome, IfNone};
 ghost use Rattle.std.specs.List.{AllZip};
-ghost use Rattle.av_flat.specs.Trees.{view_variable, view_system};
-ghost use Rattle.av_flat.specs.Nodes.{is_node};
+ghost use Rattle.av_flat.specs.Trees.{view_system};
 ghost use Rattle.av_flat.specs.Chained.{IsChained};
 ghost use Rattle.av_flat.specs.Proper.{IsProper};
 ghost use Rattle.std.proofs.Math.IntN.{neg_ℤ};
@@ -21,7 +20,7 @@ use crate::lead::arc_of;
 use crate::start::least_value;
 use av_base::{List, Memory, Point};
 use av_depend::Edge;
-use av_flat::{Flat, Kind, Var};
+use av_flat::{Flat, Var};
 use std::alloc::Global;
 
 // The edges as differences of offsets.
@@ -42,7 +41,7 @@ pub(crate) fn offsets_from(
     _flat: &Flat,
     edges: &[Edge],
     linear: &[Point],
-    low: &[i64],
+    low: &List<i64>,
 ) -> Result<Option<Vec<i64>>, Memory>
     requires chained { IsChained (view_system _flat.now) }
     requires proper { IsProper (view_system _flat.now) }
@@ -55,15 +54,6 @@ pub(crate) fn offsets_from(
 {
     let arcs = arcs_of(alloc, edges, linear)?;
     least(alloc, &arcs, low)
-}
-
-pub(crate) fn is_node(var: &Var) -> bool
-    ensures { result ≡ is_node (view_variable var.now) }
-{
-    match var.kind {
-        Kind::Input => false,
-        Kind::Output | Kind::Local | Kind::Partial => !var.pieces.as_slice().is_empty(),
-    }
 }
 
 // The offset with which the first cycle of a node is 0.
@@ -83,16 +73,16 @@ fn start_of(alloc: Global, var: &Var, linear: &Point) -> Result<i64, Memory>
 }
 
 // For each node the offset with which its first cycle is 0.
-fn starts_of(alloc: Global, flat: &Flat, linear: &[Point]) -> Result<Vec<i64>, Memory>
+fn starts_of(alloc: Global, flat: &Flat, linear: &[Point]) -> Result<List<i64>, Memory>
     requires chained { IsChained (view_system flat.now) }
     requires linear { AreVectors (view_system flat.now) 4 linear.now }
-    ensures starts { IfOk result (λ low. AreStarts (view_system flat.now) linear.now low.items) }
-    ensures small { IfOk result (λ low. AreSmall 1073741824 low.items) }
+    ensures starts { IfOk result (λ low. AreStarts (view_system flat.now) linear.now low) }
+    ensures small { IfOk result (λ low. AreSmall 1073741824 low) }
 {
     let vars = flat.vars.as_slice();
-    let mut low = Vec::new(alloc);
+    let mut low = List::new(alloc);
     for k in 0..vars.len() {
-        if !is_node(&vars[k]) {
+        if !vars[k].is_node() {
             continue;
         }
         let node = low.len();

@@ -108,7 +108,7 @@ fn lines(alloc: Global, timed: &Timed) -> Result<String, Fail> {
     let mut to = String::new(alloc);
     let mut node: usize = 0;
     for var in timed.flat.vars.as_slice() {
-        if !crate::placing::is_node(var) {
+        if !var.is_node() {
             continue;
         }
         let time = timed.times.as_slice().get(node).ok_or("time")?;

@@ -14,25 +14,17 @@ use std::alloc::Global;
 
 const MOST_REDUCTIONS: u128 = 16;
 
-// So many variables leave places for the chains among numbers of 32 bits. Nothing bounds the number of a system's variables
-// but memory; no text names as many.
-const MOST_VARIABLES: usize = 1 << 31;
-
 // The system with its reductions as chains, or the first cause that holds against it.
 fn serial_form(alloc: Global, flat: &Flat) -> Result<Flat, SerialFault>
     requires { IsKept (view_system flat.now) }
     ensures given { IfOk result (λ to. IsGiven (view_system flat.now) (view_system to)) }
     ensures fault { IfErr result (IsFault (view_system flat.now)) }
 {
-    let given = flat.vars.as_slice();
-    let nodes = all_nodes(alloc, given)?;
+    let nodes = all_nodes(alloc, flat.vars.as_slice())?;
     if nodes > MOST_REDUCTIONS {
         return Err(SerialFault::Limit(Quantity::Reductions, nodes));
     }
-    if given.len() > MOST_VARIABLES {
-        return Err(SerialFault::Memory);
-    }
-    let vars = whole(alloc, given)?;
+    let vars = whole(alloc, &flat.vars)?;
     Ok(Flat {
         width: flat.width,
         vars,
@@ -44,15 +36,14 @@ fn serial_form(alloc: Global, flat: &Flat) -> Result<Flat, SerialFault>
 ///
 /// It tries each reduction in the order of nodes, an outer one before those in its body, and refuses the first of which
 /// one of these holds, for the first that does: a normalised row of its set with another coefficient at the dropped
-/// index than -1, 0 and 1; a set without an end; a coordinate above 4,095 or a box of more than 65,536 points. At the
+/// index than -1, 0 and 1; an unbounded set; a coordinate above 4,095 or a box of more than 65,536 points. At the
 /// end it refuses more than 16 reductions with a point.
 ///
 /// The chains stand behind the variables given, equation by equation and there in the order of the text, an outer one before
 /// those in its body. The name of each is that of the equation's variable, `#` and a number from 1. A reduction without a point
 /// becomes its operator's identity. All other parts stay.
 ///
-/// Out of memory is answered where a request for memory failed, and for a system with more than 2^31 variables, which no text
-/// names.
+/// Out of memory is answered where a list or a name finds no room, and nowhere else.
 #[derive(Clone, Copy, Debug, Drop)]
 pub struct Serial;
 

@@ -1,6 +1,6 @@
 //! All variables of a serial form: those given with their reductions replaced, and behind them the chains.
 
-ghost use Rattle.std.specs.Prelude.{ℕ, ◌≡◌, ◌≤◌, ◌^◌, ◌++◌, IfOk, OnOk, length, map};
+ghost use Rattle.std.specs.Prelude.{ℕ, ◌≡◌, ◌++◌, IfOk, OnOk, map};
 ghost use Rattle.std.specs.List.{AllByRecursion};
 ghost use Rattle.av_flat.specs.Trees.{view_variable};
 ghost use Rattle.av_serial.specs.inner.Ready.{AreReady};
@@ -22,14 +22,14 @@ fn append_copies(alloc: Global, vars: &mut List<Var>, more: &[Var]) -> Result<()
 }
 
 // The variables with their reductions replaced, and the chains.
-pub(crate) fn whole(alloc: Global, given: &[Var]) -> Result<List<Var>, Memory>
-    requires ready { AreReady 0 (map view_variable given.now) }
-    requires few { length given.now ≤ 2 ^ 31 }
+pub(crate) fn whole(alloc: Global, given: &List<Var>) -> Result<List<Var>, Memory>
+    requires { AreReady 0 (map view_variable given.now) }
     ensures { IfOk result (λ made. (width : ℕ) → AllByRecursion (λ v. v.width ≡ width) (map view_variable given.now) →
         AreWhole width (map view_variable given.now) (map view_variable made)) }
 {
+    let base = given.len() as u32;
     let mut chains = List::new(alloc);
-    let mut vars = variables_chained(alloc, given.len() as u32, given, &mut chains)?;
+    let mut vars = variables_chained(alloc, base, given.as_slice(), &mut chains)?;
     append_copies(alloc, &mut vars, chains.as_slice())?;
     Ok(vars)
 }

@@ -1,8 +1,10 @@
 -- How a `List` holds its items: one by one, in order, as the vector inside it does. With this a type may
 -- lead to itself through a `List`.
-use mathlib.Core.Path.{◌≡◌, refl, sym}
+use mathlib.Core.Path.{◌≡◌, refl, sym, subst}
 use mathlib.Core.List.{List as Items, []}
 use mathlib.Core.Former.{Former, this, list, via, children}
+use native.Mathlib.Bridge.{le_prop}
+use lib.ListN.{length-map}
 use base.Stored.{code_map}
 use denote.RattleType.{RattleType}
 use denote.HoleLaws.{Alike}
@@ -11,6 +13,7 @@ use denote.Hole.Carrier.{listed, list-listed}
 use denote.Hole.Fix.{over}
 use denote.Param.Weighed.{Weighed, w_list}
 use denote.Model.Placed.{view_places}
+use Rattle.std.specs.Prelude.{ℕ, ◌≤◌}
 use Rattle.std.specs.formers.vec.Vec as vec
 use Rattle.std.specs.declared.alloc.Global.{Global}
 use Rattle.std.specs.contracts.alloc.Global as heap
@@ -39,10 +42,14 @@ the_items_listed X items = list-listed X items
 abbrev field : Former {0}
 field = via (vec.the_former this Global) Inside (λ X inside. inside.items) (λ X vector. record { items = vector }) (λ X inside. refl) (λ X vector. refl)
 
+abbrev few : ℕ → Type 0
+few count = count ≤ 1073741824
+
 module _ (R S : RattleType) (change : R.Denot → S.Denot) where
   pub the_places : Alike R S change → Alike (C.the_row R) (C.the_row S) ((the_former this).map R.Denot S.Denot change)
   the_places alike = view_places field (list this) view (λ X Y k inside. refl) (λ X inside. refl) R.Denot S.Denot change (C.the_row R).coded (C.the_row S).coded
-      (invariant R.Denot) (invariant S.Denot) (λ inside p q. refl) (λ inside p q. refl) (λ inside e. tt) (λ inside e. tt)
+      (invariant R.Denot) (invariant S.Denot) (λ inside. le_prop) (λ inside. le_prop)
+      (λ inside e. subst few (sym (length-map _ _)) e) (λ inside e. subst few (length-map _ _) e)
       (over (I.the_row R)) (over (I.the_row S))
       (struct_places (I.the_type R) (I.the_type S) (vec.mapped change, tt) _ (λ inside. refl) refl (laid _ _ _ (vec.the_places heap.the_row ghosts R S change alike), tt))
 

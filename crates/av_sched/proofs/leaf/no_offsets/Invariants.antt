@@ -3,4 +3,4 @@ use Rattle.av_sched.specs.inner.Arcs.{zeros}
 use Rattle.av_sched.proofs.leaf.no_offsets.Given as goal
 
 abbrev pub invariant-loop-k : goal.invariant-loop-k
-invariant-loop-k l = l.low.items ≡ zeros l._k
+invariant-loop-k l = l.low ≡ zeros l._k
