@@ -16,6 +16,3 @@ mod whole;
 pub use fault::ParseFault;
 pub use laws::{beginnings, one_program, program_or_fault};
 pub use whole::parse;
-
-#[cfg(test)]
-mod tests;

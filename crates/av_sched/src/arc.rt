@@ -63,7 +63,11 @@ fn raise_all(off: &mut Vec<i64>, old: &[i64], arcs: &[Arc])
 }
 
 // The least offsets that are at least `low` and have each reader late enough, if there are any.
-pub(crate) fn least(alloc: Global, arcs: &[Arc], low: &List<i64>) -> Result<Option<Vec<i64>>, Memory>
+pub(crate) fn least(
+    alloc: Global,
+    arcs: &[Arc],
+    low: &List<i64>,
+) -> Result<Option<Vec<i64>>, Memory>
     requires arcs { All (IsArc (length low.now)) arcs.now }
     requires low { AreSmall 1073741824 low.now }
     ensures some { IfOk result (λ r. IfSome r (λ off. IsLeastSolution arcs.now low.now off.items)) }
