@@ -10,6 +10,3 @@ mod readers;
 mod resolver;
 
 pub use clock::Clock;
-
-#[cfg(test)]
-mod tests;

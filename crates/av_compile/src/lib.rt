@@ -12,6 +12,3 @@ pub use front::checked;
 pub use mapping::{Array, mapped};
 pub use refusal::Refusal;
 pub use schedule::scheduled;
-
-#[cfg(test)]
-mod tests;

@@ -38,6 +38,3 @@ pub use laws::{
 };
 pub use resolver::resolve;
 pub use size::Size;
-
-#[cfg(test)]
-mod tests;

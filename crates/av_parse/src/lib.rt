@@ -16,6 +16,3 @@ mod text;
 pub use fault::ParseFault;
 pub use laws::{beginnings, one_program, program_or_fault};
 pub use parse::parse;
-
-#[cfg(test)]
-mod tests;

@@ -25,6 +25,3 @@ pub use fault::SchedFault;
 pub use laws::first_schedules_are_unique;
 pub use placing::offsets;
 pub use searching::search;
-
-#[cfg(test)]
-mod tests;

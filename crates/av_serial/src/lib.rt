@@ -20,6 +20,3 @@ pub use laws::{
     serial_forms_are_unique, serial_forms_keep_dependences, serial_forms_show_the_same,
 };
 pub use serial::Serial;
-
-#[cfg(test)]
-mod tests;

@@ -23,6 +23,3 @@ mod widths;
 pub use design::read_design;
 pub use fault::VFault;
 pub use laws::{design_or_fault, one_design, one_text, read_back, spelled_is_sound};
-
-#[cfg(test)]
-mod tests;

@@ -164,31 +164,55 @@ fn port(alloc: Global, name: &str, bits: u32) -> Result<Port, Fail> {
 
 // ---- designs
 
-// `Y[i] = X[i] + 1` over 0 to 2 at 8 bits
-fn increment(alloc: Global) -> Result<Design, Fail> {
-    let mut ins = List::new(alloc);
-    let mut ats = List::new(alloc);
+fn entries(alloc: Global, variable: &str, wire: &str) -> Result<List<Entry>, Memory> {
+    let mut entries = List::new(alloc);
     for k in 0..3u32 {
-        ins.push(entry(alloc, "X", Point::from_slice(&[i64::from(k)]), "i0", k)?)?;
-        ats.push(entry(alloc, "Y", Point::from_slice(&[i64::from(k)]), "o0", k)?)?;
+        let point = Point::from_slice(&[i64::from(k)]);
+        entries.push(entry(alloc, variable, point, wire, k)?)?;
     }
-    let mut drives = List::new(alloc);
-    let sum = Operation::Binary {
-        left: named(alloc, "i0")?,
+    Ok(entries)
+}
+
+fn sum(alloc: Global) -> Result<Operation, Fail> {
+    let right = literal(8, 1)?;
+    let left = named(alloc, "i0")?;
+    Ok(Operation::Binary {
+        left,
         symbol: Symbol::Add,
-        right: literal(8, 1)?,
-    };
-    drives.push(drive(alloc, "c0", sum)?)?;
-    drives.push(drive(alloc, "o0", Operation::Plain(named(alloc, "c0")?))?)?;
-    let module = Module {
-        name: Name::new(alloc, "array")?,
-        inputs: ports(alloc, &[("i0", 8)])?,
-        outputs: ports(alloc, &[("o0", 8)])?,
-        wires: ports(alloc, &[("c0", 8)])?,
+        right,
+    })
+}
+
+fn increment_drives(alloc: Global) -> Result<List<Drive>, Fail> {
+    let mut drives = List::new(alloc);
+    drives.push(drive(alloc, "c0", sum(alloc)?)?)?;
+    let cell = Operation::Plain(named(alloc, "c0")?);
+    drives.push(drive(alloc, "o0", cell)?)?;
+    Ok(drives)
+}
+
+fn increment_module(alloc: Global) -> Result<Module, Fail> {
+    let drives = increment_drives(alloc)?;
+    let inputs = ports(alloc, &[("i0", 8)])?;
+    let outputs = ports(alloc, &[("o0", 8)])?;
+    let wires = ports(alloc, &[("c0", 8)])?;
+    let name = Name::new(alloc, "array")?;
+    Ok(Module {
+        name,
+        inputs,
+        outputs,
+        wires,
         registers: List::new(alloc),
         drives,
         steps: List::new(alloc),
-    };
+    })
+}
+
+// `Y[i] = X[i] + 1` over 0 to 2 at 8 bits
+fn increment(alloc: Global) -> Result<Design, Fail> {
+    let ins = entries(alloc, "X", "i0")?;
+    let ats = entries(alloc, "Y", "o0")?;
+    let module = increment_module(alloc)?;
     let listing = Listing { ins, ats };
     Ok(Design { listing, module })
 }

@@ -1,0 +1,198 @@
+//! What becomes of texts that are to be scheduled: the times of the nodes, or the first fault.
+
+ghost use Rattle.std.specs.Prelude.{◌<◌, length};
+ghost use Rattle.av_names.specs.Texts.{AreSmall};
+
+use super::{
+    CONVOLUTION, FORWARD, MATRIX_PRODUCT, MATRIX_VECTOR, N4, STEPS, SUMS, push_point, push_refusal,
+    size_list,
+};
+use av_base::Width;
+use av_compile::scheduled;
+use av_flat::{Reach, Timed};
+use av_names::Size;
+use std::alloc::Global;
+use std::fmt::Write;
+use std::process::Abort;
+use std::test::Fail;
+
+/// A whole text, the sizes, how far linear parts go, and the answer.
+type Row = (
+    &'static str,
+    &'static [(&'static str, i64)],
+    u32,
+    &'static str,
+);
+
+/// Texts with a schedule in the box.
+const SCHEDULES: &[Row] = &[
+    (
+        MATRIX_PRODUCT,
+        &[("N", 2)],
+        4,
+        "times C (0,1) 2; C#1 (1,1,1) -3",
+    ),
+    (CONVOLUTION, &[], 4, "times Y (1) 1; Y#1 (1,1) -2"),
+    (FORWARD, &[("N", 3)], 4, "times x (2) -2; x#1 (1,1) -2"),
+    (SUMS, &[], 1, "times P (1) 0"),
+    (
+        "system t (X : {i | 0<=i<=1} of integer) returns (Y : {i | 0<=i<=2} of integer);
+let Y[i] = reduce(min, (i,j -> i), {i,j | 0<=j; j<i} : X[j]); tel;",
+        &[],
+        4,
+        "times Y (1) 1; Y#1 (1,1) -1",
+    ),
+];
+
+/// Texts without one, or with reductions that have no chain.
+const REFUSED: &[Row] = &[
+    (FORWARD, &[("N", 3)], 1, "no schedule x"),
+    (
+        "system t (A : {i | 0<=i<=2} of integer) returns (X : {i | 0<=i<=2} of integer);
+let X[i] = case {| i=0} : X[i+2]; {| i=2} : X[i-1]; {| i=1} : A[i]; esac; tel;",
+        &[],
+        4,
+        "no schedule X",
+    ),
+    (
+        "system t (X : {i | 0<=i<=2} of integer) returns (Y : {i | 0<=i<=4} of integer);
+let Y[i] = reduce(+, (i,j -> i), {i,j | 0<=j; 2j<=i} : X[j]); tel;",
+        &[],
+        4,
+        "non unit Y",
+    ),
+    (
+        "system t (X : {i | 0<=i<=330} of integer) returns (Y : {i | 0<=i<=197} of integer);
+let Y[i] = reduce(+, (i,j -> i), X[j]); tel;",
+        &[],
+        4,
+        "limit box 65538",
+    ),
+    (TEN, &[], 2, "candidates 9765625"),
+    (TEN, &[], 1, "no schedule X1"),
+];
+
+/// Ten outputs that read one another in a circle.
+const TEN: &str = "system t (A : {i | 0<=i<=2} of integer)
+  returns (X1 : {i | 0<=i<=2} of integer; X2 : {i | 0<=i<=2} of integer; X3 : {i | 0<=i<=2} of integer;
+   X4 : {i | 0<=i<=2} of integer; X5 : {i | 0<=i<=2} of integer; X6 : {i | 0<=i<=2} of integer;
+   X7 : {i | 0<=i<=2} of integer; X8 : {i | 0<=i<=2} of integer; X9 : {i | 0<=i<=2} of integer;
+   X10 : {i | 0<=i<=2} of integer);
+let
+  X1[i] = case {| i=0} : 0[]; {| i>=1} : X10[i-1]; esac;
+  X2[i] = X1[i]; X3[i] = X2[i]; X4[i] = X3[i]; X5[i] = X4[i]; X6[i] = X5[i];
+  X7[i] = X6[i]; X8[i] = X7[i]; X9[i] = X8[i]; X10[i] = X9[i];
+tel;";
+
+/// Texts with a fault before those of reductions, whose own reductions have one as well.
+const BEFORE_REDUCTIONS: &[Row] = &[
+    (
+        "system t (X : {i | 0<=i<=2} of integer) returns (Y : {i | 0<=i<=4} of integer; Z : {i | 0<=i<=1} of integer);
+let Y[i] = reduce(+, (i,j -> i), {i,j | 0<=j; 2j<=i} : X[j]); Z[i] = {| i>=1} : X[i]; tel;",
+        &[],
+        4,
+        "uncovered Z (0)",
+    ),
+    (
+        "system t (X : {i | 0<=i<=2} of integer) returns (Y : {i | 0<=i<=4} of integer; Z : {i | 0<=i<=1} of integer);
+let Y[i] = reduce(+, (i,j -> i), {i,j | 0<=j; 2j<=i} : X[j]); Z[i] = case {| i>=0} : X[i]; {| i>=1} : 0; esac; tel;",
+        &[],
+        4,
+        "two branches Z (1)",
+    ),
+    (
+        "system t (X : {i | 0<=i<=2} of integer) returns (Y : {i | 0<=i<=4096} of integer);
+let Y[i] = reduce(+, (i,j -> i), {i,j | 0<=j; 2j<=i} : X[j]); tel;",
+        &[],
+        4,
+        "limit coordinate 4096",
+    ),
+    (MATRIX_PRODUCT, &[], 4, "size missing N"),
+];
+
+/// The nodes in order, each with its linear part and its offset.
+fn push_times(out: &mut String, timed: &Timed) -> Result<(), Fail> {
+    let mut kind = "times";
+    let mut times = timed.times.as_slice().iter();
+    for var in timed.flat.vars.as_slice() {
+        if var.is_node() {
+            let time = times.next().ok_or("a time for each node")?;
+            push_point(out, kind, &var.name, &time.linear)?;
+            write!(out, " {}", time.offset)?;
+            kind = ";";
+        }
+    }
+    match times.next() {
+        Some(_) => Err(Fail::from("a node for each time")),
+        None => Ok(()),
+    }
+}
+
+/// What becomes of the text with the sizes in the box.
+fn push_answer(
+    out: &mut String,
+    alloc: Global,
+    text: &str,
+    sizes: &[Size],
+    width: Width,
+    reach: Reach,
+) -> Result<(), Fail>
+    requires text { length text.now < 4294967295 }
+    requires sizes { AreSmall sizes.now }
+{
+    match scheduled(alloc, text.as_bytes(), sizes, width, reach) {
+        Ok(timed) => push_times(out, &timed),
+        Err(refusal) => push_refusal(out, &refusal),
+    }
+}
+
+/// What becomes of the text with the sizes in the box, in words of 8 bits.
+fn shown(alloc: Global, text: &str, words: &[(&str, i64)], size: u32) -> Result<String, Fail> {
+    let mut out = String::new(alloc);
+    let sizes = size_list(alloc, words)?;
+    let width = Width::new(8).ok_or("a width")?;
+    let reach = Reach::new(size).ok_or("a box")?;
+    if text.len() <= 100_000 {
+        push_answer(&mut out, alloc, text, sizes.as_slice(), width, reach)?;
+    }
+    Ok(out)
+}
+
+fn assert_rows(rt: &impl Abort, alloc: Global, rows: &[Row]) -> Result<(), Fail> {
+    for (text, sizes, size, wanted) in rows {
+        assert_eq!(rt;
+            shown(alloc, text, sizes, *size)?.as_str(),
+            *wanted,
+            "at {text:?}"
+        );
+    }
+    Ok(())
+}
+
+#[test]
+fn the_schedule_of_the_matrix_vector_product(rt: HostRuntime) -> Result<(), Fail> {
+    let alloc = rt.alloc();
+    let mut text = String::from_str(alloc, MATRIX_VECTOR)?;
+    text.push_str(STEPS)?;
+    text.push_str(" tel;")?;
+    assert_eq!(rt;
+        shown(alloc, text.as_str(), N4, 4)?.as_str(),
+        "times C (1) 4; s (1,1) -1"
+    );
+    Ok(())
+}
+
+#[test]
+fn first_schedules(rt: HostRuntime) -> Result<(), Fail> {
+    assert_rows(&rt, rt.alloc(), SCHEDULES)
+}
+
+#[test]
+fn texts_without_a_schedule(rt: HostRuntime) -> Result<(), Fail> {
+    assert_rows(&rt, rt.alloc(), REFUSED)
+}
+
+#[test]
+fn faults_before_those_of_reductions(rt: HostRuntime) -> Result<(), Fail> {
+    assert_rows(&rt, rt.alloc(), BEFORE_REDUCTIONS)
+}

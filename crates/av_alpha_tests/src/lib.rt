@@ -1,0 +1,16 @@
+//! Tests of the crates that read programs and schedule them, which call these as their users do. They stand in a crate of
+//! their own, so that a check of the tests proves none of these crates a second time.
+#![tactic(auto)]
+
+#[cfg(test)]
+mod compile;
+#[cfg(test)]
+mod names;
+#[cfg(test)]
+mod normal;
+#[cfg(test)]
+mod parse;
+#[cfg(test)]
+mod sched;
+#[cfg(test)]
+mod serial;

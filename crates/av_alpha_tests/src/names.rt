@@ -1,0 +1,467 @@
+ghost use Rattle.std.specs.Prelude.{◌<◌, ◌≤◌, length, unsigned_abs, IfOk, OnOk};
+ghost use Rattle.av_names.specs.Texts.{AreSmall};
+
+use av_base::{Memory, Name, Place, Width};
+use av_flat::{Flat, Quantity};
+use av_lex::{LexFault, lex};
+use av_names::{NameFault, Size, resolve};
+use av_parse::{ParseFault, parse};
+use std::alloc::Global;
+use std::fmt::Write;
+use std::process::Abort;
+use std::test::Fail;
+
+/// A text or its equations, the sizes, and the answer.
+type Row = (&'static str, &'static [(&'static str, i64)], &'static str);
+
+const N2: &[(&str, i64)] = &[("N", 2)];
+
+const MATRIX_VECTOR: &str = "system matvect :{N | N>1}
+  (M : {i,j | 1<=i<=N; 1<=j<=N} of integer;
+   V : {i | 1<=i<=N} of integer)
+  returns (C : {i | 1<=i<=N} of integer);
+var s : {i,j | 1<=i<=N; 0<=j<=N} of integer;
+let
+  s[i,j] = case
+    {| j=0} : 0[];
+    {| 1<=j} : s[i,j-1] + M[i,j]*V[j];
+  esac;
+  C[i] = s[i,N];
+tel;
+";
+
+const SMALL: &str = "system t :{N | N>1}
+  (A : {i | 1<=i<=N} of integer)
+  returns (Y : {i | 1<=i<=N} of integer);
+let ";
+
+const TWO_OUTPUTS: &str = "system t :{N | N>1}
+  (A : {i | 1<=i<=N} of integer)
+  returns (Y,Z : {i | 1<=i<=N} of integer);
+let ";
+
+/// Whole texts.
+const TEXTS: &[Row] = &[
+    ("system $", N2, "bad byte 1:8"),
+    (
+        "system t :{N} (A : {i} of integer) returns (Y : {i} of integer);\nlet Y[i] = A[i]; Y[i] = 1; tel;",
+        N2,
+        "second equation Y 2:18",
+    ),
+    (
+        "system t :{N,N}\n  (A : {i} of integer) returns (Y : {i} of integer);\nlet Y = A; tel;",
+        N2,
+        "repeated N 1:11",
+    ),
+    (
+        "system t :{N}\n  (N : {i} of integer) returns (Y : {i} of integer);\nlet Y = 1; tel;",
+        N2,
+        "repeated N 2:4",
+    ),
+    (
+        "system t :{N}\n  (A : {i} of integer) returns (Y,A : {i} of integer);\nlet Y = 1; A = 2; tel;",
+        N2,
+        "repeated A 2:35",
+    ),
+    (
+        "system t :{N}\n  (A : {i,j,j,i} of integer) returns (Y : {i} of integer);\nlet Y = 1; tel;",
+        N2,
+        "repeated i 2:8",
+    ),
+    (
+        "system t :{N | N>k}\n  (A : {i} of integer) returns (Y : {i} of integer);\nlet Y = A; tel;",
+        N2,
+        "unknown k 1:18",
+    ),
+    (
+        "system t :{N}\n  (A : {i | i<=j} of integer) returns (Y : {i} of integer);\nlet Y = A; tel;",
+        N2,
+        "unknown j 2:16",
+    ),
+    (
+        "system t :{N}\n  (A : {i} of integer) returns (Y : {i} of integer);\nvar s : {i} of integer;\nlet Y = A; tel;",
+        N2,
+        "no equation s 3:5",
+    ),
+    (
+        "system t :{N}\n  (A : {i,j} of integer) returns (Y : {i} of integer);\nlet Y = A; tel;",
+        N2,
+        "arity 3:9",
+    ),
+    (MATRIX_VECTOR, &[], "size missing N"),
+    (MATRIX_VECTOR, &[("N", 1)], "size outside"),
+    (MATRIX_VECTOR, &[("N", 2), ("N", 2)], "size twice N"),
+    (MATRIX_VECTOR, &[("M", 2), ("N", 2)], "size unknown M"),
+    (MATRIX_VECTOR, N2, "ok 4"),
+];
+
+/// Equations of the small system: each rule alone.
+const ALONE: &[Row] = &[
+    ("Y[i] = 18446744073709551616;", N2, "number 4:12"),
+    ("Y[i] = A[i] A[i];", N2, "syntax 4:17"),
+    ("Y[N] = 1;", N2, "repeated N 4:5"),
+    ("Y = A.(N->N);", N2, "repeated N 4:11"),
+    ("Y = {i,i} : 1;", N2, "repeated i 4:9"),
+    ("Y = A + reduce(+, (i,k,i->i), 1);", N2, "repeated i 4:23"),
+    ("Y = A;", &[("N", 2), ("N", 2)], "size twice N"),
+    ("Y = A;", &[("M", 2), ("N", 2)], "size unknown M"),
+    ("Y = A;", &[], "size missing N"),
+    ("Y = A; Z = 1;", N2, "unknown Z 4:12"),
+    ("Y[i] = A[i] + B[i];", N2, "unknown B 4:19"),
+    ("Y[j] = A[i];", N2, "unknown i 4:14"),
+    ("Y[i] = A.(j->i);", N2, "unknown i 4:18"),
+    ("Y[i] = {j | j<=i} : 1;", N2, "unknown i 4:20"),
+    ("Y[i] = {| j<=N} : 1;", N2, "unknown j 4:15"),
+    ("Y[i] = (A[i] + A[i]).(i->i);", N2, "unknown i 4:15"),
+    ("Y[i] = 1.(j->k);", N2, "unknown k 4:18"),
+    ("Y[i] = reduce(+, (j,k->j), A[i]);", N2, "unknown i 4:34"),
+    ("Y = A; A = 1;", N2, "defines input A 4:12"),
+    ("Y[i] = A[i]; Y[i] = 1;", N2, "second equation Y 4:18"),
+    ("Y[i,j] = A[i];", N2, "arity 4:5"),
+    ("Y[i] = A[i,i];", N2, "arity 4:12"),
+    ("Y = A.(i,j->i);", N2, "arity 4:11"),
+    ("Y = A.(i->i,i);", N2, "arity 4:11"),
+    ("Y = 1.(i,j->i);", N2, "arity 4:11"),
+    ("Y = {i,j | i=j} : A;", N2, "arity 4:9"),
+    ("Y = (A + A).(i,j->i);", N2, "arity 4:17"),
+    ("Y = reduce(+, (i,k->i,k), 1);", N2, "arity 4:19"),
+    ("Y = reduce(+, (i,k->i+0), A[k]);", N2, "projection 4:19"),
+    ("Y = reduce(+, (i,k->2i), A[k]);", N2, "projection 4:19"),
+    ("Y = reduce(+, (i,k,l->i), A[k]);", N2, "projection 4:19"),
+    (
+        "Y = reduce(max, (i,k->i), case A[k]; esac);",
+        N2,
+        "case in reduce 4:31",
+    ),
+    (
+        "Y = (1 + reduce(+, (i,k->i), A[k])).(i->i);",
+        N2,
+        "dependence on reduce 4:41",
+    ),
+    ("Y = A;", &[("N", 1)], "size outside"),
+    ("Y[i] = A[i] + 1.(i->i,i,i);", N2, "ok 2"),
+    (
+        "Y = reduce(+, (i,k->i), A[k]) + reduce(max, (j,k->1k), 7);",
+        N2,
+        "ok 2",
+    ),
+];
+
+/// Equations of the system with two outputs: the first of two rules, in either order.
+const TOGETHER: &[Row] = &[
+    ("Y = A.(i,i->i); Z = C;", N2, "repeated i 4:11"),
+    ("Z = C; Y = A.(i,i->i);", N2, "repeated i 4:18"),
+    (
+        "Y = {i,i} : 1; Z = 1;",
+        &[("N", 2), ("N", 2)],
+        "repeated i 4:9",
+    ),
+    (
+        "Y = 1; Z = 2;",
+        &[("M", 2), ("N", 2), ("N", 2)],
+        "size twice N",
+    ),
+    (
+        "Y = 1; Z = 2;",
+        &[("N", 2), ("N", 2), ("M", 2)],
+        "size twice N",
+    ),
+    ("Y = 1; Z = 2;", &[("M", 2)], "size unknown M"),
+    ("Y = C; Z = 2;", &[], "size missing N"),
+    ("A = 1; Y = 2; Z = C;", N2, "unknown C 4:23"),
+    ("Y = C; A = 1; Z = 2;", N2, "unknown C 4:9"),
+    ("A = 1; Y = 1; Y = 2; Z = 3;", N2, "defines input A 4:5"),
+    ("Y = 1; Y = 2; A = 1; Z = 3;", N2, "defines input A 4:19"),
+    ("Y = 1; Y = 2;", N2, "second equation Y 4:12"),
+    ("Z = 1; Z = 2;", N2, "second equation Z 4:12"),
+    ("Y = A[i,i];", N2, "no equation Z 3:14"),
+    ("Y = A[i,i]; Z = reduce(+, (i,k->i+0), 1);", N2, "arity 4:9"),
+    (
+        "Z = reduce(+, (i,k->i+0), 1); Y = A[i,i];",
+        N2,
+        "arity 4:39",
+    ),
+    (
+        "Y = reduce(+, (i,k->i+0), 1); Z = reduce(+, (i,k->i), case 1; esac);",
+        N2,
+        "projection 4:19",
+    ),
+    (
+        "Z = reduce(+, (i,k->i), case 1; esac); Y = reduce(+, (i,k->i+0), 1);",
+        N2,
+        "projection 4:58",
+    ),
+    (
+        "Y = reduce(+, (i,k->i), case 1; esac); Z = (reduce(+, (i,k->i), 1)).(i->i);",
+        N2,
+        "case in reduce 4:29",
+    ),
+    (
+        "Z = (reduce(+, (i,k->i), 1)).(i->i); Y = reduce(+, (i,k->i), case 1; esac);",
+        N2,
+        "case in reduce 4:66",
+    ),
+    (
+        "Y = (reduce(+, (i,k->i), 1)).(i->i); Z = A[2000i];",
+        N2,
+        "dependence on reduce 4:34",
+    ),
+    (
+        "Z = A[2000i]; Y = (reduce(+, (i,k->i), 1)).(i->i);",
+        N2,
+        "dependence on reduce 4:48",
+    ),
+    (
+        "Y = A[2000i]; Z = 1;",
+        &[("N", 1)],
+        "limit coefficient 2000",
+    ),
+];
+
+/// Equations of the small system: each limit, and one above it.
+const LIMITS: &[Row] = &[
+    ("Y = 1.(i->i,i,i,i);", N2, "ok 2"),
+    ("Y = 1.(i->i,i,i,i,i);", N2, "limit indices 5"),
+    ("Y = A[1024i];", N2, "ok 2"),
+    ("Y = A[1025i];", N2, "limit coefficient 1025"),
+    ("Y = A[1000i - 2030i + 6i];", N2, "ok 2"),
+    ("Y = A[-2000i + 975i];", N2, "limit coefficient 1025"),
+    (
+        "Y = {| 600i <= 425 - 425i} : A;",
+        N2,
+        "limit coefficient 1025",
+    ),
+    ("Y = {| 600i <= 425 - 424i} : A;", N2, "ok 2"),
+    ("Y = A[1048576];", N2, "ok 2"),
+    ("Y = A[1048577];", N2, "limit constant 1048577"),
+    ("Y = A[1048574 + N];", N2, "ok 2"),
+    ("Y = A[1048575 + N];", N2, "limit constant 1048577"),
+    ("Y = {| i < 1048575} : A;", N2, "ok 2"),
+    ("Y = {| i < -1048575} : A;", N2, "ok 2"),
+    ("Y = {| i < -1048576} : A;", N2, "limit constant 1048577"),
+    (
+        "Y = A[18446744073709551615 + 18446744073709551615];",
+        N2,
+        "limit constant 36893488147419103230",
+    ),
+    ("Y = A[2000000] + A[1025i];", N2, "limit coefficient 1025"),
+];
+
+fn push_named(out: &mut String, kind: &str, name: &Name) -> Result<(), Fail> {
+    write!(out, "{kind} {}", name.as_str())?;
+    Ok(())
+}
+
+fn push_place(out: &mut String, kind: &str, place: Place) -> Result<(), Fail> {
+    write!(out, "{kind} {}:{}", place.line, place.column)?;
+    Ok(())
+}
+
+fn push_both(out: &mut String, kind: &str, name: &Name, place: Place) -> Result<(), Fail> {
+    push_named(out, kind, name)?;
+    push_place(out, "", place)
+}
+
+fn kind_of(quantity: Quantity) -> &'static str {
+    match quantity {
+        Quantity::Variables => "variables",
+        Quantity::Indices => "indices",
+        Quantity::Nodes => "nodes",
+        Quantity::Coefficient => "coefficient",
+        Quantity::Constant => "constant",
+        _ => "other",
+    }
+}
+
+fn push_fault(out: &mut String, fault: &NameFault) -> Result<(), Fail> {
+    match fault {
+        NameFault::Repeated(name, place) => push_both(out, "repeated", name, *place),
+        NameFault::SizeTwice(name) => push_named(out, "size twice", name),
+        NameFault::SizeUnknown(name) => push_named(out, "size unknown", name),
+        NameFault::SizeMissing(name) => push_named(out, "size missing", name),
+        NameFault::Unknown(name, place) => push_both(out, "unknown", name, *place),
+        NameFault::DefinesInput(name, place) => push_both(out, "defines input", name, *place),
+        NameFault::SecondEquation(name, place) => push_both(out, "second equation", name, *place),
+        NameFault::NoEquation(name, place) => push_both(out, "no equation", name, *place),
+        NameFault::Arity(place) => push_place(out, "arity", *place),
+        NameFault::Projection(place) => push_place(out, "projection", *place),
+        NameFault::CaseInReduce(place) => push_place(out, "case in reduce", *place),
+        NameFault::DependOnReduce(place) => push_place(out, "dependence on reduce", *place),
+        NameFault::Limit(quantity, number) => {
+            write!(out, "limit {} {number}", kind_of(*quantity))?;
+            Ok(())
+        }
+        NameFault::SizeOutside => {
+            write!(out, "size outside")?;
+            Ok(())
+        }
+        NameFault::Memory => {
+            write!(out, "memory")?;
+            Ok(())
+        }
+    }
+}
+
+// Puts a size behind others, where it is small as they are.
+fn push_small(sizes: &mut Vec<Size>, name: Name, value: i64) -> Result<(), Memory>
+    requires before { AreSmall sizes.old.items }
+    requires small { unsigned_abs value ≤ 1048576 }
+    ensures { OnOk result (AreSmall sizes.new.items) }
+{
+    sizes.push(Size { name, value })?;
+    Ok(())
+}
+
+/// The sizes, of which those above 1048576 are left out.
+fn size_list(alloc: Global, words: &[(&str, i64)]) -> Result<Vec<Size>, Memory>
+    ensures { IfOk result (λ sizes. AreSmall sizes.items) }
+{
+    let mut sizes = Vec::new(alloc);
+    for word in words {
+        let value = word.1;
+        if value.unsigned_abs() <= 1048576 {
+            push_small(&mut sizes, Name::new(alloc, word.0)?, value)?;
+        }
+    }
+    Ok(sizes)
+}
+
+fn push_lex_fault(out: &mut String, fault: &LexFault) -> Result<(), Fail> {
+    match fault {
+        LexFault::BadByte(place) => push_place(out, "bad byte", *place),
+        LexFault::Number(place) => push_place(out, "number", *place),
+        LexFault::Memory => Ok(()),
+    }
+}
+
+fn push_parse_fault(out: &mut String, fault: &ParseFault) -> Result<(), Fail> {
+    match fault {
+        ParseFault::Syntax(place) => push_place(out, "syntax", *place),
+        ParseFault::Depth(place) => push_place(out, "depth", *place),
+        ParseFault::Memory => Ok(()),
+    }
+}
+
+fn push_flat(out: &mut String, flat: &Flat) -> Result<(), Fail> {
+    write!(out, "ok {}", flat.vars.as_slice().len())?;
+    Ok(())
+}
+
+/// What becomes of the text with the sizes.
+#[tactic(auto, using(av_names::proofs::OfText::of_text))]
+fn push_answer(
+    out: &mut String,
+    alloc: Global,
+    text: &str,
+    sizes: &[Size],
+    width: Width,
+) -> Result<(), Fail>
+    requires text { length text.now < 4294967295 }
+    requires sizes { AreSmall sizes.now }
+{
+    match lex(alloc, text.as_bytes()) {
+        Err(fault) => push_lex_fault(out, &fault),
+        Ok(tokens) => match parse(alloc, tokens.as_slice()) {
+            Err(fault) => push_parse_fault(out, &fault),
+            Ok(system) => match resolve(alloc, &system, sizes, width) {
+                Err(fault) => push_fault(out, &fault),
+                Ok(flat) => push_flat(out, &flat),
+            },
+        },
+    }
+}
+
+/// What becomes of the text with the sizes, in words of 8 bits.
+fn shown(alloc: Global, text: &str, words: &[(&str, i64)]) -> Result<String, Fail> {
+    let mut out = String::new(alloc);
+    let sizes = size_list(alloc, words)?;
+    let Some(width) = Width::new(8) else {
+        return Ok(out);
+    };
+    if text.len() <= 100_000 {
+        push_answer(&mut out, alloc, text, sizes.as_slice(), width)?;
+    }
+    Ok(out)
+}
+
+fn assert_rows(
+    rt: &impl Abort,
+    alloc: Global,
+    head: &str,
+    tail: &str,
+    rows: &[Row],
+) -> Result<(), Fail> {
+    for (body, sizes, wanted) in rows {
+        let mut text = String::from_str(alloc, head)?;
+        text.push_str(body)?;
+        text.push_str(tail)?;
+        assert_eq!(rt;
+            shown(alloc, text.as_str(), sizes)?.as_str(),
+            *wanted,
+            "at {body:?}"
+        );
+    }
+    Ok(())
+}
+
+#[test]
+fn answers_the_first_rule(rt: HostRuntime) -> Result<(), Fail> {
+    let alloc = rt.alloc();
+    assert_rows(&rt, alloc, "", "", TEXTS)?;
+    assert_rows(&rt, alloc, SMALL, " tel;", ALONE)?;
+    assert_rows(&rt, alloc, TWO_OUTPUTS, " tel;", TOGETHER)?;
+    assert_rows(&rt, alloc, SMALL, " tel;", LIMITS)
+}
+
+/// A system of so many variables.
+fn many_variables(alloc: Global, count: u32) -> Result<String, Fail> {
+    let mut text = String::from_str(alloc, "system t :{N} (A0")?;
+    for k in 2..count {
+        write!(text, ",A{k}")?;
+    }
+    text.push_str(" : {} of integer) returns (Y : {} of integer); let Y = 1; tel;")?;
+    Ok(text)
+}
+
+/// A system whose equation has so many nodes.
+fn many_nodes(alloc: Global, count: u32) -> Result<String, Fail> {
+    let mut text = String::from_str(alloc, SMALL)?;
+    text.push_str("Y = case ")?;
+    for _ in 1..count {
+        text.push_str("1;")?;
+    }
+    text.push_str(" esac; tel;")?;
+    Ok(text)
+}
+
+/// A constant in so many parentheses.
+fn deep(alloc: Global, levels: u32) -> Result<String, Fail> {
+    let mut text = String::from_str(alloc, SMALL)?;
+    text.push_str("Y[i] = ")?;
+    for _ in 0..levels {
+        text.push_str("(")?;
+    }
+    text.push_str("1")?;
+    for _ in 0..levels {
+        text.push_str(")")?;
+    }
+    text.push_str("; tel;")?;
+    Ok(text)
+}
+
+#[test]
+fn answers_the_limits_of_numbers(rt: HostRuntime) -> Result<(), Fail> {
+    let alloc = rt.alloc();
+    let rows = [
+        (many_variables(alloc, 32)?, "ok 32"),
+        (many_variables(alloc, 33)?, "limit variables 33"),
+        (many_nodes(alloc, 4096)?, "ok 2"),
+        (many_nodes(alloc, 4097)?, "limit nodes 4097"),
+        (deep(alloc, 256)?, "ok 2"),
+        (deep(alloc, 257)?, "depth 4:269"),
+    ];
+    for (text, wanted) in &rows {
+        assert_eq!(&rt; shown(alloc, text.as_str(), N2)?.as_str(), *wanted);
+    }
+    Ok(())
+}
