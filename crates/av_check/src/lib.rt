@@ -1,7 +1,7 @@
 //! Each declared point exactly once: the first variable and its least point at which an equation has no word, or two.
 #![tactic(auto)]
 
-mod check;
+mod checking;
 mod fault;
 mod images;
 mod judge;
@@ -15,5 +15,5 @@ mod sets;
 mod tests;
 mod verdict;
 
-pub use check::check;
+pub use checking::check;
 pub use fault::CheckFault;

@@ -8,8 +8,8 @@ use Rattle.av_affine.proofs.Ring.{ring}
 use Rattle.av_poly.specs.Points.{Set}
 use Rattle.av_poly.specs.declared.poly.Bounds.{Bounds}
 use Rattle.av_poly.specs.Rational.{entry_of, homogeneous, HasRationalPoint, HasRationalRay, IsDirection, HasRayAlong, IsBounded, IsEndless, Spans, AreBounds, IsFirstEndless, HasNoBounds}
-use Rattle.av_elim.specs.declared.bounds.Elim.{Elim}
-use Rattle.av_elim.specs.declared.bounds.Elim.TheVariants.{Constraints, Unbounded, Empty, Memory}
+use Rattle.av_elim.specs.declared.bounding.Elim.{Elim}
+use Rattle.av_elim.specs.declared.bounding.Elim.TheVariants.{Constraints, Unbounded, Empty, Memory}
 use Rattle.av_elim.specs.declared.span.Span.{Span}
 use Rattle.av_elim.specs.Faults.{IsCause}
 use Rattle.av_elim.specs.inner.Rows.{Shadow, Clear}

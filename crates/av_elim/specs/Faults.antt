@@ -2,8 +2,8 @@
 use Rattle.std.specs.Prelude.{◌≡◌, ◌<◌, ◌≤◌, length}
 use Rattle.av_poly.specs.Points.{Set}
 use Rattle.av_poly.specs.Rational.{IsFirstEndless, HasNoBounds}
-use Rattle.av_elim.specs.declared.bounds.Elim.{Elim}
-use Rattle.av_elim.specs.declared.bounds.Elim.TheVariants.{Constraints, Unbounded, Empty, Memory}
+use Rattle.av_elim.specs.declared.bounding.Elim.{Elim}
+use Rattle.av_elim.specs.declared.bounding.Elim.TheVariants.{Constraints, Unbounded, Empty, Memory}
 
 -- the cause of an answer: above 20 rows their number; else as the rational set has it; out of memory has none
 abbrev pub IsCause : Set → Elim → Type 0

@@ -4,8 +4,8 @@ ghost use Rattle.std.specs.Prelude.{ℕ, ◌≡◌, ◌≢◌, ◌≤◌, ◌<�
 ghost use Rattle.av_poly.specs.Points.{Set};
 ghost use Rattle.av_poly.specs.declared.poly.Bounds.{Bounds};
 ghost use Rattle.av_poly.specs.Rational.{homogeneous, HasRationalPoint, HasRationalRay, IsEndless, AreBounds, entry_of};
-ghost use Rattle.av_elim.specs.declared.bounds.Elim.{Elim};
-ghost use Rattle.av_elim.specs.declared.bounds.Elim.TheVariants.{Memory};
+ghost use Rattle.av_elim.specs.declared.bounding.Elim.{Elim};
+ghost use Rattle.av_elim.specs.declared.bounding.Elim.TheVariants.{Memory};
 ghost use Rattle.av_elim.specs.Faults.{IsCause};
 
 /// A law: where a set has a rational point, some index is without a finite bound on one side exactly

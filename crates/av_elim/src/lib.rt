@@ -1,7 +1,7 @@
 //! The rational bounds of each index of a polyhedron, by Fourier-Motzkin elimination.
 #![tactic(auto)]
 
-mod bounds;
+mod bounding;
 mod eliminate;
 mod laws;
 mod merge;
@@ -10,5 +10,5 @@ mod span;
 #[cfg(test)]
 mod tests;
 
-pub use bounds::{Elim, bounds};
+pub use bounding::{Elim, bounds};
 pub use laws::{one_answer, rays};

@@ -8,11 +8,11 @@ mod expression;
 mod fault;
 mod index;
 mod laws;
-mod parse;
+mod parsing;
 mod postfix;
 mod program;
 mod text;
 
 pub use fault::ParseFault;
 pub use laws::{beginnings, one_program, program_or_fault};
-pub use parse::parse;
+pub use parsing::parse;

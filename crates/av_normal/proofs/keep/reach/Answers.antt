@@ -1,5 +1,5 @@
 use Rattle.std.proofs.Common.{subst}
-use Rattle.av_elim.specs.declared.bounds.Elim.{Elim}
+use Rattle.av_elim.specs.declared.bounding.Elim.{Elim}
 use Rattle.av_elim.specs.Faults.{IsCause}
 use Rattle.av_normal.proofs.Reaches.{no_point}
 use Rattle.av_normal.proofs.keep.reach.Goals as goal

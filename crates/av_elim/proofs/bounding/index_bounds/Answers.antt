@@ -5,8 +5,8 @@ use Rattle.av_poly.specs.Rational.{homogeneous}
 use Rattle.av_elim.proofs.Answering.{no_point, endless_below, endless_above}
 use Rattle.av_elim.proofs.Reaching.{next_void, next_some, gap_left, all_bounds, was_true, was_false}
 use Rattle.av_elim.proofs.Constants.{points_between}
-use Rattle.av_elim.proofs.bounds.index_bounds.Goals as goal
-use Rattle.av_elim.proofs.bounds.index_bounds.Goals.{then-greatest-least, else-greatest-least}
+use Rattle.av_elim.proofs.bounding.index_bounds.Goals as goal
+use Rattle.av_elim.proofs.bounding.index_bounds.Goals.{then-greatest-least, else-greatest-least}
 
 pub returns-then-not-span-clause-refused : goal.returns-then-not-span-clause-refused
 returns-then-not-span-clause-refused c = (c.requires.few, inl (no_point c.args.dim c.loop-index.index (homogeneous c.args.rows.now) c.in-Ok.span c.in-Ok.ensures (was_false c.in-Ok.span.flat c.if-not-span.true)))

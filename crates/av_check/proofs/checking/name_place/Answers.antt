@@ -1,6 +1,6 @@
 use Rattle.std.proofs.Common.{◌<◌, ◌∙◌, length, rules}
 use Rattle.av_check.proofs.Looking.{named_here}
-use Rattle.av_check.proofs.check.name_place.Goals as goal
+use Rattle.av_check.proofs.checking.name_place.Goals as goal
 
 pub returns : goal.returns
 returns c =

@@ -1,6 +1,6 @@
 use Rattle.av_lex.specs.Lexing.{views}
 use Rattle.av_parse.proofs.Parsed.{is_found, is_only, is_none, is_read, is_faultless, is_syntax, is_depth, answers_syntax, answers_depth, refuses_syntax, refuses_depth}
-use Rattle.av_parse.proofs.parse.parse.Goals as goal
+use Rattle.av_parse.proofs.parsing.parse.Goals as goal
 
 pub returns-in-Ok-clause-found : goal.returns-in-Ok-clause-found
 returns-in-Ok-clause-found c = is_found (views c.args.tokens.now) c.read.result c.in-Ok.system c.read.ensures c.in-Ok.is

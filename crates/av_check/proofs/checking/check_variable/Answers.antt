@@ -10,7 +10,7 @@ use Rattle.av_check.specs.inner.Least.{IsLeast}
 use Rattle.av_check.specs.inner.Coverage.{IsOff, IsOrdinary}
 use Rattle.av_check.specs.inner.Reachable.{IsReachableInside}
 use Rattle.av_check.proofs.Settled.{least_is_wrong, none_is_wrong}
-use Rattle.av_check.proofs.check.check_variable.Goals as goal
+use Rattle.av_check.proofs.checking.check_variable.Goals as goal
 
 pub least_wrong-requires-clause-sets : goal.least_wrong-requires-clause-sets
 least_wrong-requires-clause-sets c =

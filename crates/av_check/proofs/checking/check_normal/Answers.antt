@@ -9,7 +9,7 @@ use Rattle.av_check.specs.CheckFaults.{IsFault}
 use Rattle.av_check.specs.inner.Premises.{HavePremises, HasNoneMiscovered}
 use Rattle.av_check.proofs.Prepared.{are_ready}
 use Rattle.av_check.proofs.Settled.{proper_where_fine, refuses, complete, found_at}
-use Rattle.av_check.proofs.check.check_normal.Goals as goal
+use Rattle.av_check.proofs.checking.check_normal.Goals as goal
 
 pub check_variables-requires : goal.check_variables-requires
 check_variables-requires c =

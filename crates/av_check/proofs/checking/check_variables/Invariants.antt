@@ -2,7 +2,7 @@ use Rattle.std.proofs.Common.{map, take, All}
 use Rattle.av_flat.specs.Trees.{view_variable}
 use Rattle.av_flat.specs.Signatures.{signature}
 use Rattle.av_check.specs.inner.Premises.{HasNoneMiscovered}
-use Rattle.av_check.proofs.check.check_variables.Given as goal
+use Rattle.av_check.proofs.checking.check_variables.Given as goal
 
 -- no variable so far has a wrong point
 abbrev pub invariant-loop-k : goal.invariant-loop-k

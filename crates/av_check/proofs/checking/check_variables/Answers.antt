@@ -6,7 +6,7 @@ use Rattle.av_flat.specs.Trees.{view_variable}
 use Rattle.av_flat.specs.Signatures.{signature}
 use Rattle.av_check.specs.inner.Premises.{HasNoneMiscovered}
 use Rattle.av_check.proofs.Settled.{ready_size, ready_mapped, fine_more, fault_found}
-use Rattle.av_check.proofs.check.check_variables.Goals as goal
+use Rattle.av_check.proofs.checking.check_variables.Goals as goal
 
 pub bounds-kept-k : goal.bounds-kept-k
 bounds-kept-k c =
