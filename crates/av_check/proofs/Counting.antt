@@ -11,7 +11,8 @@ use Rattle.av_tree.specs.Points.{Point}
 use Rattle.av_flat.specs.Points.{has}
 use Rattle.av_flat.proofs.Sets.{has_is}
 use Rattle.av_check.specs.inner.Least.{IsLeast, first_of}
-use Rattle.av_check.specs.inner.Coverage.{one_in, coverage, IsOff, IsShared, IsSharedBy, IsInAny, IsInside}
+use Rattle.av_elim.specs.Extents.{IsInside}
+use Rattle.av_check.specs.inner.Coverage.{one_in, coverage, IsOff, IsShared, IsSharedBy, IsInAny}
 use Rattle.av_check.proofs.Lexicographic.{least_of_two}
 
 pub taken : {X : Type 0} (xs : List X) (i : ℕ) (x : X) → i < length xs → x ≡ get_or xs i x → take (i + 1) xs ≡ take i xs ++ x ∷ []

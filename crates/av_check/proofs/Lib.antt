@@ -1,6 +1,5 @@
 pub mod Lexicographic
 pub mod Counting
-pub mod Boxes
 pub mod Reaching
 pub mod Judging
 pub mod Founded

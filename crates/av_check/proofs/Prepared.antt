@@ -28,7 +28,8 @@ use Rattle.av_normal.proofs.PieceWords.{has_normal, cond_same}
 use Rattle.av_normal.proofs.RightSides.{right_count}
 use Rattle.av_normal.proofs.Systems.{both_all, signatures_are}
 use Rattle.av_normal.proofs.Limits.{AllFit, each_fits}
-use Rattle.av_check.specs.inner.Coverage.{coverage, IsOrdinary}
+use Rattle.av_elim.specs.Extents.{IsOrdinary}
+use Rattle.av_check.specs.inner.Coverage.{coverage}
 use Rattle.av_check.specs.inner.Premises.{HasPremises, HavePremises}
 use Rattle.av_check.proofs.Founded.{IsFoundedPiece, pieces_stand}
 

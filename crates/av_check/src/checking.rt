@@ -27,9 +27,9 @@ use crate::judge::judge_pieces;
 use crate::least::least_wrong;
 use crate::verdict::{Blame, Verdict};
 use av_base::{List, Memory, Name, Point};
-use av_flat::{Flat, Pass, Piece, Var, copy_set};
+use av_flat::{Flat, Pass, Piece, Var};
 use av_normal::Normal;
-use av_poly::Poly;
+use av_poly::{Poly, copy_set};
 use std::alloc::Global;
 
 // The domains of pieces.

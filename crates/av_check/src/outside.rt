@@ -4,12 +4,13 @@ ghost use Rattle.std.specs.Prelude.{ℤ, ℕ, List as Items, ◌≡◌, ◌≤�
 ghost use Rattle.av_affine.specs.Numbers.{AtMost};
 ghost use Rattle.av_poly.specs.Points.{Has};
 ghost use Rattle.av_check.specs.inner.Least.{IsLeast};
-ghost use Rattle.av_check.specs.inner.Coverage.{coverage, IsInAny, IsInside, IsOrdinary};
+ghost use Rattle.av_elim.specs.Extents.{IsInside, IsOrdinary};
+ghost use Rattle.av_check.specs.inner.Coverage.{coverage, IsInAny};
 
 use crate::order::lesser;
-use crate::sets::{least_point, normalised};
+use crate::sets::least_point;
 use av_base::{List, Memory, Point};
-use av_poly::{Bounds, Poly};
+use av_poly::{Bounds, Poly, normalised_copy};
 use std::alloc::Global;
 
 // Puts the parts that have a point behind others.
@@ -29,7 +30,7 @@ fn append_parts(
     ensures points { OnOk result ((z : Items ℤ) → IsInAny to.new z ↔ (IsInAny to.old z ⊎ IsInAny parts.now z)) }
 {
     for part in parts {
-        let part = normalised(alloc, part)?;
+        let part = normalised_copy(alloc, part)?;
         if least_point(&part, extent).is_some() {
             to.push(part)?;
         }
@@ -77,7 +78,7 @@ fn left_of(
     ensures points { IfOk result (λ left. (z : Items ℤ) → IsInAny left z ↔ (Has domain.now z × (coverage z sets.now ≡ 0))) }
 {
     let mut left = List::new(alloc);
-    left.push(normalised(alloc, domain)?)?;
+    left.push(normalised_copy(alloc, domain)?)?;
     for set in sets {
         left = left_outside(alloc, domain.dim, extent, left.as_slice(), set)?;
     }

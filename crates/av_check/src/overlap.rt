@@ -4,12 +4,13 @@ ghost use Rattle.std.specs.Prelude.{◌≤◌, IfOk, All, ◌≡◌};
 ghost use Rattle.av_affine.specs.Numbers.{AtMost};
 ghost use Rattle.av_poly.specs.Points.{Has};
 ghost use Rattle.av_check.specs.inner.Least.{IsLeast};
-ghost use Rattle.av_check.specs.inner.Coverage.{IsInside, IsShared, IsSharedBy};
+ghost use Rattle.av_elim.specs.Extents.{IsInside};
+ghost use Rattle.av_check.specs.inner.Coverage.{IsShared, IsSharedBy};
 
 use crate::order::lesser;
-use crate::sets::{least_point, normalised};
+use crate::sets::least_point;
 use av_base::{List, Memory, Point};
-use av_poly::{Bounds, Poly};
+use av_poly::{Bounds, Poly, normalised_copy};
 use std::alloc::Global;
 
 // The least point of the domain that both sets have.
@@ -30,7 +31,7 @@ fn least_of_both(
 {
     let both = some.meet(alloc, other)?;
     let all = domain.meet(alloc, &both)?;
-    Ok(least_point(&normalised(alloc, &all)?, extent))
+    Ok(least_point(&normalised_copy(alloc, &all)?, extent))
 }
 
 // The least point of the domain that the set has and one of the others.

@@ -4,7 +4,7 @@ ghost use Rattle.std.specs.Prelude.{ℤ, List as Items, ◌≡◌, ◌≤◌, Al
 ghost use Rattle.av_affine.specs.Numbers.{AtMost};
 ghost use Rattle.av_affine.specs.Forms.{IsWithinLimits};
 ghost use Rattle.av_poly.specs.Points.{IsSmall, Has};
-ghost use Rattle.av_check.specs.inner.Coverage.{IsOrdinary};
+ghost use Rattle.av_elim.specs.Extents.{IsOrdinary};
 
 use crate::least::least_wrong;
 use av_affine::Form;

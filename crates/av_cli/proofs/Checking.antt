@@ -13,7 +13,7 @@ use Rattle.av_cli.specs.Commands.{GiveSizes, IsCheck}
 use Rattle.av_cli.specs.Refusals.{refusal_line}
 use Rattle.av_cli.specs.SystemRefusals.{system_reason}
 use Rattle.av_cli.specs.Checks.{RefusesCheck, GivesCheck, RefusesWith, GivesWith}
-use Rattle.av_cli.specs.Written.{IsPut, IsAnswered, refused, given, no_memory}
+use Rattle.av_cli.specs.inner.Written.{IsPut, IsAnswered, refused, given, no_memory}
 use Rattle.av_cli.proofs.GivenSizes.{with_sizes}
 
 -- ---- refused or given, and not both

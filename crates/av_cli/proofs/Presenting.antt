@@ -16,7 +16,7 @@ use Rattle.av_net.proofs.Distinct.{apart, front_distinct, rest_distinct}
 use Rattle.av_clock.specs.Seen.{Seen, carried}
 use Rattle.av_data.specs.declared.stimulus.Given.{Given}
 use Rattle.av_cli.specs.Simulated.{given_word, port_words}
-use Rattle.av_cli.specs.Clocking.{ArePresented, AreWires}
+use Rattle.av_cli.specs.inner.Clocking.{ArePresented, AreWires}
 
 abbrev name_in : Port → List ℕ
 name_in port = port.name

@@ -60,7 +60,7 @@ use Rattle.av_cli.specs.Refusals.{refusal_line, data_reason}
 use Rattle.av_cli.specs.SystemRefusals.{system_reason}
 use Rattle.av_cli.specs.Tables.{RefusesTable}
 use Rattle.av_cli.specs.Runs.{RefusesRun, no_mark, bad_system, bad_data, HasData, results, is_result, AreSolved, GivesResults, GivesTrace}
-use Rattle.av_cli.specs.Written.{IsPut, IsAnswered, refused, given, no_memory}
+use Rattle.av_cli.specs.inner.Written.{IsPut, IsAnswered, refused, given, no_memory}
 use Rattle.av_cli.specs.inner.Reported.{GivesReport, RefusesRunWith, GivesReportWith, IsClockable, names_output, is_output_named, RefusesLines, AreResultsOf, IsTraceOf, IsReport, GivesReported}
 use Rattle.av_cli.specs.inner.Tellings.{IsTold, told, untold}
 use Rattle.av_cli.proofs.Chained.{meaning}

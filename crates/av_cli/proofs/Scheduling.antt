@@ -20,7 +20,7 @@ use Rattle.av_cli.specs.Commands.{GiveSizes, IsSchedule}
 use Rattle.av_cli.specs.Refusals.{refusal_line}
 use Rattle.av_cli.specs.SystemRefusals.{system_reason}
 use Rattle.av_cli.specs.Schedules.{RefusesSchedule, GivesSchedule, RefusesScheduleWith, GivesScheduleWith}
-use Rattle.av_cli.specs.Written.{IsPut, IsAnswered, refused, given, no_memory}
+use Rattle.av_cli.specs.inner.Written.{IsPut, IsAnswered, refused, given, no_memory}
 use Rattle.av_compile.proofs.OneChain.{one_flat}
 use Rattle.av_compile.proofs.OneRefusal.{memory_or_not}
 use Rattle.av_cli.proofs.Checking.{exclusive}

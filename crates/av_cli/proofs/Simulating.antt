@@ -28,7 +28,7 @@ use Rattle.av_cli.specs.declared.status.Status.TheVariants.{Done, Refused, Write
 use Rattle.av_cli.specs.Refusals.{refusal_line, text_reason, data_reason}
 use Rattle.av_cli.specs.Simulated.{given_word, IsStimulated, run_lines}
 use Rattle.av_cli.specs.Sims.{RefusesSim, bad_text, bad_stimulus, GivesSim, RefusesStimulus, GivesRun}
-use Rattle.av_cli.specs.Written.{IsPut, IsAnswered, refused, given, no_memory, IsClocked}
+use Rattle.av_cli.specs.inner.Written.{IsPut, IsAnswered, refused, given, no_memory, IsClocked}
 use Rattle.av_cli.proofs.Presenting.{given_distinct}
 
 -- ---- a run under the stimulus

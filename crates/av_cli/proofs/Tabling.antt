@@ -18,7 +18,7 @@ use Rattle.av_cli.specs.Commands.{GiveSizes, IsTable}
 use Rattle.av_cli.specs.Refusals.{refusal_line}
 use Rattle.av_cli.specs.SystemRefusals.{system_reason}
 use Rattle.av_cli.specs.Tables.{RefusesTable, GivesTable, RefusesTableWith, GivesTableWith}
-use Rattle.av_cli.specs.Written.{IsPut, IsAnswered, refused, given, no_memory}
+use Rattle.av_cli.specs.inner.Written.{IsPut, IsAnswered, refused, given, no_memory}
 use Rattle.av_compile.proofs.OneRefusal.{memory_or_not}
 use Rattle.av_cli.proofs.Scheduling.{not_unscheduled}
 use Rattle.av_cli.proofs.GivenSizes.{with_sizes}

@@ -12,7 +12,7 @@ use Rattle.av_data.specs.declared.stimulus.Stimulus.{Stimulus}
 use Rattle.av_data.specs.Stimuli.{IsBefore, SpellsStimulus}
 use Rattle.av_data.proofs.Fits.{IsFor, values_fit}
 use Rattle.av_cli.specs.Simulated.{given_word}
-use Rattle.av_cli.specs.Clocking.{is_here, word_next, rest_next, IsFrom, IsForPort, AreLeft}
+use Rattle.av_cli.specs.inner.Clocking.{is_here, word_next, rest_next, IsFrom, IsForPort, AreLeft}
 
 both : (a b : Bool) → (a && b) ≡ true → (a ≡ true) × (b ≡ true)
 both true true e = (refl, refl)

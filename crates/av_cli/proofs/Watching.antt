@@ -17,7 +17,7 @@ use Rattle.av_net.specs.Sound.{IsSound}
 use Rattle.av_clock.specs.Seen.{Seen, carried}
 use Rattle.av_data.specs.declared.stimulus.Stimulus.{Stimulus}
 use Rattle.av_cli.specs.Simulated.{IsStimulated}
-use Rattle.av_cli.specs.Clocking.{AreLeft, ArePresented}
+use Rattle.av_cli.specs.inner.Clocking.{AreLeft, ArePresented}
 use Rattle.av_cli.specs.Shown.{IsFedRun, AreShown}
 use Rattle.av_cli.specs.inner.Feeding.{AreOfLines}
 use Rattle.av_cli.specs.inner.Watching.{bits_of, noted, watched}

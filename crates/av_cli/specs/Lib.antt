@@ -3,12 +3,9 @@ pub mod CommandsSeen
 pub mod Refusals
 pub mod SystemRefusals
 pub mod Simulated
-pub mod Clocking
 pub mod Emits
 pub mod Sims
 pub mod Checks
-pub mod Asked
-pub mod Written
 pub mod Program
 pub mod Schedules
 pub mod Tables

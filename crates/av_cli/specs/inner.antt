@@ -4,3 +4,6 @@ pub mod DemoData
 pub mod Reported
 pub mod Tellings
 pub mod DemoWords
+pub mod Clocking
+pub mod Asked
+pub mod Written

@@ -1,8 +1,8 @@
 ghost use Rattle.std.specs.Prelude.{◌≡◌, ◌≤◌, length};
 ghost use Rattle.av_base.specs.Outside.{HasRisen};
 ghost use Rattle.av_cli.specs.Program.{AddsWhole, AddsFront, IsComplete};
-ghost use Rattle.av_cli.specs.Written.{IsAnswered};
-ghost use Rattle.av_cli.specs.Asked.{Refuses, Gives};
+ghost use Rattle.av_cli.specs.inner.Written.{IsAnswered};
+ghost use Rattle.av_cli.specs.inner.Asked.{Refuses, Gives};
 ghost use Rattle.av_cli.specs.CommandsSeen.{Are};
 
 use crate::check::check;

@@ -11,7 +11,7 @@ ghost use Rattle.av_data.specs.declared.fault.DataFault.TheVariants as data_faul
 ghost use Rattle.av_compile.specs.declared.refusal.Refusal.TheVariants as system_refusal;
 ghost use Rattle.av_cli.specs.Refusals.{refusal_line, text_reason, data_reason};
 ghost use Rattle.av_cli.specs.SystemRefusals.{system_reason};
-ghost use Rattle.av_cli.specs.Written.{IsPut};
+ghost use Rattle.av_cli.specs.inner.Written.{IsPut};
 
 use crate::refusals::{write_data_refusal, write_text_refusal};
 use crate::status::Status;

@@ -2,7 +2,7 @@
 
 ghost use Rattle.std.specs.Prelude.{◌≤◌, length};
 ghost use Rattle.av_cli.specs.Schedules.{RefusesScheduleWith, GivesScheduleWith};
-ghost use Rattle.av_cli.specs.Written.{IsAnswered};
+ghost use Rattle.av_cli.specs.inner.Written.{IsAnswered};
 
 use crate::put::{put_alpha_refusal, put_schedule};
 use crate::sizes::sizes;

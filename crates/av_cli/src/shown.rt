@@ -10,7 +10,7 @@ ghost use Rattle.av_net.specs.Sound.{IsSound};
 ghost use Rattle.av_clock.specs.Seen.{carried};
 ghost use Rattle.av_data.specs.Inputs.{words_of};
 ghost use Rattle.av_cli.specs.Simulated.{IsStimulated};
-ghost use Rattle.av_cli.specs.Clocking.{AreLeft};
+ghost use Rattle.av_cli.specs.inner.Clocking.{AreLeft};
 ghost use Rattle.av_cli.specs.Shown.{AreShown};
 ghost use Rattle.av_cli.specs.inner.Feeding.{AreSmall, AreOfLines};
 ghost use Rattle.av_cli.specs.inner.Watching.{bits_of, AreTaps, noted, watched};

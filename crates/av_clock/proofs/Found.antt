@@ -17,7 +17,7 @@ use Rattle.av_net.proofs.Declared.{declared_width, names_declared, name_containe
 use Rattle.av_net.proofs.Distinct.{apart, front_distinct}
 use Rattle.av_net.proofs.Settles.{not_equal, names_distinct}
 use Rattle.av_clock.specs.declared.resolver.Declared.{Declared}
-use Rattle.av_clock.specs.Found.{Finds}
+use Rattle.av_clock.specs.inner.Found.{Finds}
 
 -- a function from names to what is declared with them
 abbrev pub Find : Type 0

@@ -23,9 +23,9 @@ use Rattle.av_net.proofs.Once.{agree_by}
 use Rattle.av_net.proofs.Settles.{with_word, with_word_same, with_word_other, names_distinct}
 use Rattle.av_clock.specs.declared.gate.Assignment.{Assignment}
 use Rattle.av_clock.specs.Named.{named, AllFit}
-use Rattle.av_clock.specs.Gates.{gate_word}
+use Rattle.av_clock.specs.inner.Gates.{gate_word}
 use Rattle.av_clock.specs.Marked.{IsSet, IsClear, AreHeld, ReadTheSame, AreAhead}
-use Rattle.av_clock.specs.Readers.{IsOther}
+use Rattle.av_clock.specs.inner.Readers.{IsOther}
 use Rattle.av_clock.proofs.Lookup.{look_set}
 use Rattle.av_clock.proofs.Marking.{cleared, clear_after}
 use Rattle.av_clock.proofs.Reading.{not_known, name_at}

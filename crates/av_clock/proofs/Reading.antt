@@ -16,7 +16,7 @@ use Rattle.av_net.specs.Names.{AreDistinct, IsAmong, given_names, all_names, tar
 use Rattle.av_net.specs.Sound.{IsSound, IsInOrder}
 use Rattle.av_net.proofs.Distinct.{apart, rest_distinct}
 use Rattle.av_net.proofs.Settles.{given_once, names_distinct}
-use Rattle.av_clock.specs.Readers.{IsOther, at_place, IsEntered, HaveDrives, HaveSteps}
+use Rattle.av_clock.specs.inner.Readers.{IsOther, at_place, IsEntered, HaveDrives, HaveSteps}
 use Rattle.av_clock.specs.Marked.{IsClear, AreAhead}
 use Rattle.av_clock.proofs.Lookup.{same_or_not}
 use Rattle.av_clock.proofs.Marking.{contains_read}

@@ -13,7 +13,7 @@ use Rattle.av_net.specs.Names.{IsAmong, names_of, given_names, wire_names, all_n
 use Rattle.av_net.specs.Sound.{IsSound}
 use Rattle.av_clock.specs.declared.gate.Assignment.{Assignment}
 use Rattle.av_clock.specs.declared.gate.FlipFlop.{FlipFlop}
-use Rattle.av_clock.specs.Gates.{IsAssigned, IsStepped, AreAssigned, AreStepped}
+use Rattle.av_clock.specs.inner.Gates.{IsAssigned, IsStepped, AreAssigned, AreStepped}
 
 -- a fact of each element, at one that was read
 pub at_item : {X : Type 0} (P : X → Type 0) (xs : List X) (k : ℕ) (x : X) → k < length xs → x ≡ get_or xs k x → All P xs → P x

@@ -23,7 +23,7 @@ use Rattle.av_clock.specs.declared.gate.Gate.{Gate}
 use Rattle.av_clock.specs.declared.gate.Gate.TheVariants.{Buffer, Operator, Comparator, Multiplexer}
 use Rattle.av_clock.specs.declared.gate.Assignment.{Assignment}
 use Rattle.av_clock.specs.Named.{looked_up, named, AllFit}
-use Rattle.av_clock.specs.Gates.{reading_word, IsWithin, Takes, CanTake, gate_word, IsRead, IsResolved, IsAssigned, AreAssigned}
+use Rattle.av_clock.specs.inner.Gates.{reading_word, IsWithin, Takes, CanTake, gate_word, IsRead, IsResolved, IsAssigned, AreAssigned}
 use Rattle.av_clock.proofs.Lookup.{look_at, look_set, same_or_not}
 use Rattle.av_clock.proofs.Resolved.{at_item}
 

@@ -26,7 +26,7 @@ use Rattle.av_net.proofs.Declared.{declared_width, input_declared}
 use Rattle.av_net.proofs.Distinct.{apart, front_distinct}
 use Rattle.av_net.proofs.Settles.{with_word, with_word_same, with_word_other, names_distinct}
 use Rattle.av_clock.specs.Named.{named, AllFit}
-use Rattle.av_clock.specs.Gates.{AreTaken, FitRegisters}
+use Rattle.av_clock.specs.inner.Gates.{AreTaken, FitRegisters}
 use Rattle.av_clock.specs.Seen.{Seen, carried}
 use Rattle.av_clock.specs.Marked.{IsClear, AreHeld, ReadTheSame}
 use Rattle.av_clock.proofs.Held.{given_apart}

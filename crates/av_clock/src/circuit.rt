@@ -8,7 +8,7 @@ ghost use Rattle.av_net.specs.Sound.{IsSound};
 ghost use Rattle.av_net.specs.Meaning.{word_of, EachOperand};
 ghost use Rattle.av_clock.specs.Named.{named, AllFit};
 ghost use Rattle.av_clock.specs.Marked.{IsSet, IsClear, AreHeld, ReadTheSame, AreAhead, AreDue};
-ghost use Rattle.av_clock.specs.Readers.{IsOther};
+ghost use Rattle.av_clock.specs.inner.Readers.{IsOther};
 
 use crate::gate::{Assignment, FlipFlop};
 use crate::marks::{Marks, set_all};
@@ -34,7 +34,7 @@ impl<'a> Model for Circuit<'a> {
 
     ghost Value = { Netlist };
 
-    ghost use Rattle.av_clock.specs.Circuit.{IsCircuit};
+    ghost use Rattle.av_clock.specs.inner.Circuit.{IsCircuit};
 
     ghost view = { λ c. c.of.now };
 
@@ -42,7 +42,7 @@ impl<'a> Model for Circuit<'a> {
 }
 
 impl<'a> Circuit<'a> {
-    ghost use Rattle.av_clock.specs.Gates.{AreTaken, FitRegisters};
+    ghost use Rattle.av_clock.specs.inner.Gates.{AreTaken, FitRegisters};
 
     pub(crate) fn new(alloc: Global, of: &'a Module) -> Result<Circuit<'a>, Memory>
         requires { IsSound of.now }

@@ -57,7 +57,7 @@ pub(crate) struct FlipFlop {
 }
 
 impl Reading {
-    ghost use Rattle.av_clock.specs.Gates.{reading_word, IsWithin};
+    ghost use Rattle.av_clock.specs.inner.Gates.{reading_word, IsWithin};
 
     #[inline(always)]
     pub(crate) fn word(self, words: &[u64]) -> u64
@@ -72,7 +72,7 @@ impl Reading {
 }
 
 impl Gate {
-    ghost use Rattle.av_clock.specs.Gates.{gate_word, CanTake};
+    ghost use Rattle.av_clock.specs.inner.Gates.{gate_word, CanTake};
 
     #[inline(always)]
     pub(crate) fn word(&self, words: &[u64]) -> u64

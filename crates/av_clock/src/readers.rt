@@ -3,7 +3,7 @@ ghost use Rattle.av_net.specs.declared.operation.Operand.{Operand as Read};
 ghost use Rattle.av_net.specs.Meaning.{EachOperand};
 ghost use Rattle.av_net.specs.Names.{IsAmong, all_names};
 ghost use Rattle.av_net.specs.Sound.{IsSound};
-ghost use Rattle.av_clock.specs.Readers.{IsEntered};
+ghost use Rattle.av_clock.specs.inner.Readers.{IsEntered};
 
 use crate::resolver::Resolver;
 use av_base::{List, Memory};

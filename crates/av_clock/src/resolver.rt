@@ -35,7 +35,7 @@ impl<'a> Model for Resolver<'a> {
 
     ghost Value = { Netlist };
 
-    ghost use Rattle.av_clock.specs.Resolver.{IsResolver};
+    ghost use Rattle.av_clock.specs.inner.Resolver.{IsResolver};
 
     ghost view = { λ c. c.of.now };
 
@@ -43,8 +43,8 @@ impl<'a> Model for Resolver<'a> {
 }
 
 impl<'a> Resolver<'a> {
-    ghost use Rattle.av_clock.specs.Gates.{IsRead, IsResolved, AreAssigned, AreStepped};
-    ghost use Rattle.av_clock.specs.Readers.{HaveDrives, HaveSteps};
+    ghost use Rattle.av_clock.specs.inner.Gates.{IsRead, IsResolved, AreAssigned, AreStepped};
+    ghost use Rattle.av_clock.specs.inner.Readers.{HaveDrives, HaveSteps};
 
     pub(crate) fn new(alloc: Global, of: &'a Module) -> Result<Resolver<'a>, Memory>
         requires { IsSound of.now }
@@ -186,7 +186,7 @@ pub(crate) fn size_of_module(of: &Module) -> usize
     state + of.outputs.as_slice().len() + of.wires.as_slice().len()
 }
 
-ghost use Rattle.av_clock.specs.Found.{Finds};
+ghost use Rattle.av_clock.specs.inner.Found.{Finds};
 
 // Enters the declarations, which stand behind as many others.
 fn enter<'a>(

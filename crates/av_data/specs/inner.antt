@@ -2,3 +2,5 @@ pub mod Parts
 pub mod Sayings
 pub mod ReadData
 pub mod Walks
+pub mod Said
+pub mod Named

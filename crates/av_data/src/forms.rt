@@ -2,7 +2,7 @@
 
 ghost use Rattle.std.specs.Prelude.{◌≡◌, Some, None, IfSome, IfNone};
 ghost use Rattle.av_data.specs.Reading.{is_empty, cycles_digits, setting_by, setting_behind, setting_in};
-ghost use Rattle.av_data.specs.Said.{said};
+ghost use Rattle.av_data.specs.inner.Said.{said};
 
 use crate::lines::first_part;
 use crate::spelling::{are_digits, is_name};

@@ -23,7 +23,7 @@ impl<'a> Model for InputPorts<'a> {
 
     ghost Value = { Items Declared };
 
-    ghost use Rattle.av_data.specs.Named.{AreNamed};
+    ghost use Rattle.av_data.specs.inner.Named.{AreNamed};
 
     ghost view = { λ inputs. inputs.ports.now };
 

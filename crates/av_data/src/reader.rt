@@ -3,7 +3,7 @@
 ghost use Rattle.std.specs.Prelude.{◌≡◌, ◌<◌, ◌+◌, ◌≤◌, length, drop, Ok, Err, Some, [], OnOk, IfErr, IfOk};
 ghost use Rattle.av_net.specs.Names.{AreDistinct, names_of};
 ghost use Rattle.av_data.specs.Reading.{cycles_digits, cycles_at, cycles_by, value_at, given_at, place_of, stimulus_of, FaultIs, Answers};
-ghost use Rattle.av_data.specs.Said.{said};
+ghost use Rattle.av_data.specs.inner.Said.{said};
 
 use crate::DataFault;
 use crate::forms::{Setting, cycles_digits, setting_in};

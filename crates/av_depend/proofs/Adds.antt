@@ -23,13 +23,13 @@ use Rattle.av_depend.specs.declared.edge.Edge.{Edge}
 use Rattle.av_depend.specs.Sites.{Site, both, HasPair, sites_of, sites_from}
 use Rattle.av_flat.specs.Order.{IsBefore}
 use Rattle.av_depend.specs.Edges.{IsEdge, AreEdges, ended, without, with_pair}
-use Rattle.av_depend.specs.Extents.{IsInside}
+use Rattle.av_elim.specs.Extents.{IsInside}
 use Rattle.av_depend.specs.AllPoints.{AreAllPoints}
 use Rattle.av_depend.specs.inner.Generating.{IsPointOf}
 use Rattle.av_depend.specs.inner.Adding.{IsComputedAt, HasAdded, site_at}
 use Rattle.av_depend.proofs.Among.{first_among, more_among, among_cases, none_among}
 use Rattle.av_depend.proofs.Covering.{has_both, both_have}
-use Rattle.av_depend.proofs.Boxes.{small_between}
+use Rattle.av_elim.proofs.Boxes.{small_between}
 
 -- ---- edges one behind the other
 

@@ -17,7 +17,7 @@ use Rattle.av_flat.specs.Nodes.{is_node}
 use Rattle.av_flat.proofs.Sets.{has_is}
 use Rattle.av_depend.specs.declared.edge.Edge.{Edge}
 use Rattle.av_depend.specs.Sites.{Site, sites_in, sites_of, sites_from}
-use Rattle.av_depend.specs.Extents.{IsInside}
+use Rattle.av_elim.specs.Extents.{IsInside}
 use Rattle.av_depend.specs.inner.Adding.{HasAdded}
 use Rattle.av_depend.proofs.Adds.{added_both, map_take_more, sites_from_more, flat_map_map}
 use Rattle.av_depend.proofs.Listed.{filter_kept, filter_left}

@@ -1,5 +1,4 @@
 pub mod Adding
-pub mod Clamped
 pub mod Generating
 pub mod Reaching
 pub mod Listing

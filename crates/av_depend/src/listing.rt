@@ -3,7 +3,7 @@
 ghost use Rattle.std.specs.Prelude.{◌≡◌, ◌≤◌, ◌<◌, ◌+◌, ◌++◌, ◌∷◌, [], length, take, filter, All, IfOk, OnOk};
 ghost use Rattle.av_affine.specs.Numbers.{AtMost};
 ghost use Rattle.av_flat.specs.Points.{has};
-ghost use Rattle.av_depend.specs.Extents.{IsInside};
+ghost use Rattle.av_elim.specs.Extents.{IsInside};
 ghost use Rattle.av_depend.specs.AllPoints.{AreAllPoints};
 ghost use Rattle.av_depend.specs.inner.Generating.{IsPointOf};
 ghost use Rattle.av_depend.specs.inner.Listing.{HasListed};

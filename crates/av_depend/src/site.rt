@@ -7,7 +7,7 @@ ghost use Rattle.av_flat.specs.Nodes.{number_at};
 ghost use Rattle.av_flat.specs.Signatures.{signatures};
 ghost use Rattle.av_flat.specs.WellFormed.{Fits};
 ghost use Rattle.av_depend.specs.Sites.{sites_in, both};
-ghost use Rattle.av_depend.specs.Extents.{IsInside};
+ghost use Rattle.av_elim.specs.Extents.{IsInside};
 ghost use Rattle.av_depend.specs.inner.Adding.{IsReadingSet, IsComputedAt, HasAdded, site_at, site_of};
 
 use crate::edge::Edge;
@@ -15,8 +15,8 @@ use crate::generator::{generators, same};
 use crate::listing::{all_points, points_within};
 use av_affine::Map;
 use av_base::{List, Memory, Point};
-use av_flat::{Choice, Flat, Tree, copy_map, copy_set};
-use av_poly::{Bounds, Poly};
+use av_flat::{Choice, Flat, Tree, copy_map};
+use av_poly::{Bounds, Poly, copy_set};
 use std::alloc::Global;
 
 /// A set of points at which something is read, with all of its points in order, and those of them that are generators.

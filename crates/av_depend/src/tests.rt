@@ -4,18 +4,17 @@ ghost use Rattle.std.specs.Prelude.{◌≡◌, ◌≤◌, ◌<◌, All, IfOk, If
 ghost use Rattle.av_affine.specs.Numbers.{AtMost};
 ghost use Rattle.av_affine.specs.Forms.{IsWithinLimits};
 ghost use Rattle.av_poly.specs.Points.{IsSmall};
-ghost use Rattle.av_depend.specs.Extents.{IsInside};
+ghost use Rattle.av_elim.specs.Extents.{IsInside};
 ghost use Rattle.av_depend.specs.inner.Adding.{IsReadingSet};
 
 mod trees;
 
-use crate::extent::normalised;
 use crate::site::{ReadingSet, reading_set};
 use crate::{Edge, components};
 use av_affine::{Form, Map, Rows};
 use av_base::{List, Memory, Point};
 use av_elim::bounds;
-use av_poly::{Bounds, Poly};
+use av_poly::{Bounds, Poly, normalised_copy};
 use std::alloc::Global;
 use std::test::Fail;
 
@@ -80,7 +79,7 @@ fn small_box(alloc: Global, set: &Poly) -> Result<Option<Bounds>, Memory>
     if !are_within_limits(set.rows.as_slice()) {
         return Ok(None);
     }
-    let tight = normalised(alloc, set)?;
+    let tight = normalised_copy(alloc, set)?;
     let Ok(extent) = bounds(alloc, &tight) else {
         return Ok(None);
     };

@@ -12,3 +12,4 @@ pub mod Answering
 pub mod Reaching
 pub mod Constants
 pub mod Excluding
+pub mod Boxes

@@ -1,3 +1,4 @@
 pub mod Rows
 pub mod Step
 pub mod Span
+pub mod Clamped

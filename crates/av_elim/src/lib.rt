@@ -3,6 +3,7 @@
 
 mod bounding;
 mod eliminate;
+mod extent;
 mod laws;
 mod merge;
 mod shadow;
@@ -11,4 +12,5 @@ mod span;
 mod tests;
 
 pub use bounding::{Elim, bounds};
+pub use extent::box_of;
 pub use laws::{one_answer, rays};

@@ -4,9 +4,9 @@ ghost use Rattle.std.specs.Prelude.{◌≡◌, IfOk, map};
 ghost use Rattle.av_flat.specs.Trees.{view, view_piece, view_variable, view_system};
 
 use crate::{Choice, Flat, Piece, Tree, Var};
-use av_affine::{Form, Map, Rows};
+use av_affine::{Map, Rows};
 use av_base::{List, Memory, Name};
-use av_poly::Poly;
+use av_poly::copy_set;
 use std::alloc::Global;
 
 /// The same system.
@@ -167,25 +167,6 @@ pub fn copy_pieces(alloc: Global, pieces: &[Piece]) -> Result<List<Piece>, Memor
             domain: copy_set(alloc, &piece.domain)?,
             tree: copy_tree(alloc, &piece.tree)?,
         })?;
-    }
-    Ok(to)
-}
-
-/// The same set, row by row.
-pub fn copy_set(alloc: Global, set: &Poly) -> Result<Poly, Memory>
-    ensures { IfOk result (λ to. to ≡ set.now) }
-{
-    let rows = copy_rows(alloc, set.rows.as_slice())?;
-    Ok(Poly { dim: set.dim, rows })
-}
-
-/// The same rows.
-pub fn copy_rows(alloc: Global, rows: &[Form]) -> Result<List<Form>, Memory>
-    ensures { IfOk result (λ to. to ≡ rows.now) }
-{
-    let mut to = List::new(alloc);
-    for row in rows {
-        to.push(*row)?;
     }
     Ok(to)
 }

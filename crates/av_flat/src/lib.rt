@@ -12,7 +12,7 @@ mod then;
 mod timed;
 mod tree;
 
-pub use copy::{copy_flat, copy_map, copy_pieces, copy_rows, copy_set, copy_tree, copy_variable};
+pub use copy::{copy_flat, copy_map, copy_pieces, copy_tree, copy_variable};
 pub use flat::{Flat, Kind, Piece, Var};
 pub use laws::{
     counted_pieces, counted_word, number_of_pieces, one_word, points_of_sets, words_of_pieces,

@@ -1,16 +1,16 @@
 -- The boxes of the declared domains of variables, and the first that is unbounded or large. Only private contracts cite this.
-use Rattle.std.specs.Prelude.{◌≡◌, ◌≤◌, ◌≤ℤ◌, pos, ◌++◌, List, length, Option, Some, None}
+use Rattle.std.specs.Prelude.{◌≡◌, ◌≤◌, List, length, Option, Some, None}
 use Rattle.av_affine.specs.declared.form.Form.{Form}
-use Rattle.av_affine.specs.Numbers.{greatest}
 use Rattle.av_poly.specs.declared.poly.Bounds.{Bounds}
 use Rattle.av_poly.specs.Normal.{AreNormalised}
 use Rattle.av_tree.specs.Trees.{Text}
 use Rattle.av_flat.specs.Trees.{Variable}
-use Rattle.av_flat.specs.Sets.{IsUnbounded, box_size}
+use Rattle.av_flat.specs.Sets.{IsUnbounded}
 use Rattle.av_flat.specs.Quantities.{of_set}
 use Rattle.av_normal.specs.declared.fault.NormalFault.{NormalFault}
 use Rattle.av_normal.specs.declared.fault.NormalFault.TheVariants as fault
 use Rattle.av_normal.specs.Pairwise.{IsFirstOf}
+use Rattle.av_normal.specs.BoxLimits.{IsSmallBox}
 use Rattle.av_normal.specs.Extents.{IsExtent, IsOverBounds}
 use Rattle.av_normal.specs.Searches.{IsNarrow}
 
@@ -55,7 +55,7 @@ IsEndlessOne v fault.Memory = Unit {0}
 -- a box within its limits, or none
 abbrev pub IsSmallExtent : Option Bounds → Type 0
 IsSmallExtent None = Unit {0}
-IsSmallExtent (Some b) = (greatest (b.low ++ b.high) ≤ 4095) × (box_size b.low b.high ≤ℤ pos 65536)
+IsSmallExtent (Some b) = IsSmallBox b
 
 -- a box above a limit, of which the fault tells
 abbrev pub IsLargeExtent : NormalFault → Option Bounds → Type 0

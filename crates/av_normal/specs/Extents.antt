@@ -1,15 +1,14 @@
 -- The boxes of declared domains, as their bounds. Only private contracts cite this.
-use Rattle.std.specs.Prelude.{◌≡◌, ℕ, ◌<◌, ◌≤◌, ℤ, pos, ◌++◌, ◌⊎◌, List, Option, Some, None, Bool, true, false}
-use Rattle.av_affine.specs.Numbers.{AtMost, greatest}
+use Rattle.std.specs.Prelude.{◌≡◌, ℕ, ℤ, List, Option, Some, None, Bool, true, false}
+use Rattle.av_affine.specs.Numbers.{AtMost}
 use Rattle.av_poly.specs.declared.poly.Bounds.{Bounds}
 use Rattle.av_poly.specs.Points.{Set, Has}
 use Rattle.av_poly.specs.Rational.{AreBounds, IsFirstEndless, HasNoBounds}
 use Rattle.av_poly.specs.Search.{IsBetween}
 use Rattle.av_tree.specs.Trees.{Text}
-use Rattle.av_flat.specs.declared.quantity.Quantity.TheVariants as quantity
-use Rattle.av_flat.specs.Sets.{box_size}
 use Rattle.av_normal.specs.declared.fault.NormalFault.{NormalFault}
 use Rattle.av_normal.specs.declared.fault.NormalFault.TheVariants as fault
+use Rattle.av_normal.specs.BoxLimits.{IsOverLimit}
 
 -- the bounds of the set, between which its points lie, or none where it has none
 abbrev pub IsExtent : Set → Option Bounds → Type 0
@@ -25,9 +24,7 @@ IsEndlessOf name set fault.Memory = Unit {0}
 
 -- a coordinate of the box, or its number of points, is above its limit, coordinates first
 abbrev pub IsOverBounds : Bounds → NormalFault → Type 0
-IsOverBounds b (fault.Limit kind n) =
-    ((kind ≡ quantity.Coordinate) × (n ≡ greatest (b.low ++ b.high)) × (4095 < n))
-    ⊎ ((kind ≡ quantity.BoxSize) × (greatest (b.low ++ b.high) ≤ 4095) × (pos n ≡ box_size b.low b.high) × (65536 < n))
+IsOverBounds b (fault.Limit kind n) = IsOverLimit b kind n
 IsOverBounds b (fault.Pieces n) = ⊥
 IsOverBounds b (fault.Unbounded name) = ⊥
 IsOverBounds b fault.Memory = ⊥

@@ -1,5 +1,6 @@
 pub mod NormalForm
 pub mod NormalFaults
+pub mod BoxLimits
 pub mod Searches
 pub mod Extents
 pub mod Pairwise

@@ -2,6 +2,7 @@
 #![tactic(auto)]
 
 mod bounded;
+mod box_limit;
 mod compose;
 mod count;
 mod distribute;
@@ -16,6 +17,7 @@ mod rows;
 mod sift;
 mod spread;
 
+pub use box_limit::quantity_over;
 pub use fault::NormalFault;
 pub use laws::{
     normal_forms_are_kept, normal_forms_are_proper, normal_forms_are_unique,

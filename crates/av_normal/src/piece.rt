@@ -17,8 +17,8 @@ use crate::count::piece_count;
 use crate::distribute::{append_before, append_under, composed_map};
 use av_affine::{Form, Map};
 use av_base::{List, Memory};
-use av_flat::{Piece, Tree, Var, copy_map, copy_rows, copy_tree};
-use av_poly::Poly;
+use av_flat::{Piece, Tree, Var, copy_map, copy_tree};
+use av_poly::{Poly, copy_rows};
 use std::alloc::Global;
 
 // The piece of a variable's right side with this number, before its bodies' sets are filled in.

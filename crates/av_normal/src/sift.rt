@@ -9,8 +9,8 @@ ghost use Rattle.av_normal.specs.inner.NonemptyPieces.{AreNonemptyPieces, HasNon
 
 use crate::keep::has_point;
 use av_base::{List, Memory, Name};
-use av_flat::{Piece, Var, copy_set, copy_tree};
-use av_poly::Bounds;
+use av_flat::{Piece, Var, copy_tree};
+use av_poly::{Bounds, copy_set};
 use std::alloc::Global;
 
 fn copy_piece(alloc: Global, piece: &Piece) -> Result<Piece, Memory>

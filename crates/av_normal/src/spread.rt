@@ -23,8 +23,8 @@ use crate::fill::filled;
 use crate::measure::narrowed;
 use crate::piece::piece_at;
 use av_base::{List, Memory, Name};
-use av_flat::{Flat, Piece, Tree, Var, copy_set};
-use av_poly::Poly;
+use av_flat::{Flat, Piece, Tree, Var};
+use av_poly::{Poly, copy_set};
 use std::alloc::Global;
 
 // Tries the rows of a declared domain.

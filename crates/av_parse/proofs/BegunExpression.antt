@@ -20,10 +20,10 @@ use Rattle.av_tree.specs.FrontsIndex as inner
 use Rattle.av_tree.specs.FrontsIndex.{FrontDomainRest}
 use Rattle.av_tree.specs.FrontsExpression as fronts
 use Rattle.av_tree.specs.FrontsExpression.{FrontBrackets, FrontExpr, FrontSum, FrontSumTail, FrontProduct, FrontProductTail, FrontUnary, FrontPostfix, FrontPostfixTail, FrontPrimary, FrontBranches}
-use Rattle.av_parse.specs.Reader.{begins, begins_symbol, begins_word, after, same, too_deep, deep_fault, syntax, expect_symbol, expect_with}
+use Rattle.av_parse.specs.inner.Reader.{begins, begins_symbol, begins_word, after, same, too_deep, deep_fault, syntax, expect_symbol, expect_with}
 use Rattle.av_parse.specs.declared.fault.Fault.TheVariants.{Depth}
-use Rattle.av_parse.specs.IndexReader.{relation_by}
-use Rattle.av_parse.specs.ExpressionReader.{Readers, brackets_of, indexed_of, parenthesis_of, extreme_of, branches_of, cases_of, op_at, op_by, reduction_of, primary_of, postfix_tail_of, named_of, numbered_of, postfix_of, unary_of, product_tail_of, product_of, sign_at, sum_tail_by, sum_tail_of, sum_of, compare_at, choice_of, restriction_of, expr_of, begins_unary, begins_expr, begins_domain_rest, readers}
+use Rattle.av_parse.specs.inner.IndexReader.{relation_by}
+use Rattle.av_parse.specs.inner.ExpressionReader.{Readers, brackets_of, indexed_of, parenthesis_of, extreme_of, branches_of, cases_of, op_at, op_by, reduction_of, primary_of, postfix_tail_of, named_of, numbered_of, postfix_of, unary_of, product_tail_of, product_of, sign_at, sum_tail_by, sum_tail_of, sum_of, compare_at, choice_of, restriction_of, expr_of, begins_unary, begins_expr, begins_domain_rest, readers}
 use Rattle.av_parse.proofs.Follow.{same_is, with_is}
 use Rattle.av_parse.proofs.SoundSteps.{Starts, Chosen, one, symbol_starts, word_starts}
 use Rattle.av_parse.proofs.SoundIndex.{optional_indices_sound, relation_by_sound, map_sound}

@@ -11,8 +11,8 @@ use Rattle.av_tree.specs.IndexGrammar.{plus_one, minus_one}
 use Rattle.av_tree.specs.FrontsParts.{not_yet, plus_sign, minus_sign}
 use Rattle.av_tree.specs.FrontsIndex as fronts
 use Rattle.av_tree.specs.FrontsIndex.{FrontNames, FrontOptionalNames, FrontTerm, FrontTerms, FrontUnsigned, FrontIndex, FrontIndices, FrontOptionalIndices, FrontSide, FrontChain, FrontConstraint, FrontConstraints, FrontConditions, FrontDomainRest, FrontDomain, FrontMap}
-use Rattle.av_parse.specs.Reader.{begins, begins_symbol, after, place_of}
-use Rattle.av_parse.specs.IndexReader.{names_of, optional_names_of, number_term_of, name_term_of, term_of, terms_of, signed_index_of, index_of, indices_of, begins_index, optional_indices_of, list_of, side_of, relation_at, relation_by, is_there, chain_of, constraint_of, constraints_of, bar_of, conditions_of, domain_rest_of, domain_of, map_of}
+use Rattle.av_parse.specs.inner.Reader.{begins, begins_symbol, after, place_of}
+use Rattle.av_parse.specs.inner.IndexReader.{names_of, optional_names_of, number_term_of, name_term_of, term_of, terms_of, signed_index_of, index_of, indices_of, begins_index, optional_indices_of, list_of, side_of, relation_at, relation_by, is_there, chain_of, constraint_of, constraints_of, bar_of, conditions_of, domain_rest_of, domain_of, map_of}
 use Rattle.av_parse.proofs.SoundSteps.{Starts, Chosen, one}
 use Rattle.av_parse.proofs.SoundIndex.{names_sound, optional_names_sound, term_sound, terms_sound, index_sound, indices_sound, optional_indices_sound, side_sound, relation_at_sound, relation_by_sound, chain_sound, constraint_sound, constraints_sound, conditions_sound}
 use Rattle.av_parse.proofs.FrontSteps.{StandsAt, given, faulty, stays, passed, no_end, wider, behind, by_test, by_symbol, by_kind, token, symbol}

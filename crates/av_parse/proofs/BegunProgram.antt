@@ -15,9 +15,9 @@ use Rattle.av_tree.specs.Fronts.{FrontDeclaration, FrontDeclarations, FrontInput
 use Rattle.av_tree.specs.FrontsIndex as inner
 use Rattle.av_parse.specs.declared.fault.Fault.{Fault}
 use Rattle.av_parse.specs.declared.fault.Fault.TheVariants.{Syntax, Depth}
-use Rattle.av_parse.specs.Reader.{◌>>=◌, begins, same, expect, syntax}
-use Rattle.av_parse.specs.ProgramReader.{declaration_of, declarations_of, inputs_of, variables_of, locals_of, sizes_of, index_names_of, equation_of, equations_of, Header, header_of, semicolon_of, system_of, ended, program_of}
-use Rattle.av_parse.specs.ExpressionReader.{readers}
+use Rattle.av_parse.specs.inner.Reader.{◌>>=◌, begins, same, expect, syntax}
+use Rattle.av_parse.specs.inner.ProgramReader.{declaration_of, declarations_of, inputs_of, variables_of, locals_of, sizes_of, index_names_of, equation_of, equations_of, Header, header_of, semicolon_of, system_of, ended, program_of}
+use Rattle.av_parse.specs.inner.ExpressionReader.{readers}
 use Rattle.av_parse.proofs.Follow.{same_is, with_is}
 use Rattle.av_parse.proofs.SoundSteps.{Holds, fine, failed, weaker}
 use Rattle.av_parse.proofs.SoundIndex.{names_sound, optional_names_sound, domain_sound}

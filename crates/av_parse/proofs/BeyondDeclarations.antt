@@ -14,9 +14,9 @@ use Rattle.av_tree.specs.FrontsParts.{Meant}
 use Rattle.av_tree.specs.Fronts as fronts
 use Rattle.av_tree.specs.Fronts.{FrontDeclaration, FrontDeclarations, FrontInputs, FrontLocals, FrontSizes, FrontIndexNames}
 use Rattle.av_parse.specs.declared.fault.Fault.{Fault}
-use Rattle.av_parse.specs.Reader.{◌>>=◌, begins, begins_symbol, after, expect_word}
-use Rattle.av_parse.specs.IndexReader.{names_of, optional_names_of, domain_of}
-use Rattle.av_parse.specs.ProgramReader.{declaration_of, declarations_of, inputs_of, variables_of, locals_of, sizes_of, index_names_of}
+use Rattle.av_parse.specs.inner.Reader.{◌>>=◌, begins, begins_symbol, after, expect_word}
+use Rattle.av_parse.specs.inner.IndexReader.{names_of, optional_names_of, domain_of}
+use Rattle.av_parse.specs.inner.ProgramReader.{declaration_of, declarations_of, inputs_of, variables_of, locals_of, sizes_of, index_names_of}
 use Rattle.av_parse.proofs.Follow.{text_not, symbol_yes, word_yes, symbol_gives, word_gives, known, EndsNames}
 use Rattle.av_parse.proofs.Takes.{declaration_takes}
 use Rattle.av_parse.proofs.CompleteIndex.{names_begin, names_complete, optional_names_complete, domain_complete}

@@ -27,9 +27,9 @@ use Rattle.av_tree.specs.FrontsIndex.{FrontDomainRest}
 use Rattle.av_tree.specs.FrontsExpression as fronts
 use Rattle.av_tree.specs.FrontsExpression.{FrontBrackets, FrontExpr, FrontSum, FrontSumTail, FrontProduct, FrontProductTail, FrontUnary, FrontPostfix, FrontPostfixTail, FrontPrimary, FrontBranches}
 use Rattle.av_parse.specs.declared.fault.Fault.{Fault}
-use Rattle.av_parse.specs.Reader.{◌>>=◌, begins_symbol, begins_word, same, after, expect_symbol, expect_word}
-use Rattle.av_parse.specs.IndexReader.{map_of, relation_by, optional_indices_of}
-use Rattle.av_parse.specs.ExpressionReader.{Readers, brackets_of, indexed_of, parenthesis_of, extreme_of, branches_of, cases_of, op_at, op_by, reduction_of, primary_of, postfix_tail_of, named_of, numbered_of, postfix_of, unary_of, product_tail_of, product_of, sum_tail_by, sum_tail_of, sum_of, compare_at, choice_of, restriction_of, expr_of, readers}
+use Rattle.av_parse.specs.inner.Reader.{◌>>=◌, begins_symbol, begins_word, same, after, expect_symbol, expect_word}
+use Rattle.av_parse.specs.inner.IndexReader.{map_of, relation_by, optional_indices_of}
+use Rattle.av_parse.specs.inner.ExpressionReader.{Readers, brackets_of, indexed_of, parenthesis_of, extreme_of, branches_of, cases_of, op_at, op_by, reduction_of, primary_of, postfix_tail_of, named_of, numbered_of, postfix_of, unary_of, product_tail_of, product_of, sum_tail_by, sum_tail_of, sum_of, compare_at, choice_of, restriction_of, expr_of, readers}
 use Rattle.av_parse.proofs.Follow.{same_self, symbol_yes, word_yes, kind_not, text_not, symbol_gives, word_gives, known}
 use Rattle.av_parse.proofs.Takes.{expr_takes, sum_takes, map_takes}
 use Rattle.av_parse.proofs.CompleteIndex.{map_complete}

@@ -14,8 +14,8 @@ use Rattle.av_tree.specs.FrontsParts.{Meant, not_yet, came, IsSign, plus_sign, m
 use Rattle.av_tree.specs.FrontsIndex as fronts
 use Rattle.av_tree.specs.FrontsIndex.{FrontNames, FrontOptionalNames, FrontTerm, FrontTerms, FrontUnsigned, FrontIndex, FrontIndices, FrontOptionalIndices, FrontSide, FrontChain, FrontConstraint, FrontConstraints, FrontConditions, FrontDomainRest, FrontDomain, FrontMap}
 use Rattle.av_parse.specs.declared.fault.Fault.{Fault}
-use Rattle.av_parse.specs.Reader.{◌>>=◌, begins, after, place_of}
-use Rattle.av_parse.specs.IndexReader.{names_of, optional_names_of, number_term_of, name_term_of, term_of, terms_of, signed_index_of, index_of, indices_of, optional_indices_of, list_of, side_of, relation_at, relation_by, is_there, chain_of, constraint_of, constraints_of, bar_of, conditions_of, domain_rest_of, domain_of, map_of}
+use Rattle.av_parse.specs.inner.Reader.{◌>>=◌, begins, after, place_of}
+use Rattle.av_parse.specs.inner.IndexReader.{names_of, optional_names_of, number_term_of, name_term_of, term_of, terms_of, signed_index_of, index_of, indices_of, optional_indices_of, list_of, side_of, relation_at, relation_by, is_there, chain_of, constraint_of, constraints_of, bar_of, conditions_of, domain_rest_of, domain_of, map_of}
 use Rattle.av_parse.proofs.Follow.{same_self, symbol_yes, kind_not, text_not, expect_gives, symbol_gives, known, EndsNames, EndsTerm, EndsIndex}
 use Rattle.av_parse.proofs.Takes.{term_takes, index_takes, side_takes, constraint_takes}
 use Rattle.av_parse.proofs.CompleteIndex.{term_complete, BeginsTerm, by_number, by_name, BeginsIndex, by_term, by_minus, BeginsSide, by_index, by_list, term_begins, index_begins, no_symbol, no_list, no_close, index_is_there, index_begins, constraint_begins, side_begins, index_complete, comma_ends, optional_names_complete, list_gives, side_complete, relation_found, relation_ends, constraint_complete, semicolon_ends, domain_rest_gives, map_complete}

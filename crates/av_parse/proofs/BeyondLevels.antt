@@ -12,8 +12,8 @@ use Rattle.av_tree.specs.FrontsIndex as inner
 use Rattle.av_tree.specs.FrontsIndex.{FrontNames, FrontConditions, FrontDomainRest}
 use Rattle.av_tree.specs.FrontsExpression as fronts
 use Rattle.av_tree.specs.FrontsExpression.{FrontPostfixTail}
-use Rattle.av_parse.specs.Reader.{begins_symbol, too_deep, deep_fault, expect_symbol}
-use Rattle.av_parse.specs.ExpressionReader.{begins_unary, begins_expr, begins_domain_rest, readers}
+use Rattle.av_parse.specs.inner.Reader.{begins_symbol, too_deep, deep_fault, expect_symbol}
+use Rattle.av_parse.specs.inner.ExpressionReader.{begins_unary, begins_expr, begins_domain_rest, readers}
 use Rattle.av_parse.proofs.Follow.{known, symbol_yes, symbol_gives}
 use Rattle.av_parse.proofs.WithinIndex.{Within, left, stops, deep, if_within, le_same, symbol_within}
 use Rattle.av_parse.proofs.WithinExpression.{all_within}

@@ -17,9 +17,9 @@ use Rattle.av_tree.specs.Fronts as fronts
 use Rattle.av_tree.specs.Fronts.{FrontEquation, FrontEquations, FrontBody, FrontReturns, FrontSignature, FrontSystem, FrontProgram}
 use Rattle.av_parse.specs.declared.fault.Fault.{Fault}
 use Rattle.av_parse.specs.declared.fault.Fault.TheVariants.{Syntax, Depth}
-use Rattle.av_parse.specs.Reader.{◌>>=◌, begins, begins_symbol, same, expect, expect_symbol, expect_word, syntax}
-use Rattle.av_parse.specs.ExpressionReader.{readers}
-use Rattle.av_parse.specs.ProgramReader.{declarations_of, inputs_of, locals_of, sizes_of, equation_of, equations_of, semicolon_of, Header, header_of, system_of, ended, program_of}
+use Rattle.av_parse.specs.inner.Reader.{◌>>=◌, begins, begins_symbol, same, expect, expect_symbol, expect_word, syntax}
+use Rattle.av_parse.specs.inner.ExpressionReader.{readers}
+use Rattle.av_parse.specs.inner.ProgramReader.{declarations_of, inputs_of, locals_of, sizes_of, equation_of, equations_of, semicolon_of, Header, header_of, system_of, ended, program_of}
 use Rattle.av_parse.proofs.Follow.{same_self, kind_not, text_not, symbol_yes, expect_gives, symbol_gives, word_gives}
 use Rattle.av_parse.proofs.Takes.{equation_takes, equations_take}
 use Rattle.av_parse.proofs.CompleteIndex.{domain_complete}

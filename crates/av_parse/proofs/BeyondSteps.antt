@@ -4,7 +4,7 @@ use Rattle.av_base.specs.Tokens.{Token}
 use Rattle.av_tree.specs.FrontsParts.{Meant, every, ending, MayWait, MayEnd}
 use Rattle.av_parse.specs.declared.fault.Fault.{Fault}
 use Rattle.av_parse.specs.declared.fault.Fault.TheVariants.{Syntax, Depth}
-use Rattle.av_parse.specs.Reader.{◌>>=◌}
+use Rattle.av_parse.specs.inner.Reader.{◌>>=◌}
 use Rattle.av_parse.proofs.WithinIndex.{Within, left, stops, deep, closer}
 use Rattle.av_parse.proofs.FewerLevels.{Spelt, got, drowned}
 

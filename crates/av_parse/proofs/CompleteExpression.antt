@@ -20,9 +20,9 @@ use Rattle.av_tree.specs.Trees.{Text, Expression, Expressions, reference, consta
 use Rattle.av_tree.specs.Parts.{IsName, IsNumber, IsSymbol, IsReserved, IsCompare, IsOp}
 use Rattle.av_tree.specs.IndexGrammar.{IsOptionalIndices, domain, IsMap}
 use Rattle.av_tree.specs.ExpressionGrammar.{IsBrackets, no_brackets, brackets, negated, IsExpr, restricted, chosen, plain, IsSum, sum, IsSumTail, sum_ends, plus, minus, IsProduct, product, IsProductTail, product_ends, times, IsUnary, negative, postfix, IsPostfix, bare, bare_mapped, number, number_mapped, primary, IsPostfixTail, no_map, mapped, IsPrimary, indexed, parenthesis, least, greatest, case_of, reduced, IsBranches, last_branch, branch}
-use Rattle.av_parse.specs.Reader.{same, begins_symbol, begins_word}
-use Rattle.av_parse.specs.IndexReader.{relation_at, relation_by, domain_rest_of}
-use Rattle.av_parse.specs.ExpressionReader.{Readers, brackets_of, indexed_of, parenthesis_of, extreme_of, branches_of, cases_of, op_at, op_by, reduction_of, primary_of, postfix_tail_of, named_of, numbered_of, postfix_of, unary_of, product_tail_of, product_of, sum_tail_by, sum_tail_of, sum_of, compare_at, choice_of, restriction_of, expr_of, readers}
+use Rattle.av_parse.specs.inner.Reader.{same, begins_symbol, begins_word}
+use Rattle.av_parse.specs.inner.IndexReader.{relation_at, relation_by, domain_rest_of}
+use Rattle.av_parse.specs.inner.ExpressionReader.{Readers, brackets_of, indexed_of, parenthesis_of, extreme_of, branches_of, cases_of, op_at, op_by, reduction_of, primary_of, postfix_tail_of, named_of, numbered_of, postfix_of, unary_of, product_tail_of, product_of, sum_tail_by, sum_tail_of, sum_of, compare_at, choice_of, restriction_of, expr_of, readers}
 use Rattle.av_parse.proofs.Follow.{same_self, symbol_yes, word_yes, kind_not, text_not, symbol_gives, word_gives, known}
 use Rattle.av_parse.proofs.Takes.{expr_takes, branches_take}
 use Rattle.av_parse.proofs.CompleteIndex.{EndsIndices, optional_indices_complete, domain_rest_complete, map_complete}

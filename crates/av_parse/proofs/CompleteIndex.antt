@@ -14,8 +14,8 @@ use Rattle.av_tree.specs.declared.relation.Relation.TheVariants as relation
 use Rattle.av_tree.specs.Trees.{Text}
 use Rattle.av_tree.specs.Parts.{IsName, IsNumber, IsSymbol, IsRelation}
 use Rattle.av_tree.specs.IndexGrammar.{IsNames, last_name, more_names, IsOptionalNames, no_names, some_names, IsTerm, number, name, number_name, number_times_name, name_times_number, plus_one, minus_one, IsTerms, terms_end, plus_term, minus_term, IsIndex, index, minus_index, IsIndices, last_index, more_indices, IsOptionalIndices, no_indices, some_indices, IsSide, one_side, list_side, IsChain, last_side, more_sides, IsConstraint, constraint, IsConstraints, last_constraint, closed_constraint, more_constraints, IsConditions, no_bar, bar, conditions, IsDomain, domain, IsMap, mapping}
-use Rattle.av_parse.specs.Reader.{begins, begins_symbol}
-use Rattle.av_parse.specs.IndexReader.{names_of, optional_names_of, number_term_of, name_term_of, term_of, terms_of, signed_index_of, index_of, indices_of, begins_index, optional_indices_of, list_of, side_of, relation_at, relation_by, is_there, chain_of, constraint_of, constraints_of, bar_of, conditions_of, domain_rest_of, domain_of, map_of}
+use Rattle.av_parse.specs.inner.Reader.{begins, begins_symbol}
+use Rattle.av_parse.specs.inner.IndexReader.{names_of, optional_names_of, number_term_of, name_term_of, term_of, terms_of, signed_index_of, index_of, indices_of, begins_index, optional_indices_of, list_of, side_of, relation_at, relation_by, is_there, chain_of, constraint_of, constraints_of, bar_of, conditions_of, domain_rest_of, domain_of, map_of}
 use Rattle.av_parse.proofs.Follow.{same_self, symbol_yes, kind_not, with_not, text_not, expect_gives, symbol_gives, known, EndsNames, EndsTerm, EndsIndex}
 use Rattle.av_parse.proofs.Takes.{names_take, term_takes, indices_take, side_takes, chain_takes, constraint_takes, constraints_take}
 

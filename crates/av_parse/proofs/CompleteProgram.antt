@@ -9,8 +9,8 @@ use Rattle.av_tree.specs.declared.system.Declaration.{Declaration}
 use Rattle.av_tree.specs.Trees.{Text, Equation, System}
 use Rattle.av_tree.specs.Parts.{IsName, IsSymbol, IsReserved}
 use Rattle.av_tree.specs.Grammar.{IsDeclaration, declaration, IsDeclarations, last_declaration, closed_declaration, more_declarations, IsInputs, no_inputs, inputs, IsVariables, last_variable, more_variables, IsLocals, no_locals, locals, IsSizes, no_sizes, sizes, IsIndexNames, no_brackets, brackets, IsEquation, equation, IsEquations, no_equations, more_equations, IsSemicolon, no_semicolon, semicolon, IsSystem, system, IsProgram}
-use Rattle.av_parse.specs.Reader.{begins}
-use Rattle.av_parse.specs.ProgramReader.{declaration_of, declarations_of, inputs_of, variables_of, locals_of, sizes_of, index_names_of, equation_of, equations_of, semicolon_of, header_of, system_of, ended, program_of}
+use Rattle.av_parse.specs.inner.Reader.{begins}
+use Rattle.av_parse.specs.inner.ProgramReader.{declaration_of, declarations_of, inputs_of, variables_of, locals_of, sizes_of, index_names_of, equation_of, equations_of, semicolon_of, header_of, system_of, ended, program_of}
 use Rattle.av_parse.proofs.Follow.{same_self, symbol_yes, word_yes, kind_not, with_not, text_not, expect_gives, symbol_gives, word_gives, known, EndsNames}
 use Rattle.av_parse.proofs.Takes.{declaration_takes, declarations_take, variables_take, equation_takes}
 use Rattle.av_parse.proofs.CompleteIndex.{names_begin, names_complete, optional_names_complete, domain_complete}

@@ -14,8 +14,8 @@ use Rattle.av_tree.specs.Grammar.{declared}
 use Rattle.av_parse.specs.declared.fault.Fault.{Fault}
 use Rattle.av_parse.specs.declared.fault.Fault.TheVariants.{Syntax}
 use Rattle.av_parse.specs.declared.fault.Stop.{Stop}
-use Rattle.av_parse.specs.Reader.{◌>>=◌, Stops, with_front, begins, begins_symbol, after, expect_symbol}
-use Rattle.av_parse.specs.ProgramReader.{declaration_of, declarations_of, variables_of, equation_of, equations_of}
+use Rattle.av_parse.specs.inner.Reader.{◌>>=◌, Stops, with_front, begins, begins_symbol, after, expect_symbol}
+use Rattle.av_parse.specs.inner.ProgramReader.{declaration_of, declarations_of, variables_of, equation_of, equations_of}
 use Rattle.av_parse.proofs.Views.{views_push}
 use Rattle.av_parse.proofs.Lists.{stops_then, stops_as, front_item, front_items, behind, behind_stop}
 

@@ -13,9 +13,9 @@ use Rattle.av_tree.specs.Trees.{Expression, Expressions, binary, dependence, cas
 use Rattle.av_parse.specs.declared.fault.Fault.{Fault}
 use Rattle.av_parse.specs.declared.fault.Fault.TheVariants.{Syntax}
 use Rattle.av_parse.specs.declared.fault.Stop.{Stop}
-use Rattle.av_parse.specs.Reader.{◌>>=◌, Stops, begins_symbol, begins_word, after, place_of, too_deep, expect_symbol, expect_word}
-use Rattle.av_parse.specs.IndexReader.{map_of, domain_rest_of}
-use Rattle.av_parse.specs.ExpressionReader.{Readers, readers, sign_at, sum_of, sum_tail_of, sum_tail_by, product_of, product_tail_of, unary_of, postfix_tail_of, branches_of, cases_of, expr_of, begins_expr, begins_unary, begins_domain_rest}
+use Rattle.av_parse.specs.inner.Reader.{◌>>=◌, Stops, begins_symbol, begins_word, after, place_of, too_deep, expect_symbol, expect_word}
+use Rattle.av_parse.specs.inner.IndexReader.{map_of, domain_rest_of}
+use Rattle.av_parse.specs.inner.ExpressionReader.{Readers, readers, sign_at, sum_of, sum_tail_of, sum_tail_by, product_of, product_tail_of, unary_of, postfix_tail_of, branches_of, cases_of, expr_of, begins_expr, begins_unary, begins_domain_rest}
 use Rattle.av_parse.proofs.Lists.{stops_then, stops_as}
 
 -- ---- one level deeper

@@ -11,8 +11,8 @@ use Rattle.av_parse.specs.declared.fault.Fault.TheVariants.{Syntax, Depth}
 use Rattle.av_parse.specs.declared.fault.ParseFault.{ParseFault}
 use Rattle.av_parse.specs.declared.fault.ParseFault.TheVariants as parse
 use Rattle.av_parse.specs.Parsing.{IsFault}
-use Rattle.av_parse.specs.Reader.{place_of}
-use Rattle.av_parse.specs.ProgramReader.{program_of}
+use Rattle.av_parse.specs.inner.Reader.{place_of}
+use Rattle.av_parse.specs.inner.ProgramReader.{program_of}
 use Rattle.av_parse.proofs.SoundProgram.{program_sound}
 use Rattle.av_parse.proofs.CompleteProgram.{program_complete}
 use Rattle.av_parse.proofs.BegunProgram.{Walked, stands, walks, EndsLast, ProgramStands, whole, wrong, sunk, program_begun}

@@ -16,8 +16,8 @@ use Rattle.av_tree.specs.IndexGrammar.{IsNames, last_name, more_names, no_names,
 use Rattle.av_tree.specs.ExpressionGrammar.{IsExpr, restricted, chosen, plain, IsSum, sum, IsProduct, product, IsUnary, negative, postfix, IsPostfix, bare, bare_mapped, number, number_mapped, primary, IsPrimary, indexed, parenthesis, least, greatest, case_of, reduced}
 use Rattle.av_parse.specs.declared.fault.Fault.{Fault}
 use Rattle.av_parse.specs.declared.fault.Fault.TheVariants.{Depth}
-use Rattle.av_parse.specs.Reader.{◌>>=◌, begins, begins_symbol, begins_word, same, syntax, after, place_of, text_of, value_of, too_deep, deep_fault, expect_symbol, expect_with}
-use Rattle.av_parse.specs.ExpressionReader.{Readers, brackets_of, parenthesis_of, extreme_of, branches_of, cases_of, op_at, reduction_of, primary_of, postfix_tail_of, named_of, numbered_of, postfix_of, unary_of, product_tail_of, product_of, sign_at, sum_tail_by, sum_tail_of, sum_of, compare_at, choice_of, restriction_of, expr_of, begins_unary, begins_expr, begins_domain_rest, readers}
+use Rattle.av_parse.specs.inner.Reader.{◌>>=◌, begins, begins_symbol, begins_word, same, syntax, after, place_of, text_of, value_of, too_deep, deep_fault, expect_symbol, expect_with}
+use Rattle.av_parse.specs.inner.ExpressionReader.{Readers, brackets_of, parenthesis_of, extreme_of, branches_of, cases_of, op_at, reduction_of, primary_of, postfix_tail_of, named_of, numbered_of, postfix_of, unary_of, product_tail_of, product_of, sign_at, sum_tail_by, sum_tail_of, sum_of, compare_at, choice_of, restriction_of, expr_of, begins_unary, begins_expr, begins_domain_rest, readers}
 use Rattle.av_parse.proofs.Follow.{known, symbol_yes, symbol_gives}
 use Rattle.av_parse.proofs.Lifted.{climbed, lift_expr, lift_sum, lift_product, lift_unary}
 use Rattle.av_parse.proofs.CompleteIndex.{domain_rest_complete}

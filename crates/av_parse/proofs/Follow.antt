@@ -9,7 +9,7 @@ use Rattle.av_base.specs.declared.token_kind.TokenKind.TheVariants as kind
 use Rattle.av_base.specs.Tokens.{Token}
 use Rattle.av_tree.specs.Trees.{Text}
 use Rattle.av_tree.specs.Parts.{IsSymbol, IsReserved}
-use Rattle.av_parse.specs.Reader.{code, same, begins, begins_with, begins_symbol, begins_word, expect, expect_with, expect_symbol, expect_word}
+use Rattle.av_parse.specs.inner.Reader.{code, same, begins, begins_with, begins_symbol, begins_word, expect, expect_with, expect_symbol, expect_word}
 
 -- ---- kinds
 

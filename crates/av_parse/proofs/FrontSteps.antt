@@ -10,7 +10,7 @@ use Rattle.av_tree.specs.Parts.{IsSymbol, IsReserved, IsEnd}
 use Rattle.av_tree.specs.FrontsParts.{Meant, every, ending}
 use Rattle.av_parse.specs.declared.fault.Fault.{Fault}
 use Rattle.av_parse.specs.declared.fault.Fault.TheVariants.{Syntax, Depth}
-use Rattle.av_parse.specs.Reader.{◌>>=◌, same, begins, begins_symbol, begins_word, expect, expect_with, expect_symbol, expect_word, syntax}
+use Rattle.av_parse.specs.inner.Reader.{◌>>=◌, same, begins, begins_symbol, begins_word, expect, expect_with, expect_symbol, expect_word, syntax}
 use Rattle.av_parse.proofs.Follow.{same_is, same_self, with_is}
 use Rattle.av_parse.proofs.SoundSteps.{Holds, fine, failed}
 

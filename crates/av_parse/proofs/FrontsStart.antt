@@ -12,8 +12,8 @@ use Rattle.av_tree.specs.FrontsParts as parts
 use Rattle.av_tree.specs.FrontsParts.{Meant, MayWait, FrontToken, IsSign, plus_sign, minus_sign, IsExtreme, least_word, greatest_word}
 use Rattle.av_tree.specs.FrontsExpression as fronts
 use Rattle.av_tree.specs.FrontsExpression.{FrontExpr, FrontSum, FrontSumTail, FrontProduct, FrontProductTail, FrontUnary, FrontPostfix, FrontPostfixTail, FrontPrimary, FrontBranches}
-use Rattle.av_parse.specs.Reader.{begins_symbol, begins_word}
-use Rattle.av_parse.specs.ExpressionReader.{begins_unary, begins_expr}
+use Rattle.av_parse.specs.inner.Reader.{begins_symbol, begins_word}
+use Rattle.av_parse.specs.inner.ExpressionReader.{begins_unary, begins_expr}
 use Rattle.av_parse.proofs.Follow.{known}
 use Rattle.av_parse.proofs.CompleteExpression.{EndsPostfix, EndsProduct}
 

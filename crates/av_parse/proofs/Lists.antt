@@ -13,8 +13,8 @@ use Rattle.av_parse.specs.declared.fault.Fault.{Fault}
 use Rattle.av_parse.specs.declared.fault.Fault.TheVariants.{Syntax}
 use Rattle.av_parse.specs.declared.fault.Stop.{Stop}
 use Rattle.av_parse.specs.declared.fault.Stop.TheVariants as stop
-use Rattle.av_parse.specs.Reader.{◌>>=◌, Stops, with_front, begins_symbol, after, expect}
-use Rattle.av_parse.specs.IndexReader.{names_of, sign_of, term_sign_at, term_of, terms_of, index_of, indices_of, side_of, relation_at, relation_of, is_there, chain_of, constraint_of, constraints_of}
+use Rattle.av_parse.specs.inner.Reader.{◌>>=◌, Stops, with_front, begins_symbol, after, expect}
+use Rattle.av_parse.specs.inner.IndexReader.{names_of, sign_of, term_sign_at, term_of, terms_of, index_of, indices_of, side_of, relation_at, relation_of, is_there, chain_of, constraint_of, constraints_of}
 
 -- ---- any list
 

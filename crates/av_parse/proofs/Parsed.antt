@@ -14,8 +14,8 @@ use Rattle.av_parse.specs.declared.fault.ParseFault.TheVariants as parse
 use Rattle.av_parse.specs.Parsing.{IsFault, Refuses}
 use Rattle.av_parse.specs.declared.fault.Stop.{Stop}
 use Rattle.av_parse.specs.declared.fault.Stop.TheVariants as stop
-use Rattle.av_parse.specs.Reader.{Gives, Stops}
-use Rattle.av_parse.specs.ProgramReader.{program_of}
+use Rattle.av_parse.specs.inner.Reader.{Gives, Stops}
+use Rattle.av_parse.specs.inner.ProgramReader.{program_of}
 use Rattle.av_parse.proofs.SoundProgram.{program_sound}
 use Rattle.av_parse.proofs.CompleteProgram.{program_complete}
 use Rattle.av_parse.proofs.OneTree.{one_tree_only}

@@ -13,9 +13,9 @@ use Rattle.av_tree.specs.Trees.{Expression, binary}
 use Rattle.av_tree.specs.Parts.{IsName, IsNumber, IsSymbol, IsReserved, IsRelation, IsCompare, IsOp}
 use Rattle.av_tree.specs.IndexGrammar.{IsDomain}
 use Rattle.av_tree.specs.ExpressionGrammar.{IsBrackets, no_brackets, brackets, IsExpr, restricted, chosen, plain, IsSum, sum, IsSumTail, sum_ends, plus, minus, IsProduct, product, IsProductTail, product_ends, times, IsUnary, negative, postfix, IsPostfix, bare, bare_mapped, number, number_mapped, primary, IsPostfixTail, no_map, mapped, IsPrimary, indexed, parenthesis, least, greatest, case_of, reduced, IsBranches, last_branch, branch}
-use Rattle.av_parse.specs.Reader.{begins_symbol, begins_word, after, expect_symbol}
-use Rattle.av_parse.specs.IndexReader.{relation_at}
-use Rattle.av_parse.specs.ExpressionReader.{Readers, brackets_of, indexed_of, parenthesis_of, extreme_of, branches_of, cases_of, op_at, op_by, reduction_of, primary_of, postfix_tail_of, named_of, numbered_of, postfix_of, unary_of, product_tail_of, product_of, sign_at, sum_tail_by, sum_tail_of, sum_of, compare_at, choice_of, restriction_of, expr_of, readers}
+use Rattle.av_parse.specs.inner.Reader.{begins_symbol, begins_word, after, expect_symbol}
+use Rattle.av_parse.specs.inner.IndexReader.{relation_at}
+use Rattle.av_parse.specs.inner.ExpressionReader.{Readers, brackets_of, indexed_of, parenthesis_of, extreme_of, branches_of, cases_of, op_at, op_by, reduction_of, primary_of, postfix_tail_of, named_of, numbered_of, postfix_of, unary_of, product_tail_of, product_of, sign_at, sum_tail_by, sum_tail_of, sum_of, compare_at, choice_of, restriction_of, expr_of, readers}
 use Rattle.av_parse.proofs.SoundSteps.{Holds, fine, failed, weaker, expected, bind, by_test, by_symbol, by_word, by_kind, symbol, word, Starts, Chosen, nothing, one, first_of_two, symbol_starts, word_starts}
 use Rattle.av_parse.proofs.SoundIndex.{optional_indices_sound, relation_at_sound, relation_by_sound, domain_rest_sound, map_sound}
 

@@ -10,8 +10,8 @@ use Rattle.av_tree.specs.declared.system.Declaration.{Declaration}
 use Rattle.av_tree.specs.Trees.{Equation, System}
 use Rattle.av_tree.specs.Parts.{IsName, IsSymbol, IsReserved}
 use Rattle.av_tree.specs.Grammar.{IsDeclaration, declaration, IsDeclarations, last_declaration, closed_declaration, more_declarations, IsInputs, no_inputs, inputs, IsVariables, last_variable, more_variables, IsLocals, no_locals, locals, IsSizes, no_sizes, sizes, IsIndexNames, no_brackets, brackets, IsEquation, equation, IsEquations, no_equations, more_equations, IsSemicolon, no_semicolon, semicolon, IsSystem, system, IsProgram}
-use Rattle.av_parse.specs.Reader.{same, begins}
-use Rattle.av_parse.specs.ProgramReader.{declaration_of, declarations_of, inputs_of, variables_of, locals_of, sizes_of, index_names_of, equation_of, equations_of, semicolon_of, Header, header_of, system_of, ended, program_of}
+use Rattle.av_parse.specs.inner.Reader.{same, begins}
+use Rattle.av_parse.specs.inner.ProgramReader.{declaration_of, declarations_of, inputs_of, variables_of, locals_of, sizes_of, index_names_of, equation_of, equations_of, semicolon_of, Header, header_of, system_of, ended, program_of}
 use Rattle.av_parse.proofs.Follow.{with_is}
 use Rattle.av_parse.proofs.SoundSteps.{Holds, fine, failed, held, weaker, bind, by_test, by_symbol, by_word, token, symbol, word}
 use Rattle.av_parse.proofs.SoundIndex.{names_sound, optional_names_sound, domain_sound}

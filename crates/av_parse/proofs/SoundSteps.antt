@@ -8,7 +8,7 @@ use Rattle.av_base.specs.Tokens.{Token}
 use Rattle.av_tree.specs.Trees.{Text}
 use Rattle.av_tree.specs.Parts.{IsSymbol, IsReserved}
 use Rattle.av_parse.specs.declared.fault.Fault.{Fault}
-use Rattle.av_parse.specs.Reader.{◌>>=◌, same, begins, begins_symbol, begins_word, after, expect, expect_with, expect_symbol, expect_word, syntax}
+use Rattle.av_parse.specs.inner.Reader.{◌>>=◌, same, begins, begins_symbol, begins_word, after, expect, expect_with, expect_symbol, expect_word, syntax}
 use Rattle.av_parse.proofs.Follow.{same_is, with_is}
 
 -- what is read, if anything is, is so

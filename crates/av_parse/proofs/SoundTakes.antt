@@ -9,10 +9,10 @@ use Rattle.av_tree.specs.declared.domain.DomainText.{DomainText}
 use Rattle.av_tree.specs.declared.domain.MapText.{MapText}
 use Rattle.av_tree.specs.declared.system.Declaration.{Declaration}
 use Rattle.av_tree.specs.Trees.{Text, Expression, Equation}
-use Rattle.av_parse.specs.Reader.{expect, expect_with}
-use Rattle.av_parse.specs.IndexReader.{names_of, optional_names_of, term_of, terms_of, index_of, indices_of, optional_indices_of, side_of, chain_of, constraint_of, constraints_of, conditions_of, domain_of, map_of}
-use Rattle.av_parse.specs.ExpressionReader.{readers}
-use Rattle.av_parse.specs.ProgramReader.{declaration_of, declarations_of, variables_of, equation_of, equations_of}
+use Rattle.av_parse.specs.inner.Reader.{expect, expect_with}
+use Rattle.av_parse.specs.inner.IndexReader.{names_of, optional_names_of, term_of, terms_of, index_of, indices_of, optional_indices_of, side_of, chain_of, constraint_of, constraints_of, conditions_of, domain_of, map_of}
+use Rattle.av_parse.specs.inner.ExpressionReader.{readers}
+use Rattle.av_parse.specs.inner.ProgramReader.{declaration_of, declarations_of, variables_of, equation_of, equations_of}
 use Rattle.av_parse.proofs.SoundSteps.{held, expected, one_expected}
 use Rattle.av_parse.proofs.SoundIndex.{names_sound, optional_names_sound, term_sound, terms_sound, index_sound, indices_sound, optional_indices_sound, side_sound, chain_sound, constraint_sound, constraints_sound, conditions_sound, domain_sound, map_sound}
 use Rattle.av_parse.proofs.SoundExpression.{all_sound}

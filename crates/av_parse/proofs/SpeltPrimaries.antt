@@ -11,8 +11,8 @@ use Rattle.av_tree.specs.IndexGrammar.{IsMap}
 use Rattle.av_tree.specs.ExpressionGrammar.{IsExpr, IsBranches, last_branch, branch}
 use Rattle.av_tree.specs.FrontsParts.{IsSomeOp}
 use Rattle.av_parse.specs.declared.fault.Fault.{Fault}
-use Rattle.av_parse.specs.Reader.{◌>>=◌, begins_word}
-use Rattle.av_parse.specs.ExpressionReader.{op_by, parenthesis_of, extreme_of, branches_of, cases_of, reduction_of, readers}
+use Rattle.av_parse.specs.inner.Reader.{◌>>=◌, begins_word}
+use Rattle.av_parse.specs.inner.ExpressionReader.{op_by, parenthesis_of, extreme_of, branches_of, cases_of, reduction_of, readers}
 use Rattle.av_parse.proofs.Follow.{symbol_gives, word_gives, word_yes}
 use Rattle.av_parse.proofs.Takes.{expr_takes, branches_take, map_takes}
 use Rattle.av_parse.proofs.CompleteIndex.{map_complete}

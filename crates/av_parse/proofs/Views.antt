@@ -2,7 +2,7 @@
 use Rattle.std.proofs.Common.{◌≡◌, ℕ, zero, suc, ◌+◌, ◌-◌, List, [], ◌∷◌, ◌++◌, length, drop, ap, sym, refl, ◌∙◌, arith, length-append}
 use Rattle.std.proofs.Math.Seq.{drop-append_seam}
 use Rattle.av_base.specs.Tokens.{Token}
-use Rattle.av_parse.specs.Reader.{place_of}
+use Rattle.av_parse.specs.inner.Reader.{place_of}
 use Rattle.av_lex.specs.declared.token.Token.{Token as Found}
 use Rattle.av_lex.specs.Lexing.{view, views}
 

@@ -7,8 +7,8 @@ use Rattle.av_base.specs.Tokens.{Token}
 use Rattle.av_tree.specs.declared.sign.Sign.{Sign}
 use Rattle.av_tree.specs.declared.sign.Sign.TheVariants as sign
 use Rattle.av_tree.specs.Trees.{Text, Expression}
-use Rattle.av_parse.specs.Reader.{after, place_of, text_of, value_of, too_deep, deep_fault}
-use Rattle.av_parse.specs.ExpressionReader.{Readers, brackets_of, indexed_of, parenthesis_of, extreme_of, branches_of, cases_of, op_at, op_by, reduction_of, primary_of, postfix_tail_of, named_of, numbered_of, postfix_of, unary_of, product_tail_of, product_of, sign_at, sum_tail_by, sum_tail_of, sum_of, compare_at, choice_of, restriction_of, expr_of, begins_unary, begins_expr, begins_domain_rest, readers}
+use Rattle.av_parse.specs.inner.Reader.{after, place_of, text_of, value_of, too_deep, deep_fault}
+use Rattle.av_parse.specs.inner.ExpressionReader.{Readers, brackets_of, indexed_of, parenthesis_of, extreme_of, branches_of, cases_of, op_at, op_by, reduction_of, primary_of, postfix_tail_of, named_of, numbered_of, postfix_of, unary_of, product_tail_of, product_of, sign_at, sum_tail_by, sum_tail_of, sum_of, compare_at, choice_of, restriction_of, expr_of, begins_unary, begins_expr, begins_domain_rest, readers}
 use Rattle.av_parse.proofs.WithinIndex.{Within, left, stops, deep, closer, bind_within, if_within, le_same, after_within, expect_with_within, symbol_within, optional_indices_within, relation_within, domain_rest_within, map_within}
 use Rattle.av_base.specs.declared.token_kind.TokenKind.TheVariants as kind
 

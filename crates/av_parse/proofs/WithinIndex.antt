@@ -11,8 +11,8 @@ use Rattle.av_tree.specs.Trees.{Text}
 use Rattle.av_tree.specs.IndexGrammar.{plus_one, minus_one}
 use Rattle.av_parse.specs.declared.fault.Fault.{Fault}
 use Rattle.av_parse.specs.declared.fault.Fault.TheVariants.{Syntax, Depth}
-use Rattle.av_parse.specs.Reader.{◌>>=◌, after, place_of, text_of, value_of, same, expect, expect_with, expect_symbol}
-use Rattle.av_parse.specs.IndexReader.{names_of, optional_names_of, number_term_of, name_term_of, term_of, terms_of, signed_index_of, index_of, indices_of, optional_indices_of, list_of, side_of, relation_at, relation_by, chain_of, constraint_of, constraints_of, bar_of, conditions_of, domain_rest_of, domain_of, map_of}
+use Rattle.av_parse.specs.inner.Reader.{◌>>=◌, after, place_of, text_of, value_of, same, expect, expect_with, expect_symbol}
+use Rattle.av_parse.specs.inner.IndexReader.{names_of, optional_names_of, number_term_of, name_term_of, term_of, terms_of, signed_index_of, index_of, indices_of, optional_indices_of, list_of, side_of, relation_at, relation_by, chain_of, constraint_of, constraints_of, bar_of, conditions_of, domain_rest_of, domain_of, map_of}
 
 -- no more than m tokens are left where reading stops; of a fault of depth nothing is said
 pub data Within {A : Type 0} (m : ℕ) : Result (A × List Token) Fault → Type 0 where

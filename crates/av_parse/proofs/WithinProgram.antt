@@ -4,8 +4,8 @@ use Rattle.std.specs.Prelude.{codes}
 use Rattle.av_base.specs.declared.place.Place.{Place}
 use Rattle.av_base.specs.declared.token_kind.TokenKind.TheVariants as kind
 use Rattle.av_base.specs.Tokens.{Token}
-use Rattle.av_parse.specs.Reader.{begins, begins_symbol, begins_word, after}
-use Rattle.av_parse.specs.ProgramReader.{declaration_of, declarations_of, inputs_of, variables_of, locals_of, sizes_of, index_names_of, equation_of, equations_of, semicolon_of}
+use Rattle.av_parse.specs.inner.Reader.{begins, begins_symbol, begins_word, after}
+use Rattle.av_parse.specs.inner.ProgramReader.{declaration_of, declarations_of, inputs_of, variables_of, locals_of, sizes_of, index_names_of, equation_of, equations_of, semicolon_of}
 use Rattle.av_parse.proofs.WithinIndex.{Within, left, stops, closer, bind_within, if_within, le_same, after_within, expect_within, expect_with_within, symbol_within, names_within, optional_names_within, domain_within}
 use Rattle.av_parse.proofs.WithinExpression.{all_within}
 

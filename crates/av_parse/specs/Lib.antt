@@ -1,6 +1,2 @@
-pub mod Reader
-pub mod IndexReader
-pub mod ExpressionReader
-pub mod ProgramReader
-pub mod Views
 pub mod Parsing
+pub mod inner

@@ -2,7 +2,7 @@
 
 ghost use Rattle.std.specs.Prelude.{◌≡◌, length};
 ghost use Rattle.av_lex.specs.Lexing.{view, views};
-ghost use Rattle.av_parse.specs.Reader.{Gives, begins, begins_with, begins_symbol, begins_word, after, place_of, text_of, deep_fault, expect, expect_with, expect_symbol, expect_word};
+ghost use Rattle.av_parse.specs.inner.Reader.{Gives, begins, begins_with, begins_symbol, begins_word, after, place_of, text_of, deep_fault, expect, expect_with, expect_symbol, expect_word};
 ghost use Rattle.av_parse.specs.declared.fault.Fault.TheVariants as fault;
 ghost use Rattle.av_parse.specs.declared.fault.Stop.TheVariants as stop;
 
@@ -108,7 +108,7 @@ impl<'t, 'a> Cursor<'t, 'a> {
     }
 
     /// No level is left for the first token, which may stand there or not.
-    #[tactic(auto, unfolding(crate::specs::Reader::deep_fault))]
+    #[tactic(auto, unfolding(crate::specs::inner::Reader::deep_fault))]
     pub(crate) fn too_deep(&self, may_stand: bool) -> Stop
         ensures { result ≡ stop.Fault (deep_fault may_stand (views self.now.rest.now)) }
     {
@@ -120,7 +120,7 @@ impl<'t, 'a> Cursor<'t, 'a> {
     }
 
     /// A token of this kind.
-    #[tactic(auto, unfolding(crate::specs::Reader::expect))]
+    #[tactic(auto, unfolding(crate::specs::inner::Reader::expect))]
     pub(crate) fn expect(&mut self, kind: TokenKind) -> Result<Token<'a>, Stop>
         ensures { Gives (λ x. (view x, views self.new.rest.now)) result (expect kind (views self.old.rest.now)) }
     {
@@ -133,7 +133,7 @@ impl<'t, 'a> Cursor<'t, 'a> {
         }
     }
 
-    #[tactic(auto, unfolding(crate::specs::Reader::expect_with))]
+    #[tactic(auto, unfolding(crate::specs::inner::Reader::expect_with))]
     fn expect_with(&mut self, kind: TokenKind, text: &[u8]) -> Result<Token<'a>, Stop>
         ensures { Gives (λ x. (view x, views self.new.rest.now)) result (expect_with kind text.now (views self.old.rest.now)) }
     {

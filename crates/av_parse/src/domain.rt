@@ -3,8 +3,8 @@
 ghost use Rattle.std.specs.Prelude.{◌≡◌, ◌++◌, length, IfOk};
 ghost use Rattle.av_lex.specs.Lexing.{views};
 ghost use Rattle.av_tree.specs.IndexGrammar.{with_each, compared};
-ghost use Rattle.av_parse.specs.Reader.{Gives, with_front};
-ghost use Rattle.av_parse.specs.IndexReader.{list_of, side_of, relation_at, relation_of, is_there, chain_of, constraint_of, constraints_of, bar_of, conditions_of, domain_rest_of, domain_of};
+ghost use Rattle.av_parse.specs.inner.Reader.{Gives, with_front};
+ghost use Rattle.av_parse.specs.inner.IndexReader.{list_of, side_of, relation_at, relation_of, is_there, chain_of, constraint_of, constraints_of, bar_of, conditions_of, domain_rest_of, domain_of};
 
 use crate::copy;
 use crate::cursor::Cursor;
@@ -54,7 +54,7 @@ fn compare(
 
 impl<'t, 'a> Cursor<'t, 'a> {
     // `"(" index { "," index } ")"`.
-    #[tactic(auto, unfolding(crate::specs::IndexReader::list_of))]
+    #[tactic(auto, unfolding(crate::specs::inner::IndexReader::list_of))]
     fn list(&mut self) -> Result<List<IndexExpr>, Stop>
         ensures { Gives (λ es. (es, views self.new.rest.now)) result (list_of (views self.old.rest.now)) }
     {
@@ -64,7 +64,7 @@ impl<'t, 'a> Cursor<'t, 'a> {
         Ok(members)
     }
 
-    #[tactic(auto, unfolding(crate::specs::IndexReader::side_of))]
+    #[tactic(auto, unfolding(crate::specs::inner::IndexReader::side_of))]
     fn side(&mut self) -> Result<List<IndexExpr>, Stop>
         ensures { Gives (λ es. (es, views self.new.rest.now)) result (side_of (views self.old.rest.now)) }
     {
@@ -78,7 +78,7 @@ impl<'t, 'a> Cursor<'t, 'a> {
     }
 
     /// The comparison of a domain that stands next.
-    #[tactic(auto, unfolding(crate::specs::IndexReader::relation_at))]
+    #[tactic(auto, unfolding(crate::specs::inner::IndexReader::relation_at))]
     pub(crate) fn relation_at(&self) -> Option<Relation>
         ensures { result ≡ relation_at (views self.now.rest.now) }
     {
@@ -106,7 +106,7 @@ impl<'t, 'a> Cursor<'t, 'a> {
         }
     }
 
-    #[tactic(auto, unfolding(crate::specs::IndexReader::relation_by))]
+    #[tactic(auto, unfolding(crate::specs::inner::IndexReader::relation_by))]
     fn relation(&mut self) -> Result<Relation, Stop>
         ensures { Gives (λ r. (r, views self.new.rest.now)) result (relation_of (views self.old.rest.now)) }
     {
@@ -145,7 +145,7 @@ impl<'t, 'a> Cursor<'t, 'a> {
     }
 
     // `side relation side { relation side }`, put behind these constraints.
-    #[tactic(auto, using(crate::proofs::Lists::stops_then), unfolding(crate::specs::IndexReader::constraint_of))]
+    #[tactic(auto, using(crate::proofs::Lists::stops_then), unfolding(crate::specs::inner::IndexReader::constraint_of))]
     fn constraint(&mut self, found: &mut List<Constraint>) -> Result<(), Stop>
         ensures { Gives (λ _. (found.new, views self.new.rest.now)) result (with_front found.old (constraint_of (views self.old.rest.now))) }
     {
@@ -174,7 +174,7 @@ impl<'t, 'a> Cursor<'t, 'a> {
     }
 
     // What stands behind the `|`.
-    #[tactic(auto, unfolding(crate::specs::IndexReader::bar_of))]
+    #[tactic(auto, unfolding(crate::specs::inner::IndexReader::bar_of))]
     fn bar(&mut self) -> Result<List<Constraint>, Stop>
         ensures { Gives (λ cs. (cs, views self.new.rest.now)) result (bar_of (views self.old.rest.now)) }
     {
@@ -184,7 +184,7 @@ impl<'t, 'a> Cursor<'t, 'a> {
         self.constraints()
     }
 
-    #[tactic(auto, unfolding(crate::specs::IndexReader::conditions_of))]
+    #[tactic(auto, unfolding(crate::specs::inner::IndexReader::conditions_of))]
     fn conditions(&mut self) -> Result<List<Constraint>, Stop>
         ensures { Gives (λ cs. (cs, views self.new.rest.now)) result (conditions_of (views self.old.rest.now)) }
     {
@@ -196,7 +196,7 @@ impl<'t, 'a> Cursor<'t, 'a> {
     }
 
     /// What stands behind the `{` of a domain, which has this place.
-    #[tactic(auto, unfolding(crate::specs::IndexReader::domain_rest_of))]
+    #[tactic(auto, unfolding(crate::specs::inner::IndexReader::domain_rest_of))]
     pub(crate) fn domain_rest(&mut self, place: Place) -> Result<DomainText, Stop>
         ensures { Gives (λ d. (d, views self.new.rest.now)) result (domain_rest_of place (views self.old.rest.now)) }
     {
@@ -211,7 +211,7 @@ impl<'t, 'a> Cursor<'t, 'a> {
     }
 
     /// `"{" [ names ] [ "|" .. ] "}"`.
-    #[tactic(auto, unfolding(crate::specs::IndexReader::domain_of))]
+    #[tactic(auto, unfolding(crate::specs::inner::IndexReader::domain_of))]
     pub(crate) fn domain(&mut self) -> Result<DomainText, Stop>
         ensures { Gives (λ d. (d, views self.new.rest.now)) result (domain_of (views self.old.rest.now)) }
     {

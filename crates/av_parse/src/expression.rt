@@ -4,8 +4,8 @@
 ghost use Rattle.std.specs.Prelude.{◌≡◌, ◌<◌, IfOk, length, codes};
 ghost use Rattle.av_lex.specs.Lexing.{view as token_view, views};
 ghost use Rattle.av_tree.specs.Trees.{view, view_all};
-ghost use Rattle.av_parse.specs.Reader.{Gives, expect_symbol};
-ghost use Rattle.av_parse.specs.ExpressionReader.{readers, parenthesis_of, extreme_of, branches_of, cases_of, reduction_of, primary_of, postfix_of, unary_of, product_of, sum_of, choice_of, restriction_of, expr_of, begins_unary, begins_expr, begins_domain_rest};
+ghost use Rattle.av_parse.specs.inner.Reader.{Gives, expect_symbol};
+ghost use Rattle.av_parse.specs.inner.ExpressionReader.{readers, parenthesis_of, extreme_of, branches_of, cases_of, reduction_of, primary_of, postfix_of, unary_of, product_of, sum_of, choice_of, restriction_of, expr_of, begins_unary, begins_expr, begins_domain_rest};
 
 use crate::cursor::Cursor;
 use crate::fault::Stop;
@@ -42,7 +42,7 @@ impl<'t, 'a> Cursor<'t, 'a> {
     }
 
     // The `(` behind `min`, `max` or `reduce`, inside the form.
-    #[tactic(auto, unfolding(crate::specs::ExpressionReader::readers))]
+    #[tactic(auto, unfolding(crate::specs::inner::ExpressionReader::readers))]
     fn opening(&mut self, levels: u32) -> Result<Token<'a>, Stop>
         ensures { Gives (λ x. (token_view x, views self.new.rest.now)) result ((readers levels).opening (views self.old.rest.now)) }
     {
@@ -112,7 +112,7 @@ impl<'t, 'a> Cursor<'t, 'a> {
     }
 
     #[cycle(expression)]
-    #[tactic(auto, unfolding(crate::specs::ExpressionReader::expr_of))]
+    #[tactic(auto, unfolding(crate::specs::inner::ExpressionReader::expr_of))]
     fn expr(&mut self, levels: u32) -> Result<Expr, Stop>
         ensures { Gives (λ e. (view e, views self.new.rest.now)) result (expr_of (readers levels) (views self.old.rest.now)) }
     {
@@ -129,7 +129,7 @@ impl<'t, 'a> Cursor<'t, 'a> {
 
     // `domain ":" expr`, behind the `{`.
     #[cycle(expression)]
-    #[tactic(auto, unfolding(crate::specs::ExpressionReader::restriction_of))]
+    #[tactic(auto, unfolding(crate::specs::inner::ExpressionReader::restriction_of))]
     fn restriction(&mut self, levels: u32, place: Place) -> Result<Expr, Stop>
         ensures { Gives (λ e. (view e, views self.new.rest.now)) result (restriction_of (readers levels) place (views self.old.rest.now)) }
     {
@@ -146,7 +146,7 @@ impl<'t, 'a> Cursor<'t, 'a> {
 
     // `sum compare sum "then" expr "else" expr`, behind the `if`.
     #[cycle(expression)]
-    #[tactic(auto, unfolding(crate::specs::ExpressionReader::choice_of))]
+    #[tactic(auto, unfolding(crate::specs::inner::ExpressionReader::choice_of))]
     fn choice(&mut self, levels: u32, place: Place) -> Result<Expr, Stop>
         ensures { Gives (λ e. (view e, views self.new.rest.now)) result (choice_of (readers levels) place (views self.old.rest.now)) }
     {
@@ -198,7 +198,7 @@ impl<'t, 'a> Cursor<'t, 'a> {
     }
 
     #[cycle(expression)]
-    #[tactic(auto, unfolding(crate::specs::ExpressionReader::unary_of))]
+    #[tactic(auto, unfolding(crate::specs::inner::ExpressionReader::unary_of))]
     fn unary(&mut self, levels: u32) -> Result<Expr, Stop>
         ensures { Gives (λ e. (view e, views self.new.rest.now)) result (unary_of (readers levels) (views self.old.rest.now)) }
     {
@@ -211,7 +211,7 @@ impl<'t, 'a> Cursor<'t, 'a> {
     }
 
     #[cycle(expression)]
-    #[tactic(auto, unfolding(crate::specs::ExpressionReader::postfix_of))]
+    #[tactic(auto, unfolding(crate::specs::inner::ExpressionReader::postfix_of))]
     fn postfix(&mut self, levels: u32) -> Result<Expr, Stop>
         ensures { Gives (λ e. (view e, views self.new.rest.now)) result (postfix_of (readers levels) (views self.old.rest.now)) }
     {
@@ -231,7 +231,7 @@ impl<'t, 'a> Cursor<'t, 'a> {
 
     // A primary that begins with no name and no number.
     #[cycle(expression)]
-    #[tactic(auto, unfolding(crate::specs::ExpressionReader::primary_of))]
+    #[tactic(auto, unfolding(crate::specs::inner::ExpressionReader::primary_of))]
     fn primary(&mut self, levels: u32) -> Result<Expr, Stop>
         ensures { Gives (λ e. (view e, views self.new.rest.now)) result (primary_of (readers levels) (views self.old.rest.now)) }
     {
@@ -260,7 +260,7 @@ impl<'t, 'a> Cursor<'t, 'a> {
 
     // `expr ")"`, behind the `(`.
     #[cycle(expression)]
-    #[tactic(auto, unfolding(crate::specs::ExpressionReader::parenthesis_of))]
+    #[tactic(auto, unfolding(crate::specs::inner::ExpressionReader::parenthesis_of))]
     fn parenthesis(&mut self, levels: u32) -> Result<Expr, Stop>
         ensures { Gives (λ e. (view e, views self.new.rest.now)) result (parenthesis_of (readers levels) (views self.old.rest.now)) }
     {
@@ -271,7 +271,7 @@ impl<'t, 'a> Cursor<'t, 'a> {
 
     // `"(" expr "," expr ")"`, behind `min` or `max`.
     #[cycle(expression)]
-    #[tactic(auto, unfolding(crate::specs::ExpressionReader::extreme_of))]
+    #[tactic(auto, unfolding(crate::specs::inner::ExpressionReader::extreme_of))]
     fn extreme(&mut self, levels: u32, sign: Sign, place: Place) -> Result<Expr, Stop>
         ensures { Gives (λ e. (view e, views self.new.rest.now)) result (extreme_of (readers levels) sign place (views self.old.rest.now)) }
     {
@@ -285,7 +285,7 @@ impl<'t, 'a> Cursor<'t, 'a> {
 
     // `expr ";" { expr ";" } "esac"`, behind the `case`.
     #[cycle(expression)]
-    #[tactic(auto, unfolding(crate::specs::ExpressionReader::cases_of))]
+    #[tactic(auto, unfolding(crate::specs::inner::ExpressionReader::cases_of))]
     fn cases(&mut self, levels: u32, place: Place) -> Result<Expr, Stop>
         ensures { Gives (λ e. (view e, views self.new.rest.now)) result (cases_of (readers levels) place (views self.old.rest.now)) }
     {
@@ -321,7 +321,7 @@ impl<'t, 'a> Cursor<'t, 'a> {
 
     // `"(" op "," map "," expr ")"`, behind the `reduce`.
     #[cycle(expression)]
-    #[tactic(auto, unfolding(crate::specs::ExpressionReader::reduction_of))]
+    #[tactic(auto, unfolding(crate::specs::inner::ExpressionReader::reduction_of))]
     fn reduction(&mut self, levels: u32, place: Place) -> Result<Expr, Stop>
         ensures { Gives (λ e. (view e, views self.new.rest.now)) result (reduction_of (readers levels) place (views self.old.rest.now)) }
     {

@@ -2,8 +2,8 @@
 
 ghost use Rattle.std.specs.Prelude.{◌≡◌, ◌<◌, ◌^◌, ◌*ℤ◌, pos, length, IfOk};
 ghost use Rattle.av_lex.specs.Lexing.{views};
-ghost use Rattle.av_parse.specs.Reader.{Gives, with_front};
-ghost use Rattle.av_parse.specs.IndexReader.{sign_of, term_sign_at, names_of, optional_names_of, number_term_of, name_term_of, term_of, terms_of, signed_index_of, index_of, indices_of, begins_index, optional_indices_of, map_of};
+ghost use Rattle.av_parse.specs.inner.Reader.{Gives, with_front};
+ghost use Rattle.av_parse.specs.inner.IndexReader.{sign_of, term_sign_at, names_of, optional_names_of, number_term_of, name_term_of, term_of, terms_of, signed_index_of, index_of, indices_of, begins_index, optional_indices_of, map_of};
 
 use crate::cursor::Cursor;
 use crate::fault::Stop;
@@ -42,7 +42,7 @@ impl<'t, 'a> Cursor<'t, 'a> {
         Err(self.syntax())
     }
 
-    #[tactic(auto, unfolding(crate::specs::IndexReader::optional_names_of))]
+    #[tactic(auto, unfolding(crate::specs::inner::IndexReader::optional_names_of))]
     pub(crate) fn optional_names(&mut self) -> Result<List<Name>, Stop>
         ensures { Gives (λ ns. (ns, views self.new.rest.now)) result (optional_names_of (views self.old.rest.now)) }
     {
@@ -54,7 +54,7 @@ impl<'t, 'a> Cursor<'t, 'a> {
     }
 
     // What follows a number.
-    #[tactic(auto, unfolding(crate::specs::IndexReader::number_term_of))]
+    #[tactic(auto, unfolding(crate::specs::inner::IndexReader::number_term_of))]
     fn number_term(&mut self, negative: bool, value: u64, place: Place) -> Result<Term, Stop>
         ensures { Gives (λ t. (t, views self.new.rest.now)) result (number_term_of (sign_of negative) value place (views self.old.rest.now)) }
     {
@@ -85,7 +85,7 @@ impl<'t, 'a> Cursor<'t, 'a> {
     }
 
     // What follows a name.
-    #[tactic(auto, unfolding(crate::specs::IndexReader::name_term_of))]
+    #[tactic(auto, unfolding(crate::specs::inner::IndexReader::name_term_of))]
     fn name_term(&mut self, negative: bool, name: &[u8], place: Place) -> Result<Term, Stop>
         ensures { Gives (λ t. (t, views self.new.rest.now)) result (name_term_of (sign_of negative) name.now place (views self.old.rest.now)) }
     {
@@ -106,7 +106,7 @@ impl<'t, 'a> Cursor<'t, 'a> {
         })
     }
 
-    #[tactic(auto, unfolding(crate::specs::IndexReader::term_of))]
+    #[tactic(auto, unfolding(crate::specs::inner::IndexReader::term_of))]
     fn term(&mut self, negative: bool) -> Result<Term, Stop>
         ensures { Gives (λ t. (t, views self.new.rest.now)) result (term_of (sign_of negative) (views self.old.rest.now)) }
     {
@@ -154,7 +154,7 @@ impl<'t, 'a> Cursor<'t, 'a> {
     }
 
     // `term { ( "+" or "-" ) term }`, with the sign before the first term.
-    #[tactic(auto, unfolding(crate::specs::IndexReader::signed_index_of))]
+    #[tactic(auto, unfolding(crate::specs::inner::IndexReader::signed_index_of))]
     fn signed_index(&mut self, negative: bool, place: Place) -> Result<IndexExpr, Stop>
         ensures { Gives (λ e. (e, views self.new.rest.now)) result (signed_index_of (sign_of negative) place (views self.old.rest.now)) }
     {
@@ -165,7 +165,7 @@ impl<'t, 'a> Cursor<'t, 'a> {
         Ok(IndexExpr { terms, place })
     }
 
-    #[tactic(auto, unfolding(crate::specs::IndexReader::index_of))]
+    #[tactic(auto, unfolding(crate::specs::inner::IndexReader::index_of))]
     pub(crate) fn index(&mut self) -> Result<IndexExpr, Stop>
         ensures { Gives (λ e. (e, views self.new.rest.now)) result (index_of (views self.old.rest.now)) }
     {
@@ -200,7 +200,7 @@ impl<'t, 'a> Cursor<'t, 'a> {
         self.begins(TokenKind::Name) || self.begins(TokenKind::Number) || self.is_symbol(b"-")
     }
 
-    #[tactic(auto, unfolding(crate::specs::IndexReader::optional_indices_of))]
+    #[tactic(auto, unfolding(crate::specs::inner::IndexReader::optional_indices_of))]
     pub(crate) fn optional_indices(&mut self) -> Result<List<IndexExpr>, Stop>
         ensures { Gives (λ es. (es, views self.new.rest.now)) result (optional_indices_of (views self.old.rest.now)) }
     {
@@ -212,7 +212,7 @@ impl<'t, 'a> Cursor<'t, 'a> {
     }
 
     /// `"(" [ names ] "->" [ indices ] ")"`.
-    #[tactic(auto, unfolding(crate::specs::IndexReader::map_of))]
+    #[tactic(auto, unfolding(crate::specs::inner::IndexReader::map_of))]
     pub(crate) fn map(&mut self) -> Result<MapText, Stop>
         ensures { Gives (λ m. (m, views self.new.rest.now)) result (map_of (views self.old.rest.now)) }
     {

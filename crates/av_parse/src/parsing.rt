@@ -8,8 +8,8 @@ ghost use Rattle.av_tree.specs.Trees.{System as Tree, view_system};
 ghost use Rattle.av_tree.specs.Grammar.{IsProgram, levels};
 ghost use Rattle.av_tree.specs.Fronts.{IsSyntaxPlace, IsDepthPlace};
 ghost use Rattle.av_parse.specs.Parsing.{Answers, IsFault, Refuses};
-ghost use Rattle.av_parse.specs.Reader.{Gives, place_of};
-ghost use Rattle.av_parse.specs.ProgramReader.{program_of};
+ghost use Rattle.av_parse.specs.inner.Reader.{Gives, place_of};
+ghost use Rattle.av_parse.specs.inner.ProgramReader.{program_of};
 ghost use Rattle.av_parse.specs.declared.fault.ParseFault.{ParseFault};
 
 use crate::ParseFault;

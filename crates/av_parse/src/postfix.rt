@@ -4,9 +4,9 @@
 ghost use Rattle.std.specs.Prelude.{◌≡◌, IfOk, length};
 ghost use Rattle.av_lex.specs.Lexing.{views};
 ghost use Rattle.av_tree.specs.Trees.{view, binary, dependence};
-ghost use Rattle.av_parse.specs.Reader.{Gives};
-ghost use Rattle.av_parse.specs.IndexReader.{relation_by};
-ghost use Rattle.av_parse.specs.ExpressionReader.{readers, brackets_of, indexed_of, postfix_tail_of, named_of, numbered_of, op_at, op_of, sign_at, compare_at, minus_of};
+ghost use Rattle.av_parse.specs.inner.Reader.{Gives};
+ghost use Rattle.av_parse.specs.inner.IndexReader.{relation_by};
+ghost use Rattle.av_parse.specs.inner.ExpressionReader.{readers, brackets_of, indexed_of, postfix_tail_of, named_of, numbered_of, op_at, op_of, sign_at, compare_at, minus_of};
 
 use crate::cursor::Cursor;
 use crate::fault::Stop;
@@ -72,7 +72,7 @@ impl<'t, 'a> Cursor<'t, 'a> {
     }
 
     // The comparison of a choice that stands next.
-    #[tactic(auto, unfolding(crate::specs::ExpressionReader::compare_at))]
+    #[tactic(auto, unfolding(crate::specs::inner::ExpressionReader::compare_at))]
     fn compare_at(&self) -> Option<Relation>
         ensures { result ≡ compare_at (views self.now.rest.now) }
     {
@@ -83,7 +83,7 @@ impl<'t, 'a> Cursor<'t, 'a> {
         }
     }
 
-    #[tactic(auto, unfolding(crate::specs::IndexReader::relation_by))]
+    #[tactic(auto, unfolding(crate::specs::inner::IndexReader::relation_by))]
     pub(crate) fn compare(&mut self) -> Result<Relation, Stop>
         ensures { Gives (λ r. (r, views self.new.rest.now)) result (relation_by (compare_at (views self.old.rest.now)) (views self.old.rest.now)) }
     {
@@ -97,7 +97,7 @@ impl<'t, 'a> Cursor<'t, 'a> {
     }
 
     // The operator of a reduction that stands next.
-    #[tactic(auto, unfolding(crate::specs::ExpressionReader::op_at))]
+    #[tactic(auto, unfolding(crate::specs::inner::ExpressionReader::op_at))]
     fn op_at(&self) -> Option<Op>
         ensures { result ≡ op_at (views self.now.rest.now) }
     {
@@ -114,7 +114,7 @@ impl<'t, 'a> Cursor<'t, 'a> {
         }
     }
 
-    #[tactic(auto, unfolding(crate::specs::ExpressionReader::op_by))]
+    #[tactic(auto, unfolding(crate::specs::inner::ExpressionReader::op_by))]
     pub(crate) fn op(&mut self) -> Result<Op, Stop>
         ensures { Gives (λ f. (f, views self.new.rest.now)) result (op_of (views self.old.rest.now)) }
     {
@@ -128,7 +128,7 @@ impl<'t, 'a> Cursor<'t, 'a> {
     }
 
     // `[ "[" "]" ]`, behind a number.
-    #[tactic(auto, unfolding(crate::specs::ExpressionReader::brackets_of))]
+    #[tactic(auto, unfolding(crate::specs::inner::ExpressionReader::brackets_of))]
     fn brackets(&mut self) -> Result<Access, Stop>
         ensures { Gives (λ at. (at, views self.new.rest.now)) result (brackets_of (views self.old.rest.now)) }
     {
@@ -141,7 +141,7 @@ impl<'t, 'a> Cursor<'t, 'a> {
     }
 
     // `[ indices ] "]"`, behind a name and its `[`.
-    #[tactic(auto, unfolding(crate::specs::ExpressionReader::indexed_of))]
+    #[tactic(auto, unfolding(crate::specs::inner::ExpressionReader::indexed_of))]
     fn indexed(&mut self, name: &[u8], place: Place) -> Result<Expr, Stop>
         ensures { Gives (λ e. (view e, views self.new.rest.now)) result (indexed_of name.now place (views self.old.rest.now)) }
     {
@@ -155,7 +155,7 @@ impl<'t, 'a> Cursor<'t, 'a> {
     }
 
     // Behind the map that took the last level.
-    #[tactic(auto, unfolding(crate::specs::ExpressionReader::readers))]
+    #[tactic(auto, unfolding(crate::specs::inner::ExpressionReader::readers))]
     fn last_mapped(&self, tree: Expr) -> Result<Expr, Stop>
         ensures { Gives (λ e. (view e, views self.now.rest.now)) result ((readers 0).postfix_tail (view tree) (views self.now.rest.now)) }
     {
@@ -194,7 +194,7 @@ impl<'t, 'a> Cursor<'t, 'a> {
     }
 
     /// What stands behind a name.
-    #[tactic(auto, unfolding(crate::specs::ExpressionReader::named_of))]
+    #[tactic(auto, unfolding(crate::specs::inner::ExpressionReader::named_of))]
     pub(crate) fn named(&mut self, levels: u32, name: &[u8], place: Place) -> Result<Expr, Stop>
         ensures { Gives (λ e. (view e, views self.new.rest.now)) result (named_of (readers levels) name.now place (views self.old.rest.now)) }
     {
@@ -222,7 +222,7 @@ impl<'t, 'a> Cursor<'t, 'a> {
     }
 
     /// What stands behind a number.
-    #[tactic(auto, unfolding(crate::specs::ExpressionReader::numbered_of))]
+    #[tactic(auto, unfolding(crate::specs::inner::ExpressionReader::numbered_of))]
     pub(crate) fn numbered(&mut self, levels: u32, value: u64, place: Place) -> Result<Expr, Stop>
         ensures { Gives (λ e. (view e, views self.new.rest.now)) result (numbered_of (readers levels) value place (views self.old.rest.now)) }
     {

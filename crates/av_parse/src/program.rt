@@ -4,9 +4,9 @@ ghost use Rattle.std.specs.Prelude.{◌≡◌, ◌++◌, length, IfOk};
 ghost use Rattle.av_lex.specs.Lexing.{views};
 ghost use Rattle.av_tree.specs.Trees.{view_equation, view_equations, view_system};
 ghost use Rattle.av_tree.specs.Grammar.{declared};
-ghost use Rattle.av_parse.specs.Reader.{Gives, with_front};
-ghost use Rattle.av_parse.specs.ProgramReader.{declaration_of, declarations_of, inputs_of, variables_of, locals_of, sizes_of, index_names_of, equation_of, equations_of, semicolon_of, header_of, system_of, program_of};
-ghost use Rattle.av_parse.specs.Views.{view_header};
+ghost use Rattle.av_parse.specs.inner.Reader.{Gives, with_front};
+ghost use Rattle.av_parse.specs.inner.ProgramReader.{declaration_of, declarations_of, inputs_of, variables_of, locals_of, sizes_of, index_names_of, equation_of, equations_of, semicolon_of, header_of, system_of, program_of};
+ghost use Rattle.av_parse.specs.inner.Views.{view_header};
 
 use crate::copy;
 use crate::cursor::Cursor;
@@ -47,7 +47,7 @@ fn declare(
 
 impl<'t, 'a> Cursor<'t, 'a> {
     // `names ":" domain "of" "integer"`, put behind these declarations.
-    #[tactic(auto, using(crate::proofs::Lists::stops_then), unfolding(crate::specs::ProgramReader::declaration_of))]
+    #[tactic(auto, using(crate::proofs::Lists::stops_then), unfolding(crate::specs::inner::ProgramReader::declaration_of))]
     fn declaration(&mut self, found: &mut List<Declaration>) -> Result<(), Stop>
         ensures { Gives (λ _. (found.new, views self.new.rest.now)) result (with_front found.old (declaration_of (views self.old.rest.now))) }
     {
@@ -80,7 +80,7 @@ impl<'t, 'a> Cursor<'t, 'a> {
         Err(self.syntax())
     }
 
-    #[tactic(auto, unfolding(crate::specs::ProgramReader::inputs_of))]
+    #[tactic(auto, unfolding(crate::specs::inner::ProgramReader::inputs_of))]
     fn inputs(&mut self) -> Result<List<Declaration>, Stop>
         ensures { Gives (λ ds. (ds, views self.new.rest.now)) result (inputs_of (views self.old.rest.now)) }
     {
@@ -107,7 +107,7 @@ impl<'t, 'a> Cursor<'t, 'a> {
         Err(self.syntax())
     }
 
-    #[tactic(auto, unfolding(crate::specs::ProgramReader::locals_of))]
+    #[tactic(auto, unfolding(crate::specs::inner::ProgramReader::locals_of))]
     fn locals(&mut self) -> Result<List<Declaration>, Stop>
         ensures { Gives (λ ds. (ds, views self.new.rest.now)) result (locals_of (views self.old.rest.now)) }
     {
@@ -119,7 +119,7 @@ impl<'t, 'a> Cursor<'t, 'a> {
     }
 
     // `[ ":" domain ]`, behind the system's name, which stands at this place.
-    #[tactic(auto, unfolding(crate::specs::ProgramReader::sizes_of))]
+    #[tactic(auto, unfolding(crate::specs::inner::ProgramReader::sizes_of))]
     fn sizes(&mut self, place: Place) -> Result<DomainText, Stop>
         ensures { Gives (λ d. (d, views self.new.rest.now)) result (sizes_of place (views self.old.rest.now)) }
     {
@@ -135,7 +135,7 @@ impl<'t, 'a> Cursor<'t, 'a> {
     }
 
     // `[ "[" [ names ] "]" ]`.
-    #[tactic(auto, unfolding(crate::specs::ProgramReader::index_names_of))]
+    #[tactic(auto, unfolding(crate::specs::inner::ProgramReader::index_names_of))]
     fn index_names(&mut self) -> Result<Option<List<Name>>, Stop>
         ensures { Gives (λ ns. (ns, views self.new.rest.now)) result (index_names_of (views self.old.rest.now)) }
     {
@@ -149,7 +149,7 @@ impl<'t, 'a> Cursor<'t, 'a> {
     }
 
     // `name [ "[" [ names ] "]" ] "=" expr ";"`.
-    #[tactic(auto, unfolding(crate::specs::ProgramReader::equation_of))]
+    #[tactic(auto, unfolding(crate::specs::inner::ProgramReader::equation_of))]
     fn equation(&mut self, levels: u32) -> Result<Equation, Stop>
         ensures { Gives (λ e. (view_equation e, views self.new.rest.now)) result (equation_of levels (views self.old.rest.now)) }
     {
@@ -193,7 +193,7 @@ impl<'t, 'a> Cursor<'t, 'a> {
     }
 
     // What stands before the locals.
-    #[tactic(auto, unfolding(crate::specs::ProgramReader::header_of))]
+    #[tactic(auto, unfolding(crate::specs::inner::ProgramReader::header_of))]
     fn header(&mut self) -> Result<Header, Stop>
         ensures { Gives (λ h. (view_header h, views self.new.rest.now)) result (header_of (views self.old.rest.now)) }
     {
@@ -216,7 +216,7 @@ impl<'t, 'a> Cursor<'t, 'a> {
         })
     }
 
-    #[tactic(auto, unfolding(crate::specs::ProgramReader::system_of))]
+    #[tactic(auto, unfolding(crate::specs::inner::ProgramReader::system_of))]
     fn system(&mut self, levels: u32) -> Result<System, Stop>
         ensures { Gives (λ s. (view_system s, views self.new.rest.now)) result (system_of levels (views self.old.rest.now)) }
     {
@@ -237,7 +237,7 @@ impl<'t, 'a> Cursor<'t, 'a> {
     }
 
     /// The program that all these tokens spell.
-    #[tactic(auto, unfolding(crate::specs::ProgramReader::program_of, crate::specs::ProgramReader::ended))]
+    #[tactic(auto, unfolding(crate::specs::inner::ProgramReader::program_of, crate::specs::inner::ProgramReader::ended))]
     pub(crate) fn program(&mut self, levels: u32) -> Result<System, Stop>
         ensures { Gives view_system result (program_of levels (views self.old.rest.now)) }
     {

@@ -2,6 +2,7 @@
 #![tactic(auto)]
 
 mod before;
+mod copy;
 mod interval;
 mod laws;
 mod normal;
@@ -12,5 +13,6 @@ mod search;
 #[cfg(test)]
 mod tests;
 
+pub use copy::{copy_rows, copy_set, normalised_copy};
 pub use laws::normalised_rows_are_unique;
 pub use poly::{Bounds, Poly};

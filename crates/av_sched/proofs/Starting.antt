@@ -18,7 +18,7 @@ use Rattle.av_depend.proofs.Among.{first_among}
 use Rattle.av_flat.specs.Nodes.{is_node, nodes}
 use Rattle.av_flat.proofs.Solving.{all_at}
 use Rattle.av_flat.proofs.Cycles.{node_at}
-use Rattle.av_depend.specs.Extents.{IsOrdinary}
+use Rattle.av_elim.specs.Extents.{IsOrdinary}
 use Rattle.av_depend.proofs.Small.{small_point}
 use Rattle.av_sched.specs.Offsets.{part, AreVectors}
 use Rattle.av_sched.proofs.Leading.{same_default}

@@ -9,7 +9,7 @@ ghost use Rattle.std.proofs.Math.IntN.{neg_ℤ};
 ghost use Rattle.av_affine.specs.Numbers.{AtMost};
 ghost use Rattle.av_poly.specs.Points.{Has};
 ghost use Rattle.av_depend.specs.Edges.{AreEdgesOf};
-ghost use Rattle.av_depend.specs.Extents.{IsOrdinary};
+ghost use Rattle.av_elim.specs.Extents.{IsOrdinary};
 ghost use Rattle.av_sched.specs.inner.Starts.{IsSpanned};
 ghost use Rattle.av_sched.specs.inner.Arcs.{AreSmall};
 ghost use Rattle.av_sched.specs.inner.Leads.{IsUsable, IsArcOf, AreStarts};

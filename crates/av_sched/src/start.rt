@@ -4,13 +4,13 @@ ghost use Rattle.std.specs.Prelude.{ℤ, List as Items, ◌≡◌, ◌≤◌, �
 ghost use Rattle.std.proofs.Math.IntN.{neg_ℤ};
 ghost use Rattle.av_affine.specs.Numbers.{dot, AtMost};
 ghost use Rattle.av_poly.specs.Points.{Has};
-ghost use Rattle.av_depend.specs.Extents.{IsOrdinary, IsInside};
+ghost use Rattle.av_elim.specs.Extents.{IsOrdinary, IsInside};
 ghost use Rattle.av_sched.specs.inner.Starts.{row_at_most, IsSpanned, IsLeastValue};
 
 use crate::lead::products;
 use av_affine::Form;
 use av_base::{List, Memory, Point};
-use av_depend::box_of;
+use av_elim::box_of;
 use av_poly::{Bounds, Poly};
 use std::alloc::Global;
 

@@ -16,8 +16,8 @@ use crate::choices::choices_of;
 use crate::tries::reduction_domain;
 use av_affine::Map;
 use av_base::{List, Memory, Name, Op, Width, Word};
-use av_flat::{Piece, Tree, Var, copy_set, copy_tree};
-use av_poly::Poly;
+use av_flat::{Piece, Tree, Var, copy_tree};
+use av_poly::{Poly, copy_set};
 use std::alloc::Global;
 
 // The set that a reduction's chain has, or None where it has no point.

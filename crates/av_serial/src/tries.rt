@@ -1,25 +1,23 @@
 //! Reductions against the causes for a fault.
 
-ghost use Rattle.std.specs.Prelude.{◌≡◌, ◌≤◌, ◌≤ℤ◌, ◌*ℤ◌, ◌+ℤ◌, ◌-ℤ◌, ◌^◌, ◌++◌, pos, false, All, Any, IsTrue, IfOk, IfErr, OnOk, IfSome, IfNone, length, unsigned_abs};
+ghost use Rattle.std.specs.Prelude.{◌≡◌, ◌≤◌, false, All, Any, IsTrue, IfOk, IfErr, OnOk, IfSome, IfNone, length};
 ghost use Rattle.std.specs.List.{AllByRecursion};
-ghost use Rattle.av_affine.specs.Numbers.{AtMost, greatest};
 ghost use Rattle.av_affine.specs.Forms.{IsWithinLimits};
 ghost use Rattle.av_poly.specs.Normal.{AreNormalised};
-ghost use Rattle.av_flat.specs.Sets.{box_size};
 ghost use Rattle.av_normal.specs.Extents.{IsExtent};
 ghost use Rattle.av_normal.specs.Domains.{HasFourEntries, IsSmallExtent};
 ghost use Rattle.av_serial.specs.Lines.{IsUnit};
 ghost use Rattle.av_serial.specs.SerialFaults.{Reduced, HasPoint};
-ghost use Rattle.av_serial.specs.inner.Tries.{IsTriable, IsClean, IsFaultOf, IsSteepOf, IsEndlessOf, IsOverBounds, IsLargeExtent, IsDomainOf};
+ghost use Rattle.av_serial.specs.inner.Tries.{IsTriable, IsClean, IsFaultOf, IsSteepOf, IsEndlessOf, IsLargeExtent, IsDomainOf};
 
 use crate::SerialFault;
 use crate::line::is_unit;
 use av_affine::{Form, Map};
-use av_base::limits::{MOST_COORDINATE, MOST_POINTS};
 use av_base::{Memory, Name};
 use av_elim::{Elim, bounds};
-use av_flat::{Quantity, copy_set};
-use av_poly::{Bounds, Poly};
+use av_flat::Quantity;
+use av_normal::quantity_over;
+use av_poly::{Bounds, Poly, normalised_copy};
 use std::alloc::Global;
 
 // ---- rows
@@ -31,9 +29,7 @@ fn normal_set(alloc: Global, set: &Poly) -> Result<Poly, Memory>
     ensures rows { IfOk result (λ to. AreNormalised set.now.dim set.now.rows to.rows) }
     ensures limits { IfOk result (λ to. All IsWithinLimits to.rows) }
 {
-    let mut to = copy_set(alloc, set)?;
-    to.normalise();
-    Ok(to)
+    normalised_copy(alloc, set)
 }
 
 // Whether no row is steep.
@@ -90,84 +86,16 @@ fn extent(alloc: Global, name: &Name, domain: &Poly) -> Result<Option<Bounds>, S
 
 // ---- boxes
 
-// The greatest absolute value.
-fn most_entry(numbers: &[i128]) -> u128
-    ensures { result ≡ greatest numbers.now }
-{
-    numbers
-        .iter()
-        .map(|x| x.unsigned_abs())
-        .fold(0, |most, x| most.max(x))
-}
-
-// How many whole points an index has between its bounds.
-fn width(low: i128, high: i128) -> i128
-    requires low { unsigned_abs low ≤ 4095 }
-    requires high { unsigned_abs high ≤ 4095 }
-    ensures value { result ≡ high -ℤ low +ℤ pos 1 }
-    ensures small { unsigned_abs result ≤ 2 ^ 13 }
-{
-    high - low + 1
-}
-
-// The product of small numbers.
-fn area(first: i128, second: i128) -> i128
-    requires first { unsigned_abs first ≤ 2 ^ 13 }
-    requires second { unsigned_abs second ≤ 2 ^ 13 }
-    ensures value { result ≡ first *ℤ second }
-    ensures small { unsigned_abs result ≤ 2 ^ 26 }
-{
-    first * second
-}
-
-// The product of two such products.
-fn volume(first: i128, second: i128) -> i128
-    requires first { unsigned_abs first ≤ 2 ^ 26 }
-    requires second { unsigned_abs second ≤ 2 ^ 26 }
-    ensures value { result ≡ first *ℤ second }
-    ensures small { unsigned_abs result ≤ 2 ^ 52 }
-{
-    first * second
-}
-
-// How many whole points a box has.
-fn points_of(extent: &Bounds) -> i128
-    requires low { AtMost 4095 extent.now.low }
-    requires high { AtMost 4095 extent.now.high }
-    ensures { result ≡ box_size extent.now.low extent.now.high }
-{
-    let low = extent.low;
-    let high = extent.high;
-    let first = width(low[0], high[0]);
-    let second = width(low[1], high[1]);
-    let third = width(low[2], high[2]);
-    let fourth = width(low[3], high[3]);
-    volume(area(first, second), area(third, fourth))
-}
-
-// Tries a box: its coordinates, and then its points.
-fn box_fits(extent: &Bounds) -> Result<(), SerialFault>
-    ensures fit { OnOk result ((greatest (extent.now.low ++ extent.now.high) ≤ 4095) × (box_size extent.now.low extent.now.high ≤ℤ pos 65536)) }
-    ensures over { IfErr result (IsOverBounds extent.now) }
-{
-    let coordinate = most_entry(&extent.low).max(most_entry(&extent.high));
-    if coordinate > MOST_COORDINATE {
-        return Err(SerialFault::Limit(Quantity::Coordinate, coordinate));
-    }
-    let points = points_of(extent);
-    if points > MOST_POINTS {
-        return Err(SerialFault::Limit(Quantity::BoxSize, points as u128));
-    }
-    Ok(())
-}
-
 // Tries a box where there is one.
 fn extent_fits(extent: &Option<Bounds>) -> Result<(), SerialFault>
     ensures fit { OnOk result (IsSmallExtent extent.now) }
     ensures over { IfErr result (IsLargeExtent extent.now) }
 {
-    match extent {
-        Some(extent) => box_fits(extent),
+    let Some(extent) = extent else {
+        return Ok(());
+    };
+    match quantity_over(extent) {
+        Some((quantity, number)) => Err(SerialFault::Limit(quantity, number)),
         None => Ok(()),
     }
 }

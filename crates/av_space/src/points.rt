@@ -11,7 +11,8 @@ ghost use Rattle.av_space.specs.inner.Laying.{AreNodePoints};
 
 use crate::standing::variable_of;
 use av_base::{List, Memory, Point};
-use av_depend::{all_points, box_of};
+use av_depend::all_points;
+use av_elim::box_of;
 use av_flat::Timed;
 use av_poly::Poly;
 use std::alloc::Global;

@@ -1,9 +1,6 @@
 -- How many sets have a point. Only private contracts cite this.
-use Rattle.std.specs.Prelude.{◌≡◌, ◌≢◌, ℕ, ◌+◌, ◌<◌, if◌then◌else◌, All, Any, List, [], ◌∷◌}
-use Rattle.av_affine.specs.Forms.{IsWithinLimits}
-use Rattle.av_poly.specs.declared.poly.Bounds.{Bounds}
+use Rattle.std.specs.Prelude.{◌≢◌, ℕ, ◌+◌, ◌<◌, if◌then◌else◌, Any, List, [], ◌∷◌}
 use Rattle.av_poly.specs.Points.{Set, Has}
-use Rattle.av_poly.specs.Search.{IsBetween}
 use Rattle.av_tree.specs.Points.{Point}
 use Rattle.av_flat.specs.Points.{has}
 
@@ -31,13 +28,3 @@ IsSharedBy domain set others z = Has domain z × Has set z × (0 < coverage z ot
 -- one of the parts has the point
 abbrev pub IsInAny : List Set → Point → Type 0
 IsInAny parts z = Any (λ part. Has part z) parts
-
--- a set of this dimension has no point outside the box
-pub record IsInside (dim : ℕ) (extent : Bounds) (set : Set) : Type 0 where
-  pub dim_is : set.dim ≡ dim
-  pub between : (z : Point) → Has set z → IsBetween extent.low extent.high z
-
--- a set of this dimension whose rows are within their limits
-pub record IsOrdinary (dim : ℕ) (set : Set) : Type 0 where
-  pub dim_is : set.dim ≡ dim
-  pub rows : All IsWithinLimits set.rows

@@ -8,7 +8,8 @@ use Rattle.av_flat.specs.Trees.{Variable, right_side}
 use Rattle.av_flat.specs.Signatures.{Signature}
 use Rattle.av_flat.specs.Counts.{count}
 use Rattle.av_check.specs.Miscovered.{IsMiscoveredAt}
-use Rattle.av_check.specs.inner.Coverage.{coverage, IsOrdinary}
+use Rattle.av_elim.specs.Extents.{IsOrdinary}
+use Rattle.av_check.specs.inner.Coverage.{coverage}
 use Rattle.av_check.specs.inner.Reachable.{IsReachableInside}
 
 -- the domain is small, trees stand at its points, and as many words are there as kept pieces

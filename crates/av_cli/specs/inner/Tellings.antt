@@ -2,7 +2,7 @@
 use Rattle.std.specs.Prelude.{◌≡◌, ℕ, List, Option}
 use Rattle.av_cli.specs.declared.status.Status.{Status}
 use Rattle.av_cli.specs.declared.status.Status.TheVariants.{Done, Memory}
-use Rattle.av_cli.specs.Written.{IsPut}
+use Rattle.av_cli.specs.inner.Written.{IsPut}
 
 -- an output was put, or memory ran out and nothing was added
 pub data IsTold (Gives : List ℕ → Type 0) (held held' : Option (List ℕ)) (faults faults' : ℕ) (status : Status) : Type 0 where

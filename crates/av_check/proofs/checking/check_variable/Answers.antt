@@ -7,7 +7,8 @@ use Rattle.av_flat.specs.Trees.{view_variable, view_piece}
 use Rattle.av_flat.specs.Signatures.{signature, is_computed}
 use Rattle.av_normal.proofs.Limits.{all_sources}
 use Rattle.av_check.specs.inner.Least.{IsLeast}
-use Rattle.av_check.specs.inner.Coverage.{IsOff, IsOrdinary}
+use Rattle.av_elim.specs.Extents.{IsOrdinary}
+use Rattle.av_check.specs.inner.Coverage.{IsOff}
 use Rattle.av_check.specs.inner.Reachable.{IsReachableInside}
 use Rattle.av_check.proofs.Settled.{least_is_wrong, none_is_wrong}
 use Rattle.av_check.proofs.checking.check_variable.Goals as goal

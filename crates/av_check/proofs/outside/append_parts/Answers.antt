@@ -1,7 +1,8 @@
 use Rattle.std.proofs.Common.{◌≡◌, ◌↔◌, ◌⊎◌, ◌≤◌, ◌<◌, ◌∙◌, ◌++◌, ◌∷◌, [], length, List, All, sym, subst, rules}
 use Rattle.std.proofs.lemmas.List.{take_all}
 use Rattle.av_poly.specs.Points.{Set, Has}
-use Rattle.av_check.specs.inner.Coverage.{IsInAny, IsInside}
+use Rattle.av_elim.specs.Extents.{IsInside}
+use Rattle.av_check.specs.inner.Coverage.{IsInAny}
 use Rattle.av_check.proofs.Lexicographic.{least_none}
 use Rattle.av_check.proofs.Counting.{inside_more, parts_pushed, parts_same}
 use Rattle.av_check.proofs.outside.append_parts.Goals as goal

@@ -1,5 +1,6 @@
 use Rattle.std.proofs.Common.{◌↔◌, ◌⊎◌, take, ℤ, List, All}
-use Rattle.av_check.specs.inner.Coverage.{IsInAny, IsInside}
+use Rattle.av_elim.specs.Extents.{IsInside}
+use Rattle.av_check.specs.inner.Coverage.{IsInAny}
 use Rattle.av_check.proofs.outside.append_parts.Given as goal
 
 abbrev pub invariant-loop-part : goal.invariant-loop-part

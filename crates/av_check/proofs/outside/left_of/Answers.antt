@@ -1,16 +1,17 @@
 use Rattle.std.proofs.Common.{◌≡◌, ◌↔◌, ◌<◌, ◌∙◌, ◌++◌, ◌∷◌, [], ℕ, ℤ, All, length, List, ap, subst, rules}
 use Rattle.av_poly.specs.Points.{Set, Has}
-use Rattle.av_check.specs.inner.Coverage.{IsInAny, IsInside}
+use Rattle.av_elim.specs.Extents.{IsInside}
+use Rattle.av_check.specs.inner.Coverage.{IsInAny}
 use Rattle.av_check.proofs.Counting.{first_inside, first_left, left_more}
 use Rattle.av_check.proofs.outside.left_of.Goals as goal
 
 pub loop-set-init : goal.loop-set-init
 loop-set-init c =
-    let own = c.in_ok-normalised.field-0 in
+    let own = c.in_ok-normalised_copy.field-0 in
     let f : c.push.new.self ≡ [] ++ own ∷ [] = c.in_ok-push.ensures.ok ∙ ap (λ (xs : List Set). xs ++ own ∷ []) c.new-left.ensures in
     record {
-      inside = first_inside c.args.domain.now own c.args.extent.now c.push.new.self c.requires.inside c.in_ok-normalised.ensures.dim c.in_ok-normalised.ensures.points f;
-      points = first_left c.args.domain.now own c.push.new.self c.in_ok-normalised.ensures.points f;
+      inside = first_inside c.args.domain.now own c.args.extent.now c.push.new.self c.requires.inside c.in_ok-normalised_copy.ensures.dim c.in_ok-normalised_copy.ensures.points f;
+      points = first_left c.args.domain.now own c.push.new.self c.in_ok-normalised_copy.ensures.points f;
     }
 
 pub loop-set-preserved : goal.loop-set-preserved

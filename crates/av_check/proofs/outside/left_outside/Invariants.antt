@@ -1,6 +1,7 @@
 use Rattle.std.proofs.Common.{◌↔◌, take, ℤ, List, All}
 use Rattle.av_poly.specs.Points.{Has}
-use Rattle.av_check.specs.inner.Coverage.{IsInAny, IsInside}
+use Rattle.av_elim.specs.Extents.{IsInside}
+use Rattle.av_check.specs.inner.Coverage.{IsInAny}
 use Rattle.av_check.proofs.outside.left_outside.Given as goal
 
 abbrev pub invariant-loop-part : goal.invariant-loop-part

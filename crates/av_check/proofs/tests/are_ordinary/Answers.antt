@@ -2,7 +2,7 @@ use Rattle.std.proofs.Common.{◌<◌, ◌≤◌, length, take, List, All, sym, 
 use Rattle.std.proofs.lemmas.List.{take_all}
 use Rattle.std.proofs.lemmas.List.Elements.{All-push}
 use Rattle.av_poly.specs.Points.{Set}
-use Rattle.av_check.specs.inner.Coverage.{IsOrdinary}
+use Rattle.av_elim.specs.Extents.{IsOrdinary}
 use Rattle.av_check.proofs.Counting.{taken}
 use Rattle.av_check.proofs.tests.are_ordinary.Goals as goal
 

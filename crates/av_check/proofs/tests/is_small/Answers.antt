@@ -1,4 +1,4 @@
-use Rattle.av_check.proofs.Boxes.{small_between}
+use Rattle.av_elim.proofs.Boxes.{small_between}
 use Rattle.av_check.proofs.tests.is_small.Goals as goal
 
 pub returns-in-Ok : goal.returns-in-Ok

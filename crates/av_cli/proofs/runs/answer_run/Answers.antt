@@ -3,7 +3,7 @@ use Rattle.av_names.specs.declared.size.Size.{Size}
 use Rattle.av_compile.specs.Mapped.{IsUnmapped}
 use Rattle.av_compile.specs.Headline.{Headline}
 use Rattle.av_cli.specs.Runs.{no_mark}
-use Rattle.av_cli.specs.Written.{refused}
+use Rattle.av_cli.specs.inner.Written.{refused}
 use Rattle.av_cli.specs.inner.Reported.{GivesReportWith}
 use Rattle.av_cli.proofs.Reporting.{clockable, run_refused, report_answered}
 use Rattle.av_cli.proofs.runs.answer_run.Goals as goal

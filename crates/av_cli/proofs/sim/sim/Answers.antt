@@ -1,6 +1,6 @@
 use Rattle.std.proofs.Common.{refl}
 use Rattle.av_cli.specs.Sims.{no_mark}
-use Rattle.av_cli.specs.Written.{refused}
+use Rattle.av_cli.specs.inner.Written.{refused}
 use Rattle.av_cli.proofs.Simulating.{module_answered, text_refused}
 use Rattle.av_cli.proofs.sim.sim.Goals as goal
 

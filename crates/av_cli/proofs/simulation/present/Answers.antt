@@ -2,7 +2,7 @@ use Rattle.std.proofs.Common.{◌≡◌, ◌+◌, ◌<◌, length, drop, sym, ap
 use Rattle.std.proofs.lemmas.List.{length-set}
 use Rattle.av_clock.specs.Seen.{carried}
 use Rattle.av_net.specs.declared.netlist.Module.{Module}
-use Rattle.av_cli.specs.Clocking.{AreLeft, ArePresented}
+use Rattle.av_cli.specs.inner.Clocking.{AreLeft, ArePresented}
 use Rattle.av_cli.proofs.Walking.{word_is, port_left, cycle_left}
 use Rattle.av_cli.proofs.Presenting.{turn}
 use Rattle.av_cli.proofs.simulation.present.Goals as goal

@@ -1,4 +1,4 @@
-use Rattle.av_cli.specs.Clocking.{AreWires}
+use Rattle.av_cli.specs.inner.Clocking.{AreWires}
 use Rattle.av_cli.proofs.simulation.wires.Given as goal
 
 abbrev pub invariant-loop-port : goal.invariant-loop-port

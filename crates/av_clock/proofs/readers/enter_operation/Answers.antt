@@ -4,7 +4,7 @@ use Rattle.av_net.specs.declared.operation.Operand.{Operand}
 use Rattle.av_net.specs.declared.operation.Operation.{Operation}
 use Rattle.av_net.specs.Meaning.{EachOperand}
 use Rattle.av_net.specs.Names.{all_names}
-use Rattle.av_clock.specs.Readers.{IsEntered}
+use Rattle.av_clock.specs.inner.Readers.{IsEntered}
 use Rattle.av_clock.proofs.Reading.{entered_both, entered_three}
 use Rattle.av_clock.proofs.readers.enter_operation.Goals as goal
 

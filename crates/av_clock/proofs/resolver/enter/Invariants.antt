@@ -4,7 +4,7 @@ use Rattle.std.specs.Cmp.Lexicographic.{slice_cmp}
 use Rattle.std.specs.BTreeMap as tree
 use Rattle.av_net.specs.declared.netlist.Port.{Port}
 use Rattle.av_net.specs.Names.{AreDistinct, names_of}
-use Rattle.av_clock.specs.Found.{Finds}
+use Rattle.av_clock.specs.inner.Found.{Finds}
 use Rattle.av_clock.proofs.resolver.enter.Given as goal
 
 abbrev pub invariant-loop-i : goal.invariant-loop-i

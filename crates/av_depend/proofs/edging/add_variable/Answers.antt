@@ -9,7 +9,7 @@ use Rattle.av_flat.specs.Trees.{view, view_system, view_variable, view_piece}
 use Rattle.av_flat.specs.Signatures.{signatures}
 use Rattle.av_flat.specs.Chained.{IsChainedPiece}
 use Rattle.av_depend.specs.Sites.{Site, sites_in, sites_of}
-use Rattle.av_depend.specs.Extents.{IsInside}
+use Rattle.av_elim.specs.Extents.{IsInside}
 use Rattle.av_depend.specs.inner.Adding.{HasAdded}
 use Rattle.av_depend.proofs.Small.{small_point}
 use Rattle.av_depend.proofs.Mirrors.{take_whole}

@@ -1,6 +1,6 @@
 use Rattle.std.proofs.Common.{rules, ◌≡◌, All, IsTrue, subst}
 use Rattle.av_affine.specs.Forms.{IsWithinLimits}
-use Rattle.av_depend.proofs.Boxes.{normalised_within}
+use Rattle.av_elim.proofs.Boxes.{normalised_within}
 use Rattle.av_depend.proofs.tests.small_box.Goals as goal
 
 pub bounds-requires-clause-rows : goal.bounds-requires-clause-rows

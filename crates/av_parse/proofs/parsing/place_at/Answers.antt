@@ -1,7 +1,7 @@
 use Rattle.std.proofs.Common.{◌∙◌, ap, arith}
 use Rattle.std.proofs.lemmas.List.{take_rest}
 use Rattle.av_lex.specs.Lexing.{views}
-use Rattle.av_parse.specs.Reader.{place_of}
+use Rattle.av_parse.specs.inner.Reader.{place_of}
 use Rattle.av_parse.proofs.Views.{left_behind}
 use Rattle.av_parse.proofs.parsing.place_at.Goals as goal
 

@@ -1,7 +1,7 @@
 use Rattle.std.proofs.Common.{◌+◌, List, sym, subst}
 use Rattle.av_net.specs.Sound.{IsSound}
 use Rattle.av_clock.specs.declared.gate.Assignment.{Assignment}
-use Rattle.av_clock.specs.Gates.{AreAssigned}
+use Rattle.av_clock.specs.inner.Gates.{AreAssigned}
 use Rattle.av_clock.proofs.Resolved.{read_drive, target_declared, drive_reads, assigned_more}
 use Rattle.av_clock.proofs.resolver.Resolver.assignments.Goals as goal
 

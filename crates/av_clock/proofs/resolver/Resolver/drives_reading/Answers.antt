@@ -2,7 +2,7 @@ use Rattle.std.proofs.Common.{sym, subst, length, ◌∙◌, ap}
 use Rattle.av_net.specs.declared.netlist.Module.{Module}
 use Rattle.av_net.specs.Names.{all_names}
 use Rattle.av_net.specs.Sound.{IsSound}
-use Rattle.av_clock.specs.Readers.{HaveDrives}
+use Rattle.av_clock.specs.inner.Readers.{HaveDrives}
 use Rattle.av_clock.proofs.Reading.{no_drives, drives_more, drives_read}
 use Rattle.av_clock.proofs.Resolved.{read_drive}
 use Rattle.av_clock.proofs.resolver.Resolver.drives_reading.Goals as goal

@@ -1,4 +1,4 @@
-use Rattle.av_clock.specs.Readers.{HaveDrives}
+use Rattle.av_clock.specs.inner.Readers.{HaveDrives}
 use Rattle.av_clock.proofs.resolver.Resolver.drives_reading.Given as goal
 
 abbrev pub invariant-loop-i : goal.invariant-loop-i

@@ -2,7 +2,7 @@ use Rattle.std.proofs.Common.{sym, subst, length, ◌∙◌, ap}
 use Rattle.av_net.specs.declared.netlist.Module.{Module}
 use Rattle.av_net.specs.Names.{all_names}
 use Rattle.av_net.specs.Sound.{IsSound}
-use Rattle.av_clock.specs.Readers.{HaveSteps}
+use Rattle.av_clock.specs.inner.Readers.{HaveSteps}
 use Rattle.av_clock.proofs.Reading.{no_steps, steps_more, steps_read}
 use Rattle.av_clock.proofs.Resolved.{read_step}
 use Rattle.av_clock.proofs.resolver.Resolver.steps_reading.Goals as goal

@@ -1,4 +1,4 @@
-use Rattle.av_clock.specs.Readers.{HaveSteps}
+use Rattle.av_clock.specs.inner.Readers.{HaveSteps}
 use Rattle.av_clock.proofs.resolver.Resolver.steps_reading.Given as goal
 
 abbrev pub invariant-loop-i : goal.invariant-loop-i

@@ -3,8 +3,8 @@ use Rattle.std.specs.Prelude.{codes}
 use Rattle.std.proofs.lemmas.Result.{err_from_is_err_and}
 use Rattle.av_lex.specs.Lexing.{view as token_view, views}
 use Rattle.av_tree.specs.Trees.{view, view_all}
-use Rattle.av_parse.specs.Reader.{begins_symbol, begins_word}
-use Rattle.av_parse.specs.ExpressionReader.{readers}
+use Rattle.av_parse.specs.inner.Reader.{begins_symbol, begins_word}
+use Rattle.av_parse.specs.inner.ExpressionReader.{readers}
 use Rattle.av_parse.proofs.Expressions.{expr_at, sum_at, product_at, unary_at, expr_at_zero, sum_at_zero, product_at_zero, unary_at_zero, sum_stop, sum_first, sum_end, sum_operand_stop, sum_goes, product_stop, product_first, product_end, product_operand_stop, product_goes, view_all_push, branches_full, branches_stop, branches_semicolon_stop, branches_end, branches_goes, cases_done}
 use Rattle.av_parse.proofs.cursor.Cursor.+expression.Goals as goal
 

@@ -1,7 +1,7 @@
 use Rattle.std.proofs.Common.{◌≡◌, ◌+◌, ◌*◌, length}
 use Rattle.av_lex.specs.Lexing.{views}
 use Rattle.av_tree.specs.Trees.{view, view_all}
-use Rattle.av_parse.specs.ExpressionReader.{readers, sum_of, product_of, branches_of}
+use Rattle.av_parse.specs.inner.ExpressionReader.{readers, sum_of, product_of, branches_of}
 use Rattle.av_parse.proofs.Expressions.{GoesSum, GoesProduct, with_branches}
 use Rattle.av_parse.proofs.cursor.Cursor.+expression.Given as goal
 

@@ -1,7 +1,7 @@
 use Rattle.std.proofs.Common.{◌≡◌, true, false, sym, ◌∙◌, arith}
 use Rattle.std.proofs.lemmas.Result.{err_from_is_err_and}
 use Rattle.av_lex.specs.Lexing.{views}
-use Rattle.av_parse.specs.IndexReader.{relation_at, is_there}
+use Rattle.av_parse.specs.inner.IndexReader.{relation_at, is_there}
 use Rattle.av_parse.proofs.Lists.{chain_full, chain_stop, chain_side_stop, chain_end, chain_goes}
 use Rattle.av_parse.proofs.cursor.Cursor.chain.Goals as goal
 

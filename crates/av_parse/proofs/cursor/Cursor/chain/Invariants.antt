@@ -1,7 +1,7 @@
 use Rattle.std.proofs.Common.{◌≡◌, length}
 use Rattle.av_lex.specs.Lexing.{views}
-use Rattle.av_parse.specs.Reader.{with_front}
-use Rattle.av_parse.specs.IndexReader.{chain_of}
+use Rattle.av_parse.specs.inner.Reader.{with_front}
+use Rattle.av_parse.specs.inner.IndexReader.{chain_of}
 use Rattle.av_parse.proofs.cursor.Cursor.chain.Given as goal
 
 abbrev pub invariant-loop-room : goal.invariant-loop-room

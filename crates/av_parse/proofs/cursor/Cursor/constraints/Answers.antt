@@ -2,7 +2,7 @@ use Rattle.std.proofs.Common.{◌≡◌, true, false, ap, sym, ◌∙◌, arith}
 use Rattle.std.specs.Prelude.{codes}
 use Rattle.std.proofs.lemmas.Result.{err_from_is_err_and}
 use Rattle.av_lex.specs.Lexing.{views}
-use Rattle.av_parse.specs.Reader.{begins_symbol, after}
+use Rattle.av_parse.specs.inner.Reader.{begins_symbol, after}
 use Rattle.av_parse.proofs.Lists.{constraints_full, constraints_stop, constraints_end, constraints_closed, constraints_goes}
 use Rattle.av_parse.proofs.cursor.Cursor.constraints.Goals as goal
 

@@ -3,7 +3,7 @@ use Rattle.std.specs.Prelude.{codes}
 use Rattle.std.proofs.lemmas.Result.{err_from_is_err_and}
 use Rattle.av_base.specs.declared.token_kind.TokenKind.TheVariants as kind
 use Rattle.av_lex.specs.Lexing.{views}
-use Rattle.av_parse.specs.Reader.{begins, begins_symbol, after}
+use Rattle.av_parse.specs.inner.Reader.{begins, begins_symbol, after}
 use Rattle.av_parse.proofs.Declarations.{declarations_full, declarations_stop, declarations_end, declarations_closed, declarations_goes}
 use Rattle.av_parse.proofs.cursor.Cursor.declarations.Goals as goal
 

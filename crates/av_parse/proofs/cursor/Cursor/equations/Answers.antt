@@ -2,7 +2,7 @@ use Rattle.std.proofs.Common.{◌≡◌, true, false, sym, ◌∙◌, arith}
 use Rattle.std.proofs.lemmas.Result.{err_from_is_err_and}
 use Rattle.av_base.specs.declared.token_kind.TokenKind.TheVariants as kind
 use Rattle.av_lex.specs.Lexing.{views}
-use Rattle.av_parse.specs.Reader.{begins}
+use Rattle.av_parse.specs.inner.Reader.{begins}
 use Rattle.av_tree.specs.Trees.{view_equation, view_equations}
 use Rattle.av_parse.proofs.Declarations.{view_equations_push, equations_full, equations_stop, equations_end, equations_goes}
 use Rattle.av_parse.proofs.cursor.Cursor.equations.Goals as goal

@@ -1,8 +1,8 @@
 use Rattle.std.proofs.Common.{◌≡◌, length}
 use Rattle.av_lex.specs.Lexing.{views}
 use Rattle.av_tree.specs.Trees.{view_equations}
-use Rattle.av_parse.specs.Reader.{with_front}
-use Rattle.av_parse.specs.ProgramReader.{equations_of}
+use Rattle.av_parse.specs.inner.Reader.{with_front}
+use Rattle.av_parse.specs.inner.ProgramReader.{equations_of}
 use Rattle.av_parse.proofs.cursor.Cursor.equations.Given as goal
 
 abbrev pub invariant-loop-room : goal.invariant-loop-room

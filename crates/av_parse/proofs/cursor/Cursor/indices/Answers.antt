@@ -2,7 +2,7 @@ use Rattle.std.proofs.Common.{◌≡◌, ◌<◌, true, false, sym, ◌∙◌, a
 use Rattle.std.specs.Prelude.{codes}
 use Rattle.std.proofs.lemmas.Result.{err_from_is_err_and}
 use Rattle.av_lex.specs.Lexing.{views}
-use Rattle.av_parse.specs.Reader.{begins_symbol}
+use Rattle.av_parse.specs.inner.Reader.{begins_symbol}
 use Rattle.av_parse.proofs.Lists.{indices_full, indices_stop, indices_end, indices_goes}
 use Rattle.av_parse.proofs.cursor.Cursor.indices.Goals as goal
 use Rattle.av_parse.proofs.cursor.Cursor.indices.Goals.{then-room-eq0-via-then-room-eq0, then-room-eq0-via-else-room-eq0+then-not-is_symbol}

@@ -1,7 +1,7 @@
 use Rattle.std.proofs.Common.{◌≡◌}
 use Rattle.av_lex.specs.Lexing.{views}
-use Rattle.av_parse.specs.Reader.{with_front}
-use Rattle.av_parse.specs.IndexReader.{indices_of}
+use Rattle.av_parse.specs.inner.Reader.{with_front}
+use Rattle.av_parse.specs.inner.IndexReader.{indices_of}
 use Rattle.av_parse.proofs.cursor.Cursor.indices.Given as goal
 
 abbrev pub invariant-loop-found : goal.invariant-loop-found

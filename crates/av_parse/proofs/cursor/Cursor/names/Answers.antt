@@ -2,7 +2,7 @@ use Rattle.std.proofs.Common.{◌≡◌, true, false, sym, ◌∙◌, arith}
 use Rattle.std.specs.Prelude.{codes}
 use Rattle.std.proofs.lemmas.Result.{err_from_is_err_and}
 use Rattle.av_lex.specs.Lexing.{view, views}
-use Rattle.av_parse.specs.Reader.{begins_symbol}
+use Rattle.av_parse.specs.inner.Reader.{begins_symbol}
 use Rattle.av_parse.proofs.Views.{views_push}
 use Rattle.av_parse.proofs.Lists.{names_full, names_stop, names_end, names_goes}
 use Rattle.av_parse.proofs.cursor.Cursor.names.Goals as goal

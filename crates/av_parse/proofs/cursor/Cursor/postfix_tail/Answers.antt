@@ -3,7 +3,7 @@ use Rattle.std.specs.Prelude.{codes}
 use Rattle.std.proofs.lemmas.Result.{err_from_is_err_and}
 use Rattle.av_lex.specs.Lexing.{views}
 use Rattle.av_tree.specs.Trees.{view}
-use Rattle.av_parse.specs.Reader.{begins_symbol}
+use Rattle.av_parse.specs.inner.Reader.{begins_symbol}
 use Rattle.av_parse.proofs.Expressions.{maps_end, maps_stop, maps_last, maps_goes}
 use Rattle.av_parse.proofs.cursor.Cursor.postfix_tail.Goals as goal
 

@@ -1,7 +1,7 @@
 use Rattle.std.proofs.Common.{◌≡◌}
 use Rattle.av_lex.specs.Lexing.{views}
 use Rattle.av_tree.specs.Trees.{view}
-use Rattle.av_parse.specs.ExpressionReader.{readers, postfix_tail_of}
+use Rattle.av_parse.specs.inner.ExpressionReader.{readers, postfix_tail_of}
 use Rattle.av_parse.proofs.cursor.Cursor.postfix_tail.Given as goal
 
 abbrev pub invariant-loop-self : goal.invariant-loop-self

@@ -2,7 +2,7 @@ use Rattle.std.proofs.Common.{◌≡◌, true, false, sym, ◌∙◌, arith}
 use Rattle.std.proofs.lemmas.Result.{err_from_is_err_and}
 use Rattle.av_base.specs.declared.token_kind.TokenKind.TheVariants as kind
 use Rattle.av_lex.specs.Lexing.{view, views}
-use Rattle.av_parse.specs.Reader.{begins}
+use Rattle.av_parse.specs.inner.Reader.{begins}
 use Rattle.av_parse.proofs.Declarations.{variables_full, variables_stop, variables_semicolon_stop, variables_end, variables_goes}
 use Rattle.av_parse.proofs.cursor.Cursor.variables.Goals as goal
 

@@ -1,0 +1,5 @@
+pub mod Gates
+pub mod Found
+pub mod Resolver
+pub mod Circuit
+pub mod Readers

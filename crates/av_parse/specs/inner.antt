@@ -1,0 +1,5 @@
+pub mod Reader
+pub mod IndexReader
+pub mod ExpressionReader
+pub mod ProgramReader
+pub mod Views
