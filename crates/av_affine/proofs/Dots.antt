@@ -1,5 +1,6 @@
 -- Sums of products, as far as the lists go.
 use Rattle.std.proofs.Common.{◌≡◌, ℕ, zero, suc, ◌*◌, ◌<◌, ◌≤◌, List, [], ◌∷◌, length, get_or, take, refl, ◌∙◌, ap, arith, ℤ, pos, ◌+ℤ◌, ◌*ℤ◌}
+use Rattle.std.specs.Prelude.{min}
 use Rattle.std.specs.Int.RustNames.{unsigned_abs}
 use Rattle.std.specs.List.{AllByRecursion}
 use Rattle.std.proofs.lemmas.Int.{ints, unsigned_abs-mul}
@@ -48,3 +49,12 @@ entry_most limit xs i h = go xs i (recursion_from_All (λ x. unsigned_abs x ≤ 
     go [] i h = omega arith
     go (x ∷ xs) zero h = h.0
     go (x ∷ xs) (suc i) h = go xs i h.1
+
+-- what lies past the end of one of them does not count
+pub dot_whole : (xs ys : List ℤ) (k : ℕ) → min (length xs) (length ys) ≤ k → dot (take k xs) (take k ys) ≡ dot xs ys
+dot_whole [] ys zero l = refl
+dot_whole [] ys (suc k) l = refl
+dot_whole (x ∷ xs) [] zero l = refl
+dot_whole (x ∷ xs) [] (suc k) l = refl
+dot_whole (x ∷ xs) (y ∷ ys) zero l = absurd (omega (arith, l))
+dot_whole (x ∷ xs) (y ∷ ys) (suc k) l = ap (λ n. x *ℤ y +ℤ n) (dot_whole xs ys k (omega (arith, l)))

@@ -39,7 +39,8 @@ fn coefficient(form: &Form, inner: &Map, index: usize) -> i64
     requires index { index < 4 }
     requires form { IsWithinLimits form.now }
     requires inner { All IsWithinLimits inner.now.rows }
-    ensures { result ≡ (if nat_lt index inner.now.from then dot form.now.coef (coefficients_of index inner.now.rows) else pos 0) }
+    ensures value { result ≡ (if nat_lt index inner.now.from then dot form.now.coef (coefficients_of index inner.now.rows) else pos 0) }
+    ensures small { unsigned_abs result ≤ 2 ^ 32 }
 {
     if index < inner.from as usize {
         products(
@@ -52,10 +53,12 @@ fn coefficient(form: &Form, inner: &Map, index: usize) -> i64
 }
 
 // A form of what the inner map gives, as a form of the inner map's indices.
-fn inward(form: &Form, inner: &Map) -> Form
+pub(crate) fn inward(form: &Form, inner: &Map) -> Form
     requires form { IsWithinLimits form.now }
     requires inner { All IsWithinLimits inner.now.rows }
-    ensures { result ≡ through inner.now.from inner.now.rows form.now }
+    ensures value { result ≡ through inner.now.from inner.now.rows form.now }
+    ensures coefficients { AtMost (2 ^ 32) result.coef }
+    ensures constant { unsigned_abs result.constant ≤ 2 ^ 33 }
 {
     let a = coefficient(form, inner, 0);
     let b = coefficient(form, inner, 1);

@@ -1,6 +1,9 @@
-ghost use Rattle.std.specs.Prelude.{◌≡◌, ◌≤◌, ◌^◌, ◌+ℤ◌, ◌*ℤ◌, ◌<◌, length, unsigned_abs};
+ghost use Rattle.std.specs.Prelude.{◌≡◌, ◌≤◌, ◌^◌, ◌+ℤ◌, ◌<◌, length, unsigned_abs, All};
 ghost use Rattle.av_affine.specs.Numbers.{dot, AtMost};
 
+use crate::Map;
+use crate::compose::inward;
+use crate::inner_product::dot;
 use av_base::Point;
 
 /// An affine form of at most four indices: whole coefficients and a constant.
@@ -14,6 +17,7 @@ pub struct Form {
 
 impl Form {
     ghost use Rattle.av_affine.specs.Forms.{value_at, IsWithinLimits};
+    ghost use Rattle.av_affine.specs.Maps.{through};
 
     /// The value at a point: each entry times its coefficient, and the constant.
     pub fn at(&self, z: &Point) -> i64
@@ -24,16 +28,18 @@ impl Form {
     {
         products(self.coef, z.as_slice()) + self.constant
     }
-}
 
-// The product of small numbers.
-pub(crate) fn product(a: i64, b: i64) -> i64
-    requires first { unsigned_abs a ≤ 2 ^ 10 }
-    requires second { unsigned_abs b ≤ 2 ^ 20 }
-    ensures value { result ≡ a *ℤ b }
-    ensures small { unsigned_abs result ≤ 2 ^ 30 }
-{
-    a * b
+    /// The form of a map's image, as a form of the map's own indices: at a point it has the value that this form has
+    /// at the point's image.
+    pub fn after(&self, map: &Map) -> Form
+        requires form { IsWithinLimits self.now }
+        requires map { All IsWithinLimits map.now.rows }
+        ensures value { result ≡ through map.now.from map.now.rows self.now }
+        ensures coefficients { AtMost (2 ^ 32) result.coef }
+        ensures constant { unsigned_abs result.constant ≤ 2 ^ 33 }
+    {
+        inward(self, map)
+    }
 }
 
 // The sum of the products of coefficients and numbers.
@@ -44,10 +50,5 @@ pub(crate) fn products(coef: [i64; 4], numbers: &[i64]) -> i64
     ensures value { result ≡ dot coef numbers.now }
     ensures small { unsigned_abs result ≤ 2 ^ 32 }
 {
-    let mut sum: i64 = 0;
-    for k in 0..numbers.len() {
-        let term = product(coef[k], numbers[k]);
-        sum += term;
-    }
-    sum
+    dot(&coef, numbers) as i64
 }

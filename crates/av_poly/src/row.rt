@@ -5,7 +5,7 @@ ghost use Rattle.av_affine.specs.Numbers.{dot, AtMost};
 ghost use Rattle.av_affine.specs.Forms.{value_at};
 ghost use Rattle.av_poly.specs.Points.{IsSmall, Holds};
 
-use av_affine::Form;
+use av_affine::{Form, dot};
 use av_base::{List, Memory};
 
 // The product of small numbers.
@@ -26,12 +26,7 @@ pub(crate) fn products(coef: [i64; 4], numbers: &[i64]) -> i128
     ensures value { result ≡ dot coef numbers.now }
     ensures small { unsigned_abs result ≤ 2 ^ 67 }
 {
-    let mut sum: i128 = 0;
-    for k in 0..numbers.len() {
-        let term = product(coef[k], numbers[k]);
-        sum += term;
-    }
-    sum
+    dot(&coef, numbers)
 }
 
 // The value of a row at a point.

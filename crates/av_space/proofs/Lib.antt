@@ -20,7 +20,6 @@ pub mod Placed
 pub mod PointsBefore
 pub mod Entered
 pub mod Nodes
-pub mod Dots
 pub mod Rows
 pub mod Ranks
 pub mod OneOrder

@@ -18,11 +18,11 @@ use std::alloc::Global;
 fn raised(time: &Time, points: &[Point], count: u128) -> u128
     requires small { All (AtMost 4095) points.now }
     requires starts { All (λ z. pos 0 ≤ℤ cycle time.now z) points.now }
-    requires fits { count ≤ 2 ^ 81 }
+    requires fits { count ≤ 2 ^ 107 }
     ensures from { count ≤ result }
     ensures above { All (λ z. cycle time.now z <ℤ pos result) points.now }
     ensures least { (m : ℕ) → count ≤ m → All (λ z. cycle time.now z <ℤ pos m) points.now → result ≤ m }
-    ensures fits { result ≤ 2 ^ 81 }
+    ensures fits { result ≤ 2 ^ 107 }
 {
     let mut most = count;
     for point in points {

@@ -1,8 +1,9 @@
-ghost use Rattle.std.specs.Prelude.{◌≡◌, ◌≤◌, ◌^◌, ◌*ℤ◌, length, unsigned_abs};
+ghost use Rattle.std.specs.Prelude.{◌≡◌, ◌≤◌, ◌^◌, length, unsigned_abs};
 ghost use Rattle.av_affine.specs.Numbers.{dot, AtMost};
 ghost use Rattle.av_flat.specs.Schedules.{cycle};
 
 use arrayvec::ArrayVec;
+use av_affine::dot;
 use av_base::{List, Point};
 use av_flat::Time;
 use std::marker::Model;
@@ -22,38 +23,13 @@ impl Model for Placement {
     ghost view = { λ p. record { time = p.time; rows = p.rows } };
 }
 
-// The product of an entry of 64 bits and a coordinate.
-fn product(a: i64, b: i64) -> i128
-    requires { unsigned_abs b ≤ 4095 }
-    ensures value { result ≡ a *ℤ b }
-    ensures small { unsigned_abs result ≤ 2 ^ 76 }
-{
-    i128::from(a) * i128::from(b)
-}
-
-// The sum of the products of the entries, as far as both go.
-fn products(row: &[i64], z: &[i64]) -> i128
-    requires fits { length z.now ≤ 4 }
-    requires small { AtMost 4095 z.now }
-    ensures value { result ≡ dot row.now z.now }
-    ensures small { unsigned_abs result ≤ 2 ^ 78 }
-{
-    let mut sum: i128 = 0;
-    let count = row.len().min(z.len());
-    for k in 0..count {
-        let term = product(row[k], z[k]);
-        sum += term;
-    }
-    sum
-}
-
 /// The cycle of a point at a time.
 pub(crate) fn cycle_of(time: &Time, z: &Point) -> i128
     requires { AtMost 4095 z.now }
     ensures value { result ≡ cycle time.now z.now }
-    ensures small { unsigned_abs result ≤ 2 ^ 80 }
+    ensures small { unsigned_abs result ≤ 2 ^ 106 }
 {
-    products(time.linear.as_slice(), z.as_slice()) + i128::from(time.offset)
+    dot(time.linear.as_slice(), z.as_slice()) + i128::from(time.offset)
 }
 
 // The coordinate of a point by a row.
@@ -63,7 +39,7 @@ fn coordinate(row: &Point, z: &Point) -> i64
     ensures value { result ≡ dot row.now z.now }
     ensures small { unsigned_abs result ≤ 16380 }
 {
-    products(row.as_slice(), z.as_slice()) as i64
+    dot(row.as_slice(), z.as_slice()) as i64
 }
 
 impl Placement {
@@ -73,7 +49,7 @@ impl Placement {
     pub(crate) fn cycle(&self, z: &Point) -> i128
         requires { AtMost 4095 z.now }
         ensures value { result ≡ cycle self.now.time z.now }
-        ensures small { unsigned_abs result ≤ 2 ^ 80 }
+        ensures small { unsigned_abs result ≤ 2 ^ 106 }
     {
         cycle_of(&self.time, z)
     }

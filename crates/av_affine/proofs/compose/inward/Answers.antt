@@ -1,10 +1,32 @@
-use Rattle.av_affine.proofs.Composing.{constants_most}
-use Rattle.std.proofs.Common.{sym, ◌∙◌, subst, ap, ◌^◌}
-use Rattle.av_affine.specs.Numbers.{AtMost}
+use Rattle.std.proofs.Common.{rules, ◌≤◌, ◌^◌, sym, ◌∙◌, subst, ap, ℤ, [], ◌∷◌, ◌+ℤ◌, arith, FitsSigned, to_z-of_z, w64}
+use Rattle.std.specs.Int.RustNames.{unsigned_abs}
+use Rattle.std.proofs.lemmas.Int.{ints, fits_signed_from_abs}
+use Rattle.std.proofs.lemmas.List.Elements.{All-from_recursion}
+use Rattle.av_affine.specs.Numbers.{AtMost, dot}
 use Rattle.av_affine.specs.Maps.{constants_of}
+use Rattle.av_affine.proofs.Composing.{constants_most}
 use Rattle.av_affine.proofs.compose.inward.Goals as goal
 
 pub products-constant-requires-clause-numbers : goal.products-constant-requires-clause-numbers
 products-constant-requires-clause-numbers c =
     let e = c.as_slice-2.ensures.value ∙ c.constants.ensures ∙ ap constants_of c.as_slice.ensures.value in
     subst (AtMost (2 ^ 20)) (sym e) (constants_most c.args.inner.now.rows c.requires.inner)
+
+pub returns-clause-coefficients : goal.returns-clause-coefficients
+returns-clause-coefficients c =
+    let fa : FitsSigned w64 c.coefficient-a.result = search rules in
+    let fb : FitsSigned w64 c.coefficient-b.result = search rules in
+    let fc : FitsSigned w64 c.coefficient-c.result = search rules in
+    let fd : FitsSigned w64 c.coefficient-d.result = search rules in
+    let small : (a b d e : ℤ) → unsigned_abs a ≤ 2 ^ 32 → unsigned_abs b ≤ 2 ^ 32 → unsigned_abs d ≤ 2 ^ 32 → unsigned_abs e ≤ 2 ^ 32 → AtMost (2 ^ 32) (a ∷ b ∷ d ∷ e ∷ []) =
+    λ a b d e ha hb hd he. All-from_recursion (λ x. unsigned_abs x ≤ 2 ^ 32) (a ∷ b ∷ d ∷ e ∷ []) (ha, (hb, (hd, (he, tt)))) in
+    simp to_z-of_z (small _ _ _ _ c.coefficient-a.ensures.small c.coefficient-b.ensures.small c.coefficient-c.ensures.small c.coefficient-d.ensures.small)
+
+pub returns-clause-constant : goal.returns-clause-constant
+returns-clause-constant c =
+    let k = c.args.form.now.constant in
+    let s = c.products-constant.result in
+    let fk : FitsSigned w64 k = search rules in
+    let fs : FitsSigned w64 s = search rules in
+    let ft : FitsSigned w64 (s +ℤ k) = fits_signed_from_abs w64 (s +ℤ k) (omega (arith, ints, c.products-constant.ensures.small, c.requires.form.constant)) in
+    simp to_z-of_z (omega (arith, ints, c.products-constant.ensures.small, c.requires.form.constant))

@@ -7,5 +7,5 @@ invariant-loop-point l = record {
   from : l.count ≤ l.most;
   above : All (λ z. cycle l.time z <ℤ pos l.most) (take l.point-index l.points);
   least : (m : ℕ) → l.count ≤ m → All (λ z. cycle l.time z <ℤ pos m) (take l.point-index l.points) → l.most ≤ m;
-  fits : l.most ≤ 2 ^ 81;
+  fits : l.most ≤ 2 ^ 107;
 }

@@ -13,11 +13,11 @@ pub overflow_cast-result : goal.overflow_cast-result
 overflow_cast-result c =
     let row = c.args.row.now in
     let z = c.args.z.now in
-    let r = c.products.result in
-    let small = c.products.ensures.small in
+    let r = c.dot.result in
+    let small = c.dot.ensures.small in
     let f : FitsSigned w128 r = omega (arith, ints, small) in
     let t : to_z w128 (of_z w128 r) ≡ r = simp to_z-of_z in
-    let e : r ≡ dot row z = c.products.ensures.value ∙ ap (λ (xs : List ℤ). dot xs c.as_slice-2.result.now) c.as_slice.ensures.value ∙ ap (dot row) c.as_slice-2.ensures.value in
+    let e : r ≡ dot row z = c.dot.ensures.value ∙ ap (λ (xs : List ℤ). dot xs c.as_slice-2.result.now) c.as_slice.ensures.value ∙ ap (dot row) c.as_slice-2.ensures.value in
     let m = most row z r e c.requires.row c.requires.small (let n = ap (λ (xs : List ℤ). length xs) c.as_slice-2.ensures.value in omega (arith, n, c.as_slice-2.ensures.fits)) in
     rw t (omega (arith, ints, m))
 
@@ -25,11 +25,11 @@ pub returns-clause-value : goal.returns-clause-value
 returns-clause-value c =
     let row = c.args.row.now in
     let z = c.args.z.now in
-    let r = c.products.result in
-    let small = c.products.ensures.small in
+    let r = c.dot.result in
+    let small = c.dot.ensures.small in
     let f : FitsSigned w128 r = omega (arith, ints, small) in
     let t : to_z w128 (of_z w128 r) ≡ r = simp to_z-of_z in
-    let e : r ≡ dot row z = c.products.ensures.value ∙ ap (λ (xs : List ℤ). dot xs c.as_slice-2.result.now) c.as_slice.ensures.value ∙ ap (dot row) c.as_slice-2.ensures.value in
+    let e : r ≡ dot row z = c.dot.ensures.value ∙ ap (λ (xs : List ℤ). dot xs c.as_slice-2.result.now) c.as_slice.ensures.value ∙ ap (dot row) c.as_slice-2.ensures.value in
     let m = most row z r e c.requires.row c.requires.small (let n = ap (λ (xs : List ℤ). length xs) c.as_slice-2.ensures.value in omega (arith, n, c.as_slice-2.ensures.fits)) in
     let g : FitsSigned w64 r = omega (arith, ints, m) in
     let u : to_z w64 (of_z w64 r) ≡ r = simp to_z-of_z in
@@ -39,11 +39,11 @@ pub returns-clause-small : goal.returns-clause-small
 returns-clause-small c =
     let row = c.args.row.now in
     let z = c.args.z.now in
-    let r = c.products.result in
-    let small = c.products.ensures.small in
+    let r = c.dot.result in
+    let small = c.dot.ensures.small in
     let f : FitsSigned w128 r = omega (arith, ints, small) in
     let t : to_z w128 (of_z w128 r) ≡ r = simp to_z-of_z in
-    let e : r ≡ dot row z = c.products.ensures.value ∙ ap (λ (xs : List ℤ). dot xs c.as_slice-2.result.now) c.as_slice.ensures.value ∙ ap (dot row) c.as_slice-2.ensures.value in
+    let e : r ≡ dot row z = c.dot.ensures.value ∙ ap (λ (xs : List ℤ). dot xs c.as_slice-2.result.now) c.as_slice.ensures.value ∙ ap (dot row) c.as_slice-2.ensures.value in
     let m = most row z r e c.requires.row c.requires.small (let n = ap (λ (xs : List ℤ). length xs) c.as_slice-2.ensures.value in omega (arith, n, c.as_slice-2.ensures.fits)) in
     let g : FitsSigned w64 r = omega (arith, ints, m) in
     let u : to_z w64 (of_z w64 r) ≡ r = simp to_z-of_z in

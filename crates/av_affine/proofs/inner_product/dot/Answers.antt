@@ -1,9 +1,8 @@
 use Rattle.std.proofs.Common.{rules, ◌≡◌, ◌∙◌, ◌<◌, length, arith, w64, pos, FitsSigned, get_or, add-one, to_z, of_z, to_z-of_z}
 use Rattle.std.specs.Int.{w128}
 use Rattle.std.proofs.lemmas.Int.{ints}
-use Rattle.av_affine.proofs.Dots.{dot_more}
-use Rattle.av_space.proofs.Dots.{dot_whole}
-use Rattle.av_space.proofs.placement.products.Goals as goal
+use Rattle.av_affine.proofs.Dots.{dot_more, dot_whole}
+use Rattle.av_affine.proofs.inner_product.dot.Goals as goal
 
 pub overflow_add-sum : goal.overflow_add-sum
 overflow_add-sum c =
@@ -17,7 +16,7 @@ overflow_add-sum c =
 pub loop-k-preserved : goal.loop-k-preserved
 loop-k-preserved c =
     let row = c.args.row.now in
-    let z = c.args.z.now in
+    let z = c.args.numbers.now in
     let k = c.loop-k.k in
     let a = get_or row k (pos 0) in
     let x = get_or z k (pos 0) in
@@ -37,4 +36,4 @@ loop-k-preserved c =
     }
 
 pub returns-clause-value : goal.returns-clause-value
-returns-clause-value c = c.loop-k.invariant.so_far ∙ dot_whole c.args.row.now c.args.z.now c.loop-k.k (omega (arith, c.loop-k-test.false, c.min-count.ensures))
+returns-clause-value c = c.loop-k.invariant.so_far ∙ dot_whole c.args.row.now c.args.numbers.now c.loop-k.k (omega (arith, c.loop-k-test.false, c.min-count.ensures))
