@@ -13,8 +13,7 @@ use Rattle.av_flat.proofs.tree.Tree.TheLaws.{the_size}
 use Rattle.av_tree.specs.Trees.{Text}
 use Rattle.std.proofs.lemmas.List.{length-map}
 use Rattle.std.proofs.lemmas.Option.{slice_get_past}
-use Rattle.av_check.specs.declared.verdict.Blame.{Blame}
-use Rattle.av_check.specs.Blame.{named, named_as}
+use Rattle.av_check.specs.Blame.{Blamed, named, named_as}
 use Rattle.av_tree.specs.Points.{Point}
 use Rattle.av_flat.specs.declared.flat.Var.{Var}
 use Rattle.av_flat.specs.Trees.{view_variable}
@@ -41,10 +40,10 @@ place_within [] place n e = absurd cc
 place_within (v ∷ vars) zero n e = omega arith
 place_within (v ∷ vars) (suc place) n e = let l = place_within vars place n e in omega (arith, l)
 
-pub named_here : (vars : List Var) (b : Blame) (d : Var) (name : Text) → b.var < length vars → name ≡ (get_or vars b.var d).name → Some (name, b.point) ≡ named (map signature (map view_variable vars)) (Some b)
+pub named_here : (vars : List Var) (b : Blamed) (d : Var) (name : Text) → b.var < length vars → name ≡ (get_or vars b.var d).name → Some (name, b.point) ≡ named (map signature (map view_variable vars)) (Some b)
 named_here vars b d name l e = ap (λ (n : Text). Some (n, b.point)) e ∙ sym (ap (λ o. named_as o b.point) (signature_at vars b.var d l))
 
-pub named_past : (vars : List Var) (b : Blame) → length vars ≤ b.var → None ≡ named (map signature (map view_variable vars)) (Some b)
+pub named_past : (vars : List Var) (b : Blamed) → length vars ≤ b.var → None ≡ named (map signature (map view_variable vars)) (Some b)
 named_past vars b l =
     let m = length-map vars view_variable in
     let n = length-map (map view_variable vars) signature in

@@ -18,13 +18,12 @@ use Rattle.av_normal.proofs.Laid.{all_parts}
 use Rattle.av_normal.proofs.Limits.{none_first}
 use Rattle.av_check.specs.declared.fault.CheckFault.{CheckFault}
 use Rattle.av_check.specs.declared.fault.CheckFault.TheVariants as fault
-use Rattle.av_check.specs.declared.verdict.Blame.{Blame}
 use Rattle.av_check.specs.declared.verdict.Verdict.TheVariants as verdict
 use Rattle.av_check.specs.inner.Verdicts.{IsVerdict}
 use Rattle.av_check.specs.inner.Least.{IsLeast}
 use Rattle.av_check.specs.inner.Coverage.{IsOff}
 use Rattle.av_check.specs.Miscovered.{IsMiscoveredAt, IsLeastMiscovered, IsFirstMiscovered}
-use Rattle.av_check.specs.Blame.{blamed, named}
+use Rattle.av_check.specs.Blame.{Blamed, blamed, named}
 use Rattle.av_check.specs.CheckFaults.{IsFaultOf, IsFault}
 use Rattle.av_check.specs.inner.Premises.{HasPremises, HavePremises, HasNoneMiscovered}
 use Rattle.av_check.proofs.Lexicographic.{least_same, same_point}
@@ -54,14 +53,14 @@ two_words zero h k = absurd (k refl)
 two_words (suc zero) h k = absurd (h refl)
 two_words (suc (suc n)) h k = omega arith
 
-uncovered : (vs : List Signature) (v : Variable) (z : Point) (name : Text) (outside : Option (Text × Point)) (blame : Option Blame) → IsLeastMiscovered vs v z → name ≡ v.name → count vs (right_side v) z ≡ 0
+uncovered : (vs : List Signature) (v : Variable) (z : Point) (name : Text) (outside : Option (Text × Point)) (blame : Option Blamed) → IsLeastMiscovered vs v z → name ≡ v.name → count vs (right_side v) z ≡ 0
     → blame ≡ blamed vs (right_side v) z → outside ≡ named vs blame → IsFaultOf vs v (fault.Uncovered name z outside)
 uncovered vs v z name outside blame h e n b o = (h, e, n, o ∙ ap (named vs) b)
 
 pub judged_counted : (vs : List Signature) (v : Variable) (z : Point) (name : Text) → IsLeastMiscovered vs v z → name ≡ v.name → IsVerdict vs (right_side v) z verdict.Counted → IsFaultOf vs v (fault.TwoBranches name z)
 judged_counted vs v z name h e k = (h, e, two_words (count vs (right_side v) z) h.wrong.count k)
 
-pub judged_missing : (vs : List Signature) (v : Variable) (z : Point) (name : Text) (outside : Option (Text × Point)) (blame : Option Blame) → IsLeastMiscovered vs v z → name ≡ v.name
+pub judged_missing : (vs : List Signature) (v : Variable) (z : Point) (name : Text) (outside : Option (Text × Point)) (blame : Option Blamed) → IsLeastMiscovered vs v z → name ≡ v.name
     → IsVerdict vs (right_side v) z (verdict.Missing blame) → outside ≡ named vs blame → IsFaultOf vs v (fault.Uncovered name z outside)
 judged_missing vs v z name outside blame h e k o = uncovered vs v z name outside blame h e k.0 k.1 o
 

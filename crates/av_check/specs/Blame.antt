@@ -7,19 +7,23 @@ use Rattle.av_flat.specs.Trees.{Tree, Trees, reference, constant, binary, choice
 use Rattle.av_flat.specs.Points.{has}
 use Rattle.av_flat.specs.Signatures.{Signature, is_declared_at}
 use Rattle.av_flat.specs.Counts.{count}
-use Rattle.av_check.specs.declared.verdict.Blame.{Blame}
+
+-- this point of the variable at this place is blamed
+pub record Blamed : Type 0 where
+  pub var : ℕ
+  pub point : Point
 
 -- the first's blame where it has no word, else the other's
-abbrev pub where_none : ℕ → Option Blame → Option Blame → Option Blame
+abbrev pub where_none : ℕ → Option Blamed → Option Blamed → Option Blamed
 where_none n blame other = if nat_eq n 0 then blame else other
 
 -- the first's blame where it blames somebody, else the other's
-abbrev pub or_else : Option Blame → Option Blame → Option Blame
+abbrev pub or_else : Option Blamed → Option Blamed → Option Blamed
 or_else None other = other
 or_else (Some b) other = Some b
 
 abbrev mutual
-  pub blamed : List Signature → Tree → Point → Option Blame
+  pub blamed : List Signature → Tree → Point → Option Blamed
   blamed vs (reference place m) z = if is_declared_at vs place (image m.rows z) then None else Some (record { var = place; point = image m.rows z })
   blamed vs (constant n) z = None
   blamed vs (binary s l r) z = where_none (count vs l z) (blamed vs l z) (where_none (count vs r z) (blamed vs r z) None)
@@ -33,7 +37,7 @@ abbrev mutual
   blamed vs (pick place choices n) z = None
 
   -- the first branch that blames somebody
-  pub blamed_of_all : List Signature → Trees → Point → Option Blame
+  pub blamed_of_all : List Signature → Trees → Point → Option Blamed
   blamed_of_all vs none z = None
   blamed_of_all vs (more t ts) z = or_else (blamed vs t z) (blamed_of_all vs ts z)
 
@@ -43,6 +47,6 @@ named_as None z = None
 named_as (Some v) z = Some (v.name, z)
 
 -- the blame with the name of the variable
-abbrev pub named : List Signature → Option Blame → Option (Text × Point)
+abbrev pub named : List Signature → Option Blamed → Option (Text × Point)
 named vs None = None
 named vs (Some b) = named_as (slice_get vs b.var) b.point

@@ -4,13 +4,12 @@ use Rattle.av_tree.specs.Points.{Point}
 use Rattle.av_flat.specs.Trees.{Tree, Trees}
 use Rattle.av_flat.specs.Signatures.{Signature, is_declared_at}
 use Rattle.av_flat.specs.Counts.{count, count_all}
-use Rattle.av_check.specs.declared.verdict.Blame.{Blame}
 use Rattle.av_check.specs.declared.verdict.Verdict.{Verdict}
 use Rattle.av_check.specs.declared.verdict.Verdict.TheVariants as verdict
-use Rattle.av_check.specs.Blame.{blamed, blamed_of_all}
+use Rattle.av_check.specs.Blame.{Blamed, blamed, blamed_of_all}
 
 -- of what has n words, and this blame where it has none
-abbrev pub IsOf : ℕ → Option Blame → Verdict → Type 0
+abbrev pub IsOf : ℕ → Option Blamed → Verdict → Type 0
 IsOf n blame verdict.Counted = n ≢ 0
 IsOf n blame (verdict.Missing own) = (n ≡ 0) × (own ≡ blame)
 

@@ -13,5 +13,5 @@ push-requires c =
 pub loop-port-preserved : goal.loop-port-preserved
 loop-port-preserved c =
     let at = port_named c.args.ports.now c.loop-port.port-index c.port-item.result c.loop-port-test.true c.port-item.is in
-    c.in_ok-push.ensures ∙ ap (λ ns. ns ++ c.port-item.result.name ∷ []) c.loop-port.invariant
+    c.in_ok-push.ensures.added ∙ ap (λ ns. ns ++ c.port-item.result.name ∷ []) c.loop-port.invariant
     ∙ sym (one_named (names_of c.args.ports.now) c.loop-port.port-index c.port-item.result.name at.0 at.1)

@@ -13,5 +13,5 @@ push-requires c =
 pub loop-drive-preserved : goal.loop-drive-preserved
 loop-drive-preserved c =
     let at = target_name c.args.drives.now c.loop-drive.drive-index c.drive-item.result c.loop-drive-test.true c.drive-item.is in
-    c.in_ok-push.ensures ∙ ap (λ ns. ns ++ c.drive-item.result.target ∷ []) c.loop-drive.invariant
+    c.in_ok-push.ensures.added ∙ ap (λ ns. ns ++ c.drive-item.result.target ∷ []) c.loop-drive.invariant
     ∙ sym (one_named (targets_of c.args.drives.now) c.loop-drive.drive-index c.drive-item.result.target at.0 at.1)
