@@ -1,12 +1,14 @@
 //! What becomes of texts: the first fault of each, or that its equations are proper.
 
-ghost use Rattle.std.specs.Prelude.{◌<◌, ◌≤◌, length, unsigned_abs, IfOk, OnOk};
+ghost use Rattle.std.specs.Prelude.{◌<◌, length};
 ghost use Rattle.av_names.specs.Texts.{AreSmall};
 
 mod schedules;
 mod twice;
 
-use av_base::{Memory, Name, Place, Point, Width};
+use crate::systems::size_list;
+use crate::words::{push_both, push_named, push_place, push_point, push_words};
+use av_base::{Name, Point, Width};
 use av_compile::{Refusal, checked};
 use av_flat::Quantity;
 use av_names::Size;
@@ -163,36 +165,6 @@ const DOMAINS: &[Row] = &[
     ),
 ];
 
-fn push_named(out: &mut String, kind: &str, name: &Name) -> Result<(), Fail> {
-    write!(out, "{kind} {}", name.as_str())?;
-    Ok(())
-}
-
-fn push_place(out: &mut String, kind: &str, place: Place) -> Result<(), Fail> {
-    write!(out, "{kind} {}:{}", place.line, place.column)?;
-    Ok(())
-}
-
-fn push_both(out: &mut String, kind: &str, name: &Name, place: Place) -> Result<(), Fail> {
-    push_named(out, kind, name)?;
-    push_place(out, "", place)
-}
-
-fn push_words(out: &mut String, words: &str) -> Result<(), Fail> {
-    out.push_str(words)?;
-    Ok(())
-}
-
-fn push_point(out: &mut String, kind: &str, name: &Name, point: &Point) -> Result<(), Fail> {
-    push_named(out, kind, name)?;
-    let mut before = " (";
-    for entry in point.as_slice() {
-        write!(out, "{before}{entry}")?;
-        before = ",";
-    }
-    push_words(out, ")")
-}
-
 fn kind_of(quantity: Quantity) -> &'static str {
     match quantity {
         Quantity::Variables => "variables",
@@ -270,30 +242,6 @@ fn push_refusal(out: &mut String, refusal: &Refusal) -> Result<(), Fail> {
         Refusal::Operators(number) => push_number(out, "operators", *number),
         Refusal::Memory => push_words(out, "memory"),
     }
-}
-
-// Puts a size behind others, where it is small as they are.
-fn push_small(sizes: &mut Vec<Size>, name: Name, value: i64) -> Result<(), Memory>
-    requires before { AreSmall sizes.old.items }
-    requires small { unsigned_abs value ≤ 1048576 }
-    ensures { OnOk result (AreSmall sizes.new.items) }
-{
-    sizes.push(Size { name, value })?;
-    Ok(())
-}
-
-/// The sizes, of which those above 1048576 are left out.
-fn size_list(alloc: Global, words: &[(&str, i64)]) -> Result<Vec<Size>, Memory>
-    ensures { IfOk result (λ sizes. AreSmall sizes.items) }
-{
-    let mut sizes = Vec::new(alloc);
-    for word in words {
-        let value = word.1;
-        if value.unsigned_abs() <= 1048576 {
-            push_small(&mut sizes, Name::new(alloc, word.0)?, value)?;
-        }
-    }
-    Ok(sizes)
 }
 
 /// What becomes of the text with the sizes.

@@ -14,3 +14,7 @@ mod parse;
 mod sched;
 #[cfg(test)]
 mod serial;
+#[cfg(test)]
+mod systems;
+#[cfg(test)]
+mod words;

@@ -1,7 +1,9 @@
-ghost use Rattle.std.specs.Prelude.{◌<◌, ◌≤◌, length, unsigned_abs, IfOk, OnOk};
+ghost use Rattle.std.specs.Prelude.{◌<◌, length};
 ghost use Rattle.av_names.specs.Texts.{AreSmall};
 
-use av_base::{Memory, Name, Place, Width};
+use crate::systems::size_list;
+use crate::words::{push_both, push_named, push_place};
+use av_base::Width;
 use av_flat::{Flat, Quantity};
 use av_lex::{LexFault, lex};
 use av_names::{NameFault, Size, resolve};
@@ -247,21 +249,6 @@ const LIMITS: &[Row] = &[
     ("Y = A[2000000] + A[1025i];", N2, "limit coefficient 1025"),
 ];
 
-fn push_named(out: &mut String, kind: &str, name: &Name) -> Result<(), Fail> {
-    write!(out, "{kind} {}", name.as_str())?;
-    Ok(())
-}
-
-fn push_place(out: &mut String, kind: &str, place: Place) -> Result<(), Fail> {
-    write!(out, "{kind} {}:{}", place.line, place.column)?;
-    Ok(())
-}
-
-fn push_both(out: &mut String, kind: &str, name: &Name, place: Place) -> Result<(), Fail> {
-    push_named(out, kind, name)?;
-    push_place(out, "", place)
-}
-
 fn kind_of(quantity: Quantity) -> &'static str {
     match quantity {
         Quantity::Variables => "variables",
@@ -300,30 +287,6 @@ fn push_fault(out: &mut String, fault: &NameFault) -> Result<(), Fail> {
             Ok(())
         }
     }
-}
-
-// Puts a size behind others, where it is small as they are.
-fn push_small(sizes: &mut Vec<Size>, name: Name, value: i64) -> Result<(), Memory>
-    requires before { AreSmall sizes.old.items }
-    requires small { unsigned_abs value ≤ 1048576 }
-    ensures { OnOk result (AreSmall sizes.new.items) }
-{
-    sizes.push(Size { name, value })?;
-    Ok(())
-}
-
-/// The sizes, of which those above 1048576 are left out.
-fn size_list(alloc: Global, words: &[(&str, i64)]) -> Result<Vec<Size>, Memory>
-    ensures { IfOk result (λ sizes. AreSmall sizes.items) }
-{
-    let mut sizes = Vec::new(alloc);
-    for word in words {
-        let value = word.1;
-        if value.unsigned_abs() <= 1048576 {
-            push_small(&mut sizes, Name::new(alloc, word.0)?, value)?;
-        }
-    }
-    Ok(sizes)
 }
 
 fn push_lex_fault(out: &mut String, fault: &LexFault) -> Result<(), Fail> {

@@ -1,40 +1,11 @@
 //! How many pieces the variables of a text keep, or why it has no normal form.
 
-ghost use Rattle.std.specs.Prelude.{◌<◌, ◌≤◌, length, IfOk};
-ghost use Rattle.av_flat.specs.Trees.{view_system};
-ghost use Rattle.av_flat.specs.WellFormed.{IsWellFormed};
-
-use av_base::Width;
-use av_flat::{Flat, Pass, Quantity};
-use av_lex::lex;
-use av_names::resolve;
+use crate::systems::system;
+use av_flat::{Pass, Quantity};
 use av_normal::{Normal, NormalFault};
-use av_parse::parse;
 use std::alloc::Global;
 use std::fmt::Write;
 use std::test::Fail;
-
-/// The system of a text without sizes, in words of 8 bits.
-fn system(alloc: Global, text: &str) -> Result<Flat, Fail>
-    ensures { IfOk result (λ flat. IsWellFormed (view_system flat)) }
-{
-    if text.len() > 100_000 {
-        return Err(Fail::new("long"));
-    }
-    let Ok(tokens) = lex(alloc, text.as_bytes()) else {
-        return Err(Fail::new("tokens"));
-    };
-    let Ok(system) = parse(alloc, tokens.as_slice()) else {
-        return Err(Fail::new("system"));
-    };
-    let Some(width) = Width::new(8) else {
-        return Err(Fail::new("width"));
-    };
-    match resolve(alloc, &system, &[], width) {
-        Ok(flat) => Ok(flat),
-        Err(_) => Err(Fail::new("flat")),
-    }
-}
 
 fn push_fault(out: &mut String, fault: &NormalFault) -> Result<(), Fail> {
     match fault {
@@ -53,7 +24,7 @@ fn push_fault(out: &mut String, fault: &NormalFault) -> Result<(), Fail> {
 
 /// Each variable with the number of its kept pieces, or the fault.
 fn answer(alloc: Global, text: &str) -> Result<String, Fail> {
-    let flat = system(alloc, text)?;
+    let flat = system(alloc, text, &[])?;
     let mut out = String::new(alloc);
     match Normal.run(alloc, &flat) {
         Ok(normal) => {

@@ -1,11 +1,10 @@
 //! What becomes of texts: the lines of their first schedules, and least offsets.
 
-ghost use Rattle.std.specs.Prelude.{◌<◌, length, IfOk};
+ghost use Rattle.std.specs.Prelude.{IfOk};
 ghost use Rattle.av_flat.specs.Trees.{view_system};
 ghost use Rattle.av_flat.specs.WellFormed.{IsWellFormed};
 ghost use Rattle.av_flat.specs.Chained.{IsChained};
 ghost use Rattle.av_flat.specs.Proper.{IsProper};
-ghost use Rattle.av_names.specs.Texts.{AreSmall};
 
 mod limits;
 mod listed;
@@ -13,51 +12,16 @@ mod placed;
 mod rows;
 mod texts;
 
-use av_base::{List, Memory, Name, Point, Width};
+use crate::systems::system_with;
+use av_base::Point;
 use av_check::check;
 use av_depend::edges;
 use av_flat::{Flat, Pass, Reach, Timed};
-use av_lex::lex;
-use av_names::{Size, resolve};
 use av_normal::Normal;
-use av_parse::parse;
 use av_sched::{SchedFault, search};
 use av_serial::Serial;
 use std::alloc::Global;
 use std::test::Fail;
-
-/// The size N, where it is above 0 and small.
-fn sizes_of(alloc: Global, value: i64) -> Result<List<Size>, Memory>
-    ensures { IfOk result (λ sizes. AreSmall sizes) }
-{
-    let mut sizes = List::new(alloc);
-    if 0 < value && value <= 1_048_576 {
-        let name = Name::new(alloc, "N")?;
-        sizes.push(Size { name, value })?;
-    }
-    Ok(sizes)
-}
-
-/// The system of a text, in words of 8 bits.
-fn flat_of(alloc: Global, text: &str, sizes: &[Size]) -> Result<Flat, Fail>
-    requires text { length text.now < 4294967295 }
-    requires sizes { AreSmall sizes.now }
-    ensures { IfOk result (λ flat. IsWellFormed (view_system flat)) }
-{
-    let Ok(tokens) = lex(alloc, text.as_bytes()) else {
-        return Err(Fail::new("tokens"));
-    };
-    let Ok(system) = parse(alloc, tokens.as_slice()) else {
-        return Err(Fail::new("system"));
-    };
-    let Some(width) = Width::new(8) else {
-        return Err(Fail::new("width"));
-    };
-    match resolve(alloc, &system, sizes, width) {
-        Ok(flat) => Ok(flat),
-        Err(_) => Err(Fail::new("flat")),
-    }
-}
 
 /// The serial form of a proper system.
 fn serial_of(alloc: Global, flat: &Flat) -> Result<Flat, Fail>
@@ -82,11 +46,7 @@ fn chained(alloc: Global, text: &str, n: i64) -> Result<Flat, Fail>
     ensures chained { IfOk result (λ to. IsChained (view_system to)) }
     ensures proper { IfOk result (λ to. IsProper (view_system to)) }
 {
-    let sizes = sizes_of(alloc, n)?;
-    if text.len() > 100_000 {
-        return Err(Fail::new("long"));
-    }
-    let flat = flat_of(alloc, text, sizes.as_slice())?;
+    let flat = system_with(alloc, text, n)?;
     serial_of(alloc, &flat)
 }
 

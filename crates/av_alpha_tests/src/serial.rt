@@ -1,73 +1,7 @@
 //! What becomes of texts: the equations of a serial form at some points, the points of its chains, and faults.
 
-ghost use Rattle.std.specs.Prelude.{◌<◌, ◌≤◌, length, unsigned_abs, IfOk, OnOk};
-ghost use Rattle.av_flat.specs.Trees.{view_system};
-ghost use Rattle.av_flat.specs.WellFormed.{IsWellFormed};
-ghost use Rattle.av_names.specs.Texts.{AreSmall};
-
 mod faults;
 mod forms;
 mod passes;
 mod show;
 mod texts;
-
-use av_base::{Memory, Name, Width};
-use av_flat::Flat;
-use av_lex::lex;
-use av_names::{Size, resolve};
-use av_parse::parse;
-use std::alloc::Global;
-use std::test::Fail;
-
-// Puts a size behind others, where it is small as they are.
-fn push_small(sizes: &mut Vec<Size>, name: Name, value: i64) -> Result<(), Memory>
-    requires before { AreSmall sizes.old.items }
-    requires small { unsigned_abs value ≤ 1048576 }
-    ensures { OnOk result (AreSmall sizes.new.items) }
-{
-    sizes.push(Size { name, value })?;
-    Ok(())
-}
-
-/// The size N, where it is not 0 and small.
-fn sizes_of(alloc: Global, value: i64) -> Result<Vec<Size>, Memory>
-    ensures { IfOk result (λ sizes. AreSmall sizes.items) }
-{
-    let mut sizes = Vec::new(alloc);
-    if value != 0 && value.unsigned_abs() <= 1_048_576 {
-        push_small(&mut sizes, Name::new(alloc, "N")?, value)?;
-    }
-    Ok(sizes)
-}
-
-/// The system of a text, in words of 8 bits.
-fn flat_of(alloc: Global, text: &str, sizes: &[Size]) -> Result<Flat, Fail>
-    requires text { length text.now < 4294967295 }
-    requires sizes { AreSmall sizes.now }
-    ensures { IfOk result (λ flat. IsWellFormed (view_system flat)) }
-{
-    let Ok(tokens) = lex(alloc, text.as_bytes()) else {
-        return Err(Fail::new("tokens"));
-    };
-    let Ok(system) = parse(alloc, tokens.as_slice()) else {
-        return Err(Fail::new("system"));
-    };
-    let Some(width) = Width::new(8) else {
-        return Err(Fail::new("width"));
-    };
-    match resolve(alloc, &system, sizes, width) {
-        Ok(flat) => Ok(flat),
-        Err(_) => Err(Fail::new("flat")),
-    }
-}
-
-/// The system of a short text with N, where that is not 0.
-fn system(alloc: Global, text: &str, n: i64) -> Result<Flat, Fail>
-    ensures { IfOk result (λ flat. IsWellFormed (view_system flat)) }
-{
-    let sizes = sizes_of(alloc, n)?;
-    if text.len() > 100_000 {
-        return Err(Fail::new("long"));
-    }
-    flat_of(alloc, text, sizes.as_slice())
-}

@@ -4,9 +4,10 @@ ghost use Rattle.std.specs.Prelude.{◌<◌, length};
 ghost use Rattle.av_names.specs.Texts.{AreSmall};
 
 use super::{
-    CONVOLUTION, FORWARD, MATRIX_PRODUCT, MATRIX_VECTOR, N4, STEPS, SUMS, push_point, push_refusal,
-    size_list,
+    CONVOLUTION, FORWARD, MATRIX_PRODUCT, MATRIX_VECTOR, N4, STEPS, SUMS, push_refusal,
 };
+use crate::systems::size_list;
+use crate::words::push_point;
 use av_base::Width;
 use av_compile::scheduled;
 use av_flat::{Reach, Timed};

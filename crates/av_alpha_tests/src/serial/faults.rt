@@ -1,6 +1,6 @@
 //! Faults of reductions, each the first one.
 
-use super::system;
+use crate::systems::system_with;
 use super::texts::{
     ENDLESS, ENDLESS_BEFORE_STEEP, LARGE_COORDINATE, LARGER_BOX, LARGEST_BOX, STEEP,
 };
@@ -26,7 +26,7 @@ fn push_fault(out: &mut String, fault: &SerialFault) -> Result<(), Fail> {
 
 /// How many chains the text has, or why it has no serial form.
 fn answer(alloc: Global, text: &str) -> Result<String, Fail> {
-    let flat = system(alloc, text, 0)?;
+    let flat = system_with(alloc, text, 0)?;
     let Ok(normal) = Normal.run(alloc, &flat) else {
         return Err(Fail::new("normal"));
     };

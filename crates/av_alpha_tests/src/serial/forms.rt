@@ -1,7 +1,7 @@
 //! Serial forms, point by point.
 
+use crate::systems::system_with;
 use super::show::{push_equation, push_points, push_variables};
-use super::system;
 use super::texts::{
     CONVOLUTION, FORWARD, GAP, LARGEST_BOX, LEAST, NESTED, PRODUCT, SEVERAL, SUMS, TIES,
 };
@@ -16,7 +16,7 @@ use std::test::Fail;
 type Row = (&'static str, &'static [i64], &'static str);
 
 fn serial_form(alloc: Global, text: &str, n: i64) -> Result<Flat, Fail> {
-    let flat = system(alloc, text, n)?;
+    let flat = system_with(alloc, text, n)?;
     let Ok(normal) = Normal.run(alloc, &flat) else {
         return Err(Fail::new("normal"));
     };

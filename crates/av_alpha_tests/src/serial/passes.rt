@@ -1,7 +1,7 @@
 //! The normal form and then the serial form, as one pass.
 
+use crate::systems::system_with;
 use super::show::push_variables;
-use super::system;
 use super::texts::{PRODUCT, STEEP};
 use av_flat::{Pass, Then, ThenFault};
 use av_normal::{Normal, NormalFault};
@@ -22,7 +22,7 @@ fn both() -> Then<Normal, Serial> {
 #[test]
 fn one_pass_after_the_other(rt: HostRuntime) -> Result<(), Fail> {
     let alloc = rt.alloc();
-    let flat = system(alloc, PRODUCT, 1)?;
+    let flat = system_with(alloc, PRODUCT, 1)?;
     let serial = both().run(alloc, &flat).ok().ok_or("serial")?;
     let mut out = String::new(alloc);
     push_variables(&mut out, serial.vars.as_slice())?;
@@ -31,7 +31,7 @@ fn one_pass_after_the_other(rt: HostRuntime) -> Result<(), Fail> {
 }
 
 fn is_of_first(alloc: Global, text: &str) -> Result<bool, Fail> {
-    let flat = system(alloc, text, 0)?;
+    let flat = system_with(alloc, text, 0)?;
     match both().run(alloc, &flat) {
         Err(ThenFault::First(NormalFault::Unbounded(name))) => Ok(name.as_str() == "X"),
         _ => Ok(false),
@@ -39,7 +39,7 @@ fn is_of_first(alloc: Global, text: &str) -> Result<bool, Fail> {
 }
 
 fn is_of_second(alloc: Global, text: &str) -> Result<bool, Fail> {
-    let flat = system(alloc, text, 0)?;
+    let flat = system_with(alloc, text, 0)?;
     match both().run(alloc, &flat) {
         Err(ThenFault::Second(SerialFault::NonUnit(name))) => Ok(name.as_str() == "Y"),
         _ => Ok(false),
