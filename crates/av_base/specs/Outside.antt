@@ -2,6 +2,11 @@
 -- sink those that it holds; each counts its faults, up to the last number of 64 bits.
 use Rattle.std.specs.Prelude.{◌≡◌, ◌⊎◌, ℕ, ◌-◌, ◌^◌, ◌<◌, List, [], ◌++◌, Option, Some, None, length, take}
 
+-- what is seen of a sink: the bytes that it holds, where it tells them, and how often it has failed
+pub record SinkState : Type 0 where
+  pub held : Option (List ℕ)
+  pub faults : ℕ
+
 -- these bytes came off the front of what was left, where that is told
 abbrev pub Takes : Option (List ℕ) → Option (List ℕ) → List ℕ → Type 0
 Takes (Some old) (Some new) bytes = old ≡ bytes ++ new

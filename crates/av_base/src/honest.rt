@@ -57,9 +57,7 @@ impl HonestSink {
 }
 
 impl Sink for HonestSink {
-    ghost held = { λ s. None };
-
-    ghost faults = { λ s. 0 };
+    ghost state = { λ s. record { held = None; faults = 0 } };
 
     fn write(&mut self, piece: &[u8]) -> Result<usize, Failed>
         requires { 0 < length piece.now }

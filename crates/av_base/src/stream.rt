@@ -141,9 +141,7 @@ impl MemSink {
 }
 
 impl Sink for MemSink {
-    ghost held = { λ s. Some s.held };
-
-    ghost faults = { λ s. s.faults };
+    ghost state = { λ s. record { held = Some s.held; faults = s.faults } };
 
     fn write(&mut self, piece: &[u8]) -> Result<usize, Failed>
         requires { 0 < length piece.now }

@@ -2,7 +2,7 @@
 use Rattle.std.proofs.Common.{◌≡◌, ◌≢◌, ℕ, ◌<◌, ◌≤◌, true, false, List, ◌∷◌, ◌++◌, length, length-append, codes, Option, Some, None, refl, sym, ◌∙◌, ap, subst, inl, inr, arith, true≢false}
 use Rattle.std.specs.Prelude.{IfSome, slice_index_or}
 use Rattle.std.proofs.lemmas.List.{append-nil}
-use Rattle.av_base.specs.Outside.{Takes, TakesMore, IsAtEnd, HasRisen}
+use Rattle.av_base.specs.Outside.{SinkState, Takes, TakesMore, IsAtEnd, HasRisen}
 use Rattle.av_net.specs.declared.design.Design.{Design}
 use Rattle.av_net.specs.Designs.{Spells}
 use Rattle.av_net.specs.Names.{names_of, AreDistinct}
@@ -286,9 +286,9 @@ exclusive (Demo width reach k) words bytes out are within g refusal = exclude_de
 -- ---- what was put
 
 -- the status wanted: all of it was added
-pub whole : (wanted : Status) (words : List (List ℕ)) (left left' : Option (List ℕ)) {status : Status} {held held' : Option (List ℕ)} {faults faults' : ℕ} {out : List ℕ}
-    → Writes wanted words left left' out → IsPut held held' faults faults' out wanted status → wanted ≢ WriteFault → status ≡ wanted
-    → AddsWhole wanted words left left' held held'
+pub whole : (wanted : Status) (words : List (List ℕ)) (left left' : Option (List ℕ)) {status : Status} {sink sink' : SinkState} {out : List ℕ}
+    → Writes wanted words left left' out → IsPut sink sink' out wanted status → wanted ≢ WriteFault → status ≡ wanted
+    → AddsWhole wanted words left left' sink.held sink'.held
 whole wanted words left left' {out = out} writes put no_fault e =
     elim put.ends [
       | inl all ↦ (out, writes, all.1)
@@ -296,9 +296,9 @@ whole wanted words left left' {out = out} writes put no_fault e =
     ]
 
 -- a fault: a prefix of it was added
-pub front : (wanted : Status) (words : List (List ℕ)) (left left' : Option (List ℕ)) {status : Status} {held held' : Option (List ℕ)} {faults faults' : ℕ} {out : List ℕ}
-    → Writes wanted words left left' out → IsPut held held' faults faults' out wanted status → wanted ≢ WriteFault → status ≡ WriteFault
-    → HasRisen faults faults' × AddsFront words left left' held held'
+pub front : (wanted : Status) (words : List (List ℕ)) (left left' : Option (List ℕ)) {status : Status} {sink sink' : SinkState} {out : List ℕ}
+    → Writes wanted words left left' out → IsPut sink sink' out wanted status → wanted ≢ WriteFault → status ≡ WriteFault
+    → HasRisen sink.faults sink'.faults × AddsFront words left left' sink.held sink'.held
 front wanted words left left' {out = out} writes put no_fault e =
     elim put.ends [
       | inl all ↦ absurd (no_fault (sym all.0 ∙ e))
@@ -306,13 +306,13 @@ front wanted words left left' {out = out} writes put no_fault e =
     ]
 
 -- with no fault the status is the one wanted
-pub as_wanted : {wanted status : Status} {held held' : Option (List ℕ)} {faults faults' : ℕ} {out : List ℕ}
-    → IsPut held held' faults faults' out wanted status → (HasRisen faults faults' → ⊥) → status ≡ wanted
+pub as_wanted : {wanted status : Status} {sink sink' : SinkState} {out : List ℕ}
+    → IsPut sink sink' out wanted status → (HasRisen sink.faults sink'.faults → ⊥) → status ≡ wanted
 as_wanted put none = elim put.ends [ inl all ↦ all.0 | inr some ↦ absurd (none some.1) ]
 
 -- the status is the one wanted, or that of a fault
-no_other : {wanted status : Status} {held held' : Option (List ℕ)} {faults faults' : ℕ} {out : List ℕ} (other : Status)
-    → IsPut held held' faults faults' out wanted status → other ≢ wanted → other ≢ WriteFault → status ≡ other → ⊥
+no_other : {wanted status : Status} {sink sink' : SinkState} {out : List ℕ} (other : Status)
+    → IsPut sink sink' out wanted status → other ≢ wanted → other ≢ WriteFault → status ≡ other → ⊥
 no_other other put a b e = elim put.ends [ inl all ↦ a (sym e ∙ all.0) | inr some ↦ b (sym e ∙ some.0) ]
 
 -- ---- what was taken
@@ -398,56 +398,56 @@ complete_memory words left status read is = record {
 
 -- ---- the answer of a command to the bytes of the source
 
-pub by_command : (command other : Command) (words : List (List ℕ)) (bytes : List ℕ) {held held' : Option (List ℕ)} {faults faults' : ℕ} {status : Status} → command ≡ other
-    → IsAnswered (Refuses other words bytes) (Gives other words bytes) held held' faults faults' status → IsAnswered (Refuses command words bytes) (Gives command words bytes) held held' faults faults' status
-by_command command other words bytes {held} {held'} {faults} {faults'} {status} e answered =
-    subst (λ x. IsAnswered (Refuses x words bytes) (Gives x words bytes) held held' faults faults' status) (sym e) answered
+pub by_command : (command other : Command) (words : List (List ℕ)) (bytes : List ℕ) {sink sink' : SinkState} {status : Status} → command ≡ other
+    → IsAnswered (Refuses other words bytes) (Gives other words bytes) sink sink' status → IsAnswered (Refuses command words bytes) (Gives command words bytes) sink sink' status
+by_command command other words bytes {sink} {sink'} {status} e answered =
+    subst (λ x. IsAnswered (Refuses x words bytes) (Gives x words bytes) sink sink' status) (sym e) answered
 
-pub answered_refused : (command : Command) (words : List (List ℕ)) (left left' : Option (List ℕ)) (bytes : List ℕ) {held held' : Option (List ℕ)} {faults faults' : ℕ} {status : Status}
+pub answered_refused : (command : Command) (words : List (List ℕ)) (left left' : Option (List ℕ)) (bytes : List ℕ) {sink sink' : SinkState} {status : Status}
     → Are command words → takes_input command ≡ true → Takes left left' bytes → IsAtEnd left' → length bytes ≤ 1048576
-    → IsAnswered (Refuses command words bytes) (Gives command words bytes) held held' faults faults' status → status ≡ Refused → AddsWhole Refused words left left' held held'
+    → IsAnswered (Refuses command words bytes) (Gives command words bytes) sink sink' status → status ≡ Refused → AddsWhole Refused words left left' sink.held sink'.held
 answered_refused command words left left' bytes are input takes end within (refused {reason} r put) e =
     whole Refused words left left' (writes_refusal command words left left' bytes reason are input takes end within r) put (λ x. cc) e
 answered_refused command words left left' bytes are input takes end within (given g put) e = absurd (no_other Refused put (λ x. cc) (λ x. cc) e)
 answered_refused command words left left' bytes are input takes end within (no_memory a b) e = absurd cc
 
-pub answered_done : (command : Command) (words : List (List ℕ)) (left left' : Option (List ℕ)) (bytes : List ℕ) {held held' : Option (List ℕ)} {faults faults' : ℕ} {status : Status}
+pub answered_done : (command : Command) (words : List (List ℕ)) (left left' : Option (List ℕ)) (bytes : List ℕ) {sink sink' : SinkState} {status : Status}
     → Are command words → takes_input command ≡ true → Takes left left' bytes → IsAtEnd left' → length bytes ≤ 1048576
-    → IsAnswered (Refuses command words bytes) (Gives command words bytes) held held' faults faults' status → status ≡ Done → AddsWhole Done words left left' held held'
+    → IsAnswered (Refuses command words bytes) (Gives command words bytes) sink sink' status → status ≡ Done → AddsWhole Done words left left' sink.held sink'.held
 answered_done command words left left' bytes are input takes end within (refused r put) e = absurd (no_other Done put (λ x. cc) (λ x. cc) e)
 answered_done command words left left' bytes are input takes end within (given {out} g put) e =
     whole Done words left left' (writes_output command words left left' bytes out are input takes end within g) put (λ x. cc) e
 answered_done command words left left' bytes are input takes end within (no_memory a b) e = absurd cc
 
-pub answered_fault : (command : Command) (words : List (List ℕ)) (left left' : Option (List ℕ)) (bytes : List ℕ) {held held' : Option (List ℕ)} {faults faults' : ℕ} {status : Status}
+pub answered_fault : (command : Command) (words : List (List ℕ)) (left left' : Option (List ℕ)) (bytes : List ℕ) {sink sink' : SinkState} {status : Status}
     → Are command words → takes_input command ≡ true → Takes left left' bytes → IsAtEnd left' → length bytes ≤ 1048576
-    → IsAnswered (Refuses command words bytes) (Gives command words bytes) held held' faults faults' status → status ≡ WriteFault
-    → HasRisen faults faults' × AddsFront words left left' held held'
+    → IsAnswered (Refuses command words bytes) (Gives command words bytes) sink sink' status → status ≡ WriteFault
+    → HasRisen sink.faults sink'.faults × AddsFront words left left' sink.held sink'.held
 answered_fault command words left left' bytes are input takes end within (refused {reason} r put) e =
     front Refused words left left' (writes_refusal command words left left' bytes reason are input takes end within r) put (λ x. cc) e
 answered_fault command words left left' bytes are input takes end within (given {out} g put) e =
     front Done words left left' (writes_output command words left left' bytes out are input takes end within g) put (λ x. cc) e
 answered_fault command words left left' bytes are input takes end within (no_memory a b) e = absurd cc
 
-pub answered_memory : {R G : List ℕ → Type 0} {held held' : Option (List ℕ)} {faults faults' : ℕ} {status : Status} → IsAnswered R G held held' faults faults' status → status ≡ Memory → held' ≡ held
+pub answered_memory : {R G : List ℕ → Type 0} {sink sink' : SinkState} {status : Status} → IsAnswered R G sink sink' status → status ≡ Memory → sink'.held ≡ sink.held
 answered_memory (refused r put) e = absurd (no_other Memory put (λ x. cc) (λ x. cc) e)
 answered_memory (given g put) e = absurd (no_other Memory put (λ x. cc) (λ x. cc) e)
 answered_memory (no_memory a b) e = b
 
 -- no answer is the usage line or a fault of the source
-pub never_words : {R G : List ℕ → Type 0} {held held' : Option (List ℕ)} {faults faults' : ℕ} {status : Status} → IsAnswered R G held held' faults faults' status → status ≡ Words → ⊥
+pub never_words : {R G : List ℕ → Type 0} {sink sink' : SinkState} {status : Status} → IsAnswered R G sink sink' status → status ≡ Words → ⊥
 never_words (refused r put) e = no_other Words put (λ x. cc) (λ x. cc) e
 never_words (given g put) e = no_other Words put (λ x. cc) (λ x. cc) e
 never_words (no_memory a b) e = cc
 
-pub never_read_fault : {R G : List ℕ → Type 0} {held held' : Option (List ℕ)} {faults faults' : ℕ} {status : Status} → IsAnswered R G held held' faults faults' status → status ≡ ReadFault → ⊥
+pub never_read_fault : {R G : List ℕ → Type 0} {sink sink' : SinkState} {status : Status} → IsAnswered R G sink sink' status → status ≡ ReadFault → ⊥
 never_read_fault (refused r put) e = no_other ReadFault put (λ x. cc) (λ x. cc) e
 never_read_fault (given g put) e = no_other ReadFault put (λ x. cc) (λ x. cc) e
 never_read_fault (no_memory a b) e = cc
 
-pub answered_complete : (command : Command) (words : List (List ℕ)) (left left' : Option (List ℕ)) (bytes : List ℕ) {held held' : Option (List ℕ)} {faults faults' : ℕ} {status : Status}
+pub answered_complete : (command : Command) (words : List (List ℕ)) (left left' : Option (List ℕ)) (bytes : List ℕ) {sink sink' : SinkState} {status : Status}
     → Are command words → takes_input command ≡ true → Takes left left' bytes → IsAtEnd left' → length bytes ≤ 1048576
-    → IsAnswered (Refuses command words bytes) (Gives command words bytes) held held' faults faults' status → (HasRisen faults faults' → ⊥) → IsComplete words left status
+    → IsAnswered (Refuses command words bytes) (Gives command words bytes) sink sink' status → (HasRisen sink.faults sink'.faults → ⊥) → IsComplete words left status
 answered_complete command words left left' bytes {status = status} are input takes end within (refused {reason} r put) none =
     complete_refused words left status (input_of command words are input)
     (all_taken left left' bytes (HasRefusal words) takes end (reason, refusal_of command words bytes reason are within r)) (as_wanted put none)
@@ -489,23 +489,23 @@ demo_unrefused (Emit width reach) words bytes reason t r = true≢false t
 demo_unrefused Sim words bytes reason t r = true≢false t
 demo_unrefused (Demo width reach k) words bytes reason t r = r
 
-module _ (command : Command) (words : List (List ℕ)) (left : Option (List ℕ)) (bytes : List ℕ) {held held' : Option (List ℕ)} {faults faults' : ℕ} {status : Status} (are : Are command words) (t : takes_input command ≡ false) where
-  pub demo_refused : IsAnswered (Refuses command words bytes) (Gives command words bytes) held held' faults faults' status → status ≡ Refused → AddsWhole Refused words left left held held'
+module _ (command : Command) (words : List (List ℕ)) (left : Option (List ℕ)) (bytes : List ℕ) {sink sink' : SinkState} {status : Status} (are : Are command words) (t : takes_input command ≡ false) where
+  pub demo_refused : IsAnswered (Refuses command words bytes) (Gives command words bytes) sink sink' status → status ≡ Refused → AddsWhole Refused words left left sink.held sink'.held
   demo_refused (refused {reason} r put) e = absurd (demo_unrefused command words bytes reason t r)
   demo_refused (given g put) e = absurd (no_other Refused put (λ x. cc) (λ x. cc) e)
   demo_refused (no_memory a b) e = absurd cc
 
-  pub demo_done : IsAnswered (Refuses command words bytes) (Gives command words bytes) held held' faults faults' status → status ≡ Done → AddsWhole Done words left left held held'
+  pub demo_done : IsAnswered (Refuses command words bytes) (Gives command words bytes) sink sink' status → status ≡ Done → AddsWhole Done words left left sink.held sink'.held
   demo_done (refused {reason} r put) e = absurd (demo_unrefused command words bytes reason t r)
   demo_done (given {out} g put) e = whole Done words left left (demo_writes command words left bytes out are t g) put (λ x. cc) e
   demo_done (no_memory a b) e = absurd cc
 
-  pub demo_fault : IsAnswered (Refuses command words bytes) (Gives command words bytes) held held' faults faults' status → status ≡ WriteFault → HasRisen faults faults' × AddsFront words left left held held'
+  pub demo_fault : IsAnswered (Refuses command words bytes) (Gives command words bytes) sink sink' status → status ≡ WriteFault → HasRisen sink.faults sink'.faults × AddsFront words left left sink.held sink'.held
   demo_fault (refused {reason} r put) e = absurd (demo_unrefused command words bytes reason t r)
   demo_fault (given {out} g put) e = front Done words left left (demo_writes command words left bytes out are t g) put (λ x. cc) e
   demo_fault (no_memory a b) e = absurd cc
 
-  pub demo_complete : IsAnswered (Refuses command words bytes) (Gives command words bytes) held held' faults faults' status → (HasRisen faults faults' → ⊥) → IsComplete words left status
+  pub demo_complete : IsAnswered (Refuses command words bytes) (Gives command words bytes) sink sink' status → (HasRisen sink.faults sink'.faults → ⊥) → IsComplete words left status
   demo_complete (refused {reason} r put) none = absurd (demo_unrefused command words bytes reason t r)
   demo_complete (given {out} g put) none =
       complete_done words left status (read_of command words are) (if_some_all left (λ bytes. HasRefusal words bytes → ⊥) (λ bytes. exclude_demo words bytes (is_demo command words are t))) (as_wanted put none)

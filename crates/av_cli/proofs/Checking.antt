@@ -1,6 +1,7 @@
 -- How the answers of `check` follow from what its steps did.
 use Rattle.std.proofs.Common.{◌≡◌, ◌≢◌, ◌⊎◌, ℕ, List, Option, refl, sym, ap, subst, ◌∙◌, inl, inr}
 use Rattle.std.specs.Prelude.{codes}
+use Rattle.av_base.specs.Outside.{SinkState}
 use Rattle.av_flat.specs.Trees.{FlatSystem}
 use Rattle.av_names.specs.declared.size.Size.{Size}
 use Rattle.av_compile.specs.declared.refusal.Refusal.{Refusal}
@@ -26,27 +27,27 @@ exclusive_check sizes bits bytes reason out r g = exclusive sizes bits bytes out
 
 -- ---- answers
 
-pub check_refused : (words : List (List ℕ)) (sizes : List Size) (bits : ℕ) (bytes : List ℕ) (f : Refusal) {held held' : Option (List ℕ)} {faults faults' : ℕ} {status : Status}
-    → GiveSizes words sizes → (f ≢ refusal.Memory → IsRefused bytes sizes bits f) → (f ≡ refusal.Memory → (status ≡ Memory) × (held' ≡ held))
-    → ((f ≡ refusal.Memory → ⊥) → IsPut held held' faults faults' (refusal_line (system_reason f)) Refused status)
-    → IsAnswered (RefusesWith words bits bytes) (GivesWith words bits bytes) held held' faults faults' status
+pub check_refused : (words : List (List ℕ)) (sizes : List Size) (bits : ℕ) (bytes : List ℕ) (f : Refusal) {sink sink' : SinkState} {status : Status}
+    → GiveSizes words sizes → (f ≢ refusal.Memory → IsRefused bytes sizes bits f) → (f ≡ refusal.Memory → (status ≡ Memory) × (sink'.held ≡ sink.held))
+    → ((f ≡ refusal.Memory → ⊥) → IsPut sink sink' (refusal_line (system_reason f)) Refused status)
+    → IsAnswered (RefusesWith words bits bytes) (GivesWith words bits bytes) sink sink' status
 check_refused words sizes bits bytes f give first none put =
     elim (memory_or_not f) [
       | inl memory ↦ (let (a, b) = none memory in no_memory a b)
       | inr some ↦ refused (record { sizes = sizes; give = give; refuses = record { cause = f; first = first some; some = some; told = refl } }) (put some)
     ]
 
-pub check_given : (words : List (List ℕ)) (sizes : List Size) (bits : ℕ) (bytes : List ℕ) (t : FlatSystem) {held held' : Option (List ℕ)} {faults faults' : ℕ} {status : Status}
-    → GiveSizes words sizes → IsChecked bytes sizes bits t → IsPut held held' faults faults' (codes "ok\n") Done status
-    → IsAnswered (RefusesWith words bits bytes) (GivesWith words bits bytes) held held' faults faults' status
+pub check_given : (words : List (List ℕ)) (sizes : List Size) (bits : ℕ) (bytes : List ℕ) (t : FlatSystem) {sink sink' : SinkState} {status : Status}
+    → GiveSizes words sizes → IsChecked bytes sizes bits t → IsPut sink sink' (codes "ok\n") Done status
+    → IsAnswered (RefusesWith words bits bytes) (GivesWith words bits bytes) sink sink' status
 check_given words sizes bits bytes t give is put =
     given (record { sizes = sizes; give = give; gives = record { flat = is.flat; flattens = is.flattens; normal = is.given.no_cause; proper = is.proper; line = refl } }) put
 
 -- the words are those that the command was read from
-pub check_answered : (words : List (List ℕ)) (bits : ℕ) (bytes : List ℕ) {held held' : Option (List ℕ)} {faults faults' : ℕ} {status : Status} → ((found : List Size) × IsCheck words bits found)
-    → IsAnswered (RefusesWith words bits bytes) (GivesWith words bits bytes) held held' faults faults' status
+pub check_answered : (words : List (List ℕ)) (bits : ℕ) (bytes : List ℕ) {sink sink' : SinkState} {status : Status} → ((found : List Size) × IsCheck words bits found)
+    → IsAnswered (RefusesWith words bits bytes) (GivesWith words bits bytes) sink sink' status
     → IsAnswered (λ reason. (sizes : List Size) × IsCheck words bits sizes × RefusesCheck sizes bits bytes reason) (λ out. (sizes : List Size) × IsCheck words bits sizes × GivesCheck sizes bits bytes out)
-    held held' faults faults' status
+    sink sink' status
 check_answered words bits bytes (found, (box, is)) (refused r put) = refused (r.sizes, (box, with_sizes (codes "check") words bits box found r.sizes is r.give), r.refuses) put
 check_answered words bits bytes (found, (box, is)) (given g put) = given (g.sizes, (box, with_sizes (codes "check") words bits box found g.sizes is g.give), g.gives) put
 check_answered words bits bytes found (no_memory a b) = no_memory a b

@@ -1,6 +1,7 @@
 -- How the answers of `emit` follow from what its steps did.
 use Rattle.std.proofs.Common.{ℕ, List, Option, refl}
 use Rattle.std.specs.Prelude.{codes}
+use Rattle.av_base.specs.Outside.{SinkState}
 use Rattle.av_flat.specs.declared.timed.Timed.{Timed}
 use Rattle.av_names.specs.declared.size.Size.{Size}
 use Rattle.av_net.specs.declared.design.Design.{Design}
@@ -22,9 +23,9 @@ pub exclusive_emit : (sizes : List Size) (bits box : ℕ) (bytes reason out : Li
 exclusive_emit sizes bits box bytes reason out r g = not_unmapped sizes bits box bytes reason g.timed g.cells r g.computes.mapped
 
 -- the text of a sound design is read back as that design alone
-pub emit_given : (words : List (List ℕ)) (sizes : List Size) (bits box : ℕ) (bytes : List ℕ) (t : Timed) (a : Cells) (d : Design) {held held' : Option (List ℕ)} {faults faults' : ℕ} {status : Status}
-    → GiveSizes words sizes → Headline bytes sizes bits box t a d → IsPut held held' faults faults' (text d) Done status
-    → IsAnswered (RefusesEmitWith words bits box bytes) (GivesEmitWith words bits box bytes) held held' faults faults' status
+pub emit_given : (words : List (List ℕ)) (sizes : List Size) (bits box : ℕ) (bytes : List ℕ) (t : Timed) (a : Cells) (d : Design) {sink sink' : SinkState} {status : Status}
+    → GiveSizes words sizes → Headline bytes sizes bits box t a d → IsPut sink sink' (text d) Done status
+    → IsAnswered (RefusesEmitWith words bits box bytes) (GivesEmitWith words bits box bytes) sink sink' status
 emit_given words sizes bits box bytes t a d give headline put =
     let spelled = read_back d headline.design.sound in
     given (record {
@@ -34,11 +35,11 @@ emit_given words sizes bits box bytes t a d give headline put =
     }) put
 
 -- the words are those that the command was read from
-pub emit_answered : (words : List (List ℕ)) (bits box : ℕ) (bytes : List ℕ) {held held' : Option (List ℕ)} {faults faults' : ℕ} {status : Status} → ((found : List Size) × IsEmit words bits box found)
-    → IsAnswered (RefusesEmitWith words bits box bytes) (GivesEmitWith words bits box bytes) held held' faults faults' status
+pub emit_answered : (words : List (List ℕ)) (bits box : ℕ) (bytes : List ℕ) {sink sink' : SinkState} {status : Status} → ((found : List Size) × IsEmit words bits box found)
+    → IsAnswered (RefusesEmitWith words bits box bytes) (GivesEmitWith words bits box bytes) sink sink' status
     → IsAnswered (λ reason. (sizes : List Size) × IsEmit words bits box sizes × RefusesEmit sizes bits box bytes reason)
     (λ out. (sizes : List Size) × IsEmit words bits box sizes × GivesEmit sizes bits box bytes out)
-    held held' faults faults' status
+    sink sink' status
 emit_answered words bits box bytes (found, is) (refused r put) = refused (r.sizes, with_sizes (codes "emit") words bits box found r.sizes is r.give, r.refuses) put
 emit_answered words bits box bytes (found, is) (given g put) = given (g.sizes, with_sizes (codes "emit") words bits box found g.sizes is g.give, g.gives) put
 emit_answered words bits box bytes found (no_memory a b) = no_memory a b

@@ -6,6 +6,7 @@ use Rattle.std.proofs.lemmas.Bool.{cases_lt}
 use Rattle.std.proofs.lemmas.Slice.Eq.{bytes_eq-Decides}
 use Rattle.std.proofs.lemmas.Option.{slice_get-get_or}
 use Rattle.std.proofs.lemmas.List.Elements.{All-nil, All-cons, All-head, All-tail, All-weaker}
+use Rattle.av_base.specs.Outside.{SinkState}
 use Rattle.av_base.specs.Words.{IsWord}
 use Rattle.av_tree.specs.Trees.{System, Text}
 use Rattle.av_tree.specs.Grammar.{IsProgramText}
@@ -288,19 +289,19 @@ module _ (bytes : List ℕ) (sizes : List Size) (bits box : ℕ) (t : Timed) (a 
   report_given Trace out rest whole first divided g = trace_given g.inputs out rest whole first divided g.spelled g.are g.reports
 
   -- the answer to the lines of data, told of the whole input
-  pub report_answered : (words : List (List ℕ)) (report : Report) (rest whole : List ℕ) (first : ℕ) {held held' : Option (List ℕ)} {faults faults' : ℕ} {status : Status} → IsDivided whole bytes rest first → GiveSizes words sizes
-      → IsAnswered (RefusesLines t first rest) (GivesReported report t a d rest) held held' faults faults' status
-      → IsAnswered (RefusesRunWith words bits box whole) (GivesReportWith report words bits box whole) held held' faults faults' status
+  pub report_answered : (words : List (List ℕ)) (report : Report) (rest whole : List ℕ) (first : ℕ) {sink sink' : SinkState} {status : Status} → IsDivided whole bytes rest first → GiveSizes words sizes
+      → IsAnswered (RefusesLines t first rest) (GivesReported report t a d rest) sink sink' status
+      → IsAnswered (RefusesRunWith words bits box whole) (GivesReportWith report words bits box whole) sink sink' status
   report_answered words report rest whole first divided give (refused r put) = refused (record { sizes = sizes; give = give; refuses = bad_data r.fault divided h.mapped r.is r.told }) put
   report_answered words report rest whole first divided give (given {out} g put) = given (record { sizes = sizes; give = give; gives = report_given report out rest whole first divided g }) put
   report_answered words report rest whole first divided give (no_memory x y) = no_memory x y
 
 -- ---- refusals
 
-pub run_refused : (Given : List ℕ → Type 0) (words : List (List ℕ)) (sizes : List Size) (bits box : ℕ) (before rest whole : List ℕ) (first : ℕ) (f : Refusal) {held held' : Option (List ℕ)} {faults faults' : ℕ} {status : Status}
-    → IsDivided whole before rest first → GiveSizes words sizes → (f ≢ refusal.Memory → IsUnmapped before sizes bits box f) → (f ≡ refusal.Memory → (status ≡ Memory) × (held' ≡ held))
-    → ((f ≡ refusal.Memory → ⊥) → IsPut held held' faults faults' (refusal_line (system_reason f)) Refused status)
-    → IsAnswered (RefusesRunWith words bits box whole) Given held held' faults faults' status
+pub run_refused : (Given : List ℕ → Type 0) (words : List (List ℕ)) (sizes : List Size) (bits box : ℕ) (before rest whole : List ℕ) (first : ℕ) (f : Refusal) {sink sink' : SinkState} {status : Status}
+    → IsDivided whole before rest first → GiveSizes words sizes → (f ≢ refusal.Memory → IsUnmapped before sizes bits box f) → (f ≡ refusal.Memory → (status ≡ Memory) × (sink'.held ≡ sink.held))
+    → ((f ≡ refusal.Memory → ⊥) → IsPut sink sink' (refusal_line (system_reason f)) Refused status)
+    → IsAnswered (RefusesRunWith words bits box whole) Given sink sink' status
 run_refused Given words sizes bits box before rest whole first f divided give is none put =
     elim (memory_or_not f) [
       | inl memory ↦ (let (x, y) = none memory in no_memory x y)
@@ -324,20 +325,20 @@ exclusive_run sizes bits box bytes reason t a d x (bad_data {before} {rest} {fir
 
 -- ---- the words are those that the command was read from
 
-pub run_words : (words : List (List ℕ)) (bits box : ℕ) (bytes : List ℕ) {held held' : Option (List ℕ)} {faults faults' : ℕ} {status : Status} → ((found : List Size) × IsRun words bits box found)
-    → IsAnswered (RefusesRunWith words bits box bytes) (GivesReportWith Results words bits box bytes) held held' faults faults' status
+pub run_words : (words : List (List ℕ)) (bits box : ℕ) (bytes : List ℕ) {sink sink' : SinkState} {status : Status} → ((found : List Size) × IsRun words bits box found)
+    → IsAnswered (RefusesRunWith words bits box bytes) (GivesReportWith Results words bits box bytes) sink sink' status
     → IsAnswered (λ reason. (sizes : List Size) × IsRun words bits box sizes × RefusesRun sizes bits box bytes reason)
     (λ out. (sizes : List Size) × IsRun words bits box sizes × GivesResults sizes bits box bytes out)
-    held held' faults faults' status
+    sink sink' status
 run_words words bits box bytes (found, is) (refused r put) = refused (r.sizes, with_sizes (codes "run") words bits box found r.sizes is r.give, r.refuses) put
 run_words words bits box bytes (found, is) (given g put) = given (g.sizes, with_sizes (codes "run") words bits box found g.sizes is g.give, g.gives) put
 run_words words bits box bytes found (no_memory a b) = no_memory a b
 
-pub trace_words : (words : List (List ℕ)) (bits box : ℕ) (bytes : List ℕ) {held held' : Option (List ℕ)} {faults faults' : ℕ} {status : Status} → ((found : List Size) × IsTrace words bits box found)
-    → IsAnswered (RefusesRunWith words bits box bytes) (GivesReportWith Trace words bits box bytes) held held' faults faults' status
+pub trace_words : (words : List (List ℕ)) (bits box : ℕ) (bytes : List ℕ) {sink sink' : SinkState} {status : Status} → ((found : List Size) × IsTrace words bits box found)
+    → IsAnswered (RefusesRunWith words bits box bytes) (GivesReportWith Trace words bits box bytes) sink sink' status
     → IsAnswered (λ reason. (sizes : List Size) × IsTrace words bits box sizes × RefusesRun sizes bits box bytes reason)
     (λ out. (sizes : List Size) × IsTrace words bits box sizes × GivesTrace sizes bits box bytes out)
-    held held' faults faults' status
+    sink sink' status
 trace_words words bits box bytes (found, is) (refused r put) = refused (r.sizes, with_sizes (codes "trace") words bits box found r.sizes is r.give, r.refuses) put
 trace_words words bits box bytes (found, is) (given g put) = given (g.sizes, with_sizes (codes "trace") words bits box found g.sizes is g.give, g.gives) put
 trace_words words bits box bytes found (no_memory a b) = no_memory a b

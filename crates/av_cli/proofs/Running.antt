@@ -6,7 +6,7 @@ use Rattle.std.proofs.lemmas.List.{append-nil, length-map}
 use Rattle.std.proofs.lemmas.List.Elements.{All-append, All-map, All-contains, All-head, All-tail, Contains-append_left, Contains-append_right}
 use Rattle.std.proofs.lemmas.Option.{slice_get-get_or, slice_get_within}
 use Rattle.std.proofs.Math.Seq.{take-append-add}
-use Rattle.av_base.specs.Outside.{Adds, AddsPrefix}
+use Rattle.av_base.specs.Outside.{SinkState, Adds, AddsPrefix}
 use Rattle.av_base.proofs.Moves.{Adds-more}
 use Rattle.av_net.specs.declared.netlist.Port.{Port}
 use Rattle.av_net.specs.declared.netlist.Step.{Step}
@@ -30,13 +30,13 @@ abbrev pub ForRuns : Module → Stimulus → (Run → Type 0) → Type 0
 ForRuns m s P = (stream : Stream) (run : Run) → IsStimulated m s stream → IsRun m s.cycles stream run → P run
 
 -- c cycles were written, and the registers have the words of the next one
-pub record IsRunning (m : Module) (s : Stimulus) (c : ℕ) (parts : Prepared) (next : ℕ) (held held' : Option (List ℕ)) (faults faults' : ℕ) : Type 0 where
+pub record IsRunning (m : Module) (s : Stimulus) (c : ℕ) (parts : Prepared) (next : ℕ) (sink sink' : SinkState) : Type 0 where
   pub prepared : IsPrepared m parts
-  pub written : ForRuns m s (λ run. Adds held held' (run_lines m run.in_cycle c))
+  pub written : ForRuns m s (λ run. Adds sink.held sink'.held (run_lines m run.in_cycle c))
   pub registers : ForRuns m s (λ run. c < s.cycles → Agree (names_of m.registers) (carried parts.clock) (run.in_cycle c))
   pub left : AreLeft m.inputs s.values c 0 (drop next s.values)
   pub within : next ≤ length s.values
-  pub later : faults ≤ faults'
+  pub later : sink.faults ≤ sink'.faults
 
 -- ---- registers
 
@@ -144,7 +144,7 @@ inputs_noted m s c parts seen seen' words prepared room of of' presented agree =
     let long : length m.inputs ≤ length words = (let r = prepared.room in let a = length-append m.inputs m.outputs in omega (arith, r, a, room)) in
     ap (λ n. take n words) prepared.count ∙ words_noted m.inputs (λ port. carried seen' port.name) words long each ∙ ap (λ (x : Module). port_words (carried seen') x.inputs) (sym at)
 
-module _ (m : Module) (s : Stimulus) (c : ℕ) (parts : Prepared) (next : ℕ) (held held' : Option (List ℕ)) (faults faults' : ℕ) (running : IsRunning m s c parts next held held' faults faults') (lt : c < s.cycles)
+module _ (m : Module) (s : Stimulus) (c : ℕ) (parts : Prepared) (next : ℕ) (sink sink' : SinkState) (running : IsRunning m s c parts next sink sink') (lt : c < s.cycles)
     (seen seen' : Seen) (words words' : List ℕ) (of : seen.of ≡ parts.clock.of) (of' : seen'.of ≡ seen.of)
     (ports : ArePresented seen.of s.values c parts.inputs (carried seen) words) (registers : Agree (names_of seen.of.registers) (carried parts.clock) (carried seen))
     (settled : Settled seen'.of (carried seen')) (given : Agree (given_names seen'.of) (carried seen) (carried seen'))
@@ -168,13 +168,13 @@ module _ (m : Module) (s : Stimulus) (c : ℕ) (parts : Prepared) (next : ℕ) (
       ap (λ (ps : List Port). cycle_line c ps words') running.prepared.ports ∙ ap (cycle_line c (header_ports m)) (shown ∙ ap (λ (x : Module). port_words (carried seen') (header_ports x)) then_at)
       ∙ shown_line m s c (carried seen') agrees stream run stimulated is lt
 
-  pub fails : (held'' : Option (List ℕ)) → AddsPrefix held' held'' (cycle_line c parts.ports words') → ForRuns m s (λ run. AddsPrefix held held'' (run_lines m run.in_cycle s.cycles))
-  fails held'' front = front_added m s c held held' held'' (cycle_line c parts.ports words') lt running.written front line_is
+  pub fails : (held'' : Option (List ℕ)) → AddsPrefix sink'.held held'' (cycle_line c parts.ports words') → ForRuns m s (λ run. AddsPrefix sink.held held'' (run_lines m run.in_cycle s.cycles))
+  fails held'' front = front_added m s c sink.held sink'.held held'' (cycle_line c parts.ports words') lt running.written front line_is
 
-  pub turns : (seen'' : Seen) (next' : ℕ) (held'' : Option (List ℕ)) (faults'' : ℕ) → seen''.of ≡ seen'.of → Edge seen''.of false (carried seen') (carried seen'') → Adds held' held'' (cycle_line c parts.ports words') → faults' ≤ faults''
+  pub turns : (seen'' : Seen) (next' : ℕ) (sink'' : SinkState) → seen''.of ≡ seen'.of → Edge seen''.of false (carried seen') (carried seen'') → Adds sink'.held sink''.held (cycle_line c parts.ports words') → sink'.faults ≤ sink''.faults
       → AreLeft seen.of.inputs s.values (c + 1) 0 (drop next' s.values) → next' ≤ length s.values
-      → IsRunning m s (c + 1) (record { clock = seen''; ports = parts.ports; wires = parts.wires; words = words'; inputs = parts.inputs }) next' held held'' faults faults''
-  turns seen'' next' held'' faults'' of'' edge adds later left within = record {
+      → IsRunning m s (c + 1) (record { clock = seen''; ports = parts.ports; wires = parts.wires; words = words'; inputs = parts.inputs }) next' sink sink''
+  turns seen'' next' sink'' of'' edge adds later left within = record {
     prepared = record {
       sound = running.prepared.sound;
       clock = of'' ∙ then_at;
@@ -183,7 +183,7 @@ module _ (m : Module) (s : Stimulus) (c : ℕ) (parts : Prepared) (next : ℕ) (
       room = ap length (shown ∙ ap (λ (x : Module). port_words (carried seen') (header_ports x)) then_at) ∙ length-map (header_ports m) (λ (port : Port). carried seen' port.name);
       count = running.prepared.count;
     };
-    written = line_added m s c held held' held'' (cycle_line c parts.ports words') lt running.written adds line_is;
+    written = line_added m s c sink.held sink'.held sink''.held (cycle_line c parts.ports words') lt running.written adds line_is;
     registers = tick_registers m s c (carried seen') (carried seen'') running.prepared.sound (subst (λ x. Edge x false (carried seen') (carried seen'')) (of'' ∙ then_at) edge) agrees;
     left = subst (λ (x : Module). AreLeft x.inputs s.values (c + 1) 0 (drop next' s.values)) first_at left;
     within = within;

@@ -1,6 +1,7 @@
 -- How the answers of `schedule` follow from what its steps did.
 use Rattle.std.proofs.Common.{◌≡◌, ◌≢◌, ℕ, List, Option, refl, ap, subst, ◌∙◌, inl, inr}
 use Rattle.std.specs.Prelude.{codes}
+use Rattle.av_base.specs.Outside.{SinkState}
 use Rattle.av_flat.specs.declared.timed.Timed.{Timed}
 use Rattle.av_flat.specs.Trees.{FlatSystem, view_system}
 use Rattle.av_names.specs.declared.size.Size.{Size}
@@ -59,28 +60,28 @@ exclusive_schedule sizes bits box bytes reason out r g = not_unscheduled sizes b
 
 -- ---- answers
 
-pub schedule_refused : (words : List (List ℕ)) (sizes : List Size) (bits box : ℕ) (bytes : List ℕ) (f : Refusal) {held held' : Option (List ℕ)} {faults faults' : ℕ} {status : Status}
-    → GiveSizes words sizes → (f ≢ refusal.Memory → IsUnscheduled bytes sizes bits box f) → (f ≡ refusal.Memory → (status ≡ Memory) × (held' ≡ held))
-    → ((f ≡ refusal.Memory → ⊥) → IsPut held held' faults faults' (refusal_line (system_reason f)) Refused status)
-    → IsAnswered (RefusesScheduleWith words bits box bytes) (GivesScheduleWith words bits box bytes) held held' faults faults' status
+pub schedule_refused : (words : List (List ℕ)) (sizes : List Size) (bits box : ℕ) (bytes : List ℕ) (f : Refusal) {sink sink' : SinkState} {status : Status}
+    → GiveSizes words sizes → (f ≢ refusal.Memory → IsUnscheduled bytes sizes bits box f) → (f ≡ refusal.Memory → (status ≡ Memory) × (sink'.held ≡ sink.held))
+    → ((f ≡ refusal.Memory → ⊥) → IsPut sink sink' (refusal_line (system_reason f)) Refused status)
+    → IsAnswered (RefusesScheduleWith words bits box bytes) (GivesScheduleWith words bits box bytes) sink sink' status
 schedule_refused words sizes bits box bytes f give first none put =
     elim (memory_or_not f) [
       | inl memory ↦ (let (a, b) = none memory in no_memory a b)
       | inr some ↦ refused (record { sizes = sizes; give = give; refuses = record { cause = f; first = first some; some = some; told = refl } }) (put some)
     ]
 
-pub schedule_given : (words : List (List ℕ)) (sizes : List Size) (bits box : ℕ) (bytes : List ℕ) (t : Timed) {held held' : Option (List ℕ)} {faults faults' : ℕ} {status : Status}
-    → GiveSizes words sizes → IsScheduled bytes sizes bits box t → HasOneSolutionEach bytes sizes bits → IsPut held held' faults faults' (schedule_text t) Done status
-    → IsAnswered (RefusesScheduleWith words bits box bytes) (GivesScheduleWith words bits box bytes) held held' faults faults' status
+pub schedule_given : (words : List (List ℕ)) (sizes : List Size) (bits box : ℕ) (bytes : List ℕ) (t : Timed) {sink sink' : SinkState} {status : Status}
+    → GiveSizes words sizes → IsScheduled bytes sizes bits box t → HasOneSolutionEach bytes sizes bits → IsPut sink sink' (schedule_text t) Done status
+    → IsAnswered (RefusesScheduleWith words bits box bytes) (GivesScheduleWith words bits box bytes) sink sink' status
 schedule_given words sizes bits box bytes t give is one put =
     given (record { sizes = sizes; give = give; gives = record { timed = t; scheduled = is; one_solution = one; lines = refl } }) put
 
 -- the words are those that the command was read from
-pub schedule_answered : (words : List (List ℕ)) (bits box : ℕ) (bytes : List ℕ) {held held' : Option (List ℕ)} {faults faults' : ℕ} {status : Status} → ((found : List Size) × IsSchedule words bits box found)
-    → IsAnswered (RefusesScheduleWith words bits box bytes) (GivesScheduleWith words bits box bytes) held held' faults faults' status
+pub schedule_answered : (words : List (List ℕ)) (bits box : ℕ) (bytes : List ℕ) {sink sink' : SinkState} {status : Status} → ((found : List Size) × IsSchedule words bits box found)
+    → IsAnswered (RefusesScheduleWith words bits box bytes) (GivesScheduleWith words bits box bytes) sink sink' status
     → IsAnswered (λ reason. (sizes : List Size) × IsSchedule words bits box sizes × RefusesSchedule sizes bits box bytes reason)
     (λ out. (sizes : List Size) × IsSchedule words bits box sizes × GivesSchedule sizes bits box bytes out)
-    held held' faults faults' status
+    sink sink' status
 schedule_answered words bits box bytes (found, is) (refused r put) = refused (r.sizes, with_sizes (codes "schedule") words bits box found r.sizes is r.give, r.refuses) put
 schedule_answered words bits box bytes (found, is) (given g put) = given (g.sizes, with_sizes (codes "schedule") words bits box found g.sizes is g.give, g.gives) put
 schedule_answered words bits box bytes found (no_memory a b) = no_memory a b

@@ -1,7 +1,7 @@
 -- How the answers of `sim` follow from what its steps did.
 use Rattle.std.proofs.Common.{◌≡◌, ℕ, ◌+◌, List, [], ◌∷◌, Option, Some, None, get_or, refl, ap, subst, inl, inr}
 use Rattle.std.specs.Prelude.{◌⊎◌}
-use Rattle.av_base.specs.Outside.{Adds, AddsPrefix, HasRisen}
+use Rattle.av_base.specs.Outside.{SinkState, Adds, AddsPrefix, HasRisen}
 use Rattle.av_net.specs.declared.netlist.Port.{Port}
 use Rattle.av_net.specs.declared.netlist.Module.{Module}
 use Rattle.av_net.specs.declared.design.Design.{Design}
@@ -47,24 +47,24 @@ is_stream m s sound = record {
   in_cycles = λ c k port e. ap (word_by s.values c) (place_at m.inputs k port (front_distinct (names_of m.inputs) (names_of m.registers) (given_distinct m sound)) e);
 }
 
-pub clocked_done : (m' m : Module) (s : Stimulus) (held held' : Option (List ℕ)) (faults faults' : ℕ) → m' ≡ m
-    → ((stream : Stream) (run : Run) → IsStimulated m' s stream → IsRun m' s.cycles stream run → Adds held held' (run_lines m' run.in_cycle s.cycles)) → IsClocked m s held held' faults faults' Done
-clocked_done m' m s held held' faults faults' e added =
-    let all = subst (λ x. (stream : Stream) (run : Run) → IsStimulated x s stream → IsRun x s.cycles stream run → Adds held held' (run_lines x run.in_cycle s.cycles)) e added in
+pub clocked_done : (m' m : Module) (s : Stimulus) (sink sink' : SinkState) → m' ≡ m
+    → ((stream : Stream) (run : Run) → IsStimulated m' s stream → IsRun m' s.cycles stream run → Adds sink.held sink'.held (run_lines m' run.in_cycle s.cycles)) → IsClocked m s sink sink' Done
+clocked_done m' m s sink sink' e added =
+    let all = subst (λ x. (stream : Stream) (run : Run) → IsStimulated x s stream → IsRun x s.cycles stream run → Adds sink.held sink'.held (run_lines x run.in_cycle s.cycles)) e added in
     inr (λ stream run stimulated is. record { ends = inl (refl, all stream run stimulated is) })
 
-pub clocked_failed : (m' m : Module) (s : Stimulus) (held held' : Option (List ℕ)) (faults faults' : ℕ) → m' ≡ m → HasRisen faults faults'
-    → ((stream : Stream) (run : Run) → IsStimulated m' s stream → IsRun m' s.cycles stream run → AddsPrefix held held' (run_lines m' run.in_cycle s.cycles)) → IsClocked m s held held' faults faults' WriteFault
-clocked_failed m' m s held held' faults faults' e risen front =
-    let all = subst (λ x. (stream : Stream) (run : Run) → IsStimulated x s stream → IsRun x s.cycles stream run → AddsPrefix held held' (run_lines x run.in_cycle s.cycles)) e front in
+pub clocked_failed : (m' m : Module) (s : Stimulus) (sink sink' : SinkState) → m' ≡ m → HasRisen sink.faults sink'.faults
+    → ((stream : Stream) (run : Run) → IsStimulated m' s stream → IsRun m' s.cycles stream run → AddsPrefix sink.held sink'.held (run_lines m' run.in_cycle s.cycles)) → IsClocked m s sink sink' WriteFault
+clocked_failed m' m s sink sink' e risen front =
+    let all = subst (λ x. (stream : Stream) (run : Run) → IsStimulated x s stream → IsRun x s.cycles stream run → AddsPrefix sink.held sink'.held (run_lines x run.in_cycle s.cycles)) e front in
     inr (λ stream run stimulated is. record { ends = inr (refl, risen, all stream run stimulated is) })
 
 -- ---- answers
 
-pub run_answered : (m : Module) (bytes : List ℕ) (first : ℕ) (s : Stimulus) (held held' : Option (List ℕ)) (faults faults' : ℕ) (status : Status) → IsSound m → SpellsStimulus m.inputs bytes s → IsClocked m s held held' faults faults' status
-    → IsAnswered (RefusesStimulus m bytes first) (GivesRun m bytes) held held' faults faults' status
-run_answered m bytes first s held held' faults faults' status sound spelled (inl none) = no_memory none.0 none.1
-run_answered m bytes first s held held' faults faults' status sound spelled (inr lines) =
+pub run_answered : (m : Module) (bytes : List ℕ) (first : ℕ) (s : Stimulus) (sink sink' : SinkState) (status : Status) → IsSound m → SpellsStimulus m.inputs bytes s → IsClocked m s sink sink' status
+    → IsAnswered (RefusesStimulus m bytes first) (GivesRun m bytes) sink sink' status
+run_answered m bytes first s sink sink' status sound spelled (inl none) = no_memory none.0 none.1
+run_answered m bytes first s sink sink' status sound spelled (inr lines) =
     let stream = stream_of m s in
     let stimulated = is_stream m s sound in
     let (run, is, before) = has_runs m sound s.cycles stream (λ name. 0) in
@@ -81,16 +81,16 @@ run_answered m bytes first s held held' faults faults' status sound spelled (inr
       };
     }) (lines stream run stimulated is)
 
-pub module_answered : (bytes text rest : List ℕ) (first : ℕ) (design : Design) {held held' : Option (List ℕ)} {faults faults' : ℕ} {status : Status} → IsDivided bytes text rest first → Spells text design
-    → IsAnswered (RefusesStimulus design.module rest first) (GivesRun design.module rest) held held' faults faults' status → IsAnswered (RefusesSim bytes) (GivesSim bytes) held held' faults faults' status
+pub module_answered : (bytes text rest : List ℕ) (first : ℕ) (design : Design) {sink sink' : SinkState} {status : Status} → IsDivided bytes text rest first → Spells text design
+    → IsAnswered (RefusesStimulus design.module rest first) (GivesRun design.module rest) sink sink' status → IsAnswered (RefusesSim bytes) (GivesSim bytes) sink sink' status
 module_answered bytes text rest first design divided spelled (refused r put) = refused (bad_stimulus r.cause divided spelled r.is r.told) put
 module_answered bytes text rest first design divided spelled (given g put) =
     given (record { text = text; rest = rest; first = first; divided = divided; design = design; spelled = spelled; stimulus = g.stimulus; stimulated = g.stimulated; simulated = g.simulated }) put
 module_answered bytes text rest first design divided spelled (no_memory a b) = no_memory a b
 
-pub stimulus_refused : (m : Module) (bytes : List ℕ) (first : ℕ) (f : DataFault) {held held' : Option (List ℕ)} {faults faults' : ℕ} {status : Status} → (f ≡ Memory) ⊎ IsStimulusFault m.inputs first bytes f
-    → (f ≡ Memory → (status ≡ OutOfMemory) × (held' ≡ held)) → ((f ≡ Memory → ⊥) → IsPut held held' faults faults' (refusal_line (data_reason f)) Refused status)
-    → IsAnswered (RefusesStimulus m bytes first) (GivesRun m bytes) held held' faults faults' status
+pub stimulus_refused : (m : Module) (bytes : List ℕ) (first : ℕ) (f : DataFault) {sink sink' : SinkState} {status : Status} → (f ≡ Memory) ⊎ IsStimulusFault m.inputs first bytes f
+    → (f ≡ Memory → (status ≡ OutOfMemory) × (sink'.held ≡ sink.held)) → ((f ≡ Memory → ⊥) → IsPut sink sink' (refusal_line (data_reason f)) Refused status)
+    → IsAnswered (RefusesStimulus m bytes first) (GivesRun m bytes) sink sink' status
 stimulus_refused m bytes first Memory fault none put = let (a, b) = none refl in no_memory a b
 stimulus_refused m bytes first f (inl e) none put = let (a, b) = none e in no_memory a b
 stimulus_refused m bytes first (DataSyntax l) (inr is) none put = refused (record { cause = DataSyntax l; is = is; told = refl }) (put (λ e. cc))
@@ -99,8 +99,8 @@ stimulus_refused m bytes first (DataOutside l) (inr is) none put = refused (reco
 stimulus_refused m bytes first (DataTwice l) (inr is) none put = refused (record { cause = DataTwice l; is = is; told = refl }) (put (λ e. cc))
 stimulus_refused m bytes first (DataMissing name point) (inr is) none put = refused (record { cause = DataMissing name point; is = is; told = refl }) (put (λ e. cc))
 
-pub text_refused : (bytes text rest : List ℕ) (first : ℕ) (f : VFault) {held held' : Option (List ℕ)} {faults faults' : ℕ} {status : Status} → IsDivided bytes text rest first → (f ≡ text_fault.Memory) ⊎ IsFault text f
-    → (f ≡ text_fault.Memory → (status ≡ OutOfMemory) × (held' ≡ held)) → ((f ≡ text_fault.Memory → ⊥) → IsPut held held' faults faults' (refusal_line (text_reason f)) Refused status)
-    → IsAnswered (RefusesSim bytes) (GivesSim bytes) held held' faults faults' status
+pub text_refused : (bytes text rest : List ℕ) (first : ℕ) (f : VFault) {sink sink' : SinkState} {status : Status} → IsDivided bytes text rest first → (f ≡ text_fault.Memory) ⊎ IsFault text f
+    → (f ≡ text_fault.Memory → (status ≡ OutOfMemory) × (sink'.held ≡ sink.held)) → ((f ≡ text_fault.Memory → ⊥) → IsPut sink sink' (refusal_line (text_reason f)) Refused status)
+    → IsAnswered (RefusesSim bytes) (GivesSim bytes) sink sink' status
 text_refused bytes text rest first f divided (inl e) none put = let (a, b) = none e in no_memory a b
 text_refused bytes text rest first f divided (inr is) none put = refused (bad_text f divided is refl) (put (λ e. subst (λ x. IsFault text x) e is))

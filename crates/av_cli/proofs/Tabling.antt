@@ -1,6 +1,7 @@
 -- How the answers of `table` follow from what its steps did.
 use Rattle.std.proofs.Common.{◌≡◌, ◌≢◌, ℕ, List, Option, refl, sym, ap, ◌∙◌, inl, inr}
 use Rattle.std.specs.Prelude.{codes}
+use Rattle.av_base.specs.Outside.{SinkState}
 use Rattle.av_flat.specs.declared.timed.Timed.{Timed}
 use Rattle.av_names.specs.declared.size.Size.{Size}
 use Rattle.av_space.specs.declared.cells.Cells.{Cells}
@@ -38,28 +39,28 @@ exclusive_table sizes bits box bytes reason out r g = not_unmapped sizes bits bo
 
 -- ---- answers: a refusal, whatever would be given
 
-pub table_refused : (Given : List ℕ → Type 0) (words : List (List ℕ)) (sizes : List Size) (bits box : ℕ) (bytes : List ℕ) (f : Refusal) {held held' : Option (List ℕ)} {faults faults' : ℕ} {status : Status}
-    → GiveSizes words sizes → (f ≢ refusal.Memory → IsUnmapped bytes sizes bits box f) → (f ≡ refusal.Memory → (status ≡ Memory) × (held' ≡ held))
-    → ((f ≡ refusal.Memory → ⊥) → IsPut held held' faults faults' (refusal_line (system_reason f)) Refused status)
-    → IsAnswered (RefusesTableWith words bits box bytes) Given held held' faults faults' status
+pub table_refused : (Given : List ℕ → Type 0) (words : List (List ℕ)) (sizes : List Size) (bits box : ℕ) (bytes : List ℕ) (f : Refusal) {sink sink' : SinkState} {status : Status}
+    → GiveSizes words sizes → (f ≢ refusal.Memory → IsUnmapped bytes sizes bits box f) → (f ≡ refusal.Memory → (status ≡ Memory) × (sink'.held ≡ sink.held))
+    → ((f ≡ refusal.Memory → ⊥) → IsPut sink sink' (refusal_line (system_reason f)) Refused status)
+    → IsAnswered (RefusesTableWith words bits box bytes) Given sink sink' status
 table_refused Given words sizes bits box bytes f give first none put =
     elim (memory_or_not f) [
       | inl memory ↦ (let (x, y) = none memory in no_memory x y)
       | inr some ↦ refused (record { sizes = sizes; give = give; refuses = record { cause = f; first = first some; some = some; told = refl } }) (put some)
     ]
 
-pub table_given : (words : List (List ℕ)) (sizes : List Size) (bits box : ℕ) (bytes : List ℕ) (t : Timed) (a : Cells) {held held' : Option (List ℕ)} {faults faults' : ℕ} {status : Status}
-    → GiveSizes words sizes → IsMapped bytes sizes bits box t a → HasOneSolutionEach bytes sizes bits → IsPut held held' faults faults' (table_text t a) Done status
-    → IsAnswered (RefusesTableWith words bits box bytes) (GivesTableWith words bits box bytes) held held' faults faults' status
+pub table_given : (words : List (List ℕ)) (sizes : List Size) (bits box : ℕ) (bytes : List ℕ) (t : Timed) (a : Cells) {sink sink' : SinkState} {status : Status}
+    → GiveSizes words sizes → IsMapped bytes sizes bits box t a → HasOneSolutionEach bytes sizes bits → IsPut sink sink' (table_text t a) Done status
+    → IsAnswered (RefusesTableWith words bits box bytes) (GivesTableWith words bits box bytes) sink sink' status
 table_given words sizes bits box bytes t a give is one put =
     given (record { sizes = sizes; give = give; gives = record { timed = t; cells = a; mapped = is; one_solution = one; lines = refl } }) put
 
 -- the words are those that the command was read from
-pub table_answered : (words : List (List ℕ)) (bits box : ℕ) (bytes : List ℕ) {held held' : Option (List ℕ)} {faults faults' : ℕ} {status : Status} → ((found : List Size) × IsTable words bits box found)
-    → IsAnswered (RefusesTableWith words bits box bytes) (GivesTableWith words bits box bytes) held held' faults faults' status
+pub table_answered : (words : List (List ℕ)) (bits box : ℕ) (bytes : List ℕ) {sink sink' : SinkState} {status : Status} → ((found : List Size) × IsTable words bits box found)
+    → IsAnswered (RefusesTableWith words bits box bytes) (GivesTableWith words bits box bytes) sink sink' status
     → IsAnswered (λ reason. (sizes : List Size) × IsTable words bits box sizes × RefusesTable sizes bits box bytes reason)
     (λ out. (sizes : List Size) × IsTable words bits box sizes × GivesTable sizes bits box bytes out)
-    held held' faults faults' status
+    sink sink' status
 table_answered words bits box bytes (found, is) (refused r put) = refused (r.sizes, with_sizes (codes "table") words bits box found r.sizes is r.give, r.refuses) put
 table_answered words bits box bytes (found, is) (given g put) = given (g.sizes, with_sizes (codes "table") words bits box found g.sizes is g.give, g.gives) put
 table_answered words bits box bytes found (no_memory a b) = no_memory a b

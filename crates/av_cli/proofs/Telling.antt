@@ -5,7 +5,7 @@ use Rattle.std.specs.List.{sum}
 use Rattle.std.proofs.lemmas.List.{length-map}
 use Rattle.std.proofs.Math.Seq.{take-append-add}
 use Rattle.av_base.specs.declared.word.Word.{Word}
-use Rattle.av_base.specs.Outside.{Adds, AddsPrefix, HasRisen}
+use Rattle.av_base.specs.Outside.{SinkState, Adds, AddsPrefix, HasRisen}
 use Rattle.av_base.specs.Words.{residue}
 use Rattle.av_base.proofs.Moves.{Adds-more}
 use Rattle.av_flat.specs.declared.timed.Timed.{Timed}
@@ -39,9 +39,9 @@ use Rattle.av_cli.proofs.Watching.{has_run}
 
 -- ---- refusals, and what is told
 
-pub data_refused : (t : Timed) (first : ℕ) (bytes : List ℕ) (Given : List ℕ → Type 0) (f : DataFault) {held held' : Option (List ℕ)} {faults faults' : ℕ} {status : Status}
-    → (f ≡ data_fault.Memory) ⊎ IsInputFault (view_system t.flat) first bytes f → (f ≡ data_fault.Memory → (status ≡ Memory) × (held' ≡ held))
-    → ((f ≡ data_fault.Memory → ⊥) → IsPut held held' faults faults' (refusal_line (data_reason f)) Refused status) → IsAnswered (RefusesLines t first bytes) Given held held' faults faults' status
+pub data_refused : (t : Timed) (first : ℕ) (bytes : List ℕ) (Given : List ℕ → Type 0) (f : DataFault) {sink sink' : SinkState} {status : Status}
+    → (f ≡ data_fault.Memory) ⊎ IsInputFault (view_system t.flat) first bytes f → (f ≡ data_fault.Memory → (status ≡ Memory) × (sink'.held ≡ sink.held))
+    → ((f ≡ data_fault.Memory → ⊥) → IsPut sink sink' (refusal_line (data_reason f)) Refused status) → IsAnswered (RefusesLines t first bytes) Given sink sink' status
 data_refused t first bytes Given f (inl memory) none put = let (x, y) = none memory in no_memory x y
 data_refused t first bytes Given f (inr is) none put = refused (record { fault = f; is = is; told = refl }) (put (λ e. not_memory (subst (IsInputFault (view_system t.flat) first bytes) e is)))
   where
@@ -49,14 +49,14 @@ data_refused t first bytes Given f (inr is) none put = refused (record { fault =
     not_memory is = is.faulty
 
 -- what was told is given
-pub told_given : {Refuses Gives Told : List ℕ → Type 0} {held held' : Option (List ℕ)} {faults faults' : ℕ} {status : Status} → ((out : List ℕ) → Told out → Gives out) → IsTold Told held held' faults faults' status
-    → IsAnswered Refuses Gives held held' faults faults' status
+pub told_given : {Refuses Gives Told : List ℕ → Type 0} {sink sink' : SinkState} {status : Status} → ((out : List ℕ) → Told out → Gives out) → IsTold Told sink sink' status
+    → IsAnswered Refuses Gives sink sink' status
 told_given f (told {out} g put) = given (f out g) put
 told_given f (untold a b) = no_memory a b
 
 -- what was told is told of more
-pub told_more : {Told More : List ℕ → Type 0} {held held' : Option (List ℕ)} {faults faults' : ℕ} {status : Status} → ((out : List ℕ) → Told out → More out) → IsTold Told held held' faults faults' status
-    → IsTold More held held' faults faults' status
+pub told_more : {Told More : List ℕ → Type 0} {sink sink' : SinkState} {status : Status} → ((out : List ℕ) → Told out → More out) → IsTold Told sink sink' status
+    → IsTold More sink sink' status
 told_more f (told {out} g put) = told (f out g) put
 told_more f (untold a b) = untold a b
 
@@ -96,10 +96,10 @@ module _ (t : Timed) (cells : Cells) (d : Design) (x : Values) (words ws : List 
   lines_are : results test ls (bits_of ws) ≡ results test d.listing.ats (bits_of words)
   lines_are = ap (λ (l : List Entry). results test l (bits_of ws)) list ∙ ap (λ (w : List Word). results test d.listing.ats (bits_of w)) same
 
-  pub results_told : {held held' : Option (List ℕ)} {faults faults' : ℕ} → Adds held held' (results test ls (bits_of ws)) → IsTold (IsReport Results t cells d x) held held' faults faults' Done
+  pub results_told : {sink sink' : SinkState} → Adds sink.held sink'.held (results test ls (bits_of ws)) → IsTold (IsReport Results t cells d x) sink sink' Done
   results_told adds = told (record { words = bits_of words; shown = shown; lines = lines_are }) (record { ends = inl (refl, adds) })
 
-  pub results_failed : {held held' : Option (List ℕ)} {faults faults' : ℕ} → HasRisen faults faults' → AddsPrefix held held' (results test ls (bits_of ws)) → IsTold (IsReport Results t cells d x) held held' faults faults' WriteFault
+  pub results_failed : {sink sink' : SinkState} → HasRisen sink.faults sink'.faults → AddsPrefix sink.held sink'.held (results test ls (bits_of ws)) → IsTold (IsReport Results t cells d x) sink sink' WriteFault
   results_failed risen adds = told (record { words = bits_of words; shown = shown; lines = lines_are }) (record { ends = inr (refl, risen, adds) })
 
 -- ---- a trace
@@ -108,13 +108,13 @@ module _ (t : Timed) (cells : Cells) (d : Design) (x : Values) (s : Stimulus) (s
   abbrev trace_of : Run → ℕ → List ℕ
   trace_of run n = text d ++ codes "%%\n" ++ run_lines d.module run.in_cycle n
 
-  pub trace_told : {held held' : Option (List ℕ)} {faults faults' : ℕ} → ((stream : Stream) (run : Run) → IsStimulated d.module s stream → IsRun d.module s.cycles stream run → Adds held held' (trace_of run s.cycles)) → IsTold (IsReport Trace t cells d x) held held' faults faults' Done
+  pub trace_told : {sink sink' : SinkState} → ((stream : Stream) (run : Run) → IsStimulated d.module s stream → IsRun d.module s.cycles stream run → Adds sink.held sink'.held (trace_of run s.cycles)) → IsTold (IsReport Trace t cells d x) sink sink' Done
   trace_told adds =
       let has = has_run d x s sound so in
       told (record { run = has.run; clocked = subst (λ n. IsFedRun d x n has.run) cycles has.clocked; lines = ap (trace_of has.run) cycles }) (record { ends = inl (refl, adds has.stream has.run has.stimulated has.is) })
 
-  pub trace_failed : {held held' : Option (List ℕ)} {faults faults' : ℕ} → HasRisen faults faults' → ((stream : Stream) (run : Run) → IsStimulated d.module s stream → IsRun d.module s.cycles stream run → AddsPrefix held held' (trace_of run s.cycles))
-      → IsTold (IsReport Trace t cells d x) held held' faults faults' WriteFault
+  pub trace_failed : {sink sink' : SinkState} → HasRisen sink.faults sink'.faults → ((stream : Stream) (run : Run) → IsStimulated d.module s stream → IsRun d.module s.cycles stream run → AddsPrefix sink.held sink'.held (trace_of run s.cycles))
+      → IsTold (IsReport Trace t cells d x) sink sink' WriteFault
   trace_failed risen adds =
       let has = has_run d x s sound so in
       told (record { run = has.run; clocked = subst (λ n. IsFedRun d x n has.run) cycles has.clocked; lines = ap (trace_of has.run) cycles }) (record { ends = inr (refl, risen, adds has.stream has.run has.stimulated has.is) })
@@ -128,8 +128,8 @@ module _ (cells : Cells) (d : Design) (bits : ℕ) (words ws : List Word) (n : �
   lines_same : lines_of n ≡ lines_of (residue bits (sum (bits_of words)))
   lines_same = ap lines_of (total ∙ ap (λ (w : List Word). residue bits (sum (bits_of w))) same)
 
-  pub summed_told : {held held' : Option (List ℕ)} {faults faults' : ℕ} → Adds held held' (lines_of n) → IsTold (IsSummed cells d bits) held held' faults faults' Done
+  pub summed_told : {sink sink' : SinkState} → Adds sink.held sink'.held (lines_of n) → IsTold (IsSummed cells d bits) sink sink' Done
   summed_told adds = told (record { words = bits_of words; shown = shown; lines = lines_same }) (record { ends = inl (refl, adds) })
 
-  pub summed_failed : {held held' : Option (List ℕ)} {faults faults' : ℕ} → HasRisen faults faults' → AddsPrefix held held' (lines_of n) → IsTold (IsSummed cells d bits) held held' faults faults' WriteFault
+  pub summed_failed : {sink sink' : SinkState} → HasRisen sink.faults sink'.faults → AddsPrefix sink.held sink'.held (lines_of n) → IsTold (IsSummed cells d bits) sink sink' WriteFault
   summed_failed risen adds = told (record { words = bits_of words; shown = shown; lines = lines_same }) (record { ends = inr (refl, risen, adds) })

@@ -80,7 +80,7 @@ pub(crate) fn demo<K: Sink>(
     sink: &mut K,
 ) -> Status
     requires { size ≤ 16 }
-    ensures { IsTold (GivesDemo size width.bits reach.size) (K.held sink.old) (K.held sink.new) (K.faults sink.old) (K.faults sink.new) result }
+    ensures { IsTold (GivesDemo size width.bits reach.size) (K.state sink.old) (K.state sink.new) result }
 {
     let Ok(sizes) = product_sizes(alloc, size) else {
         return Status::Memory;
@@ -94,7 +94,7 @@ pub(crate) fn demo<K: Sink>(
 // Clocks the design on the entries, and adds the two lines.
 fn multiply<K: Sink>(alloc: Global, compiled: &Compiled, width: Width, sink: &mut K) -> Status
     requires { IsEntered compiled.now.design width.bits }
-    ensures { IsTold (IsSummed compiled.now.cells compiled.now.design width.bits) (K.held sink.old) (K.held sink.new) (K.faults sink.old) (K.faults sink.new) result }
+    ensures { IsTold (IsSummed compiled.now.cells compiled.now.design width.bits) (K.state sink.old) (K.state sink.new) result }
 {
     match shown_of(alloc, &compiled.design, &Entries { width }) {
         Err(Memory) => Status::Memory,
@@ -121,9 +121,9 @@ fn total_of(words: &[Word], width: Width) -> Word
 
 // Writes the totals of the array, and the sum. It takes no memory.
 fn write_lines<K: Sink>(cells: &Cells, total: Word, sink: &mut K) -> Result<(), WriteFault>
-    ensures added { OnOk result (Adds (K.held sink.old) (K.held sink.new) (totals_line cells.now ++ (codes "sum " ++ decimal total.bits ++ codes "\n"))) }
-    ensures fault { IsErr result → HasRisen (K.faults sink.old) (K.faults sink.new) }
-    ensures front { OnErr result (AddsPrefix (K.held sink.old) (K.held sink.new) (totals_line cells.now ++ (codes "sum " ++ decimal total.bits ++ codes "\n"))) }
+    ensures added { OnOk result (Adds (K.state sink.old).held (K.state sink.new).held (totals_line cells.now ++ (codes "sum " ++ decimal total.bits ++ codes "\n"))) }
+    ensures fault { IsErr result → HasRisen (K.state sink.old).faults (K.state sink.new).faults }
+    ensures front { OnErr result (AddsPrefix (K.state sink.old).held (K.state sink.new).held (totals_line cells.now ++ (codes "sum " ++ decimal total.bits ++ codes "\n"))) }
 {
     let mut page = Page::new();
     write_totals(&mut page, sink, cells);

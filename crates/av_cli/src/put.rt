@@ -26,7 +26,7 @@ use av_vtext::write_design;
 
 /// Adds the text. The status is the one wanted, or that of a fault of the sink.
 pub(crate) fn put<K: Sink>(sink: &mut K, text: &str, wanted: Status) -> Status
-    ensures { IsPut (K.held sink.old) (K.held sink.new) (K.faults sink.old) (K.faults sink.new) text.now wanted result }
+    ensures { IsPut (K.state sink.old) (K.state sink.new) text.now wanted result }
 {
     match write_all(sink, text.as_bytes()) {
         Ok(()) => wanted,
@@ -36,7 +36,7 @@ pub(crate) fn put<K: Sink>(sink: &mut K, text: &str, wanted: Status) -> Status
 
 /// Adds the text of the design.
 pub(crate) fn put_design<K: Sink>(sink: &mut K, design: &Design) -> Status
-    ensures { IsPut (K.held sink.old) (K.held sink.new) (K.faults sink.old) (K.faults sink.new) (text design.now) Status.Done result }
+    ensures { IsPut (K.state sink.old) (K.state sink.new) (text design.now) Status.Done result }
 {
     match write_design(design, sink) {
         Ok(()) => Status::Done,
@@ -47,7 +47,7 @@ pub(crate) fn put_design<K: Sink>(sink: &mut K, design: &Design) -> Status
 /// Adds the lines of the schedule.
 pub(crate) fn put_schedule<K: Sink>(sink: &mut K, timed: &Timed) -> Status
     requires { IsLegal timed.now }
-    ensures { IsPut (K.held sink.old) (K.held sink.new) (K.faults sink.old) (K.faults sink.new) (schedule_text timed.now) Status.Done result }
+    ensures { IsPut (K.state sink.old) (K.state sink.new) (schedule_text timed.now) Status.Done result }
 {
     match write_schedule(timed, sink) {
         Ok(()) => Status::Done,
@@ -58,7 +58,7 @@ pub(crate) fn put_schedule<K: Sink>(sink: &mut K, timed: &Timed) -> Status
 /// Adds the lines of the array.
 pub(crate) fn put_table<K: Sink>(sink: &mut K, array: &Array) -> Status
     requires { IsArrayOf array.now.timed array.now.cells }
-    ensures { IsPut (K.held sink.old) (K.held sink.new) (K.faults sink.old) (K.faults sink.new) (table_text array.now.timed array.now.cells) Status.Done result }
+    ensures { IsPut (K.state sink.old) (K.state sink.new) (table_text array.now.timed array.now.cells) Status.Done result }
 {
     match write_table(&array.timed, &array.cells, sink) {
         Ok(()) => Status::Done,
@@ -68,8 +68,8 @@ pub(crate) fn put_table<K: Sink>(sink: &mut K, array: &Array) -> Status
 
 /// Adds the line of the refusal of a design text. Out of memory has no line: the status tells it.
 pub(crate) fn put_verilog_refusal<K: Sink>(sink: &mut K, fault: &VFault) -> Status
-    ensures memory { fault.now ≡ text_fault.Memory → (result ≡ Status.Memory) × (K.held sink.new ≡ K.held sink.old) }
-    ensures refused { (fault.now ≡ text_fault.Memory → ⊥) → IsPut (K.held sink.old) (K.held sink.new) (K.faults sink.old) (K.faults sink.new) (refusal_line (text_reason fault.now)) Status.Refused result }
+    ensures memory { fault.now ≡ text_fault.Memory → (result ≡ Status.Memory) × ((K.state sink.new).held ≡ (K.state sink.old).held) }
+    ensures refused { (fault.now ≡ text_fault.Memory → ⊥) → IsPut (K.state sink.old) (K.state sink.new) (refusal_line (text_reason fault.now)) Status.Refused result }
 {
     match fault {
         VFault::Memory => Status::Memory,
@@ -82,8 +82,8 @@ pub(crate) fn put_verilog_refusal<K: Sink>(sink: &mut K, fault: &VFault) -> Stat
 
 /// Adds the line of the refusal of a stimulus or of data. Out of memory has no line: the status tells it.
 pub(crate) fn put_data_refusal<K: Sink>(sink: &mut K, fault: &DataFault) -> Status
-    ensures memory { fault.now ≡ data_fault.Memory → (result ≡ Status.Memory) × (K.held sink.new ≡ K.held sink.old) }
-    ensures refused { (fault.now ≡ data_fault.Memory → ⊥) → IsPut (K.held sink.old) (K.held sink.new) (K.faults sink.old) (K.faults sink.new) (refusal_line (data_reason fault.now)) Status.Refused result }
+    ensures memory { fault.now ≡ data_fault.Memory → (result ≡ Status.Memory) × ((K.state sink.new).held ≡ (K.state sink.old).held) }
+    ensures refused { (fault.now ≡ data_fault.Memory → ⊥) → IsPut (K.state sink.old) (K.state sink.new) (refusal_line (data_reason fault.now)) Status.Refused result }
 {
     match fault {
         DataFault::Memory => Status::Memory,
@@ -96,8 +96,8 @@ pub(crate) fn put_data_refusal<K: Sink>(sink: &mut K, fault: &DataFault) -> Stat
 
 /// Adds the line of the refusal of an Alpha text. Out of memory has no line: the status tells it.
 pub(crate) fn put_alpha_refusal<K: Sink>(sink: &mut K, refusal: &Refusal) -> Status
-    ensures memory { refusal.now ≡ system_refusal.Memory → (result ≡ Status.Memory) × (K.held sink.new ≡ K.held sink.old) }
-    ensures refused { (refusal.now ≡ system_refusal.Memory → ⊥) → IsPut (K.held sink.old) (K.held sink.new) (K.faults sink.old) (K.faults sink.new) (refusal_line (system_reason refusal.now)) Status.Refused result }
+    ensures memory { refusal.now ≡ system_refusal.Memory → (result ≡ Status.Memory) × ((K.state sink.new).held ≡ (K.state sink.old).held) }
+    ensures refused { (refusal.now ≡ system_refusal.Memory → ⊥) → IsPut (K.state sink.old) (K.state sink.new) (refusal_line (system_reason refusal.now)) Status.Refused result }
 {
     match refusal {
         Refusal::Memory => Status::Memory,

@@ -12,7 +12,7 @@ use av_vread::VFault;
 use av_vtext::write_point;
 
 fn put_number<K: Sink>(page: &mut Page, sink: &mut K, words: &str, number: u32)
-    ensures { Puts (K.held sink.old) (K.held sink.new) (K.faults sink.old) (K.faults sink.new) page.old page.new (words.now ++ decimal number) }
+    ensures { Puts (K.state sink.old) (K.state sink.new) page.old page.new (words.now ++ decimal number) }
 {
     page.put(sink, words);
     page.put_number(sink, number);
@@ -20,7 +20,7 @@ fn put_number<K: Sink>(page: &mut Page, sink: &mut K, words: &str, number: u32)
 
 /// Puts the words and then the name on the page.
 pub(crate) fn put_name<K: Sink>(page: &mut Page, sink: &mut K, words: &str, name: &Name)
-    ensures { Puts (K.held sink.old) (K.held sink.new) (K.faults sink.old) (K.faults sink.new) page.old page.new (words.now ++ name.now) }
+    ensures { Puts (K.state sink.old) (K.state sink.new) page.old page.new (words.now ++ name.now) }
 {
     page.put(sink, words);
     page.put(sink, name.as_str());
@@ -28,7 +28,7 @@ pub(crate) fn put_name<K: Sink>(page: &mut Page, sink: &mut K, words: &str, name
 
 /// Puts the words and then the place on the page.
 pub(crate) fn put_place<K: Sink>(page: &mut Page, sink: &mut K, words: &str, place: Place)
-    ensures { Puts (K.held sink.old) (K.held sink.new) (K.faults sink.old) (K.faults sink.new) page.old page.new (words.now ++ place_text place) }
+    ensures { Puts (K.state sink.old) (K.state sink.new) page.old page.new (words.now ++ place_text place) }
 {
     page.put(sink, words);
     page.put_number(sink, place.line);
@@ -37,7 +37,7 @@ pub(crate) fn put_place<K: Sink>(page: &mut Page, sink: &mut K, words: &str, pla
 }
 
 fn put_text_reason<K: Sink>(page: &mut Page, sink: &mut K, fault: &VFault)
-    ensures { Puts (K.held sink.old) (K.held sink.new) (K.faults sink.old) (K.faults sink.new) page.old page.new (text_reason fault.now) }
+    ensures { Puts (K.state sink.old) (K.state sink.new) page.old page.new (text_reason fault.now) }
 {
     match fault {
         VFault::VByte(place) => put_place(page, sink, "verilog bad byte ", *place),
@@ -53,7 +53,7 @@ fn put_text_reason<K: Sink>(page: &mut Page, sink: &mut K, fault: &VFault)
 }
 
 fn put_data_reason<K: Sink>(page: &mut Page, sink: &mut K, fault: &DataFault)
-    ensures { Puts (K.held sink.old) (K.held sink.new) (K.faults sink.old) (K.faults sink.new) page.old page.new (data_reason fault.now) }
+    ensures { Puts (K.state sink.old) (K.state sink.new) page.old page.new (data_reason fault.now) }
 {
     match fault {
         DataFault::DataSyntax(number) => put_number(page, sink, "data syntax ", *number),
@@ -71,9 +71,9 @@ fn put_data_reason<K: Sink>(page: &mut Page, sink: &mut K, fault: &DataFault)
 
 /// Writes the line of the refusal of a design text.
 pub(crate) fn write_text_refusal<K: Sink>(fault: &VFault, sink: &mut K) -> Result<(), WriteFault>
-    ensures added { OnOk result (Adds (K.held sink.old) (K.held sink.new) (refusal_line (text_reason fault.now))) }
-    ensures fault { IsErr result → HasRisen (K.faults sink.old) (K.faults sink.new) }
-    ensures front { OnErr result (AddsPrefix (K.held sink.old) (K.held sink.new) (refusal_line (text_reason fault.now))) }
+    ensures added { OnOk result (Adds (K.state sink.old).held (K.state sink.new).held (refusal_line (text_reason fault.now))) }
+    ensures fault { IsErr result → HasRisen (K.state sink.old).faults (K.state sink.new).faults }
+    ensures front { OnErr result (AddsPrefix (K.state sink.old).held (K.state sink.new).held (refusal_line (text_reason fault.now))) }
 {
     let mut page = Page::new();
     page.put(sink, "refused: ");
@@ -84,9 +84,9 @@ pub(crate) fn write_text_refusal<K: Sink>(fault: &VFault, sink: &mut K) -> Resul
 
 /// Writes the line of the refusal of a stimulus or of data.
 pub(crate) fn write_data_refusal<K: Sink>(fault: &DataFault, sink: &mut K) -> Result<(), WriteFault>
-    ensures added { OnOk result (Adds (K.held sink.old) (K.held sink.new) (refusal_line (data_reason fault.now))) }
-    ensures fault { IsErr result → HasRisen (K.faults sink.old) (K.faults sink.new) }
-    ensures front { OnErr result (AddsPrefix (K.held sink.old) (K.held sink.new) (refusal_line (data_reason fault.now))) }
+    ensures added { OnOk result (Adds (K.state sink.old).held (K.state sink.new).held (refusal_line (data_reason fault.now))) }
+    ensures fault { IsErr result → HasRisen (K.state sink.old).faults (K.state sink.new).faults }
+    ensures front { OnErr result (AddsPrefix (K.state sink.old).held (K.state sink.new).held (refusal_line (data_reason fault.now))) }
 {
     let mut page = Page::new();
     page.put(sink, "refused: ");

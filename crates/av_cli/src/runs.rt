@@ -50,7 +50,7 @@ pub(crate) fn answer_run<K: Sink>(
     sink: &mut K,
 ) -> Status
     requires { length bytes.now ≤ 1048576 }
-    ensures { IsAnswered (RefusesRunWith words.now width.bits reach.size bytes.now) (GivesReportWith report words.now width.bits reach.size bytes.now) (K.held sink.old) (K.held sink.new) (K.faults sink.old) (K.faults sink.new) result }
+    ensures { IsAnswered (RefusesRunWith words.now width.bits reach.size bytes.now) (GivesReportWith report words.now width.bits reach.size bytes.now) (K.state sink.old) (K.state sink.new) result }
 {
     let sizes = match sizes(alloc, words) {
         Err(Memory) => return Status::Memory,
@@ -76,7 +76,7 @@ fn report_on<K: Sink>(
 ) -> Status
     requires clockable { IsClockable compiled.now.timed compiled.now.design }
     requires lines { first_line + length bytes.now < 4294967295 }
-    ensures { IsAnswered (RefusesLines compiled.now.timed first_line bytes.now) (GivesReported report compiled.now.timed compiled.now.cells compiled.now.design bytes.now) (K.held sink.old) (K.held sink.new) (K.faults sink.old) (K.faults sink.new) result }
+    ensures { IsAnswered (RefusesLines compiled.now.timed first_line bytes.now) (GivesReported report compiled.now.timed compiled.now.cells compiled.now.design bytes.now) (K.state sink.old) (K.state sink.new) result }
 {
     match read_data(alloc, bytes, first_line, &compiled.timed.flat) {
         Err(fault) => put_data_refusal(sink, &fault),
@@ -91,7 +91,7 @@ fn report_on<K: Sink>(
 fn put_results<K: Sink>(alloc: Global, compiled: &Compiled, inputs: &Inputs, sink: &mut K) -> Status
     requires clockable { IsClockable compiled.now.timed compiled.now.design }
     requires inputs { AreInputsOf (view_system compiled.now.timed.flat) (words_of inputs.now) }
-    ensures { IsTold (IsReport report.Results compiled.now.timed compiled.now.cells compiled.now.design (words_of inputs.now)) (K.held sink.old) (K.held sink.new) (K.faults sink.old) (K.faults sink.new) result }
+    ensures { IsTold (IsReport report.Results compiled.now.timed compiled.now.cells compiled.now.design (words_of inputs.now)) (K.state sink.old) (K.state sink.new) result }
 {
     match shown(alloc, &compiled.design, inputs) {
         Err(Memory) => Status::Memory,
@@ -134,9 +134,9 @@ fn write_results<K: Sink>(
     sink: &mut K,
 ) -> Result<(), WriteFault>
     requires { length words.now ≡ length lines.now }
-    ensures added { OnOk result (Adds (K.held sink.old) (K.held sink.new) (results (λ line. names_output (view_system flat.now) line.variable) lines.now (bits_of words.now))) }
-    ensures fault { IsErr result → HasRisen (K.faults sink.old) (K.faults sink.new) }
-    ensures front { OnErr result (AddsPrefix (K.held sink.old) (K.held sink.new) (results (λ line. names_output (view_system flat.now) line.variable) lines.now (bits_of words.now))) }
+    ensures added { OnOk result (Adds (K.state sink.old).held (K.state sink.new).held (results (λ line. names_output (view_system flat.now) line.variable) lines.now (bits_of words.now))) }
+    ensures fault { IsErr result → HasRisen (K.state sink.old).faults (K.state sink.new).faults }
+    ensures front { OnErr result (AddsPrefix (K.state sink.old).held (K.state sink.new).held (results (λ line. names_output (view_system flat.now) line.variable) lines.now (bits_of words.now))) }
 {
     for (k, line) in lines.iter().enumerate() {
         if names_output(flat, &line.variable) {
@@ -150,7 +150,7 @@ fn write_results<K: Sink>(
 fn put_trace<K: Sink>(alloc: Global, compiled: &Compiled, inputs: &Inputs, sink: &mut K) -> Status
     requires clockable { IsClockable compiled.now.timed compiled.now.design }
     requires inputs { AreInputsOf (view_system compiled.now.timed.flat) (words_of inputs.now) }
-    ensures { IsTold (IsReport report.Trace compiled.now.timed compiled.now.cells compiled.now.design (words_of inputs.now)) (K.held sink.old) (K.held sink.new) (K.faults sink.old) (K.faults sink.new) result }
+    ensures { IsTold (IsReport report.Trace compiled.now.timed compiled.now.cells compiled.now.design (words_of inputs.now)) (K.state sink.old) (K.state sink.new) result }
 {
     let design = &compiled.design;
     match feed(alloc, design, inputs, compiled.cells.cycles) {
@@ -175,10 +175,10 @@ fn write_trace<K: Sink>(
     requires prepared { IsPrepared design.now.module parts.old }
     requires left { AreLeft design.now.module.inputs stimulus.now.values 0 0 stimulus.now.values }
     ensures added { OnOk result ((stream : Ports) (run : Clocked) → IsStimulated design.now.module stimulus.now stream → IsRun design.now.module stimulus.now.cycles stream run
-        → Adds (K.held sink.old) (K.held sink.new) (text design.now ++ codes "%%\n" ++ run_lines design.now.module run.in_cycle stimulus.now.cycles)) }
-    ensures fault { IsErr result → HasRisen (K.faults sink.old) (K.faults sink.new) }
+        → Adds (K.state sink.old).held (K.state sink.new).held (text design.now ++ codes "%%\n" ++ run_lines design.now.module run.in_cycle stimulus.now.cycles)) }
+    ensures fault { IsErr result → HasRisen (K.state sink.old).faults (K.state sink.new).faults }
     ensures front { OnErr result ((stream : Ports) (run : Clocked) → IsStimulated design.now.module stimulus.now stream → IsRun design.now.module stimulus.now.cycles stream run
-        → AddsPrefix (K.held sink.old) (K.held sink.new) (text design.now ++ codes "%%\n" ++ run_lines design.now.module run.in_cycle stimulus.now.cycles)) }
+        → AddsPrefix (K.state sink.old).held (K.state sink.new).held (text design.now ++ codes "%%\n" ++ run_lines design.now.module run.in_cycle stimulus.now.cycles)) }
 {
     write_design(design, sink)?;
     write_all(sink, MARK.as_bytes())?;

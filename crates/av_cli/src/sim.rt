@@ -22,7 +22,7 @@ const NO_MARK: &str = "refused: no mark\n";
 fn clock_module<K: Sink>(alloc: Global, of: &Module, stimulus: &Stimulus, sink: &mut K) -> Status
     requires sound { IsSound of.now }
     requires left { AreLeft of.now.inputs stimulus.now.values 0 0 stimulus.now.values }
-    ensures { IsClocked of.now stimulus.now (K.held sink.old) (K.held sink.new) (K.faults sink.old) (K.faults sink.new) result }
+    ensures { IsClocked of.now stimulus.now (K.state sink.old) (K.state sink.new) result }
 {
     match make_ready(alloc, of) {
         Err(Memory) => Status::Memory,
@@ -43,7 +43,7 @@ fn sim_module<K: Sink>(
 ) -> Status
     requires sound { IsSound of.now }
     requires lines { first_line + length bytes.now < 4294967295 }
-    ensures { IsAnswered (RefusesStimulus of.now bytes.now first_line) (GivesRun of.now bytes.now) (K.held sink.old) (K.held sink.new) (K.faults sink.old) (K.faults sink.new) result }
+    ensures { IsAnswered (RefusesStimulus of.now bytes.now first_line) (GivesRun of.now bytes.now) (K.state sink.old) (K.state sink.new) result }
 {
     match read_stimulus(alloc, bytes, first_line, of) {
         Err(fault) => put_data_refusal(sink, &fault),
@@ -54,7 +54,7 @@ fn sim_module<K: Sink>(
 /// Answers a design text, a line `%%` and a stimulus.
 pub(crate) fn sim<K: Sink>(alloc: Global, bytes: &[u8], sink: &mut K) -> Status
     requires { length bytes.now ≤ 1048576 }
-    ensures { IsAnswered (RefusesSim bytes.now) (GivesSim bytes.now) (K.held sink.old) (K.held sink.new) (K.faults sink.old) (K.faults sink.new) result }
+    ensures { IsAnswered (RefusesSim bytes.now) (GivesSim bytes.now) (K.state sink.old) (K.state sink.new) result }
 {
     let Some(parts) = divide(bytes) else {
         return put(sink, NO_MARK, Status::Refused);

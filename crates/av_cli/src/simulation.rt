@@ -188,11 +188,11 @@ pub(crate) fn run<K: Sink>(
     requires prepared { IsPrepared parts.old.clock.of parts.old }
     requires left { AreLeft parts.old.clock.of.inputs stimulus.now.values 0 0 stimulus.now.values }
     ensures added { OnOk result ((stream : Inputs) (run : Clocked) → IsStimulated parts.old.clock.of stimulus.now stream → IsRun parts.old.clock.of stimulus.now.cycles stream run
-        → Adds (K.held sink.old) (K.held sink.new) (run_lines parts.old.clock.of run.in_cycle stimulus.now.cycles)) }
-    ensures fault { IsErr result → HasRisen (K.faults sink.old) (K.faults sink.new) }
+        → Adds (K.state sink.old).held (K.state sink.new).held (run_lines parts.old.clock.of run.in_cycle stimulus.now.cycles)) }
+    ensures fault { IsErr result → HasRisen (K.state sink.old).faults (K.state sink.new).faults }
     ensures front { OnErr result ((stream : Inputs) (run : Clocked) → IsStimulated parts.old.clock.of stimulus.now stream → IsRun parts.old.clock.of stimulus.now.cycles stream run
-        → AddsPrefix (K.held sink.old) (K.held sink.new) (run_lines parts.old.clock.of run.in_cycle stimulus.now.cycles)) }
-    ensures later { K.faults sink.old ≤ K.faults sink.new }
+        → AddsPrefix (K.state sink.old).held (K.state sink.new).held (run_lines parts.old.clock.of run.in_cycle stimulus.now.cycles)) }
+    ensures later { (K.state sink.old).faults ≤ (K.state sink.new).faults }
 {
     let given = stimulus.values.as_slice();
     let mut next = 0;

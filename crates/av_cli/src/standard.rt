@@ -57,9 +57,7 @@ impl<W: Write> StdSink<W> {
 }
 
 impl<W: Write> Sink for StdSink<W> {
-    ghost held = { λ s. None };
-
-    ghost faults = { λ s. s.faults };
+    ghost state = { λ s. record { held = None; faults = s.faults } };
 
     fn write(&mut self, piece: &[u8]) -> Result<usize, Failed> {
         match write_some(&mut self.writer, piece) {

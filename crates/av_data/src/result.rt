@@ -14,10 +14,10 @@ pub fn write_result<K: Sink>(
     word: Word,
     sink: &mut K,
 ) -> Result<(), WriteFault>
-    ensures added { OnOk result (Adds (K.held sink.old) (K.held sink.new) (result_line name.now point.now word.bits)) }
-    ensures fault { IsErr result → HasRisen (K.faults sink.old) (K.faults sink.new) }
-    ensures front { OnErr result (AddsPrefix (K.held sink.old) (K.held sink.new) (result_line name.now point.now word.bits)) }
-    ensures later { K.faults sink.old ≤ K.faults sink.new }
+    ensures added { OnOk result (Adds (K.state sink.old).held (K.state sink.new).held (result_line name.now point.now word.bits)) }
+    ensures fault { IsErr result → HasRisen (K.state sink.old).faults (K.state sink.new).faults }
+    ensures front { OnErr result (AddsPrefix (K.state sink.old).held (K.state sink.new).held (result_line name.now point.now word.bits)) }
+    ensures later { (K.state sink.old).faults ≤ (K.state sink.new).faults }
 {
     let mut page = Page::new();
     write_line(&mut page, sink, name, point, word);
@@ -25,7 +25,7 @@ pub fn write_result<K: Sink>(
 }
 
 fn write_line<K: Sink>(page: &mut Page, sink: &mut K, name: &str, point: &Point, word: Word)
-    ensures { Puts (K.held sink.old) (K.held sink.new) (K.faults sink.old) (K.faults sink.new) page.old page.new (result_line name.now point.now word.bits) }
+    ensures { Puts (K.state sink.old) (K.state sink.new) page.old page.new (result_line name.now point.now word.bits) }
 {
     page.put(sink, name);
     page.put(sink, " ");

@@ -1,11 +1,11 @@
 -- What it comes to when texts are put on a page, one after another.
-use Rattle.std.proofs.Common.{◌≡◌, ◌⊎◌, ℕ, ◌+◌, ◌<◌, ◌≤◌, Bool, true, false, List, [], ◌∷◌, ◌++◌, length, get_or, take, drop, Option, refl, sym, ◌∙◌, ap, append_assoc, arith, inl, inr, subst}
+use Rattle.std.proofs.Common.{◌≡◌, ◌⊎◌, ℕ, ◌+◌, ◌<◌, ◌≤◌, Bool, true, false, List, [], ◌∷◌, ◌++◌, length, get_or, take, drop, refl, sym, ◌∙◌, ap, append_assoc, arith, inl, inr, subst}
 use Rattle.std.proofs.lemmas.List.{append-nil, take-append-drop, take_more}
 use Rattle.std.proofs.Math.Seq.{take-append_seam}
 use Rattle.std.specs.List.{flat_map}
 use Rattle.std.proofs.lemmas.Bool.{cases_lt}
 use Rattle.std.proofs.lemmas.Grind.{flat_map-append}
-use Rattle.av_base.specs.Outside.{Adds, AddsPrefix, HasRisen}
+use Rattle.av_base.specs.Outside.{SinkState, Adds, AddsPrefix, HasRisen}
 use Rattle.av_base.proofs.Moves.{Adds-more, Adds-none, risen_since}
 use Rattle.av_page.specs.Pages.{Draft, Puts}
 
@@ -20,49 +20,49 @@ risen_before : (a b c : ℕ) → a ≤ b → b ≤ c → HasRisen a b → HasRis
 risen_before a b c first second (inl lt) = inl (omega arith)
 risen_before a b c first second (inr last) = elim (cases_lt a c) [ inl lt ↦ inl lt | inr not ↦ inr (omega (arith, last)) ]
 
-more_goes : {h0 h1 h2 : Option (List ℕ)} {f0 f1 f2 : ℕ} {a b c : Draft} {s t : List ℕ}
-    → Puts h0 h1 f0 f1 a b s → Puts h1 h2 f1 f2 b c t → b.failed ≡ false → Puts h0 h2 f0 f2 a c (s ++ t)
-more_goes {h0} {h1} {h2} {f0} {f1} {f2} {a} {b} {c} {s} {t} p q goes = record {
+more_goes : {s0 s1 s2 : SinkState} {a b c : Draft} {s t : List ℕ}
+    → Puts s0 s1 a b s → Puts s1 s2 b c t → b.failed ≡ false → Puts s0 s2 a c (s ++ t)
+more_goes {s0} {s1} {s2} {a} {b} {c} {s} {t} p q goes = record {
   sent = p.sent ++ q.sent;
-  added = Adds-more h0 h1 h2 p.sent q.sent p.added q.added;
+  added = Adds-more s0.held s1.held s2.held p.sent q.sent p.added q.added;
   rest = q.rest;
   split = λ start.
       append_assoc p.sent q.sent q.rest ∙ ap (λ x. p.sent ++ x) (q.split goes) ∙ ap (λ x. p.sent ++ (x ++ t)) (p.waits goes)
       ∙ sym (append_assoc p.sent p.rest t) ∙ ap (λ x. x ++ t) (p.split start) ∙ append_assoc a.waiting s t;
   waits = q.waits;
   stopped = λ before. absurd (let e = (p.stopped before).1 in cc);
-  cause = λ after. elim (q.cause after) [ inl before ↦ absurd (cc) | inr risen ↦ inr (risen_since f0 f1 f2 p.later risen) ];
+  cause = λ after. elim (q.cause after) [ inl before ↦ absurd (cc) | inr risen ↦ inr (risen_since s0.faults s1.faults s2.faults p.later risen) ];
   later = omega (arith, p.later, q.later);
 }
 
-more_stopped : {h0 h1 h2 : Option (List ℕ)} {f0 f1 f2 : ℕ} {a b c : Draft} {s t : List ℕ}
-    → Puts h0 h1 f0 f1 a b s → Puts h1 h2 f1 f2 b c t → b.failed ≡ true → Puts h0 h2 f0 f2 a c (s ++ t)
-more_stopped {h0} {h1} {h2} {f0} {f1} {f2} {a} {b} {c} {s} {t} p q stops =
+more_stopped : {s0 s1 s2 : SinkState} {a b c : Draft} {s t : List ℕ}
+    → Puts s0 s1 a b s → Puts s1 s2 b c t → b.failed ≡ true → Puts s0 s2 a c (s ++ t)
+more_stopped {s0} {s1} {s2} {a} {b} {c} {s} {t} p q stops =
     let none : q.sent ≡ [] = (q.stopped stops).0 in
     let end : c.failed ≡ true = (q.stopped stops).1 in
     let same : p.sent ++ q.sent ≡ p.sent = ap (λ x. p.sent ++ x) none ∙ append-nil p.sent in
     record {
       sent = p.sent ++ q.sent;
-      added = Adds-more h0 h1 h2 p.sent q.sent p.added q.added;
+      added = Adds-more s0.held s1.held s2.held p.sent q.sent p.added q.added;
       rest = p.rest ++ t;
       split = λ start.
           ap (λ x. x ++ (p.rest ++ t)) same ∙ sym (append_assoc p.sent p.rest t) ∙ ap (λ x. x ++ t) (p.split start) ∙ append_assoc a.waiting s t;
       waits = λ goes. absurd (let e = end in cc);
       stopped = λ before. (same ∙ (p.stopped before).0, end);
-      cause = λ after. elim (p.cause stops) [ inl before ↦ inl before | inr risen ↦ inr (risen_before f0 f1 f2 p.later q.later risen) ];
+      cause = λ after. elim (p.cause stops) [ inl before ↦ inl before | inr risen ↦ inr (risen_before s0.faults s1.faults s2.faults p.later q.later risen) ];
       later = omega (arith, p.later, q.later);
     }
 
 -- one text, and then another
-pub Puts-more : {h0 h1 h2 : Option (List ℕ)} {f0 f1 f2 : ℕ} {a b c : Draft} {s t : List ℕ}
-    → Puts h0 h1 f0 f1 a b s → Puts h1 h2 f1 f2 b c t → Puts h0 h2 f0 f2 a c (s ++ t)
+pub Puts-more : {s0 s1 s2 : SinkState} {a b c : Draft} {s t : List ℕ}
+    → Puts s0 s1 a b s → Puts s1 s2 b c t → Puts s0 s2 a c (s ++ t)
 Puts-more {b = b} p q = elim (either b.failed) [ inl stops ↦ more_stopped p q stops | inr goes ↦ more_goes p q goes ]
 
 -- nothing
-pub Puts-none : (h : Option (List ℕ)) (f : ℕ) (a : Draft) → Puts h h f f a a []
-Puts-none h f a = record {
+pub Puts-none : (sink : SinkState) (a : Draft) → Puts sink sink a a []
+Puts-none sink a = record {
   sent = [];
-  added = Adds-none h h refl;
+  added = Adds-none sink.held sink.held refl;
   rest = a.waiting;
   split = λ _. sym (append-nil a.waiting);
   waits = λ _. refl;
@@ -72,18 +72,18 @@ Puts-none h f a = record {
 }
 
 -- a text, and then a sending
-pub Puts-then_sent : {h0 h1 h2 : Option (List ℕ)} {f0 f1 f2 : ℕ} {a b c : Draft} {s : List ℕ}
-    → Puts h0 h1 f0 f1 a b s → Puts h1 h2 f1 f2 b c [] → Puts h0 h2 f0 f2 a c s
-Puts-then_sent {h0} {h1} {h2} {f0} {f1} {f2} {a} {b} {c} {s} p q = subst (Puts h0 h2 f0 f2 a c) (append-nil s) (Puts-more p q)
+pub Puts-then_sent : {s0 s1 s2 : SinkState} {a b c : Draft} {s : List ℕ}
+    → Puts s0 s1 a b s → Puts s1 s2 b c [] → Puts s0 s2 a c s
+Puts-then_sent {s0} {s1} {s2} {a} {b} {c} {s} p q = subst (Puts s0 s2 a c) (append-nil s) (Puts-more p q)
 
 -- the text, in another spelling
-pub Puts-is : {h0 h1 : Option (List ℕ)} {f0 f1 : ℕ} {a b : Draft} {s t : List ℕ} → Puts h0 h1 f0 f1 a b s → s ≡ t → Puts h0 h1 f0 f1 a b t
-Puts-is {h0} {h1} {f0} {f1} {a} {b} p e = subst (Puts h0 h1 f0 f1 a b) e p
+pub Puts-is : {s0 s1 : SinkState} {a b : Draft} {s t : List ℕ} → Puts s0 s1 a b s → s ≡ t → Puts s0 s1 a b t
+Puts-is {s0} {s1} {a} {b} p e = subst (Puts s0 s1 a b) e p
 
 -- the texts of some items, and that of the next one
-pub Puts-next : {X : Type 0} {h0 h1 h2 : Option (List ℕ)} {f0 f1 f2 : ℕ} {a b c : Draft} (text : X → List ℕ) (items : List X) (i : ℕ) (x : X) → i < length items
-    → x ≡ get_or items i x → Puts h0 h1 f0 f1 a b (flat_map text (take i items)) → Puts h1 h2 f1 f2 b c (text x)
-    → Puts h0 h2 f0 f2 a c (flat_map text (take (i + 1) items))
+pub Puts-next : {X : Type 0} {s0 s1 s2 : SinkState} {a b c : Draft} (text : X → List ℕ) (items : List X) (i : ℕ) (x : X) → i < length items
+    → x ≡ get_or items i x → Puts s0 s1 a b (flat_map text (take i items)) → Puts s1 s2 b c (text x)
+    → Puts s0 s2 a c (flat_map text (take (i + 1) items))
 Puts-next {X} text items i x lt is p q =
     let more : take (i + 1) items ≡ take i items ++ x ∷ [] = take_more items i x lt ∙ ap (λ y. take i items ++ y ∷ []) (sym is) in
     let e : flat_map text (take (i + 1) items) ≡ flat_map text (take i items) ++ text x =
@@ -93,10 +93,10 @@ Puts-next {X} text items i x lt is p q =
 -- ---- on one page
 
 -- a text that waits
-pub Puts-kept : (h : Option (List ℕ)) (f : ℕ) (a b : Draft) (t : List ℕ) → b ≡ record { waiting = a.waiting ++ t; failed = a.failed } → Puts h h f f a b t
-Puts-kept h f a b t e = record {
+pub Puts-kept : (sink : SinkState) (a b : Draft) (t : List ℕ) → b ≡ record { waiting = a.waiting ++ t; failed = a.failed } → Puts sink sink a b t
+Puts-kept sink a b t e = record {
   sent = [];
-  added = Adds-none h h refl;
+  added = Adds-none sink.held sink.held refl;
   rest = a.waiting ++ t;
   split = λ _. refl;
   waits = λ _. ap (λ d. d.waiting) e;
@@ -106,9 +106,9 @@ Puts-kept h f a b t e = record {
 }
 
 -- what waits is sent as bytes are
-pub Puts-sent : {h h' : Option (List ℕ)} {f f' : ℕ} (before after : Bool) (t : List ℕ)
-    → Puts h h' f f' (record { waiting = []; failed = before }) (record { waiting = []; failed = after }) t
-    → Puts h h' f f' (record { waiting = t; failed = before }) (record { waiting = []; failed = after }) []
+pub Puts-sent : {sink sink' : SinkState} (before after : Bool) (t : List ℕ)
+    → Puts sink sink' (record { waiting = []; failed = before }) (record { waiting = []; failed = after }) t
+    → Puts sink sink' (record { waiting = t; failed = before }) (record { waiting = []; failed = after }) []
 Puts-sent before after t p = record {
   sent = p.sent;
   added = p.added;
@@ -122,11 +122,11 @@ Puts-sent before after t p = record {
 
 -- ---- one write
 
-pub dropped : (h : Option (List ℕ)) (f : ℕ) (before : Bool) (t : List ℕ) → before ≡ true
-    → Puts h h f f (record { waiting = []; failed = before }) (record { waiting = []; failed = true }) t
-dropped h f before t stops = record {
+pub dropped : (sink : SinkState) (before : Bool) (t : List ℕ) → before ≡ true
+    → Puts sink sink (record { waiting = []; failed = before }) (record { waiting = []; failed = true }) t
+dropped sink before t stops = record {
   sent = [];
-  added = Adds-none h h refl;
+  added = Adds-none sink.held sink.held refl;
   rest = [];
   split = λ start. absurd (let e = stops in cc);
   waits = λ _. refl;
@@ -135,9 +135,9 @@ dropped h f before t stops = record {
   later = omega arith;
 }
 
-pub all_sent : (h h' : Option (List ℕ)) (f f' : ℕ) (before : Bool) (t : List ℕ) → before ≡ false → Adds h h' t → f ≤ f'
-    → Puts h h' f f' (record { waiting = []; failed = before }) (record { waiting = []; failed = false }) t
-all_sent h h' f f' before t goes adds later = record {
+pub all_sent : (sink sink' : SinkState) (before : Bool) (t : List ℕ) → before ≡ false → Adds sink.held sink'.held t → sink.faults ≤ sink'.faults
+    → Puts sink sink' (record { waiting = []; failed = before }) (record { waiting = []; failed = false }) t
+all_sent sink sink' before t goes adds later = record {
   sent = t;
   added = adds;
   rest = [];
@@ -148,9 +148,9 @@ all_sent h h' f f' before t goes adds later = record {
   later = later;
 }
 
-pub front_sent : (h h' : Option (List ℕ)) (f f' : ℕ) (before : Bool) (t : List ℕ) → before ≡ false → AddsPrefix h h' t → HasRisen f f' → f ≤ f'
-    → Puts h h' f f' (record { waiting = []; failed = before }) (record { waiting = []; failed = true }) t
-front_sent h h' f f' before t goes (n, adds) risen later = record {
+pub front_sent : (sink sink' : SinkState) (before : Bool) (t : List ℕ) → before ≡ false → AddsPrefix sink.held sink'.held t → HasRisen sink.faults sink'.faults → sink.faults ≤ sink'.faults
+    → Puts sink sink' (record { waiting = []; failed = before }) (record { waiting = []; failed = true }) t
+front_sent sink sink' before t goes (n, adds) risen later = record {
   sent = take n t;
   added = adds;
   rest = drop n t;
@@ -164,18 +164,18 @@ front_sent h h' f f' before t goes (n, adds) risen later = record {
 -- ---- a whole text
 
 -- all of it was added
-pub whole : {h h' : Option (List ℕ)} {f f' : ℕ} {a b : Draft} {t : List ℕ} → Puts h h' f f' a b t → a ≡ record { waiting = []; failed = false }
-    → b.waiting ≡ [] → b.failed ≡ false → Adds h h' t
-whole {h} {h'} {f} {f'} {a} {b} {t} p start empty goes =
+pub whole : {sink sink' : SinkState} {a b : Draft} {t : List ℕ} → Puts sink sink' a b t → a ≡ record { waiting = []; failed = false }
+    → b.waiting ≡ [] → b.failed ≡ false → Adds sink.held sink'.held t
+whole {sink} {sink'} {a} {b} {t} p start empty goes =
     let none : p.rest ≡ [] = sym (p.waits goes) ∙ empty in
     let split : p.sent ++ p.rest ≡ a.waiting ++ t = p.split (ap (λ d. d.failed) start) in
     let same : p.sent ≡ t = sym (append-nil p.sent) ∙ sym (ap (λ x. p.sent ++ x) none) ∙ split ∙ ap (λ d. d.waiting ++ t) start in
-    subst (Adds h h') same p.added
+    subst (Adds sink.held sink'.held) same p.added
 
 -- a prefix of it was added
-pub front : {h h' : Option (List ℕ)} {f f' : ℕ} {a b : Draft} {t : List ℕ} → Puts h h' f f' a b t → a ≡ record { waiting = []; failed = false }
-    → AddsPrefix h h' t
-front {h} {h'} {f} {f'} {a} {b} {t} p start =
+pub front : {sink sink' : SinkState} {a b : Draft} {t : List ℕ} → Puts sink sink' a b t → a ≡ record { waiting = []; failed = false }
+    → AddsPrefix sink.held sink'.held t
+front {sink} {sink'} {a} {b} {t} p start =
     let split : p.sent ++ p.rest ≡ t = p.split (ap (λ d. d.failed) start) ∙ ap (λ d. d.waiting ++ t) start in
     let same : p.sent ≡ take (length p.sent) t = sym (take-append_seam p.sent p.rest) ∙ ap (take (length p.sent)) split in
-    (length p.sent, subst (Adds h h') same p.added)
+    (length p.sent, subst (Adds sink.held sink'.held) same p.added)

@@ -42,7 +42,7 @@ impl Page {
 
     /// Puts a piece on the page.
     pub fn put<K: Sink>(&mut self, sink: &mut K, piece: &str)
-        ensures { Puts (K.held sink.old) (K.held sink.new) (K.faults sink.old) (K.faults sink.new) self.old self.new piece.now }
+        ensures { Puts (K.state sink.old) (K.state sink.new) self.old self.new piece.now }
     {
         if piece.len() <= SIZE - self.used {
             self.keep(piece.as_bytes());
@@ -54,14 +54,14 @@ impl Page {
 
     /// Puts a number on the page, in decimal.
     pub fn put_number<K: Sink, I: Integer>(&mut self, sink: &mut K, number: I)
-        ensures { Puts (K.held sink.old) (K.held sink.new) (K.faults sink.old) (K.faults sink.new) self.old self.new (I.text number) }
+        ensures { Puts (K.state sink.old) (K.state sink.new) self.old self.new (I.text number) }
     {
         self.put(sink, Buffer::new().format(number));
     }
 
     /// Sends what waits. It is an error where the sink failed, now or before.
     pub fn finish<K: Sink>(&mut self, sink: &mut K) -> Result<(), WriteFault>
-        ensures put { Puts (K.held sink.old) (K.held sink.new) (K.faults sink.old) (K.faults sink.new) self.old self.new [] }
+        ensures put { Puts (K.state sink.old) (K.state sink.new) self.old self.new [] }
         ensures sent { OnOk result (self.new ≡ record { waiting = []; failed = false }) }
         ensures failed { IsErr result → self.new.failed ≡ true }
     {
@@ -71,7 +71,7 @@ impl Page {
 
     // Sends what waits.
     fn send<K: Sink>(&mut self, sink: &mut K)
-        ensures put { Puts (K.held sink.old) (K.held sink.new) (K.faults sink.old) (K.faults sink.new) self.old self.new [] }
+        ensures put { Puts (K.state sink.old) (K.state sink.new) self.old self.new [] }
         ensures empty { self.new.waiting ≡ [] }
     {
         self.failed = offer(sink, &self.room[..self.used], self.failed);
@@ -81,7 +81,7 @@ impl Page {
     // Sends a piece, while nothing waits.
     fn pass<K: Sink>(&mut self, sink: &mut K, piece: &[u8])
         requires { self.old.waiting ≡ [] }
-        ensures { Puts (K.held sink.old) (K.held sink.new) (K.faults sink.old) (K.faults sink.new) self.old self.new piece.now }
+        ensures { Puts (K.state sink.old) (K.state sink.new) self.old self.new piece.now }
     {
         self.failed = offer(sink, piece, self.failed);
     }
@@ -99,7 +99,7 @@ impl Page {
 
 // Writes the bytes, unless the sink has failed, and says whether it has by now.
 fn offer<K: Sink>(sink: &mut K, bytes: &[u8], failed: bool) -> bool
-    ensures { Puts (K.held sink.old) (K.held sink.new) (K.faults sink.old) (K.faults sink.new) (record { waiting = []; failed = failed }) (record { waiting = []; failed = result }) bytes.now }
+    ensures { Puts (K.state sink.old) (K.state sink.new) (record { waiting = []; failed = failed }) (record { waiting = []; failed = result }) bytes.now }
 {
     if failed {
         return true;

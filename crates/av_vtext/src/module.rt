@@ -11,7 +11,7 @@ use av_page::Page;
 
 #[tactic(auto, unfolding(av_net::specs::Texts::module_text))]
 pub(crate) fn write_module<K: Sink>(page: &mut Page, sink: &mut K, of: &Module)
-    ensures { Puts (K.held sink.old) (K.held sink.new) (K.faults sink.old) (K.faults sink.new) page.old page.new (module_text of.now) }
+    ensures { Puts (K.state sink.old) (K.state sink.new) page.old page.new (module_text of.now) }
 {
     write_header(page, sink, of);
     write_declarations(page, sink, of);
@@ -20,21 +20,21 @@ pub(crate) fn write_module<K: Sink>(page: &mut Page, sink: &mut K, of: &Module)
 }
 
 fn write_declarations<K: Sink>(page: &mut Page, sink: &mut K, of: &Module)
-    ensures { Puts (K.held sink.old) (K.held sink.new) (K.faults sink.old) (K.faults sink.new) page.old page.new (declarations_text of.now) }
+    ensures { Puts (K.state sink.old) (K.state sink.new) page.old page.new (declarations_text of.now) }
 {
     write_kind(page, sink, "wire", of.wires.as_slice());
     write_kind(page, sink, "reg", of.registers.as_slice());
 }
 
 fn write_items<K: Sink>(page: &mut Page, sink: &mut K, of: &Module)
-    ensures { Puts (K.held sink.old) (K.held sink.new) (K.faults sink.old) (K.faults sink.new) page.old page.new (items_text of.now) }
+    ensures { Puts (K.state sink.old) (K.state sink.new) page.old page.new (items_text of.now) }
 {
     write_drives(page, sink, of.drives.as_slice());
     write_steps(page, sink, of.registers.as_slice(), of.steps.as_slice());
 }
 
 fn write_header<K: Sink>(page: &mut Page, sink: &mut K, of: &Module)
-    ensures { Puts (K.held sink.old) (K.held sink.new) (K.faults sink.old) (K.faults sink.new) page.old page.new (header_line of.now) }
+    ensures { Puts (K.state sink.old) (K.state sink.new) page.old page.new (header_line of.now) }
 {
     page.put(sink, "module ");
     page.put(sink, of.name.as_str());
@@ -45,20 +45,20 @@ fn write_header<K: Sink>(page: &mut Page, sink: &mut K, of: &Module)
 
 #[tactic(auto, unfolding(av_net::specs::Texts::clocked_text))]
 fn write_clocked<K: Sink>(page: &mut Page, sink: &mut K)
-    ensures { Puts (K.held sink.old) (K.held sink.new) (K.faults sink.old) (K.faults sink.new) page.old page.new clocked_text }
+    ensures { Puts (K.state sink.old) (K.state sink.new) page.old page.new clocked_text }
 {
     page.put(sink, "(input clk, input rst");
 }
 
 fn write_module_ports<K: Sink>(page: &mut Page, sink: &mut K, of: &Module)
-    ensures { Puts (K.held sink.old) (K.held sink.new) (K.faults sink.old) (K.faults sink.new) page.old page.new (ports_text of.now) }
+    ensures { Puts (K.state sink.old) (K.state sink.new) page.old page.new (ports_text of.now) }
 {
     write_ports(page, sink, "input", of.inputs.as_slice());
     write_ports(page, sink, "output", of.outputs.as_slice());
 }
 
 fn write_ports<K: Sink>(page: &mut Page, sink: &mut K, direction: &str, ports: &[Port])
-    ensures { Puts (K.held sink.old) (K.held sink.new) (K.faults sink.old) (K.faults sink.new) page.old page.new (flat_map (port_text direction.now) ports.now) }
+    ensures { Puts (K.state sink.old) (K.state sink.new) page.old page.new (flat_map (port_text direction.now) ports.now) }
 {
     for port in ports {
         write_port(page, sink, direction, port);
@@ -66,7 +66,7 @@ fn write_ports<K: Sink>(page: &mut Page, sink: &mut K, direction: &str, ports: &
 }
 
 fn write_port<K: Sink>(page: &mut Page, sink: &mut K, direction: &str, port: &Port)
-    ensures { Puts (K.held sink.old) (K.held sink.new) (K.faults sink.old) (K.faults sink.new) page.old page.new (port_text direction.now port.now) }
+    ensures { Puts (K.state sink.old) (K.state sink.new) page.old page.new (port_text direction.now port.now) }
 {
     page.put(sink, ", ");
     page.put(sink, direction);
@@ -77,7 +77,7 @@ fn write_port<K: Sink>(page: &mut Page, sink: &mut K, direction: &str, port: &Po
 }
 
 fn write_range<K: Sink>(page: &mut Page, sink: &mut K, width: Width)
-    ensures { Puts (K.held sink.old) (K.held sink.new) (K.faults sink.old) (K.faults sink.new) page.old page.new (range_text width) }
+    ensures { Puts (K.state sink.old) (K.state sink.new) page.old page.new (range_text width) }
 {
     page.put(sink, "[");
     page.put_number(sink, width.bits - 1);
@@ -85,7 +85,7 @@ fn write_range<K: Sink>(page: &mut Page, sink: &mut K, width: Width)
 }
 
 fn write_kind<K: Sink>(page: &mut Page, sink: &mut K, kind: &str, ports: &[Port])
-    ensures { Puts (K.held sink.old) (K.held sink.new) (K.faults sink.old) (K.faults sink.new) page.old page.new (flat_map (declaration_line kind.now) ports.now) }
+    ensures { Puts (K.state sink.old) (K.state sink.new) page.old page.new (flat_map (declaration_line kind.now) ports.now) }
 {
     for port in ports {
         write_declaration(page, sink, kind, port);
@@ -93,7 +93,7 @@ fn write_kind<K: Sink>(page: &mut Page, sink: &mut K, kind: &str, ports: &[Port]
 }
 
 fn write_declaration<K: Sink>(page: &mut Page, sink: &mut K, kind: &str, port: &Port)
-    ensures { Puts (K.held sink.old) (K.held sink.new) (K.faults sink.old) (K.faults sink.new) page.old page.new (declaration_line kind.now port.now) }
+    ensures { Puts (K.state sink.old) (K.state sink.new) page.old page.new (declaration_line kind.now port.now) }
 {
     page.put(sink, "  ");
     page.put(sink, kind);
@@ -105,7 +105,7 @@ fn write_declaration<K: Sink>(page: &mut Page, sink: &mut K, kind: &str, port: &
 }
 
 fn write_drives<K: Sink>(page: &mut Page, sink: &mut K, drives: &[Drive])
-    ensures { Puts (K.held sink.old) (K.held sink.new) (K.faults sink.old) (K.faults sink.new) page.old page.new (flat_map drive_line drives.now) }
+    ensures { Puts (K.state sink.old) (K.state sink.new) page.old page.new (flat_map drive_line drives.now) }
 {
     for drive in drives {
         write_drive(page, sink, drive);
@@ -113,7 +113,7 @@ fn write_drives<K: Sink>(page: &mut Page, sink: &mut K, drives: &[Drive])
 }
 
 fn write_drive<K: Sink>(page: &mut Page, sink: &mut K, drive: &Drive)
-    ensures { Puts (K.held sink.old) (K.held sink.new) (K.faults sink.old) (K.faults sink.new) page.old page.new (drive_line drive.now) }
+    ensures { Puts (K.state sink.old) (K.state sink.new) page.old page.new (drive_line drive.now) }
 {
     page.put(sink, "  assign ");
     page.put(sink, drive.target.as_str());
@@ -123,7 +123,7 @@ fn write_drive<K: Sink>(page: &mut Page, sink: &mut K, drive: &Drive)
 }
 
 fn write_steps<K: Sink>(page: &mut Page, sink: &mut K, registers: &[Port], steps: &[Step])
-    ensures { Puts (K.held sink.old) (K.held sink.new) (K.faults sink.old) (K.faults sink.new) page.old page.new (flat_map (step_line registers.now) steps.now) }
+    ensures { Puts (K.state sink.old) (K.state sink.new) page.old page.new (flat_map (step_line registers.now) steps.now) }
 {
     for step in steps {
         write_step(page, sink, registers, step);
@@ -132,13 +132,13 @@ fn write_steps<K: Sink>(page: &mut Page, sink: &mut K, registers: &[Port], steps
 
 #[tactic(auto, unfolding(av_net::specs::Texts::edge_text))]
 fn write_edge<K: Sink>(page: &mut Page, sink: &mut K)
-    ensures { Puts (K.held sink.old) (K.held sink.new) (K.faults sink.old) (K.faults sink.new) page.old page.new edge_text }
+    ensures { Puts (K.state sink.old) (K.state sink.new) page.old page.new edge_text }
 {
     page.put(sink, "  always @(posedge clk) if (rst) ");
 }
 
 fn write_step<K: Sink>(page: &mut Page, sink: &mut K, registers: &[Port], step: &Step)
-    ensures { Puts (K.held sink.old) (K.held sink.new) (K.faults sink.old) (K.faults sink.new) page.old page.new (step_line registers.now step.now) }
+    ensures { Puts (K.state sink.old) (K.state sink.new) page.old page.new (step_line registers.now step.now) }
 {
     write_edge(page, sink);
     write_reset(page, sink, registers, step);
@@ -149,7 +149,7 @@ fn write_step<K: Sink>(page: &mut Page, sink: &mut K, registers: &[Port], step: 
 
 // The assignment of the word that the register has after a reset.
 fn write_reset<K: Sink>(page: &mut Page, sink: &mut K, registers: &[Port], step: &Step)
-    ensures { Puts (K.held sink.old) (K.held sink.new) (K.faults sink.old) (K.faults sink.new) page.old page.new (assignment_text step.now.register (reset_text registers.now step.now)) }
+    ensures { Puts (K.state sink.old) (K.state sink.new) page.old page.new (assignment_text step.now.register (reset_text registers.now step.now)) }
 {
     page.put(sink, step.register.as_str());
     page.put(sink, " <= ");
@@ -158,7 +158,7 @@ fn write_reset<K: Sink>(page: &mut Page, sink: &mut K, registers: &[Port], step:
 
 // The assignment of the word that the register has after any other edge.
 fn write_next<K: Sink>(page: &mut Page, sink: &mut K, step: &Step)
-    ensures { Puts (K.held sink.old) (K.held sink.new) (K.faults sink.old) (K.faults sink.new) page.old page.new (assignment_text step.now.register (operand_text step.now.next)) }
+    ensures { Puts (K.state sink.old) (K.state sink.new) page.old page.new (assignment_text step.now.register (operand_text step.now.next)) }
 {
     page.put(sink, step.register.as_str());
     page.put(sink, " <= ");

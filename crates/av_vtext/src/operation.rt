@@ -7,7 +7,7 @@ use av_net::{Operand, Operation, Symbol};
 use av_page::Page;
 
 pub(crate) fn write_operation<K: Sink>(page: &mut Page, sink: &mut K, operation: &Operation)
-    ensures { Puts (K.held sink.old) (K.held sink.new) (K.faults sink.old) (K.faults sink.new) page.old page.new (operation_text operation.now) }
+    ensures { Puts (K.state sink.old) (K.state sink.new) page.old page.new (operation_text operation.now) }
 {
     match operation {
         Operation::Plain(operand) => write_operand(page, sink, operand),
@@ -32,7 +32,7 @@ fn write_binary<K: Sink>(
     symbol: Symbol,
     right: &Operand,
 )
-    ensures { Puts (K.held sink.old) (K.held sink.new) (K.faults sink.old) (K.faults sink.new) page.old page.new (operand_text left.now ++ symbol_text symbol ++ operand_text right.now) }
+    ensures { Puts (K.state sink.old) (K.state sink.new) page.old page.new (operand_text left.now ++ symbol_text symbol ++ operand_text right.now) }
 {
     write_operand(page, sink, left);
     page.put(sink, text_of_symbol(symbol));
@@ -46,7 +46,7 @@ fn write_comparison<K: Sink>(
     symbol: Symbol,
     right: &Operand,
 )
-    ensures { Puts (K.held sink.old) (K.held sink.new) (K.faults sink.old) (K.faults sink.new) page.old page.new (signed_text left.now ++ symbol_text symbol ++ signed_text right.now) }
+    ensures { Puts (K.state sink.old) (K.state sink.new) page.old page.new (signed_text left.now ++ symbol_text symbol ++ signed_text right.now) }
 {
     write_signed(page, sink, left);
     page.put(sink, text_of_symbol(symbol));
@@ -60,7 +60,7 @@ fn write_choice<K: Sink>(
     yes: &Operand,
     no: &Operand,
 )
-    ensures { Puts (K.held sink.old) (K.held sink.new) (K.faults sink.old) (K.faults sink.new) page.old page.new (operand_text condition.now ++ codes " ? " ++ operand_text yes.now ++ codes " : " ++ operand_text no.now) }
+    ensures { Puts (K.state sink.old) (K.state sink.new) page.old page.new (operand_text condition.now ++ codes " ? " ++ operand_text yes.now ++ codes " : " ++ operand_text no.now) }
 {
     write_operand(page, sink, condition);
     page.put(sink, " ? ");
@@ -70,7 +70,7 @@ fn write_choice<K: Sink>(
 }
 
 fn write_signed<K: Sink>(page: &mut Page, sink: &mut K, operand: &Operand)
-    ensures { Puts (K.held sink.old) (K.held sink.new) (K.faults sink.old) (K.faults sink.new) page.old page.new (signed_text operand.now) }
+    ensures { Puts (K.state sink.old) (K.state sink.new) page.old page.new (signed_text operand.now) }
 {
     page.put(sink, "$signed(");
     write_operand(page, sink, operand);
@@ -78,7 +78,7 @@ fn write_signed<K: Sink>(page: &mut Page, sink: &mut K, operand: &Operand)
 }
 
 pub(crate) fn write_operand<K: Sink>(page: &mut Page, sink: &mut K, operand: &Operand)
-    ensures { Puts (K.held sink.old) (K.held sink.new) (K.faults sink.old) (K.faults sink.new) page.old page.new (operand_text operand.now) }
+    ensures { Puts (K.state sink.old) (K.state sink.new) page.old page.new (operand_text operand.now) }
 {
     match operand {
         Operand::Name(name) => page.put(sink, name.as_str()),
@@ -87,7 +87,7 @@ pub(crate) fn write_operand<K: Sink>(page: &mut Page, sink: &mut K, operand: &Op
 }
 
 pub(crate) fn write_literal<K: Sink>(page: &mut Page, sink: &mut K, bits: u32, value: u64)
-    ensures { Puts (K.held sink.old) (K.held sink.new) (K.faults sink.old) (K.faults sink.new) page.old page.new (literal_text bits value) }
+    ensures { Puts (K.state sink.old) (K.state sink.new) page.old page.new (literal_text bits value) }
 {
     page.put_number(sink, bits);
     page.put(sink, "'d");

@@ -13,7 +13,7 @@ use Rattle.av_cli.proofs.runs.write_results.Goals.{then-names_output+in_ok-write
 
 pub returns-in_err-write_result-clause-front : goal.returns-in_err-write_result-clause-front
 returns-in_err-write_result-clause-front g c =
-    let H = g.K.Sink.held in
+    let S = g.K.Sink.state in
     let lines = c.args.lines.now in
     let words = c.args.words.now in
     let k = c.loop-k.k in
@@ -21,12 +21,11 @@ returns-in_err-write_result-clause-front g c =
     let lt : k < length words = omega (arith, c.loop-k-test.true, c.requires) in
     on_err c.from_residual.result
     (line_failed (λ (l : Entry). names_output (view_system c.args.flat.now) l.variable) k lines (bits_of words) line _ c.loop-k-test.true (length-map words (λ (w : Word). w.bits) ∙ c.requires) c.index-lines-k.is (word_at words k _ lt)
-    (H c.args.sink.now) (H c.loop-k.sink) (H c.write_result.new.sink) c.loop-k.invariant.0 (sym c.names_output.ensures ∙ c.if-names_output.true) (rw c.as_str.ensures at c.in_err-write_result.ensures.front))
+    (S c.args.sink.now).held (S c.loop-k.sink).held (S c.write_result.new.sink).held c.loop-k.invariant.0 (sym c.names_output.ensures ∙ c.if-names_output.true) (rw c.as_str.ensures at c.in_err-write_result.ensures.front))
 
 pub loop-k-preserved : goal.loop-k-preserved
 loop-k-preserved g c =
-    let H = g.K.Sink.held in
-    let F = g.K.Sink.faults in
+    let S = g.K.Sink.state in
     let is : Entry → Bool = λ l. names_output (view_system c.args.flat.now) l.variable in
     let lines = c.args.lines.now in
     let words = c.args.words.now in
@@ -37,15 +36,15 @@ loop-k-preserved g c =
     let before = c.loop-k.invariant in
     elim c.if-names_output.branch [
       | then-names_output+in_ok-write_result b ↦ (
-        subst (λ x. Adds (H c.args.sink.now) (H x) (first_results is (k + 1) lines (bits_of words))) (sym b.sink-is)
-            (line_told is k lines (bits_of words) line _ c.loop-k-test.true long c.index-lines-k.is (word_at words k _ lt) (H c.args.sink.now) (H c.loop-k.sink) (H b.write_result.new.sink) before.0
+        subst (λ x. Adds (S c.args.sink.now).held (S x).held (first_results is (k + 1) lines (bits_of words))) (sym b.sink-is)
+            (line_told is k lines (bits_of words) line _ c.loop-k-test.true long c.index-lines-k.is (word_at words k _ lt) (S c.args.sink.now).held (S c.loop-k.sink).held (S b.write_result.new.sink).held before.0
             (sym c.names_output.ensures ∙ b.if-names_output.true) (rw b.as_str.ensures at b.in_ok-write_result.ensures.added)),
-        subst (λ x. F c.args.sink.now ≤ F x) (sym b.sink-is) (let later = b.in_ok-write_result.ensures.later in let first = before.1 in omega (arith, first, later)),
+        subst (λ x. (S c.args.sink.now).faults ≤ (S x).faults) (sym b.sink-is) (let later = b.in_ok-write_result.ensures.later in let first = before.1 in omega (arith, first, later)),
       )
       | else-names_output b ↦ (
-        subst (λ x. Adds (H c.args.sink.now) (H x) (first_results is (k + 1) lines (bits_of words))) (sym b.sink-is)
-            (line_passed is k lines (bits_of words) line ((get_or words k (record { bits = 0 })).bits) c.loop-k-test.true long c.index-lines-k.is (word_at words k (record { bits = 0 }) lt) (H c.args.sink.now) (H c.loop-k.sink) (H c.loop-k.sink) before.0
+        subst (λ x. Adds (S c.args.sink.now).held (S x).held (first_results is (k + 1) lines (bits_of words))) (sym b.sink-is)
+            (line_passed is k lines (bits_of words) line ((get_or words k (record { bits = 0 })).bits) c.loop-k-test.true long c.index-lines-k.is (word_at words k (record { bits = 0 }) lt) (S c.args.sink.now).held (S c.loop-k.sink).held (S c.loop-k.sink).held before.0
             (sym c.names_output.ensures ∙ b.if-names_output.false)),
-        subst (λ x. F c.args.sink.now ≤ F x) (sym b.sink-is) before.1,
+        subst (λ x. (S c.args.sink.now).faults ≤ (S x).faults) (sym b.sink-is) before.1,
       )
     ]

@@ -8,6 +8,5 @@ use Rattle.av_cli.proofs.runs.write_results.Given as goal
 
 abbrev pub invariant-loop-k : goal.invariant-loop-k
 invariant-loop-k g l =
-    let H = g.K.Sink.held in
-    let F = g.K.Sink.faults in
-    Adds (H l.fn.sink) (H l.sink) (first_results (λ line. names_output (view_system l.flat) line.variable) l.k l.lines (bits_of l.words)) × (F l.fn.sink ≤ F l.sink)
+    let S = g.K.Sink.state in
+    Adds (S l.fn.sink).held (S l.sink).held (first_results (λ line. names_output (view_system l.flat) line.variable) l.k l.lines (bits_of l.words)) × ((S l.fn.sink).faults ≤ (S l.sink).faults)

@@ -11,19 +11,19 @@ use Rattle.av_cli.proofs.runs.write_trace.Goals as goal
 
 pub returns-in_err-write_design-clause-front : goal.returns-in_err-write_design-clause-front
 returns-in_err-write_design-clause-front g c =
-    let H = g.K.Sink.held in
-    let h = H c.args.sink.now in
-    let h1 = H c.write_design.new.sink in
+    let S = g.K.Sink.state in
+    let h = (S c.args.sink.now).held in
+    let h1 = (S c.write_design.new.sink).held in
     let first = text c.args.design.now in
     on_err c.from_residual.result
     (λ stream run stimulated is. front_more h h1 (first ++ codes "%%\n") (run_lines c.args.design.now.module run.in_cycle c.args.stimulus.now.cycles) (front_more h h1 first (codes "%%\n") c.in_err-write_design.ensures.front))
 
 pub returns-in_err-write_all-clause-front : goal.returns-in_err-write_all-clause-front
 returns-in_err-write_all-clause-front g c =
-    let H = g.K.Sink.held in
-    let h = H c.args.sink.now in
-    let h1 = H c.write_design.new.sink in
-    let h2 = H c.write_all.new.sink in
+    let S = g.K.Sink.state in
+    let h = (S c.args.sink.now).held in
+    let h1 = (S c.write_design.new.sink).held in
+    let h2 = (S c.write_all.new.sink).held in
     let first = text c.args.design.now in
     let mark : AddsPrefix h1 h2 (codes "%%\n") = subst (AddsPrefix h1 h2) c.as_bytes.ensures.value c.in_err-write_all.ensures.front in
     on_err c.from_residual-in_err-write_all.result
@@ -31,11 +31,11 @@ returns-in_err-write_all-clause-front g c =
 
 pub returns-clause-added : goal.returns-clause-added
 returns-clause-added g c =
-    let H = g.K.Sink.held in
-    let h = H c.args.sink.now in
-    let h1 = H c.write_design.new.sink in
-    let h2 = H c.write_all.new.sink in
-    let h3 = H c.run.new.sink in
+    let S = g.K.Sink.state in
+    let h = (S c.args.sink.now).held in
+    let h1 = (S c.write_design.new.sink).held in
+    let h2 = (S c.write_all.new.sink).held in
+    let h3 = (S c.run.new.sink).held in
     let s = c.args.stimulus.now in
     let first = text c.args.design.now in
     let mark : Adds h1 h2 (codes "%%\n") = subst (Adds h1 h2) c.as_bytes.ensures.value c.in_ok-write_all.ensures.added in
@@ -47,11 +47,11 @@ returns-clause-added g c =
 
 pub returns-clause-front : goal.returns-clause-front
 returns-clause-front g c =
-    let H = g.K.Sink.held in
-    let h = H c.args.sink.now in
-    let h1 = H c.write_design.new.sink in
-    let h2 = H c.write_all.new.sink in
-    let h3 = H c.run.new.sink in
+    let S = g.K.Sink.state in
+    let h = (S c.args.sink.now).held in
+    let h1 = (S c.write_design.new.sink).held in
+    let h2 = (S c.write_all.new.sink).held in
+    let h3 = (S c.run.new.sink).held in
     let s = c.args.stimulus.now in
     let first = text c.args.design.now in
     let mark : Adds h1 h2 (codes "%%\n") = subst (Adds h1 h2) c.as_bytes.ensures.value c.in_ok-write_all.ensures.added in

@@ -14,7 +14,7 @@ loop-cycle-init g c =
     let prepared = c.requires.prepared in
     record {
       prepared = record { sound = prepared.sound; clock = c.reset.ensures.of; ports = prepared.ports; wires = prepared.wires; room = prepared.room; count = prepared.count };
-      written = λ stream run stimulated is. Adds-none (g.K.Sink.held c.args.sink.now) (g.K.Sink.held c.args.sink.now) refl;
+      written = λ stream run stimulated is. Adds-none (g.K.Sink.state c.args.sink.now).held (g.K.Sink.state c.args.sink.now).held refl;
       registers = reset_registers m c.args.stimulus.now (carried c.args.parts.now.clock) (carried c.reset.new.self) prepared.sound (subst (λ x. Edge x true (carried c.args.parts.now.clock) (carried c.reset.new.self)) c.reset.ensures.of c.reset.ensures.edge);
       left = c.requires.left;
       within = omega arith;
@@ -29,21 +29,21 @@ show-requires-clause-inputs g c =
 pub returns-in_err-write_cycle-clause-front : goal.returns-in_err-write_cycle-clause-front
 returns-in_err-write_cycle-clause-front g c =
     on_err c.from_residual.result
-    (fails c.args.parts.now.clock.of c.args.stimulus.now c.loop-cycle.cycle c.loop-cycle.parts c.loop-cycle.next (g.K.Sink.held c.args.sink.now) (g.K.Sink.held c.loop-cycle.sink) (g.K.Sink.faults c.args.sink.now) (g.K.Sink.faults c.loop-cycle.sink)
+    (fails c.args.parts.now.clock.of c.args.stimulus.now c.loop-cycle.cycle c.loop-cycle.parts c.loop-cycle.next (g.K.Sink.state c.args.sink.now) (g.K.Sink.state c.loop-cycle.sink)
     c.loop-cycle.invariant c.loop-cycle-test.true c.present-next.new.clock c.settle.new.self c.present-next.new.words c.show.new.words c.present-next.ensures.of c.settle.ensures.of (rw c.as_slice-given.ensures at c.present-next.ensures.ports)
-    c.present-next.ensures.registers c.settle.ensures.settled c.settle.ensures.given c.show.ensures (g.K.Sink.held c.write_cycle.new.sink)
+    c.present-next.ensures.registers c.settle.ensures.settled c.settle.ensures.given c.show.ensures (g.K.Sink.state c.write_cycle.new.sink).held
     (rw (c.as_slice-in-loop-cycle.ensures, c.as_slice-in-loop-cycle-2.ensures) at c.in_err-write_cycle.ensures.front))
 
 pub loop-cycle-preserved : goal.loop-cycle-preserved
 loop-cycle-preserved g c =
-    turns c.args.parts.now.clock.of c.args.stimulus.now c.loop-cycle.cycle c.loop-cycle.parts c.loop-cycle.next (g.K.Sink.held c.args.sink.now) (g.K.Sink.held c.loop-cycle.sink) (g.K.Sink.faults c.args.sink.now) (g.K.Sink.faults c.loop-cycle.sink)
+    turns c.args.parts.now.clock.of c.args.stimulus.now c.loop-cycle.cycle c.loop-cycle.parts c.loop-cycle.next (g.K.Sink.state c.args.sink.now) (g.K.Sink.state c.loop-cycle.sink)
     c.loop-cycle.invariant c.loop-cycle-test.true c.present-next.new.clock c.settle.new.self c.present-next.new.words c.show.new.words c.present-next.ensures.of c.settle.ensures.of (rw c.as_slice-given.ensures at c.present-next.ensures.ports)
     c.present-next.ensures.registers c.settle.ensures.settled c.settle.ensures.given c.show.ensures
-    c.tick.new.self c.present-next.result (g.K.Sink.held c.write_cycle.new.sink) (g.K.Sink.faults c.write_cycle.new.sink) c.tick.ensures.of c.tick.ensures.edge
+    c.tick.new.self c.present-next.result (g.K.Sink.state c.write_cycle.new.sink) c.tick.ensures.of c.tick.ensures.edge
     (rw (c.as_slice-in-loop-cycle.ensures, c.as_slice-in-loop-cycle-2.ensures) at c.in_ok-write_cycle.ensures.added) c.in_ok-write_cycle.ensures.later
     (rw c.as_slice-given.ensures at c.present-next.ensures.left) (rw c.as_slice-given.ensures at c.present-next.ensures.within)
 
 pub returns-clause-added : goal.returns-clause-added
 returns-clause-added g c = λ stream run stimulated is.
     let all : c.loop-cycle.cycle ≡ c.args.stimulus.now.cycles = omega (arith, c.loop-cycle-test.false, c.loop-cycle.auto.cycle-end) in
-    subst (λ n. Adds (g.K.Sink.held c.args.sink.now) (g.K.Sink.held c.loop-cycle.sink) (run_lines c.args.parts.now.clock.of run.in_cycle n)) all (c.loop-cycle.invariant.written stream run stimulated is)
+    subst (λ n. Adds (g.K.Sink.state c.args.sink.now).held (g.K.Sink.state c.loop-cycle.sink).held (run_lines c.args.parts.now.clock.of run.in_cycle n)) all (c.loop-cycle.invariant.written stream run stimulated is)

@@ -4,7 +4,7 @@ use Rattle.av_data.proofs.Values.{values_more}
 use Rattle.av_data.proofs.cycle.write_values.Goals as goal
 
 pub loop-i-init : goal.loop-i-init
-loop-i-init g c = Puts-none _ _ _
+loop-i-init g c = Puts-none _ _
 
 pub loop-i-preserved : goal.loop-i-preserved
 loop-i-preserved g c =

@@ -5,6 +5,5 @@ use Rattle.av_data.proofs.cycle.write_values.Given as goal
 
 abbrev pub invariant-loop-i : goal.invariant-loop-i
 invariant-loop-i g l =
-    let H = g.K.Sink.held in
-    let F = g.K.Sink.faults in
-    Puts (H l.fn.sink) (H l.sink) (F l.fn.sink) (F l.sink) l.fn.page l.page (values_text (take l.i l.ports) (take l.i l.values))
+    let S = g.K.Sink.state in
+    Puts (S l.fn.sink) (S l.sink) l.fn.page l.page (values_text (take l.i l.ports) (take l.i l.values))

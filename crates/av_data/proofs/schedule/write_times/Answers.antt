@@ -10,7 +10,7 @@ use Rattle.av_data.proofs.schedule.write_times.Goals as goal
 use Rattle.av_data.proofs.schedule.write_times.Goals.{then-is_node, else-is_node}
 
 pub loop-var-init : goal.loop-var-init
-loop-var-init g c = record { count = refl; put = Puts-none _ _ _ }
+loop-var-init g c = record { count = refl; put = Puts-none _ _ }
 
 pub bounds-times-next : goal.bounds-times-next
 bounds-times-next g c =

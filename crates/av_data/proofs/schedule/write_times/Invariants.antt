@@ -7,5 +7,5 @@ use Rattle.av_data.proofs.schedule.write_times.Given as goal
 abbrev pub invariant-loop-var : goal.invariant-loop-var
 invariant-loop-var g l = record {
   count : l.next ≡ length (first_nodes l.fn.vars l.var-index);
-  put : Puts (g.K.Sink.held l.fn.sink) (g.K.Sink.held l.sink) (g.K.Sink.faults l.fn.sink) (g.K.Sink.faults l.sink) l.fn.page l.page (time_lines (first_nodes l.fn.vars l.var-index) l.fn.times);
+  put : Puts (g.K.Sink.state l.fn.sink) (g.K.Sink.state l.sink) l.fn.page l.page (time_lines (first_nodes l.fn.vars l.var-index) l.fn.times);
 }

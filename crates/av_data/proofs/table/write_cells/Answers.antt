@@ -5,7 +5,7 @@ use Rattle.av_data.proofs.Tabled.{cell_more}
 use Rattle.av_data.proofs.table.write_cells.Goals as goal
 
 pub loop-k-init : goal.loop-k-init
-loop-k-init g c = Puts-none _ _ _
+loop-k-init g c = Puts-none _ _
 
 pub loop-k-preserved : goal.loop-k-preserved
 loop-k-preserved g c =

@@ -7,6 +7,5 @@ use Rattle.av_data.proofs.table.write_cells.Given as goal
 
 abbrev pub invariant-loop-k : goal.invariant-loop-k
 invariant-loop-k g l =
-    let H = g.K.Sink.held in
-    let F = g.K.Sink.faults in
-    Puts (H l.fn.sink) (H l.sink) (F l.fn.sink) (F l.sink) l.fn.page l.page (cell_lines (nodes (view_system l.flat)) 0 (take l.k l.cells))
+    let S = g.K.Sink.state in
+    Puts (S l.fn.sink) (S l.sink) l.fn.page l.page (cell_lines (nodes (view_system l.flat)) 0 (take l.k l.cells))

@@ -6,6 +6,5 @@ use Rattle.av_data.proofs.table.write_entries.Given as goal
 
 abbrev pub invariant-loop-entry : goal.invariant-loop-entry
 invariant-loop-entry g l =
-    let H = g.K.Sink.held in
-    let F = g.K.Sink.faults in
-    Puts (H l.fn.sink) (H l.sink) (F l.fn.sink) (F l.sink) l.fn.page l.page (flat_map (listed_line l.word) (take l.entry-index l.entries))
+    let S = g.K.Sink.state in
+    Puts (S l.fn.sink) (S l.sink) l.fn.page l.page (flat_map (listed_line l.word) (take l.entry-index l.entries))

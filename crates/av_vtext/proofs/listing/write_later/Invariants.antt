@@ -6,6 +6,5 @@ use Rattle.av_vtext.proofs.listing.write_later.Given as goal
 
 abbrev pub invariant-loop-index : goal.invariant-loop-index
 invariant-loop-index g l =
-    let H = g.K.Sink.held in
-    let F = g.K.Sink.faults in
-    Puts (H l.fn.sink) (H l.sink) (F l.fn.sink) (F l.sink) l.fn.page l.page (flat_map (λ index. codes "," ++ signed_decimal index) (take l.index-index l.later))
+    let S = g.K.Sink.state in
+    Puts (S l.fn.sink) (S l.sink) l.fn.page l.page (flat_map (λ index. codes "," ++ signed_decimal index) (take l.index-index l.later))

@@ -6,6 +6,5 @@ use Rattle.av_vtext.proofs.module.write_ports.Given as goal
 
 abbrev pub invariant-loop-port : goal.invariant-loop-port
 invariant-loop-port g l =
-    let H = g.K.Sink.held in
-    let F = g.K.Sink.faults in
-    Puts (H l.fn.sink) (H l.sink) (F l.fn.sink) (F l.sink) l.fn.page l.page (flat_map (port_text l.direction) (take l.port-index l.ports))
+    let S = g.K.Sink.state in
+    Puts (S l.fn.sink) (S l.sink) l.fn.page l.page (flat_map (port_text l.direction) (take l.port-index l.ports))

@@ -6,6 +6,5 @@ use Rattle.av_vtext.proofs.module.write_steps.Given as goal
 
 abbrev pub invariant-loop-step : goal.invariant-loop-step
 invariant-loop-step g l =
-    let H = g.K.Sink.held in
-    let F = g.K.Sink.faults in
-    Puts (H l.fn.sink) (H l.sink) (F l.fn.sink) (F l.sink) l.fn.page l.page (flat_map (step_line l.registers) (take l.step-index l.steps))
+    let S = g.K.Sink.state in
+    Puts (S l.fn.sink) (S l.sink) l.fn.page l.page (flat_map (step_line l.registers) (take l.step-index l.steps))
