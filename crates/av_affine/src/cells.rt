@@ -1,13 +1,22 @@
 //! Completed matrices and their inverses, cell by cell.
 
-ghost use Rattle.std.specs.Prelude.{ℕ, ℤ, ◌≡◌, ◌≤◌, ◌<◌, suc, ◌*ℤ◌, pos, length, unsigned_abs, nat_lt, ◌&&◌, if◌then◌else◌};
+ghost use Rattle.std.specs.Prelude.{ℕ, ℤ, ◌≡◌, ◌≤◌, ◌<◌, ◌^◌, suc, ◌*ℤ◌, pos, length, unsigned_abs, nat_lt, ◌&&◌, if◌then◌else◌};
 ghost use Rattle.av_affine.specs.Numbers.{AtMost, four};
 ghost use Rattle.av_affine.specs.Squares.{square_of};
 ghost use Rattle.av_affine.specs.Cells.{delta, skip, IsAmong, one_cell, two_cell, completed_cell, one_inverse, two_solved, two_inverse, inverse_cell, turn};
 
 use crate::Square;
-use crate::form::product;
 use crate::pivot::{Pivot, nth_other};
+
+// The product of small numbers.
+fn product(a: i64, b: i64) -> i64
+    requires first { unsigned_abs a ≤ 2 ^ 10 }
+    requires second { unsigned_abs b ≤ 2 ^ 20 }
+    ensures value { result ≡ a *ℤ b }
+    ensures small { unsigned_abs result ≤ 2 ^ 30 }
+{
+    a * b
+}
 
 // A cell of a unit row.
 fn unit(position: usize, index: usize) -> i64

@@ -1,13 +1,15 @@
 ghost use Rattle.std.specs.Prelude.{◌≤◌, IfOk};
 
+use self::answers::{Row, answer, assert_rows, calls, joined};
+use crate::Status;
 use crate::standard::{StdSink, StdSource};
-use crate::{Status, alphav};
-use av_base::{Failed, List, MemSink, MemSource, Name, Sink, Source};
+use av_base::{Failed, MemSink, MemSource, Sink, Source};
 use av_vread::read_design;
 use av_vtext::write_design;
 use std::alloc::Global;
 use std::io;
 use std::io::{ErrorKind, Read, Write};
+use std::process::Abort;
 use std::test::Fail;
 
 const INCREMENT: &str =
@@ -134,6 +136,7 @@ cycles 3
 const USAGE: &str =
     "usage: alphav check|schedule|table|emit|run|trace [--width W] [--box C] [NAME=VALUE ...] | sim | demo K\n";
 
+mod answers;
 mod checks;
 mod designs;
 mod faults;
@@ -148,8 +151,7 @@ mod tables;
 
 const WIDTH_8: &[&str] = &["emit", "--width", "8"];
 
-// The words, the input, the status and the output.
-const ROWS: &[(&[&str], &str, Status, &str)] = &[
+const ROWS: &[Row] = &[
     (WIDTH_8, INCREMENT, Status::Done, OF_WIDTH_8),
     (
         &["emit", "--width", "0001"],
@@ -218,22 +220,14 @@ const ROWS: &[(&[&str], &str, Status, &str)] = &[
 
 #[test]
 fn the_words_and_the_text_fix_status_and_output(rt: HostRuntime) -> Result<(), Fail> {
-    let alloc = rt.alloc();
-    for (words, text, status, out) in ROWS {
-        let mut source = MemSource::new(bytes(alloc, text)?, 4096, numbers(alloc, &[])?);
-        let mut sink = MemSink::new(alloc, 4096, 4096, numbers(alloc, &[])?)?;
-        let answer = answer(alloc, words, &mut source, &mut sink)?;
-        assert_eq!(rt; answer, *status, "{words:?} on {text}");
-        assert_eq!(rt; sink.held(), out.as_bytes(), "{words:?} on {text}");
-    }
-    Ok(())
+    assert_rows(&rt, rt.alloc(), ROWS)
 }
 
 #[test]
 fn a_design_text_read_and_written_again_is_the_same(rt: HostRuntime) -> Result<(), Fail> {
     let alloc = rt.alloc();
     for text in [OF_WIDTH_8, OF_WIDTH_1, OF_WIDTH_64] {
-        let mut sink = MemSink::new(alloc, 4096, 7, numbers(alloc, &[])?)?;
+        let mut sink = MemSink::new(alloc, 4096, 7, calls(alloc, None)?)?;
         assert!(rt; written_again(alloc, text, &mut sink), "{text}");
         assert_eq!(rt; sink.held(), text.as_bytes());
     }
@@ -251,16 +245,38 @@ fn written_again(alloc: Global, text: &str, sink: &mut MemSink) -> bool {
     }
 }
 
+// What `emit` answers to the increment from a source of which this call fails.
+fn answer_increment(alloc: Global, call: Option<u64>, sink: &mut MemSink) -> Result<Status, Fail> {
+    let mut source = MemSource::new(joined(alloc, &[INCREMENT])?, 1, calls(alloc, call)?);
+    answer(alloc, WIDTH_8, &mut source, sink)
+}
+
 #[test]
 fn a_source_may_fail_at_each_call(rt: HostRuntime) -> Result<(), Fail> {
     let alloc = rt.alloc();
     for call in 0..=INCREMENT.len() as u64 {
-        let mut source = MemSource::new(bytes(alloc, INCREMENT)?, 1, numbers(alloc, &[call])?);
-        let mut sink = MemSink::new(alloc, 4096, 1, numbers(alloc, &[])?)?;
-        let status = answer(alloc, WIDTH_8, &mut source, &mut sink)?;
+        let mut sink = MemSink::new(alloc, 4096, 1, calls(alloc, None)?)?;
+        let status = answer_increment(alloc, Some(call), &mut sink)?;
         assert_eq!(rt; status, Status::ReadFault, "call {call}");
         assert!(rt; sink.held().is_empty(), "call {call}");
     }
+    Ok(())
+}
+
+// `emit` on the increment ends with a write fault once the first bytes are written.
+fn assert_cut(
+    rt: &impl Abort,
+    alloc: Global,
+    sink: &mut MemSink,
+    count: usize,
+) -> Result<(), Fail> {
+    let status = answer_increment(alloc, None, sink)?;
+    assert_eq!(rt; status, Status::WriteFault, "after {count} bytes");
+    assert_eq!(rt;
+        Some(sink.held()),
+        OF_WIDTH_8.as_bytes().get(..count),
+        "after {count} bytes"
+    );
     Ok(())
 }
 
@@ -268,65 +284,12 @@ fn a_source_may_fail_at_each_call(rt: HostRuntime) -> Result<(), Fail> {
 fn a_sink_may_fail_at_each_call_and_be_full_at_each_byte(rt: HostRuntime) -> Result<(), Fail> {
     let alloc = rt.alloc();
     for n in 0..OF_WIDTH_8.len() {
-        let mut failing = MemSink::new(alloc, 4096, 1, numbers(alloc, &[n as u64])?)?;
-        let status = answer_increment(alloc, &mut failing)?;
-        assert_eq!(rt; status, Status::WriteFault, "after {n} bytes");
-        assert_eq!(rt;
-            failing.held(),
-            &OF_WIDTH_8.as_bytes()[..n],
-            "after {n} bytes"
-        );
-        let mut full = MemSink::new(alloc, n, 7, numbers(alloc, &[])?)?;
-        let status = answer_increment(alloc, &mut full)?;
-        assert_eq!(rt; status, Status::WriteFault, "room for {n} bytes");
-        assert_eq!(rt;
-            full.held(),
-            &OF_WIDTH_8.as_bytes()[..n],
-            "room for {n} bytes"
-        );
+        let mut failing = MemSink::new(alloc, 4096, 1, calls(alloc, Some(n as u64))?)?;
+        assert_cut(&rt, alloc, &mut failing, n)?;
+        let mut full = MemSink::new(alloc, n, 7, calls(alloc, None)?)?;
+        assert_cut(&rt, alloc, &mut full, n)?;
     }
     Ok(())
-}
-
-fn answer_increment(alloc: Global, sink: &mut MemSink) -> Result<Status, Fail> {
-    let mut source = MemSource::new(bytes(alloc, INCREMENT)?, 1, numbers(alloc, &[])?);
-    answer(alloc, WIDTH_8, &mut source, sink)
-}
-
-fn answer(
-    alloc: Global,
-    words: &[&str],
-    source: &mut MemSource,
-    sink: &mut MemSink,
-) -> Result<Status, Fail> {
-    let mut names = List::new(alloc);
-    for word in words {
-        names.push(Name::new(alloc, word)?)?;
-    }
-    Ok(alphav(alloc, names.as_slice(), source, sink))
-}
-
-fn bytes(alloc: Global, text: &str) -> Result<List<u8>, Fail> {
-    let mut list = List::new(alloc);
-    for byte in text.as_bytes() {
-        list.push(*byte)?;
-    }
-    Ok(list)
-}
-
-fn extend(list: &mut List<u8>, text: &str) -> Result<(), Fail> {
-    for byte in text.as_bytes() {
-        list.push(*byte)?;
-    }
-    Ok(())
-}
-
-fn numbers(alloc: Global, calls: &[u64]) -> Result<List<u64>, Fail> {
-    let mut list = List::new(alloc);
-    for call in calls {
-        list.push(*call)?;
-    }
-    Ok(list)
 }
 
 // ---- readers and writers

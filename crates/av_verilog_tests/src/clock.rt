@@ -1,212 +1,50 @@
-ghost use Rattle.std.specs.Prelude.{◌≡◌, ◌<◌, length, slice_get, IfOk};
-ghost use Rattle.std.specs.Option.{ForSome};
-ghost use Rattle.av_base.specs.Words.{IsWord};
-ghost use Rattle.av_net.specs.declared.operation.Operand.TheVariants.{Name as Named};
-ghost use Rattle.av_net.specs.Sound.{IsSound};
-ghost use Rattle.av_clock.specs.Sample.{sample_inputs, sample_wires, sample_outputs, sample_registers, sample_drives, sample_steps, sample_module, still_ports, still_drives, still_steps};
+//! Designs that are clocked.
 
-use av_base::{List, Memory, Name, Width};
+ghost use Rattle.std.specs.Prelude.{◌≡◌, ◌<◌, length, slice_get, IsTrue};
+ghost use Rattle.std.specs.Option.{ForSome};
+
+use crate::designs::design;
 use av_clock::Clock;
-use av_net::{Drive, Module, Operand, Operation, Port, Step, Symbol};
-use std::alloc::Global;
+use av_net::Module;
+use std::process::Abort;
 use std::test::Fail;
 
-fn port(alloc: Global, name: &str, width: Width) -> Result<Port, Memory>
-    ensures { IfOk result (λ port. port ≡ record { name = name.now; width = width }) }
-{
-    let name = Name::new(alloc, name)?;
-    Ok(Port { name, width })
-}
-
-fn operand(alloc: Global, name: &str) -> Result<Operand, Memory>
-    ensures { IfOk result (λ operand. operand ≡ Named name.now) }
-{
-    Ok(Operand::Name(Name::new(alloc, name)?))
-}
-
-fn drive(alloc: Global, target: &str, operation: Operation) -> Result<Drive, Memory>
-    ensures { IfOk result (λ drive. drive ≡ record { target = target.now; operation = operation }) }
-{
-    let target = Name::new(alloc, target)?;
-    Ok(Drive { target, operation })
-}
-
-fn step(alloc: Global, register: &str, reset: u64, next: &str) -> Result<Step, Memory>
-    ensures { IfOk result (λ step. step ≡ record { register = register.now; reset = reset; next = Named next.now }) }
-{
-    let register = Name::new(alloc, register)?;
-    let next = operand(alloc, next)?;
-    Ok(Step {
-        register,
-        reset,
-        next,
-    })
-}
-
-fn inputs(alloc: Global, eight: Width) -> Result<List<Port>, Memory>
-    ensures { IfOk result (λ ports. ports ≡ sample_inputs eight) }
-{
-    let mut ports = List::new(alloc);
-    ports.push(port(alloc, "i0", eight)?)?;
-    Ok(ports)
-}
-
-fn wires(alloc: Global, one: Width, eight: Width) -> Result<List<Port>, Memory>
-    ensures { IfOk result (λ ports. ports ≡ sample_wires one eight) }
-{
-    let mut ports = List::new(alloc);
-    ports.push(port(alloc, "more", eight)?)?;
-    ports.push(port(alloc, "few", one)?)?;
-    Ok(ports)
-}
-
-fn outputs(alloc: Global, four: Width, eight: Width) -> Result<List<Port>, Memory>
-    ensures { IfOk result (λ ports. ports ≡ sample_outputs four eight) }
-{
-    let mut ports = List::new(alloc);
-    ports.push(port(alloc, "o0", four)?)?;
-    ports.push(port(alloc, "o1", four)?)?;
-    ports.push(port(alloc, "o2", eight)?)?;
-    ports.push(port(alloc, "o3", eight)?)?;
-    Ok(ports)
-}
-
-fn registers(alloc: Global, four: Width, eight: Width) -> Result<List<Port>, Memory>
-    ensures { IfOk result (λ ports. ports ≡ sample_registers four eight) }
-{
-    let mut ports = List::new(alloc);
-    ports.push(port(alloc, "a", four)?)?;
-    ports.push(port(alloc, "b", four)?)?;
-    ports.push(port(alloc, "count", eight)?)?;
-    Ok(ports)
-}
-
-// `name symbol value`
-fn beside(
-    alloc: Global,
-    name: &str,
-    symbol: Symbol,
-    width: Width,
-    value: u64,
-) -> Result<Operation, Memory>
-    ensures { IfOk result (λ operation. operation ≡ Operation.Binary (Named name.now) symbol (Operand.Literal width value)) }
-{
-    let left = operand(alloc, name)?;
-    let right = Operand::Literal { width, value };
-    Ok(Operation::Binary {
-        left,
-        symbol,
-        right,
-    })
-}
-
-// `condition ? yes : no`
-fn selection(alloc: Global, condition: &str, yes: &str, no: &str) -> Result<Operation, Memory>
-    ensures { IfOk result (λ operation. operation ≡ Operation.Choose (Named condition.now) (Named yes.now) (Named no.now)) }
-{
-    let condition = operand(alloc, condition)?;
-    let yes = operand(alloc, yes)?;
-    let no = operand(alloc, no)?;
-    Ok(Operation::Choose { condition, yes, no })
-}
-
-fn drives(alloc: Global, eight: Width) -> Result<List<Drive>, Memory>
-    ensures { IfOk result (λ drives. drives ≡ sample_drives eight) }
-{
-    let mut drives = List::new(alloc);
-    let a = Operation::Plain(operand(alloc, "a")?);
-    drives.push(drive(alloc, "o0", a)?)?;
-    let b = Operation::Plain(operand(alloc, "b")?);
-    drives.push(drive(alloc, "o1", b)?)?;
-    let sum = beside(alloc, "i0", Symbol::Add, eight, 1)?;
-    drives.push(drive(alloc, "o2", sum)?)?;
-    let more = beside(alloc, "count", Symbol::Add, eight, 1)?;
-    drives.push(drive(alloc, "more", more)?)?;
-    let few = beside(alloc, "count", Symbol::Less, eight, 2)?;
-    drives.push(drive(alloc, "few", few)?)?;
-    let chosen = selection(alloc, "few", "i0", "count")?;
-    drives.push(drive(alloc, "o3", chosen)?)?;
-    Ok(drives)
-}
-
-fn steps(alloc: Global) -> Result<List<Step>, Memory>
-    ensures { IfOk result (λ steps. steps ≡ sample_steps) }
-{
-    let mut steps = List::new(alloc);
-    steps.push(step(alloc, "a", 1, "b")?)?;
-    steps.push(step(alloc, "b", 2, "a")?)?;
-    steps.push(step(alloc, "count", 0, "more")?)?;
-    Ok(steps)
-}
-
-// `o0` and `o1` show the two registers, `o2` the increment, and `o3` the selection.
-fn sample(alloc: Global, one: Width, four: Width, eight: Width) -> Result<Module, Memory>
-    requires one { one.bits ≡ 1 }
-    requires four { four.bits ≡ 4 }
-    requires eight { eight.bits ≡ 8 }
-    ensures sound { IfOk result (λ m. IsSound m) }
-    ensures inputs { IfOk result (λ m. length m.inputs ≡ 1) }
-    ensures drives { IfOk result (λ m. length m.drives ≡ 6) }
-    ensures width { IfOk result (λ m. ForSome (slice_get m.inputs 0) (λ p. p.width.bits ≡ 8)) }
-{
-    Ok(Module {
-        name: Name::new(alloc, "sample")?,
-        inputs: inputs(alloc, eight)?,
-        outputs: outputs(alloc, four, eight)?,
-        wires: wires(alloc, one, eight)?,
-        registers: registers(alloc, four, eight)?,
-        drives: drives(alloc, eight)?,
-        steps: steps(alloc)?,
-    })
-}
-
-fn one_port(alloc: Global, name: &str, width: Width) -> Result<List<Port>, Memory>
-    ensures { IfOk result (λ ports. ports ≡ still_ports name.now width) }
-{
-    let mut ports = List::new(alloc);
-    ports.push(port(alloc, name, width)?)?;
-    Ok(ports)
-}
-
-fn still_drives(alloc: Global) -> Result<List<Drive>, Memory>
-    ensures { IfOk result (λ drives. drives ≡ still_drives) }
-{
-    let mut drives = List::new(alloc);
-    let a = Operation::Plain(operand(alloc, "a")?);
-    drives.push(drive(alloc, "o0", a)?)?;
-    Ok(drives)
-}
-
-fn still_steps(alloc: Global) -> Result<List<Step>, Memory>
-    ensures { IfOk result (λ steps. steps ≡ still_steps) }
-{
-    let mut steps = List::new(alloc);
-    steps.push(step(alloc, "a", 3, "a")?)?;
-    Ok(steps)
-}
+// `o0` and `o1` show two registers that take each other, `o2` the increment, and `o3` a selection by a counter.
+const SAMPLE: &str =
+    "module sample(input clk, input rst, input [7:0] i0, output [3:0] o0, output [3:0] o1, output [7:0] o2, output [7:0] o3);
+  wire [7:0] more;
+  wire [0:0] few;
+  reg [3:0] a;
+  reg [3:0] b;
+  reg [7:0] count;
+  assign o0 = a;
+  assign o1 = b;
+  assign o2 = i0 + 8'd1;
+  assign more = count + 8'd1;
+  assign few = count < 8'd2;
+  assign o3 = few ? i0 : count;
+  always @(posedge clk) if (rst) a <= 4'd1; else a <= b;
+  always @(posedge clk) if (rst) b <= 4'd2; else b <= a;
+  always @(posedge clk) if (rst) count <= 8'd0; else count <= more;
+endmodule
+";
 
 // One register that takes itself, and `o0`, which shows it.
-fn still(alloc: Global, four: Width) -> Result<Module, Memory>
-    requires { four.bits ≡ 4 }
-    ensures sound { IfOk result (λ m. IsSound m) }
-    ensures drives { IfOk result (λ m. length m.drives ≡ 1) }
+const STILL: &str = "module still(input clk, input rst, output [3:0] o0);
+  reg [3:0] a;
+  assign o0 = a;
+  always @(posedge clk) if (rst) a <= 4'd3; else a <= a;
+endmodule
+";
+
+// Whether the module has the input and the drives of the sample.
+fn is_sample(module: &Module) -> bool
+    ensures inputs { IsTrue result → length module.now.inputs ≡ 1 }
+    ensures drives { IsTrue result → length module.now.drives ≡ 6 }
+    ensures width { IsTrue result → ForSome (slice_get module.now.inputs 0) (λ p. p.width.bits ≡ 8) }
 {
-    let name = Name::new(alloc, "still")?;
-    let inputs = List::new(alloc);
-    let outputs = one_port(alloc, "o0", four)?;
-    let wires = List::new(alloc);
-    let registers = one_port(alloc, "a", four)?;
-    let drives = still_drives(alloc)?;
-    let steps = still_steps(alloc)?;
-    Ok(Module {
-        name,
-        inputs,
-        outputs,
-        wires,
-        registers,
-        drives,
-        steps,
-    })
+    let inputs = module.inputs.as_slice();
+    inputs.len() == 1 && inputs[0].width.bits == 8 && module.drives.as_slice().len() == 6
 }
 
 // The words of `o0`, `o1`, `o2` and `o3` in one cycle with this word at the port.
@@ -229,35 +67,76 @@ fn cycle(clock: &mut Clock<'_>, input: u64) -> [u64; 4]
     shown
 }
 
+fn assert_cycle(rt: &impl Abort, clock: &mut Clock<'_>, input: u64, wanted: [u64; 4])
+    requires input { input < 256 }
+    requires inputs { length clock.old.of.inputs ≡ 1 }
+    requires drives { length clock.old.of.drives ≡ 6 }
+    requires width { ForSome (slice_get clock.old.of.inputs 0) (λ p. p.width.bits ≡ 8) }
+    ensures { clock.new.of ≡ clock.old.of }
+{
+    assert_eq!(rt; cycle(clock, input), wanted);
+}
+
+// Four cycles from a reset.
+fn assert_cycles(rt: &impl Abort, clock: &mut Clock<'_>)
+    requires inputs { length clock.old.of.inputs ≡ 1 }
+    requires drives { length clock.old.of.drives ≡ 6 }
+    requires width { ForSome (slice_get clock.old.of.inputs 0) (λ p. p.width.bits ≡ 8) }
+    ensures { clock.new.of ≡ clock.old.of }
+{
+    clock.reset();
+    assert_cycle(rt, clock, 255, [1, 2, 0, 255]);
+    assert_cycle(rt, clock, 7, [2, 1, 8, 7]);
+    assert_cycle(rt, clock, 9, [1, 2, 10, 2]);
+    assert_cycle(rt, clock, 0, [2, 1, 1, 3]);
+}
+
 #[test]
 fn a_sample_is_clocked(rt: HostRuntime) -> Result<(), Fail> {
     let alloc = rt.alloc();
-    let (one, four, eight) = (Width { bits: 1 }, Width { bits: 4 }, Width { bits: 8 });
-    let module = sample(alloc, one, four, eight)?;
-    let mut clock = Clock::new(alloc, &module)?;
+    let design = design(alloc, SAMPLE)?;
+    if !is_sample(&design.module) {
+        return Err(Fail::new("the sample"));
+    }
+    let mut clock = Clock::new(alloc, &design.module)?;
+    assert_cycles(&rt, &mut clock);
     clock.reset();
-    assert_eq!(rt; cycle(&mut clock, 255), [1, 2, 0, 255]);
-    assert_eq!(rt; cycle(&mut clock, 7), [2, 1, 8, 7]);
-    assert_eq!(rt; cycle(&mut clock, 9), [1, 2, 10, 2]);
-    assert_eq!(rt; cycle(&mut clock, 0), [2, 1, 1, 3]);
-    clock.reset();
-    assert_eq!(rt; cycle(&mut clock, 4), [1, 2, 5, 4]);
+    assert_cycle(&rt, &mut clock, 4, [1, 2, 5, 4]);
     Ok(())
+}
+
+// The drives that are computed in a cycle.
+fn work_of_cycle(clock: &mut Clock<'_>) -> u64
+    requires { IsTrue clock.old.settled }
+    ensures of { clock.new.of ≡ clock.old.of }
+    ensures settled { IsTrue clock.new.settled }
+{
+    let before = clock.work();
+    clock.tick();
+    clock.settle();
+    clock.work().wrapping_sub(before)
+}
+
+// From power up and from a reset: the first drives that are computed, those of the cycle after the reset, and the first word.
+fn works(clock: &mut Clock<'_>) -> [u64; 3]
+    requires { 0 < length clock.old.of.drives }
+{
+    clock.settle();
+    let first = clock.work();
+    clock.reset();
+    clock.settle();
+    let later = work_of_cycle(clock);
+    [first, later, clock.value(0)]
 }
 
 #[test]
 fn a_register_that_takes_itself_is_no_work(rt: HostRuntime) -> Result<(), Fail> {
     let alloc = rt.alloc();
-    let module = still(alloc, Width { bits: 4 })?;
-    let mut clock = Clock::new(alloc, &module)?;
-    clock.settle();
-    assert_eq!(rt; clock.work(), 1);
-    clock.reset();
-    clock.settle();
-    let before = clock.work();
-    clock.tick();
-    clock.settle();
-    assert_eq!(rt; clock.work(), before);
-    assert_eq!(rt; clock.value(0), 3);
+    let design = design(alloc, STILL)?;
+    if design.module.drives.as_slice().is_empty() {
+        return Err(Fail::new("drives"));
+    }
+    let mut clock = Clock::new(alloc, &design.module)?;
+    assert_eq!(rt; works(&mut clock), [1, 0, 3]);
     Ok(())
 }

@@ -1,121 +1,128 @@
-use av_net::{Design, Entry};
-use av_vread::{
-    VFault, design_or_fault, one_design, one_text, read_back, read_design, spelled_is_sound,
-};
+//! What is read of texts: designs, and the first fault of each.
+
+use crate::designs::{assert_text, design, read};
+use crate::words::{push_named, push_place, push_words, same};
+use av_net::{Entry, Module};
+use av_vread::{VFault, design_or_fault, one_design, one_text, read_back, spelled_is_sound};
 use std::alloc::Global;
+use std::fmt::Write;
+use std::process::Abort;
 use std::test::Fail;
 
-// The design of a text that is no longer than the reader asks.
-fn read(alloc: Global, bytes: &[u8]) -> Result<Design, VFault> {
-    if bytes.len() >= 4_294_967_295 {
-        return Err(VFault::Memory);
+fn push_fault(out: &mut String, fault: &VFault) -> Result<(), Fail> {
+    match fault {
+        VFault::VByte(place) => push_place(out, "byte", *place),
+        VFault::VSyntax(place) => push_place(out, "syntax", *place),
+        VFault::VListing(line) => push_line(out, *line),
+        VFault::VTwice(name) => push_named(out, "twice", name),
+        VFault::VName(name) => push_named(out, "name", name),
+        VFault::VUnassigned(name) => push_named(out, "unassigned", name),
+        VFault::VOrder(name) => push_named(out, "order", name),
+        VFault::VWidth(name) => push_named(out, "width", name),
+        VFault::Memory => push_words(out, "memory"),
     }
-    read_design(alloc, bytes)
+}
+
+fn push_line(out: &mut String, line: u32) -> Result<(), Fail> {
+    write!(out, "listing {line}")?;
+    Ok(())
 }
 
 // What the reader answers, as a line of text.
 fn told(alloc: Global, bytes: &[u8]) -> Result<String, Fail> {
-    let line = match read(alloc, bytes) {
-        Ok(read) => format!(in alloc; "module {}", read.module.name.as_str())?,
-        Err(VFault::VByte(place)) => format!(in alloc; "byte {}:{}", place.line, place.column)?,
-        Err(VFault::VSyntax(place)) => {
-            format!(in alloc; "syntax {}:{}", place.line, place.column)?
-        }
-        Err(VFault::VListing(line)) => format!(in alloc; "listing {}", line)?,
-        Err(VFault::VTwice(name)) => format!(in alloc; "twice {}", name.as_str())?,
-        Err(VFault::VName(name)) => format!(in alloc; "name {}", name.as_str())?,
-        Err(VFault::VUnassigned(name)) => format!(in alloc; "unassigned {}", name.as_str())?,
-        Err(VFault::VOrder(name)) => format!(in alloc; "order {}", name.as_str())?,
-        Err(VFault::VWidth(name)) => format!(in alloc; "width {}", name.as_str())?,
-        Err(VFault::Memory) => format!(in alloc; "memory")?,
-    };
-    Ok(line)
+    let mut out = String::new(alloc);
+    match read(alloc, bytes) {
+        Ok(read) => push_named(&mut out, "module", &read.module.name)?,
+        Err(fault) => push_fault(&mut out, &fault)?,
+    }
+    Ok(out)
 }
 
-// A module with these ports, declarations and items.
-fn around(alloc: Global, ports: &str, body: &str) -> Result<String, Fail> {
-    let text = format!(in alloc; "module m(input clk, input rst{ports});\n{body}\nendmodule\n")?;
-    Ok(text)
+// The reader answers this of the text.
+fn assert_told(rt: &impl Abort, alloc: Global, text: &[u8], wanted: &str) -> Result<(), Fail> {
+    same(rt, told(alloc, text)?.as_str(), wanted);
+    Ok(())
 }
 
 const INCREMENT: &str =
     "// alphav 1\n// in X (0) i0 0\n// in X (1) i0 1\n// in X (2) i0 2\n// at Y (0) o0 0\n// at Y (1) o0 1\n// at Y (2) o0 2\nmodule array(input clk, input rst, input [7:0] i0, output [7:0] o0);\n  wire [7:0] c0;\n  assign c0 = i0 + 8'd1;\n  assign o0 = c0;\nendmodule\n";
 
-const SWAP: &str =
-    "module swap(input clk, input rst, output [3:0] o0, output [3:0] o1);\n  reg [3:0] a;\n  reg [3:0] b;\n  assign o0 = a;\n  assign o1 = b;\n  always @(posedge clk) if (rst) a <= 4'd1; else a <= b;\n  always @(posedge clk) if (rst) b <= 4'd2; else b <= a;\n";
+fn push_entry(out: &mut String, entry: &Entry) -> Result<(), Fail> {
+    let point = entry.point.as_slice();
+    let variable = entry.variable.as_str();
+    let wire = entry.wire.as_str();
+    write!(out, "{variable} {point:?} {wire} {};", entry.cycle)?;
+    Ok(())
+}
 
 // The lines of a listing, one after another.
 fn listed(alloc: Global, entries: &[Entry]) -> Result<String, Fail> {
-    let mut lines = format!(in alloc; "")?;
+    let mut lines = String::new(alloc);
     for entry in entries {
-        let line = format!(in alloc;
-            "{} {:?} {} {};",
-            entry.variable.as_str(),
-            entry.point.as_slice(),
-            entry.wire.as_str(),
-            entry.cycle
-        )?;
-        lines.push_str(line.as_str())?;
+        push_entry(&mut lines, entry)?;
     }
     Ok(lines)
 }
 
+fn assert_listed(rt: &impl Abort, alloc: Global, entries: &[Entry], wanted: &str) -> Result<(), Fail> {
+    same(rt, listed(alloc, entries)?.as_str(), wanted);
+    Ok(())
+}
+
+fn assert_drives(rt: &impl Abort, alloc: Global, module: &Module, wanted: &str) -> Result<(), Fail> {
+    let mut text = String::new(alloc);
+    write!(text, "{:?}", module.drives)?;
+    same(rt, text.as_str(), wanted);
+    Ok(())
+}
+
 #[test]
-fn the_increment_is_read(rt: HostRuntime) -> Result<(), Fail> {
+fn laws() {
     one_design();
     design_or_fault();
     spelled_is_sound();
     read_back();
     one_text();
-    let alloc = rt.alloc();
-    match read(alloc, INCREMENT.as_bytes()) {
-        Ok(read) => {
-            let text = format!(in alloc; "{:?}", read.module.drives)?;
-            assert_eq!(rt;
-                text.as_str(),
-                "List { items: [Drive { target: Name { text: \"c0\" }, operation: Binary { left: Name(Name { text: \"i0\" }), symbol: Add, right: Literal { width: Width { bits: 8 }, value: 1 } } }, Drive { target: Name { text: \"o0\" }, operation: Plain(Name(Name { text: \"c0\" })) }] }"
-            );
-            assert_eq!(rt; read.module.wires.as_slice().len(), 1);
-            let ins = listed(alloc, read.listing.ins.as_slice())?;
-            assert_eq!(rt; ins.as_str(), "X [0] i0 0;X [1] i0 1;X [2] i0 2;");
-            let ats = listed(alloc, read.listing.ats.as_slice())?;
-            assert_eq!(rt; ats.as_str(), "Y [0] o0 0;Y [1] o0 1;Y [2] o0 2;");
-        }
-        Err(_) => assert!(rt; false),
-    }
-    Ok(())
 }
 
 #[test]
-fn registers_that_swap(rt: HostRuntime) -> Result<(), Fail> {
+fn the_increment_is_read(rt: HostRuntime) -> Result<(), Fail> {
     let alloc = rt.alloc();
-    let whole = format!(in alloc; "{SWAP}endmodule\n")?;
-    let again = format!(in alloc; "{SWAP}  assign o0 = b;\nendmodule\n")?;
-    assert_eq!(rt; told(alloc, whole.as_bytes())?.as_str(), "module swap");
-    assert_eq!(rt; told(alloc, again.as_bytes())?.as_str(), "twice o0");
-    Ok(())
+    let read = design(alloc, INCREMENT)?;
+    assert_eq!(rt; read.module.wires.as_slice().len(), 1);
+    assert_drives(
+        &rt,
+        alloc,
+        &read.module,
+        "List { items: [Drive { target: Name { text: \"c0\" }, operation: Binary { left: Name(Name { text: \"i0\" }), symbol: Add, right: Literal { width: Width { bits: 8 }, value: 1 } } }, Drive { target: Name { text: \"o0\" }, operation: Plain(Name(Name { text: \"c0\" })) }] }",
+    )?;
+    let ins = read.listing.ins.as_slice();
+    assert_listed(&rt, alloc, ins, "X [0] i0 0;X [1] i0 1;X [2] i0 2;")?;
+    let ats = read.listing.ats.as_slice();
+    assert_listed(&rt, alloc, ats, "Y [0] o0 0;Y [1] o0 1;Y [2] o0 2;")
+}
+
+// One design, as it is written and as a person may write it.
+const TIDY: &str =
+    "// alphav 1\n// in X (1,-2) i 0\n// at Y () o 12\nmodule m(input clk, input rst, input [0:0] i, output [0:0] o);\n  wire [0:0] w;\n  reg [0:0] r;\n  assign w = i;\n  assign o = w;\n  always @(posedge clk) if (rst) r <= 1'd0; else r <= w;\nendmodule\n";
+
+const BY_HAND: &str =
+    "// in X (1,-2) i 0\r\n\t// by hand\r\n\r\n// at Y () o 12\r\n // in its place\r\n\tmodule m // its name\r\n(input clk,input\trst,input i,\r\n output o);//\r\nwire w;reg r;assign w=i;// \u{e9}\r\n// at last\r\nassign o=w;always@(posedge clk)if(rst)r<=01'd00;else r<=w;endmodule";
+
+// What is read of the first text is written as the second.
+fn assert_written(rt: &impl Abort, alloc: Global, text: &str, wanted: &str) -> Result<(), Fail> {
+    let read = design(alloc, text)?;
+    assert_text(rt, alloc, &read, wanted)
 }
 
 #[test]
 fn a_text_written_by_hand_is_the_tidy_one(rt: HostRuntime) -> Result<(), Fail> {
-    let alloc = rt.alloc();
-    let tidy =
-        "// alphav 1\n// in X (1,-2) i 0\n// at Y () o 12\nmodule m(input clk, input rst, input [0:0] i, output [0:0] o);\n  wire [0:0] w;\n  reg [0:0] r;\n  assign w = i;\n  assign o = w;\n  always @(posedge clk) if (rst) r <= 1'd0; else r <= w;\nendmodule\n";
-    let hand =
-        "// in X (1,-2) i 0\r\n\t// by hand\r\n\r\n// at Y () o 12\r\n // in its place\r\n\tmodule m // its name\r\n(input clk,input\trst,input i,\r\n output o);//\r\nwire w;reg r;assign w=i;// \u{e9}\r\n// at last\r\nassign o=w;always@(posedge clk)if(rst)r<=01'd00;else r<=w;endmodule";
-    match (read(alloc, tidy.as_bytes()), read(alloc, hand.as_bytes())) {
-        (Ok(one), Ok(other)) => {
-            let one = format!(in alloc; "{:?}", one)?;
-            let other = format!(in alloc; "{:?}", other)?;
-            assert_eq!(rt; one.as_str(), other.as_str());
-        }
-        _ => assert!(rt; false),
-    }
-    Ok(())
+    assert_written(&rt, rt.alloc(), TIDY, TIDY)?;
+    assert_written(&rt, rt.alloc(), BY_HAND, TIDY)
 }
 
 // Texts with what the reader answers.
-const TEXTS: [(&[u8], &str); 18] = [
+const TEXTS: &[(&[u8], &str)] = &[
     (b"\0", "byte 1:1"),
     (b"module m\n \xff", "byte 2:2"),
     (b"endmodule 8'x", "byte 1:12"),
@@ -159,16 +166,14 @@ const TEXTS: [(&[u8], &str); 18] = [
 
 #[test]
 fn bytes_and_tokens(rt: HostRuntime) -> Result<(), Fail> {
-    let alloc = rt.alloc();
-    for (text, wanted) in &TEXTS {
-        let line = told(alloc, text)?;
-        assert_eq!(rt; line.as_str(), *wanted);
+    for (text, wanted) in TEXTS {
+        assert_told(&rt, rt.alloc(), text, wanted)?;
     }
     Ok(())
 }
 
 // Lines before a module with the input i, the output o and the wire w, with what the reader answers.
-const LISTINGS: [(&str, &str); 34] = [
+const LISTINGS: &[(&str, &str)] = &[
     (
         "// in X (1,-2) i 0\n// at Y () o 4095\n// at Z_1 (4095,-4095,0,10) w 1\n",
         "module m",
@@ -215,21 +220,25 @@ const LISTINGS: [(&str, &str); 34] = [
     ("// at Y () o 0\n\n// in X () i 0\n", "listing 3"),
 ];
 
+// These lines before the module.
+fn below(alloc: Global, lines: &str) -> Result<String, Fail> {
+    let mut text = String::from_str(alloc, lines)?;
+    text.push_str("module m(input clk, input rst, input i, output o);\nwire w;\nassign w = i;\nassign o = w;\nendmodule\n")?;
+    Ok(text)
+}
+
 #[test]
 fn listings(rt: HostRuntime) -> Result<(), Fail> {
     let alloc = rt.alloc();
-    for (lines, wanted) in &LISTINGS {
-        let text = format!(in alloc;
-            "{lines}module m(input clk, input rst, input i, output o);\nwire w;\nassign w = i;\nassign o = w;\nendmodule\n"
-        )?;
-        let line = told(alloc, text.as_bytes())?;
-        assert_eq!(rt; line.as_str(), *wanted);
+    for (lines, wanted) in LISTINGS {
+        let text = below(alloc, lines)?;
+        assert_told(&rt, alloc, text.as_bytes(), wanted)?;
     }
     Ok(())
 }
 
 // Ports and bodies of modules with what the reader answers.
-const MODULES: [(&str, &str, &str); 39] = [
+const MODULES: &[(&str, &str, &str)] = &[
     // widths and numbers
     (
         ", output [63:0] o",
@@ -250,6 +259,17 @@ const MODULES: [(&str, &str, &str); 39] = [
         ", output o",
         "assign o = $signed(1'd0) == $signed(1'd0);",
         "syntax 2:26",
+    ),
+    // registers that swap, and an output that is driven once more
+    (
+        ", output [3:0] o0, output [3:0] o1",
+        "reg [3:0] a; reg [3:0] b; assign o0 = a; assign o1 = b; always @(posedge clk) if (rst) a <= 4'd1; else a <= b; always @(posedge clk) if (rst) b <= 4'd2; else b <= a;",
+        "module m",
+    ),
+    (
+        ", output [3:0] o0, output [3:0] o1",
+        "reg [3:0] a; reg [3:0] b; assign o0 = a; assign o1 = b; always @(posedge clk) if (rst) a <= 4'd1; else a <= b; always @(posedge clk) if (rst) b <= 4'd2; else b <= a; assign o0 = b;",
+        "twice o0",
     ),
     // each row of faults
     (", input clk", "", "twice clk"),
@@ -324,13 +344,19 @@ const MODULES: [(&str, &str, &str); 39] = [
     ),
 ];
 
+// A module with these ports, declarations and items.
+fn around(alloc: Global, ports: &str, body: &str) -> Result<String, Fail> {
+    let mut text = String::from_str(alloc, "module m(input clk, input rst")?;
+    write!(text, "{ports});\n{body}\nendmodule\n")?;
+    Ok(text)
+}
+
 #[test]
 fn rows_of_faults(rt: HostRuntime) -> Result<(), Fail> {
     let alloc = rt.alloc();
-    for (ports, body, wanted) in &MODULES {
+    for (ports, body, wanted) in MODULES {
         let text = around(alloc, ports, body)?;
-        let line = told(alloc, text.as_bytes())?;
-        assert_eq!(rt; line.as_str(), *wanted);
+        assert_told(&rt, alloc, text.as_bytes(), wanted)?;
     }
     Ok(())
 }
@@ -338,41 +364,48 @@ fn rows_of_faults(rt: HostRuntime) -> Result<(), Fail> {
 #[test]
 fn a_long_text(rt: HostRuntime) -> Result<(), Fail> {
     let alloc = rt.alloc();
-    let mut blanks = Vec::new(alloc);
-    for _ in 0..1_048_576 {
-        blanks.push(b' ')?;
+    let blanks = vec![in alloc; b' '; 1_048_576]?;
+    assert_told(&rt, alloc, &blanks, "syntax 1:1048577")
+}
+
+fn push_lines(text: &mut String) -> Result<(), Fail> {
+    for number in 0..4095 {
+        write!(text, "// at X ({number}) wire_{number} {number}\n")?;
     }
-    assert_eq!(rt;
-        told(alloc, blanks.as_slice())?.as_str(),
-        "syntax 1:1048577"
-    );
     Ok(())
+}
+
+fn push_wires(text: &mut String) -> Result<(), Fail> {
+    for number in 0..20_000 {
+        write!(text, "wire wire_{number};\n")?;
+    }
+    Ok(())
+}
+
+fn push_assigns(text: &mut String) -> Result<(), Fail> {
+    for number in 0..20_000 {
+        write!(text, "assign wire_{number} = i;\n")?;
+    }
+    Ok(())
+}
+
+// A design with 20,000 wires, of which 4,095 are listed.
+fn long(alloc: Global) -> Result<String, Fail> {
+    let mut text = String::from_str(alloc, "// alphav 1\n")?;
+    push_lines(&mut text)?;
+    text.push_str("module m(input clk, input rst, input i);\n")?;
+    push_wires(&mut text)?;
+    push_assigns(&mut text)?;
+    text.push_str("endmodule\n")?;
+    Ok(text)
 }
 
 #[test]
 fn many_names(rt: HostRuntime) -> Result<(), Fail> {
     let alloc = rt.alloc();
-    let mut text = format!(in alloc; "// alphav 1\n")?;
-    for number in 0..4095 {
-        let line = format!(in alloc; "// at X ({number}) wire_{number} {number}\n")?;
-        text.push_str(line.as_str())?;
-    }
-    text.push_str("module m(input clk, input rst, input i);\n")?;
-    for number in 0..20_000 {
-        let line = format!(in alloc; "wire wire_{number};\n")?;
-        text.push_str(line.as_str())?;
-    }
-    for number in 0..20_000 {
-        let line = format!(in alloc; "assign wire_{number} = i;\n")?;
-        text.push_str(line.as_str())?;
-    }
-    text.push_str("endmodule\n")?;
-    match read(alloc, text.as_bytes()) {
-        Ok(read) => {
-            assert_eq!(rt; read.module.drives.as_slice().len(), 20_000);
-            assert_eq!(rt; read.listing.ats.as_slice().len(), 4_095);
-        }
-        Err(_) => assert!(rt; false),
-    }
+    let text = long(alloc)?;
+    let read = design(alloc, text.as_str())?;
+    assert_eq!(rt; read.module.drives.as_slice().len(), 20_000);
+    assert_eq!(rt; read.listing.ats.as_slice().len(), 4_095);
     Ok(())
 }

@@ -1,6 +1,6 @@
-use super::{INCREMENT, USAGE, answer, bytes, numbers};
+use super::answers::{Row, assert_rows};
+use super::{INCREMENT, USAGE};
 use crate::Status;
-use av_base::{List, MemSink, MemSource};
 use std::test::Fail;
 
 pub(super) const MATRIX_VECTOR: &str = "system matvect :{N | N>1}
@@ -60,8 +60,7 @@ const SECOND_EQUATION: &str =
 pub(super) const HALVES: &str =
     "system halves (X : {i | 0<=i<=2} of integer)\n  returns (Y : {i | 0<=i<=4} of integer);\nlet Y[i] = reduce(+, (i,j -> i), {i,j | 0<=j; 2j<=i} : X[j]); tel;\n";
 
-// The words, the input, the status and the output.
-const ROWS: &[(&[&str], &str, Status, &str)] = &[
+const ROWS: &[Row] = &[
     (&["check", "N=4"], MATRIX_VECTOR, Status::Done, "ok\n"),
     (&["check"], INCREMENT, Status::Done, "ok\n"),
     (
@@ -190,37 +189,5 @@ const ROWS: &[(&[&str], &str, Status, &str)] = &[
 
 #[test]
 fn the_words_and_the_text_fix_the_answer_of_check(rt: HostRuntime) -> Result<(), Fail> {
-    let alloc = rt.alloc();
-    for (words, text, status, out) in ROWS {
-        let mut source = MemSource::new(bytes(alloc, text)?, 4096, numbers(alloc, &[])?);
-        let mut sink = MemSink::new(alloc, 4096, 4096, numbers(alloc, &[])?)?;
-        let answer = answer(alloc, words, &mut source, &mut sink)?;
-        assert_eq!(rt; sink.held(), out.as_bytes(), "{words:?} on {text}");
-        assert_eq!(rt; answer, *status, "{words:?} on {text}");
-    }
-    Ok(())
-}
-
-// A text without its last line feed, or without that and its last semicolon, is still one.
-#[test]
-fn a_text_that_is_cut_off_is_refused(rt: HostRuntime) -> Result<(), Fail> {
-    let alloc = rt.alloc();
-    let text = MATRIX_VECTOR.as_bytes();
-    for end in 0..=text.len() {
-        let mut front = List::new(alloc);
-        for byte in &text[..end] {
-            front.push(*byte)?;
-        }
-        let mut source = MemSource::new(front, 4096, numbers(alloc, &[])?);
-        let mut sink = MemSink::new(alloc, 4096, 4096, numbers(alloc, &[])?)?;
-        let status = answer(alloc, &["check", "N=4"], &mut source, &mut sink)?;
-        if end + 2 >= text.len() {
-            assert_eq!(rt; sink.held(), b"ok\n".as_slice(), "{end} bytes");
-            assert_eq!(rt; status, Status::Done, "{end} bytes");
-        } else {
-            assert!(rt; sink.held().starts_with(b"refused: syntax "), "{end} bytes");
-            assert_eq!(rt; status, Status::Refused, "{end} bytes");
-        }
-    }
-    Ok(())
+    assert_rows(&rt, rt.alloc(), ROWS)
 }

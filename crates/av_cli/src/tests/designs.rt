@@ -1,11 +1,11 @@
 //! The designs of `emit`, clocked by `sim` with the words of their data at the listed ports and cycles, and with words of
 //! ones on the other ports.
 
+use super::answers::{Answer, Row, answered, assert_rows, extend, joined};
 use super::schedules::{CONVOLUTION, FORWARD, LEAST, MATRIX_PRODUCT, NO_POINT, ROW_SUMS};
 use super::tables::DIAGONAL;
-use super::{answer, bytes, extend, numbers};
 use crate::Status;
-use av_base::{List, MemSink, MemSource};
+use av_base::List;
 use std::alloc::Global;
 use std::test::Fail;
 
@@ -132,69 +132,68 @@ module array(input clk, input rst);
 endmodule
 ";
 
+const WIDTH_4: &[&str] = &["emit", "--width=4"];
+
+const TEXTS: &[Row] = &[
+    (WIDTH_4, DIAGONAL, Status::Done, DIAGONAL_TEXT),
+    (WIDTH_4, NO_POINT, Status::Done, EMPTY_TEXT),
+];
+
 #[test]
 fn texts_are_these(rt: HostRuntime) -> Result<(), Fail> {
-    let alloc = rt.alloc();
-    for (text, out) in [(DIAGONAL, DIAGONAL_TEXT), (NO_POINT, EMPTY_TEXT)] {
-        let mut source = MemSource::new(bytes(alloc, text)?, 4096, numbers(alloc, &[])?);
-        let mut sink = MemSink::new(alloc, 4096, 4096, numbers(alloc, &[])?)?;
-        let status = answer(alloc, &["emit", "--width=4"], &mut source, &mut sink)?;
-        assert_eq!(rt; status, Status::Done, "{text}");
-        assert_eq!(rt; sink.held(), out.as_bytes(), "{text}");
-    }
-    Ok(())
+    assert_rows(&rt, rt.alloc(), TEXTS)
 }
+
+const CLOCKED: &[Clocked<'static>] = &[
+    OF_DIAGONAL,
+    OF_MATRIX_PRODUCT,
+    OF_CONVOLUTION,
+    OF_FORWARD,
+    OF_ROW_SUMS,
+    OF_LEAST,
+];
 
 #[test]
 fn designs_show_their_points_whatever_stands_on_idle_ports(rt: HostRuntime) -> Result<(), Fail> {
     let alloc = rt.alloc();
-    for it in [
-        OF_DIAGONAL,
-        OF_MATRIX_PRODUCT,
-        OF_CONVOLUTION,
-        OF_FORWARD,
-        OF_ROW_SUMS,
-        OF_LEAST,
-    ] {
-        let mut said = MemSink::new(alloc, 4096, 4096, numbers(alloc, &[])?)?;
-        let status = stimulated(alloc, &it, &mut said)?;
-        assert_eq!(rt; status, Status::Done, "{}", it.text);
-        let lines = str::from_utf8(said.held()).unwrap_or("");
-        for (cycle, word) in it.shown {
-            assert!(rt;
-                shows(lines, cycle, word),
-                "{word} in cycle {cycle} of {}",
-                it.text
-            );
-        }
+    for it in CLOCKED {
+        let answer = stimulated(alloc, it)?;
+        assert_eq!(rt; answer.status, Status::Done, "{}", it.text);
+        let lines = str::from_utf8(answer.sink.held()).unwrap_or("");
+        assert!(rt;
+            it.shown
+                .iter()
+                .all(|(cycle, word)| shows(lines, cycle, word)),
+            "{}",
+            it.text
+        );
     }
     Ok(())
 }
 
 // Emits a design, and clocks it.
-fn stimulated(alloc: Global, it: &Clocked<'_>, said: &mut MemSink) -> Result<Status, Fail> {
-    let mut emitted = MemSink::new(alloc, 65536, 65536, numbers(alloc, &[])?)?;
-    let mut source = MemSource::new(bytes(alloc, it.text)?, 4096, numbers(alloc, &[])?);
-    let status = answer(alloc, it.words, &mut source, &mut emitted)?;
-    if status != Status::Done {
-        return Ok(status);
-    }
+fn stimulated(alloc: Global, it: &Clocked<'_>) -> Result<Answer, Fail> {
+    let emitted = answered(alloc, it.words, joined(alloc, &[it.text])?, 65536)?;
     let mut text = List::new(alloc);
-    for byte in emitted.held() {
-        text.push(*byte)?;
-    }
-    extend(&mut text, "%%\ncycles ")?;
-    extend(&mut text, NUMBERS.get(it.cycles.len()).unwrap_or(&"0"))?;
-    extend(&mut text, "\n")?;
+    extend(&mut text, emitted.sink.held())?;
+    extend(&mut text, b"%%\ncycles ")?;
+    let count = NUMBERS.get(it.cycles.len()).unwrap_or(&"0");
+    extend(&mut text, count.as_bytes())?;
+    extend(&mut text, b"\n")?;
     for (cycle, words) in NUMBERS.iter().zip(it.cycles) {
-        for (port, word) in PORTS.iter().zip(*words) {
-            for part in ["at ", cycle, " ", port, " ", word, "\n"] {
-                extend(&mut text, part)?;
-            }
+        put_cycle(&mut text, cycle, words)?;
+    }
+    answered(alloc, &["sim"], text, 4096)
+}
+
+// The lines of a stimulus for one cycle.
+fn put_cycle(text: &mut List<u8>, cycle: &str, words: &[&str]) -> Result<(), Fail> {
+    for (port, word) in PORTS.iter().zip(words) {
+        for part in ["at ", cycle, " ", port, " ", word, "\n"] {
+            extend(text, part.as_bytes())?;
         }
     }
-    let mut source = MemSource::new(text, 4096, numbers(alloc, &[])?);
-    answer(alloc, &["sim"], &mut source, said)
+    Ok(())
 }
 
 // Whether the line of the cycle has the word.

@@ -1,10 +1,11 @@
 //! Hostile ends: a text cut short at each byte, bytes that spell nothing, and a source that fails at each call.
 
+use super::answers::{answer, answered, assert_answer, calls, extend, joined, repeated};
 use super::checks::MATRIX_VECTOR;
-use super::{answer, numbers};
 use crate::Status;
 use av_base::{List, MemSink, MemSource};
 use std::alloc::Global;
+use std::process::Abort;
 use std::test::Fail;
 
 const CHECK: &[&str] = &["check", "N=4"];
@@ -21,23 +22,31 @@ const BLANKS: &[(usize, &str)] = &[
     (1_048_577, "refused: too long\n"),
 ];
 
+// The first bytes of the text are no text, unless at most its last line feed and its last semicolon lack.
+fn assert_front(rt: &impl Abort, alloc: Global, count: usize) -> Result<(), Fail> {
+    let mut front = List::new(alloc);
+    extend(
+        &mut front,
+        MATRIX_VECTOR.as_bytes().get(..count).unwrap_or(&[]),
+    )?;
+    let answer = answered(alloc, CHECK, front, 4096)?;
+    if count < MATRIX_VECTOR.len().saturating_sub(2) {
+        assert_eq!(rt; answer.status, Status::Refused, "the first {count} bytes");
+        assert!(rt;
+            answer.sink.held().starts_with(b"refused: syntax "),
+            "the first {count} bytes"
+        );
+    } else {
+        assert_answer(rt, &answer, Status::Done, "ok\n", "nearly all bytes");
+    }
+    Ok(())
+}
+
 #[test]
 fn a_text_may_end_at_each_byte(rt: HostRuntime) -> Result<(), Fail> {
     let alloc = rt.alloc();
-    let whole = MATRIX_VECTOR.len();
-    for count in 0..=whole {
-        let text = &MATRIX_VECTOR.as_bytes()[..count];
-        let mut sink = MemSink::new(alloc, 4096, 4096, numbers(alloc, &[])?)?;
-        let status = answer_bytes(alloc, CHECK, text, &mut sink)?;
-        if count + 2 < whole {
-            assert_eq!(rt; status, Status::Refused, "the first {count} bytes");
-            assert!(rt;
-                sink.held().starts_with(b"refused: syntax "),
-                "the first {count} bytes"
-            );
-        } else {
-            assert_eq!(rt; status, Status::Done, "the first {count} bytes");
-        }
+    for count in 0..=MATRIX_VECTOR.len() {
+        assert_front(&rt, alloc, count)?;
     }
     Ok(())
 }
@@ -46,10 +55,10 @@ fn a_text_may_end_at_each_byte(rt: HostRuntime) -> Result<(), Fail> {
 fn bytes_that_spell_nothing_are_refused_at_their_place(rt: HostRuntime) -> Result<(), Fail> {
     let alloc = rt.alloc();
     for (words, text, line) in ROWS {
-        let mut sink = MemSink::new(alloc, 4096, 4096, numbers(alloc, &[])?)?;
-        let status = answer_bytes(alloc, words, text, &mut sink)?;
-        assert_eq!(rt; status, Status::Refused, "{line}");
-        assert_eq!(rt; sink.held(), line.as_bytes());
+        let mut bytes = List::new(alloc);
+        extend(&mut bytes, text)?;
+        let answer = answered(alloc, words, bytes, 4096)?;
+        assert_answer(&rt, &answer, Status::Refused, line, line);
     }
     Ok(())
 }
@@ -58,15 +67,9 @@ fn bytes_that_spell_nothing_are_refused_at_their_place(rt: HostRuntime) -> Resul
 fn blanks_are_read_up_to_the_limit(rt: HostRuntime) -> Result<(), Fail> {
     let alloc = rt.alloc();
     for (count, line) in BLANKS {
-        let mut text = List::new(alloc);
-        for _ in 0..*count {
-            text.push(b' ')?;
-        }
-        let mut source = MemSource::new(text, 4096, numbers(alloc, &[])?);
-        let mut sink = MemSink::new(alloc, 4096, 4096, numbers(alloc, &[])?)?;
-        let status = answer(alloc, CHECK, &mut source, &mut sink)?;
-        assert_eq!(rt; status, Status::Refused, "{count} blanks");
-        assert_eq!(rt; sink.held(), line.as_bytes(), "{count} blanks");
+        let blanks = repeated(alloc, "", " ", *count, "")?;
+        let answer = answered(alloc, CHECK, blanks, 4096)?;
+        assert_answer(&rt, &answer, Status::Refused, line, line);
     }
     Ok(())
 }
@@ -75,30 +78,12 @@ fn blanks_are_read_up_to_the_limit(rt: HostRuntime) -> Result<(), Fail> {
 fn a_source_may_fail_at_each_call_of_check(rt: HostRuntime) -> Result<(), Fail> {
     let alloc = rt.alloc();
     for call in 0..=MATRIX_VECTOR.len() as u64 {
-        let text = copied(alloc, MATRIX_VECTOR.as_bytes())?;
-        let mut source = MemSource::new(text, 1, numbers(alloc, &[call])?);
-        let mut sink = MemSink::new(alloc, 4096, 1, numbers(alloc, &[])?)?;
+        let text = joined(alloc, &[MATRIX_VECTOR])?;
+        let mut source = MemSource::new(text, 1, calls(alloc, Some(call))?);
+        let mut sink = MemSink::new(alloc, 4096, 1, calls(alloc, None)?)?;
         let status = answer(alloc, CHECK, &mut source, &mut sink)?;
         assert_eq!(rt; status, Status::ReadFault, "call {call}");
         assert!(rt; sink.held().is_empty(), "call {call}");
     }
     Ok(())
-}
-
-fn answer_bytes(
-    alloc: Global,
-    words: &[&str],
-    text: &[u8],
-    sink: &mut MemSink,
-) -> Result<Status, Fail> {
-    let mut source = MemSource::new(copied(alloc, text)?, 4096, numbers(alloc, &[])?);
-    answer(alloc, words, &mut source, sink)
-}
-
-fn copied(alloc: Global, text: &[u8]) -> Result<List<u8>, Fail> {
-    let mut list = List::new(alloc);
-    for byte in text {
-        list.push(*byte)?;
-    }
-    Ok(list)
 }

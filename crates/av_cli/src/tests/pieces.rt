@@ -1,8 +1,7 @@
 //! What `check` answers of pieces, sets and boxes: each quantity at its limit and one above.
 
-use super::{answer, bytes, extend, numbers};
+use super::answers::{answered, assert_answer, repeated};
 use crate::Status;
-use av_base::{MemSink, MemSource};
 use std::test::Fail;
 
 /// What a text begins with, what comes then so many times, how it ends, and the line that is written for it.
@@ -218,20 +217,14 @@ const ROWS: &[Row] = &[
 fn quantities_at_their_limits_and_one_above(rt: HostRuntime) -> Result<(), Fail> {
     let alloc = rt.alloc();
     for (before, part, count, after, line) in ROWS {
-        let mut text = bytes(alloc, before)?;
-        for _ in 0..*count {
-            extend(&mut text, part)?;
-        }
-        extend(&mut text, after)?;
-        let mut source = MemSource::new(text, 4096, numbers(alloc, &[])?);
-        let mut sink = MemSink::new(alloc, 200, 200, numbers(alloc, &[])?)?;
-        let status = answer(alloc, &["check"], &mut source, &mut sink)?;
-        assert_eq!(rt; sink.held(), line.as_bytes(), "{after:?} behind {before:?}");
-        assert_eq!(rt;
-            status == Status::Done,
-            *line == "ok\n",
-            "{after:?} behind {before:?}"
-        );
+        let text = repeated(alloc, before, part, *count, after)?;
+        let answer = answered(alloc, &["check"], text, 200)?;
+        let status = if *line == "ok\n" {
+            Status::Done
+        } else {
+            Status::Refused
+        };
+        assert_answer(&rt, &answer, status, line, after);
     }
     Ok(())
 }

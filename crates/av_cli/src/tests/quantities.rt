@@ -1,8 +1,7 @@
 //! What `table` answers of the quantities of an array: each at its limit and one above.
 
-use super::{answer, bytes, extend, numbers};
+use super::answers::{answered, assert_end, repeated};
 use crate::Status;
-use av_base::{MemSink, MemSource};
 use std::test::Fail;
 
 /// What a text begins with, what comes then so many times, how it ends, and the last line that is written for it.
@@ -94,23 +93,15 @@ const ROWS: &[Row] = &[
 fn quantities_at_their_limits_and_one_above(rt: HostRuntime) -> Result<(), Fail> {
     let alloc = rt.alloc();
     for (before, part, count, after, line) in ROWS {
-        let mut text = bytes(alloc, before)?;
-        for _ in 0..*count {
-            extend(&mut text, part)?;
-        }
-        extend(&mut text, after)?;
-        let mut source = MemSource::new(text, 4096, numbers(alloc, &[])?);
-        let mut sink = MemSink::new(alloc, 4_000_000, 65536, numbers(alloc, &[])?)?;
-        let status = answer(alloc, &["table"], &mut source, &mut sink)?;
-        assert!(rt;
-            sink.held().ends_with(line.as_bytes()),
-            "{after:?} behind {before:?}"
-        );
-        assert_eq!(rt;
-            status == Status::Refused,
-            sink.held().starts_with(b"refused: "),
-            "{after:?} behind {before:?}"
-        );
+        let text = repeated(alloc, before, part, *count, after)?;
+        let answer = answered(alloc, &["table"], text, 4_000_000)?;
+        let refused = answer.sink.held().starts_with(b"refused: ");
+        let status = if refused {
+            Status::Refused
+        } else {
+            Status::Done
+        };
+        assert_end(&rt, &answer, status, line);
     }
     Ok(())
 }

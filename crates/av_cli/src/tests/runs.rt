@@ -1,8 +1,9 @@
 //! The answers of `run`, `trace` and `demo`, and what designs show.
 
+use super::answers::{answer, answered, assert_answer, calls, joined};
 use super::checks::{MATRIX_VECTOR, UNCOVERED};
 use super::schedules::{CIRCLE, CONVOLUTION, FORWARD, LEAST, MATRIX_PRODUCT, ROW_SUMS};
-use super::{INCREMENT, USAGE, answer, bytes, extend, numbers};
+use super::{INCREMENT, USAGE};
 use crate::Status;
 use av_base::{MemSink, MemSource};
 use std::alloc::Global;
@@ -270,46 +271,55 @@ const ROWS: &[(&[&str], &str, &str, Status, &str)] = &[
 fn the_words_the_text_and_the_data_fix_status_and_output(rt: HostRuntime) -> Result<(), Fail> {
     let alloc = rt.alloc();
     for (words, text, data, status, out) in ROWS {
-        let mut input = bytes(alloc, text)?;
-        extend(&mut input, data)?;
-        let mut source = MemSource::new(input, 4096, numbers(alloc, &[])?);
-        let mut sink = MemSink::new(alloc, 4096, 4096, numbers(alloc, &[])?)?;
-        let answer = answer(alloc, words, &mut source, &mut sink)?;
-        assert_eq!(rt; sink.held(), out.as_bytes(), "{words:?} on {text}{data}");
-        assert_eq!(rt; answer, *status, "{words:?} on {text}{data}");
+        let answer = answered(alloc, words, joined(alloc, &[text, data])?, 4096)?;
+        assert_answer(&rt, &answer, *status, out, text);
     }
     Ok(())
 }
+
+// The size and the box of a demo.
+const DEMOS: &[(&str, &str)] = &[
+    ("1", "--box=1"),
+    ("1", "--box=2"),
+    ("1", "--box=3"),
+    ("1", "--box=4"),
+    ("3", "--box=1"),
+    ("3", "--box=2"),
+    ("3", "--box=3"),
+    ("3", "--box=4"),
+    ("5", "--box=1"),
+    ("5", "--box=2"),
+    ("5", "--box=3"),
+    ("5", "--box=4"),
+    ("9", "--box=1"),
+    ("9", "--box=2"),
+    ("9", "--box=3"),
+    ("9", "--box=4"),
+];
 
 #[test]
 fn no_size_of_a_demo_meets_a_limit(rt: HostRuntime) -> Result<(), Fail> {
     let alloc = rt.alloc();
-    for size in ["1", "3", "5", "9"] {
-        for reach in ["--box=1", "--box=2", "--box=3", "--box=4"] {
-            let words = ["demo", size, reach, "--width=1"];
-            let mut source = MemSource::new(bytes(alloc, "")?, 1, numbers(alloc, &[0])?);
-            let mut sink = MemSink::new(alloc, 256, 256, numbers(alloc, &[])?)?;
-            let answer = answer(alloc, &words, &mut source, &mut sink)?;
-            assert_eq!(rt; answer, Status::Done, "{words:?}");
-        }
+    for (size, reach) in DEMOS {
+        let words = ["demo", size, reach, "--width=1"];
+        let answer = answered(alloc, &words, joined(alloc, &[])?, 256)?;
+        assert_eq!(rt; answer.status, Status::Done, "{words:?}");
     }
     Ok(())
 }
 
-// Runs the increment on three words: these calls of the source fail.
-fn answer_three(alloc: Global, calls: &[u64], sink: &mut MemSink) -> Result<Status, Fail> {
-    let mut input = bytes(alloc, INCREMENT)?;
-    extend(&mut input, "%%\n")?;
-    extend(&mut input, THREE_WORDS)?;
-    let mut source = MemSource::new(input, 1, numbers(alloc, calls)?);
+// Runs the increment on three words: this call of the source fails.
+fn answer_three(alloc: Global, call: Option<u64>, sink: &mut MemSink) -> Result<Status, Fail> {
+    let input = joined(alloc, &[INCREMENT, "%%\n", THREE_WORDS])?;
+    let mut source = MemSource::new(input, 1, calls(alloc, call)?);
     answer(alloc, &["run", "--width", "8"], &mut source, sink)
 }
 
 #[test]
 fn a_sink_may_fail_at_a_run(rt: HostRuntime) -> Result<(), Fail> {
     let alloc = rt.alloc();
-    let mut sink = MemSink::new(alloc, 64, 1, numbers(alloc, &[1])?)?;
-    let status = answer_three(alloc, &[], &mut sink)?;
+    let mut sink = MemSink::new(alloc, 64, 1, calls(alloc, Some(1))?)?;
+    let status = answer_three(alloc, None, &mut sink)?;
     assert_eq!(rt; status, Status::WriteFault);
     assert_eq!(rt; sink.held(), b"Y".as_slice());
     Ok(())
@@ -318,8 +328,8 @@ fn a_sink_may_fail_at_a_run(rt: HostRuntime) -> Result<(), Fail> {
 #[test]
 fn a_source_may_fail_at_a_run(rt: HostRuntime) -> Result<(), Fail> {
     let alloc = rt.alloc();
-    let mut sink = MemSink::new(alloc, 64, 1, numbers(alloc, &[])?)?;
-    let status = answer_three(alloc, &[0], &mut sink)?;
+    let mut sink = MemSink::new(alloc, 64, 1, calls(alloc, None)?)?;
+    let status = answer_three(alloc, Some(0), &mut sink)?;
     assert_eq!(rt; status, Status::ReadFault);
     assert!(rt; sink.held().is_empty());
     Ok(())

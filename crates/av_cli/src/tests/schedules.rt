@@ -1,9 +1,9 @@
 //! The lines of `schedule`.
 
+use super::USAGE;
+use super::answers::{Row, assert_rows};
 use super::checks::{HALVES, MATRIX_VECTOR, UNBOUNDED, UNCOVERED};
-use super::{USAGE, answer, bytes, numbers};
 use crate::Status;
-use av_base::{MemSink, MemSource};
 use std::test::Fail;
 
 pub(super) const MATRIX_PRODUCT: &str = "system matmul :{N | N>=1} \
@@ -63,8 +63,7 @@ const UNCOVERED_AND_STEEP: &str = "system t (X : {i | 0<=i<=2} of integer) \
     returns (Y : {i | 0<=i<=4} of integer; Z : {i | 0<=i<=3} of integer); \
     let Y[i] = reduce(+, (i,j -> i), {i,j | 0<=j; 2j<=i} : X[j]); Z[i] = X[i]; tel;";
 
-// The words, the input, the status and the output.
-const ROWS: &[(&[&str], &str, Status, &str)] = &[
+const ROWS: &[Row] = &[
     (
         &["schedule", "N=4"],
         MATRIX_VECTOR,
@@ -195,13 +194,5 @@ const ROWS: &[(&[&str], &str, Status, &str)] = &[
 
 #[test]
 fn the_words_and_the_text_fix_the_answer_of_schedule(rt: HostRuntime) -> Result<(), Fail> {
-    let alloc = rt.alloc();
-    for (words, text, status, out) in ROWS {
-        let mut source = MemSource::new(bytes(alloc, text)?, 4096, numbers(alloc, &[])?);
-        let mut sink = MemSink::new(alloc, 4096, 4096, numbers(alloc, &[])?)?;
-        let answer = answer(alloc, words, &mut source, &mut sink)?;
-        assert_eq!(rt; sink.held(), out.as_bytes(), "{words:?} on {text}");
-        assert_eq!(rt; answer, *status, "{words:?} on {text}");
-    }
-    Ok(())
+    assert_rows(&rt, rt.alloc(), ROWS)
 }

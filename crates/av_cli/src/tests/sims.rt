@@ -1,6 +1,5 @@
-use super::{answer, bytes, extend, numbers};
+use super::answers::{answered, assert_answer, joined};
 use crate::Status;
-use av_base::{MemSink, MemSource};
 use std::test::Fail;
 
 const SWAP: &str = "module swap(input clk, input rst, output [3:0] o0, output [3:0] o1);
@@ -313,14 +312,9 @@ const ROWS: &[(&str, &str, Status, &str)] = &[
 fn the_module_and_the_stimulus_fix_status_and_output(rt: HostRuntime) -> Result<(), Fail> {
     let alloc = rt.alloc();
     for (module, rest, status, out) in ROWS {
-        let mut text = bytes(alloc, module)?;
-        extend(&mut text, "endmodule\n")?;
-        extend(&mut text, rest)?;
-        let mut source = MemSource::new(text, 4096, numbers(alloc, &[])?);
-        let mut sink = MemSink::new(alloc, 4096, 4096, numbers(alloc, &[])?)?;
-        let answer = answer(alloc, &["sim"], &mut source, &mut sink)?;
-        assert_eq!(rt; sink.held(), out.as_bytes(), "{rest:?} on {module}");
-        assert_eq!(rt; answer, *status, "{rest:?} on {module}");
+        let text = joined(alloc, &[module, "endmodule\n", rest])?;
+        let answer = answered(alloc, &["sim"], text, 4096)?;
+        assert_answer(&rt, &answer, *status, out, rest);
     }
     Ok(())
 }

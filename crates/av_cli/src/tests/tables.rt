@@ -1,12 +1,12 @@
 //! The lines of `table`.
 
+use super::USAGE;
+use super::answers::{Row, answered, assert_end, assert_rows, joined};
 use super::checks::{MATRIX_VECTOR, UNBOUNDED, UNCOVERED};
 use super::schedules::{
     CIRCLE, CONVOLUTION, FORWARD, MATRIX_PRODUCT, NO_POINT, ROW_SUMS, TILTED_SQUARE,
 };
-use super::{USAGE, answer, bytes, numbers};
 use crate::Status;
-use av_base::{MemSink, MemSource};
 use std::test::Fail;
 
 // Sums along a diagonal.
@@ -142,8 +142,7 @@ const OF_DIAGONAL: &str = "cell 0 D (0)\n\
     at D (1,1) o1 1\n\
     cycles 2 cells 2 delays 1 links 1\n";
 
-// The words, the input, the status and the output.
-const ROWS: &[(&[&str], &str, Status, &str)] = &[
+const ROWS: &[Row] = &[
     (
         &["table", "N=4"],
         MATRIX_VECTOR,
@@ -208,19 +207,11 @@ const ROWS: &[(&[&str], &str, Status, &str)] = &[
 
 #[test]
 fn the_words_and_the_text_fix_the_answer_of_table(rt: HostRuntime) -> Result<(), Fail> {
-    let alloc = rt.alloc();
-    for (words, text, status, out) in ROWS {
-        let mut source = MemSource::new(bytes(alloc, text)?, 4096, numbers(alloc, &[])?);
-        let mut sink = MemSink::new(alloc, 4096, 4096, numbers(alloc, &[])?)?;
-        let answer = answer(alloc, words, &mut source, &mut sink)?;
-        assert_eq!(rt; sink.held(), out.as_bytes(), "{words:?} on {text}");
-        assert_eq!(rt; answer, *status, "{words:?} on {text}");
-    }
-    Ok(())
+    assert_rows(&rt, rt.alloc(), ROWS)
 }
 
 // The words, the input, the status and the last line.
-const LAST_LINES: &[(&[&str], &str, Status, &str)] = &[
+const LAST_LINES: &[Row] = &[
     (
         &["table"],
         TILTED_SQUARE,
@@ -239,14 +230,8 @@ const LAST_LINES: &[(&[&str], &str, Status, &str)] = &[
 fn the_last_line_of_a_table_has_its_totals(rt: HostRuntime) -> Result<(), Fail> {
     let alloc = rt.alloc();
     for (words, text, status, last) in LAST_LINES {
-        let mut source = MemSource::new(bytes(alloc, text)?, 4096, numbers(alloc, &[])?);
-        let mut sink = MemSink::new(alloc, 65536, 4096, numbers(alloc, &[])?)?;
-        let answer = answer(alloc, words, &mut source, &mut sink)?;
-        assert!(rt;
-            sink.held().ends_with(last.as_bytes()),
-            "{words:?} on {text}"
-        );
-        assert_eq!(rt; answer, *status, "{words:?} on {text}");
+        let answer = answered(alloc, words, joined(alloc, &[text])?, 65536)?;
+        assert_end(&rt, &answer, *status, last);
     }
     Ok(())
 }

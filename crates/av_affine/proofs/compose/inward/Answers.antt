@@ -1,4 +1,4 @@
-use Rattle.std.proofs.Common.{rules, ◌≤◌, ◌^◌, sym, ◌∙◌, subst, ap, ℤ, [], ◌∷◌, ◌+ℤ◌, arith, FitsSigned, to_z-of_z, w64}
+use Rattle.std.proofs.Common.{rules, to_z, of_z, ◌≤◌, ◌^◌, sym, ◌∙◌, subst, ap, ℤ, [], ◌∷◌, ◌+ℤ◌, arith, FitsSigned, to_z-of_z, w64}
 use Rattle.std.specs.Int.RustNames.{unsigned_abs}
 use Rattle.std.proofs.lemmas.Int.{ints, fits_signed_from_abs}
 use Rattle.std.proofs.lemmas.List.Elements.{All-from_recursion}
@@ -12,15 +12,19 @@ products-constant-requires-clause-numbers c =
     let e = c.as_slice-2.ensures.value ∙ c.constants.ensures ∙ ap constants_of c.as_slice.ensures.value in
     subst (AtMost (2 ^ 20)) (sym e) (constants_most c.args.inner.now.rows c.requires.inner)
 
+-- a number of 64 bits is what its bits say
+wrapped : (x : ℤ) → FitsSigned w64 x → unsigned_abs x ≤ 2 ^ 32 → unsigned_abs (to_z w64 (of_z w64 x)) ≤ 2 ^ 32
+wrapped x f h = simp to_z-of_z h
+
 pub returns-clause-coefficients : goal.returns-clause-coefficients
 returns-clause-coefficients c =
-    let fa : FitsSigned w64 c.coefficient-a.result = search rules in
-    let fb : FitsSigned w64 c.coefficient-b.result = search rules in
-    let fc : FitsSigned w64 c.coefficient-c.result = search rules in
-    let fd : FitsSigned w64 c.coefficient-d.result = search rules in
     let small : (a b d e : ℤ) → unsigned_abs a ≤ 2 ^ 32 → unsigned_abs b ≤ 2 ^ 32 → unsigned_abs d ≤ 2 ^ 32 → unsigned_abs e ≤ 2 ^ 32 → AtMost (2 ^ 32) (a ∷ b ∷ d ∷ e ∷ []) =
     λ a b d e ha hb hd he. All-from_recursion (λ x. unsigned_abs x ≤ 2 ^ 32) (a ∷ b ∷ d ∷ e ∷ []) (ha, (hb, (hd, (he, tt)))) in
-    simp to_z-of_z (small _ _ _ _ c.coefficient-a.ensures.small c.coefficient-b.ensures.small c.coefficient-c.ensures.small c.coefficient-d.ensures.small)
+    small _ _ _ _
+        (wrapped c.coefficient-a.result (search rules) c.coefficient-a.ensures.small)
+        (wrapped c.coefficient-b.result (search rules) c.coefficient-b.ensures.small)
+        (wrapped c.coefficient-c.result (search rules) c.coefficient-c.ensures.small)
+        (wrapped c.coefficient-d.result (search rules) c.coefficient-d.ensures.small)
 
 pub returns-clause-constant : goal.returns-clause-constant
 returns-clause-constant c =
