@@ -5,7 +5,7 @@ ghost use Rattle.av_flat.specs.Trees.{view, view_piece, view_variable, view_syst
 
 use crate::{Choice, Flat, Piece, Tree, Var};
 use av_affine::{Map, Rows};
-use av_base::{List, Memory, Name};
+use av_base::{List, Memory};
 use av_poly::copy_set;
 use std::alloc::Global;
 
@@ -145,16 +145,8 @@ fn copy_variables(alloc: Global, vars: &[Var]) -> Result<List<Var>, Memory>
 pub fn copy_variable(alloc: Global, var: &Var) -> Result<Var, Memory>
     ensures { IfOk result (λ to. view_variable to ≡ view_variable var.now) }
 {
-    let name = Name::new(alloc, var.name.as_str())?;
-    let domain = copy_set(alloc, &var.domain)?;
     let pieces = copy_pieces(alloc, var.pieces.as_slice())?;
-    Ok(Var {
-        name,
-        kind: var.kind,
-        width: var.width,
-        domain,
-        pieces,
-    })
+    var.with_pieces(alloc, pieces)
 }
 
 /// The same pieces.

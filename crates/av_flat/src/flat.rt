@@ -1,12 +1,13 @@
-ghost use Rattle.std.specs.Prelude.{◌≡◌};
+ghost use Rattle.std.specs.Prelude.{◌≡◌, IfOk};
 ghost use Rattle.av_flat.specs.Nodes.{is_node};
 ghost use Rattle.av_flat.specs.Signatures.{is_computed};
 ghost use Rattle.av_flat.specs.Trees.{view_variable};
 
 use crate::pass::Meant;
 use crate::tree::Tree;
-use av_base::{List, Name, Width};
-use av_poly::Poly;
+use av_base::{List, Memory, Name, Width};
+use av_poly::{Poly, copy_set};
+use std::alloc::Global;
 
 /// What a variable is: given, shown as a result, computed on the way, or the running fold of a reduction.
 #[derive(Clone, Copy, Debug, PartialEq, Eq)]
@@ -54,6 +55,25 @@ impl Var {
         ensures { result ≡ is_node (view_variable self.now) }
     {
         self.kind.is_computed() && self.pieces.as_slice().len() > 0
+    }
+
+    /// The same variable with other pieces.
+    pub fn with_pieces(&self, alloc: Global, pieces: List<Piece>) -> Result<Var, Memory>
+        ensures name { IfOk result (λ to. to.name ≡ self.now.name) }
+        ensures kind { IfOk result (λ to. to.kind ≡ self.now.kind) }
+        ensures width { IfOk result (λ to. to.width ≡ self.now.width) }
+        ensures domain { IfOk result (λ to. to.domain ≡ self.now.domain) }
+        ensures pieces { IfOk result (λ to. to.pieces ≡ pieces) }
+    {
+        let name = Name::new(alloc, self.name.as_str())?;
+        let domain = copy_set(alloc, &self.domain)?;
+        Ok(Var {
+            name,
+            kind: self.kind,
+            width: self.width,
+            domain,
+            pieces,
+        })
     }
 }
 

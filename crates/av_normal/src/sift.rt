@@ -8,7 +8,7 @@ ghost use Rattle.av_normal.specs.Pairwise.{Pairwise};
 ghost use Rattle.av_normal.specs.inner.NonemptyPieces.{AreNonemptyPieces, HasNonemptyPieces, IsInside, IsHeld};
 
 use crate::keep::has_point;
-use av_base::{List, Memory, Name};
+use av_base::{List, Memory};
 use av_flat::{Piece, Var, copy_tree};
 use av_poly::{Bounds, copy_set};
 use std::alloc::Global;
@@ -53,16 +53,8 @@ fn kept_variable(alloc: Global, var: &Var, extent: &Option<Bounds>) -> Result<Va
     requires { IsHeld (view_variable var.now) extent.now }
     ensures { IfOk result (λ made. HasNonemptyPieces (view_variable var.now) (view_variable made)) }
 {
-    let name = Name::new(alloc, var.name.as_str())?;
-    let domain = copy_set(alloc, &var.domain)?;
     let pieces = kept_pieces(alloc, var, extent)?;
-    Ok(Var {
-        name,
-        kind: var.kind,
-        width: var.width,
-        domain,
-        pieces,
-    })
+    var.with_pieces(alloc, pieces)
 }
 
 // The variables with their kept pieces.

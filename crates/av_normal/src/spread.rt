@@ -22,7 +22,7 @@ use crate::count::piece_count;
 use crate::fill::filled;
 use crate::measure::narrowed;
 use crate::piece::piece_at;
-use av_base::{List, Memory, Name};
+use av_base::{List, Memory};
 use av_flat::{Flat, Piece, Tree, Var};
 use av_poly::{Poly, copy_set};
 use std::alloc::Global;
@@ -142,25 +142,6 @@ fn trees_filled(alloc: Global, pieces: &[Piece]) -> Result<List<Piece>, NormalFa
     Ok(spread)
 }
 
-// A variable with these pieces.
-fn with_pieces(alloc: Global, var: &Var, pieces: List<Piece>) -> Result<Var, Memory>
-    ensures name { IfOk result (λ to. to.name ≡ var.now.name) }
-    ensures kind { IfOk result (λ to. to.kind ≡ var.now.kind) }
-    ensures width { IfOk result (λ to. to.width ≡ var.now.width) }
-    ensures domain { IfOk result (λ to. to.domain ≡ var.now.domain) }
-    ensures pieces { IfOk result (λ to. to.pieces ≡ pieces) }
-{
-    let name = Name::new(alloc, var.name.as_str())?;
-    let domain = copy_set(alloc, &var.domain)?;
-    Ok(Var {
-        name,
-        kind: var.kind,
-        width: var.width,
-        domain,
-        pieces,
-    })
-}
-
 // A variable with all its pieces.
 fn spread_variable(alloc: Global, flat: &Flat, var: &Var) -> Result<Var, NormalFault>
     requires system { IsWellFormed (view_system flat.now) }
@@ -175,7 +156,7 @@ fn spread_variable(alloc: Global, flat: &Flat, var: &Var) -> Result<Var, NormalF
     equation_fits(alloc, equation)?;
     let made = pieces_made(alloc, flat.vars.as_slice(), &var.domain, equation)?;
     let pieces = trees_filled(alloc, made.as_slice())?;
-    Ok(with_pieces(alloc, var, pieces)?)
+    Ok(var.with_pieces(alloc, pieces)?)
 }
 
 // The variables with all their pieces, whose rows are normalised: domain, composed maps, pieces and bodies are tried.

@@ -216,16 +216,8 @@ fn variable_chained(
         first: base + count as u32,
         base,
     };
-    let name = Name::new(alloc, var.name.as_str())?;
-    let domain = copy_set(alloc, &var.domain)?;
     let pieces = pieces_chained(alloc, &var.name, equation, var.pieces.as_slice(), chains)?;
-    Ok(Var {
-        name,
-        kind: var.kind,
-        width: var.width,
-        domain,
-        pieces,
-    })
+    var.with_pieces(alloc, pieces)
 }
 
 // The variables with their reductions replaced.

@@ -18,7 +18,7 @@ pub loop-var-preserved : goal.loop-var-preserved
 loop-var-preserved c =
     let vars = c.as_slice-vars.result.now in
     let at = var_name vars c.loop-var.var-index c.var-item.result c.loop-var-test.true c.var-item.is in
-    c.in_ok-push.ensures.added ∙ ap (λ ns. ns ++ c.var-item.result.name ∷ []) c.loop-var.invariant ∙ sym (one_named (var_names vars) c.loop-var.var-index c.var-item.result.name at.0 at.1)
+    c.in_ok-push.ensures ∙ ap (λ ns. ns ++ c.var-item.result.name ∷ []) c.loop-var.invariant ∙ sym (one_named (var_names vars) c.loop-var.var-index c.var-item.result.name at.0 at.1)
 
 pub returns : goal.returns
 returns c =
