@@ -6,10 +6,6 @@ use Rattle.av_affine.specs.declared.map.Map.{Map}
 use Rattle.av_flat.specs.declared.tree.Tree.{Tree as TreeMade}
 use Rattle.av_flat.specs.Trees.{view, trees_of}
 use Rattle.av_check.specs.inner.Reachable.{IsReachable, AreReachable}
-use denote.Param.Weighed.{most}
-use Rattle.av_flat.specs.declared.tree.Tree.TheVariants as made
-use Rattle.av_flat.specs.declared.tree.Tree.TheViews.{sized-Case}
-use Rattle.av_flat.proofs.tree.Tree.TheLaws.{the_size}
 use Rattle.av_tree.specs.Trees.{Text}
 use Rattle.std.proofs.lemmas.List.{length-map}
 use Rattle.std.proofs.lemmas.Option.{slice_get_past}
@@ -48,13 +44,6 @@ named_past vars b l =
     let m = length-map vars view_variable in
     let n = length-map (map view_variable vars) signature in
     sym (ap (λ o. named_as o b.point) (slice_get_past (map signature (map view_variable vars)) b.var (omega (arith, l, m, n))))
-
--- a case is less deep than its branches together
-pub less_deep : (t : ℕ) (e : TreeMade) (es slice : List TreeMade) → e ≡ made.Case es → slice ≡ es → 2 * the_size e + 0 ≡ t → 2 * most (λ x. the_size x) slice + 1 < t
-less_deep t e es slice is same d =
-    let f = ap the_size is in
-    let g = ap (λ xs. most (λ x. the_size x) xs) same in
-    omega (arith, d, f, g, sized-Case es)
 
 -- the next of the branches stands, and those behind it
 pub next_stands : (vs : List Signature) (ds : List Map) (trees : List TreeMade) (i : ℕ) (t : TreeMade) (z : Point) → i < length trees → t ≡ get_or trees i t → AreReachable vs ds (trees_of (map view (drop i trees))) z

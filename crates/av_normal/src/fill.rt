@@ -44,6 +44,7 @@ pub(crate) fn inner_set(
 }
 
 // The tree of a piece with the rows of what holds it in the set of each reduction, outer ones before inner ones.
+#[cycle(filled)]
 pub(crate) fn filled(alloc: Global, holder: &Poly, tree: &Tree) -> Result<Tree, NormalFault>
     requires fillable { IsFillable holder.now.dim (view tree.now) }
     requires rows { All IsWithinLimits holder.now.rows }
@@ -56,12 +57,12 @@ pub(crate) fn filled(alloc: Global, holder: &Poly, tree: &Tree) -> Result<Tree, 
 {
     match tree {
         Tree::Binary { sign, left, right } => {
-            let left = filled(alloc, holder, left)?;
-            let right = filled(alloc, holder, right)?;
+            let left = boxed(alloc, holder, left)?;
+            let right = boxed(alloc, holder, right)?;
             Ok(Tree::Binary {
                 sign: *sign,
-                left: Box::new(alloc, left)?,
-                right: Box::new(alloc, right)?,
+                left,
+                right,
             })
         }
         Tree::Choose {
@@ -71,28 +72,43 @@ pub(crate) fn filled(alloc: Global, holder: &Poly, tree: &Tree) -> Result<Tree, 
             yes,
             no,
         } => {
-            let left = filled(alloc, holder, left)?;
-            let right = filled(alloc, holder, right)?;
-            let yes = filled(alloc, holder, yes)?;
-            let no = filled(alloc, holder, no)?;
+            let left = boxed(alloc, holder, left)?;
+            let right = boxed(alloc, holder, right)?;
+            let yes = boxed(alloc, holder, yes)?;
+            let no = boxed(alloc, holder, no)?;
             Ok(Tree::Choose {
-                left: Box::new(alloc, left)?,
+                left,
                 compare: *compare,
-                right: Box::new(alloc, right)?,
-                yes: Box::new(alloc, yes)?,
-                no: Box::new(alloc, no)?,
+                right,
+                yes,
+                no,
             })
         }
         Tree::Reduce { op, map, body, set } => {
             let set = inner_set(alloc, holder, map, set)?;
-            let body = filled(alloc, &set, body)?;
+            let body = boxed(alloc, &set, body)?;
             Ok(Tree::Reduce {
                 op: *op,
                 map: copy_map(map),
-                body: Box::new(alloc, body)?,
+                body,
                 set,
             })
         }
         _ => Ok(copy_tree(alloc, tree)?),
     }
+}
+
+#[cycle(filled)]
+fn boxed(alloc: Global, holder: &Poly, tree: &Tree) -> Result<Box<Tree>, NormalFault>
+    requires fillable { IsFillable holder.now.dim (view tree.now) }
+    requires rows { All IsWithinLimits holder.now.rows }
+    ensures same { IfOk result (λ t. (rows : Items Form) → AreNormalised holder.now.dim rows holder.now.rows →
+        HasNormalSets (filled rows (view tree.now)) (view t.value)) }
+    ensures narrow { OnOk result ((rows : Items Form) → AreNormalised holder.now.dim rows holder.now.rows →
+        AreNarrow (map of_set (body_sets (filled rows (view tree.now))))) }
+    ensures wide { IfErr result (λ fault. (rows : Items Form) → AreNormalised holder.now.dim rows holder.now.rows →
+        IsWide (map of_set (body_sets (filled rows (view tree.now)))) fault) }
+{
+    let made = filled(alloc, holder, tree)?;
+    Ok(Box::new(alloc, made)?)
 }

@@ -1,15 +1,15 @@
 //! One piece of a tree, by its number: the first operand is slowest, the branches of a case stand in order.
 
-ghost use Rattle.std.specs.Prelude.{◌≡◌, ◌<◌, ◌≤◌, ◌/◌, ◌%◌, ◌++◌, [], All, IfOk, OnOk, Some, length, slice_get};
+ghost use Rattle.std.specs.Prelude.{◌≡◌, ◌<◌, ◌≤◌, ◌/◌, ◌%◌, ◌++◌, [], All, IfOk, OnOk, Some, length, map, slice_get};
 ghost use Rattle.av_affine.specs.Forms.{IsWithinLimits};
 ghost use Rattle.av_poly.specs.Points.{IsSmall};
 ghost use Rattle.av_poly.specs.Preimages.{rows_before};
-ghost use Rattle.av_flat.specs.Trees.{view};
+ghost use Rattle.av_flat.specs.Trees.{view, cases, trees_of};
 ghost use Rattle.av_flat.specs.WellFormed.{dimension_of};
 ghost use Rattle.av_flat.specs.Pieces.{parts, rows_of};
 ghost use Rattle.av_flat.specs.Quantities.{piece_count};
 ghost use Rattle.av_normal.specs.inner.Numbered.{part_at, signatures_of};
-ghost use Rattle.av_normal.specs.inner.UnderMaps.{IsReadable};
+ghost use Rattle.av_normal.specs.inner.UnderMaps.{IsReadable, AreReadable};
 ghost use Rattle.av_normal.specs.inner.PieceByNumber.{IsPartAt, AreFourNumbers};
 
 use crate::compose::within;
@@ -95,6 +95,7 @@ fn append_read(
 }
 
 // The tree of the part with this number; its rows are put behind others.
+#[cycle(part_of)]
 fn part_of(
     alloc: Global,
     vars: &[Var],
@@ -116,12 +117,12 @@ fn part_of(
         Tree::Const(word) => Ok(Tree::Const(*word)),
         Tree::Binary { sign, left, right } => {
             let (first, second) = two_numbers(number, right);
-            let left = part_of(alloc, vars, under, left, first, rows)?;
-            let right = part_of(alloc, vars, under, right, second, rows)?;
+            let left = boxed_part(alloc, vars, under, left, first, rows)?;
+            let right = boxed_part(alloc, vars, under, right, second, rows)?;
             Ok(Tree::Binary {
                 sign: *sign,
-                left: Box::new(alloc, left)?,
-                right: Box::new(alloc, right)?,
+                left,
+                right,
             })
         }
         Tree::Choose {
@@ -132,16 +133,16 @@ fn part_of(
             no,
         } => {
             let (first, second, third, fourth) = four_numbers(number, right, yes, no);
-            let left = part_of(alloc, vars, under, left, first, rows)?;
-            let right = part_of(alloc, vars, under, right, second, rows)?;
-            let yes = part_of(alloc, vars, under, yes, third, rows)?;
-            let no = part_of(alloc, vars, under, no, fourth, rows)?;
+            let left = boxed_part(alloc, vars, under, left, first, rows)?;
+            let right = boxed_part(alloc, vars, under, right, second, rows)?;
+            let yes = boxed_part(alloc, vars, under, yes, third, rows)?;
+            let no = boxed_part(alloc, vars, under, no, fourth, rows)?;
             Ok(Tree::Choose {
-                left: Box::new(alloc, left)?,
+                left,
                 compare: *compare,
-                right: Box::new(alloc, right)?,
-                yes: Box::new(alloc, yes)?,
-                no: Box::new(alloc, no)?,
+                right,
+                yes,
+                no,
             })
         }
         Tree::Restrict { domain, body } => {
@@ -149,15 +150,7 @@ fn part_of(
             part_of(alloc, vars, under, body, number, rows)
         }
         Tree::Case { branches } => {
-            let mut left = number;
-            for branch in branches.as_slice() {
-                let count = piece_count(branch);
-                if left < count {
-                    return part_of(alloc, vars, under, branch, left, rows);
-                }
-                left -= count;
-            }
-            Err(Memory)
+            part_of_case(alloc, vars, under, branches.as_slice(), number, rows)
         }
         Tree::Depend { map, body } => {
             let inner = within(alloc, map, under)?;
@@ -165,11 +158,11 @@ fn part_of(
         }
         Tree::Reduce { op, map, body, set } => {
             let mut inner = copy_rows(alloc, set.rows.as_slice())?;
-            let body = part_of(alloc, vars, &[], body, 0, &mut inner)?;
+            let body = boxed_part(alloc, vars, &[], body, 0, &mut inner)?;
             Ok(Tree::Reduce {
                 op: *op,
                 map: copy_map(map),
-                body: Box::new(alloc, body)?,
+                body,
                 set: Poly {
                     dim: map.from,
                     rows: inner,
@@ -178,4 +171,46 @@ fn part_of(
         }
         Tree::Pick { .. } => copy_tree(alloc, tree),
     }
+}
+
+// The tree of the part of a case with this number, which a branch has; its rows are put behind others.
+#[cycle(part_of)]
+fn part_of_case(
+    alloc: Global,
+    vars: &[Var],
+    under: &[Map],
+    branches: &[Tree],
+    number: u128,
+    rows: &mut List<Form>,
+) -> Result<Tree, Memory>
+    requires { AreReadable (signatures_of vars.now) under.now (trees_of (map view branches.now)) }
+    ensures part { IfOk result (λ t. IsPartAt (signatures_of vars.now) under.now (cases (trees_of (map view branches.now))) number rows.old rows.new (view t)) }
+    ensures small { OnOk result (All IsSmall rows.old → All IsSmall rows.new) }
+{
+    let mut left = number;
+    for branch in branches {
+        let count = piece_count(branch);
+        if left < count {
+            return part_of(alloc, vars, under, branch, left, rows);
+        }
+        left -= count;
+    }
+    Err(Memory)
+}
+
+#[cycle(part_of)]
+fn boxed_part(
+    alloc: Global,
+    vars: &[Var],
+    under: &[Map],
+    tree: &Tree,
+    number: u128,
+    rows: &mut List<Form>,
+) -> Result<Box<Tree>, Memory>
+    requires { IsReadable (signatures_of vars.now) under.now (view tree.now) }
+    ensures part { IfOk result (λ t. IsPartAt (signatures_of vars.now) under.now (view tree.now) number rows.old rows.new (view t.value)) }
+    ensures small { OnOk result (All IsSmall rows.old → All IsSmall rows.new) }
+{
+    let part = part_of(alloc, vars, under, tree, number, rows)?;
+    Ok(Box::new(alloc, part)?)
 }

@@ -12,7 +12,8 @@ use Rattle.av_check.specs.Blame.{blamed}
 use Rattle.av_check.specs.inner.Reachable.{reach, IsReachable, AreReachable}
 use Rattle.av_check.specs.inner.Verdicts.{IsVerdict, IsVerdictOfAll}
 use Rattle.av_check.proofs.Judging.{of_two, of_four, inside, outside, has_true, has_false, branch_more}
-use Rattle.av_check.proofs.Looking.{less_deep, next_stands}
+use Rattle.av_normal.proofs.Depths.{less_deep}
+use Rattle.av_check.proofs.Looking.{next_stands}
 use Rattle.av_check.proofs.judge.+judge.Goals as goal
 
 pub judge-judge_all-requires : goal.judge-judge_all-requires

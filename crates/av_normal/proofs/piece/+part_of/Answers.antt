@@ -9,85 +9,94 @@ use Rattle.av_normal.specs.inner.UnderMaps.{IsReading}
 use Rattle.av_normal.specs.inner.PieceByNumber.{IsPartAt}
 use Rattle.av_normal.proofs.Outcomes.{on_ok, if_ok}
 use Rattle.av_normal.proofs.Reading.{fits_read}
+use Rattle.av_normal.proofs.Depths.{less_deep}
 use Rattle.av_normal.proofs.ChosenParts.{case_readable, next_branch_left, one_branch_more, branch_found, binary_part, choice_part, restriction_part, leaf_part}
 use Rattle.av_normal.proofs.piece.+part_of.Goals as goal
 
-pub append_read-requires-clause-fits : goal.append_read-requires-clause-fits
-append_read-requires-clause-fits t c =
+pub part_of-append_read-requires-clause-fits : goal.part_of-append_read-requires-clause-fits
+part_of-append_read-requires-clause-fits t c =
     let h : IsReading (signatures_of c.args.vars.now) c.args.under.now c.in-Ref.var c.in-Ref.map = rw c.in-Ref.is at c.requires in
     fits_read (signatures_of c.args.vars.now) c.args.under.now c.in-Ref.var c.in-Ref.map c.in_ok-map-in-Ref.map c.in_ok-map-in-Ref.ensures.composed h.results
 
 -- ---- branches
 
-pub loop-branch-init : goal.loop-branch-init
-loop-branch-init t c =
-    (record { readable = case_readable (signatures_of c.args.vars.now) c.args.under.now c.args.tree.now c.in-Case.branches c.as_slice-branch-items.result.now c.in-Case.is c.as_slice-branch-items.ensures c.requires; few = omega arith; same = λ few. refl }, refl)
+pub part_of-part_of_case-requires : goal.part_of-part_of_case-requires
+part_of-part_of_case-requires t c = (
+  less_deep t c.args.tree.now c.in-Case.branches c.as_slice.result.now c.in-Case.is c.as_slice.ensures c.decreases,
+  case_readable (signatures_of c.args.vars.now) c.args.under.now c.args.tree.now c.in-Case.branches c.as_slice.result.now c.in-Case.is c.as_slice.ensures c.requires,
+)
 
-pub loop-branch-preserved : goal.loop-branch-preserved
-loop-branch-preserved t c =
+pub part_of-returns-in-Case-clause-part : goal.part_of-returns-in-Case-clause-part
+part_of-returns-in-Case-clause-part t c =
+    let e : view c.args.tree.now ≡ _ = ap view c.in-Case.is ∙ view_case c.in-Case.branches ∙ ap (λ (ts : List TreeMade). cases (trees_of (map view ts))) (sym c.as_slice.ensures) in
+    rw e c.part_of_case.ensures.part
+
+pub part_of_case-loop-branch-init : goal.part_of_case-loop-branch-init
+part_of_case-loop-branch-init t c = (record { readable = c.requires; few = omega arith; same = λ few. refl }, refl)
+
+pub part_of_case-loop-branch-preserved : goal.part_of_case-loop-branch-preserved
+part_of_case-loop-branch-preserved t c =
     let i = c.loop-branch.branch-index in
-    let trees = c.as_slice-branch-items.result.now in
+    let trees = c.args.branches.now in
     let l : i < length trees = search rules in
     let next = next_branch_left (signatures_of c.args.vars.now) c.args.under.now (trees_of (map view trees)) trees i c.branch-item.result c.args.number c.loop-branch.left l c.branch-item.is c.loop-branch.invariant.0 in
     (one_branch_more (signatures_of c.args.vars.now) c.args.under.now (trees_of (map view trees)) (view c.branch-item.result) (trees_of (map view (drop (i + 1) trees))) c.args.number c.loop-branch.left c.piece_count-count.result next c.piece_count-count.ensures (omega arith), c.loop-branch.invariant.1)
 
-pub returns-then-left-count-clause-part : goal.returns-then-left-count-clause-part
-returns-then-left-count-clause-part t c =
+pub part_of_case-returns-then-left-count-clause-part : goal.part_of_case-returns-then-left-count-clause-part
+part_of_case-returns-then-left-count-clause-part t c =
     let i = c.loop-branch.branch-index in
-    let trees = c.as_slice-branch-items.result.now in
+    let trees = c.args.branches.now in
     let l : i < length trees = search rules in
     let next = next_branch_left (signatures_of c.args.vars.now) c.args.under.now (trees_of (map view trees)) trees i c.branch-item.result c.args.number c.loop-branch.left l c.branch-item.is c.loop-branch.invariant.0 in
-    let e : view c.args.tree.now ≡ _ = ap view c.in-Case.is ∙ view_case c.in-Case.branches ∙ ap (λ (ts : List TreeMade). cases (trees_of (map view ts))) (sym c.as_slice-branch-items.ensures) in
-    rw e
-    (if_ok c.part_of-then-left-count.result c.part_of-then-left-count.ensures.part
+    if_ok c.part_of.result c.part_of.ensures.part
     (λ u p.
-    subst (λ (rows : List Form). IsPartAt (signatures_of c.args.vars.now) c.args.under.now (cases (trees_of (map view trees))) c.args.number rows c.part_of-then-left-count.new.rows (view u)) c.loop-branch.invariant.1
+    subst (λ (rows : List Form). IsPartAt (signatures_of c.args.vars.now) c.args.under.now (cases (trees_of (map view trees))) c.args.number rows c.part_of.new.rows (view u)) c.loop-branch.invariant.1
     (branch_found (signatures_of c.args.vars.now) c.args.under.now (trees_of (map view trees)) (view c.branch-item.result) (trees_of (map view (drop (i + 1) trees))) c.args.number c.loop-branch.left c.piece_count-count.result next c.piece_count-count.ensures (search rules)
-    c.loop-branch.rows c.part_of-then-left-count.new.rows (view u) p)))
+    c.loop-branch.rows c.part_of.new.rows (view u) p))
 
-pub returns-then-left-count-clause-small : goal.returns-then-left-count-clause-small
-returns-then-left-count-clause-small t c =
-    subst (λ (rows : List Form). OnOk c.part_of-then-left-count.result (All IsSmall rows → All IsSmall c.part_of-then-left-count.new.rows)) c.loop-branch.invariant.1 c.part_of-then-left-count.ensures.small
+pub part_of_case-returns-then-left-count-clause-small : goal.part_of_case-returns-then-left-count-clause-small
+part_of_case-returns-then-left-count-clause-small t c =
+    subst (λ (rows : List Form). OnOk c.part_of.result (All IsSmall rows → All IsSmall c.part_of.new.rows)) c.loop-branch.invariant.1 c.part_of.ensures.small
 
 -- ---- operands
 
-pub returns-in_ok-new-in-Binary-2-clause-part : goal.returns-in_ok-new-in-Binary-2-clause-part
-returns-in_ok-new-in-Binary-2-clause-part t c =
-    rw (c.in-Binary.is, c.in_ok-new-in-Binary.ensures.ok, c.in_ok-new-in-Binary-2.ensures.ok)
+pub part_of-returns-in_ok-right-in-Binary-clause-part : goal.part_of-returns-in_ok-right-in-Binary-clause-part
+part_of-returns-in_ok-right-in-Binary-clause-part t c =
+    rw c.in-Binary.is
     (binary_part (signatures_of c.args.vars.now) c.args.under.now c.in-Binary.sign (view c.in-Binary.left.value) (view c.in-Binary.right.value) c.args.number c.two_numbers-first.result.0 c.two_numbers-first.result.1
-    c.args.rows.now c.part_of.new.rows c.part_of-in-Binary.new.rows (view c.in_ok-left-in-Binary.left) (view c.in_ok-right-in-Binary.right)
+    c.args.rows.now c.boxed_part.new.rows c.boxed_part-in-Binary.new.rows (view c.in_ok-left-in-Binary.left.value) (view c.in_ok-right-in-Binary.right.value)
     (rw c.deref.ensures at c.two_numbers-first.ensures) (rw c.deref-in-Binary.ensures at c.in_ok-left-in-Binary.ensures.part) (rw c.deref-in-Binary-2.ensures at c.in_ok-right-in-Binary.ensures.part))
 
-pub returns-in_ok-new-in-Choose-4-clause-part : goal.returns-in_ok-new-in-Choose-4-clause-part
-returns-in_ok-new-in-Choose-4-clause-part t c =
-    rw (c.in-Choose.is, c.in_ok-new-in-Choose.ensures.ok, c.in_ok-new-in-Choose-2.ensures.ok, c.in_ok-new-in-Choose-3.ensures.ok, c.in_ok-new-in-Choose-4.ensures.ok)
+pub part_of-returns-in_ok-no-in-Choose-clause-part : goal.part_of-returns-in_ok-no-in-Choose-clause-part
+part_of-returns-in_ok-no-in-Choose-clause-part t c =
+    rw c.in-Choose.is
     (choice_part (signatures_of c.args.vars.now) c.args.under.now c.in-Choose.compare (view c.in-Choose.left.value) (view c.in-Choose.right.value) (view c.in-Choose.yes.value) (view c.in-Choose.no.value) c.args.number
     c.four_numbers-first.result.0 c.four_numbers-first.result.1 c.four_numbers-first.result.2 c.four_numbers-first.result.3
-    c.args.rows.now c.part_of-in-Choose.new.rows c.part_of-in-Choose-2.new.rows c.part_of-in-Choose-3.new.rows c.part_of-in-Choose-4.new.rows (view c.in_ok-left-in-Choose.left) (view c.in_ok-right-in-Choose.right) (view c.in_ok-yes-in-Choose.yes) (view c.in_ok-no-in-Choose.no)
+    c.args.rows.now c.boxed_part-in-Choose.new.rows c.boxed_part-in-Choose-2.new.rows c.boxed_part-in-Choose-3.new.rows c.boxed_part-in-Choose-4.new.rows (view c.in_ok-left-in-Choose.left.value) (view c.in_ok-right-in-Choose.right.value) (view c.in_ok-yes-in-Choose.yes.value) (view c.in_ok-no-in-Choose.no.value)
     (rw (c.deref-in-Choose.ensures, c.deref-in-Choose-2.ensures, c.deref-in-Choose-3.ensures) at c.four_numbers-first.ensures)
     (rw c.deref-in-Choose-4.ensures at c.in_ok-left-in-Choose.ensures.part) (rw c.deref-in-Choose-5.ensures at c.in_ok-right-in-Choose.ensures.part)
     (rw c.deref-in-Choose-6.ensures at c.in_ok-yes-in-Choose.ensures.part) (rw c.deref-in-Choose-7.ensures at c.in_ok-no-in-Choose.ensures.part))
 
-pub returns-in_ok-new-in-Choose-4-clause-small : goal.returns-in_ok-new-in-Choose-4-clause-small
-returns-in_ok-new-in-Choose-4-clause-small t c =
+pub part_of-returns-in_ok-no-in-Choose-clause-small : goal.part_of-returns-in_ok-no-in-Choose-clause-small
+part_of-returns-in_ok-no-in-Choose-clause-small t c =
     λ h. c.in_ok-no-in-Choose.ensures.small (c.in_ok-yes-in-Choose.ensures.small (c.in_ok-right-in-Choose.ensures.small (c.in_ok-left-in-Choose.ensures.small h)))
 
 -- ---- others
 
-pub returns-in_ok-append_under-in-Restrict-clause-part : goal.returns-in_ok-append_under-in-Restrict-clause-part
-returns-in_ok-append_under-in-Restrict-clause-part t c =
+pub part_of-returns-in_ok-append_under-in-Restrict-clause-part : goal.part_of-returns-in_ok-append_under-in-Restrict-clause-part
+part_of-returns-in_ok-append_under-in-Restrict-clause-part t c =
     rw c.in-Restrict.is
-    (if_ok c.part_of-in-Restrict.result (rw c.deref-in-Restrict.ensures at c.part_of-in-Restrict.ensures.part)
-    (λ u p. restriction_part (signatures_of c.args.vars.now) c.args.under.now c.in-Restrict.domain (view c.in-Restrict.body.value) c.args.number c.args.rows.now c.append_under.new.rows c.part_of-in-Restrict.new.rows (view u) c.in_ok-append_under-in-Restrict.ensures.rows p))
+    (if_ok c.part_of.result (rw c.deref-in-Restrict.ensures at c.part_of.ensures.part)
+    (λ u p. restriction_part (signatures_of c.args.vars.now) c.args.under.now c.in-Restrict.domain (view c.in-Restrict.body.value) c.args.number c.args.rows.now c.append_under.new.rows c.part_of.new.rows (view u) c.in_ok-append_under-in-Restrict.ensures.rows p))
 
-pub returns-in_ok-append_under-in-Restrict-clause-small : goal.returns-in_ok-append_under-in-Restrict-clause-small
-returns-in_ok-append_under-in-Restrict-clause-small t c =
-    on_ok c.part_of-in-Restrict.result c.part_of-in-Restrict.ensures.small (λ k h. k (c.in_ok-append_under-in-Restrict.ensures.small h))
+pub part_of-returns-in_ok-append_under-in-Restrict-clause-small : goal.part_of-returns-in_ok-append_under-in-Restrict-clause-small
+part_of-returns-in_ok-append_under-in-Restrict-clause-small t c =
+    on_ok c.part_of.result c.part_of.ensures.small (λ k h. k (c.in_ok-append_under-in-Restrict.ensures.small h))
 
-pub returns-in-Const-clause-part : goal.returns-in-Const-clause-part
-returns-in-Const-clause-part t c =
+pub part_of-returns-in-Const-clause-part : goal.part_of-returns-in-Const-clause-part
+part_of-returns-in-Const-clause-part t c =
     leaf_part (signatures_of c.args.vars.now) c.args.under.now (view c.args.tree.now) (constant c.in-Const.word.bits) c.args.number c.args.rows.now (rw c.in-Const.is refl) (rw c.in-Const.is refl) (rw c.in-Const.is refl)
 
-pub returns-in-Pick-clause-part : goal.returns-in-Pick-clause-part
-returns-in-Pick-clause-part t c =
+pub part_of-returns-in-Pick-clause-part : goal.part_of-returns-in-Pick-clause-part
+part_of-returns-in-Pick-clause-part t c =
     if_ok c.copy_tree.result c.copy_tree.ensures (λ u e. leaf_part (signatures_of c.args.vars.now) c.args.under.now (view c.args.tree.now) (view u) c.args.number c.args.rows.now (rw c.in-Pick.is refl) (rw c.in-Pick.is refl) e)

@@ -5,7 +5,7 @@ use Rattle.av_normal.specs.inner.PieceByNumber.{AreLeft}
 use Rattle.av_normal.proofs.piece.+part_of.Given as goal
 
 -- the part is among those of the branches to come
-abbrev pub invariant-loop-branch : goal.invariant-loop-branch
-invariant-loop-branch l =
-    AreLeft (signatures_of l.vars) l.under (trees_of (map view l.branch-items)) (trees_of (map view (drop l.branch-index l.branch-items))) l.number l.left
+abbrev pub invariant-part_of_case-loop-branch : goal.invariant-part_of_case-loop-branch
+invariant-part_of_case-loop-branch l =
+    AreLeft (signatures_of l.vars) l.under (trees_of (map view l.branches)) (trees_of (map view (drop l.branch-index l.branches))) l.number l.left
     × (l.rows ≡ l.fn.rows)
