@@ -1,5 +1,5 @@
 -- The pieces and variables that are built, by what is looked up for them.
-use Rattle.std.proofs.Common.{◌≡◌, ◌⊎◌, inl, inr, List, [], ◌∷◌, map, length, Option, Some, None, Bool, true, false, if◌then◌else◌, refl, ap, sym, subst, ◌∙◌, All}
+use Rattle.std.proofs.Common.{◌≡◌, ◌⊎◌, inl, inr, List, [], ◌∷◌, Option, Some, Bool, true, false, if◌then◌else◌, ap, sym, subst, ◌∙◌, All}
 use Rattle.std.specs.Prelude.{bytes_eq, find}
 use Rattle.av_tree.specs.declared.system.Declaration.{Declaration}
 use Rattle.av_tree.specs.declared.system.Equation.{Equation as EquationMade}

@@ -1,10 +1,10 @@
 -- Variables and equations that are looked up by name, with one more of them from behind.
-use Rattle.std.proofs.Common.{◌≡◌, ℕ, suc, ◌+◌, ◌<◌, ◌≤◌, List, [], ◌∷◌, map, length, get_or, drop, Option, Some, None, Bool, true, false, if◌then◌else◌, option_map, refl, ap, sym, ◌∙◌, arith, Bor}
+use Rattle.std.proofs.Common.{◌≡◌, ℕ, suc, ◌+◌, ◌<◌, List, ◌∷◌, map, length, get_or, drop, Option, Some, None, Bool, true, false, if◌then◌else◌, option_map, refl, ap, sym, ◌∙◌, arith, Bor}
 use Rattle.std.specs.Prelude.{bytes_eq}
 use Rattle.std.specs.Map.{update}
 use Rattle.av_tree.specs.declared.system.Declaration.{Declaration}
 use Rattle.av_tree.specs.declared.system.Equation.{Equation as EquationMade}
-use Rattle.av_tree.specs.Trees.{Text, Equation, view_equation, view_equations}
+use Rattle.av_tree.specs.Trees.{Text, view_equation, view_equations}
 use Rattle.av_names.specs.Flattened.{equation_of, place_of}
 use Rattle.av_names.proofs.Repeats.{step}
 

@@ -1,11 +1,10 @@
 -- What a system that a text spells and no rule refuses has in each place fits into forms, sets and maps.
-use Rattle.std.proofs.Common.{◌≡◌, ℕ, ◌^◌, ◌≤◌, true, false, Bool, List, [], ◌∷◌, map, length, Option, Some, None, refl, subst, arith, inl, inr, All}
+use Rattle.std.proofs.Common.{ℕ, ◌^◌, ◌≤◌, true, false, Bool, List, [], ◌∷◌, map, length, Option, Some, None, refl, subst, arith, inl, inr, All}
 use Rattle.std.specs.Prelude.{bytes_eq}
 use Rattle.std.specs.List.{flat_map}
 use Rattle.av_affine.specs.Forms.{IsWithinLimits}
 use Rattle.av_tree.specs.declared.domain.Constraint.{Constraint}
 use Rattle.av_tree.specs.declared.domain.IndexExpr.{IndexExpr}
-use Rattle.av_tree.specs.declared.domain.MapText.{MapText}
 use Rattle.av_tree.specs.declared.expression.Access.{Access}
 use Rattle.av_tree.specs.declared.expression.Access.TheVariants as access
 use Rattle.av_tree.specs.declared.system.Declaration.{Declaration}
@@ -16,11 +15,11 @@ use Rattle.av_tree.specs.Domains.{variables, context, declared_names, given_or}
 use Rattle.av_tree.specs.Counts.{Instance}
 use Rattle.av_names.specs.declared.size.Size.{Size}
 use Rattle.av_names.specs.Accepted.{instance_of}
-use Rattle.av_names.specs.inner.Fitting.{FitsForm, FitsRows, FitsMap, FitsAccess, FitsIn, FitAllIn}
+use Rattle.av_names.specs.inner.Fitting.{FitsForm, FitsRows, FitsAccess, FitsIn, FitAllIn}
 use Rattle.av_names.specs.Forms.{Context, over, nameless, names_or, form_of_row, rows_over}
 use Rattle.av_names.specs.Limits.{HasSmallForm, HaveSmallRows, HasSmallAccess, IsLimitedIn, AreLimitedIn}
 use Rattle.av_names.specs.Refusals.{IsAccepted}
-use Rattle.av_names.specs.Regular.{IsRegular, IsRegularIn, AreRegularIn, IsRegularEquation, IsDomain, HasIndices, Reads, indices_of}
+use Rattle.av_names.specs.Regular.{IsRegularIn, AreRegularIn, IsRegularEquation, IsDomain, HasIndices, Reads, indices_of}
 use Rattle.av_names.specs.Texts.{IsOfText}
 use Rattle.av_names.proofs.AcceptedSystems.{among_flat}
 use Rattle.av_names.proofs.Among.{Among, all_at, all_from, among_image, among_source}

@@ -1,5 +1,5 @@
 -- The flat system of a system that a text spells and no rule refuses, as it is built.
-use Rattle.std.proofs.Common.{◌≡◌, ℕ, ◌≤◌, ◌⊎◌, inl, inr, List, [], ◌∷◌, ◌++◌, map, length, Option, Some, None, Bool, true, false, refl, ap, sym, subst, ◌∙◌, append_assoc, All}
+use Rattle.std.proofs.Common.{◌≡◌, ℕ, ◌≤◌, inl, inr, List, ◌++◌, map, length, Some, None, Bool, true, false, refl, ap, sym, subst, ◌∙◌, append_assoc, All}
 use Rattle.std.specs.Prelude.{nat_lt}
 use Rattle.av_flat.specs.declared.flat.Kind.TheVariants as kind
 use Rattle.av_flat.specs.declared.quantity.Quantity.TheVariants as quantity
@@ -9,7 +9,6 @@ use Rattle.av_tree.specs.Trees.{System}
 use Rattle.av_tree.specs.Points.{Sizes}
 use Rattle.av_tree.specs.Domains.{variables}
 use Rattle.av_tree.specs.Counts.{Instance}
-use Rattle.av_base.specs.declared.place.Place.{Place}
 use Rattle.av_names.specs.declared.fault.NameFault.TheVariants as fault
 use Rattle.av_names.specs.declared.size.Size.{Size}
 use Rattle.av_names.specs.inner.Building.{FitsDomain, FitsRight}

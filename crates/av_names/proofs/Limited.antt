@@ -1,5 +1,5 @@
 -- A system that no rule refuses is within the limits.
-use Rattle.std.proofs.Common.{◌≡◌, ◌≢◌, ℕ, zero, suc, ◌^◌, ◌≤◌, ◌⊎◌, inl, inr, Bool, true, false, ◌||◌, ℤ, pos, List, [], ◌∷◌, ◌++◌, map, length, max, Option, None, refl, sym, ap, subst, ◌∙◌, arith, All}
+use Rattle.std.proofs.Common.{◌≡◌, ℕ, zero, suc, ◌≤◌, ◌⊎◌, inl, inr, Bool, true, false, ◌||◌, ℤ, pos, List, [], ◌∷◌, ◌++◌, map, length, Option, None, refl, ap, subst, arith, All}
 use Rattle.std.specs.Prelude.{unsigned_abs, slice_index_or, option_map}
 use Rattle.std.specs.List.{flat_map}
 use Rattle.std.proofs.lemmas.List.Elements.{All-nil, All-cons}
@@ -12,18 +12,16 @@ use Rattle.av_tree.specs.declared.domain.Constraint.{Constraint}
 use Rattle.av_tree.specs.declared.domain.IndexExpr.{IndexExpr}
 use Rattle.av_tree.specs.declared.expression.Access.{Access}
 use Rattle.av_tree.specs.declared.expression.Access.TheVariants as access
-use Rattle.av_tree.specs.declared.system.Declaration.{Declaration}
-use Rattle.av_tree.specs.Trees.{Text, Expression, Expressions, Equation, System, reference, constant, binary, choice, restriction, cases, dependence, reduction, none, more}
+use Rattle.av_tree.specs.Trees.{Text, Expression, Expressions, System, reference, constant, binary, choice, restriction, cases, dependence, reduction, none, more}
 use Rattle.av_tree.specs.Points.{Sizes}
 use Rattle.av_tree.specs.Domains.{variables, context}
-use Rattle.av_tree.specs.Rows as rows
 use Rattle.av_tree.specs.Rows.{Row, coefficient, compared}
 use Rattle.av_tree.specs.Counts.{Instance}
 use Rattle.av_names.specs.declared.size.Size.{Size}
 use Rattle.av_names.specs.declared.fault.NameFault.{NameFault}
 use Rattle.av_names.specs.declared.fault.NameFault.TheVariants as fault
 use Rattle.av_names.specs.Accepted.{instance_of}
-use Rattle.av_names.specs.Forms.{Context, over, nameless, names_or, filled, form_of, form_of_row, rows_over}
+use Rattle.av_names.specs.Forms.{Context, over, nameless, filled, form_of_row, rows_over}
 use Rattle.av_names.specs.Limits.{HasSmallForm, HaveSmallRows, HasSmallAccess, is_case, is_reduction, HasNo, HaveNo, IsLimitedIn, AreLimitedIn, IsLimited}
 use Rattle.av_names.specs.Parts.{Part, parts, parts_of, parts_of_all, equation_parts}
 use Rattle.av_names.specs.Quantities.{Counted, exceeds, greatest, row_coefficient, row_constant, index_coefficient, index_constant, written_coefficients, written_constants, great_coefficient, great_constant}

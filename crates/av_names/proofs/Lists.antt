@@ -89,10 +89,10 @@ equation_same a b (e ∷ es) same =
     (equation_same (e.name ∷ a) (e.name ∷ b) es (λ name. ap (λ t. bytes_eq e.name name || t) (same name)))
 
 -- an equation whose name is none of those before it
-pub equation_more : (set set' : List Text) (xs : List EquationMade) (i : ℕ) (x : EquationMade) → i < length xs → x ≡ get_or xs i x → SameNames set' (x.name ∷ set)
-    → is_index set x.name ≡ false → second_equation [] (equations_seen xs) ≡ second_equation set (equations_seen (drop i xs))
-    → second_equation [] (equations_seen xs) ≡ second_equation set' (equations_seen (drop (i + 1) xs))
-equation_more set set' xs i x lt at more other so_far =
+pub equation_more : (start set set' : List Text) (xs : List EquationMade) (i : ℕ) (x : EquationMade) → i < length xs → x ≡ get_or xs i x → SameNames set' (x.name ∷ set)
+    → is_index set x.name ≡ false → second_equation start (equations_seen xs) ≡ second_equation set (equations_seen (drop i xs))
+    → second_equation start (equations_seen xs) ≡ second_equation set' (equations_seen (drop (i + 1) xs))
+equation_more start set set' xs i x lt at more other so_far =
     let rest : List Equation = equations_seen (drop (i + 1) xs) in
     so_far ∙ ap (λ es. second_equation set (equations_seen es)) (step xs i x lt at)
     ∙ ap (λ t. if t then Some (equation_found (view_equation x)) else second_equation (x.name ∷ set) rest) other

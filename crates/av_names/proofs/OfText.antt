@@ -1,5 +1,5 @@
 -- What the lexer and the parser say of a text is what a system of a text is.
-use Rattle.std.proofs.Common.{◌≡◌, ℕ, ◌<◌, List, length, ap, subst}
+use Rattle.std.proofs.Common.{◌≡◌, ℕ, ◌<◌, List, length, subst}
 use Rattle.av_base.specs.Tokens.{IsText, start}
 use Rattle.av_lex.specs.Lexing.{views}
 use Rattle.av_lex.specs.declared.token.Token.{Token as Found}

@@ -1,5 +1,5 @@
 -- Names in reach: by sets of names, and part by part.
-use Rattle.std.proofs.Common.{◌≡◌, ℕ, ◌+◌, ◌<◌, List, [], ◌∷◌, ◌++◌, map, length, get_or, take, take-suc, add-one, append-nil, Option, Some, None, Bool, true, false, not, ◌&&◌, refl, ap, sym, ◌∙◌, Bor}
+use Rattle.std.proofs.Common.{◌≡◌, ℕ, ◌+◌, ◌<◌, List, [], ◌∷◌, ◌++◌, length, get_or, take, take-suc, add-one, append-nil, Option, Some, None, Bool, true, not, ◌&&◌, refl, ap, sym, ◌∙◌}
 use Rattle.std.specs.List.{flat_map}
 use Rattle.std.proofs.Math.Path.{fun_ext}
 use Rattle.av_base.specs.declared.place.Place.{Place}
@@ -22,7 +22,7 @@ use Rattle.av_names.specs.inner.Seen.{SameNames}
 use Rattle.av_names.specs.Unknowns.{named_unknown, unknown_term, unknown_index, unknown_side, unknown_written}
 use Rattle.av_names.specs.Written.{Written, written_at}
 use Rattle.av_names.proofs.Cases.{parts_append}
-use Rattle.av_names.proofs.Sooner.{sooner_again, sooner_nothing, first_append}
+use Rattle.av_names.proofs.Sooner.{sooner_nothing, first_append}
 
 -- ---- by sets of names
 

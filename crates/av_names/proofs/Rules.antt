@@ -1,5 +1,5 @@
 -- The first of rules, where those before it find nothing.
-use Rattle.std.proofs.Common.{◌≡◌, List, [], ◌∷◌, ◌++◌, Option, Some, None, option_map, refl, ap, sym, ◌∙◌}
+use Rattle.std.proofs.Common.{◌≡◌, List, [], ◌∷◌, ◌++◌, Option, Some, None, option_map, ap, sym, ◌∙◌}
 use Rattle.std.specs.Prelude.{find, not}
 use Rattle.av_tree.specs.Rows.{is_index}
 use Rattle.av_tree.specs.Trees.{Text}
@@ -17,6 +17,17 @@ rule_found g o rest x m is em = em ∙ ap (λ p. first_rule (option_map g p ∷ 
 -- the rule finds nothing
 pub rule_passed : {A : Type 0} (g : A → NameFault) (o : Option A) (rest : List (Option NameFault)) (m : Option NameFault) → o ≡ None → m ≡ first_rule rest → m ≡ first_rule (option_map g o ∷ rest)
 rule_passed g o rest m is em = em ∙ ap (λ p. first_rule (option_map g p ∷ rest)) (sym is)
+
+-- the answer of a rule alone
+pub rule_is : (o : Option NameFault) (rest : List (Option NameFault)) (f : NameFault) → Some f ≡ o → Some f ≡ first_rule (o ∷ rest)
+rule_is o rest f is = ap (λ p. first_rule (p ∷ rest)) is
+
+pub rule_none : (o : Option NameFault) (rest : List (Option NameFault)) (m : Option NameFault) → None ≡ o → m ≡ first_rule rest → m ≡ first_rule (o ∷ rest)
+rule_none o rest m is em = em ∙ ap (λ p. first_rule (p ∷ rest)) is
+
+pub rule_last : (o m : Option NameFault) → m ≡ o → m ≡ first_rule (o ∷ [])
+rule_last None m e = e
+rule_last (Some f) m e = e
 
 -- what was found, by what the program found
 pub something : (x : FoundMade) (made : Option FoundMade) (o : Option Found) → option_map found made ≡ o → made ≡ Some x → o ≡ Some (found x)

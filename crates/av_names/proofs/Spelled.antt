@@ -1,6 +1,6 @@
 -- What the grammar says of the parts of a system: names and factors that are spelled, few terms, and comparisons
 -- that domains have.
-use Rattle.std.proofs.Common.{◌≡◌, ◌≢◌, ℕ, suc, ◌+◌, ◌^◌, ◌<◌, ◌≤◌, ℤ, pos, ◌*ℤ◌, Bool, true, false, List, [], ◌∷◌, ◌++◌, map, length, Some, None, refl, ap, subst, ◌∙◌, arith, All}
+use Rattle.std.proofs.Common.{◌≡◌, ◌≢◌, ℕ, ◌+◌, ◌^◌, ◌<◌, ◌≤◌, ℤ, pos, ◌*ℤ◌, Bool, true, false, List, [], ◌∷◌, length, refl, ap, ◌∙◌, arith, All}
 use Rattle.std.specs.Prelude.{unsigned_abs}
 use Rattle.std.proofs.lemmas.Int.{unsigned_abs-mul}
 use Rattle.std.proofs.lemmas.List.{length-append}
@@ -9,7 +9,7 @@ use Rattle.std.proofs.lemmas.List.Sums.{AllPass-from_list_all}
 use Rattle.av_base.specs.declared.place.Place.{Place}
 use Rattle.av_base.specs.declared.token_kind.TokenKind.{TokenKind}
 use Rattle.av_base.specs.declared.token_kind.TokenKind.TheVariants as kind
-use Rattle.av_base.specs.Tokens.{Token, number_of, IsSpelled, IsInRange, IsLongest, IsText, end, blank, comment, token, reserved_words, symbols}
+use Rattle.av_base.specs.Tokens.{Token, number_of, IsSpelled, IsInRange, IsText, end, blank, comment, token, reserved_words, symbols}
 use Rattle.av_tree.specs.declared.domain.Constraint.{Constraint}
 use Rattle.av_tree.specs.declared.domain.DomainText.{DomainText}
 use Rattle.av_tree.specs.declared.domain.IndexExpr.{IndexExpr}
@@ -19,8 +19,8 @@ use Rattle.av_tree.specs.declared.relation.Relation.{Relation}
 use Rattle.av_tree.specs.declared.relation.Relation.TheVariants as relation
 use Rattle.av_tree.specs.Trees.{Text}
 use Rattle.av_tree.specs.Parts.{IsName, IsNumber}
-use Rattle.av_tree.specs.IndexGrammar.{IsNames, last_name, more_names, IsOptionalNames, no_names, some_names, IsTerm, number, name, number_name, number_times_name, name_times_number, plus_one, minus_one, IsTerms, terms_end, plus_term, minus_term, IsIndex, index, minus_index, IsIndices, last_index, more_indices, IsOptionalIndices, no_indices, some_indices, with_each, compared, IsSide, one_side, list_side, IsChain, last_side, more_sides, IsConstraint, constraint, IsConstraints, last_constraint, closed_constraint, more_constraints, IsConditions, no_bar, bar, conditions, IsDomain, domain, IsMap, mapping}
-use Rattle.av_names.specs.Texts.{IsShort, AreShort, HasShortTerms}
+use Rattle.av_tree.specs.IndexGrammar.{IsNames, last_name, more_names, IsOptionalNames, no_names, some_names, IsTerm, number, name, number_name, number_times_name, name_times_number, IsTerms, terms_end, plus_term, minus_term, IsIndex, index, minus_index, IsIndices, last_index, more_indices, IsOptionalIndices, no_indices, some_indices, with_each, compared, IsSide, one_side, list_side, IsChain, last_side, more_sides, IsConstraint, constraint, IsConstraints, last_constraint, closed_constraint, more_constraints, IsConditions, no_bar, bar, conditions, IsDomain, domain, IsMap, mapping}
+use Rattle.av_names.specs.Texts.{IsShort}
 
 -- ---- tokens
 

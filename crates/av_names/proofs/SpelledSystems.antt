@@ -1,11 +1,10 @@
 -- What the grammar says of a system: its names are spelled, each index expression has few terms with factors that are
 -- spelled, and no domain has an inequality.
-use Rattle.std.proofs.Common.{◌≡◌, ◌≢◌, ℕ, suc, ◌+◌, ◌^◌, ◌<◌, ◌≤◌, ◌⊎◌, inl, inr, Bool, true, false, List, [], ◌∷◌, ◌++◌, map, length, Some, None, refl, subst, arith, All}
+use Rattle.std.proofs.Common.{◌≢◌, ℕ, ◌^◌, inl, inr, Bool, true, false, List, [], ◌∷◌, ◌++◌, map, length, refl, subst, arith, All}
 use Rattle.std.specs.List.{flat_map}
 use Rattle.std.proofs.lemmas.List.Elements.{All-nil, All-cons, All-append}
 use Rattle.av_base.specs.declared.token_kind.TokenKind.TheVariants as kind
 use Rattle.av_base.specs.Tokens.{Token, IsSpelled}
-use Rattle.av_tree.specs.declared.domain.Constraint.{Constraint}
 use Rattle.av_tree.specs.declared.domain.DomainText.{DomainText}
 use Rattle.av_tree.specs.declared.expression.Access.{Access}
 use Rattle.av_tree.specs.declared.expression.Access.TheVariants as access
@@ -14,12 +13,12 @@ use Rattle.av_tree.specs.declared.system.Declaration.{Declaration}
 use Rattle.av_tree.specs.Trees.{Text, Expression, Expressions, Equation, System, reference, constant, binary, choice, restriction, cases, dependence, reduction, none, more}
 use Rattle.av_tree.specs.Domains.{variables}
 use Rattle.av_tree.specs.ExpressionGrammar.{IsBrackets, no_brackets, brackets, IsExpr, restricted, chosen, plain, IsSum, sum, IsSumTail, sum_ends, plus, minus, IsProduct, product, IsProductTail, product_ends, times, IsUnary, negative, postfix, IsPostfix, bare, bare_mapped, number, number_mapped, primary, IsPostfixTail, no_map, mapped, IsPrimary, indexed, parenthesis, least, greatest, case_of, reduced, IsBranches, last_branch, branch}
-use Rattle.av_tree.specs.Grammar.{declared, IsDeclaration, declaration, IsDeclarations, last_declaration, closed_declaration, more_declarations, IsInputs, no_inputs, inputs, IsVariables, last_variable, more_variables, IsLocals, no_locals, locals, IsSizes, no_sizes, sizes, IsIndexNames, no_brackets as no_names, brackets as names_in_brackets, IsEquation, equation, IsEquations, no_equations, more_equations, IsSystem, system, IsProgramText, levels}
+use Rattle.av_tree.specs.Grammar.{declared, IsDeclaration, declaration, IsDeclarations, last_declaration, closed_declaration, more_declarations, IsInputs, no_inputs, inputs, IsVariables, last_variable, more_variables, IsLocals, no_locals, locals, IsSizes, no_sizes, sizes, IsIndexNames, no_brackets as no_names, brackets as names_in_brackets, IsEquation, equation, IsEquations, no_equations, more_equations, IsSystem, system}
 use Rattle.av_names.specs.Forms.{Context, over, nameless}
 use Rattle.av_names.specs.Parts.{Part, parts, parts_of, parts_of_all, equation_parts}
-use Rattle.av_names.specs.Written.{Written, written_at, written_sizes, written_declaration, all_written}
+use Rattle.av_names.specs.Written.{Written, written_at, written_declaration, all_written}
 use Rattle.av_names.specs.Accepted.{HasNoInequality}
-use Rattle.av_names.specs.Texts.{IsOfText, HasShortTerms, HasShortSides, IsShortWritten, HasShortSums}
+use Rattle.av_names.specs.Texts.{IsOfText, HasShortSides, IsShortWritten, HasShortSums}
 use Rattle.av_names.proofs.Among.{Among, all_at, all_from, among_parts, among_source}
 use Rattle.av_names.proofs.Spelled.{Fits, without, IsFew, IsFewSides, tokens_good, tokens_few, names_fit, optional_names_fit, optional_indices_fit, domain_fits, map_fits}
 

@@ -1,5 +1,5 @@
 -- Sums over tables, step by step, and what their forms are.
-use Rattle.std.proofs.Common.{◌≡◌, ℕ, zero, suc, ◌+◌, ◌^◌, ◌<◌, ◌≤◌, ℤ, pos, ◌+ℤ◌, ◌-ℤ◌, List, [], ◌∷◌, ◌++◌, map, length, get_or, take, take_all, drop, add-one, append-nil, max, option_map, Option, Some, None, Bool, true, false, if◌then◌else◌, refl, ap, sym, subst, ◌∙◌, arith, Bor, All}
+use Rattle.std.proofs.Common.{◌≡◌, ℕ, zero, suc, ◌+◌, ◌^◌, ◌<◌, ◌≤◌, ℤ, ◌-ℤ◌, List, [], ◌∷◌, ◌++◌, map, length, get_or, take, take_all, drop, append-nil, max, option_map, Option, Some, None, Bool, true, false, if◌then◌else◌, refl, ap, sym, subst, ◌∙◌, arith, Bor, All}
 use Rattle.std.specs.Prelude.{bytes_eq, unsigned_abs, IfSome}
 use Rattle.std.specs.List.{flat_map, range_with_len}
 use Rattle.std.specs.Map.{update}
@@ -10,7 +10,6 @@ use Rattle.av_affine.specs.declared.form.Form.{Form}
 use Rattle.av_affine.specs.Forms.{IsWithinLimits}
 use Rattle.av_poly.specs.Points.{IsSmall}
 use Rattle.av_tree.specs.declared.domain.Constraint.{Constraint}
-use Rattle.av_tree.specs.declared.domain.Term.{Term}
 use Rattle.av_tree.specs.declared.relation.Relation.{Relation}
 use Rattle.av_tree.specs.declared.relation.Relation.TheVariants as relation
 use Rattle.av_tree.specs.declared.domain.IndexExpr.{IndexExpr}

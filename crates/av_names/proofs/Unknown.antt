@@ -1,5 +1,5 @@
 -- Unknown names and numbers of nodes, list by list.
-use Rattle.std.proofs.Common.{◌≡◌, ◌≤◌, ℕ, List, [], ◌∷◌, ◌++◌, map, length, take, take_all, Option, Bool, false, not, option_map, refl, ap, sym, ◌∙◌, arith, Bor}
+use Rattle.std.proofs.Common.{◌≡◌, ◌≤◌, ℕ, List, [], ◌∷◌, ◌++◌, map, length, take, take_all, Option, false, not, option_map, refl, ap, sym, ◌∙◌, arith, Bor}
 use Rattle.std.proofs.lemmas.List.{length-map}
 use Rattle.std.specs.Prelude.{find, bytes_eq, filter_map}
 use Rattle.std.specs.List.{flat_map}
@@ -14,8 +14,8 @@ use Rattle.av_names.specs.declared.part.Part.{Part as PartMade}
 use Rattle.av_names.specs.Forms.{over}
 use Rattle.av_names.specs.Found.{Found, sooner, first_of, first_found, found_where, at_option}
 use Rattle.av_names.specs.Parts.{Part, parts, parts_of, equation_parts}
-use Rattle.av_names.specs.Quantities.{Counted, exceeds, first_above, of_declaration, of_equation, of_part, index_lists, too_many_indices, nodes_of, too_many_nodes}
-use Rattle.av_names.specs.inner.Seen.{part, names_at, SameNames, equations_seen}
+use Rattle.av_names.specs.Quantities.{Counted, exceeds, of_declaration, of_equation, of_part, too_many_indices, nodes_of, too_many_nodes}
+use Rattle.av_names.specs.inner.Seen.{part, names_at, SameNames}
 use Rattle.av_names.specs.Unknowns.{declared_as, unknown, unknown_equation, unknown_reference, unknown_variable, unknown_side, unknown_written}
 use Rattle.av_names.specs.Written.{Written, written_at, written_declaration, written_sizes, all_written}
 use Rattle.av_names.proofs.Lists.{equations_are}

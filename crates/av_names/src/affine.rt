@@ -125,6 +125,22 @@ fn row(
     }
 }
 
+/// The row which says that the left side is greater than the right one.
+fn strict_row(
+    sizes: &IndexMap<&str, i64>,
+    names: &[Name],
+    left: &IndexExpr,
+    right: &IndexExpr,
+) -> Form
+    requires left { HasShortTerms left.now }
+    requires right { HasShortTerms right.now }
+    requires fits { IsWithinLimits (form_of_row (rows.at_least (sizes_in sizes.now) names.now left.now right.now (pos 1))) }
+    requires sizes { HasSmallValues (sizes_in sizes.now) }
+    ensures { result ≡ form_of_row (rows.at_least (sizes_in sizes.now) names.now left.now right.now (pos 1)) }
+{
+    row(sizes, names, left, right, 1)
+}
+
 /// Puts the rows of a comparison behind the others.
 fn push_rows(
     to: &mut List<Form>,
@@ -139,9 +155,9 @@ fn push_rows(
     let left = &constraint.left;
     let right = &constraint.right;
     match constraint.relation {
-        Relation::Less => to.push(row(sizes, names, right, left, 1)),
+        Relation::Less => to.push(strict_row(sizes, names, right, left)),
         Relation::LessEqual => to.push(row(sizes, names, right, left, 0)),
-        Relation::Greater => to.push(row(sizes, names, left, right, 1)),
+        Relation::Greater => to.push(strict_row(sizes, names, left, right)),
         Relation::GreaterEqual => to.push(row(sizes, names, left, right, 0)),
         Relation::Equal => {
             to.push(row(sizes, names, left, right, 0))?;

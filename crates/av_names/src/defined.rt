@@ -1,6 +1,6 @@
 //! Which variable has an equation.
 
-ghost use Rattle.std.specs.Prelude.{◌≡◌, [], map, not, find, IfOk, option_map};
+ghost use Rattle.std.specs.Prelude.{◌≡◌, ◌++◌, [], map, not, find, IfOk, option_map};
 ghost use Rattle.av_tree.specs.Rows.{is_index};
 ghost use Rattle.av_tree.specs.Trees.{view_system};
 ghost use Rattle.av_names.specs.Unknowns.{declared_as};
@@ -66,8 +66,19 @@ pub(crate) fn no_equation<'a>(
     ensures { IfOk result (λ first. option_map found first ≡ rules.no_equation (view_system system.now)) }
 {
     let names = defined(alloc, system.equations.as_slice())?;
+    computed_without(alloc, &names, system)
+}
+
+/// The first output or local whose name is not in the set.
+fn computed_without<'a>(
+    alloc: Global,
+    names: &NameSet<'_>,
+    system: &'a System,
+) -> Result<Option<Found<'a>>, Memory>
+    ensures { IfOk result (λ first. option_map found first ≡ option_map rules.declaration_found (find (λ d. not (is_index names.now d.name)) (system.now.outputs ++ system.now.locals))) }
+{
     let computed = computed_variables(alloc, system)?;
-    Ok(without_equation(&names, computed.as_slice()))
+    Ok(without_equation(names, computed.as_slice()))
 }
 
 /// The names of the declarations.
@@ -100,6 +111,16 @@ pub(crate) fn second_equation<'a>(
     ensures { IfOk result (λ first. option_map found first ≡ rules.second_equation [] (equations_seen equations.now)) }
 {
     let mut before = NameSet::new(alloc);
+    equation_again(&mut before, equations)
+}
+
+/// The first equation whose variable is in the set, or has one already.
+fn equation_again<'a>(
+    before: &mut NameSet<'a>,
+    equations: &'a [Equation],
+) -> Result<Option<Found<'a>>, Memory>
+    ensures { IfOk result (λ first. option_map found first ≡ rules.second_equation before.old (equations_seen equations.now)) }
+{
     for equation in equations {
         if !before.insert(&equation.name)? {
             return Ok(Some(Found {

@@ -1,6 +1,7 @@
 //! The flat system of a system that no rule refuses, variable by variable.
 
 ghost use Rattle.std.specs.Prelude.{◌≡◌, ◌++◌, [], ◌∷◌, map, All, IfOk, OnOk};
+ghost use Rattle.av_tree.specs.Domains as domains;
 ghost use Rattle.av_tree.specs.Trees as text;
 ghost use Rattle.av_flat.specs.Trees as flat;
 ghost use Rattle.av_names.specs.inner.Building.{instance_in, AreTables, AreNames, FitsDomain};
@@ -171,6 +172,60 @@ pub(crate) fn push_computed(
     Ok(())
 }
 
+/// The places and sizes of a system with these variables.
+fn tables_over<'a>(
+    alloc: Global,
+    system: &'a System,
+    sizes: &'a [Size],
+    width: Width,
+    variables: &[&'a Declaration],
+) -> Result<Tables<'a>, Memory>
+    requires small { AreSmall sizes.now }
+    requires accepted { IsAccepted (text.view_system system.now) sizes.now }
+    requires variables { map (λ d. d.now) variables.now ≡ domains.variables (text.view_system system.now) }
+    ensures tables { IfOk result (λ t. AreTables t) }
+    ensures system { IfOk result (λ t. t.system.now ≡ system.now) }
+    ensures sizes { IfOk result (λ t. (name : Text) → sizes_in t.sizes name ≡ sizes_of sizes.now name) }
+    ensures width { IfOk result (λ t. t.width ≡ width) }
+{
+    let places = place_table(alloc, variables)?;
+    let values = size_table(alloc, sizes)?;
+    Ok(Tables {
+        system,
+        places,
+        count: variables.len() as u32,
+        sizes: values,
+        width,
+    })
+}
+
+/// What the names of a system with these variables stand for.
+fn names_over<'a>(
+    alloc: Global,
+    system: &'a System,
+    sizes: &'a [Size],
+    width: Width,
+    variables: &[&'a Declaration],
+) -> Result<Names<'a>, Memory>
+    requires text { IsOfText (text.view_system system.now) }
+    requires small { AreSmall sizes.now }
+    requires accepted { IsAccepted (text.view_system system.now) sizes.now }
+    requires variables { map (λ d. d.now) variables.now ≡ domains.variables (text.view_system system.now) }
+    ensures names { IfOk result (λ n. AreNames n) }
+    ensures system { IfOk result (λ n. n.tables.system.now ≡ system.now) }
+    ensures sizes { IfOk result (λ n. (name : Text) → sizes_in n.tables.sizes name ≡ sizes_of sizes.now name) }
+    ensures width { IfOk result (λ n. n.tables.width ≡ width) }
+{
+    let tables = tables_over(alloc, system, sizes, width, variables)?;
+    let declared = by_name(alloc, variables)?;
+    let equations = equation_table(alloc, system.equations.as_slice())?;
+    Ok(Names {
+        tables,
+        declared,
+        equations,
+    })
+}
+
 fn all_names<'a>(
     alloc: Global,
     system: &'a System,
@@ -186,22 +241,7 @@ fn all_names<'a>(
     ensures width { IfOk result (λ n. n.tables.width ≡ width) }
 {
     let variables = all_variables(alloc, system)?;
-    let list = variables.as_slice();
-    let places = place_table(alloc, list)?;
-    let declared = by_name(alloc, list)?;
-    let equations = equation_table(alloc, system.equations.as_slice())?;
-    let values = size_table(alloc, sizes)?;
-    Ok(Names {
-        tables: Tables {
-            system,
-            places,
-            count: list.len() as u32,
-            sizes: values,
-            width,
-        },
-        declared,
-        equations,
-    })
+    names_over(alloc, system, sizes, width, variables.as_slice())
 }
 
 /// The flat system: inputs, outputs, locals, each in the order of declaration.

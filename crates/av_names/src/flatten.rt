@@ -3,6 +3,8 @@
 ghost use Rattle.std.specs.Prelude.{◌≡◌, ◌≤◌, map, All, IfOk};
 ghost use Rattle.av_tree.specs.Domains.{variables};
 ghost use Rattle.av_tree.specs.Trees as text;
+ghost use Rattle.av_base.specs.Words.{residue};
+ghost use Rattle.av_flat.specs.Trees as flat;
 ghost use Rattle.av_flat.specs.Trees.{view};
 ghost use Rattle.av_names.specs.inner.Building.{instance_in, AreTables};
 ghost use Rattle.av_names.specs.inner.Fitting.{FitsIn, FitsRows};
@@ -66,6 +68,13 @@ fn restriction(
     )
 }
 
+/// A number, which stands for its residue.
+fn constant(value: u64, width: Width) -> Tree
+    ensures { view result ≡ flat.constant (residue width.bits value) }
+{
+    Tree::Const(Word::of(value, width))
+}
+
 /// The expression with the sizes put in, node by node.
 #[cycle(tree)]
 pub(crate) fn tree(
@@ -84,7 +93,7 @@ pub(crate) fn tree(
             let map = read_map(alloc, &tables.sizes, context, at)?;
             Ok(Tree::Ref { var, map })
         }
-        Expr::Const { value, .. } => Ok(Tree::Const(Word::of(*value, tables.width))),
+        Expr::Const { value, .. } => Ok(constant(*value, tables.width)),
         Expr::Binary {
             sign,
             left,
@@ -135,9 +144,9 @@ pub(crate) fn tree(
         }
         Expr::Reduce { op, map, body, .. } => {
             let names = map.names.as_slice();
+            let map = affine_map(alloc, &tables.sizes, map)?;
             let body = boxed(alloc, tables, Context::over(names), body)?;
             let set = everywhere(alloc, names.len());
-            let map = affine_map(alloc, &tables.sizes, map)?;
             Ok(Tree::Reduce {
                 op: *op,
                 map,

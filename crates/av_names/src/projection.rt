@@ -56,6 +56,17 @@ fn gives_names(alloc: Global, names: &[Name], results: &[IndexExpr]) -> Result<b
 {
     let own = NameSet::of(alloc, names)?;
     let mut before = NameSet::new(alloc);
+    gives_each(&own, &mut before, results)
+}
+
+/// Whether each result is a plain name, one of these, and none of those before it.
+fn gives_each<'a>(
+    own: &NameSet<'_>,
+    before: &mut NameSet<'a>,
+    results: &'a [IndexExpr],
+) -> Result<bool, Memory>
+    ensures { IfOk result (λ yes. yes ≡ rules.gives_names own.now before.old results.now) }
+{
     for entry in results {
         match plain_name(entry.terms.as_slice()) {
             None => return Ok(false),

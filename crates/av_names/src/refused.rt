@@ -1,11 +1,14 @@
 //! The first rule that a system with its sizes breaks.
 
-ghost use Rattle.std.specs.Prelude.{◌≡◌, map, IfOk};
+ghost use Rattle.std.specs.Prelude.{◌≡◌, [], map, IfOk, option_map};
 ghost use Rattle.av_tree.specs.Domains as domains;
 ghost use Rattle.av_tree.specs.Trees.{view_system};
+ghost use Rattle.av_names.specs.Equations as equations;
 ghost use Rattle.av_names.specs.Parts as list;
 ghost use Rattle.av_names.specs.Refusals as rules;
 ghost use Rattle.av_names.specs.Refusals.{first_rule};
+ghost use Rattle.av_names.specs.SizeWords as words;
+ghost use Rattle.av_names.specs.declared.fault.NameFault.TheVariants as kinds;
 ghost use Rattle.av_names.specs.inner.Seen.{part};
 ghost use Rattle.av_names.specs.Texts.{IsOfText, AreSmall};
 
@@ -33,22 +36,57 @@ fn copied(alloc: Global, name: &Name) -> Result<Name, Memory>
     Name::new(alloc, name.as_str())
 }
 
-/// The sizes that are given are not those that are named.
-fn wrong_sizes(alloc: Global, system: &System, sizes: &[Size]) -> Result<Option<NameFault>, Memory>
-    ensures { IfOk result (λ fault. fault ≡ first_rule (rules.size_rules (view_system system.now) sizes.now)) }
+/// A size is given twice.
+fn size_given_twice(alloc: Global, sizes: &[Size]) -> Result<Option<NameFault>, Memory>
+    ensures { IfOk result (λ fault. fault ≡ option_map kinds.SizeTwice (words.size_twice sizes.now)) }
 {
-    if let Some(name) = size_twice(alloc, sizes)? {
-        return Ok(Some(NameFault::SizeTwice(copied(alloc, name)?)));
+    match size_twice(alloc, sizes)? {
+        Some(name) => Ok(Some(NameFault::SizeTwice(copied(alloc, name)?))),
+        None => Ok(None),
     }
+}
+
+/// A size is given that the system does not name.
+fn size_not_named(
+    alloc: Global,
+    system: &System,
+    sizes: &[Size],
+) -> Result<Option<NameFault>, Memory>
+    ensures { IfOk result (λ fault. fault ≡ option_map kinds.SizeUnknown (words.size_unknown (view_system system.now) sizes.now)) }
+{
     let named = NameSet::of(alloc, system.sizes.names.as_slice())?;
-    if let Some(name) = size_unknown(&named, sizes) {
-        return Ok(Some(NameFault::SizeUnknown(copied(alloc, name)?)));
+    match size_unknown(&named, sizes) {
+        Some(name) => Ok(Some(NameFault::SizeUnknown(copied(alloc, name)?))),
+        None => Ok(None),
     }
+}
+
+/// A size that the system names is not given.
+fn size_not_given(
+    alloc: Global,
+    system: &System,
+    sizes: &[Size],
+) -> Result<Option<NameFault>, Memory>
+    ensures { IfOk result (λ fault. fault ≡ option_map kinds.SizeMissing (words.size_missing (view_system system.now) sizes.now)) }
+{
     let given = given(alloc, sizes)?;
     match first_outside(&given, system.sizes.names.as_slice()) {
         Some(name) => Ok(Some(NameFault::SizeMissing(copied(alloc, name)?))),
         None => Ok(None),
     }
+}
+
+/// The sizes that are given are not those that are named.
+fn wrong_sizes(alloc: Global, system: &System, sizes: &[Size]) -> Result<Option<NameFault>, Memory>
+    ensures { IfOk result (λ fault. fault ≡ first_rule (rules.size_rules (view_system system.now) sizes.now)) }
+{
+    if let Some(fault) = size_given_twice(alloc, sizes)? {
+        return Ok(Some(fault));
+    }
+    if let Some(fault) = size_not_named(alloc, system, sizes)? {
+        return Ok(Some(fault));
+    }
+    size_not_given(alloc, system, sizes)
 }
 
 /// A name is declared twice, or nowhere.
@@ -79,18 +117,36 @@ fn wrong_names<'a>(
     }
 }
 
-/// An equation of a variable that has none, or no equation of one that has one.
-fn wrong_equations(alloc: Global, system: &System) -> Result<Option<NameFault>, Memory>
-    ensures { IfOk result (λ fault. fault ≡ first_rule (rules.equation_rules (view_system system.now))) }
+/// An input has an equation.
+fn input_defined(alloc: Global, system: &System) -> Result<Option<NameFault>, Memory>
+    ensures { IfOk result (λ fault. fault ≡ option_map (λ x. kinds.DefinesInput x.name x.place) (equations.defines_input (view_system system.now))) }
 {
-    if let Some(found) = defines_input(alloc, system)? {
-        let name = copied(alloc, found.name)?;
-        return Ok(Some(NameFault::DefinesInput(name, found.place)));
+    match defines_input(alloc, system)? {
+        Some(found) => {
+            let name = copied(alloc, found.name)?;
+            Ok(Some(NameFault::DefinesInput(name, found.place)))
+        }
+        None => Ok(None),
     }
-    if let Some(found) = second_equation(alloc, system.equations.as_slice())? {
-        let name = copied(alloc, found.name)?;
-        return Ok(Some(NameFault::SecondEquation(name, found.place)));
+}
+
+/// A variable has two equations.
+fn defined_twice(alloc: Global, system: &System) -> Result<Option<NameFault>, Memory>
+    ensures { IfOk result (λ fault. fault ≡ option_map (λ x. kinds.SecondEquation x.name x.place) (equations.second_equation [] (view_system system.now).equations)) }
+{
+    match second_equation(alloc, system.equations.as_slice())? {
+        Some(found) => {
+            let name = copied(alloc, found.name)?;
+            Ok(Some(NameFault::SecondEquation(name, found.place)))
+        }
+        None => Ok(None),
     }
+}
+
+/// An output or a local has no equation.
+fn not_defined(alloc: Global, system: &System) -> Result<Option<NameFault>, Memory>
+    ensures { IfOk result (λ fault. fault ≡ option_map (λ x. kinds.NoEquation x.name x.place) (equations.no_equation (view_system system.now))) }
+{
     match no_equation(alloc, system)? {
         Some(found) => {
             let name = copied(alloc, found.name)?;
@@ -98,6 +154,19 @@ fn wrong_equations(alloc: Global, system: &System) -> Result<Option<NameFault>, 
         }
         None => Ok(None),
     }
+}
+
+/// An equation of a variable that has none, or no equation of one that has one.
+fn wrong_equations(alloc: Global, system: &System) -> Result<Option<NameFault>, Memory>
+    ensures { IfOk result (λ fault. fault ≡ first_rule (rules.equation_rules (view_system system.now))) }
+{
+    if let Some(fault) = input_defined(alloc, system)? {
+        return Ok(Some(fault));
+    }
+    if let Some(fault) = defined_twice(alloc, system)? {
+        return Ok(Some(fault));
+    }
+    not_defined(alloc, system)
 }
 
 /// A wrong number of indices, or a reduction where none stands.

@@ -1,12 +1,14 @@
 //! Names that are declared a second time.
 
-ghost use Rattle.std.specs.Prelude.{◌≡◌, [], map, IfOk, option_map};
+ghost use Rattle.std.specs.Prelude.{◌≡◌, ◌||◌, [], ◌∷◌, map, IfOk, OnOk, option_map};
 ghost use Rattle.av_tree.specs.Domains as domains;
+ghost use Rattle.av_tree.specs.Rows.{is_index};
 ghost use Rattle.av_tree.specs.Trees.{view, view_equation, view_system};
+ghost use Rattle.av_names.specs.Found as places;
 ghost use Rattle.av_names.specs.Found.{at_option, first_found};
 ghost use Rattle.av_names.specs.Parts as list;
 ghost use Rattle.av_names.specs.Repetitions as repeats;
-ghost use Rattle.av_names.specs.inner.Seen.{found, part};
+ghost use Rattle.av_names.specs.inner.Seen.{found, part, SameNames};
 
 use crate::found::{Found, sooner};
 use crate::name_set::NameSet;
@@ -28,6 +30,19 @@ pub(crate) fn second<'a>(alloc: Global, names: &'a [Name]) -> Result<Option<&'a 
     Ok(None)
 }
 
+/// Puts a name into the set, and tells whether it was there or is a size.
+fn is_repeated<'a>(
+    behind: &mut NameSet<'a>,
+    sizes: &NameSet<'_>,
+    name: &'a Name,
+) -> Result<bool, Memory>
+    ensures repeated { IfOk result (λ yes. yes ≡ (is_index behind.old name.now || is_index sizes.now name.now)) }
+    ensures names { OnOk result (SameNames behind.new (name.now ∷ behind.old)) }
+{
+    let added = behind.insert(name)?;
+    Ok(!added || sizes.contains(name))
+}
+
 /// The first name that stands once more behind it, or is a size.
 pub(crate) fn again<'a>(
     alloc: Global,
@@ -42,7 +57,7 @@ pub(crate) fn again<'a>(
     while rest > 0 {
         rest -= 1;
         let name = &names[rest];
-        if !behind.insert(name)? || sizes.contains(name) {
+        if is_repeated(&mut behind, sizes, name)? {
             first = Some(name);
         }
     }
@@ -173,6 +188,22 @@ fn in_part<'a>(
     }
 }
 
+/// An index name of any list.
+fn in_lists<'a>(
+    alloc: Global,
+    sizes: &NameSet<'_>,
+    equations: &'a [Equation],
+    variables: &[&'a Declaration],
+    parts: &[Part<'a>],
+) -> Result<Option<Found<'a>>, Memory>
+    ensures { IfOk result (λ first. option_map found first ≡ places.sooner (λ f. f.place) (places.sooner (λ f. f.place) (first_found (λ d. repeats.repeated_index sizes.now (repeats.of_declaration d.now)) variables.now) (first_found (λ e. at_option (repeats.repeated_index sizes.now) (repeats.of_equation (view_equation e))) equations.now)) (first_found (λ p. at_option (repeats.repeated_index sizes.now) (repeats.of_part (part p))) parts.now)) }
+{
+    let domain = in_variables(alloc, sizes, variables)?;
+    let equation = in_equations(alloc, sizes, equations)?;
+    let part = in_parts(alloc, sizes, parts)?;
+    Ok(sooner(sooner(domain, equation), part))
+}
+
 /// A size that was declared before.
 fn repeated_size<'a>(alloc: Global, sizes: &'a DomainText) -> Result<Option<Found<'a>>, Memory>
     ensures { IfOk result (λ first. option_map found first ≡ repeats.repeated_size sizes.now) }
@@ -198,12 +229,9 @@ pub(crate) fn repeated<'a>(
     ensures { IfOk result (λ first. option_map found first ≡ repeats.repeated (view_system system.now)) }
 {
     let names = system.sizes.names.as_slice();
-    let sizes = NameSet::of(alloc, names)?;
     let size = repeated_size(alloc, &system.sizes)?;
     let variable = repeated_variable(alloc, names, variables)?;
-    let domain = in_variables(alloc, &sizes, variables)?;
-    let equation = in_equations(alloc, &sizes, system.equations.as_slice())?;
-    let part = in_parts(alloc, &sizes, parts)?;
-    let index = sooner(sooner(domain, equation), part);
+    let sizes = NameSet::of(alloc, names)?;
+    let index = in_lists(alloc, &sizes, system.equations.as_slice(), variables, parts)?;
     Ok(sooner(size, sooner(variable, index)))
 }

@@ -5,15 +5,15 @@ ghost use Rattle.std.specs.Prelude.{◌≡◌, ◌<◌, IfOk, length, codes};
 ghost use Rattle.av_lex.specs.Lexing.{view as token_view, views};
 ghost use Rattle.av_tree.specs.Trees.{view, view_all};
 ghost use Rattle.av_parse.specs.inner.Reader.{Gives, expect_symbol};
-ghost use Rattle.av_parse.specs.inner.ExpressionReader.{readers, parenthesis_of, extreme_of, branches_of, cases_of, reduction_of, primary_of, postfix_of, unary_of, product_of, sum_of, choice_of, restriction_of, expr_of, begins_unary, begins_expr, begins_domain_rest};
+ghost use Rattle.av_parse.specs.inner.ExpressionReader.{readers, parenthesis_of, extreme_of, last_operand_of, branches_of, cases_of, reduction_of, reduced_of, primary_of, postfix_of, unary_of, product_of, sum_of, choice_of, restriction_of, expr_of, begins_unary, begins_expr, begins_domain_rest};
 
 use crate::cursor::Cursor;
 use crate::fault::Stop;
 use crate::postfix::{joined, negated};
 use crate::text::value_of;
-use av_base::{List, Place, TokenKind};
+use av_base::{List, Op, Place, TokenKind};
 use av_lex::Token;
-use av_tree::{DomainText, Expr, Sign};
+use av_tree::{DomainText, Expr, MapText, Sign};
 
 impl<'t, 'a> Cursor<'t, 'a> {
     fn begins_unary(&self) -> bool
@@ -278,6 +278,20 @@ impl<'t, 'a> Cursor<'t, 'a> {
         self.opening(levels)?;
         let left = self.deeper_expr(levels)?;
         self.symbol(b",")?;
+        self.last_operand(levels, sign, place, left)
+    }
+
+    // `expr ")"`, behind the first operand and its comma.
+    #[cycle(expression)]
+    fn last_operand(
+        &mut self,
+        levels: u32,
+        sign: Sign,
+        place: Place,
+        left: Expr,
+    ) -> Result<Expr, Stop>
+        ensures { Gives (λ e. (view e, views self.new.rest.now)) result (last_operand_of (readers levels) sign place (view left) (views self.old.rest.now)) }
+    {
         let right = self.deeper_expr(levels)?;
         self.symbol(b")")?;
         Ok(joined(self.alloc, sign, left, right, place)?)
@@ -330,6 +344,14 @@ impl<'t, 'a> Cursor<'t, 'a> {
         self.symbol(b",")?;
         let map = self.map()?;
         self.symbol(b",")?;
+        self.reduced(levels, op, map, place)
+    }
+
+    // `expr ")"`, behind the operator, the map and their commas.
+    #[cycle(expression)]
+    fn reduced(&mut self, levels: u32, op: Op, map: MapText, place: Place) -> Result<Expr, Stop>
+        ensures { Gives (λ e. (view e, views self.new.rest.now)) result (reduced_of (readers levels) op map place (views self.old.rest.now)) }
+    {
         let reduced = self.deeper_expr(levels)?;
         self.symbol(b")")?;
         Ok(Expr::Reduce {

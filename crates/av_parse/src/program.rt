@@ -1,11 +1,11 @@
 //! Declarations, equations and the whole.
 
 ghost use Rattle.std.specs.Prelude.{◌≡◌, ◌++◌, length, IfOk};
-ghost use Rattle.av_lex.specs.Lexing.{views};
+ghost use Rattle.av_lex.specs.Lexing.{view as token_view, views};
 ghost use Rattle.av_tree.specs.Trees.{view_equation, view_equations, view_system};
 ghost use Rattle.av_tree.specs.Grammar.{declared};
 ghost use Rattle.av_parse.specs.inner.Reader.{Gives, with_front};
-ghost use Rattle.av_parse.specs.inner.ProgramReader.{declaration_of, declarations_of, inputs_of, variables_of, locals_of, sizes_of, index_names_of, equation_of, equations_of, semicolon_of, header_of, system_of, program_of};
+ghost use Rattle.av_parse.specs.inner.ProgramReader.{declaration_of, declarations_of, inputs_of, variables_of, locals_of, sizes_of, index_names_of, equation_of, right_side_of, equations_of, semicolon_of, header_of, system_of, program_of};
 ghost use Rattle.av_parse.specs.inner.Views.{view_header};
 
 use crate::copy;
@@ -156,6 +156,18 @@ impl<'t, 'a> Cursor<'t, 'a> {
         let name = self.expect(TokenKind::Name)?;
         let indices = self.index_names()?;
         self.symbol(b"=")?;
+        self.right_side(levels, name, indices)
+    }
+
+    // `expr ";"`, behind the name, the index names and the `=`.
+    fn right_side(
+        &mut self,
+        levels: u32,
+        name: Token<'a>,
+        indices: Option<List<Name>>,
+    ) -> Result<Equation, Stop>
+        ensures { Gives (λ e. (view_equation e, views self.new.rest.now)) result (right_side_of levels (token_view name.entry) indices (views self.old.rest.now)) }
+    {
         let right = self.deeper_expr(levels)?;
         self.symbol(b";")?;
         Ok(Equation {

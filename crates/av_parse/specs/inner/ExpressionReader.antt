@@ -7,6 +7,7 @@ use Rattle.av_base.specs.declared.word.Op.{Op}
 use Rattle.av_base.specs.declared.word.Op.TheVariants as op
 use Rattle.av_base.specs.Tokens.{Token}
 use Rattle.av_tree.specs.declared.domain.DomainText.{DomainText}
+use Rattle.av_tree.specs.declared.domain.MapText.{MapText}
 use Rattle.av_tree.specs.declared.expression.Access.{Access}
 use Rattle.av_tree.specs.declared.expression.Access.TheVariants as access
 use Rattle.av_tree.specs.declared.relation.Relation.{Relation}
@@ -49,6 +50,13 @@ parenthesis_of b ts = do
   c ← expect_symbol (codes ")") e.1
   Ok (e.0, c.1)
 
+-- expr ")", behind the first operand of min or max and its ","
+abbrev pub last_operand_of : Readers → Sign → Place → Expression → Read Expression
+last_operand_of b s place left ts = do
+  y ← b.expr ts
+  c ← expect_symbol (codes ")") y.1
+  Ok (binary s left y.0 place, c.1)
+
 -- "(" expr "," expr ")", behind the word min or max
 unfoldable pub extreme_of : Readers → Sign → Place → Read Expression
 extreme_of b s place ts = do
@@ -88,6 +96,13 @@ op_by (Some f) ts = Ok (f, after ts)
 
 abbrev pub op_of : Read Op
 op_of ts = op_by (op_at ts) ts
+
+-- expr ")", behind the operator and the map of a reduction and their commas
+abbrev pub reduced_of : Readers → Op → MapText → Place → Read Expression
+reduced_of b f m place ts = do
+  e ← b.expr ts
+  c ← expect_symbol (codes ")") e.1
+  Ok (reduction f m e.0 place, c.1)
 
 -- "(" op "," map "," expr ")", behind the word reduce
 unfoldable pub reduction_of : Readers → Place → Read Expression

@@ -60,6 +60,13 @@ unfoldable pub index_names_of : Read (Option (List Text))
 index_names_of ts =
     if begins_symbol (codes "[") ts then (optional_names_of (after ts) >>= λ ns. expect_symbol (codes "]") ns.1 >>= λ c. Ok (Some ns.0, c.1)) else Ok (None, ts)
 
+-- expr ";", behind the name of an equation, its index names and the "="
+abbrev pub right_side_of : ℕ → Token → Option (List Text) → Read Equation
+right_side_of n x indices ts = do
+  e ← (readers n).expr ts
+  s ← expect_symbol (codes ";") e.1
+  Ok (record { name = x.text; indices = indices; right = e.0; place = x.place }, s.1)
+
 -- name [ "[" [ names ] "]" ] "=" expr ";"
 unfoldable pub equation_of : ℕ → Read Equation
 equation_of n ts = do

@@ -1,4 +1,4 @@
-use Rattle.std.proofs.Common.{ap, ◌∙◌, arith, length, map, take, take_all}
+use Rattle.std.proofs.Common.{ap, ◌∙◌, arith, length, map, take_all}
 use Rattle.std.proofs.lemmas.List.{length-map}
 use Rattle.av_names.specs.Forms.{form_of}
 use Rattle.av_names.specs.inner.Sums.{sizes_in}

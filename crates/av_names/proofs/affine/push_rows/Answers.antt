@@ -1,4 +1,4 @@
-use Rattle.std.proofs.Common.{pos, [], ◌∷◌, map}
+use Rattle.std.proofs.Common.{pos, [], ◌∷◌}
 use Rattle.std.proofs.lemmas.List.Elements.{All-head, All-tail}
 use Rattle.av_affine.specs.Forms.{IsWithinLimits}
 use Rattle.av_tree.specs.Rows as rows
@@ -6,16 +6,16 @@ use Rattle.av_names.specs.Forms.{form_of_row}
 use Rattle.av_names.specs.inner.Sums.{sizes_in}
 use Rattle.av_names.proofs.affine.push_rows.Goals as goal
 
-pub row-requires-clause-fits : goal.row-requires-clause-fits
-row-requires-clause-fits c =
+pub strict_row-requires-clause-fits : goal.strict_row-requires-clause-fits
+strict_row-requires-clause-fits c =
     All-head IsWithinLimits (form_of_row (rows.at_least (sizes_in c.args.sizes.now) c.args.names.now c.args.constraint.now.right c.args.constraint.now.left (pos 1))) [] (rw c.in-Less.is at c.requires.fits.1)
 
-pub row-requires-in-LessEqual-clause-fits : goal.row-requires-in-LessEqual-clause-fits
-row-requires-in-LessEqual-clause-fits c =
+pub row-requires-clause-fits : goal.row-requires-clause-fits
+row-requires-clause-fits c =
     All-head IsWithinLimits (form_of_row (rows.at_least (sizes_in c.args.sizes.now) c.args.names.now c.args.constraint.now.right c.args.constraint.now.left (pos 0))) [] (rw c.in-LessEqual.is at c.requires.fits.1)
 
-pub row-requires-in-Greater-clause-fits : goal.row-requires-in-Greater-clause-fits
-row-requires-in-Greater-clause-fits c =
+pub strict_row-requires-in-Greater-clause-fits : goal.strict_row-requires-in-Greater-clause-fits
+strict_row-requires-in-Greater-clause-fits c =
     All-head IsWithinLimits (form_of_row (rows.at_least (sizes_in c.args.sizes.now) c.args.names.now c.args.constraint.now.left c.args.constraint.now.right (pos 1))) [] (rw c.in-Greater.is at c.requires.fits.1)
 
 pub row-requires-in-GreaterEqual-clause-fits : goal.row-requires-in-GreaterEqual-clause-fits

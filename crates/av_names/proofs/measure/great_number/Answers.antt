@@ -1,8 +1,7 @@
-use Rattle.std.proofs.Common.{◌≡◌, ◌∙◌, ap, map}
+use Rattle.std.proofs.Common.{◌∙◌, ap, map}
 use Rattle.std.proofs.Math.Path.{fun_ext}
 use Rattle.av_tree.specs.Trees.{view_system}
 use Rattle.av_names.specs.inner.Sums.{written, great}
-use Rattle.av_names.specs.Written.{all_written}
 use Rattle.av_names.proofs.SpelledSystems.{short_sums}
 use Rattle.av_names.proofs.Summed.{short_written, small_values}
 use Rattle.av_names.proofs.measure.great_number.Goals as goal

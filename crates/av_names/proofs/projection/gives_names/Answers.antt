@@ -1,26 +1,10 @@
-use Rattle.std.proofs.Common.{ap, sym, ◌∙◌, option_map}
-use Rattle.av_tree.specs.Rows.{is_index}
-use Rattle.av_names.specs.Reductions.{plain_name}
-use Rattle.av_names.proofs.Given.{gives_other, gives_twice, gives_more}
-use Rattle.av_names.proofs.Repeats.{was_there, was_new}
+use Rattle.std.proofs.Common.{◌≡◌, [], ◌∙◌}
+use Rattle.std.proofs.lemmas.Result.{IfOk-weaker}
+use Rattle.av_names.specs.Reductions as rules
+use Rattle.av_names.proofs.Given.{gives_own}
 use Rattle.av_names.proofs.projection.gives_names.Goals as goal
 
-pub returns-then-not-contains : goal.returns-then-not-contains
-returns-then-not-contains c =
-    gives_other c.args.names.now c.loop-entry.before c.args.results.now c.loop-entry.entry-index c.entry-item.result c.in-Some.name.now c.loop-entry-test.true c.entry-item.is
-    (sym (ap plain_name c.as_slice.ensures) ∙ sym c.plain_name.ensures ∙ ap (option_map (λ n. n.now)) c.in-Some.is)
-    (sym (c.in_ok-own.ensures c.in-Some.name.now) ∙ sym c.contains.ensures ∙ c.if-not-contains.true) c.loop-entry.invariant
-
-pub returns-then-not-branch : goal.returns-then-not-branch
-returns-then-not-branch c =
-    gives_twice c.args.names.now c.loop-entry.before c.args.results.now c.loop-entry.entry-index c.entry-item.result c.in-Some.name.now c.loop-entry-test.true c.entry-item.is
-    (sym (ap plain_name c.as_slice.ensures) ∙ sym c.plain_name.ensures ∙ ap (option_map (λ n. n.now)) c.in-Some.is)
-    (was_there c.in_ok-insert-in-Some.field-0 (is_index c.loop-entry.before c.in-Some.name.now) c.in_ok-insert-in-Some.ensures.added c.if-not-branch.true) c.loop-entry.invariant
-
-pub loop-entry-preserved : goal.loop-entry-preserved
-loop-entry-preserved c =
-    gives_more c.args.names.now c.loop-entry.before c.insert.new.self c.args.results.now c.loop-entry.entry-index c.entry-item.result c.in-Some.name.now c.loop-entry-test.true c.entry-item.is
-    (sym (ap plain_name c.as_slice.ensures) ∙ sym c.plain_name.ensures ∙ ap (option_map (λ n. n.now)) c.in-Some.is)
-    (sym (c.in_ok-own.ensures c.in-Some.name.now) ∙ sym c.contains.ensures ∙ c.if-not-contains.false)
-    (was_new c.in_ok-insert-in-Some.field-0 (is_index c.loop-entry.before c.in-Some.name.now) c.in_ok-insert-in-Some.ensures.added c.if-not-branch.false)
-    c.in_ok-insert-in-Some.ensures.names c.loop-entry.invariant
+pub returns : goal.returns
+returns c =
+    IfOk-weaker c.gives_each.result (λ yes. yes ≡ rules.gives_names c.in_ok-own.own [] c.args.results.now) (λ yes. yes ≡ rules.gives_names c.args.names.now [] c.args.results.now)
+    (λ yes is. is ∙ gives_own c.in_ok-own.own c.args.names.now [] c.args.results.now c.in_ok-own.ensures) (rw c.new-before.ensures at c.gives_each.ensures)

@@ -1,6 +1,6 @@
 use Rattle.std.proofs.Common.{ap, ◌∙◌}
 use Rattle.std.specs.Prelude.{option_map}
-use Rattle.av_names.specs.Found.{sooner, first_of}
+use Rattle.av_names.specs.Found.{sooner}
 use Rattle.av_names.specs.inner.Sums.{counted}
 use Rattle.av_names.specs.Quantities as rules
 use Rattle.std.proofs.Common.{length}

@@ -1,5 +1,4 @@
 use Rattle.std.proofs.Common.{◌≡◌, ◌∷◌, ◌++◌, map, take}
-use Rattle.av_tree.specs.Trees.{view_system}
 use Rattle.av_names.specs.inner.Seen.{part}
 use Rattle.av_names.specs.inner.Sums.{written}
 use Rattle.av_names.specs.Written.{written_at, written_sizes, written_declaration}

@@ -35,6 +35,12 @@ decreases-parenthesis l = 10 * l.levels + 2
 abbrev pub decreases-extreme : goal.decreases-extreme
 decreases-extreme l = 10 * l.levels + 2
 
+abbrev pub decreases-last_operand : goal.decreases-last_operand
+decreases-last_operand l = 10 * l.levels + 1
+
+abbrev pub decreases-reduced : goal.decreases-reduced
+decreases-reduced l = 10 * l.levels + 1
+
 abbrev pub decreases-cases : goal.decreases-cases
 decreases-cases l = 10 * l.levels + 2
 

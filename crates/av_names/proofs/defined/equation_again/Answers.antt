@@ -1,9 +1,9 @@
 use Rattle.av_tree.specs.Rows.{is_index}
 use Rattle.av_names.proofs.Lists.{equation_more}
 use Rattle.av_names.proofs.Repeats.{was_new}
-use Rattle.av_names.proofs.defined.second_equation.Goals as goal
+use Rattle.av_names.proofs.defined.equation_again.Goals as goal
 
 pub loop-equation-preserved : goal.loop-equation-preserved
 loop-equation-preserved c =
-    equation_more c.loop-equation.before c.insert.new.self c.args.equations.now c.loop-equation.equation-index c.equation-item.result c.loop-equation-test.true c.equation-item.is
+    equation_more c.args.before.now c.loop-equation.before c.insert.new.self c.args.equations.now c.loop-equation.equation-index c.equation-item.result c.loop-equation-test.true c.equation-item.is
     c.in_ok-insert.ensures.names (was_new c.in_ok-insert.field-0 (is_index c.loop-equation.before c.equation-item.result.name) c.in_ok-insert.ensures.added c.if-not-branch.false) c.loop-equation.invariant
