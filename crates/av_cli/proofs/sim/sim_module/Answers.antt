@@ -7,7 +7,7 @@ pub clock_module-requires-clause-left : goal.clock_module-requires-clause-left
 clock_module-requires-clause-left g c = all_left c.args.of.now.inputs c.args.bytes.now c.in-Ok.stimulus c.in-Ok.ensures.found
 
 pub returns-in-Ok : goal.returns-in-Ok
-returns-in-Ok g c = run_answered c.args.of.now c.args.bytes.now c.args.first_line c.in-Ok.stimulus _ _ _ _ _ c.requires.sound c.in-Ok.ensures.found c.clock_module.ensures
+returns-in-Ok g c = run_answered c.args.of.now c.args.bytes.now c.args.first_line c.in-Ok.stimulus _ _ _ c.requires.sound c.in-Ok.ensures.found c.clock_module.ensures
 
 pub returns-in-Err : goal.returns-in-Err
 returns-in-Err g c =
