@@ -180,6 +180,26 @@ fn add_cell<'a>(
     })
 }
 
+// What stands on so many cells, whose lanes are put into the list.
+fn cell_plans<'a>(
+    alloc: Global,
+    array: &Array<'a>,
+    count: usize,
+    lanes: &mut List<LanePlan>,
+) -> Result<List<CellPlan<'a>>, Memory>
+    requires array { IsArray array.now }
+    requires count { count ≡ length (cells_of array.now) }
+    requires none { AreLanes array.now [] lanes.old }
+    ensures one_each { IfOk result (λ cells. length cells ≡ count) }
+    ensures lanes { IfOk result (λ cells. AreLanes array.now cells lanes.new) }
+{
+    let mut cells = List::new(alloc);
+    for cell in 0..count {
+        cells.push(add_cell(alloc, array, cell, lanes)?)?;
+    }
+    Ok(cells)
+}
+
 /// The lanes of the array of so many cells.
 pub(crate) fn plan_lanes<'a>(
     alloc: Global,
@@ -191,11 +211,8 @@ pub(crate) fn plan_lanes<'a>(
     ensures array { IfOk result (λ b. b.array ≡ array.entry) }
     ensures blueprint { IfOk result IsBlueprint }
 {
-    let mut cells = List::new(alloc);
     let mut lanes = List::new(alloc);
-    for cell in 0..count {
-        cells.push(add_cell(alloc, &array, cell, &mut lanes)?)?;
-    }
+    let cells = cell_plans(alloc, &array, count, &mut lanes)?;
     Ok(Blueprint {
         array,
         cells,

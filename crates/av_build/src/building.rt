@@ -42,6 +42,18 @@ fn array_fits_memory(timed: &Timed, cells: &Cells, program: &Program<'_>)
     fits_memory(program.outputs.as_slice());
 }
 
+// The design of a module, with the listing of the array.
+fn with_listing(alloc: Global, cells: &Cells, made: Module) -> Result<Design, Memory>
+    ensures made { IfOk result (λ design. design.«module» ≡ made) }
+    ensures listing { IfOk result (λ design. design.listing ≡ cells.now.listing) }
+{
+    let listing = copied_listing(alloc, &cells.listing)?;
+    Ok(Design {
+        listing,
+        module: made,
+    })
+}
+
 /// The design of an array: its module, with the listing of the array.
 ///
 /// The module is named `array`. Its input and output ports are those of the array, in the order of their numbers, each as wide as
@@ -58,8 +70,6 @@ pub fn build(alloc: Global, timed: &Timed, cells: &Cells) -> Result<Design, Memo
     let module = netlist(alloc, flat.width, &program)?;
     array_fits_memory(timed, cells, &program);
     module_fits_memory(&module);
-    Ok(Design {
-        listing: copied_listing(alloc, &cells.listing)?,
-        module,
-    })
+    let design = with_listing(alloc, cells, module)?;
+    Ok(design)
 }

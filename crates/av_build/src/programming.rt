@@ -1,23 +1,27 @@
 //! The program of an array, lane by lane.
 
-ghost use Rattle.std.specs.Prelude.{◌≡◌, ◌<◌, All, length, map, IfOk};
+ghost use Rattle.std.specs.Prelude.{◌≡◌, ◌<◌, [], ◌∷◌, All, Some, length, map, IfOk};
 ghost use Rattle.av_space.specs.declared.fault.SpaceFault.{SpaceFault as Fault};
 ghost use Rattle.av_space.specs.declared.fault.SpaceFault.TheVariants as fault;
 ghost use Rattle.av_space.specs.SpaceFaults.{IsSpaceFault};
 ghost use Rattle.av_space.specs.Whole.{IsWhole};
 ghost use Rattle.av_space.specs.declared.spots.Spot.{Spot as SpotSeen};
-ghost use Rattle.av_space.specs.Spots.{IsSpot, AreSites, helpers_of, cells_of};
+ghost use Rattle.av_space.specs.Spots.{IsSpot, IsSiteOf, AreSites, helpers_of, cells_of};
+ghost use Rattle.av_flat.specs.Trees.{view};
+ghost use Rattle.av_build.specs.declared.program.Site.{Site as ProgramSiteSeen};
+ghost use Rattle.av_build.specs.inner.Moments.{IsHandBy};
+ghost use Rattle.av_build.specs.inner.Programmed.{IsSiteFor};
 ghost use Rattle.av_build.specs.inner.Selections.{stretch_of};
 ghost use Rattle.av_build.specs.inner.Blueprints.{IsBlueprint, IsSpotAt, HasHelper, seen, spot_of, lanes_of};
 ghost use Rattle.av_build.specs.inner.Works.{IsWorkFor, IsBuiltBy, AreBuilt, IsProgrammed};
-ghost use Rattle.av_build.specs.inner.Written.{as_stretch, work_of, lane_of, program_of};
+ghost use Rattle.av_build.specs.inner.Written.{as_stretch, site_of, work_of, lane_of, program_of};
 
 use crate::blueprint::{Blueprint, HelperPlan, plan_lanes};
 use crate::moments::site;
-use crate::program::{Lane, Program, Shift, Stretch, Work};
+use crate::program::{Lane, Program, Shift, Site as ProgramSite, Stretch, Work};
 use av_base::{List, Memory};
 use av_flat::Timed;
-use av_space::{Array, Cells, Ends, Site, Spot, ends_of};
+use av_space::{Array, Cells, Ends, Handing, Site, Spot, ends_of};
 use std::alloc::Global;
 
 // The test of the stretch of a piece on a cell: a bound that the cell's own cycles keep is left out.
@@ -31,6 +35,15 @@ fn stretch(own: Ends, stay: Ends) -> Stretch
     } else {
         Stretch::Between(stay.first, stay.last)
     }
+}
+
+// The list of one site.
+fn one_site(alloc: Global, own: ProgramSite) -> Result<List<ProgramSite>, Memory>
+    ensures { IfOk result (λ sites. sites ≡ own ∷ []) }
+{
+    let mut sites = List::new(alloc);
+    sites.push(own)?;
+    Ok(sites)
 }
 
 impl<'a> Blueprint<'a> {
@@ -89,6 +102,26 @@ impl<'a> Blueprint<'a> {
         })
     }
 
+    // What brings the word of a helper to its lane.
+    fn hand_sites(
+        &self,
+        alloc: Global,
+        spot: &Spot<'a>,
+        place: &Site<'a>,
+        handing: &Handing,
+    ) -> Result<List<ProgramSite>, Memory>
+        requires blueprint { IsBlueprint self.now }
+        requires spot { IsSpot self.now.array spot.now }
+        requires site { IsSiteOf self.now.array spot.now place.now }
+        requires handing { place.now.handing ≡ Some handing.now }
+        ensures { IfOk result (λ made. (own : ProgramSiteSeen) × (made ≡ own ∷ []) × IsSiteFor (seen self.now.array) (spot_of spot.now) (λ z c source. IsHandBy (seen self.now.array) (lanes_of self.now.lanes) (spot_of spot.now) z c place.now.place.site handing.now (view place.now.place.tree) source) (site_of own)) }
+    {
+        let moments = self.hand_moments(alloc, spot, place, handing)?;
+        let own = site(alloc, moments.as_slice())?;
+        let sites = one_site(alloc, own)?;
+        Ok(sites)
+    }
+
     // The lane of the word of a helper on a cell.
     fn pipeline(&self, alloc: Global, cell: usize, helper: HelperPlan) -> Result<Lane<'a>, Memory>
         requires blueprint { IsBlueprint self.now }
@@ -102,9 +135,7 @@ impl<'a> Blueprint<'a> {
         let Some(handing) = &place.handing else {
             unreachable!();
         };
-        let moments = self.hand_moments(alloc, spot, place, handing)?;
-        let mut sites = List::new(alloc);
-        sites.push(site(alloc, moments.as_slice())?)?;
+        let sites = self.hand_sites(alloc, spot, place, handing)?;
         let read = &place.place;
         Ok(Lane {
             home: cell as u32,
@@ -149,6 +180,31 @@ impl<'a> Blueprint<'a> {
     }
 }
 
+// The program of the lanes of a blueprint.
+fn from_blueprint<'a>(
+    alloc: Global,
+    stride: usize,
+    cells: &'a Cells,
+    blueprint: &Blueprint<'a>,
+) -> Result<Program<'a>, Memory>
+    requires blueprint { IsBlueprint blueprint.now }
+    requires ranks { length (helpers_of blueprint.now.array) < 18446744073709551615 }
+    requires outputs { All (λ p. p < length (cells_of blueprint.now.array)) cells.now.outputs }
+    ensures inputs { IfOk result (λ program. program.inputs ≡ length cells.now.inputs) }
+    ensures lanes { IfOk result (λ program. AreBuilt blueprint.now blueprint.now.lanes program.lanes) }
+    ensures outputs { IfOk result (λ program. program.outputs ≡ map (lanes_of blueprint.now.lanes).of_value cells.now.outputs) }
+    ensures stride { IfOk result (λ program. program.stride ≡ stride) }
+{
+    let lanes = blueprint.built(alloc)?;
+    let outputs = blueprint.values(alloc, cells.outputs.as_slice())?;
+    Ok(Program {
+        inputs: cells.inputs.as_slice().len(),
+        lanes,
+        outputs,
+        stride,
+    })
+}
+
 /// The program of the array that `map` gives for a timed system.
 pub(crate) fn program<'a>(
     alloc: Global,
@@ -162,10 +218,6 @@ pub(crate) fn program<'a>(
     let stride = timed.helpers.as_slice().len() + 1;
     let array = Array::new(alloc, timed, cells)?;
     let blueprint = plan_lanes(alloc, array, cells.cells.as_slice().len())?;
-    Ok(Program {
-        inputs: cells.inputs.as_slice().len(),
-        lanes: blueprint.built(alloc)?,
-        outputs: blueprint.values(alloc, cells.outputs.as_slice())?,
-        stride,
-    })
+    let program = from_blueprint(alloc, stride, cells, &blueprint)?;
+    Ok(program)
 }

@@ -77,6 +77,43 @@ fn joined(alloc: Global, op: Op, before: Tree, body: Tree) -> Result<Tree, Memor
     })
 }
 
+// The body's word, joined with what was folded before.
+fn folded(
+    alloc: Global,
+    width: Width,
+    op: Op,
+    map: &Map,
+    domain: &Poly,
+    place: u32,
+    body: Tree,
+) -> Result<Tree, Memory>
+    requires projection { IsProjection map.now }
+    requires from { map.now.from ≤ 4 }
+    requires dimension { domain.now.dim ≡ map.now.from }
+    requires rows { All IsWithinLimits domain.now.rows }
+    ensures { IfOk result (λ tree. view tree ≡ binary (sign_of op) (pick place (choice_before map.now domain.now ∷ []) (identity width.bits op)) (view body)) }
+{
+    let before = own_read(alloc, map, domain, place, Word::identity(op, width))?;
+    joined(alloc, op, before, body)
+}
+
+// The list of one piece.
+fn one_piece(alloc: Global, piece: Piece) -> Result<List<Piece>, Memory>
+    ensures { IfOk result (λ pieces. pieces ≡ piece ∷ []) }
+{
+    let mut pieces = List::new(alloc);
+    pieces.push(piece)?;
+    Ok(pieces)
+}
+
+// The list of one piece, which is that of a whole domain.
+fn whole_piece(alloc: Global, domain: &Poly, tree: Tree) -> Result<List<Piece>, Memory>
+    ensures { IfOk result (λ pieces. pieces ≡ record { domain = domain.now; tree = tree } ∷ []) }
+{
+    let own = copy_set(alloc, domain)?;
+    one_piece(alloc, Piece { domain: own, tree })
+}
+
 // The chain at a place, where the first one of the equation has the place `first`.
 pub(crate) fn chain(
     alloc: Global,
@@ -101,11 +138,8 @@ pub(crate) fn chain(
           pieces = record { domain = domain; tree = binary (sign_of op) (pick place (choice_before map.now domain ∷ []) (identity width.bits op)) (view body) } ∷ [];
         }) }
 {
-    let before = own_read(alloc, map, &domain, place, Word::identity(op, width))?;
-    let tree = joined(alloc, op, before, body)?;
-    let own = copy_set(alloc, &domain)?;
-    let mut pieces = List::new(alloc);
-    pieces.push(Piece { domain: own, tree })?;
+    let tree = folded(alloc, width, op, map, &domain, place, body)?;
+    let pieces = whole_piece(alloc, &domain, tree)?;
     Ok(Var {
         name,
         kind: Kind::Partial,

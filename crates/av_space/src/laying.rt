@@ -189,6 +189,45 @@ fn laid(
     })
 }
 
+// The number of cycles, if it is within its limit.
+fn limited_cycles(alloc: Global, timed: &Timed, places: &[usize]) -> Result<u32, SpaceFault>
+    requires legal { IsLegal timed.now }
+    requires places { places.now ≡ places_of (view_system timed.now.flat) }
+    ensures cycles { IfOk result (IsCycles timed.now) }
+    ensures limit { IfOk result (λ cycles. cycles ≤ 4096) }
+    ensures refused { IfErr result (IsSpaceFault timed.now) }
+{
+    let cycles = cycle_count(alloc, timed, places)?;
+    if cycles > MOST_CYCLES {
+        return Err(SpaceFault::Cycles(cycles));
+    }
+    Ok(cycles as u32)
+}
+
+// Refuses a system with too many cells.
+fn limit_cells(
+    alloc: Global,
+    timed: &Timed,
+    places: &[usize],
+    placements: &List<Placement>,
+    cycles: u32,
+) -> Result<(), SpaceFault>
+    requires legal { IsLegal timed.now }
+    requires places { places.now ≡ places_of (view_system timed.now.flat) }
+    requires placings { ArePlacings timed.now.times placements.now }
+    requires cycles { IsCycles timed.now cycles }
+    requires limit { cycles ≤ 4096 }
+    ensures few { OnOk result ((cells : Items CellSeen) × AreCells (view_system timed.now.flat) placements.now cells × (length cells ≤ 2048)) }
+    ensures nodes { OnOk result (length places.now ≤ 2048) }
+    ensures refused { IfErr result (IsSpaceFault timed.now) }
+{
+    let count = cell_count(alloc, timed, places, placements)?;
+    if count > MOST_CELLS {
+        return Err(SpaceFault::Cells(count));
+    }
+    Ok(())
+}
+
 /// The layout of a legal timed system.
 pub(crate) fn layout(alloc: Global, timed: &Timed) -> Result<Layout, SpaceFault>
     requires { IsLegal timed.now }
@@ -196,15 +235,9 @@ pub(crate) fn layout(alloc: Global, timed: &Timed) -> Result<Layout, SpaceFault>
     ensures refused { IfErr result (IsSpaceFault timed.now) }
 {
     let places = places(alloc, &timed.flat)?;
-    let cycles = cycle_count(alloc, timed, places.as_slice())?;
-    if cycles > MOST_CYCLES {
-        return Err(SpaceFault::Cycles(cycles));
-    }
+    let cycles = limited_cycles(alloc, timed, places.as_slice())?;
     let placements = placements(alloc, timed)?;
-    let count = cell_count(alloc, timed, places.as_slice(), &placements)?;
-    if count > MOST_CELLS {
-        return Err(SpaceFault::Cells(count));
-    }
+    limit_cells(alloc, timed, places.as_slice(), &placements, cycles)?;
     let numbers = numbers(alloc, &timed.flat)?;
-    Ok(laid(alloc, timed, placements, places, numbers, cycles as u32)?)
+    Ok(laid(alloc, timed, placements, places, numbers, cycles)?)
 }

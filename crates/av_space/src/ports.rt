@@ -221,6 +221,26 @@ fn end_of(cells: &[Cell], node: usize, first: usize) -> usize
     cells.len()
 }
 
+// Puts the ports of all nodes into the lists.
+fn add_nodes(alloc: Global, timed: &Timed, layout: &Layout, ports: &mut Ports) -> Result<(), Memory>
+    requires legal { IsLegal timed.now }
+    requires layout { IsLayout timed.now layout.now }
+    requires few { (m : ℕ) × IsOperatorCount (view_system timed.now.flat) layout.now.placements layout.now.cells m × (m ≤ 1048576) }
+    requires none { ArePortsOf timed.now layout.now 0 0 0 ports.old }
+    ensures ports { OnOk result (ArePorts (view_system timed.now.flat) timed.now.helpers layout.now.placements layout.now.cells ports.new.inputs) }
+    ensures lines { OnOk result (AreInLines (view_system timed.now.flat) timed.now.helpers layout.now.placements layout.now.cells ports.new.inputs ports.new.ins) }
+    ensures few { OnOk result (length ports.new.inputs ≤ 2 ^ 64) }
+{
+    let cells = layout.cells.as_slice();
+    let mut first = 0;
+    for node in 0..layout.places.as_slice().len() {
+        let last = end_of(cells, node, first);
+        add_node(alloc, timed, layout, node, first, last, ports)?;
+        first = last;
+    }
+    Ok(())
+}
+
 /// The input ports of the array of a legal system, in order, and the lines of the reads at them.
 pub(crate) fn input_ports(alloc: Global, timed: &Timed, layout: &Layout) -> Result<Ports, Memory>
     requires legal { IsLegal timed.now }
@@ -230,16 +250,10 @@ pub(crate) fn input_ports(alloc: Global, timed: &Timed, layout: &Layout) -> Resu
     ensures lines { IfOk result (λ p. AreInLines (view_system timed.now.flat) timed.now.helpers layout.now.placements layout.now.cells p.inputs p.ins) }
     ensures few { IfOk result (λ p. length p.inputs ≤ 2 ^ 64) }
 {
-    let cells = layout.cells.as_slice();
     let mut ports = Ports {
         inputs: List::new(alloc),
         ins: List::new(alloc),
     };
-    let mut first = 0;
-    for node in 0..layout.places.as_slice().len() {
-        let last = end_of(cells, node, first);
-        add_node(alloc, timed, layout, node, first, last, &mut ports)?;
-        first = last;
-    }
+    add_nodes(alloc, timed, layout, &mut ports)?;
     Ok(ports)
 }

@@ -11,7 +11,7 @@ pub(super) type Row = (&'static [&'static str], &'static str, Status, &'static s
 
 /// A status, and the sink that was written to.
 #[derive(Drop)]
-pub(super) struct Answer {
+pub(super) struct Outcome {
     pub(super) status: Status,
     pub(super) sink: MemSink,
 }
@@ -36,11 +36,11 @@ pub(super) fn answered(
     words: &[&str],
     input: List<u8>,
     room: usize,
-) -> Result<Answer, Fail> {
+) -> Result<Outcome, Fail> {
     let mut source = MemSource::new(input, 4096, List::new(alloc));
     let mut sink = MemSink::new(alloc, room, 4096, List::new(alloc))?;
     let status = answer(alloc, words, &mut source, &mut sink)?;
-    Ok(Answer { status, sink })
+    Ok(Outcome { status, sink })
 }
 
 /// The parts of a text, one after another.
@@ -88,7 +88,7 @@ pub(super) fn calls(alloc: Global, call: Option<u64>) -> Result<List<u64>, Fail>
 /// The answer has this status, and this was written.
 pub(super) fn assert_answer(
     rt: &impl Abort,
-    answer: &Answer,
+    answer: &Outcome,
     status: Status,
     out: &str,
     text: &str,
@@ -98,7 +98,7 @@ pub(super) fn assert_answer(
 }
 
 /// The answer has this status, and what was written ends with this.
-pub(super) fn assert_end(rt: &impl Abort, answer: &Answer, status: Status, out: &str) {
+pub(super) fn assert_end(rt: &impl Abort, answer: &Outcome, status: Status, out: &str) {
     assert!(rt; answer.sink.held().ends_with(out.as_bytes()), "{out}");
     assert_eq!(rt; answer.status, status, "{out}");
 }

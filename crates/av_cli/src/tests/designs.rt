@@ -1,7 +1,7 @@
 //! The designs of `emit`, clocked by `sim` with the words of their data at the listed ports and cycles, and with words of
 //! ones on the other ports.
 
-use super::answers::{Answer, Row, answered, assert_rows, extend, joined};
+use super::answers::{Outcome, Row, answered, assert_rows, extend, joined};
 use super::schedules::{CONVOLUTION, FORWARD, LEAST, MATRIX_PRODUCT, NO_POINT, ROW_SUMS};
 use super::tables::DIAGONAL;
 use crate::Status;
@@ -172,7 +172,7 @@ fn designs_show_their_points_whatever_stands_on_idle_ports(rt: HostRuntime) -> R
 }
 
 // Emits a design, and clocks it.
-fn stimulated(alloc: Global, it: &Clocked<'_>) -> Result<Answer, Fail> {
+fn stimulated(alloc: Global, it: &Clocked<'_>) -> Result<Outcome, Fail> {
     let emitted = answered(alloc, it.words, joined(alloc, &[it.text])?, 65536)?;
     let mut text = List::new(alloc);
     extend(&mut text, emitted.sink.held())?;
@@ -181,17 +181,16 @@ fn stimulated(alloc: Global, it: &Clocked<'_>) -> Result<Answer, Fail> {
     extend(&mut text, count.as_bytes())?;
     extend(&mut text, b"\n")?;
     for (cycle, words) in NUMBERS.iter().zip(it.cycles) {
-        put_cycle(&mut text, cycle, words)?;
+        put_cycle(alloc, &mut text, cycle, words)?;
     }
     answered(alloc, &["sim"], text, 4096)
 }
 
 // The lines of a stimulus for one cycle.
-fn put_cycle(text: &mut List<u8>, cycle: &str, words: &[&str]) -> Result<(), Fail> {
+fn put_cycle(alloc: Global, text: &mut List<u8>, cycle: &str, words: &[&str]) -> Result<(), Fail> {
     for (port, word) in PORTS.iter().zip(words) {
-        for part in ["at ", cycle, " ", port, " ", word, "\n"] {
-            extend(text, part.as_bytes())?;
-        }
+        let line = format!(in alloc; "at {cycle} {port} {word}\n")?;
+        extend(text, line.as_bytes())?;
     }
     Ok(())
 }

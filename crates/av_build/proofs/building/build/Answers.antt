@@ -1,4 +1,4 @@
-use Rattle.std.proofs.Common.{refl}
+use Rattle.std.proofs.Common.{refl, ◌∙◌}
 use Rattle.av_build.specs.inner.Built.{array_of}
 use Rattle.av_build.specs.inner.Written.{program_of}
 use Rattle.av_build.proofs.Promised.{few_cycles_of, promised}
@@ -21,4 +21,4 @@ returns c =
     let m = c.in_ok-module.module in
     let small = small_numbers t.flat.width a (array_of t a g.whole.list.placings) g.lanes program m g.is_program c.in_ok-module.ensures
     c.array_fits_memory.ensures.inputs c.array_fits_memory.ensures.outputs c.array_fits_memory.ensures.cells c.array_fits_memory.ensures.helpers c.module_fits_memory.ensures.wires c.module_fits_memory.ensures.registers in
-    promised t.flat.width t a program c.in_ok-copied_listing.field-0 m g refl (few_cycles_of t a c.requires.whole c.requires.within) small c.in_ok-copied_listing.ensures c.in_ok-module.ensures
+    promised t.flat.width t a program c.in_ok-design.design.listing c.in_ok-design.design.«module» g refl (few_cycles_of t a c.requires.whole c.requires.within) small c.in_ok-design.ensures.listing (c.in_ok-design.ensures.made ∙ c.in_ok-module.ensures)

@@ -1,6 +1,6 @@
 use Rattle.std.proofs.lemmas.Iterator.Adapters.{YieldsList-from_vec}
 use Rattle.std.proofs.lemmas.Iterator.Consumers.{YieldsList-from_enumerate, YieldsList-turn}
-use Rattle.std.proofs.Common.{◌≡◌, length}
+use Rattle.std.proofs.Common.{◌≡◌, length, refl}
 use Rattle.av_build.specs.inner.Numbered.{wire_in}
 use Rattle.av_build.proofs.Placing.{number_is, next_port, next_gate}
 use Rattle.av_build.proofs.netlist.add_gates.Goals as goal
@@ -14,6 +14,6 @@ loop-number-preserved c =
     let turn = YieldsList-turn (YieldsList-from_enumerate {s = c.into_iter-number-iterator.result} (YieldsList-from_vec c.args.gates.items (cc) (cc (c.args.gates.ok.0))) (cc)) c.loop-number.yielded c.loop-number.number-iterator c.loop-number.yielded_by c.next.result c.next.new.self (n, g) c.in-Some.is c.next.ensures.steps in
     let at : n ≡ length seen = number_is c.args.gates.items (length seen) n g turn in
     record {
-      wires = next_port name c.args.wires.now c.loop-number.wires c.push.new.self seen n g c.in_ok-wire.field-0 at c.loop-number.invariant.wires c.in_ok-push.ensures.ok c.in_ok-wire.ensures;
-      drives = next_gate name c.args.drives.now c.loop-number.drives c.push-in-loop-number.new.self seen n g c.in_ok-wire-2.field-0 at c.loop-number.invariant.drives c.in_ok-push-2.ensures.ok c.in_ok-wire-2.ensures;
+      wires = next_port name c.args.wires.now c.loop-number.wires c.add_wire.new.wires seen n g (name n) at c.loop-number.invariant.wires c.in_ok-add_wire.ensures refl;
+      drives = next_gate name c.args.drives.now c.loop-number.drives c.add_drive.new.drives seen n g (name n) at c.loop-number.invariant.drives c.in_ok-add_drive.ensures refl;
     }

@@ -7,10 +7,10 @@ use Rattle.av_space.proofs.mapping.map.Goals as goal
 
 pub returns-clause-whole : goal.returns-clause-whole
 returns-clause-whole c =
-    let a = c.in_ok-cells.ensures in
+    let a = c.in_ok-cells.ensures.laid in
     whole_listing c.args.timed.now c.in_ok-cells.cells c.requires.legal c.requires.helped a.array a.few_inputs a.few_outputs a.few_cells
 
 pub returns-clause-complete : goal.returns-clause-complete
 returns-clause-complete c =
-    no_fault c.args.timed.now c.in_ok-layout.layout c.in_ok-layout.ensures.whole c.as_slice-stretches.result.now
-    (subst (λ (links : List Link). LinksOf c.args.timed.now c.in_ok-layout.layout links) (sym c.as_slice-stretches.ensures) c.in_ok-stretches.ensures) c.in_ok-delays.ensures.within
+    no_fault c.args.timed.now c.in_ok-layout.layout c.in_ok-layout.ensures.whole c.as_slice.result.now
+    (subst (λ (links : List Link). LinksOf c.args.timed.now c.in_ok-layout.layout links) (sym c.as_slice.ensures) c.in_ok-stretches.ensures) c.in_ok-cells.ensures.within

@@ -1,6 +1,6 @@
 use Rattle.std.proofs.Common.{◌≡◌, length}
 use Rattle.av_build.specs.inner.Blueprints.{AreLanes}
-use Rattle.av_build.proofs.blueprint.plan_lanes.Given as goal
+use Rattle.av_build.proofs.blueprint.cell_plans.Given as goal
 
 abbrev pub invariant-loop-cell : goal.invariant-loop-cell
 invariant-loop-cell l = record {

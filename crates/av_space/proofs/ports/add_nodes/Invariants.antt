@@ -1,7 +1,7 @@
 use Rattle.std.proofs.Common.{◌≤◌, length}
 use Rattle.av_space.specs.inner.Feeding.{IsFirstOf}
 use Rattle.av_space.specs.inner.NodePieces.{ArePortsOf}
-use Rattle.av_space.proofs.ports.input_ports.Given as goal
+use Rattle.av_space.proofs.ports.add_nodes.Given as goal
 
 abbrev pub invariant-loop-node : goal.invariant-loop-node
 invariant-loop-node l = ArePortsOf l.timed l.layout l.node 0 l.first l.ports × IsFirstOf l.layout.cells l.node l.first × (l.first ≤ length l.layout.cells)
