@@ -21,6 +21,3 @@ pub use inner_product::dot;
 pub use map::{Map, Over};
 pub use rows::Rows;
 pub use square::{Square, is_inverse, multiply};
-
-#[cfg(test)]
-mod tests;

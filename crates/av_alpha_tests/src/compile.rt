@@ -7,7 +7,7 @@ mod schedules;
 mod twice;
 
 use crate::systems::size_list;
-use crate::words::{push_both, push_named, push_place, push_point, push_words};
+use crate::words::{push_both, push_named, push_place, push_point, push_words, same};
 use av_base::{Name, Point, Width};
 use av_compile::{Refusal, checked};
 use av_flat::Quantity;
@@ -274,6 +274,17 @@ fn shown(alloc: Global, text: &str, words: &[(&str, i64)]) -> Result<String, Fai
     Ok(out)
 }
 
+fn assert_shown(
+    rt: &impl Abort,
+    alloc: Global,
+    text: &str,
+    sizes: &[(&str, i64)],
+    wanted: &str,
+) -> Result<(), Fail> {
+    same(rt, shown(alloc, text, sizes)?.as_str(), wanted);
+    Ok(())
+}
+
 fn assert_rows(
     rt: &impl Abort,
     alloc: Global,
@@ -282,14 +293,8 @@ fn assert_rows(
     rows: &[Row],
 ) -> Result<(), Fail> {
     for (body, sizes, wanted) in rows {
-        let mut text = String::from_str(alloc, head)?;
-        text.push_str(body)?;
-        text.push_str(tail)?;
-        assert_eq!(rt;
-            shown(alloc, text.as_str(), sizes)?.as_str(),
-            *wanted,
-            "at {body:?}"
-        );
+        let text = format!(in alloc; "{head}{body}{tail}")?;
+        assert_shown(rt, alloc, text.as_str(), sizes, wanted)?;
     }
     Ok(())
 }
@@ -332,7 +337,7 @@ fn pieces_above_the_limit(rt: HostRuntime) -> Result<(), Fail> {
     let alloc = rt.alloc();
     for (count, wanted) in [(8, "ok"), (9, "pieces 512")] {
         let text = many_cases(alloc, count)?;
-        assert_eq!(&rt; shown(alloc, text.as_str(), &[])?.as_str(), wanted);
+        assert_shown(&rt, alloc, text.as_str(), &[], wanted)?;
     }
     Ok(())
 }

@@ -2,7 +2,7 @@ ghost use Rattle.std.specs.Prelude.{◌<◌, length};
 ghost use Rattle.av_names.specs.Texts.{AreSmall};
 
 use crate::systems::size_list;
-use crate::words::{push_both, push_named, push_place};
+use crate::words::{push_both, push_named, push_number, push_place, push_words, same};
 use av_base::Width;
 use av_flat::{Flat, Quantity};
 use av_lex::{LexFault, lex};
@@ -260,6 +260,11 @@ fn kind_of(quantity: Quantity) -> &'static str {
     }
 }
 
+fn push_limit(out: &mut String, quantity: Quantity, number: u128) -> Result<(), Fail> {
+    push_words(out, "limit ")?;
+    push_number(out, kind_of(quantity), number)
+}
+
 fn push_fault(out: &mut String, fault: &NameFault) -> Result<(), Fail> {
     match fault {
         NameFault::Repeated(name, place) => push_both(out, "repeated", name, *place),
@@ -274,18 +279,9 @@ fn push_fault(out: &mut String, fault: &NameFault) -> Result<(), Fail> {
         NameFault::Projection(place) => push_place(out, "projection", *place),
         NameFault::CaseInReduce(place) => push_place(out, "case in reduce", *place),
         NameFault::DependOnReduce(place) => push_place(out, "dependence on reduce", *place),
-        NameFault::Limit(quantity, number) => {
-            write!(out, "limit {} {number}", kind_of(*quantity))?;
-            Ok(())
-        }
-        NameFault::SizeOutside => {
-            write!(out, "size outside")?;
-            Ok(())
-        }
-        NameFault::Memory => {
-            write!(out, "memory")?;
-            Ok(())
-        }
+        NameFault::Limit(quantity, number) => push_limit(out, *quantity, *number),
+        NameFault::SizeOutside => push_words(out, "size outside"),
+        NameFault::Memory => push_words(out, "memory"),
     }
 }
 
@@ -347,6 +343,17 @@ fn shown(alloc: Global, text: &str, words: &[(&str, i64)]) -> Result<String, Fai
     Ok(out)
 }
 
+fn assert_shown(
+    rt: &impl Abort,
+    alloc: Global,
+    text: &str,
+    sizes: &[(&str, i64)],
+    wanted: &str,
+) -> Result<(), Fail> {
+    same(rt, shown(alloc, text, sizes)?.as_str(), wanted);
+    Ok(())
+}
+
 fn assert_rows(
     rt: &impl Abort,
     alloc: Global,
@@ -355,14 +362,8 @@ fn assert_rows(
     rows: &[Row],
 ) -> Result<(), Fail> {
     for (body, sizes, wanted) in rows {
-        let mut text = String::from_str(alloc, head)?;
-        text.push_str(body)?;
-        text.push_str(tail)?;
-        assert_eq!(rt;
-            shown(alloc, text.as_str(), sizes)?.as_str(),
-            *wanted,
-            "at {body:?}"
-        );
+        let text = format!(in alloc; "{head}{body}{tail}")?;
+        assert_shown(rt, alloc, text.as_str(), sizes, wanted)?;
     }
     Ok(())
 }
@@ -415,16 +416,23 @@ fn deep(alloc: Global, levels: u32) -> Result<String, Fail> {
 #[test]
 fn answers_the_limits_of_numbers(rt: HostRuntime) -> Result<(), Fail> {
     let alloc = rt.alloc();
-    let rows = [
-        (many_variables(alloc, 32)?, "ok 32"),
-        (many_variables(alloc, 33)?, "limit variables 33"),
-        (many_nodes(alloc, 4096)?, "ok 2"),
-        (many_nodes(alloc, 4097)?, "limit nodes 4097"),
-        (deep(alloc, 256)?, "ok 2"),
-        (deep(alloc, 257)?, "depth 4:269"),
-    ];
-    for (text, wanted) in &rows {
-        assert_eq!(&rt; shown(alloc, text.as_str(), N2)?.as_str(), *wanted);
+    for (count, wanted) in [(32, "ok 32"), (33, "limit variables 33")] {
+        let text = many_variables(alloc, count)?;
+        assert_shown(&rt, alloc, text.as_str(), N2, wanted)?;
+    }
+    for (count, wanted) in [(4096, "ok 2"), (4097, "limit nodes 4097")] {
+        let text = many_nodes(alloc, count)?;
+        assert_shown(&rt, alloc, text.as_str(), N2, wanted)?;
+    }
+    Ok(())
+}
+
+#[test]
+fn answers_the_limit_of_levels(rt: HostRuntime) -> Result<(), Fail> {
+    let alloc = rt.alloc();
+    for (levels, wanted) in [(256, "ok 2"), (257, "depth 4:269")] {
+        let text = deep(alloc, levels)?;
+        assert_shown(&rt, alloc, text.as_str(), N2, wanted)?;
     }
     Ok(())
 }

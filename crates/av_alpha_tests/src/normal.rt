@@ -1,40 +1,66 @@
 //! How many pieces the variables of a text keep, or why it has no normal form.
 
+ghost use Rattle.av_flat.specs.Trees.{view_system};
+ghost use Rattle.av_flat.specs.WellFormed.{IsWellFormed};
+
 use crate::systems::system;
-use av_flat::{Pass, Quantity};
+use crate::words::{push_named, push_number, push_words, same};
+use av_flat::{Flat, Pass, Quantity};
 use av_normal::{Normal, NormalFault};
 use std::alloc::Global;
 use std::fmt::Write;
+use std::process::Abort;
 use std::test::Fail;
+
+fn push_limit(out: &mut String, quantity: Quantity, number: u128) -> Result<(), Fail> {
+    let kind = match quantity {
+        Quantity::Coefficient => "coefficient",
+        Quantity::Constant => "constant",
+        Quantity::Constraints => "constraints",
+        Quantity::Coordinate => "coordinate",
+        Quantity::BoxSize => "box",
+        _ => "limit",
+    };
+    push_number(out, kind, number)
+}
 
 fn push_fault(out: &mut String, fault: &NormalFault) -> Result<(), Fail> {
     match fault {
-        NormalFault::Pieces(n) => write!(out, "pieces {n}")?,
-        NormalFault::Unbounded(name) => write!(out, "unbounded {}", name.as_str())?,
-        NormalFault::Limit(Quantity::Coefficient, n) => write!(out, "coefficient {n}")?,
-        NormalFault::Limit(Quantity::Constant, n) => write!(out, "constant {n}")?,
-        NormalFault::Limit(Quantity::Constraints, n) => write!(out, "constraints {n}")?,
-        NormalFault::Limit(Quantity::Coordinate, n) => write!(out, "coordinate {n}")?,
-        NormalFault::Limit(Quantity::BoxSize, n) => write!(out, "box {n}")?,
-        NormalFault::Limit(_, n) => write!(out, "limit {n}")?,
-        NormalFault::Memory => out.push_str("memory")?,
+        NormalFault::Pieces(n) => push_number(out, "pieces", *n),
+        NormalFault::Unbounded(name) => push_named(out, "unbounded", name),
+        NormalFault::Limit(quantity, n) => push_limit(out, *quantity, *n),
+        NormalFault::Memory => push_words(out, "memory"),
+    }
+}
+
+fn push_pieces(out: &mut String, normal: &Flat) -> Result<(), Fail> {
+    for var in normal.vars.as_slice() {
+        write!(
+            out,
+            "{} {};",
+            var.name.as_str(),
+            var.pieces.as_slice().len()
+        )?;
     }
     Ok(())
 }
 
-/// Each variable with the number of its kept pieces, or the fault.
-fn answer(alloc: Global, text: &str) -> Result<String, Fail> {
-    let flat = system(alloc, text, &[])?;
+/// Each variable of the normal form with the number of its kept pieces, or the fault.
+fn answer_of(alloc: Global, flat: &Flat) -> Result<String, Fail>
+    requires { IsWellFormed (view_system flat.now) }
+{
     let mut out = String::new(alloc);
-    match Normal.run(alloc, &flat) {
-        Ok(normal) => {
-            for var in normal.vars.as_slice() {
-                write!(out, "{} {};", var.name.as_str(), var.pieces.as_slice().len())?;
-            }
-        }
+    match Normal.run(alloc, flat) {
+        Ok(normal) => push_pieces(&mut out, &normal)?,
         Err(fault) => push_fault(&mut out, &fault)?,
     }
     Ok(out)
+}
+
+/// The same of a text.
+fn answer(alloc: Global, text: &str) -> Result<String, Fail> {
+    let flat = system(alloc, text, &[])?;
+    answer_of(alloc, &flat)
 }
 
 const ROWS: &[(&str, &str)] = &[
@@ -88,10 +114,15 @@ const ROWS: &[(&str, &str)] = &[
     ),
 ];
 
+fn assert_answer(rt: &impl Abort, alloc: Global, text: &str, wanted: &str) -> Result<(), Fail> {
+    same(rt, answer(alloc, text)?.as_str(), wanted);
+    Ok(())
+}
+
 #[test]
 fn pieces_and_faults(rt: HostRuntime) -> Result<(), Fail> {
     for (text, wanted) in ROWS {
-        assert_eq!(rt; answer(rt.alloc(), text)?.as_str(), *wanted);
+        assert_answer(&rt, rt.alloc(), text, wanted)?;
     }
     Ok(())
 }

@@ -10,21 +10,24 @@ mod limits;
 mod listed;
 mod placed;
 mod rows;
-mod texts;
+pub(crate) mod texts;
 
 use crate::systems::system_with;
-use av_base::Point;
+use crate::words::{push_named, push_words, same};
+use av_base::{Name, Point};
 use av_check::check;
-use av_depend::edges;
-use av_flat::{Flat, Pass, Reach, Timed};
+use av_depend::{Edge, edges};
+use av_flat::{Flat, Pass, Reach, Time, Timed};
 use av_normal::Normal;
 use av_sched::{SchedFault, search};
 use av_serial::Serial;
 use std::alloc::Global;
+use std::fmt::Write;
+use std::process::Abort;
 use std::test::Fail;
 
 /// The serial form of a proper system.
-fn serial_of(alloc: Global, flat: &Flat) -> Result<Flat, Fail>
+pub(crate) fn serial_of(alloc: Global, flat: &Flat) -> Result<Flat, Fail>
     requires { IsWellFormed (view_system flat.now) }
     ensures chained { IfOk result (λ to. IsChained (view_system to)) }
     ensures proper { IfOk result (λ to. IsProper (view_system to)) }
@@ -42,7 +45,7 @@ fn serial_of(alloc: Global, flat: &Flat) -> Result<Flat, Fail>
 }
 
 /// The chained system of a short text with N, where that is not 0.
-fn chained(alloc: Global, text: &str, n: i64) -> Result<Flat, Fail>
+pub(crate) fn chained(alloc: Global, text: &str, n: i64) -> Result<Flat, Fail>
     ensures chained { IfOk result (λ to. IsChained (view_system to)) }
     ensures proper { IfOk result (λ to. IsProper (view_system to)) }
 {
@@ -51,7 +54,7 @@ fn chained(alloc: Global, text: &str, n: i64) -> Result<Flat, Fail>
 }
 
 /// Adds the entries with commas between them.
-fn push_point(to: &mut String, point: &Point) -> Result<(), Fail> {
+pub(crate) fn push_point(to: &mut String, point: &Point) -> Result<(), Fail> {
     let mut first = true;
     for entry in point.as_slice() {
         if !first {
@@ -63,22 +66,55 @@ fn push_point(to: &mut String, point: &Point) -> Result<(), Fail> {
     Ok(())
 }
 
+fn push_time(to: &mut String, name: &Name, time: &Time) -> Result<(), Fail> {
+    if !to.as_str().is_empty() {
+        to.push_str("; ")?;
+    }
+    write!(to, "{} (", name.as_str())?;
+    push_point(to, &time.linear)?;
+    write!(to, ") {}", time.offset)?;
+    Ok(())
+}
+
 /// The lines of a schedule, joined by semicolons.
-fn lines(alloc: Global, timed: &Timed) -> Result<String, Fail> {
+pub(crate) fn lines(alloc: Global, timed: &Timed) -> Result<String, Fail> {
     let mut to = String::new(alloc);
     let mut node: usize = 0;
     for var in timed.flat.vars.as_slice() {
-        if !var.is_node() {
-            continue;
+        if var.is_node() {
+            let time = timed.times.as_slice().get(node).ok_or("time")?;
+            push_time(&mut to, &var.name, time)?;
+            node = node.wrapping_add(1);
         }
-        let time = timed.times.as_slice().get(node).ok_or("time")?;
-        if !to.as_str().is_empty() {
-            to.push_str("; ")?;
-        }
-        write!(&mut to, "{} (", var.name.as_str())?;
-        push_point(&mut to, &time.linear)?;
-        write!(&mut to, ") {}", time.offset)?;
-        node = node.wrapping_add(1);
+    }
+    Ok(to)
+}
+
+fn push_edge(to: &mut String, edge: &Edge) -> Result<(), Fail> {
+    if !to.as_str().is_empty() {
+        to.push_str("; ")?;
+    }
+    write!(to, "{} reads {} at", edge.consumer, edge.producer)?;
+    push_points(to, edge.points.as_slice())
+}
+
+/// Adds points in parentheses.
+pub(crate) fn push_points(to: &mut String, points: &[Point]) -> Result<(), Fail> {
+    for point in points {
+        to.push_str(" (")?;
+        push_point(to, point)?;
+        to.push_str(")")?;
+    }
+    Ok(())
+}
+
+fn edges_of(alloc: Global, flat: &Flat) -> Result<String, Fail>
+    requires chained { IsChained (view_system flat.now) }
+    requires proper { IsProper (view_system flat.now) }
+{
+    let mut to = String::new(alloc);
+    for edge in edges(alloc, flat)?.as_slice() {
+        push_edge(&mut to, edge)?;
     }
     Ok(to)
 }
@@ -86,32 +122,51 @@ fn lines(alloc: Global, timed: &Timed) -> Result<String, Fail> {
 /// The edges of a text as pairs of nodes with their points, joined by semicolons.
 fn edge_lines(alloc: Global, text: &str, n: i64) -> Result<String, Fail> {
     let flat = chained(alloc, text, n)?;
-    let mut to = String::new(alloc);
-    for edge in edges(alloc, &flat)?.as_slice() {
-        if !to.as_str().is_empty() {
-            to.push_str("; ")?;
+    edges_of(alloc, &flat)
+}
+
+fn push_fault(out: &mut String, fault: &SchedFault) -> Result<(), Fail> {
+    match fault {
+        SchedFault::Candidates(many) => {
+            write!(out, "candidates {many}")?;
+            Ok(())
         }
-        write!(&mut to, "{} reads {} at", edge.consumer, edge.producer)?;
-        for point in edge.points.as_slice() {
-            to.push_str(" (")?;
-            push_point(&mut to, point)?;
-            to.push_str(")")?;
+        SchedFault::NoSchedule(name) => push_named(out, "no schedule", name),
+        SchedFault::Memory => push_words(out, "memory"),
+    }
+}
+
+/// What the search in a box says of a system.
+fn found(alloc: Global, flat: &Flat, reach: Reach) -> Result<String, Fail>
+    requires chained { IsChained (view_system flat.now) }
+    requires proper { IsProper (view_system flat.now) }
+{
+    let edges = edges(alloc, flat)?;
+    match search(alloc, flat, edges.as_slice(), reach) {
+        Ok(timed) => lines(alloc, &timed),
+        Err(fault) => {
+            let mut out = String::new(alloc);
+            push_fault(&mut out, &fault)?;
+            Ok(out)
         }
     }
-    Ok(to)
 }
 
 /// What the search in a box says of a text.
 fn schedule(alloc: Global, text: &str, n: i64, size: u32) -> Result<String, Fail> {
-    let flat = chained(alloc, text, n)?;
     let reach = Reach::new(size).ok_or("reach")?;
-    let edges = edges(alloc, &flat)?;
-    match search(alloc, &flat, edges.as_slice(), reach) {
-        Ok(timed) => lines(alloc, &timed),
-        Err(SchedFault::Candidates(many)) => Ok(format!(in alloc; "candidates {many}")?),
-        Err(SchedFault::NoSchedule(name)) => {
-            Ok(format!(in alloc; "no schedule {}", name.as_str())?)
-        }
-        Err(SchedFault::Memory) => Err(Fail::new("memory")),
-    }
+    let flat = chained(alloc, text, n)?;
+    found(alloc, &flat, reach)
+}
+
+fn assert_schedule(
+    rt: &impl Abort,
+    alloc: Global,
+    text: &str,
+    n: i64,
+    size: u32,
+    wanted: &str,
+) -> Result<(), Fail> {
+    same(rt, schedule(alloc, text, n, size)?.as_str(), wanted);
+    Ok(())
 }

@@ -3,13 +3,15 @@
 ghost use Rattle.std.specs.Prelude.{◌<◌, ◌≤◌, length, unsigned_abs, IfOk, OnOk};
 ghost use Rattle.av_flat.specs.Trees.{view_system};
 ghost use Rattle.av_flat.specs.WellFormed.{IsWellFormed};
-ghost use Rattle.av_names.specs.Texts.{AreSmall};
+ghost use Rattle.av_names.specs.Texts.{AreSmall, IsOfText};
+ghost use Rattle.av_tree.specs.Trees.{view_system as view_tree};
 
 use av_base::{Memory, Name, Width};
 use av_flat::Flat;
 use av_lex::lex;
 use av_names::{Size, resolve};
 use av_parse::parse;
+use av_tree::System;
 use std::alloc::Global;
 use std::test::Fail;
 
@@ -37,36 +39,56 @@ pub(crate) fn size_list(alloc: Global, words: &[(&str, i64)]) -> Result<Vec<Size
     Ok(sizes)
 }
 
-// The system of a text, in words of 8 bits.
-fn flat_of(alloc: Global, text: &str, sizes: &[Size]) -> Result<Flat, Fail>
-    requires text { length text.now < 4294967295 }
-    requires sizes { AreSmall sizes.now }
-    ensures { IfOk result (λ flat. IsWellFormed (view_system flat)) }
+// The tree of a text.
+#[tactic(auto, using(av_names::proofs::OfText::of_text))]
+fn tree_of(alloc: Global, text: &str) -> Result<System, Fail>
+    requires { length text.now < 4294967295 }
+    ensures { IfOk result (λ tree. IsOfText (view_tree tree)) }
 {
     let Ok(tokens) = lex(alloc, text.as_bytes()) else {
         return Err(Fail::new("tokens"));
     };
-    let Ok(system) = parse(alloc, tokens.as_slice()) else {
-        return Err(Fail::new("system"));
-    };
-    let Some(width) = Width::new(8) else {
-        return Err(Fail::new("width"));
-    };
-    match resolve(alloc, &system, sizes, width) {
+    match parse(alloc, tokens.as_slice()) {
+        Ok(tree) => Ok(tree),
+        Err(_) => Err(Fail::new("system")),
+    }
+}
+
+// The system of a text.
+fn flat_of(alloc: Global, text: &str, sizes: &[Size], width: Width) -> Result<Flat, Fail>
+    requires text { length text.now < 4294967295 }
+    requires sizes { AreSmall sizes.now }
+    ensures { IfOk result (λ flat. IsWellFormed (view_system flat)) }
+{
+    let tree = tree_of(alloc, text)?;
+    match resolve(alloc, &tree, sizes, width) {
         Ok(flat) => Ok(flat),
         Err(_) => Err(Fail::new("flat")),
     }
+}
+
+/// The system of a short text with these sizes, in words of so many bits.
+pub(crate) fn system_at(
+    alloc: Global,
+    text: &str,
+    words: &[(&str, i64)],
+    bits: u32,
+) -> Result<Flat, Fail>
+    ensures { IfOk result (λ flat. IsWellFormed (view_system flat)) }
+{
+    let sizes = size_list(alloc, words)?;
+    let width = Width::new(bits).ok_or("width")?;
+    if text.len() > 100_000 {
+        return Err(Fail::new("long"));
+    }
+    flat_of(alloc, text, sizes.as_slice(), width)
 }
 
 /// The system of a short text with these sizes, in words of 8 bits.
 pub(crate) fn system(alloc: Global, text: &str, words: &[(&str, i64)]) -> Result<Flat, Fail>
     ensures { IfOk result (λ flat. IsWellFormed (view_system flat)) }
 {
-    let sizes = size_list(alloc, words)?;
-    if text.len() > 100_000 {
-        return Err(Fail::new("long"));
-    }
-    flat_of(alloc, text, sizes.as_slice())
+    system_at(alloc, text, words, 8)
 }
 
 /// The system of a short text with N, where that is not 0, in words of 8 bits.

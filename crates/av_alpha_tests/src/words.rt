@@ -2,11 +2,18 @@
 
 use av_base::{Name, Place, Point};
 use std::fmt::Write;
+use std::process::Abort;
 use std::test::Fail;
 
 /// Adds words.
 pub(crate) fn push_words(out: &mut String, words: &str) -> Result<(), Fail> {
     out.push_str(words)?;
+    Ok(())
+}
+
+/// Adds a number behind what is said of it.
+pub(crate) fn push_number(out: &mut String, kind: &str, number: u128) -> Result<(), Fail> {
+    write!(out, "{kind} {number}")?;
     Ok(())
 }
 
@@ -23,13 +30,23 @@ pub(crate) fn push_place(out: &mut String, kind: &str, place: Place) -> Result<(
 }
 
 /// Adds a name and its place.
-pub(crate) fn push_both(out: &mut String, kind: &str, name: &Name, place: Place) -> Result<(), Fail> {
+pub(crate) fn push_both(
+    out: &mut String,
+    kind: &str,
+    name: &Name,
+    place: Place,
+) -> Result<(), Fail> {
     push_named(out, kind, name)?;
     push_place(out, "", place)
 }
 
 /// Adds a point of a variable.
-pub(crate) fn push_point(out: &mut String, kind: &str, name: &Name, point: &Point) -> Result<(), Fail> {
+pub(crate) fn push_point(
+    out: &mut String,
+    kind: &str,
+    name: &Name,
+    point: &Point,
+) -> Result<(), Fail> {
     push_named(out, kind, name)?;
     let mut before = " (";
     for entry in point.as_slice() {
@@ -37,4 +54,9 @@ pub(crate) fn push_point(out: &mut String, kind: &str, name: &Name, point: &Poin
         before = ",";
     }
     push_words(out, ")")
+}
+
+/// Both texts are one.
+pub(crate) fn same(rt: &impl Abort, found: &str, wanted: &str) {
+    assert_eq!(rt; found, wanted);
 }

@@ -16,8 +16,6 @@ mod sink;
 mod source;
 mod spelling;
 mod stream;
-#[cfg(test)]
-mod tests;
 mod token_kind;
 mod width;
 mod word;

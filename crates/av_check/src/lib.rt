@@ -11,8 +11,6 @@ mod order;
 mod outside;
 mod overlap;
 mod sets;
-#[cfg(test)]
-mod tests;
 mod verdict;
 
 pub use checking::check;

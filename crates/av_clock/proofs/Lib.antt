@@ -4,7 +4,6 @@ pub mod Resolved
 pub mod Settling
 pub mod Edges
 pub mod Views
-pub mod SampleSound
 pub mod Runs
 pub mod Marking
 pub mod Reading

@@ -37,6 +37,3 @@ pub use schedule::write_schedule;
 pub use stimulus::{Given, Stimulus, read_stimulus};
 pub use table::{write_table, write_totals};
 pub use timeline::Timeline;
-
-#[cfg(test)]
-mod tests;

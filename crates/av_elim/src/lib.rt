@@ -8,8 +8,6 @@ mod laws;
 mod merge;
 mod shadow;
 mod span;
-#[cfg(test)]
-mod tests;
 
 pub use bounding::{Elim, bounds};
 pub use extent::box_of;

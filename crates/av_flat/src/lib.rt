@@ -25,6 +25,3 @@ pub use solved::{
 pub use then::{Then, ThenFault};
 pub use timed::{Helper, Reach, Time, Timed};
 pub use tree::{Choice, Tree};
-
-#[cfg(test)]
-mod tests;

@@ -13,6 +13,3 @@ pub use fault::LexFault;
 pub use laws::{one_token_list, tokens_or_fault};
 pub use lexer::lex;
 pub use token::Token;
-
-#[cfg(test)]
-mod tests;

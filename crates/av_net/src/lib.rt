@@ -16,6 +16,3 @@ pub use netlist::{Drive, Module, Port, Step};
 pub use operation::{Operand, Operation, Symbol};
 pub use spelling::{begins_name, is_keyword};
 pub use token_kind::TokenKind;
-
-#[cfg(test)]
-mod tests;

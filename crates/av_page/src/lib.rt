@@ -5,6 +5,3 @@
 mod page;
 
 pub use page::Page;
-
-#[cfg(test)]
-mod tests;

@@ -6,8 +6,6 @@ mod direction;
 mod laws;
 mod pipe;
 mod site;
-#[cfg(test)]
-mod tests;
 mod whole;
 
 pub use laws::{

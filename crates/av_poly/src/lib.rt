@@ -10,8 +10,6 @@ mod parts;
 mod poly;
 mod row;
 mod search;
-#[cfg(test)]
-mod tests;
 
 pub use copy::{copy_rows, copy_set, normalised_copy};
 pub use laws::normalised_rows_are_unique;

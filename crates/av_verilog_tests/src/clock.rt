@@ -2,10 +2,12 @@
 
 ghost use Rattle.std.specs.Prelude.{◌≡◌, ◌<◌, length, slice_get, IsTrue};
 ghost use Rattle.std.specs.Option.{ForSome};
+ghost use Rattle.av_net.specs.Sound.{IsSound};
 
 use crate::designs::design;
 use av_clock::Clock;
 use av_net::Module;
+use std::alloc::Global;
 use std::process::Abort;
 use std::test::Fail;
 
@@ -38,13 +40,13 @@ endmodule
 ";
 
 // Whether the module has the input and the drives of the sample.
-fn is_sample(module: &Module) -> bool
-    ensures inputs { IsTrue result → length module.now.inputs ≡ 1 }
-    ensures drives { IsTrue result → length module.now.drives ≡ 6 }
-    ensures width { IsTrue result → ForSome (slice_get module.now.inputs 0) (λ p. p.width.bits ≡ 8) }
+fn is_sample(of: &Module) -> bool
+    ensures inputs { IsTrue result → length of.now.inputs ≡ 1 }
+    ensures drives { IsTrue result → length of.now.drives ≡ 6 }
+    ensures width { IsTrue result → ForSome (slice_get of.now.inputs 0) (λ p. p.width.bits ≡ 8) }
 {
-    let inputs = module.inputs.as_slice();
-    inputs.len() == 1 && inputs[0].width.bits == 8 && module.drives.as_slice().len() == 6
+    let inputs = of.inputs.as_slice();
+    inputs.len() == 1 && inputs[0].width.bits == 8 && of.drives.as_slice().len() == 6
 }
 
 // The words of `o0`, `o1`, `o2` and `o3` in one cycle with this word at the port.
@@ -91,18 +93,24 @@ fn assert_cycles(rt: &impl Abort, clock: &mut Clock<'_>)
     assert_cycle(rt, clock, 0, [2, 1, 1, 3]);
 }
 
-#[test]
-fn a_sample_is_clocked(rt: HostRuntime) -> Result<(), Fail> {
-    let alloc = rt.alloc();
-    let design = design(alloc, SAMPLE)?;
-    if !is_sample(&design.module) {
+// The cycles of the sample, and one more from a reset.
+fn assert_sample(rt: &impl Abort, alloc: Global, of: &Module) -> Result<(), Fail>
+    requires { IsSound of.now }
+{
+    if !is_sample(of) {
         return Err(Fail::new("the sample"));
     }
-    let mut clock = Clock::new(alloc, &design.module)?;
-    assert_cycles(&rt, &mut clock);
+    let mut clock = Clock::new(alloc, of)?;
+    assert_cycles(rt, &mut clock);
     clock.reset();
-    assert_cycle(&rt, &mut clock, 4, [1, 2, 5, 4]);
+    assert_cycle(rt, &mut clock, 4, [1, 2, 5, 4]);
     Ok(())
+}
+
+#[test]
+fn a_sample_is_clocked(rt: HostRuntime) -> Result<(), Fail> {
+    let design = design(rt.alloc(), SAMPLE)?;
+    assert_sample(&rt, rt.alloc(), &design.module)
 }
 
 // The drives that are computed in a cycle.
@@ -129,14 +137,19 @@ fn works(clock: &mut Clock<'_>) -> [u64; 3]
     [first, later, clock.value(0)]
 }
 
-#[test]
-fn a_register_that_takes_itself_is_no_work(rt: HostRuntime) -> Result<(), Fail> {
-    let alloc = rt.alloc();
-    let design = design(alloc, STILL)?;
-    if design.module.drives.as_slice().is_empty() {
+fn assert_works(rt: &impl Abort, alloc: Global, of: &Module) -> Result<(), Fail>
+    requires { IsSound of.now }
+{
+    if of.drives.as_slice().is_empty() {
         return Err(Fail::new("drives"));
     }
-    let mut clock = Clock::new(alloc, &design.module)?;
+    let mut clock = Clock::new(alloc, of)?;
     assert_eq!(rt; works(&mut clock), [1, 0, 3]);
     Ok(())
+}
+
+#[test]
+fn a_register_that_takes_itself_is_no_work(rt: HostRuntime) -> Result<(), Fail> {
+    let design = design(rt.alloc(), STILL)?;
+    assert_works(&rt, rt.alloc(), &design.module)
 }

@@ -2,7 +2,7 @@
 
 use crate::designs::{assert_text, design, read};
 use crate::words::{push_named, push_place, push_words, same};
-use av_net::{Entry, Module};
+use av_net::{Design, Entry, Module};
 use av_vread::{VFault, design_or_fault, one_design, one_text, read_back, spelled_is_sound};
 use std::alloc::Global;
 use std::fmt::Write;
@@ -64,12 +64,22 @@ fn listed(alloc: Global, entries: &[Entry]) -> Result<String, Fail> {
     Ok(lines)
 }
 
-fn assert_listed(rt: &impl Abort, alloc: Global, entries: &[Entry], wanted: &str) -> Result<(), Fail> {
+fn assert_listed(
+    rt: &impl Abort,
+    alloc: Global,
+    entries: &[Entry],
+    wanted: &str,
+) -> Result<(), Fail> {
     same(rt, listed(alloc, entries)?.as_str(), wanted);
     Ok(())
 }
 
-fn assert_drives(rt: &impl Abort, alloc: Global, module: &Module, wanted: &str) -> Result<(), Fail> {
+fn assert_drives(
+    rt: &impl Abort,
+    alloc: Global,
+    module: &Module,
+    wanted: &str,
+) -> Result<(), Fail> {
     let mut text = String::new(alloc);
     write!(text, "{:?}", module.drives)?;
     same(rt, text.as_str(), wanted);
@@ -85,21 +95,22 @@ fn laws() {
     one_text();
 }
 
+const DRIVES: &str =
+    "List { items: [Drive { target: Name { text: \"c0\" }, operation: Binary { left: Name(Name { text: \"i0\" }), symbol: Add, right: Literal { width: Width { bits: 8 }, value: 1 } } }, Drive { target: Name { text: \"o0\" }, operation: Plain(Name(Name { text: \"c0\" })) }] }";
+
+fn assert_increment(rt: &impl Abort, alloc: Global, read: &Design) -> Result<(), Fail> {
+    assert_eq!(rt; read.module.wires.as_slice().len(), 1);
+    assert_drives(rt, alloc, &read.module, DRIVES)?;
+    let ins = read.listing.ins.as_slice();
+    assert_listed(rt, alloc, ins, "X [0] i0 0;X [1] i0 1;X [2] i0 2;")?;
+    let ats = read.listing.ats.as_slice();
+    assert_listed(rt, alloc, ats, "Y [0] o0 0;Y [1] o0 1;Y [2] o0 2;")
+}
+
 #[test]
 fn the_increment_is_read(rt: HostRuntime) -> Result<(), Fail> {
-    let alloc = rt.alloc();
-    let read = design(alloc, INCREMENT)?;
-    assert_eq!(rt; read.module.wires.as_slice().len(), 1);
-    assert_drives(
-        &rt,
-        alloc,
-        &read.module,
-        "List { items: [Drive { target: Name { text: \"c0\" }, operation: Binary { left: Name(Name { text: \"i0\" }), symbol: Add, right: Literal { width: Width { bits: 8 }, value: 1 } } }, Drive { target: Name { text: \"o0\" }, operation: Plain(Name(Name { text: \"c0\" })) }] }",
-    )?;
-    let ins = read.listing.ins.as_slice();
-    assert_listed(&rt, alloc, ins, "X [0] i0 0;X [1] i0 1;X [2] i0 2;")?;
-    let ats = read.listing.ats.as_slice();
-    assert_listed(&rt, alloc, ats, "Y [0] o0 0;Y [1] o0 1;Y [2] o0 2;")
+    let read = design(rt.alloc(), INCREMENT)?;
+    assert_increment(&rt, rt.alloc(), &read)
 }
 
 // One design, as it is written and as a person may write it.
@@ -223,7 +234,9 @@ const LISTINGS: &[(&str, &str)] = &[
 // These lines before the module.
 fn below(alloc: Global, lines: &str) -> Result<String, Fail> {
     let mut text = String::from_str(alloc, lines)?;
-    text.push_str("module m(input clk, input rst, input i, output o);\nwire w;\nassign w = i;\nassign o = w;\nendmodule\n")?;
+    text.push_str(
+        "module m(input clk, input rst, input i, output o);\nwire w;\nassign w = i;\nassign o = w;\nendmodule\n",
+    )?;
     Ok(text)
 }
 
@@ -400,12 +413,18 @@ fn long(alloc: Global) -> Result<String, Fail> {
     Ok(text)
 }
 
+// How many drives and listed points are read.
+fn counts(alloc: Global, text: &str) -> Result<[usize; 2], Fail> {
+    let read = design(alloc, text)?;
+    Ok([
+        read.module.drives.as_slice().len(),
+        read.listing.ats.as_slice().len(),
+    ])
+}
+
 #[test]
 fn many_names(rt: HostRuntime) -> Result<(), Fail> {
-    let alloc = rt.alloc();
-    let text = long(alloc)?;
-    let read = design(alloc, text.as_str())?;
-    assert_eq!(rt; read.module.drives.as_slice().len(), 20_000);
-    assert_eq!(rt; read.listing.ats.as_slice().len(), 4_095);
+    let text = long(rt.alloc())?;
+    assert_eq!(rt; counts(rt.alloc(), text.as_str())?, [20_000, 4_095]);
     Ok(())
 }

@@ -188,14 +188,19 @@ fn add_steps(alloc: Global, steps: &mut List<Step>) -> Result<(), Memory> {
     Ok(())
 }
 
-// Each operation, symbol and kind of line. It is no sound design: `w` is driven more than once, `r0` is
-// declared twice and `r1_0` not at all.
-fn everything(alloc: Global) -> Result<Design, Fail> {
-    let mut design = design(alloc, INCREMENT)?;
+fn add_all(alloc: Global, design: &mut Design) -> Result<(), Fail> {
     add_entries(alloc, &mut design.listing.ats)?;
     add_ports(alloc, &mut design.module)?;
     add_drives(alloc, &mut design.module.drives)?;
     add_steps(alloc, &mut design.module.steps)?;
+    Ok(())
+}
+
+// Each operation, symbol and kind of line. It is no sound design: `w` is driven more than once, `r0` is
+// declared twice and `r1_0` not at all.
+fn everything(alloc: Global) -> Result<Design, Fail> {
+    let mut design = design(alloc, INCREMENT)?;
+    add_all(alloc, &mut design)?;
     Ok(design)
 }
 
@@ -203,10 +208,15 @@ fn everything(alloc: Global) -> Result<Design, Fail> {
 
 #[test]
 fn the_text_of_a_design(rt: HostRuntime) -> Result<(), Fail> {
-    let alloc = rt.alloc();
-    let design = design(alloc, INCREMENT)?;
+    let design = design(rt.alloc(), INCREMENT)?;
+    assert_text(&rt, rt.alloc(), &design, INCREMENT)
+}
+
+#[test]
+fn an_honest_sink_takes_a_design(rt: HostRuntime) -> Result<(), Fail> {
+    let design = design(rt.alloc(), INCREMENT)?;
     write_design(&design, &mut HonestSink::new())?;
-    assert_text(&rt, alloc, &design, INCREMENT)
+    Ok(())
 }
 
 #[test]
@@ -234,14 +244,23 @@ fn assert_fault(rt: &impl Abort, design: &Design, sink: &mut MemSink, held: &[u8
     assert_eq!(rt; sink.held(), held);
 }
 
-#[test]
-fn a_sink_may_fail_at_each_call_and_be_full_at_each_byte(rt: HostRuntime) -> Result<(), Fail> {
-    let alloc = rt.alloc();
-    let design = design(alloc, INCREMENT)?;
-    let text = INCREMENT.as_bytes();
-    for n in 0..text.len() {
-        assert_fault(&rt, &design, &mut failing(alloc, n as u64)?, &text[..n]);
-        assert_fault(&rt, &design, &mut full(alloc, n)?, &text[..n]);
+// The same at this call of a sink, and at this byte of another.
+fn assert_faults(rt: &impl Abort, alloc: Global, design: &Design, at: usize) -> Result<(), Fail> {
+    let held = INCREMENT.as_bytes().get(..at).ok_or("a byte")?;
+    assert_fault(rt, design, &mut failing(alloc, at as u64)?, held);
+    assert_fault(rt, design, &mut full(alloc, at)?, held);
+    Ok(())
+}
+
+fn assert_all_faults(rt: &impl Abort, alloc: Global, design: &Design) -> Result<(), Fail> {
+    for at in 0..INCREMENT.len() {
+        assert_faults(rt, alloc, design, at)?;
     }
     Ok(())
+}
+
+#[test]
+fn a_sink_may_fail_at_each_call_and_be_full_at_each_byte(rt: HostRuntime) -> Result<(), Fail> {
+    let design = design(rt.alloc(), INCREMENT)?;
+    assert_all_faults(&rt, rt.alloc(), &design)
 }

@@ -8,6 +8,3 @@ mod writer;
 
 pub use listing::{write_entry, write_point};
 pub use writer::write_design;
-
-#[cfg(test)]
-mod tests;

@@ -3,11 +3,9 @@
 ghost use Rattle.std.specs.Prelude.{◌<◌, length};
 ghost use Rattle.av_names.specs.Texts.{AreSmall};
 
-use super::{
-    CONVOLUTION, FORWARD, MATRIX_PRODUCT, MATRIX_VECTOR, N4, STEPS, SUMS, push_refusal,
-};
+use super::{CONVOLUTION, FORWARD, MATRIX_PRODUCT, MATRIX_VECTOR, N4, STEPS, SUMS, push_refusal};
 use crate::systems::size_list;
-use crate::words::push_point;
+use crate::words::{push_point, same};
 use av_base::Width;
 use av_compile::scheduled;
 use av_flat::{Reach, Timed};
@@ -159,13 +157,15 @@ fn shown(alloc: Global, text: &str, words: &[(&str, i64)], size: u32) -> Result<
     Ok(out)
 }
 
+fn assert_row(rt: &impl Abort, alloc: Global, text: &str, row: &Row) -> Result<(), Fail> {
+    let (_, sizes, size, wanted) = row;
+    same(rt, shown(alloc, text, sizes, *size)?.as_str(), wanted);
+    Ok(())
+}
+
 fn assert_rows(rt: &impl Abort, alloc: Global, rows: &[Row]) -> Result<(), Fail> {
-    for (text, sizes, size, wanted) in rows {
-        assert_eq!(rt;
-            shown(alloc, text, sizes, *size)?.as_str(),
-            *wanted,
-            "at {text:?}"
-        );
+    for row in rows {
+        assert_row(rt, alloc, row.0, row)?;
     }
     Ok(())
 }
@@ -173,14 +173,9 @@ fn assert_rows(rt: &impl Abort, alloc: Global, rows: &[Row]) -> Result<(), Fail>
 #[test]
 fn the_schedule_of_the_matrix_vector_product(rt: HostRuntime) -> Result<(), Fail> {
     let alloc = rt.alloc();
-    let mut text = String::from_str(alloc, MATRIX_VECTOR)?;
-    text.push_str(STEPS)?;
-    text.push_str(" tel;")?;
-    assert_eq!(rt;
-        shown(alloc, text.as_str(), N4, 4)?.as_str(),
-        "times C (1) 4; s (1,1) -1"
-    );
-    Ok(())
+    let text = format!(in alloc; "{MATRIX_VECTOR}{STEPS} tel;")?;
+    let row = ("", N4, 4, "times C (1) 4; s (1,1) -1");
+    assert_row(&rt, alloc, text.as_str(), &row)
 }
 
 #[test]

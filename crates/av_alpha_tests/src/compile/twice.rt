@@ -6,10 +6,12 @@ ghost use Rattle.av_flat.specs.WellFormed.{IsWellFormed};
 
 use super::{MATRIX_VECTOR, STEPS};
 use crate::systems::system;
-use av_flat::{Flat, Kind, Pass, Then};
+use crate::words::same;
+use av_flat::{Flat, Pass, Then};
 use av_normal::Normal;
 use std::alloc::Global;
 use std::fmt::Write;
+use std::process::Abort;
 use std::test::Fail;
 
 const N2: &[(&str, i64)] = &[("N", 2)];
@@ -18,45 +20,61 @@ const N2: &[(&str, i64)] = &[("N", 2)];
 fn matrix_vector(alloc: Global) -> Result<Flat, Fail>
     ensures { IfOk result (λ flat. IsWellFormed (view_system flat)) }
 {
-    let mut text = String::from_str(alloc, MATRIX_VECTOR)?;
-    text.push_str(STEPS)?;
-    text.push_str(" tel;")?;
+    let text = format!(in alloc; "{MATRIX_VECTOR}{STEPS} tel;")?;
     system(alloc, text.as_str(), N2)
 }
 
-fn kind_and_pieces(flat: &Flat, place: usize) -> Option<(Kind, usize)> {
-    let var = flat.vars.as_slice().get(place)?;
-    Some((var.kind, var.pieces.as_slice().len()))
+fn push_kinds(out: &mut String, flat: &Flat) -> Result<(), Fail> {
+    for var in flat.vars.as_slice() {
+        write!(out, "{:?} {};", var.kind, var.pieces.as_slice().len())?;
+    }
+    Ok(())
+}
+
+/// The kinds of the variables and the numbers of their pieces.
+fn assert_kinds(rt: &impl Abort, alloc: Global, flat: &Flat, wanted: &str) -> Result<(), Fail> {
+    let mut out = String::new(alloc);
+    push_kinds(&mut out, flat)?;
+    same(rt, out.as_str(), wanted);
+    Ok(())
+}
+
+/// Both are shown as one text.
+fn assert_same(rt: &impl Abort, alloc: Global, once: &Flat, twice: &Flat) -> Result<(), Fail> {
+    let first = format!(in alloc; "{once:?}")?;
+    let second = format!(in alloc; "{twice:?}")?;
+    same(rt, first.as_str(), second.as_str());
+    Ok(())
+}
+
+/// The normal form after the normal form.
+fn normal_twice(alloc: Global, flat: &Flat) -> Result<Flat, Fail>
+    requires { IsWellFormed (view_system flat.now) }
+{
+    let twice = Then {
+        first: Normal,
+        second: Normal,
+    };
+    match twice.run(alloc, flat) {
+        Ok(twice) => Ok(twice),
+        Err(_) => Err(Fail::new("a normal form of the normal form")),
+    }
+}
+
+fn assert_twice(rt: &impl Abort, alloc: Global, flat: &Flat, once: &Flat) -> Result<(), Fail>
+    requires { IsWellFormed (view_system flat.now) }
+{
+    assert_kinds(rt, alloc, once, "Input 0;Input 0;Output 1;Local 2;")?;
+    let twice = normal_twice(alloc, flat)?;
+    assert_same(rt, alloc, once, &twice)
 }
 
 #[test]
 fn the_normal_form_is_its_own_normal_form(rt: HostRuntime) -> Result<(), Fail> {
     let alloc = rt.alloc();
     let flat = matrix_vector(alloc)?;
-    let Ok(once) = Normal.run(alloc, &flat) else {
-        return Err(Fail::from("a normal form"));
-    };
-    let twice = Then {
-        first: Normal,
-        second: Normal,
-    };
-    let Ok(twice) = twice.run(alloc, &flat) else {
-        return Err(Fail::from("a normal form of the normal form"));
-    };
-    let pieces = [
-        (Kind::Input, 0),
-        (Kind::Input, 0),
-        (Kind::Output, 1),
-        (Kind::Local, 2),
-    ];
-    for place in 0..pieces.len() {
-        assert_eq!(rt; kind_and_pieces(&once, place), Some(pieces[place]));
+    match Normal.run(alloc, &flat) {
+        Ok(once) => assert_twice(&rt, alloc, &flat, &once),
+        Err(_) => Err(Fail::new("a normal form")),
     }
-    assert_eq!(rt; kind_and_pieces(&once, pieces.len()), None);
-    let mut first = String::new(alloc);
-    let mut second = String::new(alloc);
-    write!(first, "{once:?}")?;
-    write!(second, "{twice:?}")?;
-    assert_eq!(rt; first.as_str(), second.as_str());
-    Ok(())
 }

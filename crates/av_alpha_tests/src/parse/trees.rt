@@ -1,6 +1,7 @@
 //! Trees in one line, for the tables of the tests.
 
-use av_base::Place;
+use crate::words::push_words;
+use av_base::{Op, Place};
 use av_tree::{
     Access, Constraint, Declaration, DomainText, Equation, Expr, IndexExpr, MapText, Relation,
     Sign, System,
@@ -42,7 +43,7 @@ fn push_index(out: &mut String, index: &IndexExpr) -> Result<(), Fail> {
             write!(out, "{}", name.as_str())?;
         }
         push_place(out, term.place)?;
-        write!(out, " ")?;
+        push_words(out, " ")?;
     }
     push_place(out, index.place)
 }
@@ -55,29 +56,29 @@ fn push_constraint(out: &mut String, constraint: &Constraint) -> Result<(), Fail
 
 /// The names, then the comparisons, each behind a `;`, then the place.
 pub(super) fn push_domain(out: &mut String, domain: &DomainText) -> Result<(), Fail> {
-    write!(out, "{{")?;
+    push_words(out, "{")?;
     for name in domain.names.as_slice() {
         write!(out, "{} ", name.as_str())?;
     }
     for constraint in domain.constraints.as_slice() {
-        write!(out, "; ")?;
+        push_words(out, "; ")?;
         push_constraint(out, constraint)?;
     }
-    write!(out, "}}")?;
+    push_words(out, "}")?;
     push_place(out, domain.place)
 }
 
 fn push_map(out: &mut String, map: &MapText) -> Result<(), Fail> {
-    write!(out, "(")?;
+    push_words(out, "(")?;
     for name in map.names.as_slice() {
         write!(out, "{} ", name.as_str())?;
     }
-    write!(out, "->")?;
+    push_words(out, "->")?;
     for result in map.results.as_slice() {
-        write!(out, " ")?;
+        push_words(out, " ")?;
         push_index(out, result)?;
     }
-    write!(out, ")")?;
+    push_words(out, ")")?;
     push_place(out, map.place)
 }
 
@@ -85,114 +86,153 @@ fn push_access(out: &mut String, access: &Access) -> Result<(), Fail> {
     match access {
         Access::Here => Ok(()),
         Access::Indices(indices) => {
-            write!(out, "[")?;
+            push_words(out, "[")?;
             for index in indices.as_slice() {
                 push_index(out, index)?;
-                write!(out, ";")?;
+                push_words(out, ";")?;
             }
-            write!(out, "]")?;
-            Ok(())
+            push_words(out, "]")
         }
         Access::Mapped(map) => {
-            write!(out, ".")?;
+            push_words(out, ".")?;
             push_map(out, map)
         }
     }
 }
 
-/// The expression, each part of it followed by its place, down to a depth.
-pub(super) fn push_expr(out: &mut String, expr: &Expr, depth: u32) -> Result<(), Fail> {
-    if depth == 0 {
-        write!(out, "..")?;
-        return Ok(());
-    }
-    let depth = depth - 1;
+/// A part of an expression, and what stands before it.
+type Part<'a> = Option<(&'static str, &'a Expr)>;
+
+fn part<'a>(before: &'static str, expr: &'a Expr) -> Part<'a> {
+    Some((before, expr))
+}
+
+fn place_of(expr: &Expr) -> Place {
     match expr {
-        Expr::Ref { name, at, place } => {
-            write!(out, "{}", name.as_str())?;
-            push_access(out, at)?;
-            push_place(out, *place)
+        Expr::Ref { place, .. } => *place,
+        Expr::Const { place, .. } => *place,
+        Expr::Binary { place, .. } => *place,
+        Expr::Choose { place, .. } => *place,
+        Expr::Restrict { place, .. } => *place,
+        Expr::Case { place, .. } => *place,
+        Expr::Depend { place, .. } => *place,
+        Expr::Reduce { place, .. } => *place,
+    }
+}
+
+/// What stands before the parts of an expression.
+fn push_head(out: &mut String, expr: &Expr) -> Result<(), Fail> {
+    match expr {
+        Expr::Ref { name, at, .. } => {
+            push_words(out, name.as_str())?;
+            push_access(out, at)
         }
-        Expr::Const { value, at, place } => {
-            write!(out, "{value}")?;
-            push_access(out, at)?;
-            push_place(out, *place)
+        Expr::Const { value, at, .. } => {
+            push_value(out, *value)?;
+            push_access(out, at)
         }
-        Expr::Binary {
-            sign: by,
-            left,
-            right,
-            place,
-        } => {
-            write!(out, "({} ", sign(*by))?;
-            push_expr(out, left, depth)?;
-            write!(out, " ")?;
-            push_expr(out, right, depth)?;
-            write!(out, ")")?;
-            push_place(out, *place)
+        Expr::Binary { sign: by, .. } => push_begin(out, sign(*by), " "),
+        Expr::Choose { .. } => push_words(out, "(if "),
+        Expr::Restrict { domain, .. } => {
+            push_words(out, "(in ")?;
+            push_domain(out, domain)
         }
+        Expr::Case { .. } => push_words(out, "(case"),
+        Expr::Depend { map, .. } => {
+            push_words(out, "(at ")?;
+            push_map(out, map)
+        }
+        Expr::Reduce { op, map, .. } => {
+            push_operator(out, *op)?;
+            push_map(out, map)
+        }
+    }
+}
+
+fn push_value(out: &mut String, value: u64) -> Result<(), Fail> {
+    write!(out, "{value}")?;
+    Ok(())
+}
+
+fn push_begin(out: &mut String, word: &str, after: &str) -> Result<(), Fail> {
+    write!(out, "({word}{after}")?;
+    Ok(())
+}
+
+fn push_operator(out: &mut String, op: Op) -> Result<(), Fail> {
+    write!(out, "(reduce {op:?} ")?;
+    Ok(())
+}
+
+fn relation_text(compare: Relation) -> &'static str {
+    match compare {
+        Relation::Less => " < ",
+        Relation::LessEqual => " <= ",
+        Relation::Greater => " > ",
+        Relation::GreaterEqual => " >= ",
+        Relation::Equal => " = ",
+        Relation::Unequal => " <> ",
+    }
+}
+
+/// The parts of an expression that is no `case`.
+fn parts(expr: &Expr) -> [Part<'_>; 4] {
+    match expr {
+        Expr::Binary { left, right, .. } => [part("", left), part(" ", right), None, None],
         Expr::Choose {
             left,
             compare,
             right,
             yes,
             no,
-            place,
-        } => {
-            write!(out, "(if ")?;
-            push_expr(out, left, depth)?;
-            write!(out, " {} ", relation(*compare))?;
-            push_expr(out, right, depth)?;
-            write!(out, " then ")?;
-            push_expr(out, yes, depth)?;
-            write!(out, " else ")?;
-            push_expr(out, no, depth)?;
-            write!(out, ")")?;
-            push_place(out, *place)
-        }
-        Expr::Restrict {
-            domain,
-            body,
-            place,
-        } => {
-            write!(out, "(in ")?;
-            push_domain(out, domain)?;
-            write!(out, " ")?;
-            push_expr(out, body, depth)?;
-            write!(out, ")")?;
-            push_place(out, *place)
-        }
-        Expr::Case { branches, place } => {
-            write!(out, "(case")?;
-            for branch in branches.as_slice() {
-                write!(out, " ")?;
-                push_expr(out, branch, depth)?;
-            }
-            write!(out, ")")?;
-            push_place(out, *place)
-        }
-        Expr::Depend { map, body, place } => {
-            write!(out, "(at ")?;
-            push_map(out, map)?;
-            write!(out, " ")?;
-            push_expr(out, body, depth)?;
-            write!(out, ")")?;
-            push_place(out, *place)
-        }
-        Expr::Reduce {
-            op,
-            map,
-            body,
-            place,
-        } => {
-            write!(out, "(reduce {op:?} ")?;
-            push_map(out, map)?;
-            write!(out, " ")?;
-            push_expr(out, body, depth)?;
-            write!(out, ")")?;
-            push_place(out, *place)
+            ..
+        } => [
+            part("", left),
+            part(relation_text(*compare), right),
+            part(" then ", yes),
+            part(" else ", no),
+        ],
+        Expr::Restrict { body, .. } => [part(" ", body), None, None, None],
+        Expr::Depend { body, .. } => [part(" ", body), None, None, None],
+        Expr::Reduce { body, .. } => [part(" ", body), None, None, None],
+        _ => [None, None, None, None],
+    }
+}
+
+/// The branches of a `case`.
+fn branches(expr: &Expr) -> &[Expr] {
+    match expr {
+        Expr::Case { branches, .. } => branches.as_slice(),
+        _ => &[],
+    }
+}
+
+/// What stands behind the parts of an expression.
+fn end_of(expr: &Expr) -> &'static str {
+    match expr {
+        Expr::Ref { .. } | Expr::Const { .. } => "",
+        _ => ")",
+    }
+}
+
+/// The expression, each part of it followed by its place, down to a depth.
+pub(super) fn push_expr(out: &mut String, expr: &Expr, depth: u32) -> Result<(), Fail> {
+    if depth == 0 {
+        return push_words(out, "..");
+    }
+    push_head(out, expr)?;
+    for branch in branches(expr) {
+        push_words(out, " ")?;
+        push_expr(out, branch, depth - 1)?;
+    }
+    for part in parts(expr) {
+        if let Some((before, part)) = part {
+            push_words(out, before)?;
+            push_expr(out, part, depth - 1)?;
         }
     }
+    push_words(out, end_of(expr))?;
+    push_place(out, place_of(expr))
 }
 
 fn push_declarations(
@@ -211,11 +251,11 @@ fn push_declarations(
 fn push_equation(out: &mut String, equation: &Equation) -> Result<(), Fail> {
     write!(out, " let {}", equation.name.as_str())?;
     if let Some(indices) = &equation.indices {
-        write!(out, "[")?;
+        push_words(out, "[")?;
         for index in indices.as_slice() {
             write!(out, "{} ", index.as_str())?;
         }
-        write!(out, "]")?;
+        push_words(out, "]")?;
     }
     push_place(out, equation.place)
 }

@@ -1,14 +1,14 @@
 //! Many candidates.
 
-use super::schedule;
+use super::assert_schedule;
 use super::texts::{TEN, THREE};
 use std::test::Fail;
 
 #[test]
 fn ten_outputs(rt: HostRuntime) -> Result<(), Fail> {
     let alloc = rt.alloc();
-    assert_eq!(rt; schedule(alloc, TEN, 0, 2)?.as_str(), "candidates 9765625");
-    assert_eq!(rt; schedule(alloc, TEN, 0, 1)?.as_str(), "no schedule X1");
+    assert_schedule(&rt, alloc, TEN, 0, 2, "candidates 9765625")?;
+    assert_schedule(&rt, alloc, TEN, 0, 1, "no schedule X1")?;
     Ok(())
 }
 
@@ -16,6 +16,6 @@ fn ten_outputs(rt: HostRuntime) -> Result<(), Fail> {
 #[test]
 fn two_million(rt: HostRuntime) -> Result<(), Fail> {
     let alloc = rt.alloc();
-    assert_eq!(rt; schedule(alloc, THREE, 0, 2)?.as_str(), "no schedule X");
+    assert_schedule(&rt, alloc, THREE, 0, 2, "no schedule X")?;
     Ok(())
 }

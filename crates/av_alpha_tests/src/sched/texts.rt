@@ -1,20 +1,20 @@
 //! The texts of the tests.
 
-pub(super) const MATRIX_VECTOR: &str = "system matvect :{N | N>1} \
+pub(crate) const MATRIX_VECTOR: &str = "system matvect :{N | N>1} \
 (M : {i,j | 1<=i<=N; 1<=j<=N} of integer; V : {i | 1<=i<=N} of integer) \
 returns (C : {i | 1<=i<=N} of integer); var s : {i,j | 1<=i<=N; 0<=j<=N} of integer; \
 let s[i,j] = case {| j=0} : 0[]; {| 1<=j} : s[i,j-1] + M[i,j]*V[j]; esac; C[i] = s[i,N]; tel;";
 
-pub(super) const MATRICES: &str = "system matmul :{N | N>=1} \
+pub(crate) const MATRICES: &str = "system matmul :{N | N>=1} \
 (A : {i,k | 1<=i<=N; 1<=k<=N} of integer; B : {k,j | 1<=k<=N; 1<=j<=N} of integer) \
 returns (C : {i,j | 1<=i<=N; 1<=j<=N} of integer); \
 let C[i,j] = reduce(+, (i,j,k -> i,j), A[i,k]*B[k,j]); tel;";
 
-pub(super) const CONVOLUTION: &str =
+pub(crate) const CONVOLUTION: &str =
     "system conv (W : {k | 0<=k<=2} of integer; X : {i | 0<=i<=4} of integer) \
 returns (Y : {i | 2<=i<=4} of integer); let Y[i] = reduce(+, (i,k -> i), W[k]*X[i-k]); tel;";
 
-pub(super) const FORWARD: &str = "system forward :{N | N>=1} \
+pub(crate) const FORWARD: &str = "system forward :{N | N>=1} \
 (L : {i,j | 1<=j; j<i; i<=N} of integer; b : {i | 1<=i<=N} of integer) \
 returns (x : {i | 1<=i<=N} of integer); let x[i] = b[i] - reduce(+, (i,j -> i), L[i,j]*x[j]); tel;";
 

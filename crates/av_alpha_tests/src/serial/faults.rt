@@ -1,48 +1,60 @@
 //! Faults of reductions, each the first one.
 
-use crate::systems::system_with;
+use super::forms::normal_form;
 use super::texts::{
     ENDLESS, ENDLESS_BEFORE_STEEP, LARGE_COORDINATE, LARGER_BOX, LARGEST_BOX, STEEP,
 };
-use av_flat::{Pass, Quantity};
-use av_normal::Normal;
+use crate::words::{push_named, push_number, push_words, same};
+use av_flat::{Flat, Kind, Pass, Quantity};
 use av_serial::{Serial, SerialFault};
 use std::alloc::Global;
-use std::fmt::Write;
+use std::process::Abort;
 use std::test::Fail;
+
+fn push_limit(out: &mut String, quantity: Quantity, number: u128) -> Result<(), Fail> {
+    let kind = match quantity {
+        Quantity::Coordinate => "limit coordinate",
+        Quantity::BoxSize => "limit box",
+        Quantity::Reductions => "limit reductions",
+        _ => "limit",
+    };
+    push_number(out, kind, number)
+}
 
 fn push_fault(out: &mut String, fault: &SerialFault) -> Result<(), Fail> {
     match fault {
-        SerialFault::NonUnit(name) => write!(out, "non unit {}", name.as_str())?,
-        SerialFault::Unbounded(name) => write!(out, "unbounded {}", name.as_str())?,
-        SerialFault::Limit(Quantity::Coordinate, n) => write!(out, "limit coordinate {n}")?,
-        SerialFault::Limit(Quantity::BoxSize, n) => write!(out, "limit box {n}")?,
-        SerialFault::Limit(Quantity::Reductions, n) => write!(out, "limit reductions {n}")?,
-        SerialFault::Limit(_, n) => write!(out, "limit {n}")?,
-        SerialFault::Memory => out.push_str("memory")?,
+        SerialFault::NonUnit(name) => push_named(out, "non unit", name),
+        SerialFault::Unbounded(name) => push_named(out, "unbounded", name),
+        SerialFault::Limit(quantity, n) => push_limit(out, *quantity, *n),
+        SerialFault::Memory => push_words(out, "memory"),
     }
-    Ok(())
 }
 
-/// How many chains the text has, or why it has no serial form.
+/// How many chains a text has, or why it has no serial form.
 fn answer(alloc: Global, text: &str) -> Result<String, Fail> {
-    let flat = system_with(alloc, text, 0)?;
-    let Ok(normal) = Normal.run(alloc, &flat) else {
-        return Err(Fail::new("normal"));
-    };
     let mut out = String::new(alloc);
+    let normal = normal_form(alloc, text, 0)?;
     match Serial.run(alloc, &normal) {
-        Ok(serial) => {
-            let more = serial
-                .vars
-                .as_slice()
-                .len()
-                .saturating_sub(normal.vars.as_slice().len());
-            write!(out, "chains {more}")?;
-        }
+        Ok(serial) => push_number(&mut out, "chains", chains(&serial))?,
         Err(fault) => push_fault(&mut out, &fault)?,
     }
     Ok(out)
+}
+
+/// How many partial variables a system has.
+fn chains(serial: &Flat) -> u128 {
+    let mut many: u128 = 0;
+    for var in serial.vars.as_slice() {
+        if var.kind == Kind::Partial {
+            many = many.wrapping_add(1);
+        }
+    }
+    many
+}
+
+fn assert_answer(rt: &impl Abort, alloc: Global, text: &str, wanted: &str) -> Result<(), Fail> {
+    same(rt, answer(alloc, text)?.as_str(), wanted);
+    Ok(())
 }
 
 #[test]
@@ -55,7 +67,7 @@ fn the_first_fault_of_reductions(rt: HostRuntime) -> Result<(), Fail> {
         (LARGER_BOX, "limit box 65538"),
         (LARGE_COORDINATE, "limit coordinate 4096"),
     ] {
-        assert_eq!(rt; answer(rt.alloc(), text)?.as_str(), wanted);
+        assert_answer(&rt, rt.alloc(), text, wanted)?;
     }
     Ok(())
 }
@@ -78,7 +90,7 @@ fn reductions_above_the_limit(rt: HostRuntime) -> Result<(), Fail> {
     let alloc = rt.alloc();
     for (count, wanted) in [(16, "chains 16"), (17, "limit reductions 17")] {
         let text = many_reductions(alloc, count)?;
-        assert_eq!(rt; answer(alloc, text.as_str())?.as_str(), wanted);
+        assert_answer(&rt, alloc, text.as_str(), wanted)?;
     }
     Ok(())
 }

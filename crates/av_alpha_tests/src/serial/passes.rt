@@ -1,8 +1,8 @@
 //! The normal form and then the serial form, as one pass.
 
-use crate::systems::system_with;
 use super::show::push_variables;
 use super::texts::{PRODUCT, STEEP};
+use crate::systems::system_with;
 use av_flat::{Pass, Then, ThenFault};
 use av_normal::{Normal, NormalFault};
 use av_serial::{Serial, SerialFault};

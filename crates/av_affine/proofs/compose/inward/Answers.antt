@@ -21,10 +21,10 @@ returns-clause-coefficients c =
     let small : (a b d e : ℤ) → unsigned_abs a ≤ 2 ^ 32 → unsigned_abs b ≤ 2 ^ 32 → unsigned_abs d ≤ 2 ^ 32 → unsigned_abs e ≤ 2 ^ 32 → AtMost (2 ^ 32) (a ∷ b ∷ d ∷ e ∷ []) =
     λ a b d e ha hb hd he. All-from_recursion (λ x. unsigned_abs x ≤ 2 ^ 32) (a ∷ b ∷ d ∷ e ∷ []) (ha, (hb, (hd, (he, tt)))) in
     small _ _ _ _
-        (wrapped c.coefficient-a.result (search rules) c.coefficient-a.ensures.small)
-        (wrapped c.coefficient-b.result (search rules) c.coefficient-b.ensures.small)
-        (wrapped c.coefficient-c.result (search rules) c.coefficient-c.ensures.small)
-        (wrapped c.coefficient-d.result (search rules) c.coefficient-d.ensures.small)
+    (wrapped c.coefficient-a.result (search rules) c.coefficient-a.ensures.small)
+    (wrapped c.coefficient-b.result (search rules) c.coefficient-b.ensures.small)
+    (wrapped c.coefficient-c.result (search rules) c.coefficient-c.ensures.small)
+    (wrapped c.coefficient-d.result (search rules) c.coefficient-d.ensures.small)
 
 pub returns-clause-constant : goal.returns-clause-constant
 returns-clause-constant c =
