@@ -31,71 +31,50 @@ pub fn copy_tree(alloc: Global, tree: &Tree) -> Result<Tree, Memory>
             map: copy_map(map),
         }),
         Tree::Const(word) => Ok(Tree::Const(*word)),
-        Tree::Binary { sign, left, right } => {
-            let left = boxed(alloc, left)?;
-            let right = boxed(alloc, right)?;
-            Ok(Tree::Binary {
-                sign: *sign,
-                left,
-                right,
-            })
-        }
+        Tree::Binary { sign, left, right } => Ok(Tree::Binary {
+            sign: *sign,
+            left: boxed(alloc, left)?,
+            right: boxed(alloc, right)?,
+        }),
         Tree::Choose {
             left,
             compare,
             right,
             yes,
             no,
-        } => {
-            let left = boxed(alloc, left)?;
-            let right = boxed(alloc, right)?;
-            let yes = boxed(alloc, yes)?;
-            let no = boxed(alloc, no)?;
-            Ok(Tree::Choose {
-                left,
-                compare: *compare,
-                right,
-                yes,
-                no,
-            })
-        }
-        Tree::Restrict { domain, body } => {
-            let domain = copy_set(alloc, domain)?;
-            let body = boxed(alloc, body)?;
-            Ok(Tree::Restrict { domain, body })
-        }
+        } => Ok(Tree::Choose {
+            left: boxed(alloc, left)?,
+            compare: *compare,
+            right: boxed(alloc, right)?,
+            yes: boxed(alloc, yes)?,
+            no: boxed(alloc, no)?,
+        }),
+        Tree::Restrict { domain, body } => Ok(Tree::Restrict {
+            domain: copy_set(alloc, domain)?,
+            body: boxed(alloc, body)?,
+        }),
         Tree::Case { branches } => Ok(Tree::Case {
             branches: copy_trees(alloc, branches.as_slice())?,
         }),
-        Tree::Depend { map, body } => {
-            let body = boxed(alloc, body)?;
-            Ok(Tree::Depend {
-                map: copy_map(map),
-                body,
-            })
-        }
-        Tree::Reduce { op, map, body, set } => {
-            let body = boxed(alloc, body)?;
-            let set = copy_set(alloc, set)?;
-            Ok(Tree::Reduce {
-                op: *op,
-                map: copy_map(map),
-                body,
-                set,
-            })
-        }
+        Tree::Depend { map, body } => Ok(Tree::Depend {
+            map: copy_map(map),
+            body: boxed(alloc, body)?,
+        }),
+        Tree::Reduce { op, map, body, set } => Ok(Tree::Reduce {
+            op: *op,
+            map: copy_map(map),
+            body: boxed(alloc, body)?,
+            set: copy_set(alloc, set)?,
+        }),
         Tree::Pick {
             var,
             choices,
             otherwise,
-        } => {
-            let choices = copy_choices(alloc, choices.as_slice())?;
-            Ok(Tree::Pick {
-                var: *var,
-                choices,
-                otherwise: *otherwise,
-            })
-        }
+        } => Ok(Tree::Pick {
+            var: *var,
+            choices: copy_choices(alloc, choices.as_slice())?,
+            otherwise: *otherwise,
+        }),
     }
 }
 

@@ -99,15 +99,11 @@ pub(crate) fn tree(
             left,
             right,
             ..
-        } => {
-            let left = boxed(alloc, tables, context, left)?;
-            let right = boxed(alloc, tables, context, right)?;
-            Ok(Tree::Binary {
-                sign: *sign,
-                left,
-                right,
-            })
-        }
+        } => Ok(Tree::Binary {
+            sign: *sign,
+            left: boxed(alloc, tables, context, left)?,
+            right: boxed(alloc, tables, context, right)?,
+        }),
         Expr::Choose {
             left,
             compare,
@@ -115,24 +111,17 @@ pub(crate) fn tree(
             yes,
             no,
             ..
-        } => {
-            let left = boxed(alloc, tables, context, left)?;
-            let right = boxed(alloc, tables, context, right)?;
-            let yes = boxed(alloc, tables, context, yes)?;
-            let no = boxed(alloc, tables, context, no)?;
-            Ok(Tree::Choose {
-                left,
-                compare: *compare,
-                right,
-                yes,
-                no,
-            })
-        }
-        Expr::Restrict { domain, body, .. } => {
-            let domain = restriction(alloc, tables, context, domain)?;
-            let body = boxed(alloc, tables, context, body)?;
-            Ok(Tree::Restrict { domain, body })
-        }
+        } => Ok(Tree::Choose {
+            left: boxed(alloc, tables, context, left)?,
+            compare: *compare,
+            right: boxed(alloc, tables, context, right)?,
+            yes: boxed(alloc, tables, context, yes)?,
+            no: boxed(alloc, tables, context, no)?,
+        }),
+        Expr::Restrict { domain, body, .. } => Ok(Tree::Restrict {
+            domain: restriction(alloc, tables, context, domain)?,
+            body: boxed(alloc, tables, context, body)?,
+        }),
         Expr::Case { branches, .. } => Ok(Tree::Case {
             branches: trees(alloc, tables, context, branches.as_slice())?,
         }),
