@@ -1,10 +1,10 @@
 //! The small types, words, and whole reads and writes.
 
-use crate::words::same;
 use av_base::{
     HonestSink, HonestSource, List, MemSink, MemSource, Memory, Name, Op, Point, ReadAll, Width,
     Word, WriteFault, read_all, write_all,
 };
+use av_testing::same;
 use std::alloc::Global;
 use std::test::Fail;
 

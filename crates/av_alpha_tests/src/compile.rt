@@ -6,12 +6,11 @@ ghost use Rattle.av_names.specs.Texts.{AreSmall};
 mod schedules;
 mod twice;
 
-use crate::systems::size_list;
-use crate::words::{push_both, push_named, push_place, push_point, push_words, same};
 use av_base::{Name, Point, Width};
 use av_compile::{Refusal, checked};
 use av_flat::Quantity;
 use av_names::Size;
+use av_testing::{push_both, push_named, push_place, push_point, push_words, same, size_list};
 use std::alloc::Global;
 use std::fmt::Write;
 use std::process::Abort;

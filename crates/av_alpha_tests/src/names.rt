@@ -1,13 +1,12 @@
 ghost use Rattle.std.specs.Prelude.{◌<◌, length};
 ghost use Rattle.av_names.specs.Texts.{AreSmall};
 
-use crate::systems::size_list;
-use crate::words::{push_both, push_named, push_number, push_place, push_words, same};
 use av_base::Width;
 use av_flat::{Flat, Quantity};
 use av_lex::{LexFault, lex};
 use av_names::{NameFault, Size, resolve};
 use av_parse::{ParseFault, parse};
+use av_testing::{push_both, push_named, push_number, push_place, push_words, same, size_list};
 use std::alloc::Global;
 use std::fmt::Write;
 use std::process::Abort;

@@ -3,10 +3,9 @@
 ghost use Rattle.av_flat.specs.Trees.{view_system};
 ghost use Rattle.av_flat.specs.WellFormed.{IsWellFormed};
 
-use crate::systems::system;
-use crate::words::{push_named, push_number, push_words, same};
 use av_flat::{Flat, Pass, Quantity};
 use av_normal::{Normal, NormalFault};
+use av_testing::{push_named, push_number, push_words, same, system};
 use std::alloc::Global;
 use std::fmt::Write;
 use std::process::Abort;

@@ -1,10 +1,10 @@
 mod trees;
 
 use self::trees::{push_domain, push_expr, push_system};
-use crate::words::{push_place, same};
 use av_base::Place;
 use av_lex::{Token, TokenKind, lex};
 use av_parse::{ParseFault, parse};
+use av_testing::{push_place, same};
 use av_tree::System;
 use std::alloc::Global;
 use std::fmt::Write;

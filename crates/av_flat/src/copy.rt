@@ -1,11 +1,11 @@
 //! Systems and their parts once more, in memory of their own.
 
 ghost use Rattle.std.specs.Prelude.{◌≡◌, IfOk, map};
-ghost use Rattle.av_flat.specs.Trees.{view, view_piece, view_variable, view_system};
+ghost use Rattle.av_flat.specs.Trees.{view, pick, view_piece, view_variable, view_system};
 
 use crate::{Choice, Flat, Piece, Tree, Var};
 use av_affine::{Map, Rows};
-use av_base::{List, Memory};
+use av_base::{List, Memory, Word};
 use av_poly::copy_set;
 use std::alloc::Global;
 
@@ -31,51 +31,51 @@ pub fn copy_tree(alloc: Global, tree: &Tree) -> Result<Tree, Memory>
             map: copy_map(map),
         }),
         Tree::Const(word) => Ok(Tree::Const(*word)),
-        Tree::Binary { sign, left, right } => Ok(Tree::Binary {
-            sign: *sign,
-            left: boxed(alloc, left)?,
-            right: boxed(alloc, right)?,
-        }),
+        Tree::Binary { sign, left, right } => {
+            let (left, right) = (boxed(alloc, left)?, boxed(alloc, right)?);
+            Ok(Tree::binary(*sign, left, right))
+        }
         Tree::Choose {
             left,
             compare,
             right,
             yes,
             no,
-        } => Ok(Tree::Choose {
-            left: boxed(alloc, left)?,
-            compare: *compare,
-            right: boxed(alloc, right)?,
-            yes: boxed(alloc, yes)?,
-            no: boxed(alloc, no)?,
-        }),
-        Tree::Restrict { domain, body } => Ok(Tree::Restrict {
-            domain: copy_set(alloc, domain)?,
-            body: boxed(alloc, body)?,
-        }),
+        } => {
+            let (left, right) = (boxed(alloc, left)?, boxed(alloc, right)?);
+            let (yes, no) = (boxed(alloc, yes)?, boxed(alloc, no)?);
+            Ok(Tree::choice(left, *compare, right, yes, no))
+        }
+        Tree::Restrict { domain, body } => {
+            let domain = copy_set(alloc, domain)?;
+            Ok(Tree::restriction(domain, boxed(alloc, body)?))
+        }
         Tree::Case { branches } => Ok(Tree::Case {
             branches: copy_trees(alloc, branches.as_slice())?,
         }),
-        Tree::Depend { map, body } => Ok(Tree::Depend {
-            map: copy_map(map),
-            body: boxed(alloc, body)?,
-        }),
-        Tree::Reduce { op, map, body, set } => Ok(Tree::Reduce {
-            op: *op,
-            map: copy_map(map),
-            body: boxed(alloc, body)?,
-            set: copy_set(alloc, set)?,
-        }),
+        Tree::Depend { map, body } => Ok(Tree::dependence(copy_map(map), boxed(alloc, body)?)),
+        Tree::Reduce { op, map, body, set } => {
+            let set = copy_set(alloc, set)?;
+            Ok(Tree::reduction(*op, copy_map(map), boxed(alloc, body)?, set))
+        }
         Tree::Pick {
             var,
             choices,
             otherwise,
-        } => Ok(Tree::Pick {
-            var: *var,
-            choices: copy_choices(alloc, choices.as_slice())?,
-            otherwise: *otherwise,
-        }),
+        } => copy_pick(alloc, *var, choices.as_slice(), *otherwise),
     }
+}
+
+/// The same pick.
+fn copy_pick(alloc: Global, var: u32, choices: &[Choice], otherwise: Word) -> Result<Tree, Memory>
+    ensures { IfOk result (λ to. view to ≡ pick var choices.now otherwise.bits) }
+{
+    let choices = copy_choices(alloc, choices)?;
+    Ok(Tree::Pick {
+        var,
+        choices,
+        otherwise,
+    })
 }
 
 #[cycle(copy)]

@@ -1,3 +1,7 @@
+ghost use Rattle.std.specs.Prelude.{◌≡◌};
+ghost use Rattle.av_flat.specs.Trees as flat;
+ghost use Rattle.av_flat.specs.Trees.{view};
+
 use av_affine::Map;
 use av_base::{List, Op, Word};
 use av_poly::Poly;
@@ -64,4 +68,53 @@ pub enum Tree {
         choices: List<Choice>,
         otherwise: Word,
     },
+}
+
+impl Tree {
+    /// Two parts under an operator.
+    pub fn binary(sign: Sign, left: Box<Tree>, right: Box<Tree>) -> Tree
+        ensures { view result ≡ flat.binary sign (view left.value) (view right.value) }
+    {
+        Tree::Binary { sign, left, right }
+    }
+
+    /// One of two parts, as the words of two others compare.
+    pub fn choice(
+        left: Box<Tree>,
+        compare: Relation,
+        right: Box<Tree>,
+        yes: Box<Tree>,
+        no: Box<Tree>,
+    ) -> Tree
+        ensures { view result ≡ flat.choice (view left.value) compare (view right.value) (view yes.value) (view no.value) }
+    {
+        Tree::Choose {
+            left,
+            compare,
+            right,
+            yes,
+            no,
+        }
+    }
+
+    /// A body inside a domain alone.
+    pub fn restriction(domain: Poly, body: Box<Tree>) -> Tree
+        ensures { view result ≡ flat.restriction domain (view body.value) }
+    {
+        Tree::Restrict { domain, body }
+    }
+
+    /// A body at the image of the point.
+    pub fn dependence(map: Map, body: Box<Tree>) -> Tree
+        ensures { view result ≡ flat.dependence map (view body.value) }
+    {
+        Tree::Depend { map, body }
+    }
+
+    /// The fold of a body over the points of a set that a map sends to the point.
+    pub fn reduction(op: Op, map: Map, body: Box<Tree>, set: Poly) -> Tree
+        ensures { view result ≡ flat.reduction op map (view body.value) set }
+    {
+        Tree::Reduce { op, map, body, set }
+    }
 }

@@ -39,7 +39,7 @@ case_built i c ts es place e is h =
 
 -- ---- branches are less deep than their case
 
-pub less_deep : (t : ℕ) (e : Expr) (es slice : List Expr) (place : Place) → e ≡ expr.Case es place → slice ≡ es → 2 * the_size e + 0 ≡ t → 2 * most (λ x. the_size x) slice + 1 < t
+pub less_deep : (t : ℕ) (e : Expr) (es slice : List Expr) (place : Place) → e ≡ expr.Case es place → slice ≡ es → 3 * the_size e + 0 ≡ t → 3 * most (λ x. the_size x) slice + 1 < t
 less_deep t e es slice place is same d =
     let f = ap the_size is in
     let g = ap (λ xs. most (λ x. the_size x) xs) same in

@@ -1,25 +1,25 @@
 //! The flat system of a system that no rule refuses.
 
-ghost use Rattle.std.specs.Prelude.{◌≡◌, ◌≤◌, map, All, IfOk};
+ghost use Rattle.std.specs.Prelude.{◌≡◌, ◌≤◌, map, All, IfOk, length};
 ghost use Rattle.av_tree.specs.Domains.{variables};
 ghost use Rattle.av_tree.specs.Trees as text;
 ghost use Rattle.av_base.specs.Words.{residue};
 ghost use Rattle.av_flat.specs.Trees as flat;
 ghost use Rattle.av_flat.specs.Trees.{view};
 ghost use Rattle.av_names.specs.inner.Building.{instance_in, AreTables};
-ghost use Rattle.av_names.specs.inner.Fitting.{FitsIn, FitsRows};
+ghost use Rattle.av_names.specs.inner.Fitting.{FitsAccess, FitsIn, FitsMap, FitsRows};
 ghost use Rattle.av_names.specs.Flattened.{flat_tree, place_of};
-ghost use Rattle.av_names.specs.Forms.{whole, names_or, restriction_set};
+ghost use Rattle.av_names.specs.Forms.{over, nameless, whole, names_or, map_of, read_of, restriction_set};
 ghost use Rattle.av_names.specs.inner.Seen.{context as seen};
 ghost use Rattle.av_names.specs.inner.Sums.{sizes_in};
 
 use crate::affine::{affine_map, read_map, set};
 use crate::part::Context;
 use crate::written::given_names;
-use av_base::{List, Memory, Name, Width, Word};
+use av_base::{List, Memory, Name, Op, Width, Word};
 use av_flat::Tree;
 use av_poly::Poly;
-use av_tree::{DomainText, Expr, System};
+use av_tree::{Access, DomainText, Expr, MapText, System};
 use indexmap::IndexMap;
 use std::alloc::Global;
 
@@ -44,6 +44,25 @@ fn place(tables: &Tables<'_>, name: &Name) -> u32
         Some(place) => *place,
         None => tables.count,
     }
+}
+
+/// A variable at the image that an access gives.
+fn reference(
+    alloc: Global,
+    tables: &Tables<'_>,
+    context: Context<'_>,
+    name: &Name,
+    at: &Access,
+) -> Result<Tree, Memory>
+    requires tables { AreTables tables.now }
+    requires few { context.indices ≤ 4 }
+    requires fits { FitsAccess (sizes_in tables.now.sizes) (seen context) at.now }
+    ensures { IfOk result (λ to. view to ≡ flat.reference (place_of (variables (text.view_system tables.now.system.now)) name.now)
+        (read_of (sizes_in tables.now.sizes) (seen context.entry) at.now)) }
+{
+    let var = place(tables, name);
+    let map = read_map(alloc, &tables.sizes, context, at)?;
+    Ok(Tree::Ref { var, map })
 }
 
 /// The points of a restriction's domain.
@@ -88,22 +107,18 @@ pub(crate) fn tree(
     ensures { IfOk result (λ to. view to ≡ flat_tree (instance_in tables.now) (seen context.entry) (text.view expr.now)) }
 {
     match expr {
-        Expr::Ref { name, at, .. } => {
-            let var = place(tables, name);
-            let map = read_map(alloc, &tables.sizes, context, at)?;
-            Ok(Tree::Ref { var, map })
-        }
+        Expr::Ref { name, at, .. } => reference(alloc, tables, context, name, at),
         Expr::Const { value, .. } => Ok(constant(*value, tables.width)),
         Expr::Binary {
             sign,
             left,
             right,
             ..
-        } => Ok(Tree::Binary {
-            sign: *sign,
-            left: boxed(alloc, tables, context, left)?,
-            right: boxed(alloc, tables, context, right)?,
-        }),
+        } => {
+            let left = boxed(alloc, tables, context, left)?;
+            let right = boxed(alloc, tables, context, right)?;
+            Ok(Tree::binary(*sign, left, right))
+        }
         Expr::Choose {
             left,
             compare,
@@ -111,39 +126,64 @@ pub(crate) fn tree(
             yes,
             no,
             ..
-        } => Ok(Tree::Choose {
-            left: boxed(alloc, tables, context, left)?,
-            compare: *compare,
-            right: boxed(alloc, tables, context, right)?,
-            yes: boxed(alloc, tables, context, yes)?,
-            no: boxed(alloc, tables, context, no)?,
-        }),
-        Expr::Restrict { domain, body, .. } => Ok(Tree::Restrict {
-            domain: restriction(alloc, tables, context, domain)?,
-            body: boxed(alloc, tables, context, body)?,
-        }),
+        } => {
+            let left = boxed(alloc, tables, context, left)?;
+            let right = boxed(alloc, tables, context, right)?;
+            let yes = boxed(alloc, tables, context, yes)?;
+            let no = boxed(alloc, tables, context, no)?;
+            Ok(Tree::choice(left, *compare, right, yes, no))
+        }
+        Expr::Restrict { domain, body, .. } => {
+            let domain = restriction(alloc, tables, context, domain)?;
+            Ok(Tree::restriction(domain, boxed(alloc, tables, context, body)?))
+        }
         Expr::Case { branches, .. } => Ok(Tree::Case {
             branches: trees(alloc, tables, context, branches.as_slice())?,
         }),
-        Expr::Depend { map, body, .. } => {
-            let inner = Context::nameless(map.results.as_slice().len());
-            let map = affine_map(alloc, &tables.sizes, map)?;
-            let body = boxed(alloc, tables, inner, body)?;
-            Ok(Tree::Depend { map, body })
-        }
-        Expr::Reduce { op, map, body, .. } => {
-            let names = map.names.as_slice();
-            let map = affine_map(alloc, &tables.sizes, map)?;
-            let body = boxed(alloc, tables, Context::over(names), body)?;
-            let set = everywhere(alloc, names.len());
-            Ok(Tree::Reduce {
-                op: *op,
-                map,
-                body,
-                set,
-            })
-        }
+        Expr::Depend { map, body, .. } => dependence(alloc, tables, map, body),
+        Expr::Reduce { op, map, body, .. } => reduction(alloc, tables, *op, map, body),
     }
+}
+
+/// The body at the image under a map.
+#[cycle(tree)]
+fn dependence(
+    alloc: Global,
+    tables: &Tables<'_>,
+    map: &MapText,
+    body: &Expr,
+) -> Result<Tree, Memory>
+    requires tables { AreTables tables.now }
+    requires map { FitsMap (sizes_in tables.now.sizes) map.now }
+    requires body { FitsIn (sizes_in tables.now.sizes) (nameless (length map.now.results)) (text.view body.now) }
+    ensures { IfOk result (λ to. view to ≡ flat.dependence (map_of (sizes_in tables.now.sizes) map.now)
+        (flat_tree (instance_in tables.now) (nameless (length map.now.results)) (text.view body.now))) }
+{
+    let inner = Context::nameless(map.results.as_slice().len());
+    let body = boxed(alloc, tables, inner, body)?;
+    let map = affine_map(alloc, &tables.sizes, map)?;
+    Ok(Tree::dependence(map, body))
+}
+
+/// The fold of the body along a map.
+#[cycle(tree)]
+fn reduction(
+    alloc: Global,
+    tables: &Tables<'_>,
+    op: Op,
+    map: &MapText,
+    body: &Expr,
+) -> Result<Tree, Memory>
+    requires tables { AreTables tables.now }
+    requires map { FitsMap (sizes_in tables.now.sizes) map.now }
+    requires body { FitsIn (sizes_in tables.now.sizes) (over map.now.names) (text.view body.now) }
+    ensures { IfOk result (λ to. view to ≡ flat.reduction op (map_of (sizes_in tables.now.sizes) map.now)
+        (flat_tree (instance_in tables.now) (over map.now.names) (text.view body.now)) (whole (length map.now.names))) }
+{
+    let names = map.names.as_slice();
+    let body = boxed(alloc, tables, Context::over(names), body)?;
+    let map = affine_map(alloc, &tables.sizes, map)?;
+    Ok(Tree::reduction(op, map, body, everywhere(alloc, names.len())))
 }
 
 /// All points of so many entries.

@@ -59,11 +59,7 @@ pub(crate) fn filled(alloc: Global, holder: &Poly, tree: &Tree) -> Result<Tree, 
         Tree::Binary { sign, left, right } => {
             let left = boxed(alloc, holder, left)?;
             let right = boxed(alloc, holder, right)?;
-            Ok(Tree::Binary {
-                sign: *sign,
-                left,
-                right,
-            })
+            Ok(Tree::binary(*sign, left, right))
         }
         Tree::Choose {
             left,
@@ -76,23 +72,12 @@ pub(crate) fn filled(alloc: Global, holder: &Poly, tree: &Tree) -> Result<Tree, 
             let right = boxed(alloc, holder, right)?;
             let yes = boxed(alloc, holder, yes)?;
             let no = boxed(alloc, holder, no)?;
-            Ok(Tree::Choose {
-                left,
-                compare: *compare,
-                right,
-                yes,
-                no,
-            })
+            Ok(Tree::choice(left, *compare, right, yes, no))
         }
         Tree::Reduce { op, map, body, set } => {
             let set = inner_set(alloc, holder, map, set)?;
             let body = boxed(alloc, &set, body)?;
-            Ok(Tree::Reduce {
-                op: *op,
-                map: copy_map(map),
-                body,
-                set,
-            })
+            Ok(Tree::reduction(*op, copy_map(map), body, set))
         }
         _ => Ok(copy_tree(alloc, tree)?),
     }

@@ -4,6 +4,7 @@ ghost use Rattle.std.specs.Prelude.{◌≡◌, ◌<◌, ◌≤◌, ◌/◌, ◌%
 ghost use Rattle.av_affine.specs.Forms.{IsWithinLimits};
 ghost use Rattle.av_poly.specs.Points.{IsSmall};
 ghost use Rattle.av_poly.specs.Preimages.{rows_before};
+ghost use Rattle.av_flat.specs.Trees as flat;
 ghost use Rattle.av_flat.specs.Trees.{view, cases, trees_of};
 ghost use Rattle.av_flat.specs.WellFormed.{dimension_of};
 ghost use Rattle.av_flat.specs.Pieces.{parts, rows_of};
@@ -16,7 +17,7 @@ use crate::compose::within;
 use crate::count::piece_count;
 use crate::distribute::{append_before, append_under, composed_map};
 use av_affine::{Form, Map};
-use av_base::{List, Memory};
+use av_base::{List, Memory, Op};
 use av_flat::{Piece, Tree, Var, copy_map, copy_tree};
 use av_poly::{Poly, copy_rows};
 use std::alloc::Global;
@@ -94,6 +95,18 @@ fn append_read(
     append_before(alloc, &read.domain, map, rows)
 }
 
+// The fold of a body along a map over the points of these rows.
+fn reduction(op: Op, map: &Map, body: Box<Tree>, rows: List<Form>) -> Tree
+    requires small { All IsSmall rows }
+    ensures { view result ≡ flat.reduction op map.now (view body.value) (record { dim = map.now.from; rows = rows }) }
+{
+    let set = Poly {
+        dim: map.from,
+        rows,
+    };
+    Tree::reduction(op, copy_map(map), body, set)
+}
+
 // The tree of the part with this number; its rows are put behind others.
 #[cycle(part_of)]
 fn part_of(
@@ -119,11 +132,7 @@ fn part_of(
             let (first, second) = two_numbers(number, right);
             let left = boxed_part(alloc, vars, under, left, first, rows)?;
             let right = boxed_part(alloc, vars, under, right, second, rows)?;
-            Ok(Tree::Binary {
-                sign: *sign,
-                left,
-                right,
-            })
+            Ok(Tree::binary(*sign, left, right))
         }
         Tree::Choose {
             left,
@@ -137,13 +146,7 @@ fn part_of(
             let right = boxed_part(alloc, vars, under, right, second, rows)?;
             let yes = boxed_part(alloc, vars, under, yes, third, rows)?;
             let no = boxed_part(alloc, vars, under, no, fourth, rows)?;
-            Ok(Tree::Choose {
-                left,
-                compare: *compare,
-                right,
-                yes,
-                no,
-            })
+            Ok(Tree::choice(left, *compare, right, yes, no))
         }
         Tree::Restrict { domain, body } => {
             append_under(alloc, under, domain, rows)?;
@@ -159,15 +162,7 @@ fn part_of(
         Tree::Reduce { op, map, body, set } => {
             let mut inner = copy_rows(alloc, set.rows.as_slice())?;
             let body = boxed_part(alloc, vars, &[], body, 0, &mut inner)?;
-            Ok(Tree::Reduce {
-                op: *op,
-                map: copy_map(map),
-                body,
-                set: Poly {
-                    dim: map.from,
-                    rows: inner,
-                },
-            })
+            Ok(reduction(*op, map, body, inner))
         }
         Tree::Pick { .. } => copy_tree(alloc, tree),
     }

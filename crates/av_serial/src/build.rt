@@ -97,11 +97,7 @@ fn chained(
         Tree::Binary { sign, left, right } => {
             let left = boxed(alloc, name, equation, left, chains)?;
             let right = boxed(alloc, name, equation, right, chains)?;
-            Ok(Tree::Binary {
-                sign: *sign,
-                left,
-                right,
-            })
+            Ok(Tree::binary(*sign, left, right))
         }
         Tree::Choose {
             left,
@@ -114,13 +110,7 @@ fn chained(
             let right = boxed(alloc, name, equation, right, chains)?;
             let yes = boxed(alloc, name, equation, yes, chains)?;
             let no = boxed(alloc, name, equation, no, chains)?;
-            Ok(Tree::Choose {
-                left,
-                compare: *compare,
-                right,
-                yes,
-                no,
-            })
+            Ok(Tree::choice(left, *compare, right, yes, no))
         }
         Tree::Reduce { op, map, body, set } => match domain_of(alloc, name, map, set)? {
             Some(domain) => reduced(alloc, name, equation, *op, map, domain, body, chains),

@@ -70,11 +70,7 @@ fn joined(alloc: Global, op: Op, before: Tree, body: Tree) -> Result<Tree, Memor
 {
     let left = Box::new(alloc, before)?;
     let right = Box::new(alloc, body)?;
-    Ok(Tree::Binary {
-        sign: sign_of(op),
-        left,
-        right,
-    })
+    Ok(Tree::binary(sign_of(op), left, right))
 }
 
 // The body's word, joined with what was folded before.

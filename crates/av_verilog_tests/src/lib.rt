@@ -14,5 +14,3 @@ mod page;
 mod vread;
 #[cfg(test)]
 mod vtext;
-#[cfg(test)]
-mod words;

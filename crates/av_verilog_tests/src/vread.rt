@@ -1,8 +1,8 @@
 //! What is read of texts: designs, and the first fault of each.
 
 use crate::designs::{assert_text, design, read};
-use crate::words::{push_named, push_place, push_words, same};
 use av_net::{Design, Entry, Module};
+use av_testing::{push_named, push_place, push_words, same};
 use av_vread::{VFault, design_or_fault, one_design, one_text, read_back, spelled_is_sound};
 use std::alloc::Global;
 use std::fmt::Write;

@@ -4,12 +4,11 @@ ghost use Rattle.std.specs.Prelude.{◌<◌, length};
 ghost use Rattle.av_names.specs.Texts.{AreSmall};
 
 use super::{CONVOLUTION, FORWARD, MATRIX_PRODUCT, MATRIX_VECTOR, N4, STEPS, SUMS, push_refusal};
-use crate::systems::size_list;
-use crate::words::{push_point, same};
 use av_base::Width;
 use av_compile::scheduled;
 use av_flat::{Reach, Timed};
 use av_names::Size;
+use av_testing::{push_point, same, size_list};
 use std::alloc::Global;
 use std::fmt::Write;
 use std::process::Abort;

@@ -5,10 +5,9 @@ ghost use Rattle.av_flat.specs.Trees.{view_system};
 ghost use Rattle.av_flat.specs.WellFormed.{IsWellFormed};
 
 use super::{MATRIX_VECTOR, STEPS};
-use crate::systems::system;
-use crate::words::same;
 use av_flat::{Flat, Pass, Then};
 use av_normal::Normal;
+use av_testing::{same, system};
 use std::alloc::Global;
 use std::fmt::Write;
 use std::process::Abort;

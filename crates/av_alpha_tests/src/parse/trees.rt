@@ -1,7 +1,7 @@
 //! Trees in one line, for the tables of the tests.
 
-use crate::words::push_words;
 use av_base::{Op, Place};
+use av_testing::push_words;
 use av_tree::{
     Access, Constraint, Declaration, DomainText, Equation, Expr, IndexExpr, MapText, Relation,
     Sign, System,

@@ -4,9 +4,9 @@ use super::forms::normal_form;
 use super::texts::{
     ENDLESS, ENDLESS_BEFORE_STEEP, LARGE_COORDINATE, LARGER_BOX, LARGEST_BOX, STEEP,
 };
-use crate::words::{push_named, push_number, push_words, same};
 use av_flat::{Flat, Kind, Pass, Quantity};
 use av_serial::{Serial, SerialFault};
+use av_testing::{push_named, push_number, push_words, same};
 use std::alloc::Global;
 use std::process::Abort;
 use std::test::Fail;

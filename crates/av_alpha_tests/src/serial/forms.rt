@@ -8,11 +8,10 @@ use super::show::{push_equation, push_points, push_variables};
 use super::texts::{
     CONVOLUTION, FORWARD, GAP, LARGEST_BOX, LEAST, NESTED, PRODUCT, SEVERAL, SUMS, TIES,
 };
-use crate::systems::system_with;
-use crate::words::same;
 use av_flat::{Flat, Pass};
 use av_normal::Normal;
 use av_serial::Serial;
+use av_testing::{same, system_with};
 use std::alloc::Global;
 use std::process::Abort;
 use std::test::Fail;

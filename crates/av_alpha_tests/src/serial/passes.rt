@@ -2,10 +2,10 @@
 
 use super::show::push_variables;
 use super::texts::{PRODUCT, STEEP};
-use crate::systems::system_with;
 use av_flat::{Pass, Then, ThenFault};
 use av_normal::{Normal, NormalFault};
 use av_serial::{Serial, SerialFault};
+use av_testing::system_with;
 use std::alloc::Global;
 use std::test::Fail;
 

@@ -80,7 +80,7 @@ filled-returns-in_err-body-in-Reduce-clause-wide t c =
 pub filled-returns-in_ok-body-in-Reduce-clause-same : goal.filled-returns-in_ok-body-in-Reduce-clause-same
 filled-returns-in_ok-body-in-Reduce-clause-same t c =
     let h : IsFoldable c.args.holder.now.dim c.in-Reduce.map c.in-Reduce.set × IsFillable c.in-Reduce.map.from (view c.in-Reduce.body.value) = rw c.in-Reduce.is at c.requires.fillable in
-    rw (c.in-Reduce.is, c.copy_map.ensures)
+    rw (c.in-Reduce.is, c.reduction.ensures, c.copy_map.ensures)
     (body_same c.args.holder.now.dim c.args.holder.now.rows c.in-Reduce.op c.in-Reduce.map (view c.in-Reduce.body.value) c.in-Reduce.set c.in_ok-set-in-Reduce.set h.0 c.in_ok-set-in-Reduce.ensures.dim c.in_ok-set-in-Reduce.ensures.normalised (view c.in_ok-body-in-Reduce.body.value)
     (rw c.deref-in-Reduce.ensures at c.in_ok-body-in-Reduce.ensures.same))
 

@@ -62,14 +62,14 @@ part_of_case-returns-then-left-count-clause-small t c =
 
 pub part_of-returns-in_ok-right-in-Binary-clause-part : goal.part_of-returns-in_ok-right-in-Binary-clause-part
 part_of-returns-in_ok-right-in-Binary-clause-part t c =
-    rw c.in-Binary.is
+    rw (c.in-Binary.is, c.binary.ensures)
     (binary_part (signatures_of c.args.vars.now) c.args.under.now c.in-Binary.sign (view c.in-Binary.left.value) (view c.in-Binary.right.value) c.args.number c.two_numbers-first.result.0 c.two_numbers-first.result.1
     c.args.rows.now c.boxed_part.new.rows c.boxed_part-in-Binary.new.rows (view c.in_ok-left-in-Binary.left.value) (view c.in_ok-right-in-Binary.right.value)
     (rw c.deref.ensures at c.two_numbers-first.ensures) (rw c.deref-in-Binary.ensures at c.in_ok-left-in-Binary.ensures.part) (rw c.deref-in-Binary-2.ensures at c.in_ok-right-in-Binary.ensures.part))
 
 pub part_of-returns-in_ok-no-in-Choose-clause-part : goal.part_of-returns-in_ok-no-in-Choose-clause-part
 part_of-returns-in_ok-no-in-Choose-clause-part t c =
-    rw c.in-Choose.is
+    rw (c.in-Choose.is, c.choice.ensures)
     (choice_part (signatures_of c.args.vars.now) c.args.under.now c.in-Choose.compare (view c.in-Choose.left.value) (view c.in-Choose.right.value) (view c.in-Choose.yes.value) (view c.in-Choose.no.value) c.args.number
     c.four_numbers-first.result.0 c.four_numbers-first.result.1 c.four_numbers-first.result.2 c.four_numbers-first.result.3
     c.args.rows.now c.boxed_part-in-Choose.new.rows c.boxed_part-in-Choose-2.new.rows c.boxed_part-in-Choose-3.new.rows c.boxed_part-in-Choose-4.new.rows (view c.in_ok-left-in-Choose.left.value) (view c.in_ok-right-in-Choose.right.value) (view c.in_ok-yes-in-Choose.yes.value) (view c.in_ok-no-in-Choose.no.value)

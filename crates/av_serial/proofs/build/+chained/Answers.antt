@@ -133,14 +133,14 @@ chained-reduced-requires t c =
 pub chained-returns-in_ok-right-in-Binary : goal.chained-returns-in_ok-right-in-Binary
 chained-returns-in_ok-right-in-Binary t c =
     let e = c.args.equation in
-    rw c.in-Binary.is
+    rw (c.in-Binary.is, c.binary.ensures)
     (made_two c.args.name.now e.first e.width.bits e.base c.in-Binary.sign (view c.in-Binary.left.value) (view c.in-Binary.right.value) (view c.in_ok-left-in-Binary.left.value) (view c.in_ok-right-in-Binary.right.value)
     c.args.chains.now c.boxed.new.chains c.boxed-in-Binary.new.chains (rw c.deref.ensures at c.in_ok-left-in-Binary.ensures) (rw c.deref-in-Binary.ensures at c.in_ok-right-in-Binary.ensures))
 
 pub chained-returns-in_ok-no-in-Choose : goal.chained-returns-in_ok-no-in-Choose
 chained-returns-in_ok-no-in-Choose t c =
     let e = c.args.equation in
-    rw c.in-Choose.is
+    rw (c.in-Choose.is, c.choice.ensures)
     (made_four c.args.name.now e.first e.width.bits e.base c.in-Choose.compare (view c.in-Choose.left.value) (view c.in-Choose.right.value) (view c.in-Choose.yes.value) (view c.in-Choose.no.value)
     (view c.in_ok-left-in-Choose.left.value) (view c.in_ok-right-in-Choose.right.value) (view c.in_ok-yes-in-Choose.yes.value) (view c.in_ok-no-in-Choose.no.value)
     c.args.chains.now c.boxed-in-Choose.new.chains c.boxed-in-Choose-2.new.chains c.boxed-in-Choose-3.new.chains c.boxed-in-Choose-4.new.chains

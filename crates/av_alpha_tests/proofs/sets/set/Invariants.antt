@@ -1,6 +1,0 @@
-use Rattle.std.specs.List.{All}
-use Rattle.av_poly.specs.Points.{IsSmall}
-use Rattle.av_alpha_tests.proofs.sets.set.Given as goal
-
-abbrev pub invariant-loop-row : goal.invariant-loop-row
-invariant-loop-row l = All IsSmall l.kept

@@ -1,0 +1,102 @@
+//! The texts of compiled designs.
+
+use av_base::{List, MemSink, Width};
+use av_compile::{Compiled, compile};
+use av_flat::Reach;
+use av_net::Design;
+use av_testing::same;
+use av_vtext::write_design;
+use std::alloc::Global;
+use std::process::Abort;
+use std::test::Fail;
+
+/// What a text compiles to, in words of 8 bits.
+fn compiled(alloc: Global, text: &str) -> Result<Compiled, Fail> {
+    let width = Width::new(8).ok_or("a width")?;
+    let reach = Reach::new(4).ok_or("a box")?;
+    if text.len() > 100_000 {
+        return Err(Fail::new("long"));
+    }
+    match compile(alloc, text.as_bytes(), &[], width, reach) {
+        Ok(found) => Ok(found),
+        Err(_) => Err(Fail::new("a design")),
+    }
+}
+
+fn assert_design(
+    rt: &impl Abort,
+    alloc: Global,
+    design: &Design,
+    wanted: &str,
+) -> Result<(), Fail> {
+    let mut sink = MemSink::new(alloc, 4096, 4096, List::new(alloc))?;
+    write_design(design, &mut sink)?;
+    same(rt, str::from_utf8(sink.held()).unwrap_or(""), wanted);
+    Ok(())
+}
+
+fn assert_compiled(rt: &impl Abort, alloc: Global, text: &str, wanted: &str) -> Result<(), Fail> {
+    let found = compiled(alloc, text)?;
+    assert_design(rt, alloc, &found.design, wanted)
+}
+
+const INCREMENT: &str =
+    "system inc (X : {i | 0<=i<=2} of integer) returns (Y : {i | 0<=i<=2} of integer); let Y[i] = X[i] + 1; tel;";
+
+const INCREMENT_TEXT: &str = "// alphav 1
+// in X (0) i0 0
+// in X (1) i0 1
+// in X (2) i0 2
+// at Y (0) o0 0
+// at Y (1) o0 1
+// at Y (2) o0 2
+module array(input clk, input rst, input [7:0] i0, output [7:0] o0);
+  wire [7:0] c0;
+  assign c0 = i0 + 8'd1;
+  assign o0 = c0;
+endmodule
+";
+
+#[test]
+fn the_increment_is_one_sum(rt: HostRuntime) -> Result<(), Fail> {
+    assert_compiled(&rt, rt.alloc(), INCREMENT, INCREMENT_TEXT)
+}
+
+/// A cell with two lanes: the scalar is handed on from cycle to cycle, and added to the sum before.
+const SUMS: &str = "system t (S : {|} of integer) returns (Y : {i | 0<=i<=3} of integer);
+let Y[i] = case {| i=0} : 7; {| 1<=i} : Y[i-1] + S[]; esac; tel;";
+
+/// From cycle 1 on the scalar is there, in the lane with the odd numbers; the value has the even ones.
+const SUMS_TEXT: &str = "// alphav 1
+// in S () i0 1
+// at Y (0) o0 0
+// at Y (1) o0 1
+// at Y (2) o0 2
+// at Y (3) o0 3
+module array(input clk, input rst, input [7:0] i0, output [7:0] o0);
+  wire [0:0] c0_3;
+  wire [7:0] c0_1;
+  wire [7:0] c0_2;
+  wire [0:0] c0_4;
+  wire [7:0] c0;
+  wire [11:0] cyc_next;
+  reg [7:0] r0_1;
+  reg [7:0] r0_0;
+  reg [11:0] cyc;
+  assign c0_3 = cyc <= 12'd1;
+  assign c0_1 = c0_3 ? i0 : r0_1;
+  assign c0_2 = r0_0 + c0_1;
+  assign c0_4 = cyc <= 12'd0;
+  assign c0 = c0_4 ? 8'd7 : c0_2;
+  assign o0 = c0;
+  assign cyc_next = cyc + 12'd1;
+  always @(posedge clk) if (rst) r0_1 <= 8'd0; else r0_1 <= c0_1;
+  always @(posedge clk) if (rst) r0_0 <= 8'd0; else r0_0 <= c0;
+  always @(posedge clk) if (rst) cyc <= 12'd0; else cyc <= cyc_next;
+endmodule
+";
+
+#[test]
+fn lanes_of_a_cell_share_its_numbers(rt: HostRuntime) -> Result<(), Fail> {
+    assert_compiled(&rt, rt.alloc(), SUMS, SUMS_TEXT)
+}

@@ -1,0 +1,28 @@
+//! The command line: what the program `alphav` answers to its words, its input and its output.
+#![tactic(auto)]
+
+mod check;
+mod demo;
+mod emit;
+mod numbers;
+mod options;
+mod program;
+mod put;
+mod refusals;
+mod runs;
+mod schedule;
+mod shown;
+mod sim;
+mod simulation;
+mod size_word;
+mod sizes;
+mod standard;
+mod status;
+mod system_refusals;
+mod table;
+mod words;
+
+pub use program::alphav;
+pub use shown::shown;
+pub use standard::{StdSink, StdSource};
+pub use status::Status;

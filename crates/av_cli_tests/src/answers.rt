@@ -1,0 +1,113 @@
+//! What the program answers to words and an input in memory.
+
+use av_base::{List, MemSink, MemSource, Name};
+use av_cli::{Status, alphav};
+use std::alloc::Global;
+use std::process::Abort;
+use std::test::Fail;
+
+/// The words, the input, the status and the output.
+pub(crate) type Row = (&'static [&'static str], &'static str, Status, &'static str);
+
+/// A status, and the sink that was written to.
+#[derive(Drop)]
+pub(crate) struct Outcome {
+    pub(crate) status: Status,
+    pub(crate) sink: MemSink,
+}
+
+/// Runs the program on these words, from a source into a sink.
+pub(crate) fn answer(
+    alloc: Global,
+    words: &[&str],
+    source: &mut MemSource,
+    sink: &mut MemSink,
+) -> Result<Status, Fail> {
+    let mut names = List::new(alloc);
+    for word in words {
+        names.push(Name::new(alloc, word)?)?;
+    }
+    Ok(alphav(alloc, names.as_slice(), source, sink))
+}
+
+/// Runs the program on an input, into a sink with so much room.
+pub(crate) fn answered(
+    alloc: Global,
+    words: &[&str],
+    input: List<u8>,
+    room: usize,
+) -> Result<Outcome, Fail> {
+    let mut source = MemSource::new(input, 4096, List::new(alloc));
+    let mut sink = MemSink::new(alloc, room, 4096, List::new(alloc))?;
+    let status = answer(alloc, words, &mut source, &mut sink)?;
+    Ok(Outcome { status, sink })
+}
+
+/// The parts of a text, one after another.
+pub(crate) fn joined(alloc: Global, parts: &[&str]) -> Result<List<u8>, Fail> {
+    let mut bytes = List::new(alloc);
+    for part in parts {
+        extend(&mut bytes, part.as_bytes())?;
+    }
+    Ok(bytes)
+}
+
+/// A text that has a part so many times.
+pub(crate) fn repeated(
+    alloc: Global,
+    before: &str,
+    part: &str,
+    count: usize,
+    after: &str,
+) -> Result<List<u8>, Fail> {
+    let mut bytes = joined(alloc, &[before])?;
+    for _ in 0..count {
+        extend(&mut bytes, part.as_bytes())?;
+    }
+    extend(&mut bytes, after.as_bytes())?;
+    Ok(bytes)
+}
+
+/// Adds bytes at the end.
+pub(crate) fn extend(list: &mut List<u8>, bytes: &[u8]) -> Result<(), Fail> {
+    for byte in bytes {
+        list.push(*byte)?;
+    }
+    Ok(())
+}
+
+/// The number of one call, or of none.
+pub(crate) fn calls(alloc: Global, call: Option<u64>) -> Result<List<u64>, Fail> {
+    let mut list = List::new(alloc);
+    if let Some(number) = call {
+        list.push(number)?;
+    }
+    Ok(list)
+}
+
+/// The answer has this status, and this was written.
+pub(crate) fn assert_answer(
+    rt: &impl Abort,
+    answer: &Outcome,
+    status: Status,
+    out: &str,
+    text: &str,
+) {
+    assert_eq!(rt; answer.sink.held(), out.as_bytes(), "{text}");
+    assert_eq!(rt; answer.status, status, "{text}");
+}
+
+/// The answer has this status, and what was written ends with this.
+pub(crate) fn assert_end(rt: &impl Abort, answer: &Outcome, status: Status, out: &str) {
+    assert!(rt; answer.sink.held().ends_with(out.as_bytes()), "{out}");
+    assert_eq!(rt; answer.status, status, "{out}");
+}
+
+/// Each row's words and input have its status and output.
+pub(crate) fn assert_rows(rt: &impl Abort, alloc: Global, rows: &[Row]) -> Result<(), Fail> {
+    for (words, text, status, out) in rows {
+        let answer = answered(alloc, words, joined(alloc, &[text])?, 4096)?;
+        assert_answer(rt, &answer, *status, out, text);
+    }
+    Ok(())
+}

@@ -1,0 +1,89 @@
+//! Hostile ends: a text cut short at each byte, bytes that spell nothing, and a source that fails at each call.
+
+use crate::answers::{answer, answered, assert_answer, calls, extend, joined, repeated};
+use crate::checks::MATRIX_VECTOR;
+use av_base::{List, MemSink, MemSource};
+use av_cli::Status;
+use std::alloc::Global;
+use std::process::Abort;
+use std::test::Fail;
+
+const CHECK: &[&str] = &["check", "N=4"];
+
+// The words, the bytes of the input, and the line that is written.
+const ROWS: &[(&[&str], &[u8], &str)] = &[
+    (&["check"], &[255], "refused: bad byte 1:1\n"),
+    (&["sim"], b"\0\n%%\n", "refused: verilog bad byte 1:1\n"),
+];
+
+// How many blanks, and the line that is written.
+const BLANKS: &[(usize, &str)] = &[
+    (1_048_576, "refused: syntax 1:1048577\n"),
+    (1_048_577, "refused: too long\n"),
+];
+
+// The first bytes of the text are no text, unless at most its last line feed and its last semicolon lack.
+fn assert_front(rt: &impl Abort, alloc: Global, count: usize) -> Result<(), Fail> {
+    let mut front = List::new(alloc);
+    extend(
+        &mut front,
+        MATRIX_VECTOR.as_bytes().get(..count).unwrap_or(&[]),
+    )?;
+    let answer = answered(alloc, CHECK, front, 4096)?;
+    if count < MATRIX_VECTOR.len().saturating_sub(2) {
+        assert_eq!(rt; answer.status, Status::Refused, "the first {count} bytes");
+        assert!(rt;
+            answer.sink.held().starts_with(b"refused: syntax "),
+            "the first {count} bytes"
+        );
+    } else {
+        assert_answer(rt, &answer, Status::Done, "ok\n", "nearly all bytes");
+    }
+    Ok(())
+}
+
+#[test]
+fn a_text_may_end_at_each_byte(rt: HostRuntime) -> Result<(), Fail> {
+    let alloc = rt.alloc();
+    for count in 0..=MATRIX_VECTOR.len() {
+        assert_front(&rt, alloc, count)?;
+    }
+    Ok(())
+}
+
+#[test]
+fn bytes_that_spell_nothing_are_refused_at_their_place(rt: HostRuntime) -> Result<(), Fail> {
+    let alloc = rt.alloc();
+    for (words, text, line) in ROWS {
+        let mut bytes = List::new(alloc);
+        extend(&mut bytes, text)?;
+        let answer = answered(alloc, words, bytes, 4096)?;
+        assert_answer(&rt, &answer, Status::Refused, line, line);
+    }
+    Ok(())
+}
+
+#[test]
+fn blanks_are_read_up_to_the_limit(rt: HostRuntime) -> Result<(), Fail> {
+    let alloc = rt.alloc();
+    for (count, line) in BLANKS {
+        let blanks = repeated(alloc, "", " ", *count, "")?;
+        let answer = answered(alloc, CHECK, blanks, 4096)?;
+        assert_answer(&rt, &answer, Status::Refused, line, line);
+    }
+    Ok(())
+}
+
+#[test]
+fn a_source_may_fail_at_each_call_of_check(rt: HostRuntime) -> Result<(), Fail> {
+    let alloc = rt.alloc();
+    for call in 0..=MATRIX_VECTOR.len() as u64 {
+        let text = joined(alloc, &[MATRIX_VECTOR])?;
+        let mut source = MemSource::new(text, 1, calls(alloc, Some(call))?);
+        let mut sink = MemSink::new(alloc, 4096, 1, calls(alloc, None)?)?;
+        let status = answer(alloc, CHECK, &mut source, &mut sink)?;
+        assert_eq!(rt; status, Status::ReadFault, "call {call}");
+        assert!(rt; sink.held().is_empty(), "call {call}");
+    }
+    Ok(())
+}
