@@ -11,7 +11,7 @@ ghost use Rattle.av_cli.specs.inner.Feeding.{AreSmall};
 ghost use Rattle.av_cli.specs.inner.Tellings.{IsTold};
 ghost use Rattle.av_cli.specs.inner.Watching.{bits_of};
 
-use crate::shown::{Data, shown_of};
+use crate::showing::{Data, shown_of};
 use crate::status::Status;
 use av_base::{List, Memory, Name, Point, Sink, Width, Word, WriteFault};
 use av_compile::{Compiled, compile};

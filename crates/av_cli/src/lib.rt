@@ -11,7 +11,7 @@ mod put;
 mod refusals;
 mod runs;
 mod schedule;
-mod shown;
+mod showing;
 mod sim;
 mod simulation;
 mod size_word;
@@ -23,6 +23,6 @@ mod table;
 mod words;
 
 pub use program::alphav;
-pub use shown::shown;
+pub use showing::shown;
 pub use standard::{StdSink, StdSource};
 pub use status::Status;

@@ -16,7 +16,7 @@ ghost use Rattle.av_cli.specs.inner.Watching.{bits_of};
 ghost use Rattle.av_cli.specs.declared.runs.Report.TheVariants as report;
 
 use crate::put::{put, put_alpha_refusal, put_data_refusal};
-use crate::shown::{feed, shown};
+use crate::showing::{feed, shown};
 use crate::simulation::{Prepared, make_ready, run};
 use crate::sizes::sizes;
 use crate::status::Status;

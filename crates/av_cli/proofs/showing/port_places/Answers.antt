@@ -3,7 +3,7 @@ use Rattle.av_net.specs.Names.{names_of}
 use Rattle.av_net.specs.Rows.{is_in}
 use Rattle.av_data.proofs.Named.{is_new, one_named}
 use Rattle.av_cli.proofs.Presenting.{port_named}
-use Rattle.av_cli.proofs.shown.port_places.Goals as goal
+use Rattle.av_cli.proofs.showing.port_places.Goals as goal
 
 pub push-requires : goal.push-requires
 push-requires c =

@@ -5,8 +5,8 @@ use Rattle.av_clock.specs.Seen.{carried}
 use Rattle.av_cli.specs.inner.Watching.{bits_of}
 use Rattle.av_cli.proofs.Fed.{at_index}
 use Rattle.av_cli.proofs.Watched.{tap_within, mixed_all, note_taken, note_passed}
-use Rattle.av_cli.proofs.shown.note.Goals as goal
-use Rattle.av_cli.proofs.shown.note.Goals.{then-line-cycle, else-line-cycle}
+use Rattle.av_cli.proofs.showing.note.Goals as goal
+use Rattle.av_cli.proofs.showing.note.Goals.{then-line-cycle, else-line-cycle}
 
 pub value-requires-clause-place : goal.value-requires-clause-place
 value-requires-clause-place c =

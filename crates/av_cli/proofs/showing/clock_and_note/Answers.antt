@@ -7,7 +7,7 @@ use Rattle.av_cli.specs.inner.Watching.{bits_of, watched}
 use Rattle.av_cli.proofs.Running.{reset_registers}
 use Rattle.av_cli.proofs.Watched.{tap_named, watched_none, noted_length}
 use Rattle.av_cli.proofs.Watching.{goes_on}
-use Rattle.av_cli.proofs.shown.clock_and_note.Goals as goal
+use Rattle.av_cli.proofs.showing.clock_and_note.Goals as goal
 
 pub loop-cycle-init : goal.loop-cycle-init
 loop-cycle-init c =

@@ -12,7 +12,7 @@ use Rattle.av_cli.specs.Simulated.{IsStimulated}
 use Rattle.av_cli.specs.inner.Watching.{bits_of, watched}
 use Rattle.av_cli.proofs.Fed.{left}
 use Rattle.av_cli.proofs.Watching.{shown_so}
-use Rattle.av_cli.proofs.shown.shown_of.Goals as goal
+use Rattle.av_cli.proofs.showing.shown_of.Goals as goal
 
 pub watch-requires-clause-left : goal.watch-requires-clause-left
 watch-requires-clause-left g c = left c.args.design.now (g.D.Data.words c.args.values.now) c.in_ok-stimulus.stimulus.values c.in_ok-stimulus.ensures.values c.requires.words

@@ -5,7 +5,7 @@ use Rattle.av_net.specs.declared.design.Entry.{Entry}
 use Rattle.av_net.specs.Names.{targets_of, wire_names}
 use Rattle.av_cli.proofs.Fed.{at_index, all_at}
 use Rattle.av_cli.proofs.Watched.{taps_more}
-use Rattle.av_cli.proofs.shown.taps.Goals as goal
+use Rattle.av_cli.proofs.showing.taps.Goals as goal
 
 pub place_of-requires : goal.place_of-requires
 place_of-requires c =
