@@ -4,7 +4,7 @@ use av_base::{
     HonestSink, HonestSource, List, MemSink, MemSource, Memory, Name, Op, Point, ReadAll, Width,
     Word, WriteFault, read_all, write_all,
 };
-use av_testing::same;
+use av_testing::{same, sink_of};
 use std::alloc::Global;
 use std::test::Fail;
 
@@ -121,14 +121,9 @@ fn a_source_that_is_too_long(rt: HostRuntime) -> Result<(), Fail> {
     Ok(())
 }
 
-// A sink with room for so many bytes.
-fn sink(alloc: Global, room: usize) -> Result<MemSink, Memory> {
-    MemSink::new(alloc, room, 2, List::new(alloc))
-}
-
 #[test]
 fn whole_writes(rt: HostRuntime) -> Result<(), Fail> {
-    let mut sink = sink(rt.alloc(), 3)?;
+    let mut sink = sink_of(rt.alloc(), 3, 2)?;
     write_all(&mut sink, b"abc")?;
     assert_eq!(rt; sink.held(), b"abc".as_slice());
     Ok(())
@@ -142,7 +137,7 @@ fn an_honest_sink_takes_all() -> Result<(), Fail> {
 
 #[test]
 fn no_room_for_the_third_byte(rt: HostRuntime) -> Result<(), Fail> {
-    let mut sink = sink(rt.alloc(), 2)?;
+    let mut sink = sink_of(rt.alloc(), 2, 2)?;
     assert_eq!(rt; write_all(&mut sink, b"abc"), Err(WriteFault));
     assert_eq!(rt; sink.held(), b"ab".as_slice());
     Ok(())

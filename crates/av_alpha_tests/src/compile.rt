@@ -1,23 +1,17 @@
 //! What becomes of texts: the first fault of each, or that its equations are proper.
 
-ghost use Rattle.std.specs.Prelude.{◌<◌, length};
-ghost use Rattle.av_names.specs.Texts.{AreSmall};
-
 mod schedules;
 mod twice;
 
 use av_base::{Name, Point, Width};
 use av_compile::{Refusal, checked};
-use av_flat::Quantity;
 use av_names::Size;
-use av_testing::{push_both, push_named, push_place, push_point, push_words, same, size_list};
+use av_testing::{
+    Answers, TextRow, assert_text, assert_texts, push_both, push_limit, push_named, push_number,
+    push_place, push_point, push_words,
+};
 use std::alloc::Global;
-use std::fmt::Write;
-use std::process::Abort;
 use std::test::Fail;
-
-/// Equations or a whole text, the sizes, and the answer.
-type Row = (&'static str, &'static [(&'static str, i64)], &'static str);
 
 const N4: &[(&str, i64)] = &[("N", 4)];
 
@@ -64,7 +58,7 @@ const THREE: &str = "system t (A : {i | 0<=i<=2} of integer) returns (Y : {i | 0
 
 /// Equations of the matrix-vector product: the bytes before the grammar, the grammar before the names, and these before
 /// the points.
-const STAGES: &[Row] = &[
+const STAGES: &[TextRow] = &[
     ("s[i,j] = s[i,j-1] +; #", N4, "bad byte 8:24"),
     (
         "s[i,j] = s[i,j-1] +; 18446744073709551616",
@@ -84,7 +78,7 @@ const STAGES: &[Row] = &[
 ];
 
 /// Equations of a system of one input and one output.
-const EARLY: &[Row] = &[
+const EARLY: &[TextRow] = &[
     ("let Y[i] = reduce(", &[], "syntax 2:19"),
     ("let Y[i] = A[i] # 1; tel;", &[], "bad byte 2:17"),
     (
@@ -97,7 +91,7 @@ const EARLY: &[Row] = &[
 ];
 
 /// Equations of the matrix-vector product: points with a word, with none, with two.
-const POINTS: &[Row] = &[
+const POINTS: &[TextRow] = &[
     (STEPS, N4, "ok"),
     (
         "s[i,j] = s[i,j-1] + M[i,j]*V[j];",
@@ -121,7 +115,7 @@ const POINTS: &[Row] = &[
 ];
 
 /// Whole texts of which each point has a word.
-const PROPER: &[Row] = &[
+const PROPER: &[TextRow] = &[
     (MATRIX_PRODUCT, N4, "ok"),
     (CONVOLUTION, &[], "ok"),
     (FORWARD, N4, "ok"),
@@ -141,7 +135,7 @@ let Y[i] = reduce(+, (i,j -> i), {i,j | 0<=j; 2j<=i} : X[j]); tel;",
 ];
 
 /// Whole texts with a domain, and with its box, above a limit.
-const DOMAINS: &[Row] = &[
+const DOMAINS: &[TextRow] = &[
     (
         "system inc (X : {i | i>=1} of integer) returns (Y : {i | i>=1} of integer); let Y[i] = X[i] + 1; tel;",
         &[],
@@ -163,30 +157,6 @@ const DOMAINS: &[Row] = &[
         "limit coordinate 4096",
     ),
 ];
-
-fn kind_of(quantity: Quantity) -> &'static str {
-    match quantity {
-        Quantity::Variables => "variables",
-        Quantity::Indices => "indices",
-        Quantity::Nodes => "nodes",
-        Quantity::Coefficient => "coefficient",
-        Quantity::Constant => "constant",
-        Quantity::Constraints => "constraints",
-        Quantity::Coordinate => "coordinate",
-        Quantity::BoxSize => "box",
-        Quantity::Reductions => "reductions",
-    }
-}
-
-fn push_limit(out: &mut String, quantity: Quantity, number: u128) -> Result<(), Fail> {
-    write!(out, "limit {} {number}", kind_of(quantity))?;
-    Ok(())
-}
-
-fn push_number(out: &mut String, what: &str, number: u128) -> Result<(), Fail> {
-    write!(out, "{what} {number}")?;
-    Ok(())
-}
 
 fn push_outside(out: &mut String, outside: &Option<(Name, Point)>) -> Result<(), Fail> {
     match outside {
@@ -243,81 +213,46 @@ fn push_refusal(out: &mut String, refusal: &Refusal) -> Result<(), Fail> {
     }
 }
 
-/// What becomes of the text with the sizes.
-fn push_answer(
-    out: &mut String,
-    alloc: Global,
-    text: &str,
-    sizes: &[Size],
-    width: Width,
-) -> Result<(), Fail>
-    requires text { length text.now < 4294967295 }
-    requires sizes { AreSmall sizes.now }
-{
-    match checked(alloc, text.as_bytes(), sizes, width) {
-        Ok(_) => push_words(out, "ok"),
-        Err(refusal) => push_refusal(out, &refusal),
-    }
-}
+/// What `checked` answers.
+#[derive(Clone, Copy)]
+struct Checked;
 
-/// What becomes of the text with the sizes, in words of 8 bits.
-fn shown(alloc: Global, text: &str, words: &[(&str, i64)]) -> Result<String, Fail> {
-    let mut out = String::new(alloc);
-    let sizes = size_list(alloc, words)?;
-    let Some(width) = Width::new(8) else {
-        return Ok(out);
-    };
-    if text.len() <= 100_000 {
-        push_answer(&mut out, alloc, text, sizes.as_slice(), width)?;
+impl Answers for Checked {
+    fn push_answer(
+        &self,
+        out: &mut String,
+        alloc: Global,
+        text: &str,
+        sizes: &[Size],
+        width: Width,
+    ) -> Result<(), Fail> {
+        match checked(alloc, text.as_bytes(), sizes, width) {
+            Ok(_) => push_words(out, "ok"),
+            Err(refusal) => push_refusal(out, &refusal),
+        }
     }
-    Ok(out)
-}
-
-fn assert_shown(
-    rt: &impl Abort,
-    alloc: Global,
-    text: &str,
-    sizes: &[(&str, i64)],
-    wanted: &str,
-) -> Result<(), Fail> {
-    same(rt, shown(alloc, text, sizes)?.as_str(), wanted);
-    Ok(())
-}
-
-fn assert_rows(
-    rt: &impl Abort,
-    alloc: Global,
-    head: &str,
-    tail: &str,
-    rows: &[Row],
-) -> Result<(), Fail> {
-    for (body, sizes, wanted) in rows {
-        let text = format!(in alloc; "{head}{body}{tail}")?;
-        assert_shown(rt, alloc, text.as_str(), sizes, wanted)?;
-    }
-    Ok(())
 }
 
 #[test]
 fn the_first_fault_of_bytes_grammar_and_names(rt: HostRuntime) -> Result<(), Fail> {
     let alloc = rt.alloc();
-    assert_rows(&rt, alloc, MATRIX_VECTOR, "\ntel;\n", STAGES)?;
-    assert_rows(&rt, alloc, THREE, "", EARLY)
+    assert_texts(&rt, alloc, &Checked, MATRIX_VECTOR, "\ntel;\n", STAGES)?;
+    assert_texts(&rt, alloc, &Checked, THREE, "", EARLY)
 }
 
 #[test]
 fn points_without_a_word_and_with_two(rt: HostRuntime) -> Result<(), Fail> {
-    assert_rows(&rt, rt.alloc(), MATRIX_VECTOR, "\ntel;\n", POINTS)
+    assert_texts(&rt, rt.alloc(), &Checked, MATRIX_VECTOR, "\ntel;\n", POINTS)
 }
 
 #[test]
 fn texts_of_which_each_point_has_a_word(rt: HostRuntime) -> Result<(), Fail> {
-    assert_rows(&rt, rt.alloc(), "", "", PROPER)
+    assert_texts(&rt, rt.alloc(), &Checked, "", "", PROPER)
 }
 
 #[test]
 fn domains_and_boxes_above_a_limit(rt: HostRuntime) -> Result<(), Fail> {
-    assert_rows(&rt, rt.alloc(), "", "", DOMAINS)
+    assert_texts(&rt, rt.alloc(), &Checked, "", "", DOMAINS)
 }
 
 /// An equation that is the sum of so many cases of two branches each.
@@ -336,7 +271,7 @@ fn pieces_above_the_limit(rt: HostRuntime) -> Result<(), Fail> {
     let alloc = rt.alloc();
     for (count, wanted) in [(8, "ok"), (9, "pieces 512")] {
         let text = many_cases(alloc, count)?;
-        assert_shown(&rt, alloc, text.as_str(), &[], wanted)?;
+        assert_text(&rt, alloc, &Checked, text.as_str(), &[], wanted)?;
     }
     Ok(())
 }

@@ -2,18 +2,17 @@ ghost use Rattle.std.specs.Prelude.{◌<◌, length};
 ghost use Rattle.av_names.specs.Texts.{AreSmall};
 
 use av_base::Width;
-use av_flat::{Flat, Quantity};
+use av_flat::Flat;
 use av_lex::{LexFault, lex};
 use av_names::{NameFault, Size, resolve};
 use av_parse::{ParseFault, parse};
-use av_testing::{push_both, push_named, push_number, push_place, push_words, same, size_list};
+use av_testing::{
+    Answers, TextRow, assert_text, assert_texts, push_both, push_limit, push_named, push_place,
+    push_words,
+};
 use std::alloc::Global;
 use std::fmt::Write;
-use std::process::Abort;
 use std::test::Fail;
-
-/// A text or its equations, the sizes, and the answer.
-type Row = (&'static str, &'static [(&'static str, i64)], &'static str);
 
 const N2: &[(&str, i64)] = &[("N", 2)];
 
@@ -42,7 +41,7 @@ const TWO_OUTPUTS: &str = "system t :{N | N>1}
 let ";
 
 /// Whole texts.
-const TEXTS: &[Row] = &[
+const TEXTS: &[TextRow] = &[
     ("system $", N2, "bad byte 1:8"),
     (
         "system t :{N} (A : {i} of integer) returns (Y : {i} of integer);\nlet Y[i] = A[i]; Y[i] = 1; tel;",
@@ -97,7 +96,7 @@ const TEXTS: &[Row] = &[
 ];
 
 /// Equations of the small system: each rule alone.
-const ALONE: &[Row] = &[
+const ALONE: &[TextRow] = &[
     ("Y[i] = 18446744073709551616;", N2, "number 4:12"),
     ("Y[i] = A[i] A[i];", N2, "syntax 4:17"),
     ("Y[N] = 1;", N2, "repeated N 4:5"),
@@ -149,7 +148,7 @@ const ALONE: &[Row] = &[
 ];
 
 /// Equations of the system with two outputs: the first of two rules, in either order.
-const TOGETHER: &[Row] = &[
+const TOGETHER: &[TextRow] = &[
     ("Y = A.(i,i->i); Z = C;", N2, "repeated i 4:11"),
     ("Z = C; Y = A.(i,i->i);", N2, "repeated i 4:18"),
     (
@@ -220,7 +219,7 @@ const TOGETHER: &[Row] = &[
 ];
 
 /// Equations of the small system: each limit, and one above it.
-const LIMITS: &[Row] = &[
+const LIMITS: &[TextRow] = &[
     ("Y = 1.(i->i,i,i,i);", N2, "ok 2"),
     ("Y = 1.(i->i,i,i,i,i);", N2, "limit indices 5"),
     ("Y = A[1024i];", N2, "ok 2"),
@@ -247,22 +246,6 @@ const LIMITS: &[Row] = &[
     ),
     ("Y = A[2000000] + A[1025i];", N2, "limit coefficient 1025"),
 ];
-
-fn kind_of(quantity: Quantity) -> &'static str {
-    match quantity {
-        Quantity::Variables => "variables",
-        Quantity::Indices => "indices",
-        Quantity::Nodes => "nodes",
-        Quantity::Coefficient => "coefficient",
-        Quantity::Constant => "constant",
-        _ => "other",
-    }
-}
-
-fn push_limit(out: &mut String, quantity: Quantity, number: u128) -> Result<(), Fail> {
-    push_words(out, "limit ")?;
-    push_number(out, kind_of(quantity), number)
-}
 
 fn push_fault(out: &mut String, fault: &NameFault) -> Result<(), Fail> {
     match fault {
@@ -329,51 +312,30 @@ fn push_answer(
     }
 }
 
-/// What becomes of the text with the sizes, in words of 8 bits.
-fn shown(alloc: Global, text: &str, words: &[(&str, i64)]) -> Result<String, Fail> {
-    let mut out = String::new(alloc);
-    let sizes = size_list(alloc, words)?;
-    let Some(width) = Width::new(8) else {
-        return Ok(out);
-    };
-    if text.len() <= 100_000 {
-        push_answer(&mut out, alloc, text, sizes.as_slice(), width)?;
-    }
-    Ok(out)
-}
+/// What `resolve` answers.
+#[derive(Clone, Copy)]
+struct Resolved;
 
-fn assert_shown(
-    rt: &impl Abort,
-    alloc: Global,
-    text: &str,
-    sizes: &[(&str, i64)],
-    wanted: &str,
-) -> Result<(), Fail> {
-    same(rt, shown(alloc, text, sizes)?.as_str(), wanted);
-    Ok(())
-}
-
-fn assert_rows(
-    rt: &impl Abort,
-    alloc: Global,
-    head: &str,
-    tail: &str,
-    rows: &[Row],
-) -> Result<(), Fail> {
-    for (body, sizes, wanted) in rows {
-        let text = format!(in alloc; "{head}{body}{tail}")?;
-        assert_shown(rt, alloc, text.as_str(), sizes, wanted)?;
+impl Answers for Resolved {
+    fn push_answer(
+        &self,
+        out: &mut String,
+        alloc: Global,
+        text: &str,
+        sizes: &[Size],
+        width: Width,
+    ) -> Result<(), Fail> {
+        push_answer(out, alloc, text, sizes, width)
     }
-    Ok(())
 }
 
 #[test]
 fn answers_the_first_rule(rt: HostRuntime) -> Result<(), Fail> {
     let alloc = rt.alloc();
-    assert_rows(&rt, alloc, "", "", TEXTS)?;
-    assert_rows(&rt, alloc, SMALL, " tel;", ALONE)?;
-    assert_rows(&rt, alloc, TWO_OUTPUTS, " tel;", TOGETHER)?;
-    assert_rows(&rt, alloc, SMALL, " tel;", LIMITS)
+    assert_texts(&rt, alloc, &Resolved, "", "", TEXTS)?;
+    assert_texts(&rt, alloc, &Resolved, SMALL, " tel;", ALONE)?;
+    assert_texts(&rt, alloc, &Resolved, TWO_OUTPUTS, " tel;", TOGETHER)?;
+    assert_texts(&rt, alloc, &Resolved, SMALL, " tel;", LIMITS)
 }
 
 /// A system of so many variables.
@@ -417,11 +379,11 @@ fn answers_the_limits_of_numbers(rt: HostRuntime) -> Result<(), Fail> {
     let alloc = rt.alloc();
     for (count, wanted) in [(32, "ok 32"), (33, "limit variables 33")] {
         let text = many_variables(alloc, count)?;
-        assert_shown(&rt, alloc, text.as_str(), N2, wanted)?;
+        assert_text(&rt, alloc, &Resolved, text.as_str(), N2, wanted)?;
     }
     for (count, wanted) in [(4096, "ok 2"), (4097, "limit nodes 4097")] {
         let text = many_nodes(alloc, count)?;
-        assert_shown(&rt, alloc, text.as_str(), N2, wanted)?;
+        assert_text(&rt, alloc, &Resolved, text.as_str(), N2, wanted)?;
     }
     Ok(())
 }
@@ -431,7 +393,7 @@ fn answers_the_limit_of_levels(rt: HostRuntime) -> Result<(), Fail> {
     let alloc = rt.alloc();
     for (levels, wanted) in [(256, "ok 2"), (257, "depth 4:269")] {
         let text = deep(alloc, levels)?;
-        assert_shown(&rt, alloc, text.as_str(), N2, wanted)?;
+        assert_text(&rt, alloc, &Resolved, text.as_str(), N2, wanted)?;
     }
     Ok(())
 }

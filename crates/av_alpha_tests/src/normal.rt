@@ -3,25 +3,13 @@
 ghost use Rattle.av_flat.specs.Trees.{view_system};
 ghost use Rattle.av_flat.specs.WellFormed.{IsWellFormed};
 
-use av_flat::{Flat, Pass, Quantity};
+use av_flat::{Flat, Pass};
 use av_normal::{Normal, NormalFault};
-use av_testing::{push_named, push_number, push_words, same, system};
+use av_testing::{push_limit, push_named, push_number, push_words, same, system};
 use std::alloc::Global;
 use std::fmt::Write;
 use std::process::Abort;
 use std::test::Fail;
-
-fn push_limit(out: &mut String, quantity: Quantity, number: u128) -> Result<(), Fail> {
-    let kind = match quantity {
-        Quantity::Coefficient => "coefficient",
-        Quantity::Constant => "constant",
-        Quantity::Constraints => "constraints",
-        Quantity::Coordinate => "coordinate",
-        Quantity::BoxSize => "box",
-        _ => "limit",
-    };
-    push_number(out, kind, number)
-}
 
 fn push_fault(out: &mut String, fault: &NormalFault) -> Result<(), Fail> {
     match fault {
@@ -93,23 +81,23 @@ const ROWS: &[(&str, &str)] = &[
     ),
     (
         "system t (X : {i|0<=i<=2} of integer) returns (Y : {i|i=0} of integer); let Y = (X).(i->1024i).(i->2i); tel;",
-        "coefficient 2048",
+        "limit coefficient 2048",
     ),
     (
         "system t (X : {i|0<=i<=2} of integer) returns (Y : {i|i=0} of integer); let Y = (X).(i->i+1048576).(i->i+1).(i->i-1048576); tel;",
-        "constant 1048577",
+        "limit constant 1048577",
     ),
     (
         "system t (X : {i,j|0<=i;0<=j;i+2j<=9;i+3j<=9;i+4j<=9;i+5j<=9;i+6j<=9;i+7j<=9;i+8j<=9;i+9j<=9;i+10j<=9;i+11j<=9;i+12j<=9;i+13j<=9;i+14j<=9;i+15j<=9;i+16j<=9;i+17j<=9;i+18j<=9;i+19j<=9;i+20j<=9} of integer) returns (Y : {|} of integer); let Y = 1; tel;",
-        "constraints 21",
+        "limit constraints 21",
     ),
     (
         "system t (X : {i|0<=i<=4096} of integer) returns (Y : {i|i=0} of integer); let Y = 1; tel;",
-        "coordinate 4096",
+        "limit coordinate 4096",
     ),
     (
         "system t (X : {i,j|0<=i<=255;0<=j<=256} of integer) returns (Y : {i|i=0} of integer); let Y = 1; tel;",
-        "box 65792",
+        "limit box 65792",
     ),
 ];
 

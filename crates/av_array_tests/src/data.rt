@@ -5,23 +5,18 @@ mod written;
 use crate::sched::serial_of;
 use av_base::{Name, Point};
 use av_data::{DataFault, Inputs, read_data};
-use av_testing::{push_point, push_words, same, system_at};
+use av_testing::{push_number, push_point, push_words, same, system_at};
 use std::alloc::Global;
 use std::fmt::Write;
 use std::process::Abort;
 use std::test::Fail;
 
-fn push_line(out: &mut String, kind: &str, line: u32) -> Result<(), Fail> {
-    write!(out, "{kind} {line}")?;
-    Ok(())
-}
-
 fn push_fault(out: &mut String, fault: &DataFault) -> Result<(), Fail> {
     match fault {
-        DataFault::DataSyntax(line) => push_line(out, "syntax", *line),
-        DataFault::DataUnknown(line) => push_line(out, "unknown", *line),
-        DataFault::DataOutside(line) => push_line(out, "outside", *line),
-        DataFault::DataTwice(line) => push_line(out, "twice", *line),
+        DataFault::DataSyntax(line) => push_number(out, "syntax", u128::from(*line)),
+        DataFault::DataUnknown(line) => push_number(out, "unknown", u128::from(*line)),
+        DataFault::DataOutside(line) => push_number(out, "outside", u128::from(*line)),
+        DataFault::DataTwice(line) => push_number(out, "twice", u128::from(*line)),
         DataFault::DataMissing(name, point) => push_point(out, "missing", name, point),
         DataFault::Memory => push_words(out, "memory"),
     }

@@ -1,6 +1,8 @@
 //! Names, places and points as tests write them.
 
 use av_base::{Name, Place, Point};
+use av_flat::Quantity;
+use av_tree::Relation;
 use std::fmt::Write;
 use std::process::Abort;
 use std::test::Fail;
@@ -44,6 +46,38 @@ pub fn push_point(out: &mut String, kind: &str, name: &Name, point: &Point) -> R
         before = ",";
     }
     push_words(out, ")")
+}
+
+fn kind_of(quantity: Quantity) -> &'static str {
+    match quantity {
+        Quantity::Variables => "variables",
+        Quantity::Indices => "indices",
+        Quantity::Nodes => "nodes",
+        Quantity::Coefficient => "coefficient",
+        Quantity::Constant => "constant",
+        Quantity::Constraints => "constraints",
+        Quantity::Coordinate => "coordinate",
+        Quantity::BoxSize => "box",
+        Quantity::Reductions => "reductions",
+    }
+}
+
+/// Adds a quantity that is above its limit.
+pub fn push_limit(out: &mut String, quantity: Quantity, number: u128) -> Result<(), Fail> {
+    push_words(out, "limit ")?;
+    push_number(out, kind_of(quantity), number)
+}
+
+/// A relation between blanks.
+pub fn relation_text(relation: Relation) -> &'static str {
+    match relation {
+        Relation::Less => " < ",
+        Relation::LessEqual => " <= ",
+        Relation::Greater => " > ",
+        Relation::GreaterEqual => " >= ",
+        Relation::Equal => " = ",
+        Relation::Unequal => " <> ",
+    }
 }
 
 /// Both texts are one.

@@ -2,13 +2,10 @@
 
 use av_base::{List, MemSink, WriteFault};
 use av_page::Page;
+use av_testing::assert_held;
 use std::alloc::Global;
 use std::process::Abort;
 use std::test::Fail;
-
-fn assert_held(rt: &impl Abort, sink: &MemSink, wanted: &[u8]) {
-    assert_eq!(rt; sink.held(), wanted);
-}
 
 // A sink that takes three bytes at a time, and whose calls of these numbers fail.
 fn sink(alloc: Global, failing: &[u64]) -> Result<MemSink, Fail> {

@@ -2,7 +2,7 @@
 
 use crate::designs::{assert_text, design, read};
 use av_net::{Design, Entry, Module};
-use av_testing::{push_named, push_place, push_words, same};
+use av_testing::{push_named, push_number, push_place, push_words, same};
 use av_vread::{VFault, design_or_fault, one_design, one_text, read_back, spelled_is_sound};
 use std::alloc::Global;
 use std::fmt::Write;
@@ -13,7 +13,7 @@ fn push_fault(out: &mut String, fault: &VFault) -> Result<(), Fail> {
     match fault {
         VFault::VByte(place) => push_place(out, "byte", *place),
         VFault::VSyntax(place) => push_place(out, "syntax", *place),
-        VFault::VListing(line) => push_line(out, *line),
+        VFault::VListing(line) => push_number(out, "listing", u128::from(*line)),
         VFault::VTwice(name) => push_named(out, "twice", name),
         VFault::VName(name) => push_named(out, "name", name),
         VFault::VUnassigned(name) => push_named(out, "unassigned", name),
@@ -21,11 +21,6 @@ fn push_fault(out: &mut String, fault: &VFault) -> Result<(), Fail> {
         VFault::VWidth(name) => push_named(out, "width", name),
         VFault::Memory => push_words(out, "memory"),
     }
-}
-
-fn push_line(out: &mut String, line: u32) -> Result<(), Fail> {
-    write!(out, "listing {line}")?;
-    Ok(())
 }
 
 // What the reader answers, as a line of text.

@@ -3,6 +3,7 @@
 use crate::designs::{assert_text, design};
 use av_base::{HonestSink, List, MemSink, Memory, Name, Point, Width, WriteFault};
 use av_net::{Design, Drive, Entry, Module, Operand, Operation, Port, Step, Symbol};
+use av_testing::port;
 use av_vtext::write_design;
 use std::alloc::Global;
 use std::process::Abort;
@@ -148,12 +149,6 @@ fn step(alloc: Global, register: &str, reset: u64, next: &str) -> Result<Step, M
         reset,
         next,
     })
-}
-
-fn port(alloc: Global, name: &str, bits: u32) -> Result<Port, Fail> {
-    let name = Name::new(alloc, name)?;
-    let width = Width::new(bits).ok_or("a width")?;
-    Ok(Port { name, width })
 }
 
 fn add_entries(alloc: Global, ats: &mut List<Entry>) -> Result<(), Memory> {

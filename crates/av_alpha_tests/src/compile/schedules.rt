@@ -1,14 +1,11 @@
 //! What becomes of texts that are to be scheduled: the times of the nodes, or the first fault.
 
-ghost use Rattle.std.specs.Prelude.{◌<◌, length};
-ghost use Rattle.av_names.specs.Texts.{AreSmall};
-
 use super::{CONVOLUTION, FORWARD, MATRIX_PRODUCT, MATRIX_VECTOR, N4, STEPS, SUMS, push_refusal};
 use av_base::Width;
 use av_compile::scheduled;
 use av_flat::{Reach, Timed};
 use av_names::Size;
-use av_testing::{push_point, same, size_list};
+use av_testing::{Answers, assert_text, push_point};
 use std::alloc::Global;
 use std::fmt::Write;
 use std::process::Abort;
@@ -126,40 +123,32 @@ fn push_times(out: &mut String, timed: &Timed) -> Result<(), Fail> {
     }
 }
 
-/// What becomes of the text with the sizes in the box.
-fn push_answer(
-    out: &mut String,
-    alloc: Global,
-    text: &str,
-    sizes: &[Size],
-    width: Width,
+/// What `scheduled` answers in a box.
+#[derive(Clone, Copy)]
+struct Scheduled {
     reach: Reach,
-) -> Result<(), Fail>
-    requires text { length text.now < 4294967295 }
-    requires sizes { AreSmall sizes.now }
-{
-    match scheduled(alloc, text.as_bytes(), sizes, width, reach) {
-        Ok(timed) => push_times(out, &timed),
-        Err(refusal) => push_refusal(out, &refusal),
-    }
 }
 
-/// What becomes of the text with the sizes in the box, in words of 8 bits.
-fn shown(alloc: Global, text: &str, words: &[(&str, i64)], size: u32) -> Result<String, Fail> {
-    let mut out = String::new(alloc);
-    let sizes = size_list(alloc, words)?;
-    let width = Width::new(8).ok_or("a width")?;
-    let reach = Reach::new(size).ok_or("a box")?;
-    if text.len() <= 100_000 {
-        push_answer(&mut out, alloc, text, sizes.as_slice(), width, reach)?;
+impl Answers for Scheduled {
+    fn push_answer(
+        &self,
+        out: &mut String,
+        alloc: Global,
+        text: &str,
+        sizes: &[Size],
+        width: Width,
+    ) -> Result<(), Fail> {
+        match scheduled(alloc, text.as_bytes(), sizes, width, self.reach) {
+            Ok(timed) => push_times(out, &timed),
+            Err(refusal) => push_refusal(out, &refusal),
+        }
     }
-    Ok(out)
 }
 
 fn assert_row(rt: &impl Abort, alloc: Global, text: &str, row: &Row) -> Result<(), Fail> {
     let (_, sizes, size, wanted) = row;
-    same(rt, shown(alloc, text, sizes, *size)?.as_str(), wanted);
-    Ok(())
+    let reach = Reach::new(*size).ok_or("a box")?;
+    assert_text(rt, alloc, &Scheduled { reach }, text, sizes, wanted)
 }
 
 fn assert_rows(rt: &impl Abort, alloc: Global, rows: &[Row]) -> Result<(), Fail> {

@@ -1,7 +1,7 @@
 //! Trees in one line, for the tables of the tests.
 
 use av_base::{Op, Place};
-use av_testing::push_words;
+use av_testing::{push_words, relation_text};
 use av_tree::{
     Access, Constraint, Declaration, DomainText, Equation, Expr, IndexExpr, MapText, Relation,
     Sign, System,
@@ -162,17 +162,6 @@ fn push_begin(out: &mut String, word: &str, after: &str) -> Result<(), Fail> {
 fn push_operator(out: &mut String, op: Op) -> Result<(), Fail> {
     write!(out, "(reduce {op:?} ")?;
     Ok(())
-}
-
-fn relation_text(compare: Relation) -> &'static str {
-    match compare {
-        Relation::Less => " < ",
-        Relation::LessEqual => " <= ",
-        Relation::Greater => " > ",
-        Relation::GreaterEqual => " >= ",
-        Relation::Equal => " = ",
-        Relation::Unequal => " <> ",
-    }
 }
 
 /// The parts of an expression that is no `case`.

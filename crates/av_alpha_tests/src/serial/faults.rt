@@ -4,22 +4,12 @@ use super::forms::normal_form;
 use super::texts::{
     ENDLESS, ENDLESS_BEFORE_STEEP, LARGE_COORDINATE, LARGER_BOX, LARGEST_BOX, STEEP,
 };
-use av_flat::{Flat, Kind, Pass, Quantity};
+use av_flat::{Flat, Kind, Pass};
 use av_serial::{Serial, SerialFault};
-use av_testing::{push_named, push_number, push_words, same};
+use av_testing::{push_limit, push_named, push_number, push_words, same};
 use std::alloc::Global;
 use std::process::Abort;
 use std::test::Fail;
-
-fn push_limit(out: &mut String, quantity: Quantity, number: u128) -> Result<(), Fail> {
-    let kind = match quantity {
-        Quantity::Coordinate => "limit coordinate",
-        Quantity::BoxSize => "limit box",
-        Quantity::Reductions => "limit reductions",
-        _ => "limit",
-    };
-    push_number(out, kind, number)
-}
 
 fn push_fault(out: &mut String, fault: &SerialFault) -> Result<(), Fail> {
     match fault {

@@ -3,7 +3,8 @@
 use av_affine::{Form, Map};
 use av_flat::{Choice, Kind, Tree, Var};
 use av_poly::Poly;
-use av_tree::{Relation, Sign};
+use av_testing::relation_text;
+use av_tree::Sign;
 use std::fmt::Write;
 use std::test::Fail;
 
@@ -72,17 +73,6 @@ fn sign_text(sign: Sign) -> &'static str {
         Sign::Mul => " * ",
         Sign::Min => " min ",
         Sign::Max => " max ",
-    }
-}
-
-fn relation_text(relation: Relation) -> &'static str {
-    match relation {
-        Relation::Less => " < ",
-        Relation::LessEqual => " <= ",
-        Relation::Greater => " > ",
-        Relation::GreaterEqual => " >= ",
-        Relation::Equal => " = ",
-        Relation::Unequal => " <> ",
     }
 }
 

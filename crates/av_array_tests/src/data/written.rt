@@ -5,15 +5,10 @@ ghost use Rattle.std.specs.Prelude.{◌≡◌, length, IfOk};
 use av_base::{List, MemSink, Memory, Name, Point, Width, Word, WriteFault};
 use av_data::{write_cycle, write_result};
 use av_net::Port;
+use av_testing::{assert_held, port, sink_of};
 use std::alloc::Global;
 use std::process::Abort;
 use std::test::Fail;
-
-fn port(alloc: Global, name: &str, bits: u32) -> Result<Port, Fail> {
-    let name = Name::new(alloc, name)?;
-    let width = Width::new(bits).ok_or("a width")?;
-    Ok(Port { name, width })
-}
 
 fn two_ports(alloc: Global) -> Result<List<Port>, Fail>
     ensures { IfOk result (λ ports. length ports ≡ 2) }
@@ -22,15 +17,6 @@ fn two_ports(alloc: Global) -> Result<List<Port>, Fail>
     ports.push(port(alloc, "i0", 8)?)?;
     ports.push(port(alloc, "o_1", 64)?)?;
     Ok(ports)
-}
-
-// A sink with room for so many bytes, of which it takes three at a time.
-fn sink(alloc: Global, room: usize) -> Result<MemSink, Memory> {
-    MemSink::new(alloc, room, 3, List::new(alloc))
-}
-
-fn assert_held(rt: &impl Abort, sink: &MemSink, wanted: &[u8]) {
-    assert_eq!(rt; sink.held(), wanted);
 }
 
 fn assert_fault(rt: &impl Abort, written: Result<(), WriteFault>) {
@@ -43,7 +29,7 @@ const CYCLE: &[u8] = b"4095 i0=0 o_1=18446744073709551615\n";
 fn the_line_of_a_cycle(rt: HostRuntime) -> Result<(), Fail> {
     let alloc = rt.alloc();
     let ports = two_ports(alloc)?;
-    let mut sink = sink(alloc, 100)?;
+    let mut sink = sink_of(alloc, 100, 3)?;
     write_cycle(4095, ports.as_slice(), &[0, u64::MAX], &mut sink)?;
     assert_held(&rt, &sink, CYCLE);
     write_cycle(0, &[], &[], &mut sink)?;
@@ -56,7 +42,7 @@ fn a_sink_without_room_for_a_cycle(rt: HostRuntime) -> Result<(), Fail> {
     let alloc = rt.alloc();
     let ports = two_ports(alloc)?;
     for room in 0..CYCLE.len() {
-        let mut sink = sink(alloc, room)?;
+        let mut sink = sink_of(alloc, room, 3)?;
         assert_fault(
             &rt,
             write_cycle(4095, ports.as_slice(), &[0, u64::MAX], &mut sink),
@@ -68,7 +54,7 @@ fn a_sink_without_room_for_a_cycle(rt: HostRuntime) -> Result<(), Fail> {
 
 #[test]
 fn the_line_of_a_result(rt: HostRuntime) -> Result<(), Fail> {
-    let mut sink = sink(rt.alloc(), 100)?;
+    let mut sink = sink_of(rt.alloc(), 100, 3)?;
     let point = Point::from_slice(&[1, -20]);
     write_result("Y", &point, Word { bits: 255 }, &mut sink)?;
     let nowhere = Point::from_slice(&[]);
@@ -79,7 +65,7 @@ fn the_line_of_a_result(rt: HostRuntime) -> Result<(), Fail> {
 
 #[test]
 fn a_sink_without_room_for_a_result(rt: HostRuntime) -> Result<(), Fail> {
-    let mut sink = sink(rt.alloc(), 5)?;
+    let mut sink = sink_of(rt.alloc(), 5, 3)?;
     let point = Point::from_slice(&[7]);
     assert_fault(
         &rt,
