@@ -25,7 +25,7 @@ impl Slot {
 
 /// Where and when the computations of a scheduled system stand.
 #[derive(Debug, Drop)]
-pub(crate) struct Layout {
+pub struct Layout {
     /// By node.
     pub(crate) placements: List<Placement>,
     /// Of each node its place among the variables.

@@ -10,7 +10,7 @@ use std::collections::BTreeMap;
 
 /// A delay line: of the value of a cell, or of the pipeline of a helper on it.
 #[derive(Clone, Copy, Debug, PartialEq, Eq, PartialOrd, Ord)]
-pub(crate) struct Line {
+pub struct Line {
     pub(crate) cell: u32,
     pub(crate) helper: Option<usize>,
 }

@@ -38,7 +38,8 @@ pub use laws::{
     between_points, coordinates_have_inverses, one_point, presenting_streams,
     quantities_are_unique, same_systems_have_the_same_faults, whole_listings,
 };
-pub use layout::Slot;
+pub use layout::{Layout, Slot};
+pub use lengths::Line;
 pub use mapping::map;
 pub use origin::Origin;
 pub use spots::{Ends, Site, Spot, ends_of};

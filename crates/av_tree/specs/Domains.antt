@@ -1,6 +1,6 @@
 -- Which points a domain has: those at which each of its constraints holds as it is written (Wilde's
 -- reports on Alpha).
-use Rattle.std.specs.Prelude.{ℤ, Bool, true, false, not, ◌&&◌, ◌||◌, int_lt, int_le, List, [], ◌∷◌, ◌++◌, Option, Some, None, ◌↔◌, IsSome, IsTrue, Contains, bytes_eq}
+use Rattle.std.specs.Prelude.{ℤ, Bool, true, false, not, ◌&&◌, ◌||◌, int_lt, int_le, List, [], ◌∷◌, ◌++◌, Option, Some, None, IsTrue, bytes_eq}
 use Rattle.av_tree.specs.declared.domain.Constraint.{Constraint}
 use Rattle.av_tree.specs.declared.domain.DomainText.{DomainText}
 use Rattle.av_tree.specs.declared.relation.Relation.{Relation}
@@ -69,8 +69,3 @@ given_or names (Some given) = given
 -- the index names over which an equation's right side stands: its own, or those of its variable's declaration
 abbrev pub context : System → Equation → List Text
 context s e = given_or (declared_names (variables s) e.name) e.indices
-
--- the sizes are those of the parameter domain, and each of its constraints holds at them
-pub record AreSizes (d : DomainText) (sizes : Sizes) : Type 0 where
-  pub named : (name : Text) → IsSome (sizes name) ↔ Contains d.names name
-  pub hold : IsTrue (all_hold sizes d.constraints)
