@@ -6,6 +6,7 @@ use av_flat::Flat;
 use av_lex::{LexFault, lex};
 use av_names::{NameFault, Size, resolve};
 use av_parse::{ParseFault, parse};
+use av_testing::texts::MATRIX_VECTOR;
 use av_testing::{
     Answers, TextRow, assert_text, assert_texts, push_both, push_limit, push_named, push_place,
     push_words,
@@ -15,20 +16,6 @@ use std::fmt::Write;
 use std::test::Fail;
 
 const N2: &[(&str, i64)] = &[("N", 2)];
-
-const MATRIX_VECTOR: &str = "system matvect :{N | N>1}
-  (M : {i,j | 1<=i<=N; 1<=j<=N} of integer;
-   V : {i | 1<=i<=N} of integer)
-  returns (C : {i | 1<=i<=N} of integer);
-var s : {i,j | 1<=i<=N; 0<=j<=N} of integer;
-let
-  s[i,j] = case
-    {| j=0} : 0[];
-    {| 1<=j} : s[i,j-1] + M[i,j]*V[j];
-  esac;
-  C[i] = s[i,N];
-tel;
-";
 
 const SMALL: &str = "system t :{N | N>1}
   (A : {i | 1<=i<=N} of integer)

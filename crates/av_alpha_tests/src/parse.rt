@@ -4,6 +4,7 @@ use self::trees::{push_domain, push_expr, push_system};
 use av_base::Place;
 use av_lex::{Token, TokenKind, lex};
 use av_parse::{ParseFault, parse};
+use av_testing::texts::MATRIX_VECTOR;
 use av_testing::{push_place, same};
 use av_tree::System;
 use std::alloc::Global;
@@ -13,20 +14,6 @@ use std::test::Fail;
 
 const HEAD: &str =
     "system t (X : {i | 0<=i<=2} of integer)\n  returns (Y : {i | 0<=i<=2} of integer);\nlet Y =\n";
-
-const MATRIX_VECTOR: &str = "system matvect :{N | N>1}
-  (M : {i,j | 1<=i<=N; 1<=j<=N} of integer;
-   V : {i | 1<=i<=N} of integer)
-  returns (C : {i | 1<=i<=N} of integer);
-var s : {i,j | 1<=i<=N; 0<=j<=N} of integer;
-let
-  s[i,j] = case
-    {| j=0} : 0[];
-    {| 1<=j} : s[i,j-1] + M[i,j]*V[j];
-  esac;
-  C[i] = s[i,N];
-tel;
-";
 
 /// What the table shows of a system.
 #[derive(Clone, Copy)]

@@ -5,6 +5,7 @@ use av_compile::{Compiled, compile};
 use av_flat::Reach;
 use av_net::Design;
 use av_testing::same;
+use av_testing::texts::INCREMENT_DESIGN;
 use av_vtext::write_design;
 use std::alloc::Global;
 use std::process::Abort;
@@ -43,23 +44,9 @@ fn assert_compiled(rt: &impl Abort, alloc: Global, text: &str, wanted: &str) -> 
 const INCREMENT: &str =
     "system inc (X : {i | 0<=i<=2} of integer) returns (Y : {i | 0<=i<=2} of integer); let Y[i] = X[i] + 1; tel;";
 
-const INCREMENT_TEXT: &str = "// alphav 1
-// in X (0) i0 0
-// in X (1) i0 1
-// in X (2) i0 2
-// at Y (0) o0 0
-// at Y (1) o0 1
-// at Y (2) o0 2
-module array(input clk, input rst, input [7:0] i0, output [7:0] o0);
-  wire [7:0] c0;
-  assign c0 = i0 + 8'd1;
-  assign o0 = c0;
-endmodule
-";
-
 #[test]
 fn the_increment_is_one_sum(rt: HostRuntime) -> Result<(), Fail> {
-    assert_compiled(&rt, rt.alloc(), INCREMENT, INCREMENT_TEXT)
+    assert_compiled(&rt, rt.alloc(), INCREMENT, INCREMENT_DESIGN)
 }
 
 /// A cell with two lanes: the scalar is handed on from cycle to cycle, and added to the sum before.

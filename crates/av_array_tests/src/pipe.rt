@@ -6,13 +6,13 @@ ghost use Rattle.av_flat.specs.Chained.{IsChained};
 ghost use Rattle.av_flat.specs.Proper.{IsProper};
 ghost use Rattle.av_flat.specs.Legal.{IsLegal};
 
-use crate::sched::texts::{CONVOLUTION, FORWARD, MATRICES, MATRIX_VECTOR};
 use crate::sched::{chained, lines, push_point};
 use av_depend::edges;
 use av_flat::{Flat, Helper, Pass, Reach, Timed};
 use av_pipe::Pipe;
 use av_sched::search;
 use av_testing::same;
+use av_testing::texts::{CONVOLUTION, FORWARD, MATRIX_PRODUCT, MATRIX_VECTOR};
 use std::alloc::Global;
 use std::fmt::Write;
 use std::process::Abort;
@@ -103,7 +103,7 @@ const ROWS: &[(&str, i64, &str)] = &[
     // s[i,j-1] + M[i,j]*V[j]: of three references the last alone reads one value along a line
     (MATRIX_VECTOR, 4, "s 1 2 (1,0);"),
     // A[i,k]*B[k,j]: A is handed on along j, B along i
-    (MATRICES, 2, "C#1 0 0 (0,1,0);C#1 0 1 (1,0,0);"),
+    (MATRIX_PRODUCT, 2, "C#1 0 0 (0,1,0);C#1 0 1 (1,0,0);"),
     // W[k]*X[i-k]: W goes along i, and X along both
     (CONVOLUTION, 0, "Y#1 0 0 (1,0);Y#1 0 1 (1,1);"),
     // L[i,j]*x[j]: what is handed on can be a computed word

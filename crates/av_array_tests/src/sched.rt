@@ -10,7 +10,6 @@ mod limits;
 mod listed;
 mod placed;
 mod rows;
-pub(crate) mod texts;
 
 use av_base::{Name, Point};
 use av_check::check;

@@ -1,21 +1,8 @@
 use crate::answers::{Row, assert_rows};
 use crate::texts::{INCREMENT, USAGE};
 use av_cli::Status;
+use av_testing::texts::MATRIX_VECTOR;
 use std::test::Fail;
-
-pub(crate) const MATRIX_VECTOR: &str = "system matvect :{N | N>1}
-  (M : {i,j | 1<=i<=N; 1<=j<=N} of integer;
-   V : {i | 1<=i<=N} of integer)
-  returns (C : {i | 1<=i<=N} of integer);
-var s : {i,j | 1<=i<=N; 0<=j<=N} of integer;
-let
-  s[i,j] = case
-    {| j=0} : 0[];
-    {| 1<=j} : s[i,j-1] + M[i,j]*V[j];
-  esac;
-  C[i] = s[i,N];
-tel;
-";
 
 pub(crate) const UNCOVERED: &str = "system matvect :{N | N>1}
   (M : {i,j | 1<=i<=N; 1<=j<=N} of integer;

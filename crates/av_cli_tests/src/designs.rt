@@ -2,10 +2,10 @@
 //! ones on the other ports.
 
 use crate::answers::{Outcome, Row, answered, assert_rows, extend, joined};
-use crate::schedules::{CONVOLUTION, FORWARD, LEAST, MATRIX_PRODUCT, NO_POINT, ROW_SUMS};
 use crate::tables::DIAGONAL;
 use av_base::List;
 use av_cli::Status;
+use av_testing::texts::{CONVOLUTION, FORWARD, LEAST, MATRIX_PRODUCT, NO_POINT, ROW_SUMS};
 use std::alloc::Global;
 use std::test::Fail;
 

@@ -1,9 +1,10 @@
 //! The answers of `emit`, from sources and into sinks that fail.
 
 use crate::answers::{Row, answer, assert_rows, calls, joined};
-use crate::texts::{INCREMENT, OF_WIDTH_8, USAGE};
+use crate::texts::{INCREMENT, USAGE};
 use av_base::{MemSink, MemSource};
 use av_cli::Status;
+use av_testing::texts::INCREMENT_DESIGN;
 use av_vread::read_design;
 use av_vtext::write_design;
 use std::alloc::Global;
@@ -117,7 +118,7 @@ cycles 3
 const WIDTH_8: &[&str] = &["emit", "--width", "8"];
 
 const ROWS: &[Row] = &[
-    (WIDTH_8, INCREMENT, Status::Done, OF_WIDTH_8),
+    (WIDTH_8, INCREMENT, Status::Done, INCREMENT_DESIGN),
     (
         &["emit", "--width", "0001"],
         INCREMENT,
@@ -145,7 +146,12 @@ const ROWS: &[Row] = &[
     (&["emit", "--width", "0"], INCREMENT, Status::Words, USAGE),
     (&["emit", "--width"], INCREMENT, Status::Words, USAGE),
     (&["emit", "x"], INCREMENT, Status::Words, USAGE),
-    (&["emit", "--width=8"], INCREMENT, Status::Done, OF_WIDTH_8),
+    (
+        &["emit", "--width=8"],
+        INCREMENT,
+        Status::Done,
+        INCREMENT_DESIGN,
+    ),
     (
         &[
             "emit",
@@ -164,7 +170,7 @@ const ROWS: &[Row] = &[
         &["emit", "--box=4", "--width", "008", "--"],
         INCREMENT,
         Status::Done,
-        OF_WIDTH_8,
+        INCREMENT_DESIGN,
     ),
     (&["emit", "N=1048577"], INCREMENT, Status::Words, USAGE),
     (
@@ -191,7 +197,7 @@ fn the_words_and_the_text_fix_status_and_output(rt: HostRuntime) -> Result<(), F
 #[test]
 fn a_design_text_read_and_written_again_is_the_same(rt: HostRuntime) -> Result<(), Fail> {
     let alloc = rt.alloc();
-    for text in [OF_WIDTH_8, OF_WIDTH_1, OF_WIDTH_64] {
+    for text in [INCREMENT_DESIGN, OF_WIDTH_1, OF_WIDTH_64] {
         let mut sink = MemSink::new(alloc, 4096, 7, calls(alloc, None)?)?;
         assert!(rt; written_again(alloc, text, &mut sink), "{text}");
         assert_eq!(rt; sink.held(), text.as_bytes());
@@ -232,7 +238,7 @@ fn a_source_may_fail_at_each_call(rt: HostRuntime) -> Result<(), Fail> {
 fn assert_front(rt: &impl Abort, sink: &MemSink, count: usize) {
     assert_eq!(rt; sink.held().len(), count, "after {count} bytes");
     assert!(rt;
-        OF_WIDTH_8.as_bytes().starts_with(sink.held()),
+        INCREMENT_DESIGN.as_bytes().starts_with(sink.held()),
         "after {count} bytes"
     );
 }
@@ -253,7 +259,7 @@ fn assert_cut(
 #[test]
 fn a_sink_may_fail_at_each_call_and_be_full_at_each_byte(rt: HostRuntime) -> Result<(), Fail> {
     let alloc = rt.alloc();
-    for n in 0..OF_WIDTH_8.len() {
+    for n in 0..INCREMENT_DESIGN.len() {
         let mut failing = MemSink::new(alloc, 4096, 1, calls(alloc, Some(n as u64))?)?;
         assert_cut(&rt, alloc, &mut failing, n)?;
         let mut full = MemSink::new(alloc, n, 7, calls(alloc, None)?)?;

@@ -1,9 +1,9 @@
 //! Hostile ends: a text cut short at each byte, bytes that spell nothing, and a source that fails at each call.
 
 use crate::answers::{answer, answered, assert_answer, calls, extend, joined, repeated};
-use crate::checks::MATRIX_VECTOR;
 use av_base::{List, MemSink, MemSource};
 use av_cli::Status;
+use av_testing::texts::MATRIX_VECTOR;
 use std::alloc::Global;
 use std::process::Abort;
 use std::test::Fail;

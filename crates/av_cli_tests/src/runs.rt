@@ -1,17 +1,15 @@
 //! The answers of `run`, `trace` and `demo`, and what designs show.
 
 use crate::answers::{answer, answered, assert_answer, calls, joined};
-use crate::checks::{MATRIX_VECTOR, UNCOVERED};
-use crate::schedules::{CIRCLE, CONVOLUTION, FORWARD, LEAST, MATRIX_PRODUCT, ROW_SUMS};
+use crate::checks::UNCOVERED;
 use crate::texts::{INCREMENT, USAGE};
 use av_base::{MemSink, MemSource};
 use av_cli::Status;
+use av_testing::texts::{
+    CIRCLE, CONVOLUTION, FORWARD, LEAST, MATRIX_PRODUCT, MATRIX_VECTOR, ROW_SUMS, RUNNING_SUMS,
+};
 use std::alloc::Global;
 use std::test::Fail;
-
-const RUNNING_SUMS: &str = "system t (X : {i | 0<=i<=2} of integer) \
-    returns (P : {i | 0<=i<=2} of integer); \
-    let P[i] = case {| i=0} : X[i]; {| i>=1} : P[i-1] + X[i]; esac; tel;";
 
 const ABSOLUTE: &str = "system inc (X : {i | 0<=i<=2} of integer) \
     returns (Y : {i | 0<=i<=2} of integer); \

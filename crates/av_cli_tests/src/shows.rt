@@ -5,12 +5,13 @@ ghost use Rattle.av_base.specs.Words.{IsWord};
 ghost use Rattle.av_net.specs.Presented.{AreApart, HasFittingWord, HaveFittingWords};
 ghost use Rattle.av_data.specs.Inputs.{words_of};
 
-use crate::texts::{INCREMENT, OF_WIDTH_8};
+use crate::texts::INCREMENT;
 use av_base::{Memory, Width, Word};
 use av_cli::shown;
 use av_compile::checked;
 use av_data::{Inputs, read_data};
 use av_net::{Design, Entry, Port};
+use av_testing::texts::INCREMENT_DESIGN;
 use av_vread::read_design;
 use std::alloc::Global;
 use std::test::Fail;
@@ -52,7 +53,7 @@ const DATA: &str = "X (0) = 0\nX (1) = 254\nX (2) = 255\n";
 
 // A design text, and the words that it shows of the data.
 const ROWS: &[(&str, &[u64])] = &[
-    (OF_WIDTH_8, &[1, 255, 0]),
+    (INCREMENT_DESIGN, &[1, 255, 0]),
     (OF_TWO_MORE, &[2, 0, 1]),
     (OF_SUMS, &[7, 6, 6, 6]),
 ];

@@ -1,12 +1,12 @@
 //! The lines of `table`.
 
 use crate::answers::{Row, answered, assert_end, assert_rows, joined};
-use crate::checks::{MATRIX_VECTOR, UNBOUNDED, UNCOVERED};
-use crate::schedules::{
-    CIRCLE, CONVOLUTION, FORWARD, MATRIX_PRODUCT, NO_POINT, ROW_SUMS, TILTED_SQUARE,
-};
+use crate::checks::{UNBOUNDED, UNCOVERED};
 use crate::texts::USAGE;
 use av_cli::Status;
+use av_testing::texts::{
+    CIRCLE, CONVOLUTION, FORWARD, MATRIX_PRODUCT, MATRIX_VECTOR, NO_POINT, ROW_SUMS, TILTED_SQUARE,
+};
 use std::test::Fail;
 
 // Sums along a diagonal.

@@ -5,6 +5,7 @@
 mod answers;
 mod sinks;
 mod systems;
+pub mod texts;
 mod words;
 
 pub use answers::{Answers, TextRow, assert_text, assert_texts};

@@ -2,6 +2,7 @@
 
 use crate::designs::{assert_text, design, read};
 use av_net::{Design, Entry, Module};
+use av_testing::texts::INCREMENT_DESIGN;
 use av_testing::{push_named, push_number, push_place, push_words, same};
 use av_vread::{VFault, design_or_fault, one_design, one_text, read_back, spelled_is_sound};
 use std::alloc::Global;
@@ -38,9 +39,6 @@ fn assert_told(rt: &impl Abort, alloc: Global, text: &[u8], wanted: &str) -> Res
     same(rt, told(alloc, text)?.as_str(), wanted);
     Ok(())
 }
-
-const INCREMENT: &str =
-    "// alphav 1\n// in X (0) i0 0\n// in X (1) i0 1\n// in X (2) i0 2\n// at Y (0) o0 0\n// at Y (1) o0 1\n// at Y (2) o0 2\nmodule array(input clk, input rst, input [7:0] i0, output [7:0] o0);\n  wire [7:0] c0;\n  assign c0 = i0 + 8'd1;\n  assign o0 = c0;\nendmodule\n";
 
 fn push_entry(out: &mut String, entry: &Entry) -> Result<(), Fail> {
     let point = entry.point.as_slice();
@@ -104,7 +102,7 @@ fn assert_increment(rt: &impl Abort, alloc: Global, read: &Design) -> Result<(),
 
 #[test]
 fn the_increment_is_read(rt: HostRuntime) -> Result<(), Fail> {
-    let read = design(rt.alloc(), INCREMENT)?;
+    let read = design(rt.alloc(), INCREMENT_DESIGN)?;
     assert_increment(&rt, rt.alloc(), &read)
 }
 

@@ -4,24 +4,11 @@ use crate::designs::{assert_text, design};
 use av_base::{HonestSink, List, MemSink, Memory, Name, Point, Width, WriteFault};
 use av_net::{Design, Drive, Entry, Module, Operand, Operation, Port, Step, Symbol};
 use av_testing::port;
+use av_testing::texts::INCREMENT_DESIGN;
 use av_vtext::write_design;
 use std::alloc::Global;
 use std::process::Abort;
 use std::test::Fail;
-
-const INCREMENT: &str = "// alphav 1
-// in X (0) i0 0
-// in X (1) i0 1
-// in X (2) i0 2
-// at Y (0) o0 0
-// at Y (1) o0 1
-// at Y (2) o0 2
-module array(input clk, input rst, input [7:0] i0, output [7:0] o0);
-  wire [7:0] c0;
-  assign c0 = i0 + 8'd1;
-  assign o0 = c0;
-endmodule
-";
 
 const EVERYTHING: &str = "// alphav 1
 // in X (0) i0 0
@@ -194,7 +181,7 @@ fn add_all(alloc: Global, design: &mut Design) -> Result<(), Fail> {
 // Each operation, symbol and kind of line. It is no sound design: `w` is driven more than once, `r0` is
 // declared twice and `r1_0` not at all.
 fn everything(alloc: Global) -> Result<Design, Fail> {
-    let mut design = design(alloc, INCREMENT)?;
+    let mut design = design(alloc, INCREMENT_DESIGN)?;
     add_all(alloc, &mut design)?;
     Ok(design)
 }
@@ -203,13 +190,13 @@ fn everything(alloc: Global) -> Result<Design, Fail> {
 
 #[test]
 fn the_text_of_a_design(rt: HostRuntime) -> Result<(), Fail> {
-    let design = design(rt.alloc(), INCREMENT)?;
-    assert_text(&rt, rt.alloc(), &design, INCREMENT)
+    let design = design(rt.alloc(), INCREMENT_DESIGN)?;
+    assert_text(&rt, rt.alloc(), &design, INCREMENT_DESIGN)
 }
 
 #[test]
 fn an_honest_sink_takes_a_design(rt: HostRuntime) -> Result<(), Fail> {
-    let design = design(rt.alloc(), INCREMENT)?;
+    let design = design(rt.alloc(), INCREMENT_DESIGN)?;
     write_design(&design, &mut HonestSink::new())?;
     Ok(())
 }
@@ -241,14 +228,14 @@ fn assert_fault(rt: &impl Abort, design: &Design, sink: &mut MemSink, held: &[u8
 
 // The same at this call of a sink, and at this byte of another.
 fn assert_faults(rt: &impl Abort, alloc: Global, design: &Design, at: usize) -> Result<(), Fail> {
-    let held = INCREMENT.as_bytes().get(..at).ok_or("a byte")?;
+    let held = INCREMENT_DESIGN.as_bytes().get(..at).ok_or("a byte")?;
     assert_fault(rt, design, &mut failing(alloc, at as u64)?, held);
     assert_fault(rt, design, &mut full(alloc, at)?, held);
     Ok(())
 }
 
 fn assert_all_faults(rt: &impl Abort, alloc: Global, design: &Design) -> Result<(), Fail> {
-    for at in 0..INCREMENT.len() {
+    for at in 0..INCREMENT_DESIGN.len() {
         assert_faults(rt, alloc, design, at)?;
     }
     Ok(())
@@ -256,6 +243,6 @@ fn assert_all_faults(rt: &impl Abort, alloc: Global, design: &Design) -> Result<
 
 #[test]
 fn a_sink_may_fail_at_each_call_and_be_full_at_each_byte(rt: HostRuntime) -> Result<(), Fail> {
-    let design = design(rt.alloc(), INCREMENT)?;
+    let design = design(rt.alloc(), INCREMENT_DESIGN)?;
     assert_all_faults(&rt, rt.alloc(), &design)
 }

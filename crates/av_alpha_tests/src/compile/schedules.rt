@@ -5,6 +5,7 @@ use av_base::Width;
 use av_compile::scheduled;
 use av_flat::{Reach, Timed};
 use av_names::Size;
+use av_testing::texts::TEN;
 use av_testing::{Answers, assert_text, push_point};
 use std::alloc::Global;
 use std::fmt::Write;
@@ -66,18 +67,6 @@ let Y[i] = reduce(+, (i,j -> i), X[j]); tel;",
     (TEN, &[], 2, "candidates 9765625"),
     (TEN, &[], 1, "no schedule X1"),
 ];
-
-/// Ten outputs that read one another in a circle.
-const TEN: &str = "system t (A : {i | 0<=i<=2} of integer)
-  returns (X1 : {i | 0<=i<=2} of integer; X2 : {i | 0<=i<=2} of integer; X3 : {i | 0<=i<=2} of integer;
-   X4 : {i | 0<=i<=2} of integer; X5 : {i | 0<=i<=2} of integer; X6 : {i | 0<=i<=2} of integer;
-   X7 : {i | 0<=i<=2} of integer; X8 : {i | 0<=i<=2} of integer; X9 : {i | 0<=i<=2} of integer;
-   X10 : {i | 0<=i<=2} of integer);
-let
-  X1[i] = case {| i=0} : 0[]; {| i>=1} : X10[i-1]; esac;
-  X2[i] = X1[i]; X3[i] = X2[i]; X4[i] = X3[i]; X5[i] = X4[i]; X6[i] = X5[i];
-  X7[i] = X6[i]; X8[i] = X7[i]; X9[i] = X8[i]; X10[i] = X9[i];
-tel;";
 
 /// Texts with a fault before those of reductions, whose own reductions have one as well.
 const BEFORE_REDUCTIONS: &[Row] = &[

@@ -5,12 +5,11 @@ ghost use Rattle.av_flat.specs.Trees.{view_system};
 ghost use Rattle.av_flat.specs.Kept.{IsKept};
 
 use super::show::{push_equation, push_points, push_variables};
-use super::texts::{
-    CONVOLUTION, FORWARD, GAP, LARGEST_BOX, LEAST, NESTED, PRODUCT, SEVERAL, SUMS, TIES,
-};
+use super::texts::{GAP, LARGEST_BOX, NESTED, SEVERAL, SUMS, TIES};
 use av_flat::{Flat, Pass};
 use av_normal::Normal;
 use av_serial::Serial;
+use av_testing::texts::{CONVOLUTION, FORWARD, LEAST, MATRIX_PRODUCT};
 use av_testing::{same, system_with};
 use std::alloc::Global;
 use std::process::Abort;
@@ -99,7 +98,7 @@ fn assert_form(rt: &impl Abort, alloc: Global, form: &Form) -> Result<(), Fail> 
 }
 
 const OF_PRODUCT: Form = Form {
-    text: PRODUCT,
+    text: MATRIX_PRODUCT,
     n: 2,
     variables: "input A, input B, output C, partial C#1",
     points: &[(

@@ -1,11 +1,12 @@
 //! The normal form and then the serial form, as one pass.
 
 use super::show::push_variables;
-use super::texts::{PRODUCT, STEEP};
+use super::texts::STEEP;
 use av_flat::{Pass, Then, ThenFault};
 use av_normal::{Normal, NormalFault};
 use av_serial::{Serial, SerialFault};
 use av_testing::system_with;
+use av_testing::texts::MATRIX_PRODUCT;
 use std::alloc::Global;
 use std::test::Fail;
 
@@ -22,7 +23,7 @@ fn both() -> Then<Normal, Serial> {
 #[test]
 fn one_pass_after_the_other(rt: HostRuntime) -> Result<(), Fail> {
     let alloc = rt.alloc();
-    let flat = system_with(alloc, PRODUCT, 1)?;
+    let flat = system_with(alloc, MATRIX_PRODUCT, 1)?;
     let serial = both().run(alloc, &flat).ok().ok_or("serial")?;
     let mut out = String::new(alloc);
     push_variables(&mut out, serial.vars.as_slice())?;

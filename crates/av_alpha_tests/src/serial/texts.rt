@@ -1,28 +1,8 @@
 //! Texts with reductions.
 
-pub(super) const PRODUCT: &str = "system matmul :{N | N>=1}
-  (A : {i,k | 1<=i<=N; 1<=k<=N} of integer;
-   B : {k,j | 1<=k<=N; 1<=j<=N} of integer)
-  returns (C : {i,j | 1<=i<=N; 1<=j<=N} of integer);
-let C[i,j] = reduce(+, (i,j,k -> i,j), A[i,k]*B[k,j]); tel;";
-
-pub(super) const CONVOLUTION: &str =
-    "system conv (W : {k | 0<=k<=2} of integer; X : {i | 0<=i<=4} of integer)
-  returns (Y : {i | 2<=i<=4} of integer);
-let Y[i] = reduce(+, (i,k -> i), W[k]*X[i-k]); tel;";
-
-pub(super) const FORWARD: &str = "system forward :{N | N>=1}
-  (L : {i,j | 1<=j; j<i; i<=N} of integer; b : {i | 1<=i<=N} of integer)
-  returns (x : {i | 1<=i<=N} of integer);
-let x[i] = b[i] - reduce(+, (i,j -> i), L[i,j]*x[j]); tel;";
-
 pub(super) const SUMS: &str =
     "system sums (X : {i | 0<=i<=2} of integer) returns (P : {i | 0<=i<=2} of integer);
 let P[i] = case {| i=0} : X[i]; {| i>=1} : P[i-1] + X[i]; esac; tel;";
-
-pub(super) const LEAST: &str =
-    "system t (X : {i | 0<=i<=1} of integer) returns (Y : {i | 0<=i<=2} of integer);
-let Y[i] = reduce(min, (i,j -> i), {i,j | 0<=j; j<i} : X[j]); tel;";
 
 /// The kept indices of the inner reduction stand the other way round, and the last reduction has no point.
 pub(super) const NESTED: &str = "system t (A : {i,j,k | 0<=i<=1; 0<=j<=2; 0<=k<=1} of integer)

@@ -1,8 +1,14 @@
 //! Many candidates.
 
 use super::assert_schedule;
-use super::texts::{TEN, THREE};
+use av_testing::texts::TEN;
 use std::test::Fail;
+
+const THREE: &str = "system t (A : {i | 0<=i<=2} of integer) \
+returns (X : {i,j,k | 0<=i<=3; 0<=j<=3; 0<=k<=3} of integer; \
+Y : {i,j,k | 0<=i<=3; 0<=j<=3; 0<=k<=3} of integer; \
+Z : {i,j,k | 0<=i<=3; 0<=j<=3; 0<=k<=3} of integer); \
+let X[i,j,k] = Y[i,j,k]; Y[i,j,k] = Z[i,j,k]; Z[i,j,k] = X[i,j,k]; tel;";
 
 #[test]
 fn ten_outputs(rt: HostRuntime) -> Result<(), Fail> {

@@ -1,8 +1,8 @@
 //! The points that edges list.
 
-use super::texts::{ROW_SUMS, RUNNING_SUMS, SWEEP};
 use super::{assert_schedule, edge_lines};
 use av_testing::same;
+use av_testing::texts::{ROW_SUMS, RUNNING_SUMS, SWEEP};
 use std::alloc::Global;
 use std::process::Abort;
 use std::test::Fail;

@@ -7,11 +7,11 @@ ghost use Rattle.av_flat.specs.Nodes.{nodes};
 ghost use Rattle.av_sched.specs.Offsets.{part};
 
 use super::chained;
-use super::texts::RUNNING_SUMS;
 use av_base::{Memory, Point};
 use av_depend::edges;
 use av_flat::Flat;
 use av_sched::offsets;
+use av_testing::texts::RUNNING_SUMS;
 use std::alloc::Global;
 use std::test::Fail;
 

@@ -1,9 +1,9 @@
 //! First schedules.
 
 use super::assert_schedule;
-use super::texts::{
-    CIRCLE, CONVOLUTION, EMPTY, FORWARD, LEAST, MATRICES, MATRIX_VECTOR, ROW_SUMS, RUNNING_SUMS,
-    SQUARE, TURNED,
+use av_testing::texts::{
+    CIRCLE, CONVOLUTION, FORWARD, LEAST, MATRIX_PRODUCT, MATRIX_VECTOR, NO_POINT, ROW_SUMS,
+    RUNNING_SUMS, TILTED_SQUARE, TURNED,
 };
 use std::alloc::Global;
 use std::process::Abort;
@@ -13,7 +13,7 @@ type Row = (&'static str, i64, u32, &'static str);
 
 const PRODUCTS: &[Row] = &[
     (MATRIX_VECTOR, 4, 4, "C (1) 4; s (1,1) -1"),
-    (MATRICES, 2, 4, "C (0,1) 2; C#1 (1,1,1) -3"),
+    (MATRIX_PRODUCT, 2, 4, "C (0,1) 2; C#1 (1,1,1) -3"),
     (CONVOLUTION, 0, 4, "Y (1) 1; Y#1 (1,1) -2"),
 ];
 
@@ -25,9 +25,9 @@ const REDUCTIONS: &[Row] = &[
 ];
 
 const WITHOUT_REDUCTIONS: &[Row] = &[
-    (SQUARE, 0, 4, "Y (0,1) 2"),
+    (TILTED_SQUARE, 0, 4, "Y (0,1) 2"),
     (RUNNING_SUMS, 0, 4, "P (1) 0"),
-    (EMPTY, 0, 4, ""),
+    (NO_POINT, 0, 4, ""),
 ];
 
 const CIRCLES: &[Row] = &[
