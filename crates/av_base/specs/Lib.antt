@@ -1,4 +1,5 @@
 pub mod Outside
+pub mod Spelling
 pub mod Streams
 pub mod Tokens
 pub mod Words

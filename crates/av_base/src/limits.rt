@@ -7,6 +7,12 @@ pub const MOST_BYTES: usize = 1_048_576;
 /// The greatest level of a token: how many parts of a text it stands inside.
 pub const MOST_LEVEL: u32 = 256;
 
+/// The most bits of a word.
+pub const MOST_BITS: u32 = 64;
+
+/// The greatest box, for which a program is looked at with all sizes up to it.
+pub const MOST_BOX: u32 = 4;
+
 /// The greatest absolute value of a size.
 pub const MOST_SIZE: u32 = 1_048_576;
 

@@ -1,17 +1,16 @@
 -- Words of the form NAME=VALUE.
 use Rattle.std.proofs.Common.{◌≡◌, inl, inr, ◌↔◌, ℕ, ◌-◌, ◌≤◌, ℤ, pos, Bool, true, false, List, [], ◌∷◌, ◌++◌, length, take, drop, IsTrue, unsigned_abs, refl, sym, ap, subst, ◌∙◌, arith}
-use Rattle.std.specs.Prelude.{codes, not}
-use Rattle.std.specs.List.{prefix_len, list_any, AllByRecursion}
-use Rattle.std.specs.Str.{bytes_eq}
+use Rattle.std.specs.Prelude.{codes}
+use Rattle.std.specs.List.{prefix_len, AllByRecursion}
 use Rattle.std.specs.Char.{is_ascii_alphabetic}
 use Rattle.std.proofs.Math.IntN.{neg_ℤ}
 use Rattle.std.proofs.lemmas.List.{take-append-drop, take_rest}
 use Rattle.std.proofs.lemmas.List.Elements.{recursion_from_All}
 use Rattle.std.proofs.Math.Seq.{take-append_seam, drop-append_seam}
 use Rattle.av_base.specs.declared.token_kind.TokenKind.TheVariants as kind
-use Rattle.av_base.specs.Tokens.{IsDigits, IsSpelled, IsWord, is_word_byte, number_of, reserved_words}
-use Rattle.av_lex.proofs.Longest.{run_all}
-use Rattle.av_lex.proofs.Tables.{is_found, is_there}
+use Rattle.av_base.specs.Tokens.{IsDigits, IsSpelled, IsWord, is_word_byte, number_of}
+use Rattle.av_base.specs.Spelling.{is_name}
+use Rattle.av_base.proofs.Spelled.{name_gives}
 use Rattle.av_cli.specs.Commands.{IsSize, size_of, SpellsWhole}
 
 -- ---- values
@@ -26,22 +25,6 @@ one_whole text y z (inr a) (inl b) = absurd (no_dash a.0 (subst IsDigits a.1 b.0
 one_whole text y z (inr a) (inr b) =
     let same : a.0 ≡ b.0 = let k = sym a.1 ∙ b.1 in cc in
     a.3 ∙ (ap (λ d. neg_ℤ (pos (number_of d))) same ∙ sym b.3)
-
--- ---- names
-
-pub is_no_reserved : (text : List ℕ) (b : Bool) → b ≡ list_any (bytes_eq text) reserved_words → IsWord text → IsTrue (not b) ↔ IsSpelled kind.Name text
-is_no_reserved text b e word = (
-  (λ t. (word, λ there. absurd (both b t (e ∙ is_found text reserved_words there)))),
-  (λ is. none b (λ found. is.1 (is_there text reserved_words (sym e ∙ found)))),
-)
-  where
-    both : (a : Bool) → IsTrue (not a) → a ≡ true → ⊥
-    both true h k = absurd cc
-    both false h k = absurd cc
-
-    none : (a : Bool) → (a ≡ true → ⊥) → IsTrue (not a)
-    none true h = absurd (h refl)
-    none false h = refl
 
 -- ---- the two parts
 
@@ -59,9 +42,6 @@ word_bytes (b ∷ bytes) word = (letter b word.0, recursion_from_All (λ x. is_w
   where
     letter : (c : ℕ) → IsTrue (is_ascii_alphabetic c) → is_word_byte c ≡ true
     letter c h = rw h refl
-
-pub named_run : (word : List ℕ) → AllByRecursion (λ byte. IsTrue (is_word_byte byte)) (take (prefix_len is_word_byte word) word)
-named_run word = run_all is_word_byte word
 
 -- a name and what is given behind it
 pub size_is : (word : List ℕ) → IsSpelled kind.Name (take (prefix_len is_word_byte word) word)
@@ -110,8 +90,8 @@ size_by word n given e named h = (
       h.1 (value, z, take_rest word n ∙ (ap (λ m. drop m word) e ∙ k), spelled, most)),
 )
 
-pub no_size_by : (word : List ℕ) (n : ℕ) (named : Bool) → n ≡ prefix_len is_word_byte word → named ≡ false → (IsTrue named ↔ IsSpelled kind.Name (take n word)) → IsTrue named ↔ IsSize word
+pub no_size_by : (word : List ℕ) (n : ℕ) (named : Bool) → n ≡ prefix_len is_word_byte word → named ≡ false → named ≡ is_name (take n word) → IsTrue named ↔ IsSize word
 no_size_by word n named e no_name h = (
   (λ t. absurd (let k : true ≡ false = sym t ∙ no_name in cc)),
-  (λ is. h.1 (subst (λ (m : ℕ). IsSpelled kind.Name (take m word)) (sym e) (is_size word is).0)),
+  (λ is. h ∙ name_gives (take n word) (subst (λ (m : ℕ). IsSpelled kind.Name (take m word)) (sym e) (is_size word is).0)),
 )

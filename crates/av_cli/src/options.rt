@@ -7,6 +7,7 @@ ghost use Rattle.av_cli.specs.CommandsSeen.{seen};
 
 use crate::numbers::number_up_to;
 use crate::size_word::is_size;
+use av_base::limits::{MOST_BITS, MOST_BOX};
 use av_base::{Name, Width};
 use av_flat::Reach;
 
@@ -15,10 +16,6 @@ const DEFAULT_BITS: u32 = 32;
 
 // The box where no option gives it.
 const DEFAULT_BOX: u32 = 2;
-
-const MOST_BITS: u32 = 64;
-
-const LARGEST_BOX: u32 = 4;
 
 /// What options give.
 #[derive(Clone, Copy, Debug)]
@@ -150,7 +147,7 @@ impl Options {
         if self.reach.is_some() {
             return None;
         }
-        let size = number_up_to(LARGEST_BOX, digits)?;
+        let size = number_up_to(MOST_BOX, digits)?;
         let reach = Reach::new(size)?;
         Some(Options {
             width: self.width,

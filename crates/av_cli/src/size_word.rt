@@ -1,50 +1,20 @@
 //! Sizes in words: NAME=VALUE.
 
-ghost use Rattle.std.specs.Prelude.{◌≡◌, ◌≤◌, ◌↔◌, ℤ, ◌++◌, List as Items, ℕ, unsigned_abs, codes, IsTrue, IfSome, IfNone, length, take};
-ghost use Rattle.std.specs.List.{prefix_len, AllByRecursion};
-ghost use Rattle.av_base.specs.declared.token_kind.TokenKind.TheVariants as kind;
-ghost use Rattle.av_base.specs.Tokens.{IsSpelled, IsWord, is_word_byte};
+ghost use Rattle.std.specs.Prelude.{◌≡◌, ◌≤◌, ◌↔◌, ℤ, ◌++◌, List as Items, ℕ, unsigned_abs, codes, IsTrue, IfSome, IfNone};
 ghost use Rattle.av_cli.specs.Commands.{IsSize, SpellsWhole};
 
 use crate::numbers::number_at_most;
 use av_base::limits::MOST_SIZE;
-use av_base::{is_reserved_word, word_len};
+use av_base::{is_name, word_len};
 
 /// Whether the word is NAME=VALUE.
 pub(crate) fn is_size(word: &[u8]) -> bool
     ensures { IsTrue result ↔ IsSize word.now }
 {
-    let len = name_len(word);
+    let len = word_len(word);
     let name = &word[..len];
     let value = &word[len..];
     is_name(name) && is_given(value)
-}
-
-fn name_len(text: &[u8]) -> usize
-    ensures len { result ≡ prefix_len is_word_byte text.now }
-    ensures most { result ≤ length text.now }
-    ensures bytes { AllByRecursion (λ byte. IsTrue (is_word_byte byte)) (take result text.now) }
-{
-    let len = word_len(text);
-    len
-}
-
-// Of letters, digits and `_`: whether they are a name.
-fn is_name(text: &[u8]) -> bool
-    requires { AllByRecursion (λ byte. IsTrue (is_word_byte byte)) text.now }
-    ensures { IsTrue result ↔ IsSpelled kind.Name text.now }
-{
-    begins_with_letter(text) && !is_reserved_word(text)
-}
-
-fn begins_with_letter(text: &[u8]) -> bool
-    requires { AllByRecursion (λ byte. IsTrue (is_word_byte byte)) text.now }
-    ensures { IsTrue result ↔ IsWord text.now }
-{
-    match text {
-        [first, ..] => first.is_ascii_alphabetic(),
-        [] => false,
-    }
 }
 
 // Whether a `=` and a value stand here.

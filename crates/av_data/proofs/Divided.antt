@@ -9,7 +9,8 @@ use Rattle.std.proofs.Math.ListN.{drop_of_length-le}
 use Rattle.std.proofs.Math.Seq.{take-add}
 use Rattle.av_net.specs.Listed.{longer}
 use Rattle.av_data.specs.Divisions.{whole_lines, is_mark, lines_before, joined, IsDivided, HasNoMark}
-use Rattle.av_data.specs.Reading.{is_not_feed, whole_size}
+use Rattle.av_base.specs.Spelling.{is_not_feed}
+use Rattle.av_data.specs.Reading.{whole_size}
 
 -- ---- the size of the first line
 

@@ -10,7 +10,8 @@ use Rattle.av_data.specs.Lines.{is_gap, uncommented}
 use Rattle.av_data.specs.Reading.{without_gap, is_empty}
 use Rattle.av_data.specs.Data.{IsInRange, word_of}
 use Rattle.av_data.specs.inner.Parts.{pieces_of, piece_len, first_piece, after_piece}
-use Rattle.av_data.specs.inner.Sayings.{is_alpha_name, whole_in, in_front, entries_behind, entries_in, Saying, said_value, said_behind, said_of, said_in, is_in_range, Keeps}
+use Rattle.av_base.specs.Spelling.{is_name}
+use Rattle.av_data.specs.inner.Sayings.{whole_in, in_front, entries_behind, entries_in, Saying, said_value, said_behind, said_of, said_in, is_in_range, Keeps}
 use Rattle.av_data.proofs.Spelled.{both}
 use Rattle.av_data.proofs.Worded.{range_from, range_to}
 use Rattle.av_data.proofs.Pieced.{NoPiece, OnePiece, front, piece_is, end_is}
@@ -194,12 +195,12 @@ behind_none width text name z h = by (front text) (front (after_piece text)) (fr
 
 -- ---- a line
 
-pub line_is : (width : ℕ) (text : List ℕ) → is_alpha_name (first_piece text) ≡ true → bytes_eq (first_piece (after_piece text)) (codes "(") ≡ true
+pub line_is : (width : ℕ) (text : List ℕ) → is_name (first_piece text) ≡ true → bytes_eq (first_piece (after_piece text)) (codes "(") ≡ true
     → said_in width (pieces_of text) ≡ said_of width (first_piece text) (entries_in (pieces_of (after_piece (after_piece text))))
 line_is width text n h =
-    ap (said_in width) (piece_is is_alpha_name text refl n ∙ ap (λ ps. first_piece text ∷ ps) (piece_is (λ t. bytes_eq t (codes "(")) (after_piece text) refl h)) ∙ rw (n, h) refl
+    ap (said_in width) (piece_is is_name text refl n ∙ ap (λ ps. first_piece text ∷ ps) (piece_is (λ t. bytes_eq t (codes "(")) (after_piece text) refl h)) ∙ rw (n, h) refl
 
-pub line_none : (width : ℕ) (text : List ℕ) → (is_alpha_name (first_piece text) && bytes_eq (first_piece (after_piece text)) (codes "(")) ≡ false → said_in width (pieces_of text) ≡ None
+pub line_none : (width : ℕ) (text : List ℕ) → (is_name (first_piece text) && bytes_eq (first_piece (after_piece text)) (codes "(")) ≡ false → said_in width (pieces_of text) ≡ None
 line_none width text h = by (front text) (front (after_piece text))
   where
     by : NoPiece text ⊎ OnePiece text → NoPiece (after_piece text) ⊎ OnePiece (after_piece text) → said_in width (pieces_of text) ≡ None
@@ -219,22 +220,22 @@ value_none width name z v none = by (is_in_range width v) refl
 
 -- ---- what the program found
 
-pub begin_none : (width : ℕ) (line u p r q : List ℕ) (b : Bool) → u ≡ uncommented line → p ≡ first_piece u → r ≡ after_piece u → q ≡ first_piece r → b ≡ (is_alpha_name p && bytes_eq q (codes "(")) → b ≡ false
+pub begin_none : (width : ℕ) (line u p r q : List ℕ) (b : Bool) → u ≡ uncommented line → p ≡ first_piece u → r ≡ after_piece u → q ≡ first_piece r → b ≡ (is_name p && bytes_eq q (codes "(")) → b ≡ false
     → said_in width (pieces_of (uncommented line)) ≡ None
 begin_none width line u p r q b e f g h k m =
     let one : p ≡ first_piece (uncommented line) = f ∙ ap first_piece e in
     let two : q ≡ first_piece (after_piece (uncommented line)) = h ∙ ap first_piece (g ∙ ap after_piece e) in
-    line_none width (uncommented line) (ap₂ (λ n t. is_alpha_name n && bytes_eq t (codes "(")) (sym one) (sym two) ∙ sym k ∙ m)
+    line_none width (uncommented line) (ap₂ (λ n t. is_name n && bytes_eq t (codes "(")) (sym one) (sym two) ∙ sym k ∙ m)
 
-pub begin_is : (width : ℕ) (line u p r q t : List ℕ) (b : Bool) → u ≡ uncommented line → p ≡ first_piece u → r ≡ after_piece u → q ≡ first_piece r → t ≡ after_piece r → b ≡ (is_alpha_name p && bytes_eq q (codes "(")) → b ≡ true
+pub begin_is : (width : ℕ) (line u p r q t : List ℕ) (b : Bool) → u ≡ uncommented line → p ≡ first_piece u → r ≡ after_piece u → q ≡ first_piece r → t ≡ after_piece r → b ≡ (is_name p && bytes_eq q (codes "(")) → b ≡ true
     → said_in width (pieces_of (uncommented line)) ≡ said_of width p (entries_in (pieces_of t))
 begin_is width line u p r q t b e f g h i k m =
     let one : p ≡ first_piece (uncommented line) = f ∙ ap first_piece e in
     let rest : r ≡ after_piece (uncommented line) = g ∙ ap after_piece e in
     let two : q ≡ first_piece (after_piece (uncommented line)) = h ∙ ap first_piece rest in
     let three : t ≡ after_piece (after_piece (uncommented line)) = i ∙ ap after_piece rest in
-    let holds = both (is_alpha_name p) (bytes_eq q (codes "(")) (sym k ∙ m) in
-    line_is width (uncommented line) (ap is_alpha_name (sym one) ∙ holds.0) (ap (λ s. bytes_eq s (codes "(")) (sym two) ∙ holds.1)
+    let holds = both (is_name p) (bytes_eq q (codes "(")) (sym k ∙ m) in
+    line_is width (uncommented line) (ap is_name (sym one) ∙ holds.0) (ap (λ s. bytes_eq s (codes "(")) (sym two) ∙ holds.1)
     ∙ ap₂ (λ n s. said_of width n (entries_in (pieces_of s))) (sym one) (sym three)
 
 pub value_behind : (width : ℕ) (text p r q t : List ℕ) (b : Bool) (name : Text) (z : Point) → p ≡ first_piece text → r ≡ after_piece text → q ≡ first_piece r → t ≡ after_piece r → b ≡ (bytes_eq p (codes "=") && is_empty (first_piece t)) → b ≡ true

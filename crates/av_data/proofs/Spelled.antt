@@ -1,20 +1,22 @@
 -- Digits, names and the forms of a line: the tests and what they tell.
 use Rattle.std.proofs.Common.{◌≡◌, ℕ, suc, Bool, true, false, not, ◌&&◌, List, [], ◌∷◌, length, Option, Some, None, refl, sym, ap, ◌∙◌, subst, arith, true≢false}
 use Rattle.std.specs.Prelude.{if◌then◌else◌, nat_eq, nat_lt, IsTrue, All, codes}
-use Rattle.std.specs.List.{prefix_len}
+use Rattle.std.specs.List.{prefix_len, list_all}
 use Rattle.std.specs.Char.{is_ascii_digit}
 use Rattle.std.specs.Str.{bytes_eq}
 use Rattle.std.proofs.lemmas.Bool.{eqb-true, eq-eqb, ltb-false, cases_lt}
 use Rattle.std.proofs.lemmas.Cmp.{nat_list_eq_equiv}
-use Rattle.std.proofs.lemmas.List.Elements.{All-from_get_or, All-get_or, All-head, All-tail, All-cons}
+use Rattle.std.proofs.lemmas.List.Elements.{All-from_get_or, All-get_or, All-head, All-tail, All-cons, All-from_recursion, recursion_from_All}
 use Rattle.std.proofs.lemmas.List.Sums.{prefix_len_passes, prefix_len_stops, prefix_len-le-length}
 use Rattle.std.proofs.lemmas.Map.Views.{list_any-from_Contains, Contains-from_any}
 use Rattle.std.proofs.lemmas.Slice.Eq.{bytes_eq-Decides}
 use Rattle.std.proofs.Common.{inl, inr}
 use Rattle.av_base.specs.Tokens.{IsDigits, is_word_byte}
 use Rattle.av_net.specs.Lexemes.{reserved_words, begins_name, IsName, IsIdentifier}
+use Rattle.av_net.specs.Spelling.{is_identifier, is_reserved, is_name}
+use Rattle.av_base.proofs.Spelled.{all_word, word_all}
 use Rattle.av_data.specs.Lines.{separated}
-use Rattle.av_data.specs.Reading.{first_part, after_part, is_empty, are_digits, is_identifier, is_reserved, is_name, cycles_digits, Setting, setting_in}
+use Rattle.av_data.specs.Reading.{first_part, after_part, is_empty, are_digits, cycles_digits, Setting, setting_in}
 use Rattle.av_data.proofs.Parted.{part_is, end_is, part_of, end_of}
 
 pub both : (a b : Bool) → (a && b) ≡ true → (a ≡ true) × (b ≡ true)
@@ -72,11 +74,11 @@ digits_to (b ∷ bytes) h =
 
 identifier_from : (text : List ℕ) → is_identifier text ≡ true → IsIdentifier text
 identifier_from [] h = absurd (true≢false (sym h))
-identifier_from (b ∷ bytes) h = let z = both (begins_name b) (nat_eq (prefix_len is_word_byte bytes) (length bytes)) h in (z.0, all_pass is_word_byte bytes z.1)
+identifier_from (b ∷ bytes) h = let z = both (begins_name b) (list_all is_word_byte bytes) h in (z.0, All-from_recursion (λ x. IsTrue (is_word_byte x)) bytes (all_word bytes z.1))
 
 identifier_to : (text : List ℕ) → IsIdentifier text → is_identifier text ≡ true
 identifier_to [] h = absurd h
-identifier_to (b ∷ bytes) h = one_and (begins_name b) (nat_eq (prefix_len is_word_byte bytes) (length bytes)) h.0 (pass_all is_word_byte bytes h.1)
+identifier_to (b ∷ bytes) h = one_and (begins_name b) (list_all is_word_byte bytes) h.0 (word_all bytes (recursion_from_All (λ x. IsTrue (is_word_byte x)) bytes h.1))
 
 pub not_true : (t : Bool) → not t ≡ true → t ≡ true → ⊥
 not_true t e f = true≢false (sym e ∙ ap not f)

@@ -1,17 +1,14 @@
 -- What a line of data says is what is read of its parts.
-use Rattle.std.proofs.Common.{◌≡◌, ℕ, ◌-◌, ◌^◌, ℤ, pos, Bool, true, false, not, ◌&&◌, List, [], ◌∷◌, ◌++◌, Option, Some, None, refl, sym, ap, ◌∙◌, subst, arith, inl, inr, true≢false}
-use Rattle.std.specs.Prelude.{◌||◌, ◌<ℤ◌, neg_ℤ, int_le, int_lt, nat_eq, length, All, IsTrue, codes, if◌then◌else◌}
-use Rattle.std.specs.List.{prefix_len}
+use Rattle.std.proofs.Common.{◌≡◌, ℕ, ◌-◌, ◌^◌, ℤ, pos, Bool, true, false, ◌&&◌, List, [], ◌∷◌, ◌++◌, Option, Some, None, refl, sym, ap, ◌∙◌, subst, arith, inl, inr, true≢false}
+use Rattle.std.specs.Prelude.{◌||◌, ◌<ℤ◌, neg_ℤ, int_le, int_lt, nat_eq, All, IsTrue, codes, if◌then◌else◌}
 use Rattle.std.specs.Str.{bytes_eq}
 use Rattle.std.specs.Char.{is_ascii_alphabetic, is_ascii_digit}
 use Rattle.std.proofs.lemmas.Bool.{eqb-true}
 use Rattle.std.proofs.lemmas.Int.{ints}
-use Rattle.std.proofs.lemmas.Cmp.{nat_list_eq_equiv}
 use Rattle.std.proofs.lemmas.List.Elements.{All-nil, All-cons, All-head, All-tail}
-use Rattle.std.proofs.lemmas.Map.Views.{list_any-from_Contains, Contains-from_any}
 use Rattle.std.proofs.lemmas.Slice.Eq.{bytes_eq-Decides}
 use Rattle.av_base.specs.declared.token_kind.TokenKind.TheVariants as kind
-use Rattle.av_base.specs.Tokens.{IsDigits, IsWord, IsSpelled, is_word_byte, number_of, reserved_words}
+use Rattle.av_base.specs.Tokens.{IsDigits, IsWord, IsSpelled, is_word_byte, number_of}
 use Rattle.av_tree.specs.Points.{Point}
 use Rattle.av_tree.specs.Trees.{Text}
 use Rattle.av_flat.proofs.Sets.{at_most, is_at_most}
@@ -19,29 +16,11 @@ use Rattle.av_data.specs.Lines.{uncommented}
 use Rattle.av_data.specs.Reading.{are_digits}
 use Rattle.av_data.specs.Data.{IsSpread, SpellsWhole, SpellEach, behind_commas, with_commas, IsInRange, word_of, Says}
 use Rattle.av_data.specs.inner.Parts.{is_joined, pieces_of}
-use Rattle.av_data.specs.inner.Sayings.{is_alpha_word, is_alpha_reserved, is_alpha_name, signed_value, digits_in, whole_in, is_in_range, in_front, entries_behind, entries_in, Saying, said_value, said_behind, said_of, said_in, SaysOnly}
-use Rattle.av_data.proofs.Spelled.{both, one_and, all_pass, pass_all, digits_from, digits_to, not_true, is_false}
+use Rattle.av_data.specs.inner.Sayings.{signed_value, digits_in, whole_in, is_in_range, in_front, entries_behind, entries_in, Saying, said_value, said_behind, said_of, said_in, SaysOnly}
+use Rattle.av_base.specs.Spelling.{is_name}
+use Rattle.av_base.proofs.Spelled.{name_is, name_gives}
+use Rattle.av_data.proofs.Spelled.{both, one_and, digits_from, digits_to}
 use Rattle.av_data.proofs.Pieced.{IsRun, Stops, AreApart, spread_pieces, spread_are}
-
--- ---- names
-
-word_from : (text : List ℕ) → is_alpha_word text ≡ true → IsWord text
-word_from [] h = absurd (true≢false (sym h))
-word_from (b ∷ bytes) h = let z = both (is_ascii_alphabetic b) (nat_eq (prefix_len is_word_byte bytes) (length bytes)) h in (z.0, all_pass is_word_byte bytes z.1)
-
-word_to : (text : List ℕ) → IsWord text → is_alpha_word text ≡ true
-word_to [] h = absurd h
-word_to (b ∷ bytes) h = one_and (is_ascii_alphabetic b) (nat_eq (prefix_len is_word_byte bytes) (length bytes)) h.0 (pass_all is_word_byte bytes h.1)
-
-name_from : (text : List ℕ) → is_alpha_name text ≡ true → IsSpelled kind.Name text
-name_from text h =
-    let z = both (is_alpha_word text) (not (is_alpha_reserved text)) h in
-    (word_from text z.0, λ there. not_true (is_alpha_reserved text) z.1 (list_any-from_Contains nat_list_eq_equiv text reserved_words there))
-
-name_to : (text : List ℕ) → IsSpelled kind.Name text → is_alpha_name text ≡ true
-name_to text h =
-    one_and (is_alpha_word text) (not (is_alpha_reserved text)) (word_to text h.0)
-    (is_false (is_alpha_reserved text) (λ found. h.1 (Contains-from_any (λ x y e. (bytes_eq-Decides x y).0 e) text reserved_words found)))
 
 -- ---- bytes that are joined
 
@@ -267,7 +246,7 @@ says_parts width line name z w s =
 -- what a line says is read
 pub says_read : (width : ℕ) (line name : List ℕ) (z : Point) (w : ℕ) → Says width line name z w → said_in width (pieces_of (uncommented line)) ≡ Some (record { name = name; point = z; word = w })
 says_read width line name z w s =
-    rw (says_parts width line name z w s, name_to name s.named, entries_read s.entries z (codes "=" ∷ s.text ∷ []) s.point, spelled_whole s.text s.value s.valued, range_to width s.value s.range, s.word) refl
+    rw (says_parts width line name z w s, name_gives name s.named, entries_read s.entries z (codes "=" ∷ s.text ∷ []) s.point, spelled_whole s.text s.value s.valued, range_to width s.value s.range, s.word) refl
 
 value_found : (width : ℕ) (name : Text) (z : Point) (o : Option ℤ) (r : Saying) → said_value width name z o ≡ Some r → (x : ℤ) × (o ≡ Some x) × IsInRange width x × (r ≡ record { name = name; point = z; word = word_of width x })
 value_found width name z None r h = absurd (none_some h)
@@ -304,7 +283,7 @@ behind_said width name z (t ∷ u ∷ []) r h = by (bytes_eq t (codes "=")) refl
         (u, x, ap (λ s. s ∷ u ∷ []) ((bytes_eq-Decides t (codes "=")).0 e), whole_spelled u x w, range, is)
     by false e k = absurd (none_some k)
 
-found_said : (width : ℕ) (name : List ℕ) (parts : List (List ℕ)) (r : Saying) → is_alpha_name name ≡ true → said_of width name (entries_in parts) ≡ Some r → AreSaid width (name ∷ codes "(" ∷ parts) r
+found_said : (width : ℕ) (name : List ℕ) (parts : List (List ℕ)) (r : Saying) → is_name name ≡ true → said_of width name (entries_in parts) ≡ Some r → AreSaid width (name ∷ codes "(" ∷ parts) r
 found_said width name parts r named h = by (entries_in parts) refl h
   where
     by : (o : Option Found) → entries_in parts ≡ o → said_of width name o ≡ Some r → AreSaid width (name ∷ codes "(" ∷ parts) r
@@ -318,7 +297,7 @@ found_said width name parts r named h = by (entries_in parts) refl h
           text = text;
           value = x;
           parts_are = ap (λ ps. name ∷ codes "(" ∷ ps) (are.are ∙ ap (λ ps. with_commas are.texts ++ (codes ")" ∷ ps)) rest);
-          named = name_from name named;
+          named = name_is name named;
           point = are.spelled;
           valued = valued;
           range = range;
@@ -328,9 +307,9 @@ found_said width name parts r named h = by (entries_in parts) refl h
 parts_said : (width : ℕ) (parts : List (List ℕ)) (r : Saying) → said_in width parts ≡ Some r → AreSaid width parts r
 parts_said width [] r h = absurd (none_some h)
 parts_said width (t ∷ []) r h = absurd (none_some h)
-parts_said width (t ∷ u ∷ parts) r h = by (is_alpha_name t) (bytes_eq u (codes "(")) refl refl h
+parts_said width (t ∷ u ∷ parts) r h = by (is_name t) (bytes_eq u (codes "(")) refl refl h
   where
-    by : (b c : Bool) → is_alpha_name t ≡ b → bytes_eq u (codes "(") ≡ c → (if b && c then said_of width t (entries_in parts) else None) ≡ Some r → AreSaid width (t ∷ u ∷ parts) r
+    by : (b c : Bool) → is_name t ≡ b → bytes_eq u (codes "(") ≡ c → (if b && c then said_of width t (entries_in parts) else None) ≡ Some r → AreSaid width (t ∷ u ∷ parts) r
     by true true e d k = subst (λ v. AreSaid width (t ∷ v ∷ parts) r) (sym ((bytes_eq-Decides u (codes "(")).0 d)) (found_said width t parts r e k)
     by true false e d k = absurd (none_some k)
     by false c e d k = absurd (none_some k)

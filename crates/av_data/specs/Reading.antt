@@ -1,12 +1,13 @@
 -- Reading a stimulus from left to right and line by line.
 use Rattle.std.specs.Prelude.{◌≡◌, ℕ, ◌+◌, ◌^◌, Bool, false, not, ◌&&◌, if◌then◌else◌, nat_eq, nat_lt, nat_le, List, [], ◌∷◌, codes, length, take, drop, Option, Some, None, Result, Ok, Err, slice_get}
-use Rattle.std.specs.List.{prefix_len, list_any, position}
+use Rattle.std.specs.List.{prefix_len, position}
 use Rattle.std.specs.Str.{bytes_eq}
 use Rattle.std.specs.Char.{is_ascii_digit}
-use Rattle.av_base.specs.Tokens.{number_of, is_word_byte}
+use Rattle.av_base.specs.Tokens.{number_of}
+use Rattle.av_base.specs.Spelling.{is_not_feed}
 use Rattle.av_net.specs.declared.netlist.Port.{Port}
 use Rattle.av_net.specs.Listed.{begins_feed}
-use Rattle.av_net.specs.Lexemes.{reserved_words, begins_name}
+use Rattle.av_net.specs.Spelling.{is_name}
 use Rattle.av_net.specs.Names.{names_of}
 use Rattle.av_data.specs.declared.stimulus.Given.{Given}
 use Rattle.av_data.specs.declared.stimulus.Stimulus.{Stimulus}
@@ -30,9 +31,6 @@ first_line (b ∷ bytes) = if nat_eq b 10 then [] else (if begins_return (b ∷ 
 abbrev pub line_size : List ℕ → ℕ
 line_size [] = 0
 line_size (b ∷ bytes) = if nat_eq b 10 then 1 else (if begins_return (b ∷ bytes) then 2 else 1 + line_size bytes)
-
-abbrev pub is_not_feed : ℕ → Bool
-is_not_feed b = not (nat_eq b 10)
 
 -- how many bytes it has with its line feed
 unfoldable pub whole_size : List ℕ → ℕ
@@ -59,16 +57,6 @@ is_empty text = nat_eq (length text) 0
 
 abbrev pub are_digits : List ℕ → Bool
 are_digits text = nat_lt 0 (length text) && nat_eq (prefix_len is_ascii_digit text) (length text)
-
-abbrev pub is_identifier : List ℕ → Bool
-is_identifier [] = false
-is_identifier (b ∷ bytes) = begins_name b && nat_eq (prefix_len is_word_byte bytes) (length bytes)
-
-abbrev pub is_reserved : List ℕ → Bool
-is_reserved text = list_any (bytes_eq text) reserved_words
-
-abbrev pub is_name : List ℕ → Bool
-is_name text = is_identifier text && not (is_reserved text)
 
 -- the digits behind `cycles`, where nothing else stands there
 unfoldable pub cycles_digits : List ℕ → Option (List ℕ)

@@ -1,10 +1,9 @@
 ghost use Rattle.std.specs.Prelude.{◌≡◌, ◌<◌, ◌≤◌, ◌+◌, ◌∷◌, length, if◌then◌else◌, nat_lt, IfSome, IfNone};
-ghost use Rattle.std.specs.List.{prefix_len};
 ghost use Rattle.av_data.specs.Divisions.{is_mark, IsDivided, HasNoMark};
-ghost use Rattle.av_data.specs.Reading.{is_not_feed, whole_size};
+ghost use Rattle.av_data.specs.Reading.{whole_size};
 
 use crate::lines::from;
-use av_base::part;
+use av_base::{line_len, part};
 
 /// A text, and what stands behind the first line `%%`. The lines of that are counted from the start of the
 /// input, and its first one has the number `first_line`.
@@ -15,20 +14,13 @@ pub struct Division<'a> {
     pub first_line: u32,
 }
 
-fn feed_index(bytes: &[u8]) -> usize
-    ensures index { result ≡ prefix_len is_not_feed bytes.now }
-    ensures within { result ≤ length bytes.now }
-{
-    bytes.iter().take_while(|byte| **byte != b'\n').count()
-}
-
 // How many bytes the first line has with the line feed that ends it.
 #[tactic(auto, unfolding(crate::specs::Reading::whole_size))]
 fn whole_size(bytes: &[u8]) -> usize
     ensures size { result ≡ whole_size bytes.now }
     ensures within { result ≤ length bytes.now }
 {
-    let len = feed_index(bytes);
+    let len = line_len(bytes);
     if len < bytes.len() { len + 1 } else { len }
 }
 

@@ -5,7 +5,8 @@ ghost use Rattle.av_data.specs.Reading.{is_empty, cycles_digits, setting_by, set
 ghost use Rattle.av_data.specs.inner.Said.{said};
 
 use crate::lines::first_part;
-use crate::spelling::{are_digits, is_name};
+use crate::spelling::are_digits;
+use av_net::is_name;
 
 /// What stands behind `at`: the digits of a cycle, a name, and the digits of a value.
 #[derive(Clone, Copy)]

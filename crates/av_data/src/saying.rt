@@ -2,16 +2,17 @@
 
 ghost use Rattle.std.specs.Prelude.{ℕ, ℤ, List as Items, ◌≡◌, ◌&&◌, codes, Some, None, IfSome, IfNone};
 ghost use Rattle.std.specs.Str.{bytes_eq};
+ghost use Rattle.av_base.specs.Spelling.{is_name};
 ghost use Rattle.av_data.specs.Reading.{is_empty};
 ghost use Rattle.av_data.specs.Data.{Says};
 ghost use Rattle.av_data.specs.inner.Parts.{pieces_of, first_piece};
-ghost use Rattle.av_data.specs.inner.Sayings.{is_alpha_word, is_alpha_name, Keeps, SaysOnly, entries_in, said_behind, said_of};
+ghost use Rattle.av_data.specs.inner.Sayings.{Keeps, SaysOnly, entries_in, said_behind, said_of};
 
 use crate::entries::Entries;
 use crate::lines::uncommented;
 use crate::pieces::{first_piece, is_close, is_comma, is_end};
 use crate::whole::whole_in;
-use av_base::{Width, Word, is_reserved_word, word_len};
+use av_base::{Width, Word, is_name};
 
 /// A point of a variable, and its word.
 #[derive(Drop)]
@@ -21,27 +22,11 @@ pub(crate) struct Saying<'a> {
     pub(crate) word: Word,
 }
 
-fn is_alpha_word(text: &[u8]) -> bool
-    ensures { result ≡ is_alpha_word text.now }
-{
-    match text {
-        [] => false,
-        [first, rest @ ..] => first.is_ascii_alphabetic() && word_len(rest) == rest.len(),
-    }
-}
-
-// A name as in a program text: a letter, then letters, digits and `_`, and no reserved word.
-fn is_alpha_name(text: &[u8]) -> bool
-    ensures { result ≡ is_alpha_name text.now }
-{
-    is_alpha_word(text) && !is_reserved_word(text)
-}
-
 // Whether a point of a variable begins with these parts: its name, and `(`.
 fn begins_point(name: &[u8], sign: &[u8]) -> bool
-    ensures { result ≡ (is_alpha_name name.now && bytes_eq sign.now (codes "(")) }
+    ensures { result ≡ (is_name name.now && bytes_eq sign.now (codes "(")) }
 {
-    is_alpha_name(name) && sign == b"(".as_slice()
+    is_name(name) && sign == b"(".as_slice()
 }
 
 // The entries up to the `)`, and what follows that.

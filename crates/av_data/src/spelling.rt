@@ -1,33 +1,16 @@
-//! How digits and names are spelled.
+//! How digits are spelled.
 
 ghost use Rattle.std.specs.Prelude.{◌≡◌, ◌^◌, ◌<◌, ◌≤◌, IfSome, IfNone};
 ghost use Rattle.av_base.specs.Tokens.{number_of};
-ghost use Rattle.av_data.specs.Reading.{are_digits, is_identifier, is_name};
+ghost use Rattle.av_data.specs.Reading.{are_digits};
 
-use av_base::{Width, Word, decimal_value, digits_len, word_len};
-use av_net::{begins_name, is_keyword};
+use av_base::{Width, Word, decimal_value, digits_len};
 
 /// One or more digits.
 pub(crate) fn are_digits(text: &[u8]) -> bool
     ensures { result ≡ are_digits text.now }
 {
     !text.is_empty() && digits_len(text) == text.len()
-}
-
-fn is_identifier(text: &[u8]) -> bool
-    ensures { result ≡ is_identifier text.now }
-{
-    match text {
-        [] => false,
-        [first, rest @ ..] => begins_name(*first) && word_len(rest) == rest.len(),
-    }
-}
-
-/// A name as in a design text: a letter or `_`, then letters, digits and `_`, and no reserved word.
-pub(crate) fn is_name(text: &[u8]) -> bool
-    ensures { result ≡ is_name text.now }
-{
-    is_identifier(text) && !is_keyword(text)
 }
 
 /// The decimal value of digits, if it is below a bound.

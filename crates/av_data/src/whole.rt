@@ -7,7 +7,11 @@ ghost use Rattle.av_data.specs.Data.{IsInRange, word_of};
 ghost use Rattle.av_data.specs.inner.Sayings.{whole_in, digits_in, signed_value};
 
 use crate::spelling::{are_digits, number_below, word_of};
+use av_base::limits::MOST_COORDINATE;
 use av_base::{Width, Word, decimal_value};
+
+// The greatest absolute value of a coordinate.
+const LIMIT: u32 = MOST_COORDINATE as u32;
 
 /// The digits of a whole number, and whether a minus sign stands before them.
 #[derive(Clone, Copy)]
@@ -51,7 +55,7 @@ impl<'a> Whole<'a> {
         ensures some { IfSome result (λ x. (x ≡ signed_value self.now.negative self.now.digits.now) × (unsigned_abs x ≤ 4095)) }
         ensures none { IfNone result (4095 < unsigned_abs (signed_value self.now.negative self.now.digits.now)) }
     {
-        let number = i64::from(number_below(self.digits, 4096)?);
+        let number = i64::from(number_below(self.digits, LIMIT + 1)?);
         Some(if self.negative { -number } else { number })
     }
 

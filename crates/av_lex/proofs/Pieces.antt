@@ -1,8 +1,7 @@
 -- What the piece at the front of a text is.
-use Rattle.std.proofs.Common.{◌≡◌, ◌≢◌, ℕ, suc, ◌+◌, ◌<◌, ◌≤◌, Bool, true, false, cond, not, ◌||◌, List, [], ◌∷◌, ◌++◌, length, take, drop, refl, sym, ap, subst, ◌∙◌, arith, inl, inr, eq-eqb}
+use Rattle.std.proofs.Common.{◌≡◌, ◌≢◌, ℕ, suc, ◌+◌, ◌<◌, ◌≤◌, Bool, true, false, cond, List, [], ◌∷◌, ◌++◌, length, take, drop, refl, sym, ap, subst, ◌∙◌, arith, inl, inr}
 use Rattle.std.specs.Prelude.{nat_eq, All}
-use Rattle.std.specs.List.{prefix_len, AllByRecursion}
-use Rattle.std.proofs.Math.Numerals.{one-add}
+use Rattle.std.specs.List.{prefix_len}
 use Rattle.std.proofs.lemmas.Bool.{eqb-true}
 use Rattle.std.proofs.lemmas.List.Elements.{All-from_recursion, recursion_from_All}
 use Rattle.std.proofs.lemmas.List.Sums.{prefix_len-le-length}
@@ -11,9 +10,11 @@ use Rattle.av_base.specs.Tokens.{IsLongest, is_blank, IsCommented, IsLineEnd, Is
 use Rattle.av_lex.specs.declared.scan.Piece.{Piece}
 use Rattle.av_lex.specs.declared.scan.Piece.TheVariants as piece
 use Rattle.av_lex.specs.Faults.{BeginsNone}
-use Rattle.av_lex.specs.Scan.{is_not_feed, is_dashed, symbol_of, token_of, piece_of}
-use Rattle.av_lex.proofs.Tables.{both}
-use Rattle.av_lex.proofs.Longest.{chosen, run_all, Found, token_found, token_none, token_is, IsNoGap, token_no_gap, none_is}
+use Rattle.av_base.specs.Spelling.{is_not_feed}
+use Rattle.av_lex.specs.inner.Scan.{is_dashed, symbol_of, token_of, piece_of}
+use Rattle.av_base.proofs.Tables.{both}
+use Rattle.av_base.proofs.Runs.{feeds, stops_at, run_exact, blank_or, chosen, run_all}
+use Rattle.av_lex.proofs.Longest.{Found, token_found, token_none, token_is, IsNoGap, token_no_gap, none_is}
 
 -- ---- what is found is so
 
@@ -22,18 +23,6 @@ pub data IsPiece : List ℕ → Piece → Type 0 where
   a_comment : {bytes : List ℕ} {n : ℕ} → 0 < n → n ≤ length bytes → IsComment (take n bytes) (drop n bytes) → IsPiece bytes (piece.Gap n)
   a_token : {bytes : List ℕ} {k : TokenKind} {n : ℕ} → (IsCommented bytes → ⊥) → Found k n bytes → IsPiece bytes (piece.Token k n)
   no_piece : {b : ℕ} {bytes : List ℕ} → is_blank b ≡ false → (IsCommented (b ∷ bytes) → ⊥) → BeginsNone (b ∷ bytes) → IsPiece (b ∷ bytes) piece.Bad
-
-feeds : (bytes : List ℕ) → AllByRecursion (λ x. is_not_feed x ≡ true) bytes → AllByRecursion (λ b. b ≢ 10) bytes
-feeds [] h = tt
-feeds (b ∷ bytes) h = (λ e. let z = ap not (eq-eqb b 10 e) in cc, feeds bytes h.1)
-
-stops_at : (bytes : List ℕ) → IsLineEnd (drop (prefix_len is_not_feed bytes) bytes)
-stops_at [] = tt
-stops_at (b ∷ bytes) = go (nat_eq b 10) refl (stops_at bytes)
-  where
-    go : (t : Bool) → nat_eq b 10 ≡ t → IsLineEnd (drop (prefix_len is_not_feed bytes) bytes) → IsLineEnd (drop (cond (not t) (1 + prefix_len is_not_feed bytes) 0) (b ∷ bytes))
-    go true e h = eqb-true b 10 e
-    go false e h = rw one-add h
 
 -- a comment begins with two dashes
 dashes_of : (b : ℕ) (bytes : List ℕ) → is_dashed (b ∷ bytes) ≡ true → IsCommented (b ∷ bytes)
@@ -79,30 +68,6 @@ is_piece b bytes found e =
     ]
 
 -- ---- what is so is found
-
-run_exact : (more rest : List ℕ) → AllByRecursion (λ b. b ≢ 10) more → IsLineEnd rest → prefix_len is_not_feed (more ++ rest) ≡ length more
-run_exact [] [] h s = refl
-run_exact [] (b ∷ rest) h s = rw s refl
-run_exact (b ∷ more) rest h s =
-    let e : nat_eq b 10 ≡ false = not_equal b 10 h.0 in
-    rw (e, run_exact more rest h.1 s) (omega arith)
-  where
-    not_equal : (x y : ℕ) → x ≢ y → nat_eq x y ≡ false
-    not_equal x y n = go (nat_eq x y) refl
-      where
-        go : (t : Bool) → nat_eq x y ≡ t → nat_eq x y ≡ false
-        go true e = absurd (n (eqb-true x y e))
-        go false e = e
-
-blank_or : (b : ℕ) (P : ℕ → Type 0) → is_blank b ≡ true → P 32 → P 9 → P 13 → P 10 → P b
-blank_or b P h x y z w = go (nat_eq b 32) (nat_eq b 9) (nat_eq b 13) (nat_eq b 10) refl refl refl refl h
-  where
-    go : (i j k l : Bool) → nat_eq b 32 ≡ i → nat_eq b 9 ≡ j → nat_eq b 13 ≡ k → nat_eq b 10 ≡ l → (i || j || k || l) ≡ true → P b
-    go true j k l e f g o t = subst P (sym (eqb-true b 32 e)) x
-    go false true k l e f g o t = subst P (sym (eqb-true b 9 f)) y
-    go false false true l e f g o t = subst P (sym (eqb-true b 13 g)) z
-    go false false false true e f g o t = subst P (sym (eqb-true b 10 o)) w
-    go false false false false e f g o t = absurd (let q : ◌≡◌ {A = Bool} false true = t in cc)
 
 begins_none : (b : ℕ) (bytes : List ℕ) → is_blank b ≡ true → token_of b (b ∷ bytes) ≡ piece.Bad
 unfolding token_of symbol_of

@@ -17,10 +17,10 @@ use Rattle.av_lex.specs.Faults.{BeginsNone, IsFault, bad_byte, number, past_blan
 use Rattle.av_lex.specs.Lexing.{LieInOrder, views, Gives}
 use Rattle.av_lex.specs.declared.token.Token.{Token as Code}
 use Rattle.av_lex.specs.inner.Reading.{Reading, with_token, read_by, read_of}
-use Rattle.av_lex.specs.Scan.{piece_of, is_in_range}
+use Rattle.av_lex.specs.inner.Scan.{piece_of, is_in_range}
+use Rattle.av_base.proofs.Runs.{chosen}
 use Rattle.av_lex.proofs.Tables.{reserved_word, IsSymbol, symbol_is}
 use Rattle.av_base.proofs.Passing.{moved-append}
-use Rattle.av_lex.proofs.Longest.{chosen}
 use Rattle.av_lex.proofs.Pieces.{IsPiece, a_blank, a_comment, a_token, no_piece, is_piece, piece_blank, piece_comment, piece_token, piece_none}
 
 ok_is : (x y : List Token) → ◌≡◌ {A = Reading} (Ok x) (Ok y) → x ≡ y

@@ -9,7 +9,7 @@ use Rattle.av_lex.specs.declared.fault.LexFault.TheVariants as fault
 use Rattle.av_lex.specs.declared.scan.Piece.{Piece}
 use Rattle.av_lex.specs.declared.scan.Piece.TheVariants as piece
 use Rattle.av_lex.specs.inner.Reading.{Reading, with_token, read_by, read_of}
-use Rattle.av_lex.specs.Scan.{piece_of, is_in_range, FitsIn}
+use Rattle.av_lex.specs.inner.Scan.{piece_of, is_in_range, FitsIn}
 use Rattle.av_base.proofs.Passing.{moved_line, moved_column}
 use Rattle.av_lex.proofs.Pieces.{IsPiece, a_blank, a_comment, a_token, no_piece, is_piece}
 

@@ -1,26 +1,19 @@
 //! What stands at the front of a text.
 
 ghost use Rattle.std.specs.Prelude.{◌≡◌, ◌<◌, ◌-◌, length, drop, slice_index};
-ghost use Rattle.std.specs.List.{prefix_len};
-ghost use Rattle.av_lex.specs.Scan.{is_not_feed, is_dashed, is_single, is_pair, begins_pair, symbol_of, word_kind, token_of, piece_of, FitsIn};
+ghost use Rattle.av_lex.specs.inner.Scan.{is_dashed, is_single, is_pair, begins_pair, symbol_of, word_kind, token_of, piece_of, FitsIn};
 
-use av_base::{TokenKind, digits_len, is_blank, is_reserved_word, word_len};
+use av_base::{TokenKind, digits_len, is_blank, is_reserved_word, line_len, word_len};
 
 /// What stands at the front of a text.
 #[derive(Clone, Copy, Debug)]
-pub enum Piece {
+pub(crate) enum Piece {
     /// So many bytes that are no token.
     Gap(usize),
     /// A token of so many bytes.
     Token(TokenKind, usize),
     /// A byte that begins no token.
     Bad,
-}
-
-fn line_len(text: &[u8]) -> usize
-    ensures { result ≡ prefix_len is_not_feed text.now }
-{
-    text.iter().take_while(|byte| **byte != b'\n').count()
 }
 
 fn is_dashed(text: &[u8]) -> bool
@@ -86,7 +79,7 @@ fn begins_pair(text: &[u8]) -> bool
     }
 }
 
-#[tactic(auto, unfolding(crate::specs::Scan::symbol_of))]
+#[tactic(auto, unfolding(crate::specs::inner::Scan::symbol_of))]
 fn symbol_of(first: u8, text: &[u8]) -> Piece
     ensures { result ≡ symbol_of first text.now }
 {
@@ -99,7 +92,7 @@ fn symbol_of(first: u8, text: &[u8]) -> Piece
     }
 }
 
-#[tactic(auto, unfolding(crate::specs::Scan::token_of))]
+#[tactic(auto, unfolding(crate::specs::inner::Scan::token_of))]
 fn token_of(first: u8, text: &[u8]) -> Piece
     ensures { result ≡ token_of first text.now }
 {
@@ -113,7 +106,7 @@ fn token_of(first: u8, text: &[u8]) -> Piece
     }
 }
 
-#[tactic(auto, unfolding(crate::specs::Scan::piece_of))]
+#[tactic(auto, unfolding(crate::specs::inner::Scan::piece_of))]
 fn piece_of(first: u8, text: &[u8]) -> Piece
     ensures { result ≡ piece_of first text.now }
 {
@@ -127,7 +120,7 @@ fn piece_of(first: u8, text: &[u8]) -> Piece
 }
 
 /// What stands at an index of a text.
-pub fn piece_at(text: &[u8], at: usize) -> Piece
+pub(crate) fn piece_at(text: &[u8], at: usize) -> Piece
     requires { at < length text.now }
     ensures piece { result ≡ piece_of (slice_index text.now at) (drop at text.now) }
     ensures fits { FitsIn result (length text.now - at) }

@@ -8,6 +8,7 @@ pub mod Presented
 pub mod Laws
 pub mod Texts
 pub mod Lexemes
+pub mod Spelling
 pub mod Grammar
 pub mod Listed
 pub mod Rows

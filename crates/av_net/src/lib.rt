@@ -14,5 +14,5 @@ pub use design::{Design, Entry, Listing};
 pub use laws::{presented, runs, settled_once};
 pub use netlist::{Drive, Module, Port, Step};
 pub use operation::{Operand, Operation, Symbol};
-pub use spelling::{begins_name, is_keyword};
+pub use spelling::{begins_name, is_keyword, is_name};
 pub use token_kind::TokenKind;

@@ -7,7 +7,7 @@ ghost use Rattle.av_parse.specs.inner.IndexReader.{sign_of, term_sign_at, names_
 
 use crate::cursor::Cursor;
 use crate::fault::Stop;
-use crate::text::{name_of, names_of, value_of};
+use crate::text::{names_of, value_of};
 use av_base::{List, Name, Place, TokenKind};
 use av_lex::Token;
 use av_tree::{IndexExpr, MapText, Term};
@@ -60,7 +60,7 @@ impl<'t, 'a> Cursor<'t, 'a> {
     {
         let factor = signed(negative, value);
         if self.begins(TokenKind::Name) {
-            let name = name_of(self.alloc, self.text())?;
+            let name = Name::from_bytes(self.alloc, self.text())?;
             let place = self.skip();
             return Ok(Term {
                 factor,
@@ -79,7 +79,7 @@ impl<'t, 'a> Cursor<'t, 'a> {
         let name = self.expect(TokenKind::Name)?;
         Ok(Term {
             factor,
-            name: Some(name_of(self.alloc, name.text)?),
+            name: Some(Name::from_bytes(self.alloc, name.text)?),
             place: name.place,
         })
     }
@@ -89,7 +89,7 @@ impl<'t, 'a> Cursor<'t, 'a> {
     fn name_term(&mut self, negative: bool, name: &[u8], place: Place) -> Result<Term, Stop>
         ensures { Gives (λ t. (t, views self.new.rest.now)) result (name_term_of (sign_of negative) name.now place (views self.old.rest.now)) }
     {
-        let name = name_of(self.alloc, name)?;
+        let name = Name::from_bytes(self.alloc, name)?;
         if !self.is_symbol(b"*") {
             return Ok(Term {
                 factor: if negative { -1 } else { 1 },

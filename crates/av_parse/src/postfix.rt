@@ -10,8 +10,7 @@ ghost use Rattle.av_parse.specs.inner.ExpressionReader.{readers, brackets_of, in
 
 use crate::cursor::Cursor;
 use crate::fault::Stop;
-use crate::text::name_of;
-use av_base::{List, Memory, Op, Place};
+use av_base::{List, Memory, Name, Op, Place};
 use av_tree::{Access, Expr, MapText, Relation, Sign};
 use std::alloc::Global;
 
@@ -148,7 +147,7 @@ impl<'t, 'a> Cursor<'t, 'a> {
         let indices = self.optional_indices()?;
         self.symbol(b"]")?;
         Ok(Expr::Ref {
-            name: name_of(self.alloc, name)?,
+            name: Name::from_bytes(self.alloc, name)?,
             at: Access::Indices(indices),
             place,
         })
@@ -203,7 +202,7 @@ impl<'t, 'a> Cursor<'t, 'a> {
             let tree = self.indexed(name, place)?;
             return self.postfix_tail(levels, tree);
         }
-        let name = name_of(self.alloc, name)?;
+        let name = Name::from_bytes(self.alloc, name)?;
         if !self.is_symbol(b".") {
             return Ok(Expr::Ref {
                 name,

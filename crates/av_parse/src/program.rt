@@ -11,7 +11,6 @@ ghost use Rattle.av_parse.specs.inner.Views.{view_header};
 use crate::copy;
 use crate::cursor::Cursor;
 use crate::fault::Stop;
-use crate::text::name_of;
 use av_base::{List, Memory, Name, Place, TokenKind};
 use av_lex::Token;
 use av_tree::{Declaration, DomainText, Equation, System};
@@ -37,7 +36,7 @@ fn declare(
 {
     for token in names {
         found.push(Declaration {
-            name: name_of(alloc, token.text)?,
+            name: Name::from_bytes(alloc, token.text)?,
             domain: copy::domain(alloc, domain)?,
             place: token.place,
         })?;
@@ -171,7 +170,7 @@ impl<'t, 'a> Cursor<'t, 'a> {
         let right = self.deeper_expr(levels)?;
         self.symbol(b";")?;
         Ok(Equation {
-            name: name_of(self.alloc, name.text)?,
+            name: Name::from_bytes(self.alloc, name.text)?,
             indices,
             right,
             place: name.place,
@@ -221,7 +220,7 @@ impl<'t, 'a> Cursor<'t, 'a> {
         self.symbol(b")")?;
         self.symbol(b";")?;
         Ok(Header {
-            name: name_of(self.alloc, name.text)?,
+            name: Name::from_bytes(self.alloc, name.text)?,
             sizes,
             inputs,
             outputs,

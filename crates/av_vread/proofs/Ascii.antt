@@ -14,8 +14,9 @@ use Rattle.av_net.specs.declared.token_kind.TokenKind.TheVariants as kind
 use Rattle.av_net.specs.Lexemes.{symbols, begins_name, IsIdentifier, IsSpelled}
 use Rattle.av_vread.specs.declared.scan.Piece.{Piece}
 use Rattle.av_vread.specs.declared.scan.Piece.TheVariants as piece
-use Rattle.av_vread.specs.Scan.{piece_of}
-use Rattle.av_vread.proofs.Tables.{tells, reserved_word}
+use Rattle.av_vread.specs.inner.Scan.{piece_of}
+use Rattle.av_base.proofs.Tables.{tells}
+use Rattle.av_vread.proofs.Tables.{reserved_word}
 use Rattle.av_vread.proofs.Pieces.{IsPiece, a_blank, a_comment, a_token, no_piece, is_piece}
 
 abbrev is_low : List ℕ → Bool

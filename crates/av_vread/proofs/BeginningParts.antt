@@ -17,7 +17,7 @@ use Rattle.av_net.specs.Names.{clk, rst}
 use Rattle.av_net.specs.Sound.{IsOrder}
 use Rattle.av_net.specs.Lexemes.{Token}
 use Rattle.av_net.specs.Grammar.{Declaration, wire, register, Item, drive, step as step_item, AreWords, no_word, next_word, IsWordAt, IsNameAt, name, IsNumberAt, number, IsLiteralAt, IsRange, no_range, range, IsPort, IsDeclaration, wire_declaration, register_declaration, IsOperand, named, constant, spelling, IsSigned, IsOperation, plain, binary, signed, choice, IsDrive, IsEdge, IsItem, assignment, at_an_edge}
-use Rattle.av_vread.specs.Reading.{◌>>=◌, Read, same, after, is_word, is_at, word_at, words_at, name_at, this_name_at, number_at, Sized, is_literal, sized_in, literal_by, literal_at, width_for, range_at, port_at, directed_at, declared_at, declaration_at, begins_literal, operand_at, order_of, symbol_at, order_by, order_at, signed_at, comparison_at, choice_at, binary_by, operation_by, operation_at, drive_at, edge_at, reset_at, step_at, item_at}
+use Rattle.av_vread.specs.inner.Reading.{◌>>=◌, Read, same, after, is_word, is_at, word_at, words_at, name_at, this_name_at, number_at, Sized, is_literal, sized_in, literal_by, literal_at, width_for, range_at, port_at, directed_at, declared_at, declaration_at, begins_literal, operand_at, order_of, symbol_at, order_by, order_at, signed_at, comparison_at, choice_at, binary_by, operation_by, operation_at, drive_at, edge_at, reset_at, step_at, item_at}
 use Rattle.av_vread.proofs.Steps.{word_took, name_took, this_name_took, number_took, literal_took, at_word}
 use Rattle.av_vread.proofs.Sound.{width_bits, symbol_took, order_took, Reset}
 use Rattle.av_vread.proofs.Verdicts.{Ends, ends_some, left_ends, puts_none, Alike, Verdict, past, Reads, pair, alone, one_token, Follows, follows, then_reads, Mapped, mapped, unmap, map_reads, verdict_as, reads_as, opened, when_true, when_false, behind}

@@ -11,8 +11,8 @@ use Rattle.av_net.specs.Names.{clk, rst}
 use Rattle.av_net.specs.Lexemes.{Token, IsSpelled, AreTokens, end as end_of_bytes, blank, comment, token}
 use Rattle.av_net.specs.Grammar.{Text, Declaration, Item, AreWords, no_word, next_word, IsWordAt, IsNameAt, name, IsEnd, end, no_range, IsPort, IsDeclaration, IsItem, AreMany, no_more, one_more, IsClocked, IsText}
 use Rattle.av_vread.specs.Beginnings.{Begins, StopsAt}
-use Rattle.av_vread.specs.Reading.{◌>>=◌, Read, same, is_word, is_at, are_at, words_at, end_at, width_for, directed_at, begins_declaration, declaration_at, begins_item, item_at, many_at, all_at, ports_at, declarations_at, items_at, Header, closed_at, clocked_at, header_at, text_at}
-use Rattle.av_vread.proofs.Tables.{both}
+use Rattle.av_vread.specs.inner.Reading.{◌>>=◌, Read, same, is_word, is_at, are_at, words_at, end_at, width_for, directed_at, begins_declaration, declaration_at, begins_item, item_at, many_at, all_at, ports_at, declarations_at, items_at, Header, closed_at, clocked_at, header_at, text_at}
+use Rattle.av_base.proofs.Tables.{both}
 use Rattle.av_vread.proofs.Steps.{same_is, same_self, at_word, other_there}
 use Rattle.av_vread.proofs.Sound.{width_bits}
 use Rattle.av_vread.proofs.Complete.{directed_gives, two_there, declaration_begins, item_begins, text_gives}

@@ -3,7 +3,7 @@ use Rattle.std.proofs.Common.{◌≡◌, ℕ, ◌≤◌, Bool, true, false, refl
 use Rattle.std.specs.Prelude.{◌&&◌, nat_le}
 use Rattle.std.proofs.Math.Bridge.{le_prop}
 use Rattle.av_base.specs.declared.width.Width.{Width}
-use Rattle.av_vread.specs.Bits.{is_width, width_by, width_of}
+use Rattle.av_vread.specs.inner.Bits.{is_width, width_by, width_of}
 
 pub width_is : (v w : Width) → v.bits ≡ w.bits → v ≡ w
 width_is v w e = subst (λ n. (l : 1 ≤ n) (m : n ≤ 64) → v ≡ record { bits = n; least = l; most = m }) e same w.least w.most

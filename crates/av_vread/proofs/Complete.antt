@@ -19,7 +19,7 @@ use Rattle.av_net.specs.declared.netlist.Step.{Step}
 use Rattle.av_net.specs.Sound.{IsOrder}
 use Rattle.av_net.specs.Lexemes.{Token}
 use Rattle.av_net.specs.Grammar.{Text, Declaration, Item, step as step_item, AreWords, no_word, next_word, IsWordAt, IsNameAt, name, IsLiteralAt, literal, IsRange, no_range, range, IsPort, IsDeclaration, wire_declaration, register_declaration, IsOperand, named, constant, spelling, IsSigned, IsOperation, plain, binary, signed, choice, IsDrive, IsEdge, IsStep, IsItem, assignment, at_an_edge, AreMany, no_more, one_more, IsClocked, IsText}
-use Rattle.av_vread.specs.Reading.{Read, same, is_at, are_at, begins_literal, range_at, port_at, directed_at, declared_at, begins_declaration, declaration_at, operand_at, order_of, symbol_of, symbol_at, order_by, order_at, signed_at, comparison_at, choice_at, binary_by, operation_by, operation_at, drive_at, edge_at, reset_at, step_at, begins_item, item_at, many_at, all_at, ports_at, closed_at, clocked_at, header_at, text_at}
+use Rattle.av_vread.specs.inner.Reading.{Read, same, is_at, are_at, begins_literal, range_at, port_at, directed_at, declared_at, begins_declaration, declaration_at, operand_at, order_of, symbol_of, symbol_at, order_by, order_at, signed_at, comparison_at, choice_at, binary_by, operation_by, operation_at, drive_at, edge_at, reset_at, step_at, begins_item, item_at, many_at, all_at, ports_at, closed_at, clocked_at, header_at, text_at}
 use Rattle.av_vread.proofs.Steps.{same_self, kind_other, not_name, is_text, word_gives, words_give, word_there, other_there, name_gives, this_name_gives, number_gives, literal_gives, end_gives}
 use Rattle.av_vread.proofs.BitsOf.{is_width_of}
 use Rattle.av_vread.proofs.Ends.{port_end, declaration_end, item_end}

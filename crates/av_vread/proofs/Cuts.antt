@@ -4,7 +4,7 @@ use Rattle.std.specs.Prelude.{nat_eq, nat_lt}
 use Rattle.std.specs.List.{prefix_len, AllByRecursion}
 use Rattle.std.proofs.Math.Numerals.{one-add}
 use Rattle.std.proofs.lemmas.Bool.{ltb-true, ltb-false, eqb-true}
-use Rattle.av_vread.specs.Lines.{is_not, cut}
+use Rattle.av_vread.specs.inner.Lines.{is_not, cut}
 
 -- the bytes are no such byte
 abbrev pub Without : ℕ → List ℕ → Type 0

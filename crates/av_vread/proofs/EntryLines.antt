@@ -1,33 +1,26 @@
 -- Entries are read from their lines.
-use Rattle.std.proofs.Common.{◌≡◌, ℕ, ◌<◌, ◌≤◌, Bool, true, false, cond, not, List, [], ◌∷◌, ◌++◌, Option, Some, None, refl, sym, ap, subst, ◌∙◌, arith, true≢false, append_assoc}
+use Rattle.std.proofs.Common.{◌≡◌, ℕ, ◌≤◌, Bool, true, false, cond, not, List, [], ◌∷◌, ◌++◌, Option, Some, None, refl, sym, ap, subst, ◌∙◌, arith, append_assoc}
 use Rattle.std.specs.Prelude.{◌&&◌, ℤ, nat_abs, decimal, codes, IsTrue}
 use Rattle.std.specs.Char.{is_ascii_alphabetic}
-use Rattle.std.specs.List.{list_all, list_any, AllByRecursion}
-use Rattle.std.specs.Str.{bytes_eq, IsAscii}
-use Rattle.std.proofs.lemmas.Str.Ascii.{IsAscii-from_all}
-use Rattle.std.proofs.lemmas.List.Elements.{All-from_recursion, recursion_from_All, All-weaker}
+use Rattle.std.specs.List.{list_all, list_any}
+use Rattle.std.specs.Str.{bytes_eq}
+use Rattle.std.proofs.lemmas.List.Elements.{All-from_recursion, recursion_from_All}
 use Rattle.av_base.specs.declared.token_kind.TokenKind.TheVariants as kind
 use Rattle.av_base.specs.Tokens.{reserved_words, is_word_byte, IsSpelled}
+use Rattle.av_base.specs.Spelling.{is_name}
 use Rattle.av_net.specs.declared.design.Entry.{Entry}
 use Rattle.av_net.specs.Texts.{point_text}
 use Rattle.av_net.specs.Listed.{MayBeListed}
 use Rattle.av_net.specs.Rows.{is_in}
-use Rattle.av_vread.specs.Lines.{is_not, cut}
-use Rattle.av_vread.specs.Entries.{point_of, numeral_of, is_variable, is_wire, Parts, first_part, second_part, third_part, entry_by, entry_of, entry_in, entry_at}
-use Rattle.av_vread.proofs.Tables.{both, and_true, is_found, is_there}
+use Rattle.av_vread.specs.inner.Lines.{is_not, cut}
+use Rattle.av_vread.specs.inner.Entries.{point_of, numeral_of, is_wire, Parts, first_part, second_part, third_part, entry_by, entry_of, entry_in, entry_at}
+use Rattle.av_base.proofs.Tables.{both, and_true, is_found, is_there}
+use Rattle.av_base.proofs.Spelled.{word_all, name_is, name_gives}
 use Rattle.av_vread.proofs.Cuts.{Without, cut_gives, cut_is}
 use Rattle.av_vread.proofs.Numerals.{numeral_is, numeral_gives}
 use Rattle.av_vread.proofs.Indices.{AreSmall, point_gives, point_is, point_without}
 
 -- ---- words
-
-all_word : (text : List ℕ) → list_all is_word_byte text ≡ true → AllByRecursion (λ x. IsTrue (is_word_byte x)) text
-all_word [] e = tt
-all_word (b ∷ text) e = let z = both (is_word_byte b) (list_all is_word_byte text) e in (z.0, all_word text z.1)
-
-pub word_all : (text : List ℕ) → AllByRecursion (λ x. IsTrue (is_word_byte x)) text → list_all is_word_byte text ≡ true
-word_all [] e = refl
-word_all (b ∷ text) e = and_true (is_word_byte b) (list_all is_word_byte text) e.0 (word_all text e.1)
 
 word_blank : (text : List ℕ) → list_all is_word_byte text ≡ true → Without 32 text
 word_blank [] e = tt
@@ -36,30 +29,7 @@ word_blank (b ∷ text) e = let z = both (is_word_byte b) (list_all is_word_byte
     no_blank : (b : ℕ) → is_word_byte b ≡ true → is_not 32 b ≡ true
     no_blank b h = grind arith
 
-pub variable_is : (text : List ℕ) → is_variable text ≡ true → IsSpelled kind.Name text
-variable_is [] e = absurd (true≢false (sym e))
-variable_is (b ∷ text) e =
-    let z = both (is_ascii_alphabetic b) _ e in
-    let w = both (list_all is_word_byte text) (not (list_any (bytes_eq (b ∷ text)) reserved_words)) z.1 in
-    ((z.0, All-from_recursion (λ x. IsTrue (is_word_byte x)) text (all_word text w.0)), λ h. true≢false (sym w.1 ∙ ap not (is_found (b ∷ text) reserved_words h)))
-
-pub variable_gives : (text : List ℕ) → IsSpelled kind.Name text → is_variable text ≡ true
-variable_gives [] s = absurd s.0
-variable_gives (b ∷ text) s =
-    and_true (is_ascii_alphabetic b) _ s.0.0 (and_true (list_all is_word_byte text) _ (word_all text (recursion_from_All (λ x. IsTrue (is_word_byte x)) text s.0.1)) (free (list_any (bytes_eq (b ∷ text)) reserved_words) refl))
-  where
-    free : (t : Bool) → list_any (bytes_eq (b ∷ text)) reserved_words ≡ t → not t ≡ true
-    free true h = absurd (s.1 (is_there (b ∷ text) reserved_words h))
-    free false h = refl
-
--- words are ASCII
-word_ascii : (text : List ℕ) → list_all is_word_byte text ≡ true → IsAscii text
-word_ascii text h = IsAscii-from_all text (All-weaker (λ b. IsTrue (is_word_byte b)) (λ b. b < 128) below text (All-from_recursion (λ b. IsTrue (is_word_byte b)) text (all_word text h)))
-  where
-    below : (b : ℕ) → IsTrue (is_word_byte b) → b < 128
-    below b e = grind arith
-
-pub variable_word : (text : List ℕ) → is_variable text ≡ true → list_all is_word_byte text ≡ true
+pub variable_word : (text : List ℕ) → is_name text ≡ true → list_all is_word_byte text ≡ true
 variable_word [] e = refl
 variable_word (b ∷ text) e =
     let z = both (is_ascii_alphabetic b) _ e in
@@ -68,9 +38,6 @@ variable_word (b ∷ text) e =
   where
     letter : (b : ℕ) → is_ascii_alphabetic b ≡ true → is_word_byte b ≡ true
     letter b h = grind arith
-
-pub variable_ascii : (text : List ℕ) → is_variable text ≡ true → IsAscii text
-variable_ascii text e = word_ascii text (variable_word text e)
 
 variable_blank : (text : List ℕ) → IsSpelled kind.Name text → Without 32 text
 variable_blank [] s = absurd s.0
@@ -114,7 +81,7 @@ entry_gives wires entry h =
     ∙ ap (λ c. entry_in (is_in wires) (first_part c)) (cut_gives 32 variable (point ++ (32 ∷ (entry.wire ++ (32 ∷ cycle)))) (variable_blank variable h.listed.variable))
     ∙ ap (λ c. entry_in (is_in wires) (second_part variable c)) (cut_gives 32 point (entry.wire ++ (32 ∷ cycle)) (point_without entry.point indices))
     ∙ ap (λ c. entry_in (is_in wires) (third_part variable point c)) (cut_gives 32 entry.wire cycle (word_blank entry.wire h.worded))
-    ∙ rw (variable_gives variable h.listed.variable, wire_in, point_gives entry.point h.listed.indices indices, numeral_gives entry.cycle h.listed.cycle) refl
+    ∙ rw (name_gives variable h.listed.variable, wire_in, point_gives entry.point h.listed.indices indices, numeral_gives entry.cycle h.listed.cycle) refl
 
 -- ---- what is read stands there
 
@@ -126,7 +93,7 @@ entry_some : (a b : Entry) → ◌≡◌ {A = Option Entry} (Some a) (Some b) �
 entry_some a b e = cc
 
 module _ (wires : List (List ℕ)) (text variable point wire cycle : List ℕ) (whole : text ≡ parted variable point wire cycle) where
-  by_fields : (is : List ℤ) (n : ℕ) → is_variable variable ≡ true → is_wire (is_in wires) wire ≡ true → point_of point ≡ Some is → numeral_of cycle ≡ Some n
+  by_fields : (is : List ℤ) (n : ℕ) → is_name variable ≡ true → is_wire (is_in wires) wire ≡ true → point_of point ≡ Some is → numeral_of cycle ≡ Some n
       → IsEntry wires text (record { variable = variable; point = is; wire = wire; cycle = n })
   by_fields is n v w p c =
       let pt = point_is point is p in
@@ -135,7 +102,7 @@ module _ (wires : List (List ℕ)) (text variable point wire cycle : List ℕ) (
       record {
         spelled = whole ∙ ap (λ z. parted variable z wire cycle) pt.spelled ∙ ap (λ z. parted variable (point_text is) wire z) num.spelled ∙ sym (body_is variable (point_text is) wire (decimal n));
         listed = record {
-          variable = variable_is variable v;
+          variable = name_is variable v;
           indices = pt.most;
           index = All-from_recursion (λ i. nat_abs i ≤ 4095) is pt.small;
           wire = is_there wire wires word.1;
@@ -144,17 +111,17 @@ module _ (wires : List (List ℕ)) (text variable point wire cycle : List ℕ) (
       }
 
   by_parts : (entry : Entry) → entry_of (is_in wires) (record { variable = variable; point = point; wire = wire; cycle = cycle }) ≡ Some entry → IsEntry wires text entry
-  by_parts entry e = go (is_variable variable) (is_wire (is_in wires) wire) refl refl e
+  by_parts entry e = go (is_name variable) (is_wire (is_in wires) wire) refl refl e
     where
       parts : Parts
       parts = record { variable = variable; point = point; wire = wire; cycle = cycle }
 
-      fields : (r : Option (List ℤ)) (q : Option ℕ) → point_of point ≡ r → numeral_of cycle ≡ q → is_variable variable ≡ true → is_wire (is_in wires) wire ≡ true → entry_by parts r q ≡ Some entry → IsEntry wires text entry
+      fields : (r : Option (List ℤ)) (q : Option ℕ) → point_of point ≡ r → numeral_of cycle ≡ q → is_name variable ≡ true → is_wire (is_in wires) wire ≡ true → entry_by parts r q ≡ Some entry → IsEntry wires text entry
       fields (Some is) (Some n) p c v w e = subst (IsEntry wires text) (entry_some (record { variable = variable; point = is; wire = wire; cycle = n }) entry e) (by_fields is n v w p c)
       fields (Some is) None p c v w e = absurd cc
       fields None q p c v w e = absurd cc
 
-      go : (t u : Bool) → is_variable variable ≡ t → is_wire (is_in wires) wire ≡ u → cond (t && u) (entry_by parts (point_of point) (numeral_of cycle)) None ≡ Some entry → IsEntry wires text entry
+      go : (t u : Bool) → is_name variable ≡ t → is_wire (is_in wires) wire ≡ u → cond (t && u) (entry_by parts (point_of point) (numeral_of cycle)) None ≡ Some entry → IsEntry wires text entry
       go true true v w e = fields (point_of point) (numeral_of cycle) refl refl v w e
       go true false v w e = absurd cc
       go false u v w e = absurd cc

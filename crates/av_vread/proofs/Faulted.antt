@@ -13,12 +13,12 @@ use Rattle.av_net.specs.Rows.{is_in, module_of, declared_twice, driven_twice, wr
 use Rattle.av_net.specs.Designs.{Says, HasNoRow, Spells, IsSoundDesign, first_line}
 use Rattle.av_vread.specs.declared.fault.VFault.{VFault}
 use Rattle.av_vread.specs.declared.fault.VFault.TheVariants.{VByte, VSyntax, VListing, VTwice, VName, VUnassigned, VOrder, VWidth, Memory}
-use Rattle.av_vread.specs.Lexing.{Lexed, lexed_of}
-use Rattle.av_vread.specs.Reading.{text_at}
-use Rattle.av_vread.specs.Listings.{Listed, no_lines, listing_at}
+use Rattle.av_vread.specs.inner.Lexing.{Lexed, lexed_of}
+use Rattle.av_vread.specs.inner.Reading.{text_at}
+use Rattle.av_vread.specs.inner.Listings.{Listed, no_lines, listing_at}
 use Rattle.av_vread.specs.Beginnings.{BreaksOff}
 use Rattle.av_vread.specs.Faults.{or_row, first_row, ListsBadly, HasRow, IsFault, GivesDesign, GivesFault}
-use Rattle.av_vread.specs.Checked.{Checked, checked_row, checked_listing, checked_text, checked_tokens, checked_of, FaultIs}
+use Rattle.av_vread.specs.inner.Checked.{Checked, checked_row, checked_listing, checked_text, checked_tokens, checked_of, FaultIs}
 use Rattle.av_vread.proofs.Readings.{read_sound, read_fault, read_complete, fault_complete}
 use Rattle.av_vread.proofs.Sound.{text_took}
 use Rattle.av_vread.proofs.Complete.{text_gives}

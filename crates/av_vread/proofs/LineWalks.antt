@@ -9,10 +9,10 @@ use Rattle.av_net.specs.Listed.{Line, longer, begins_feed, lines_of, numbered}
 use Rattle.av_net.specs.Rows.{Among}
 use Rattle.av_vread.specs.declared.fault.VFault.{VFault}
 use Rattle.av_vread.specs.declared.fault.VFault.TheVariants.{VByte, VSyntax, VListing, VTwice, VName, VUnassigned, VOrder, VWidth, Memory}
-use Rattle.av_vread.specs.Lines.{trimmed, line_len, first_line_of}
+use Rattle.av_vread.specs.inner.Lines.{trimmed, line_len, first_line_of}
 use Rattle.av_vread.proofs.Cuts.{less_suc}
-use Rattle.av_vread.proofs.Tables.{both}
-use Rattle.av_vread.specs.Listings.{Listed, with_line, and_then, with_lines, no_lines, listing_at, IsListingFault}
+use Rattle.av_base.proofs.Tables.{both}
+use Rattle.av_vread.specs.inner.Listings.{Listed, with_line, and_then, with_lines, no_lines, listing_at, IsListingFault}
 
 -- the lines from an index on; none begins behind the end
 abbrev pub lines_from : ℕ → List ℕ → List (List ℕ)

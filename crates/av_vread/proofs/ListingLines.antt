@@ -12,9 +12,10 @@ use Rattle.av_net.specs.declared.design.Entry.{Entry}
 use Rattle.av_net.specs.declared.design.Listing.{Listing}
 use Rattle.av_net.specs.Listed.{Line, is_listed, line_text, MayBeListed, IsListing, IsBadLine}
 use Rattle.av_net.specs.Rows.{is_in}
-use Rattle.av_vread.specs.Entries.{entry_at}
-use Rattle.av_vread.specs.Listings.{Listed, begins_with, with_in, with_at, with_in_line, with_at_line, with_line, and_then, with_lines, no_lines}
-use Rattle.av_vread.proofs.Tables.{both, and_false}
+use Rattle.av_vread.specs.inner.Entries.{entry_at}
+use Rattle.av_vread.specs.inner.Listings.{Listed, begins_with, with_in, with_at, with_in_line, with_at_line, with_line, and_then, with_lines, no_lines}
+use Rattle.av_base.proofs.Tables.{both}
+use Rattle.av_vread.proofs.Tables.{and_false}
 use Rattle.av_vread.proofs.EntryLines.{body, entry_gives, entry_is}
 
 abbrev pub texts_of : List Line → List (List ℕ)

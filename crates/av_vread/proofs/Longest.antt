@@ -1,5 +1,5 @@
 -- The token that is found at the front is the longest one.
-use Rattle.std.proofs.Common.{◌≡◌, ℕ, suc, ◌+◌, ◌<◌, ◌≤◌, Bool, true, false, cond, not, ◌&&◌, List, [], ◌∷◌, ◌++◌, length, take, drop, refl, sym, ap, subst, ◌∙◌, arith, inl, inr, ◌⊎◌, true≢false, append_assoc, take-add}
+use Rattle.std.proofs.Common.{◌≡◌, ℕ, suc, ◌+◌, ◌<◌, ◌≤◌, Bool, true, false, cond, not, ◌&&◌, List, [], ◌∷◌, ◌++◌, length, take, drop, refl, sym, ap, subst, ◌∙◌, arith, inl, inr, true≢false, append_assoc, take-add}
 use Rattle.std.specs.Prelude.{Contains, codes, nat_eq, nat_le}
 use Rattle.std.specs.List.{prefix_len, AllByRecursion}
 use Rattle.std.specs.Char.{is_ascii_digit}
@@ -17,29 +17,11 @@ use Rattle.av_net.specs.declared.token_kind.TokenKind.TheVariants as kind
 use Rattle.av_net.specs.Lexemes.{reserved_words, begins_name, IsIdentifier, IsSpelled, IsLongest, BeginsNone}
 use Rattle.av_vread.specs.declared.scan.Piece.{Piece}
 use Rattle.av_vread.specs.declared.scan.Piece.TheVariants as piece
-use Rattle.av_vread.specs.Scan.{is_reserved, is_single, begins_pair, is_signed, based_len, tail_len, number_by, number_of, word_kind, symbol_of, token_of}
-use Rattle.av_vread.proofs.Tables.{both, is_found, is_there, reserved_word, is_other, IsSymbol, one, two, symbol_is, single_symbol, pair_symbol}
-
--- which way a test went
-pub chosen : {A : Type 0} (b : Bool) (x y z : A) → cond b x y ≡ z → ((b ≡ true) × (x ≡ z)) ⊎ ((b ≡ false) × (y ≡ z))
-chosen true x y z e = inl (refl, e)
-chosen false x y z e = inr (refl, e)
-
--- ---- runs
-
--- a run has its bytes
-pub run_all : (p : ℕ → Bool) (bytes : List ℕ) → AllByRecursion (λ x. p x ≡ true) (take (prefix_len p bytes) bytes)
-run_all p [] = tt
-run_all p (b ∷ bytes) = go (p b) refl (run_all p bytes)
-  where
-    go : (t : Bool) → p b ≡ t → AllByRecursion (λ x. p x ≡ true) (take (prefix_len p bytes) bytes) → AllByRecursion (λ x. p x ≡ true) (take (cond t (1 + prefix_len p bytes) 0) (b ∷ bytes))
-    go true e h = rw one-add (e, h)
-    go false e h = tt
-
--- and no less of what begins so
-pub run_covers : (p : ℕ → Bool) (front back : List ℕ) → AllByRecursion (λ x. p x ≡ true) front → length front ≤ prefix_len p (front ++ back)
-run_covers p [] back h = omega arith
-run_covers p (b ∷ front) back h = let ih = run_covers p front back h.1 in rw h.0 (omega arith)
+use Rattle.av_net.specs.Spelling.{is_reserved}
+use Rattle.av_vread.specs.inner.Scan.{is_single, begins_pair, is_signed, based_len, tail_len, number_by, number_of, word_kind, symbol_of, token_of}
+use Rattle.av_base.proofs.Tables.{both, is_found, is_there, one, two}
+use Rattle.av_base.proofs.Runs.{chosen, run_all, run_covers}
+use Rattle.av_vread.proofs.Tables.{reserved_word, is_other, IsSymbol, symbol_is, single_symbol, pair_symbol}
 
 -- ---- what is spelled is covered by the token that is found
 

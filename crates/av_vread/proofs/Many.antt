@@ -4,7 +4,7 @@ use Rattle.av_base.specs.declared.place.Place.{Place}
 use Rattle.av_net.specs.Lexemes.{Token}
 use Rattle.av_vread.specs.declared.fault.ReadError.{ReadError}
 use Rattle.av_vread.specs.declared.fault.ReadError.TheVariants as error
-use Rattle.av_vread.specs.Reading.{Read, ◌>>=◌, Fails, many_at, all_at}
+use Rattle.av_vread.specs.inner.Reading.{Read, ◌>>=◌, Fails, many_at, all_at}
 
 module _ {A : Type 0} (begins : List Token → Bool) (read : Read A) where
   -- the parts found so far, and the tokens that are left

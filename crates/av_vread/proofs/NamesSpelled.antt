@@ -12,7 +12,7 @@ use Rattle.av_net.specs.Names.{names_of, wire_names, all_names}
 use Rattle.av_net.specs.Lexemes.{Token, begins_name, IsName, IsSpelled, AreTokens, end, blank, comment, token}
 use Rattle.av_net.specs.Grammar.{Text, Declaration, wire, register, AreWords, no_word, next_word, IsNameAt, name, IsNumberAt, number, IsRange, no_range, range, IsPort, IsDeclaration, wire_declaration, register_declaration, AreMany, no_more, one_more, IsText}
 use Rattle.av_net.specs.Rows.{wires_of, registers_in, module_of, declared_port}
-use Rattle.av_vread.proofs.EntryLines.{word_all}
+use Rattle.av_base.proofs.Spelled.{word_all}
 
 -- what is a name among the tokens has its spelling
 abbrev pub AreNamed : List Token → Type 0

@@ -12,8 +12,9 @@ use Rattle.av_net.specs.declared.token_kind.TokenKind.TheVariants as kind
 use Rattle.av_net.specs.Lexemes.{reserved_words, begins_name, IsIdentifier, IsName}
 use Rattle.av_vread.specs.declared.scan.Piece.{Piece}
 use Rattle.av_vread.specs.declared.scan.Piece.TheVariants as piece
-use Rattle.av_vread.specs.Scan.{is_single, is_pair, begins_pair, tail_len, number_of, word_kind, symbol_of, token_of}
-use Rattle.av_vread.proofs.Tables.{both, and_false, not_true, is_other, reserved_word}
+use Rattle.av_vread.specs.inner.Scan.{is_single, is_pair, begins_pair, tail_len, number_of, word_kind, symbol_of, token_of}
+use Rattle.av_base.proofs.Tables.{both}
+use Rattle.av_vread.proofs.Tables.{and_false, not_true, is_other, reserved_word}
 use Rattle.av_vread.proofs.Longest.{name_kind, reserved_kind, other_symbol, digits_all, at_digit, literal_number, sized_length}
 use Rattle.av_vread.proofs.Spaced.{IsNext}
 

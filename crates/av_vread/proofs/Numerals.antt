@@ -11,10 +11,10 @@ use Rattle.std.proofs.lemmas.Fmt.{digits_decimal, digits_value-decimal, decimal-
 use Rattle.std.proofs.lemmas.Str.Parse.{IsNumeralModel, numerals_by_fold, tells_all_ascii_digits}
 use Rattle.std.proofs.lemmas.List.Elements.{All-from_recursion}
 use Rattle.av_base.specs.Tokens.{number_of, number_from, IsDigits}
-use Rattle.av_vread.specs.Reading.{are_digits}
-use Rattle.av_vread.specs.Entries.{is_numeral, numeral_of, below_zero, not_below, index_of}
-use Rattle.av_vread.specs.Lines.{is_not}
-use Rattle.av_vread.proofs.Tables.{both, and_true}
+use Rattle.av_vread.specs.inner.Reading.{are_digits}
+use Rattle.av_vread.specs.inner.Entries.{is_numeral, numeral_of, below_zero, not_below, index_of}
+use Rattle.av_vread.specs.inner.Lines.{is_not}
+use Rattle.av_base.proofs.Tables.{both, and_true}
 use Rattle.av_vread.proofs.Cuts.{Without}
 
 own : IsNumeralModel (λ ds. all_ascii_digits ds ≡ true) number_of

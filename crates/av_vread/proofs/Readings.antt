@@ -9,8 +9,8 @@ use Rattle.av_net.specs.declared.token_kind.TokenKind.TheVariants as kind
 use Rattle.av_net.specs.Lexemes.{Token, IsSpelled, IsLongest, IsSized, IsCommented, IsComment, BeginsNone, AreTokens, end, blank, comment, token, HasBadByte, bad_byte, past_blank, past_comment, past_token}
 use Rattle.av_vread.specs.declared.scan.Piece.{Piece}
 use Rattle.av_vread.specs.declared.scan.Piece.TheVariants as piece
-use Rattle.av_vread.specs.Lexing.{Lexed, with_token, lexed_by, lexed_of}
-use Rattle.av_vread.specs.Scan.{piece_of}
+use Rattle.av_vread.specs.inner.Lexing.{Lexed, with_token, lexed_by, lexed_of}
+use Rattle.av_vread.specs.inner.Scan.{piece_of}
 use Rattle.av_vread.proofs.Tables.{reserved_word, IsSymbol, symbol_is}
 use Rattle.av_vread.proofs.Pieces.{IsPiece, a_blank, a_comment, a_token, no_piece, is_piece, piece_blank, piece_comment, piece_token, piece_none}
 

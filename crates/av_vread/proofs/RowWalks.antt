@@ -11,7 +11,7 @@ use Rattle.av_vread.specs.inner.Scoped.{Bytes, texts, width_found}
 use Rattle.av_vread.specs.declared.parsed.Item.{Item as FoundItem}
 use Rattle.av_vread.specs.declared.parsed.Declaration.{Declaration as FoundDeclaration}
 use Rattle.av_vread.specs.declared.parsed.Declaration.TheVariants as declaration
-use Rattle.av_vread.specs.Reading.{said_declaration, said_item}
+use Rattle.av_vread.specs.inner.Reading.{said_declaration, said_item}
 use Rattle.av_vread.proofs.Walks.{rest_is, put_in, any_or_of, found_more, or_one, width_or_one}
 use denote.Ref.{Bor}
 

@@ -17,7 +17,7 @@ use Rattle.av_net.specs.Names.{clk, rst}
 use Rattle.av_net.specs.Sound.{IsOrder}
 use Rattle.av_net.specs.Lexemes.{Token}
 use Rattle.av_net.specs.Grammar.{Text, Declaration, wire, register, Item, drive, step as step_item, AreWords, no_word, next_word, IsWordAt, IsNameAt, IsLiteralAt, IsRange, no_range, range, IsPort, IsDeclaration, wire_declaration, register_declaration, IsOperand, named, constant, spelling, IsSigned, IsOperation, plain, binary, signed, choice, IsDrive, IsEdge, IsItem, assignment, at_an_edge, AreMany, no_more, one_more, IsClocked, IsText}
-use Rattle.av_vread.specs.Reading.{Read, same, after, is_at, are_at, begins_literal, word_at, words_at, name_at, number_at, Sized, literal_at, end_at, width_for, range_at, port_at, directed_at, declared_at, begins_declaration, declaration_at, operand_at, order_of, arithmetic_of, bitwise_of, or_else, symbol_of, symbol_at, order_by, order_at, signed_at, comparison_at, choice_at, binary_by, operation_by, operation_at, drive_at, this_name_at, edge_at, reset_at, step_at, begins_item, item_at, many_at, all_at, ports_at, declarations_at, items_at, Header, closed_at, clocked_at, header_at, text_at}
+use Rattle.av_vread.specs.inner.Reading.{Read, same, after, is_at, are_at, begins_literal, word_at, words_at, name_at, number_at, Sized, literal_at, end_at, width_for, range_at, port_at, directed_at, declared_at, begins_declaration, declaration_at, operand_at, order_of, arithmetic_of, bitwise_of, or_else, symbol_of, symbol_at, order_by, order_at, signed_at, comparison_at, choice_at, binary_by, operation_by, operation_at, drive_at, this_name_at, edge_at, reset_at, step_at, begins_item, item_at, many_at, all_at, ports_at, declarations_at, items_at, Header, closed_at, clocked_at, header_at, text_at}
 use Rattle.av_vread.proofs.Steps.{step, chosen, ok_is, other_than, text_is, word_took, at_word, words_took, name_took, this_name_took, number_took, literal_took, end_took}
 use Rattle.av_vread.proofs.BitsOf.{bits_of}
 

@@ -9,7 +9,7 @@ use Rattle.av_net.specs.declared.token_kind.TokenKind.{TokenKind}
 use Rattle.av_net.specs.declared.token_kind.TokenKind.TheVariants as kind
 use Rattle.av_net.specs.Lexemes.{Token, IsLongest, IsCommented, AreTokens, end, blank, token}
 use Rattle.av_vread.specs.declared.scan.Piece.TheVariants as piece
-use Rattle.av_vread.specs.Scan.{token_of}
+use Rattle.av_vread.specs.inner.Scan.{token_of}
 use Rattle.av_vread.proofs.Longest.{token_found}
 
 -- a token with the blanks before and after it

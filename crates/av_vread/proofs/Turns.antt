@@ -8,8 +8,8 @@ use Rattle.av_base.specs.Tokens.{start, moved}
 use Rattle.av_net.specs.Lexemes.{Token}
 use Rattle.av_vread.specs.declared.scan.Piece.{Piece}
 use Rattle.av_vread.specs.declared.scan.Piece.TheVariants as piece
-use Rattle.av_vread.specs.Lexing.{Lexed, with_token, lexed_by, lexed_of}
-use Rattle.av_vread.specs.Scan.{piece_of, FitsIn}
+use Rattle.av_vread.specs.inner.Lexing.{Lexed, with_token, lexed_by, lexed_of}
+use Rattle.av_vread.specs.inner.Scan.{piece_of, FitsIn}
 use Rattle.av_base.proofs.Passing.{moved_line, moved_column}
 use Rattle.av_vread.proofs.Pieces.{IsPiece, a_blank, a_comment, a_token, no_piece, is_piece}
 

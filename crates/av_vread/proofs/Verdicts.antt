@@ -3,7 +3,7 @@ use Rattle.std.proofs.Common.{◌≡◌, ◌≢◌, ◌<◌, Bool, true, false, 
 use Rattle.av_base.specs.declared.place.Place.{Place}
 use Rattle.av_net.specs.declared.token_kind.TokenKind.TheVariants as kind
 use Rattle.av_net.specs.Lexemes.{Token}
-use Rattle.av_vread.specs.Reading.{◌>>=◌}
+use Rattle.av_vread.specs.inner.Reading.{◌>>=◌}
 
 -- ---- tokens up to an end
 

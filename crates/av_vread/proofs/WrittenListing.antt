@@ -11,13 +11,15 @@ use Rattle.av_net.specs.declared.design.Listing.{Listing}
 use Rattle.av_net.specs.Lexemes.{Token, AreTokens, blank, comment}
 use Rattle.av_net.specs.Texts.{entry_line, listing_text, point_text, entries_text}
 use Rattle.av_net.specs.Listed.{longer, lines_of, numbered, is_listed, line_text}
-use Rattle.av_vread.specs.Lines.{is_not}
+use Rattle.av_vread.specs.inner.Lines.{is_not}
 use Rattle.av_vread.proofs.Each.{all_append, all_map, all_weaker}
-use Rattle.av_vread.proofs.Tables.{both, not_true}
+use Rattle.av_base.proofs.Tables.{both}
+use Rattle.av_vread.proofs.Tables.{not_true}
 use Rattle.av_vread.proofs.Cuts.{Without}
 use Rattle.av_vread.proofs.Numerals.{decimal_digits}
 use Rattle.av_vread.proofs.Indices.{digits_without, indices_without, without_append}
-use Rattle.av_vread.proofs.EntryLines.{body, variable_gives, variable_word, MayBeRead}
+use Rattle.av_base.proofs.Spelled.{name_gives}
+use Rattle.av_vread.proofs.EntryLines.{body, variable_word, MayBeRead}
 use Rattle.av_vread.proofs.ListingLines.{texts_of}
 
 -- ---- lines, one after another
@@ -92,7 +94,7 @@ module _ (c : ℕ) (out : EndsLines c) where
 
   body_out : (wires : List (List ℕ)) (e : Entry) → MayBeRead wires e → Without c (body e)
   body_out wires e h =
-      let variable = words_out e.variable (variable_word e.variable (variable_gives e.variable h.listed.variable)) in
+      let variable = words_out e.variable (variable_word e.variable (name_gives e.variable h.listed.variable)) in
       let indices : Without c (entries_text e.point) = indices_without c (digits_out, minus) comma e.point (recursion_from_All (λ i. nat_abs i ≤ 4095) e.point h.listed.index) in
       let point : Without c (point_text e.point) = (opening, without_append c (entries_text e.point) (codes ")") indices (closing, tt)) in
       let cycle : Without c (decimal e.cycle) = digits_without c digits_out (decimal e.cycle) (decimal_digits e.cycle h.listed.cycle) in

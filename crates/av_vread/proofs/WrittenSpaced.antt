@@ -21,8 +21,8 @@ use Rattle.av_net.specs.Meaning.{EachOperand}
 use Rattle.av_net.specs.Names.{clk, rst, width_in}
 use Rattle.av_net.specs.Lexemes.{reserved_words, IsName}
 use Rattle.av_net.specs.Grammar.{spelling}
-use Rattle.av_vread.specs.Scan.{is_reserved}
-use Rattle.av_vread.proofs.Tables.{is_there, is_found}
+use Rattle.av_net.specs.Spelling.{is_reserved}
+use Rattle.av_base.proofs.Tables.{is_there, is_found}
 use Rattle.av_vread.proofs.Numerals.{number_digits}
 use Rattle.av_vread.proofs.Spaced.{Written, bytes_of, IsNext, AreBlank, AreSpaced}
 use Rattle.av_vread.proofs.NextTokens.{is_clear, name_next, reserved_next, plain_next, single_next, pair_next, signed_next, number_next, literal_next}

@@ -1,11 +1,3 @@
-pub mod Bits
-pub mod Scan
-pub mod Lexing
-pub mod Reading
-pub mod Lines
-pub mod Entries
-pub mod Listings
 pub mod Beginnings
 pub mod Faults
-pub mod Checked
 pub mod inner

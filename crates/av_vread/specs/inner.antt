@@ -1,1 +1,9 @@
 pub mod Scoped
+pub mod Reading
+pub mod Lexing
+pub mod Lines
+pub mod Listings
+pub mod Entries
+pub mod Scan
+pub mod Bits
+pub mod Checked

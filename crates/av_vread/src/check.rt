@@ -1,10 +1,10 @@
 //! What a text says and its listing, checked row by row.
 
 ghost use Rattle.std.specs.Prelude.{◌≡◌, ◌<◌, length, None};
-ghost use Rattle.av_vread.specs.Reading.{said};
+ghost use Rattle.av_vread.specs.inner.Reading.{said};
 ghost use Rattle.av_vread.specs.Faults.{or_row, first_row};
-ghost use Rattle.av_vread.specs.Lexing.{views};
-ghost use Rattle.av_vread.specs.Checked.{Answers, said_with, AnswersRow, checked_of};
+ghost use Rattle.av_vread.specs.inner.Lexing.{views};
+ghost use Rattle.av_vread.specs.inner.Checked.{Answers, said_with, AnswersRow, checked_of};
 ghost use Rattle.av_net.specs.Designs.{first_line};
 ghost use Rattle.av_net.specs.Rows.{declared_twice, driven_twice, wrong_name, undriven_name, early_name, unsuited_name};
 ghost use Rattle.av_vread.specs.declared.fault.VFault.TheVariants.{VTwice, VName, VUnassigned, VOrder, VWidth};
@@ -79,7 +79,10 @@ pub(crate) fn checked(alloc: Global, bytes: &[u8]) -> Result<(Text, Listing), VF
     ensures { Answers said_with result (checked_of bytes.now) }
 {
     let tokens = lex(alloc, bytes)?;
-    let text = read_text(alloc, tokens.as_slice())?;
+    let text = match read_text(alloc, tokens.as_slice()) {
+        Ok(text) => text,
+        Err(error) => return Err(error.fault()),
+    };
     let listing = read_listing(alloc, bytes, first_line(tokens.as_slice()), &text)?;
     check(alloc, &text)?;
     Ok((text, listing))

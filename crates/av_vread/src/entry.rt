@@ -1,19 +1,21 @@
 //! The entry of a line of the listing.
 
 ghost use Rattle.std.specs.Prelude.{◌≡◌, ◌≤◌, ◌+◌, ◌++◌, [], length, option_map, IfOk, IfSome};
-ghost use Rattle.std.specs.List.{list_all};
-ghost use Rattle.av_base.specs.Tokens.{is_word_byte};
 ghost use Rattle.av_net.specs.Rows.{is_in};
-ghost use Rattle.av_vread.specs.Entries.{numeral_of, below_zero, index_of, indices_of, inside_of, point_of, is_variable, is_wire, parts_view, parts_of, entry_of, entry_at};
+ghost use Rattle.av_vread.specs.inner.Entries.{numeral_of, below_zero, index_of, indices_of, inside_of, point_of, is_wire, parts_view, parts_of, entry_of, entry_at};
 
 use crate::lexer::ascii;
 use crate::line::cut;
 use crate::literal::are_digits;
 use crate::names::Names;
 use arrayvec::ArrayVec;
-use av_base::{Memory, Name, Point, decimal_value, is_reserved_word, is_word_byte};
+use av_base::limits::MOST_COORDINATE;
+use av_base::{Memory, Name, Point, are_word_bytes, decimal_value, is_name};
 use av_net::Entry;
 use std::alloc::Global;
+
+// The greatest number of an index and of a cycle.
+const MOST_NUMERAL: u64 = MOST_COORDINATE as u64;
 
 // ---- numbers
 
@@ -26,7 +28,7 @@ fn numeral_of(text: &[u8]) -> Option<u32>
         return None;
     }
     match decimal_value(text) {
-        Some(value) if value <= 4095 => Some(value as u32),
+        Some(value) if value <= MOST_NUMERAL => Some(value as u32),
         _ => None,
     }
 }
@@ -99,24 +101,6 @@ fn point_of(text: &[u8]) -> Option<Point>
 
 // ---- names
 
-fn are_word_bytes(text: &[u8]) -> bool
-    ensures { result ≡ list_all is_word_byte text.now }
-{
-    text.iter().all(|byte| is_word_byte(*byte))
-}
-
-// Whether the text is an Alpha name.
-fn is_variable(text: &[u8]) -> bool
-    ensures { result ≡ is_variable text.now }
-{
-    match text {
-        [first, later @ ..] => {
-            first.is_ascii_alphabetic() && are_word_bytes(later) && !is_reserved_word(text)
-        }
-        [] => false,
-    }
-}
-
 // Whether the text is one of these names.
 fn is_wire(wires: &Names, text: &[u8]) -> bool
     ensures { result ≡ is_wire (is_in wires.now) text.now }
@@ -152,14 +136,14 @@ fn parts_of(text: &[u8]) -> Option<Parts<'_>>
 fn entry_of(alloc: Global, wires: &Names, parts: Parts) -> Result<Option<Entry>, Memory>
     ensures { IfOk result (λ entry. entry ≡ entry_of (is_in wires.now) (parts_view parts.entry)) }
 {
-    if !is_variable(parts.variable) || !is_wire(wires, parts.wire) {
+    if !is_name(parts.variable) || !is_wire(wires, parts.wire) {
         return Ok(None);
     }
     match (point_of(parts.point), numeral_of(parts.cycle)) {
         (Some(point), Some(cycle)) => Ok(Some(Entry {
-            variable: Name::new(alloc, ascii(parts.variable))?,
+            variable: Name::from_bytes(alloc, parts.variable)?,
             point,
-            wire: Name::new(alloc, ascii(parts.wire))?,
+            wire: Name::from_bytes(alloc, parts.wire)?,
             cycle,
         })),
         _ => Ok(None),

@@ -52,13 +52,14 @@ impl From<Memory> for ReadError {
     }
 }
 
-impl From<ReadError> for VFault {
-    ghost use Rattle.av_vread.specs.Checked.{fault_for};
+impl ReadError {
+    ghost use Rattle.av_vread.specs.inner.Checked.{fault_for};
 
-    ghost from_gives = { λ e f. f ≡ fault_for e };
-
-    fn from(error: ReadError) -> VFault {
-        match error {
+    /// The fault of the text that it stands for.
+    pub(crate) fn fault(self) -> VFault
+        ensures { result ≡ fault_for self }
+    {
+        match self {
             ReadError::Syntax(place) => VFault::VSyntax(place),
             ReadError::Memory => VFault::Memory,
         }

@@ -3,7 +3,7 @@
 ghost use Rattle.std.specs.Prelude.{◌≡◌, ◌<◌, ◌≤◌, length};
 ghost use Rattle.std.specs.Str.{IsAscii};
 ghost use Rattle.av_base.specs.Tokens.{start};
-ghost use Rattle.av_vread.specs.Lexing.{views, GivesTokens, lexed_of};
+ghost use Rattle.av_vread.specs.inner.Lexing.{views, GivesTokens, lexed_of};
 
 use crate::VFault;
 use crate::scan::{Piece, piece_at};

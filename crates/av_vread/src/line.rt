@@ -2,9 +2,9 @@
 
 ghost use Rattle.std.specs.Prelude.{◌≡◌, ◌<◌, ◌≤◌, ◌+◌, length, drop, option_map};
 ghost use Rattle.std.specs.List.{prefix_len};
-ghost use Rattle.av_vread.specs.Lines.{is_not, cut, trimmed, line_len, first_line_of};
+ghost use Rattle.av_vread.specs.inner.Lines.{is_not, cut, trimmed, line_len, first_line_of};
 
-use crate::scan::line_len;
+use av_base::line_len;
 
 // How many bytes come before the first such byte.
 fn front_len(text: &[u8], byte: u8) -> usize

@@ -3,8 +3,8 @@
 ghost use Rattle.std.specs.Prelude.{◌≡◌, ◌<◌, ◌≤◌, length};
 ghost use Rattle.av_net.specs.Names.{names_of, wire_names};
 ghost use Rattle.av_net.specs.Rows.{is_in, module_of};
-ghost use Rattle.av_vread.specs.Reading.{said};
-ghost use Rattle.av_vread.specs.Listings.{begins_with, with_in_line, with_at_line, with_line, listing_at, GivesListing};
+ghost use Rattle.av_vread.specs.inner.Reading.{said};
+ghost use Rattle.av_vread.specs.inner.Listings.{begins_with, with_in_line, with_at_line, with_line, listing_at, GivesListing};
 
 use crate::entry::entry_at;
 use crate::line::line_at;

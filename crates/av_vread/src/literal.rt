@@ -3,7 +3,7 @@
 ghost use Rattle.std.specs.Prelude.{◌≡◌, ◌^◌, ◌<◌, ◌≤◌, ◌⊎◌, drop, true, false, nat_lt, IfSome, IfNone};
 ghost use Rattle.std.specs.List.{prefix_len};
 ghost use Rattle.av_base.specs.Tokens.{number_of};
-ghost use Rattle.av_vread.specs.Reading.{size_digits, value_digits, begins_base, are_digits, fits_in, is_literal, GivesOption, sized_view, literal_in};
+ghost use Rattle.av_vread.specs.inner.Reading.{size_digits, value_digits, begins_base, are_digits, fits_in, is_literal, GivesOption, sized_view, literal_in};
 
 use av_base::{Width, Word, decimal_value, digits_len};
 

@@ -2,7 +2,7 @@
 
 ghost use Rattle.std.specs.Prelude.{◌≡◌, ◌++◌, ◌∷◌, [], map, IfOk, OnOk};
 ghost use Rattle.av_net.specs.Rows.{wires_of, registers_in, drives_of, steps_of, module_of};
-ghost use Rattle.av_vread.specs.Reading.{said_declaration, said_item, said};
+ghost use Rattle.av_vread.specs.inner.Reading.{said_declaration, said_item, said};
 
 use crate::parsed::{Declaration, Item, Text};
 use av_base::{List, Memory, Name};

@@ -2,7 +2,7 @@
 
 ghost use Rattle.std.specs.Prelude.{◌≡◌};
 ghost use Rattle.av_net.specs.Rows.{declared_port, target_of};
-ghost use Rattle.av_vread.specs.Reading.{said_declaration, said_item};
+ghost use Rattle.av_vread.specs.inner.Reading.{said_declaration, said_item};
 
 use av_base::{List, Name, Width};
 use av_net::{Drive, Port, Step};

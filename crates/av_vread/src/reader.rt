@@ -1,8 +1,8 @@
 //! From the tokens of a text to what it says.
 
 ghost use Rattle.std.specs.Prelude.{◌≡◌, ◌≤◌, map, IfOk};
-ghost use Rattle.av_vread.specs.Lexing.{view, views};
-ghost use Rattle.av_vread.specs.Reading.{Gives, place_of, after, is_word, is_at, are_at, word_at, words_at, name_at, number_at, sized_view, literal_at, end_at, width_for, range_at, port_at, directed_at, declared_at, begins_declaration, declaration_at, begins_literal, operand_at, order_of, arithmetic_of, bitwise_of, symbol_of, symbol_at, order_at, signed_at, comparison_at, choice_at, operation_by, operation_at, drive_at, this_name_at, edge_at, reset_at, step_at, begins_item, item_at, ports_at, declarations_at, items_at, closed_at, clocked_at, header_at, text_at, said_declaration, said_item, said_header, said};
+ghost use Rattle.av_vread.specs.inner.Lexing.{view, views};
+ghost use Rattle.av_vread.specs.inner.Reading.{Gives, place_of, after, is_word, is_at, are_at, word_at, words_at, name_at, number_at, sized_view, literal_at, end_at, width_for, range_at, port_at, directed_at, declared_at, begins_declaration, declaration_at, begins_literal, operand_at, order_of, arithmetic_of, bitwise_of, symbol_of, symbol_at, order_at, signed_at, comparison_at, choice_at, operation_by, operation_at, drive_at, this_name_at, edge_at, reset_at, step_at, begins_item, item_at, ports_at, declarations_at, items_at, closed_at, clocked_at, header_at, text_at, said_declaration, said_item, said_header, said};
 
 use crate::fault::ReadError;
 use crate::literal::{Literal, literal_of};
@@ -13,7 +13,7 @@ use av_net::{Drive, Operand, Operation, Port, Step, Symbol, TokenKind};
 use std::alloc::Global;
 
 /// What a design text says, or the place of the first token that no text continues.
-#[tactic(auto, unfolding(crate::specs::Reading::text_at))]
+#[tactic(auto, unfolding(crate::specs::inner::Reading::text_at))]
 pub(crate) fn read_text<'a>(alloc: Global, tokens: &[Token<'a>]) -> Result<Text, ReadError>
     ensures { Gives said result (text_at (views tokens.now)) }
 {
@@ -157,7 +157,7 @@ impl<'t, 'a> Reader<'t, 'a> {
         }
     }
 
-    #[tactic(auto, unfolding(crate::specs::Reading::word_at))]
+    #[tactic(auto, unfolding(crate::specs::inner::Reading::word_at))]
     fn word(&mut self, text: &str) -> Result<(), ReadError>
         ensures { Gives (λ _. views self.new.rest.now) result (word_at text.now (views self.old.rest.now)) }
     {
@@ -170,7 +170,7 @@ impl<'t, 'a> Reader<'t, 'a> {
         }
     }
 
-    #[tactic(auto, unfolding(crate::specs::Reading::name_at))]
+    #[tactic(auto, unfolding(crate::specs::inner::Reading::name_at))]
     fn name(&mut self) -> Result<Name, ReadError>
         ensures { Gives (λ x. (x, views self.new.rest.now)) result (name_at (views self.old.rest.now)) }
     {
@@ -184,7 +184,7 @@ impl<'t, 'a> Reader<'t, 'a> {
     }
 
     // This very name.
-    #[tactic(auto, unfolding(crate::specs::Reading::this_name_at))]
+    #[tactic(auto, unfolding(crate::specs::inner::Reading::this_name_at))]
     fn this_name(&mut self, name: &str) -> Result<(), ReadError>
         ensures { Gives (λ _. views self.new.rest.now) result (this_name_at name.now (views self.old.rest.now)) }
     {
@@ -198,7 +198,7 @@ impl<'t, 'a> Reader<'t, 'a> {
     }
 
     // A number of at most 63.
-    #[tactic(auto, unfolding(crate::specs::Reading::number_at))]
+    #[tactic(auto, unfolding(crate::specs::inner::Reading::number_at))]
     fn number(&mut self) -> Result<u64, ReadError>
         ensures within { IfOk result (λ x. x ≤ 63) }
         ensures gives { Gives (λ x. (x, views self.new.rest.now)) result (number_at (views self.old.rest.now)) }
@@ -217,7 +217,7 @@ impl<'t, 'a> Reader<'t, 'a> {
         }
     }
 
-    #[tactic(auto, unfolding(crate::specs::Reading::literal_at, crate::specs::Reading::literal_by))]
+    #[tactic(auto, unfolding(crate::specs::inner::Reading::literal_at, crate::specs::inner::Reading::literal_by))]
     fn literal(&mut self) -> Result<Literal, ReadError>
         ensures { Gives (λ x. (sized_view x, views self.new.rest.now)) result (literal_at (views self.old.rest.now)) }
     {
@@ -235,7 +235,7 @@ impl<'t, 'a> Reader<'t, 'a> {
         }
     }
 
-    #[tactic(auto, unfolding(crate::specs::Reading::end_at))]
+    #[tactic(auto, unfolding(crate::specs::inner::Reading::end_at))]
     fn end(&self) -> Result<(), ReadError>
         ensures { Gives (λ _. tt) result (end_at (views self.now.rest.now)) }
     {
@@ -247,7 +247,7 @@ impl<'t, 'a> Reader<'t, 'a> {
 
     // ---- declarations
 
-    #[tactic(auto, unfolding(crate::specs::Reading::range_at))]
+    #[tactic(auto, unfolding(crate::specs::inner::Reading::range_at))]
     fn range(&mut self) -> Result<Width, ReadError>
         ensures { Gives (λ x. (x, views self.new.rest.now)) result (range_at (views self.old.rest.now)) }
     {
@@ -263,7 +263,7 @@ impl<'t, 'a> Reader<'t, 'a> {
     }
 
     // A range and a name.
-    #[tactic(auto, unfolding(crate::specs::Reading::port_at))]
+    #[tactic(auto, unfolding(crate::specs::inner::Reading::port_at))]
     fn port(&mut self) -> Result<Port, ReadError>
         ensures { Gives (λ x. (x, views self.new.rest.now)) result (port_at (views self.old.rest.now)) }
     {
@@ -273,7 +273,7 @@ impl<'t, 'a> Reader<'t, 'a> {
     }
 
     // A port of a direction, with the comma before it.
-    #[tactic(auto, unfolding(crate::specs::Reading::directed_at))]
+    #[tactic(auto, unfolding(crate::specs::inner::Reading::directed_at))]
     fn directed(&mut self, direction: &str) -> Result<Port, ReadError>
         ensures { Gives (λ x. (x, views self.new.rest.now)) result (directed_at direction.now (views self.old.rest.now)) }
     {
@@ -294,7 +294,7 @@ impl<'t, 'a> Reader<'t, 'a> {
     }
 
     // A range, a name and what ends a declaration.
-    #[tactic(auto, unfolding(crate::specs::Reading::declared_at))]
+    #[tactic(auto, unfolding(crate::specs::inner::Reading::declared_at))]
     fn declared(&mut self) -> Result<Port, ReadError>
         ensures { Gives (λ x. (x, views self.new.rest.now)) result (declared_at (views self.old.rest.now)) }
     {
@@ -309,7 +309,7 @@ impl<'t, 'a> Reader<'t, 'a> {
         self.is_at("wire") || self.is_at("reg")
     }
 
-    #[tactic(auto, unfolding(crate::specs::Reading::declaration_at))]
+    #[tactic(auto, unfolding(crate::specs::inner::Reading::declaration_at))]
     fn declaration(&mut self) -> Result<Declaration, ReadError>
         ensures { Gives (λ x. (said_declaration x, views self.new.rest.now)) result (declaration_at (views self.old.rest.now)) }
     {
@@ -345,7 +345,7 @@ impl<'t, 'a> Reader<'t, 'a> {
         }
     }
 
-    #[tactic(auto, unfolding(crate::specs::Reading::operand_at))]
+    #[tactic(auto, unfolding(crate::specs::inner::Reading::operand_at))]
     fn operand(&mut self) -> Result<Operand, ReadError>
         ensures { Gives (λ x. (x, views self.new.rest.now)) result (operand_at (views self.old.rest.now)) }
     {
@@ -361,7 +361,7 @@ impl<'t, 'a> Reader<'t, 'a> {
     }
 
     // The operator that stands next.
-    #[tactic(auto, unfolding(crate::specs::Reading::symbol_at))]
+    #[tactic(auto, unfolding(crate::specs::inner::Reading::symbol_at))]
     fn symbol(&self) -> Option<Symbol>
         ensures { result ≡ symbol_at (views self.now.rest.now) }
     {
@@ -372,7 +372,7 @@ impl<'t, 'a> Reader<'t, 'a> {
     }
 
     // The order that stands next.
-    #[tactic(auto, unfolding(crate::specs::Reading::order_at, crate::specs::Reading::order_by))]
+    #[tactic(auto, unfolding(crate::specs::inner::Reading::order_at, crate::specs::inner::Reading::order_by))]
     fn order(&mut self) -> Result<Symbol, ReadError>
         ensures { Gives (λ x. (x, views self.new.rest.now)) result (order_at (views self.old.rest.now)) }
     {
@@ -389,7 +389,7 @@ impl<'t, 'a> Reader<'t, 'a> {
     }
 
     // An operand between `$signed(` and `)`.
-    #[tactic(auto, unfolding(crate::specs::Reading::signed_at))]
+    #[tactic(auto, unfolding(crate::specs::inner::Reading::signed_at))]
     fn signed(&mut self) -> Result<Operand, ReadError>
         ensures { Gives (λ x. (x, views self.new.rest.now)) result (signed_at (views self.old.rest.now)) }
     {
@@ -400,7 +400,7 @@ impl<'t, 'a> Reader<'t, 'a> {
         Ok(operand)
     }
 
-    #[tactic(auto, unfolding(crate::specs::Reading::comparison_at))]
+    #[tactic(auto, unfolding(crate::specs::inner::Reading::comparison_at))]
     fn comparison(&mut self) -> Result<Operation, ReadError>
         ensures { Gives (λ x. (x, views self.new.rest.now)) result (comparison_at (views self.old.rest.now)) }
     {
@@ -415,7 +415,7 @@ impl<'t, 'a> Reader<'t, 'a> {
     }
 
     // What follows a condition and its `?`.
-    #[tactic(auto, unfolding(crate::specs::Reading::choice_at))]
+    #[tactic(auto, unfolding(crate::specs::inner::Reading::choice_at))]
     fn choice(&mut self, condition: Operand) -> Result<Operation, ReadError>
         ensures { Gives (λ x. (x, views self.new.rest.now)) result (choice_at condition (views self.old.rest.now)) }
     {
@@ -426,7 +426,7 @@ impl<'t, 'a> Reader<'t, 'a> {
     }
 
     // What follows a first operand.
-    #[tactic(auto, unfolding(crate::specs::Reading::operation_by, crate::specs::Reading::binary_by))]
+    #[tactic(auto, unfolding(crate::specs::inner::Reading::operation_by, crate::specs::inner::Reading::binary_by))]
     fn operation_by(&mut self, left: Operand) -> Result<Operation, ReadError>
         ensures { Gives (λ x. (x, views self.new.rest.now)) result (operation_by left (views self.old.rest.now)) }
     {
@@ -448,7 +448,7 @@ impl<'t, 'a> Reader<'t, 'a> {
         }
     }
 
-    #[tactic(auto, unfolding(crate::specs::Reading::operation_at))]
+    #[tactic(auto, unfolding(crate::specs::inner::Reading::operation_at))]
     fn operation(&mut self) -> Result<Operation, ReadError>
         ensures { Gives (λ x. (x, views self.new.rest.now)) result (operation_at (views self.old.rest.now)) }
     {
@@ -459,7 +459,7 @@ impl<'t, 'a> Reader<'t, 'a> {
         self.operation_by(left)
     }
 
-    #[tactic(auto, unfolding(crate::specs::Reading::drive_at))]
+    #[tactic(auto, unfolding(crate::specs::inner::Reading::drive_at))]
     fn drive(&mut self) -> Result<Drive, ReadError>
         ensures { Gives (λ x. (x, views self.new.rest.now)) result (drive_at (views self.old.rest.now)) }
     {
@@ -472,7 +472,7 @@ impl<'t, 'a> Reader<'t, 'a> {
     }
 
     // What stands before a reset.
-    #[tactic(auto, unfolding(crate::specs::Reading::edge_at))]
+    #[tactic(auto, unfolding(crate::specs::inner::Reading::edge_at))]
     fn edge(&mut self) -> Result<(), ReadError>
         ensures { Gives (λ _. views self.new.rest.now) result (edge_at (views self.old.rest.now)) }
     {
@@ -488,7 +488,7 @@ impl<'t, 'a> Reader<'t, 'a> {
         self.word(")")
     }
 
-    #[tactic(auto, unfolding(crate::specs::Reading::reset_at))]
+    #[tactic(auto, unfolding(crate::specs::inner::Reading::reset_at))]
     fn reset(&mut self) -> Result<Literal, ReadError>
         ensures { Gives (λ x. (sized_view x, views self.new.rest.now)) result (reset_at (views self.old.rest.now)) }
     {
@@ -499,7 +499,7 @@ impl<'t, 'a> Reader<'t, 'a> {
         Ok(literal)
     }
 
-    #[tactic(auto, unfolding(crate::specs::Reading::step_at))]
+    #[tactic(auto, unfolding(crate::specs::inner::Reading::step_at))]
     fn step(&mut self) -> Result<Item, ReadError>
         ensures { Gives (λ x. (said_item x, views self.new.rest.now)) result (step_at (views self.old.rest.now)) }
     {
@@ -524,7 +524,7 @@ impl<'t, 'a> Reader<'t, 'a> {
         self.is_at("assign") || self.is_at("always")
     }
 
-    #[tactic(auto, unfolding(crate::specs::Reading::item_at))]
+    #[tactic(auto, unfolding(crate::specs::inner::Reading::item_at))]
     fn item(&mut self) -> Result<Item, ReadError>
         ensures { Gives (λ x. (said_item x, views self.new.rest.now)) result (item_at (views self.old.rest.now)) }
     {
@@ -549,7 +549,7 @@ impl<'t, 'a> Reader<'t, 'a> {
     // ---- the text
 
     // The ports that each module has.
-    #[tactic(auto, unfolding(crate::specs::Reading::clocked_at))]
+    #[tactic(auto, unfolding(crate::specs::inner::Reading::clocked_at))]
     fn clocked(&mut self) -> Result<(), ReadError>
         ensures { Gives (λ _. views self.new.rest.now) result (clocked_at (views self.old.rest.now)) }
     {
@@ -562,7 +562,7 @@ impl<'t, 'a> Reader<'t, 'a> {
     }
 
     // What ends the list of ports.
-    #[tactic(auto, unfolding(crate::specs::Reading::closed_at))]
+    #[tactic(auto, unfolding(crate::specs::inner::Reading::closed_at))]
     fn closed(&mut self) -> Result<(), ReadError>
         ensures { Gives (λ _. views self.new.rest.now) result (closed_at (views self.old.rest.now)) }
     {
@@ -574,7 +574,7 @@ impl<'t, 'a> Reader<'t, 'a> {
         self.word(";")
     }
 
-    #[tactic(auto, unfolding(crate::specs::Reading::header_at))]
+    #[tactic(auto, unfolding(crate::specs::inner::Reading::header_at))]
     fn header(&mut self) -> Result<Header, ReadError>
         ensures { Gives (λ x. (said_header x, views self.new.rest.now)) result (header_at (views self.old.rest.now)) }
     {

@@ -6,7 +6,7 @@ ghost use Rattle.av_net.specs.Meaning.{operand_width};
 ghost use Rattle.av_net.specs.Names.{width_in};
 ghost use Rattle.av_net.specs.Sound.{symbol_width};
 ghost use Rattle.av_net.specs.Rows.{is_in, first_repeated, declared_twice, driven_twice, operands_of, first_some, wrong_operand, wrong_in, wrong_name, undriven_name, is_early, reads_early, first_early, early_name, suits_width, suits, target_of, unsuited_name};
-ghost use Rattle.av_vread.specs.Reading.{said_item, said};
+ghost use Rattle.av_vread.specs.inner.Reading.{said_item, said};
 ghost use Rattle.av_vread.specs.inner.Scoped.{texts};
 
 use crate::names::Names;

@@ -1,10 +1,9 @@
 //! What stands at the front of a text.
 
 ghost use Rattle.std.specs.Prelude.{◌≡◌, ◌<◌, ◌≤◌, ◌-◌, length, drop, slice_index};
-ghost use Rattle.std.specs.List.{prefix_len};
-ghost use Rattle.av_vread.specs.Scan.{is_not_feed, is_slashed, is_single, is_pair, begins_pair, is_signed, tail_len, number_of, symbol_of, word_kind, token_of, piece_of, FitsIn};
+ghost use Rattle.av_vread.specs.inner.Scan.{is_slashed, is_single, is_pair, begins_pair, is_signed, tail_len, number_of, symbol_of, word_kind, token_of, piece_of, FitsIn};
 
-use av_base::{digits_len, is_blank, word_len};
+use av_base::{digits_len, is_blank, line_len, word_len};
 use av_net::{TokenKind, begins_name, is_keyword};
 
 /// What stands at the front of a text.
@@ -16,13 +15,6 @@ pub(crate) enum Piece {
     Token(TokenKind, usize),
     /// A byte that begins no token.
     Bad,
-}
-
-pub(crate) fn line_len(text: &[u8]) -> usize
-    ensures len { result ≡ prefix_len is_not_feed text.now }
-    ensures within { result ≤ length text.now }
-{
-    text.iter().take_while(|byte| **byte != b'\n').count()
 }
 
 fn is_slashed(text: &[u8]) -> bool
@@ -84,7 +76,7 @@ fn begins_pair(text: &[u8]) -> bool
     }
 }
 
-#[tactic(auto, unfolding(crate::specs::Scan::symbol_of))]
+#[tactic(auto, unfolding(crate::specs::inner::Scan::symbol_of))]
 fn symbol_of(first: u8, text: &[u8]) -> Piece
     ensures { result ≡ symbol_of first text.now }
 {
@@ -117,7 +109,7 @@ fn tail_len(text: &[u8]) -> usize
     }
 }
 
-#[tactic(auto, unfolding(crate::specs::Scan::number_of))]
+#[tactic(auto, unfolding(crate::specs::inner::Scan::number_of))]
 fn number_of(text: &[u8]) -> Piece
     ensures { result ≡ number_of text.now }
 {
@@ -130,7 +122,7 @@ fn number_of(text: &[u8]) -> Piece
     }
 }
 
-#[tactic(auto, unfolding(crate::specs::Scan::token_of))]
+#[tactic(auto, unfolding(crate::specs::inner::Scan::token_of))]
 fn token_of(first: u8, text: &[u8]) -> Piece
     ensures { result ≡ token_of first text.now }
 {
@@ -146,7 +138,7 @@ fn token_of(first: u8, text: &[u8]) -> Piece
     }
 }
 
-#[tactic(auto, unfolding(crate::specs::Scan::piece_of))]
+#[tactic(auto, unfolding(crate::specs::inner::Scan::piece_of))]
 fn piece_of(first: u8, text: &[u8]) -> Piece
     ensures { result ≡ piece_of first text.now }
 {

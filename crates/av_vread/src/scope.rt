@@ -3,7 +3,7 @@
 ghost use Rattle.std.specs.Prelude.{◌≡◌, ◌++◌, ◌∷◌, [], map, IfOk, OnOk};
 ghost use Rattle.av_net.specs.Names.{names_of, wire_names, all_names, width_of, width_in};
 ghost use Rattle.av_net.specs.Rows.{is_in, declared_names, wires_of, registers_in, target_of, module_of};
-ghost use Rattle.av_vread.specs.Reading.{said_declaration, said_item, said};
+ghost use Rattle.av_vread.specs.inner.Reading.{said_declaration, said_item, said};
 ghost use Rattle.av_vread.specs.inner.Scoped.{texts, Bytes, width_found};
 
 use crate::names::Names;

@@ -1,26 +1,15 @@
 -- What a line of data says, read from its parts.
-use Rattle.std.specs.Prelude.{◌≡◌, ℕ, ◌-◌, ◌^◌, ◌<◌, ◌≤◌, ℤ, pos, neg_ℤ, unsigned_abs, int_le, int_lt, Bool, true, false, not, ◌&&◌, ◌⊎◌, if◌then◌else◌, nat_eq, List, [], ◌∷◌, length, codes, Option, Some, None, Any}
-use Rattle.std.specs.List.{prefix_len, list_any}
+use Rattle.std.specs.Prelude.{◌≡◌, ℕ, ◌-◌, ◌^◌, ◌<◌, ◌≤◌, ℤ, pos, neg_ℤ, unsigned_abs, int_le, int_lt, Bool, true, false, ◌&&◌, ◌⊎◌, if◌then◌else◌, nat_eq, List, [], ◌∷◌, length, codes, Option, Some, None, Any}
 use Rattle.std.specs.Str.{bytes_eq}
-use Rattle.std.specs.Char.{is_ascii_alphabetic}
-use Rattle.av_base.specs.Tokens.{is_word_byte, number_of, reserved_words}
+use Rattle.av_base.specs.Tokens.{number_of}
+use Rattle.av_base.specs.Spelling.{is_name}
 use Rattle.av_affine.specs.Numbers.{AtMost}
 use Rattle.av_tree.specs.Points.{Point}
 use Rattle.av_tree.specs.Trees.{Text}
 use Rattle.av_data.specs.Reading.{are_digits}
 use Rattle.av_data.specs.Data.{Says, word_of}
 
--- ---- names and numbers
-
-abbrev pub is_alpha_word : List ℕ → Bool
-is_alpha_word [] = false
-is_alpha_word (b ∷ bytes) = is_ascii_alphabetic b && nat_eq (prefix_len is_word_byte bytes) (length bytes)
-
-abbrev pub is_alpha_reserved : List ℕ → Bool
-is_alpha_reserved text = list_any (bytes_eq text) reserved_words
-
-abbrev pub is_alpha_name : List ℕ → Bool
-is_alpha_name text = is_alpha_word text && not (is_alpha_reserved text)
+-- ---- numbers
 
 -- the number of digits, with a minus sign or without
 abbrev pub signed_value : Bool → List ℕ → ℤ
@@ -89,7 +78,7 @@ said_of width name (Some found) = said_behind width name found.0 found.1
 abbrev pub said_in : ℕ → List (List ℕ) → Option Saying
 said_in width [] = None
 said_in width (t ∷ []) = None
-said_in width (t ∷ u ∷ parts) = if is_alpha_name t && bytes_eq u (codes "(") then said_of width t (entries_in parts) else None
+said_in width (t ∷ u ∷ parts) = if is_name t && bytes_eq u (codes "(") then said_of width t (entries_in parts) else None
 
 -- the line says this, and nothing else
 pub record SaysOnly (width : ℕ) (line : List ℕ) (name : Text) (z : Point) (w : ℕ) : Type 0 where

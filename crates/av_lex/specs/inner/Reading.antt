@@ -7,7 +7,7 @@ use Rattle.av_lex.specs.declared.fault.LexFault.{LexFault}
 use Rattle.av_lex.specs.declared.fault.LexFault.TheVariants.{BadByte, Number}
 use Rattle.av_lex.specs.declared.scan.Piece.{Piece}
 use Rattle.av_lex.specs.declared.scan.Piece.TheVariants as piece
-use Rattle.av_lex.specs.Scan.{piece_of, is_in_range}
+use Rattle.av_lex.specs.inner.Scan.{piece_of, is_in_range}
 
 -- the tokens of a text, or its first fault
 abbrev pub Reading : Type 0

@@ -1,7 +1,7 @@
 use Rattle.std.proofs.Common.{sym, subst, ◌≡◌, false, true}
 use Rattle.std.proofs.lemmas.List.{map_push}
 use Rattle.av_lex.specs.Lexing.{views}
-use Rattle.av_lex.specs.Scan.{is_in_range}
+use Rattle.av_lex.specs.inner.Scan.{is_in_range}
 use Rattle.av_lex.proofs.Turns.{goes_first, after_gap, after_token, too_great, bad, read_end}
 use Rattle.av_lex.proofs.lexer.tokens.Goals as goal
 

@@ -1,6 +1,6 @@
 use Rattle.std.proofs.Common.{subst, sym, ap, ◌∙◌, length, get_or, ◌-◌}
 use Rattle.std.proofs.lemmas.List.{take_rest}
-use Rattle.av_lex.specs.Scan.{FitsIn, piece_of}
+use Rattle.av_lex.specs.inner.Scan.{FitsIn, piece_of}
 use Rattle.av_lex.proofs.Turns.{piece_fits}
 use Rattle.av_lex.proofs.scan.piece_at.Goals as goal
 

@@ -1,7 +1,7 @@
 use Rattle.std.proofs.Common.{◌≡◌, subst}
 use Rattle.std.proofs.lemmas.Result.{err_from_is_err_and}
-use Rattle.av_vread.specs.Reading.{said}
-use Rattle.av_vread.specs.Checked.{FaultIs, checked_of}
+use Rattle.av_vread.specs.inner.Reading.{said}
+use Rattle.av_vread.specs.inner.Checked.{FaultIs, checked_of}
 use Rattle.av_vread.proofs.Faulted.{found, sound, only_ok, only_err, fault, refused_ok, refused_err}
 use Rattle.av_vread.proofs.design.read_design.Goals as goal
 

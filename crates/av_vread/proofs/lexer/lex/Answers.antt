@@ -1,5 +1,5 @@
 use Rattle.std.proofs.lemmas.List.{map_push}
-use Rattle.av_vread.specs.Lexing.{views}
+use Rattle.av_vread.specs.inner.Lexing.{views}
 use Rattle.av_vread.proofs.Ascii.{token_ascii}
 use Rattle.av_vread.proofs.Turns.{goes_first, after_gap, after_token, bad, read_end}
 use Rattle.av_vread.proofs.lexer.lex.Goals as goal

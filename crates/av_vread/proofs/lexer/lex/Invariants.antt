@@ -1,5 +1,5 @@
 use Rattle.std.proofs.Common.{length, ◌-◌}
-use Rattle.av_vread.specs.Lexing.{views}
+use Rattle.av_vread.specs.inner.Lexing.{views}
 use Rattle.av_vread.proofs.Turns.{Goes}
 use Rattle.av_vread.proofs.lexer.lex.Given as goal
 

@@ -1,8 +1,8 @@
 use Rattle.std.proofs.Common.{◌≡◌, subst}
 use Rattle.av_net.specs.Names.{names_of, wire_names}
 use Rattle.av_net.specs.Rows.{Among, is_in, module_of}
-use Rattle.av_vread.specs.Reading.{said}
-use Rattle.av_vread.specs.Listings.{listing_at, GivesListing}
+use Rattle.av_vread.specs.inner.Reading.{said}
+use Rattle.av_vread.specs.inner.Listings.{listing_at, GivesListing}
 use Rattle.av_vread.proofs.RowWalks.{same_test}
 use Rattle.av_vread.proofs.listing.read_listing.Goals as goal
 

@@ -1,7 +1,7 @@
 use Rattle.std.proofs.Common.{◌≡◌, ℕ, List, true, false, Option, Some, None, refl}
 use Rattle.std.specs.Prelude.{IfSome, IfNone}
 use Rattle.av_base.specs.Tokens.{number_of}
-use Rattle.av_vread.specs.Reading.{size_digits, value_digits, is_literal, GivesOption, sized_view, literal_in}
+use Rattle.av_vread.specs.inner.Reading.{size_digits, value_digits, is_literal, GivesOption, sized_view, literal_in}
 use Rattle.av_vread.specs.declared.literal.Literal.{Literal}
 use Rattle.av_vread.proofs.BitsOf.{is_width_of}
 use Rattle.av_vread.proofs.literal.literal_of.Goals as goal

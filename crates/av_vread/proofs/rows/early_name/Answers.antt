@@ -2,7 +2,7 @@ use Rattle.std.proofs.Common.{◌≡◌, ◌∙◌, ap, subst, map, []}
 use Rattle.std.specs.Prelude.{IfOk, option_map}
 use Rattle.av_net.specs.Names.{wire_names}
 use Rattle.av_net.specs.Rows.{is_in, module_of, first_early, early_name}
-use Rattle.av_vread.specs.Reading.{said_item, said}
+use Rattle.av_vread.specs.inner.Reading.{said_item, said}
 use Rattle.av_vread.proofs.RowWalks.{same_test}
 use Rattle.av_vread.proofs.rows.early_name.Goals as goal
 

@@ -1,7 +1,7 @@
 use Rattle.std.proofs.Common.{◌≡◌, ◌∙◌, ap, map, not}
 use Rattle.std.specs.Prelude.{find}
 use Rattle.av_net.specs.Rows.{is_in, target_of}
-use Rattle.av_vread.specs.Reading.{said_item}
+use Rattle.av_vread.specs.inner.Reading.{said_item}
 use Rattle.av_vread.specs.inner.Scoped.{Bytes, texts}
 use Rattle.av_vread.proofs.RowWalks.{missing_same}
 use Rattle.av_vread.proofs.rows.undriven_name.Goals as goal

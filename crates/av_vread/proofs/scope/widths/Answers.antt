@@ -1,6 +1,6 @@
 use Rattle.std.proofs.Common.{ap, ◌∙◌, ◌++◌, [], map}
 use Rattle.av_net.specs.Rows.{wires_of, registers_in}
-use Rattle.av_vread.specs.Reading.{said_declaration}
+use Rattle.av_vread.specs.inner.Reading.{said_declaration}
 use Rattle.av_vread.specs.inner.Scoped.{width_found}
 use Rattle.av_vread.proofs.RowWalks.{four_walks}
 use Rattle.av_vread.proofs.scope.widths.Goals as goal

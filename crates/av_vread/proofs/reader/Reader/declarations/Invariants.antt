@@ -1,6 +1,6 @@
 use Rattle.std.proofs.Common.{length, map}
-use Rattle.av_vread.specs.Lexing.{views}
-use Rattle.av_vread.specs.Reading.{begins_declaration, declaration_at, said_declaration}
+use Rattle.av_vread.specs.inner.Lexing.{views}
+use Rattle.av_vread.specs.inner.Reading.{begins_declaration, declaration_at, said_declaration}
 use Rattle.av_vread.proofs.Many.{Goes}
 use Rattle.av_vread.proofs.reader.Reader.declarations.Given as goal
 

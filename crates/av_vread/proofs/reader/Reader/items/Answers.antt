@@ -1,8 +1,8 @@
 use Rattle.std.proofs.Common.{◌≡◌, true, false, refl, sym, ◌∙◌, arith, map}
 use Rattle.std.proofs.lemmas.List.{map_push, length-map}
 use Rattle.std.proofs.lemmas.Result.{err_from_is_err_and}
-use Rattle.av_vread.specs.Lexing.{view, views}
-use Rattle.av_vread.specs.Reading.{begins_item, item_at, said_item}
+use Rattle.av_vread.specs.inner.Lexing.{view, views}
+use Rattle.av_vread.specs.inner.Reading.{begins_item, item_at, said_item}
 use Rattle.av_vread.proofs.Many.{goes_on, goes_wrong, goes_to_end, some_left}
 use Rattle.av_vread.proofs.Ends.{item_end}
 use Rattle.av_vread.proofs.Sound.{item_took}

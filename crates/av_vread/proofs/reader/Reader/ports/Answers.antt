@@ -2,8 +2,8 @@ use Rattle.std.proofs.Common.{◌≡◌, true, false, refl, sym, ◌∙◌, arit
 use Rattle.std.specs.Prelude.{codes}
 use Rattle.std.proofs.lemmas.List.{length-map}
 use Rattle.std.proofs.lemmas.Result.{err_from_is_err_and}
-use Rattle.av_vread.specs.Lexing.{view, views}
-use Rattle.av_vread.specs.Reading.{are_at, directed_at}
+use Rattle.av_vread.specs.inner.Lexing.{view, views}
+use Rattle.av_vread.specs.inner.Reading.{are_at, directed_at}
 use Rattle.av_vread.proofs.Many.{goes_on, goes_wrong, goes_to_end, some_left}
 use Rattle.av_vread.proofs.Ends.{port_end}
 use Rattle.av_vread.proofs.Sound.{directed_took}

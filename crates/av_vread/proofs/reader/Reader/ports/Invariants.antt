@@ -1,7 +1,7 @@
 use Rattle.std.proofs.Common.{length}
 use Rattle.std.specs.Prelude.{codes}
-use Rattle.av_vread.specs.Lexing.{views}
-use Rattle.av_vread.specs.Reading.{are_at, directed_at}
+use Rattle.av_vread.specs.inner.Lexing.{views}
+use Rattle.av_vread.specs.inner.Reading.{are_at, directed_at}
 use Rattle.av_vread.proofs.Many.{Goes}
 use Rattle.av_vread.proofs.reader.Reader.ports.Given as goal
 

@@ -7,7 +7,7 @@ use Rattle.av_net.specs.Listed.{Line, lines_of, numbered}
 use Rattle.av_net.specs.Rows.{Among}
 use Rattle.av_vread.specs.declared.fault.VFault.{VFault}
 use Rattle.av_vread.specs.declared.fault.VFault.TheVariants.{VByte, VSyntax, VListing, VTwice, VName, VUnassigned, VOrder, VWidth, Memory}
-use Rattle.av_vread.specs.Entries.{entry_at}
+use Rattle.av_vread.specs.inner.Entries.{entry_at}
 
 -- a listing, or the number of the first line that is none of one
 abbrev pub Listed : Type 0

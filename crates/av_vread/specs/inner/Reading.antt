@@ -20,7 +20,7 @@ use Rattle.av_net.specs.declared.netlist.Drive.{Drive}
 use Rattle.av_net.specs.Names.{clk, rst}
 use Rattle.av_net.specs.Lexemes.{Token}
 use Rattle.av_net.specs.Grammar.{Text, Declaration, wire, register, Item, drive, step}
-use Rattle.av_vread.specs.Bits.{is_width, width_of}
+use Rattle.av_vread.specs.inner.Bits.{is_width, width_of}
 use Rattle.av_vread.specs.declared.fault.ReadError.{ReadError}
 use Rattle.av_vread.specs.declared.fault.ReadError.TheVariants as error
 use Rattle.av_vread.specs.declared.literal.Literal.{Literal as FoundLiteral}

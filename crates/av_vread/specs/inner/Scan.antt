@@ -1,27 +1,21 @@
 -- What stands at the front of a text, found byte by byte.
-use Rattle.std.specs.Prelude.{ℕ, ◌+◌, ◌<◌, ◌≤◌, Bool, false, not, ◌&&◌, if◌then◌else◌, nat_eq, nat_le, List, ◌∷◌, take, drop, length, codes}
+use Rattle.std.specs.Prelude.{ℕ, ◌+◌, ◌<◌, ◌≤◌, Bool, false, ◌&&◌, if◌then◌else◌, nat_eq, nat_le, List, ◌∷◌, take, drop, length, codes}
 use Rattle.std.specs.List.{prefix_len, list_any}
 use Rattle.std.specs.Char.{is_ascii_digit}
 use Rattle.std.specs.Str.{bytes_eq}
 use Rattle.av_base.specs.Tokens.{is_word_byte, is_blank}
+use Rattle.av_base.specs.Spelling.{is_not_feed}
 use Rattle.av_net.specs.declared.token_kind.TokenKind.{TokenKind}
 use Rattle.av_net.specs.declared.token_kind.TokenKind.TheVariants as kind
-use Rattle.av_net.specs.Lexemes.{reserved_words, begins_name}
+use Rattle.av_net.specs.Lexemes.{begins_name}
+use Rattle.av_net.specs.Spelling.{is_reserved}
 use Rattle.av_vread.specs.declared.scan.Piece.{Piece}
 use Rattle.av_vread.specs.declared.scan.Piece.TheVariants as piece
-
--- a byte that ends no line
-abbrev pub is_not_feed : ℕ → Bool
-is_not_feed b = not (nat_eq b 10)
 
 -- the text begins with //
 abbrev pub is_slashed : List ℕ → Bool
 is_slashed (b ∷ c ∷ bytes) = nat_eq b 47 && nat_eq c 47
 is_slashed _ = false
-
--- the text is a reserved word
-abbrev pub is_reserved : List ℕ → Bool
-is_reserved text = list_any (bytes_eq text) reserved_words
 
 -- a symbol of one byte
 abbrev pub is_single : ℕ → Bool

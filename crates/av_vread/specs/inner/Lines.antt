@@ -1,6 +1,7 @@
 -- The lines of a text, found one after another, and what stands between certain bytes.
 use Rattle.std.specs.Prelude.{ℕ, ◌+◌, ◌-◌, Bool, not, ◌&&◌, if◌then◌else◌, nat_eq, nat_lt, List, take, drop, length, slice_index, Option, Some, None}
 use Rattle.std.specs.List.{prefix_len}
+use Rattle.av_base.specs.Spelling.{is_not_feed}
 
 abbrev pub is_not : ℕ → ℕ → Bool
 is_not byte b = not (nat_eq b byte)
@@ -21,7 +22,7 @@ trimmed text = if ends_with_return text then take (length text - 1) text else te
 
 -- how many bytes come before the first line feed
 abbrev pub line_len : List ℕ → ℕ
-line_len text = prefix_len (λ b. not (nat_eq b 10)) text
+line_len text = prefix_len is_not_feed text
 
 -- the first line, of this many bytes before its line feed, if there is one
 abbrev pub line_by : ℕ → List ℕ → List ℕ

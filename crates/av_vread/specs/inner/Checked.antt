@@ -12,9 +12,9 @@ use Rattle.av_vread.specs.declared.fault.VFault.TheVariants.{VByte, VSyntax, VLi
 use Rattle.av_vread.specs.declared.fault.ReadError.{ReadError}
 use Rattle.av_vread.specs.declared.fault.ReadError.TheVariants as error
 use Rattle.av_vread.specs.declared.parsed.Text.{Text as FoundText}
-use Rattle.av_vread.specs.Lexing.{Lexed, lexed_of}
-use Rattle.av_vread.specs.Reading.{text_at, said}
-use Rattle.av_vread.specs.Listings.{Listed, listing_at}
+use Rattle.av_vread.specs.inner.Lexing.{Lexed, lexed_of}
+use Rattle.av_vread.specs.inner.Reading.{text_at, said}
+use Rattle.av_vread.specs.inner.Listings.{Listed, listing_at}
 use Rattle.av_vread.specs.Faults.{first_row}
 
 -- what is read of a text and its listing, or its fault

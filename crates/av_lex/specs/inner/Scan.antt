@@ -1,26 +1,18 @@
 -- What stands at the front of a text, found byte by byte.
-use Rattle.std.specs.Prelude.{ℕ, ◌^◌, ◌<◌, ◌≤◌, Bool, true, false, not, ◌&&◌, ◌||◌, if◌then◌else◌, nat_eq, nat_lt, List, ◌∷◌, take, codes}
+use Rattle.std.specs.Prelude.{ℕ, ◌^◌, ◌<◌, ◌≤◌, Bool, true, false, ◌&&◌, ◌||◌, if◌then◌else◌, nat_eq, nat_lt, List, ◌∷◌, take, codes}
 use Rattle.std.specs.List.{prefix_len, list_any}
 use Rattle.std.specs.Char.{is_ascii_digit, is_ascii_alphabetic}
-use Rattle.std.specs.Str.{bytes_eq}
 use Rattle.av_base.specs.declared.token_kind.TokenKind.{TokenKind}
 use Rattle.av_base.specs.declared.token_kind.TokenKind.TheVariants as kind
-use Rattle.av_base.specs.Tokens.{reserved_words, is_word_byte, is_blank, number_of}
+use Rattle.av_base.specs.Tokens.{is_word_byte, is_blank, number_of}
+use Rattle.av_base.specs.Spelling.{is_not_feed, is_reserved}
 use Rattle.av_lex.specs.declared.scan.Piece.{Piece}
 use Rattle.av_lex.specs.declared.scan.Piece.TheVariants as piece
-
--- a byte that ends no line
-abbrev pub is_not_feed : ℕ → Bool
-is_not_feed b = not (nat_eq b 10)
 
 -- the text begins with --
 abbrev pub is_dashed : List ℕ → Bool
 is_dashed (b ∷ c ∷ bytes) = nat_eq b 45 && nat_eq c 45
 is_dashed _ = false
-
--- the text is a reserved word
-abbrev pub is_reserved : List ℕ → Bool
-is_reserved text = list_any (bytes_eq text) reserved_words
 
 -- a symbol of one byte
 abbrev pub is_single : ℕ → Bool

@@ -1,14 +1,13 @@
 -- Reading a line of the listing.
-use Rattle.std.specs.Prelude.{ℕ, zero, suc, ℤ, pos, neg_ℤ, Bool, false, not, ◌&&◌, ◌||◌, if◌then◌else◌, nat_eq, nat_le, List, [], ◌∷◌, length, slice_index, Option, Some, None}
-use Rattle.std.specs.List.{list_any, list_all}
-use Rattle.std.specs.Char.{is_ascii_alphabetic}
-use Rattle.std.specs.Str.{bytes_eq}
-use Rattle.av_base.specs.Tokens.{reserved_words, is_word_byte, number_of}
+use Rattle.std.specs.Prelude.{ℕ, zero, suc, ℤ, pos, neg_ℤ, Bool, not, ◌&&◌, ◌||◌, if◌then◌else◌, nat_eq, nat_le, List, [], ◌∷◌, length, slice_index, Option, Some, None}
+use Rattle.std.specs.List.{list_all}
+use Rattle.av_base.specs.Tokens.{is_word_byte, number_of}
+use Rattle.av_base.specs.Spelling.{is_name}
 use Rattle.av_net.specs.declared.design.Entry.{Entry}
 use Rattle.av_net.specs.Rows.{Among}
 use Rattle.av_vread.specs.declared.entry.Parts.{Parts as Found}
-use Rattle.av_vread.specs.Reading.{are_digits}
-use Rattle.av_vread.specs.Lines.{cut}
+use Rattle.av_vread.specs.inner.Reading.{are_digits}
+use Rattle.av_vread.specs.inner.Lines.{cut}
 
 -- ---- numbers
 
@@ -63,11 +62,6 @@ point_of (b ∷ text) = if nat_eq b 40 then closed_by (cut 41 text) else None
 
 -- ---- names
 
--- an Alpha name
-abbrev pub is_variable : List ℕ → Bool
-is_variable [] = false
-is_variable (b ∷ text) = is_ascii_alphabetic b && (list_all is_word_byte text && not (list_any (bytes_eq (b ∷ text)) reserved_words))
-
 -- one of these names
 abbrev pub is_wire : Among → List ℕ → Bool
 is_wire wires text = list_all is_word_byte text && wires text
@@ -105,7 +99,7 @@ entry_by parts (Some point) None = None
 entry_by parts None cycle = None
 
 abbrev pub entry_of : Among → Parts → Option Entry
-entry_of wires parts = if is_variable parts.variable && is_wire wires parts.wire then entry_by parts (point_of parts.point) (numeral_of parts.cycle) else None
+entry_of wires parts = if is_name parts.variable && is_wire wires parts.wire then entry_by parts (point_of parts.point) (numeral_of parts.cycle) else None
 
 abbrev pub entry_in : Among → Option Parts → Option Entry
 entry_in wires None = None

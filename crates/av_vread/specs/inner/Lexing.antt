@@ -9,7 +9,7 @@ use Rattle.av_vread.specs.declared.fault.VFault.{VFault}
 use Rattle.av_vread.specs.declared.fault.VFault.TheVariants.{VByte, VSyntax, VListing, VTwice, VName, VUnassigned, VOrder, VWidth, Memory}
 use Rattle.av_vread.specs.declared.scan.Piece.{Piece}
 use Rattle.av_vread.specs.declared.scan.Piece.TheVariants as piece
-use Rattle.av_vread.specs.Scan.{piece_of}
+use Rattle.av_vread.specs.inner.Scan.{piece_of}
 
 -- the tokens of a text, or the place of the first byte that begins none
 abbrev pub Lexed : Type 0

@@ -1,0 +1,34 @@
+-- The test of a name tells that the text is spelled as one.
+use Rattle.std.proofs.Common.{◌≡◌, ℕ, Bool, true, false, not, List, [], ◌∷◌, refl, sym, ap, ◌∙◌, true≢false}
+use Rattle.std.specs.Prelude.{IsTrue}
+use Rattle.std.specs.List.{list_all, AllByRecursion}
+use Rattle.std.specs.Char.{is_ascii_alphabetic}
+use Rattle.std.proofs.lemmas.List.Elements.{All-from_recursion, recursion_from_All}
+use Rattle.av_base.specs.declared.token_kind.TokenKind.TheVariants as kind
+use Rattle.av_base.specs.Tokens.{reserved_words, is_word_byte, IsSpelled}
+use Rattle.av_base.specs.Spelling.{is_reserved, is_name}
+use Rattle.av_base.proofs.Tables.{both, and_true, is_found, is_there}
+
+pub all_word : (text : List ℕ) → list_all is_word_byte text ≡ true → AllByRecursion (λ x. IsTrue (is_word_byte x)) text
+all_word [] e = tt
+all_word (b ∷ text) e = let z = both (is_word_byte b) (list_all is_word_byte text) e in (z.0, all_word text z.1)
+
+pub word_all : (text : List ℕ) → AllByRecursion (λ x. IsTrue (is_word_byte x)) text → list_all is_word_byte text ≡ true
+word_all [] e = refl
+word_all (b ∷ text) e = and_true (is_word_byte b) (list_all is_word_byte text) e.0 (word_all text e.1)
+
+pub name_is : (text : List ℕ) → is_name text ≡ true → IsSpelled kind.Name text
+name_is [] e = absurd (true≢false (sym e))
+name_is (b ∷ text) e =
+    let z = both (is_ascii_alphabetic b) _ e in
+    let w = both (list_all is_word_byte text) (not (is_reserved (b ∷ text))) z.1 in
+    ((z.0, All-from_recursion (λ x. IsTrue (is_word_byte x)) text (all_word text w.0)), λ h. true≢false (sym w.1 ∙ ap not (is_found (b ∷ text) reserved_words h)))
+
+pub name_gives : (text : List ℕ) → IsSpelled kind.Name text → is_name text ≡ true
+name_gives [] s = absurd s.0
+name_gives (b ∷ text) s =
+    and_true (is_ascii_alphabetic b) _ s.0.0 (and_true (list_all is_word_byte text) _ (word_all text (recursion_from_All (λ x. IsTrue (is_word_byte x)) text s.0.1)) (free (is_reserved (b ∷ text)) refl))
+  where
+    free : (t : Bool) → is_reserved (b ∷ text) ≡ t → not t ≡ true
+    free true h = absurd (s.1 (is_there (b ∷ text) reserved_words h))
+    free false h = refl
