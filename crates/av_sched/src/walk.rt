@@ -22,7 +22,7 @@ use crate::place::Place;
 use crate::pool::{Room, is_forbidden, learn};
 use crate::price::{Best, Price, is_dear, with_more};
 use av_base::{List, Memory, Point};
-use av_depend::Edge;
+use av_depend::{Edge, copy_point};
 use av_flat::{Flat, Reach};
 use std::alloc::Global;
 
@@ -35,19 +35,12 @@ pub(crate) struct Plan {
     pub floors: Vec<Price>,
 }
 
-// The same point.
-fn same(point: &Point) -> Point
-    ensures { result ≡ point.now }
-{
-    Point::from_slice(point.as_slice())
-}
-
 fn copy_points(alloc: Global, points: &[Point]) -> Result<Vec<Point>, Memory>
     ensures { IfOk result (λ to. to.items ≡ points.now) }
 {
     let mut to = Vec::new(alloc);
     for point in points {
-        to.push(same(point))?;
+        to.push(copy_point(point))?;
     }
     Ok(to)
 }
@@ -214,13 +207,13 @@ pub(crate) fn walk(
         );
     }
     let node = component[level] as usize;
-    let before = same(&linear[node]);
+    let before = copy_point(&linear[node]);
     let parts = plan.lists.as_slice()[level].as_slice();
     let prices = plan.prices.as_slice()[level].as_slice();
     let rest = plan.floors[component.len() - level - 1];
     let mut best = best;
     for k in 0..parts.len() {
-        linear[node] = same(&parts[k]);
+        linear[node] = copy_point(&parts[k]);
         let own = with_more(spent, prices[k]);
         if !is_barred(
             flat,
