@@ -6,8 +6,8 @@ use Rattle.av_flat.specs.declared.flat.Var.{Var}
 use Rattle.av_flat.specs.Trees.{view_system, view_variable}
 use Rattle.av_flat.specs.Nodes.{is_node, number_at}
 use Rattle.av_space.proofs.Nodes.{viewed_at, number_more, number_same}
-use Rattle.av_space.proofs.standing.numbers.Goals as goal
-use Rattle.av_space.proofs.standing.numbers.Goals.{then-is_node, else-is_node}
+use Rattle.av_space.proofs.node_places.numbers.Goals as goal
+use Rattle.av_space.proofs.node_places.numbers.Goals.{then-is_node, else-is_node}
 
 pub loop-place-preserved : goal.loop-place-preserved
 loop-place-preserved c =

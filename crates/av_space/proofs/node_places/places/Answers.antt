@@ -7,7 +7,7 @@ use Rattle.av_flat.specs.Trees.{view_system, view_variable}
 use Rattle.av_flat.specs.Nodes.{is_node, number_at}
 use Rattle.av_space.specs.Taps.{node_place}
 use Rattle.av_space.proofs.Nodes.{viewed_at, number_more, number_same, own_place, number_whole}
-use Rattle.av_space.proofs.standing.places.Goals as goal
+use Rattle.av_space.proofs.node_places.places.Goals as goal
 
 pub loop-place-preserved-then-not-is_node : goal.loop-place-preserved-then-not-is_node
 loop-place-preserved-then-not-is_node c =
