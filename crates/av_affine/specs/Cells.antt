@@ -18,7 +18,7 @@ skip zero k = suc k
 skip (suc l) zero = zero
 skip (suc l) (suc k) = suc (skip l k)
 
--- the position at a place among all but two, the second of which is told by its own place beside the first
+-- the position at a place among all but two, the second of which is identified by its own place beside the first
 abbrev pub skip_two : ℕ → ℕ → ℕ → ℕ
 skip_two p r k = skip p (skip r k)
 

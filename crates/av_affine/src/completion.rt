@@ -9,7 +9,7 @@ use crate::pivot::pivot_of;
 use crate::primitive::primitive_of;
 use av_base::Point;
 
-/// A vector completed to a matrix with a whole inverse.
+/// The unimodular completion of a vector: a matrix with a whole inverse.
 #[derive(Clone, Copy, Debug, PartialEq, Eq)]
 pub struct Placed {
     /// Its first row times `gcd` is the vector.
@@ -18,7 +18,8 @@ pub struct Placed {
     pub gcd: i64,
 }
 
-/// The vector's primitive vector completed to a square matrix, with the inverse of that matrix.
+/// The unimodular completion of the vector's primitive vector to a square matrix, with the inverse of
+/// that matrix.
 ///
 /// Beside the last entry 1 or -1 the other rows are the unit rows of the other positions, ascending.
 /// Where there is none, the second row has the signs of the last entry 3 or -3 and of the last entry

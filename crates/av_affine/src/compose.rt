@@ -97,8 +97,8 @@ fn greatest_of(numbers: &[i64]) -> u64
         .fold(0, |most, x| most.max(x))
 }
 
-// The greatest absolute value of a coefficient.
-pub(crate) fn most_coefficient(rows: &[Form]) -> u64
+/// The greatest absolute value of a coefficient.
+pub fn most_coefficient(rows: &[Form]) -> u64
     ensures { result ≡ greatest_coefficient rows.now }
 {
     rows.iter()
@@ -106,8 +106,8 @@ pub(crate) fn most_coefficient(rows: &[Form]) -> u64
         .fold(0, |most, x| most.max(x))
 }
 
-// The greatest absolute value of a constant.
-pub(crate) fn most_constant(rows: &[Form]) -> u64
+/// The greatest absolute value of a constant.
+pub fn most_constant(rows: &[Form]) -> u64
     ensures { result ≡ greatest_constant rows.now }
 {
     rows.iter()

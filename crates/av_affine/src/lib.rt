@@ -1,5 +1,5 @@
 //! Affine forms and maps over whole points of at most four indices, square matrices, and the
-//! completion of a vector to a matrix with a whole inverse.
+//! unimodular completion of a vector: the matrix and its inverse are whole.
 #![tactic(auto)]
 
 mod cells;
@@ -15,6 +15,7 @@ mod rows;
 mod square;
 
 pub use completion::{Placed, complete};
+pub use compose::{most_coefficient, most_constant};
 pub use divisor::{coefficients_over, gcd, gcd_of};
 pub use form::Form;
 pub use inner_product::dot;

@@ -1,4 +1,4 @@
--- Wrong points of variables, and the faults of systems: one at most, and none of a proper system.
+-- Miscovered points of variables, and the faults of systems: one at most, and none of a proper system.
 use Rattle.std.proofs.Common.{◌≡◌, ◌≢◌, ◌↔◌, ℕ, zero, suc, ◌+◌, ◌<◌, ◌⊎◌, inl, inr, false, true≢false, IsTrue, List, [], ◌∷◌, ◌++◌, length, map, take, drop, take-append-drop, get_or, Option, Some, None, refl, sym, ap, ap₂, subst, ◌∙◌, arith, All}
 use Rattle.std.specs.Prelude.{Result, Ok, Err, OnOk, IfErr}
 use Rattle.std.proofs.Math.Seq.{drop-cons}
@@ -31,19 +31,19 @@ use Rattle.av_check.proofs.Lexicographic.{least_same, same_point}
 -- ---- one variable
 
 module _ (vs : List Signature) (v w : Variable) (r : HasPremises vs v w) (computed : IsTrue (is_computed v.kind)) where
-  off_is_wrong : (z : Point) → IsOff v.domain (map (λ p. p.domain) w.pieces) z ↔ IsMiscoveredAt vs v z
-  off_is_wrong z = (
+  off_is_miscovered : (z : Point) → IsOff v.domain (map (λ p. p.domain) w.pieces) z ↔ IsMiscoveredAt vs v z
+  off_is_miscovered z = (
     (λ h. record { computed = computed; declared = (has_is v.domain z).1 h.0; count = λ e. h.1 (sym (r.same z h.0) ∙ e) }),
     (λ h. let k = (has_is v.domain z).0 h.declared in (k, λ e. h.count (r.same z k ∙ e))),
   )
 
-  pub least_is_wrong : (z : Point) → IsLeast (IsOff v.domain (map (λ p. p.domain) w.pieces)) (Some z) → IsLeastMiscovered vs v z
-  least_is_wrong z h =
-      let k = least_same (IsOff v.domain (map (λ p. p.domain) w.pieces)) (IsMiscoveredAt vs v) off_is_wrong (Some z) h in
+  pub least_is_miscovered : (z : Point) → IsLeast (IsOff v.domain (map (λ p. p.domain) w.pieces)) (Some z) → IsLeastMiscovered vs v z
+  least_is_miscovered z h =
+      let k = least_same (IsOff v.domain (map (λ p. p.domain) w.pieces)) (IsMiscoveredAt vs v) off_is_miscovered (Some z) h in
       record { wrong = k.0; least = k.1 }
 
-  pub none_is_wrong : IsLeast (IsOff v.domain (map (λ p. p.domain) w.pieces)) None → HasNoneMiscovered vs v
-  none_is_wrong h = least_same (IsOff v.domain (map (λ p. p.domain) w.pieces)) (IsMiscoveredAt vs v) off_is_wrong None h
+  pub none_is_miscovered : IsLeast (IsOff v.domain (map (λ p. p.domain) w.pieces)) None → HasNoneMiscovered vs v
+  none_is_miscovered h = least_same (IsOff v.domain (map (λ p. p.domain) w.pieces)) (IsMiscoveredAt vs v) off_is_miscovered None h
 
 pub input_is_fine : (vs : List Signature) (v : Variable) → is_computed v.kind ≡ false → HasNoneMiscovered vs v
 input_is_fine vs v e z h = true≢false (sym h.computed ∙ e)
@@ -96,8 +96,8 @@ fine_more f vs xs k x l e h n =
     pushed f [] x = refl
     pushed f (y ∷ xs) x = ap (λ ys. f y ∷ ys) (pushed f xs x)
 
-first_wrong : (s : FlatSystem) (v : Variable) (before after : List Variable) (z : Point) → s.variables ≡ before ++ v ∷ after → All (HasNoneMiscovered (signatures s)) before → IsLeastMiscovered (signatures s) v z → IsFirstMiscovered s v z
-first_wrong s v before after z e h least = record {
+first_miscovered : (s : FlatSystem) (v : Variable) (before after : List Variable) (z : Point) → s.variables ≡ before ++ v ∷ after → All (HasNoneMiscovered (signatures s)) before → IsLeastMiscovered (signatures s) v z → IsFirstMiscovered s v z
+first_miscovered s v before after z e h least = record {
   first = record {
     before = before;
     after = after;
@@ -109,8 +109,8 @@ first_wrong s v before after z e h least = record {
 }
 
 lifted : (s : FlatSystem) (v : Variable) (before after : List Variable) (f : CheckFault) → s.variables ≡ before ++ v ∷ after → All (HasNoneMiscovered (signatures s)) before → IsFaultOf (signatures s) v f → IsFault s f
-lifted s v before after (fault.Uncovered name z outside) e h k = (v, first_wrong s v before after z e h k.0, k)
-lifted s v before after (fault.TwoBranches name z) e h k = (v, first_wrong s v before after z e h k.0, k)
+lifted s v before after (fault.Uncovered name z outside) e h k = (v, first_miscovered s v before after z e h k.0, k)
+lifted s v before after (fault.TwoBranches name z) e h k = (v, first_miscovered s v before after z e h k.0, k)
 lifted s v before after fault.Memory e h k = tt
 
 pub fault_found : {X : Type 0} (g : X → Variable) (s : FlatSystem) (xs : List X) (k : ℕ) (x : X) (f : CheckFault) → s.variables ≡ map g xs → k < length xs → x ≡ get_or xs k x
@@ -142,14 +142,14 @@ proper_where_fine s ends h = record {
 at_member : {X : Type 0} (P : X → Type 0) (xs before after : List X) (x : X) → xs ≡ before ++ x ∷ after → All P xs → P x
 at_member P xs before after x e h = All-head P x after (all_parts P before (x ∷ after) (subst (All P) e h)).1
 
-not_wrong : (s : FlatSystem) (v : Variable) (z : Point) → IsProper s → IsFirstMiscovered s v z → ⊥
-not_wrong s v z p h =
+not_miscovered : (s : FlatSystem) (v : Variable) (z : Point) → IsProper s → IsFirstMiscovered s v z → ⊥
+not_miscovered s v z p h =
     let P : Variable → Type 0 = λ u. IsTrue (is_computed u.kind) → (y : Point) → IsTrue (has u.domain y) → count (signatures s) (right_side u) y ≡ 1 in
     h.least.wrong.count (at_member P s.variables h.first.before h.first.after v h.first.is p.counted h.least.wrong.computed z h.least.wrong.declared)
 
 pub no_fault : (s : FlatSystem) (f : CheckFault) → IsProper s → IsFault s f → f ≡ fault.Memory
-no_fault s (fault.Uncovered name z outside) p h = absurd (not_wrong s h.0 z p h.1)
-no_fault s (fault.TwoBranches name z) p h = absurd (not_wrong s h.0 z p h.1)
+no_fault s (fault.Uncovered name z outside) p h = absurd (not_miscovered s h.0 z p h.1)
+no_fault s (fault.TwoBranches name z) p h = absurd (not_miscovered s h.0 z p h.1)
 no_fault s fault.Memory p h = refl
 
 -- ---- one fault

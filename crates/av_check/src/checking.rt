@@ -24,7 +24,7 @@ ghost use Rattle.av_normal.specs.NormalFaults as normalised;
 
 use crate::CheckFault;
 use crate::judge::judge_pieces;
-use crate::least::least_wrong;
+use crate::least::least_miscovered;
 use crate::verdict::{Blame, Verdict};
 use av_base::{List, Memory, Name, Point};
 use av_flat::{Flat, Pass, Piece, Var};
@@ -69,7 +69,7 @@ fn name_blame(
     }
 }
 
-// What is wrong with a variable at its least wrong point.
+// What is wrong with a variable at its least miscovered point.
 fn fault_at(alloc: Global, vars: &[Var], var: &Var, point: Point) -> Result<CheckFault, Memory>
     requires stand { All (λ piece. IsReachableInside (map signature (map view_variable vars.now)) (view_piece piece) point) var.now.pieces }
     requires small { AtMost 4095 point }
@@ -100,7 +100,7 @@ fn check_variable(alloc: Global, vars: &[Var], var: &Var, kept: &Var) -> Result<
         return Ok(());
     }
     let sets = domains(alloc, kept.pieces.as_slice())?;
-    match least_wrong(alloc, &var.domain, sets.as_slice())? {
+    match least_miscovered(alloc, &var.domain, sets.as_slice())? {
         None => Ok(()),
         Some(point) => Err(fault_at(alloc, vars, var, point)?),
     }
@@ -149,7 +149,7 @@ pub fn check(alloc: Global, flat: &Flat) -> Result<(), CheckFault>
     ensures proper { OnOk result (IsProper (view_system flat.now)) }
     ensures complete { IsProper (view_system flat.now) → IfErr result (λ f. f ≡ fault.Memory) }
 
-    // Else the fault is that of the first wrong variable's least wrong point.
+    // Else the fault is that of the first variable's that has a miscovered point, at the least one.
     ensures fault { IfErr result (IsFault (view_system flat.now)) }
     ensures refused { (f : FaultSeen) → IsFault (view_system flat.now) f → f ≢ fault.Memory → (result ≡ Err f) ⊎ (result ≡ Err fault.Memory) }
 {

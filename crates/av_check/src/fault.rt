@@ -7,7 +7,7 @@ use av_base::{Memory, Name, Point};
 /// its equation has not just one word, and its least such point in lexicographic order.
 #[derive(Debug, Drop)]
 pub enum CheckFault {
-    /// No branch has a word there. The reference that is blamed, where one is, is told by the variable that it reads
+    /// No branch has a word there. The reference that is blamed, where one is, is identified by the variable that it reads
     /// and the point which that does not have.
     Uncovered {
         variable: Name,

@@ -1,27 +1,14 @@
 //! Points at which trees stand under maps, of which the innermost comes first.
 
-ghost use Rattle.std.specs.Prelude.{◌≡◌, ◌^◌, ◌∷◌, length, All, IfOk};
+ghost use Rattle.std.specs.Prelude.{◌≡◌, ◌^◌, length, All};
 ghost use Rattle.av_affine.specs.Numbers.{AtMost};
 ghost use Rattle.av_affine.specs.Forms.{IsWithinLimits};
 ghost use Rattle.av_affine.specs.Maps.{image, composition};
 ghost use Rattle.av_check.specs.inner.Reachable.{reach, IsImage, IsReached};
 
 use av_affine::Map;
-use av_base::{List, Memory, Point};
+use av_base::Point;
 use av_flat::copy_map;
-use std::alloc::Global;
-
-// A map in front of those that it stands under.
-pub(crate) fn within(alloc: Global, own: &Map, under: &[Map]) -> Result<List<Map>, Memory>
-    ensures { IfOk result (λ inner. inner ≡ own.now ∷ under.now) }
-{
-    let mut inner = List::new(alloc);
-    inner.push(copy_map(own))?;
-    for outer in under {
-        inner.push(copy_map(outer))?;
-    }
-    Ok(inner)
-}
 
 // First the outer map, then the other, where that is within the limits.
 fn composed(own: &Map, outer: &Map) -> Map

@@ -8,11 +8,12 @@ ghost use Rattle.av_flat.specs.WellFormed.{dimension_of};
 ghost use Rattle.av_check.specs.inner.Reachable.{reach, IsReachable, AreReachable, IsReachableInside};
 ghost use Rattle.av_check.specs.inner.Verdicts.{IsReading, IsVerdict, IsVerdictOfAll};
 
-use crate::images::{image_under, point_under, within};
+use crate::images::{image_under, point_under};
 use crate::verdict::{Blame, Verdict, both, either};
 use av_affine::Map;
 use av_base::{Memory, Point};
 use av_flat::{Piece, Tree, Var};
+use av_normal::prepend_map;
 use std::alloc::Global;
 
 // What a reference to a variable has that reads this point.
@@ -75,7 +76,7 @@ fn judge(
         }
         Tree::Case { branches } => judge_all(alloc, vars, under, branches.as_slice(), z),
         Tree::Depend { map, body } => {
-            let inner = within(alloc, map, under)?;
+            let inner = prepend_map(alloc, map, under)?;
             judge(alloc, vars, inner.as_slice(), body, z)
         }
     }

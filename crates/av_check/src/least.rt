@@ -36,7 +36,7 @@ fn least_between(
 }
 
 // The least point of the domain that not just one of the sets has.
-pub(crate) fn least_wrong(
+pub(crate) fn least_miscovered(
     alloc: Global,
     domain: &Poly,
     sets: &[Poly],

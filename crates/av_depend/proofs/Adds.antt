@@ -1,5 +1,5 @@
 -- Edges put behind others, site by site.
-use Rattle.std.proofs.Common.{◌≡◌, ℕ, zero, suc, ◌+◌, ◌<◌, ◌≤◌, Bool, IsTrue, if◌then◌else◌, List, [], ◌∷◌, ◌++◌, length, map, append_assoc, get_or, take, ⊎_elim, refl, sym, ap, ap₂, subst, ◌∙◌, arith, All, Some, add-one}
+use Rattle.std.proofs.Common.{◌≡◌, ℕ, zero, suc, ◌+◌, ◌<◌, ◌≤◌, Bool, IsTrue, if◌then◌else◌, List, [], ◌∷◌, ◌++◌, length, map, append_assoc, get_or, take, ⊎_elim, refl, sym, ap, ap₂, subst, ◌∙◌, arith, All, Option, Some, None, true, add-one}
 use Rattle.std.specs.Prelude.{Contains, filter, slice_get}
 use Rattle.std.specs.List.{flat_map}
 use Rattle.std.proofs.lemmas.List.{append-nil, length-map}
@@ -20,12 +20,13 @@ use Rattle.av_flat.proofs.Sets.{has_is}
 use Rattle.av_flat.specs.Points.{has}
 use Rattle.av_flat.proofs.Solving.{by_test}
 use Rattle.av_depend.specs.declared.edge.Edge.{Edge}
+use Rattle.av_depend.specs.ComputedPlaces.{computed_at}
 use Rattle.av_depend.specs.Sites.{Site, both, HasPair, sites_of, sites_from}
 use Rattle.av_flat.specs.Order.{IsBefore}
 use Rattle.av_depend.specs.Edges.{IsEdge, AreEdges, ended, without, with_pair}
 use Rattle.av_elim.specs.Extents.{IsInside}
 use Rattle.av_depend.specs.AllPoints.{AreAllPoints}
-use Rattle.av_depend.specs.inner.Generating.{IsPointOf}
+use Rattle.av_depend.specs.SetPoints.{IsPointOf}
 use Rattle.av_depend.specs.inner.Adding.{IsComputedAt, HasAdded, site_at}
 use Rattle.av_depend.proofs.Among.{first_among, more_among, among_cases, none_among}
 use Rattle.av_depend.proofs.Covering.{has_both, both_have}
@@ -130,14 +131,15 @@ small_points set extent points few low high inside all = λ k d l.
 pub variable_at : (vars : List Var) (place : ℕ) (x : Var) → place < length vars → x ≡ get_or vars place x → slice_get (map view_variable vars) place ≡ Some (view_variable x)
 variable_at vars place x l e = slice_get-map view_variable vars place ∙ ap (option_map view_variable) (slice_get-get_or vars place x l ∙ ap Some (sym e))
 
-pub computed_at : (s : FlatSystem) (vars : List Var) (place : ℕ) (x : Var) → s.variables ≡ map view_variable vars → place < length vars → x ≡ get_or vars place x → IsTrue (is_computed x.kind) → IsComputedAt s place
-computed_at s vars place x v l e t = record { variable = view_variable x; is = ap (λ (ws : List Variable). slice_get ws place) v ∙ variable_at vars place x l e; computed = t }
+pub computed_here : (s : FlatSystem) (place : ℕ) → computed_at (slice_get s.variables place) ≡ true → IsComputedAt s place
+computed_here s place t = by_variable (slice_get s.variables place) refl t
+  where
+    by_variable : (o : Option Variable) → slice_get s.variables place ≡ o → computed_at o ≡ true → IsComputedAt s place
+    by_variable None e t = absurd cc
+    by_variable (Some v) e t = record { variable = v; is = e; computed = t }
 
-pub at_computed : (s : FlatSystem) (vars : List Var) (place : ℕ) (x : Var) → s.variables ≡ map view_variable vars → place < length vars → x ≡ get_or vars place x → IsComputedAt s place → IsTrue (is_computed x.kind)
-at_computed s vars place x v l e h =
-    let found = sym (ap (λ (ws : List Variable). slice_get ws place) v ∙ variable_at vars place x l e) ∙ h.is in
-    let same : view_variable x ≡ h.variable = cc in
-    subst (λ (w : Variable). IsTrue (is_computed w.kind)) (sym same) h.computed
+pub here_computed : (s : FlatSystem) (place : ℕ) → IsComputedAt s place → computed_at (slice_get s.variables place) ≡ true
+here_computed s place h = subst (λ (o : Option Variable). computed_at o ≡ true) (sym h.is) h.computed
 
 pub place_within : (s : FlatSystem) (vars : List Var) (place : ℕ) → s.variables ≡ map view_variable vars → IsComputedAt s place → place < length vars
 place_within s vars place v h =

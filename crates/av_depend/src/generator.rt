@@ -5,7 +5,8 @@ ghost use Rattle.av_affine.specs.Numbers.{AtMost};
 ghost use Rattle.av_poly.specs.Points.{Has};
 ghost use Rattle.av_depend.specs.Edges.{AreGenerators};
 ghost use Rattle.av_depend.specs.AllPoints.{AreAllPoints};
-ghost use Rattle.av_depend.specs.inner.Generating.{mirrored, IsPointOf, HasMirrored};
+ghost use Rattle.av_depend.specs.inner.Generating.{mirrored, HasMirrored};
+ghost use Rattle.av_depend.specs.SetPoints.{IsPointOf};
 
 use arrayvec::ArrayVec;
 use av_base::{List, Memory, Point};
@@ -58,7 +59,7 @@ fn is_middle(set: &Poly, points: &[Point], at: usize) -> bool
 }
 
 /// The same point.
-pub(crate) fn same(point: &Point) -> Point
+pub fn copy_point(point: &Point) -> Point
     ensures { result ≡ point.now }
 {
     Point::from_slice(point.as_slice())
@@ -75,7 +76,7 @@ pub(crate) fn generators(alloc: Global, set: &Poly, points: &[Point]) -> Result<
         if is_middle(set, points, k) {
             continue;
         }
-        list.push(same(&points[k]))?;
+        list.push(copy_point(&points[k]))?;
     }
     Ok(list)
 }

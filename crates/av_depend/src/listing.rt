@@ -1,44 +1,17 @@
 //! All points of a set, in order.
 
-ghost use Rattle.std.specs.Prelude.{◌≡◌, ◌≤◌, ◌<◌, ◌+◌, ◌++◌, ◌∷◌, [], length, take, filter, All, IfOk, OnOk};
+ghost use Rattle.std.specs.Prelude.{◌≡◌, ◌≤◌, ◌+◌, ◌++◌, ◌∷◌, [], length, filter, All, IfOk, OnOk};
 ghost use Rattle.av_affine.specs.Numbers.{AtMost};
 ghost use Rattle.av_flat.specs.Points.{has};
 ghost use Rattle.av_elim.specs.Extents.{IsInside};
 ghost use Rattle.av_depend.specs.AllPoints.{AreAllPoints};
-ghost use Rattle.av_depend.specs.inner.Generating.{IsPointOf};
+ghost use Rattle.av_depend.specs.SetPoints.{IsPointOf};
 ghost use Rattle.av_depend.specs.inner.Listing.{HasListed};
 
-use crate::generator::same;
-use arrayvec::ArrayVec;
+use crate::generator::copy_point;
 use av_base::{List, Memory, Point};
-use av_poly::{Bounds, Poly};
+use av_poly::{Bounds, Poly, extended, first_entries};
 use std::alloc::Global;
-
-// The first bounds, as many as there are indices.
-fn first_bounds(numbers: [i128; 4], dim: u8) -> ArrayVec<i64, 4>
-    requires numbers { AtMost 4095 numbers }
-    requires dim { dim ≤ 4 }
-    ensures { result.items ≡ take dim numbers }
-{
-    let mut entries: ArrayVec<i64, 4> = ArrayVec::new();
-    for k in 0..dim as usize {
-        entries.push(numbers[k] as i64);
-    }
-    entries
-}
-
-// Entries with one more.
-fn extended(fixed: &[i64], entry: i64) -> ArrayVec<i64, 4>
-    requires { length fixed.now < 4 }
-    ensures { result.items ≡ fixed.now ++ entry ∷ [] }
-{
-    let mut entries: ArrayVec<i64, 4> = ArrayVec::new();
-    for number in fixed {
-        entries.push(*number);
-    }
-    entries.push(entry);
-    entries
-}
 
 // Puts the point behind the others if the set has it.
 fn add_point(set: &Poly, entries: &[i64], points: &mut List<Point>) -> Result<(), Memory>
@@ -89,8 +62,8 @@ pub fn all_points(alloc: Global, set: &Poly, extent: &Bounds) -> Result<List<Poi
     requires inside { IsInside set.now.dim extent.now set.now }
     ensures { IfOk result (AreAllPoints set.now) }
 {
-    let low = first_bounds(extent.low, set.dim);
-    let high = first_bounds(extent.high, set.dim);
+    let low = first_entries(extent.low, set.dim);
+    let high = first_entries(extent.high, set.dim);
     let mut points = List::new(alloc);
     add_points(set, &[], low.as_slice(), high.as_slice(), &mut points)?;
     Ok(points)
@@ -110,7 +83,7 @@ pub(crate) fn points_within(
         if !set.contains(point) {
             continue;
         }
-        to.push(same(point))?;
+        to.push(copy_point(point))?;
     }
     Ok(to)
 }

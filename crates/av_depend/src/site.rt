@@ -1,17 +1,18 @@
 //! Edges of the sites of one piece.
 
-ghost use Rattle.std.specs.Prelude.{◌≡◌, ◌≤◌, [], ◌∷◌, map, length, All, IfOk, OnOk, IsTrue};
+ghost use Rattle.std.specs.Prelude.{◌≡◌, ◌≤◌, [], ◌∷◌, map, length, All, IfOk, OnOk, slice_get};
 ghost use Rattle.av_affine.specs.Numbers.{AtMost};
 ghost use Rattle.av_flat.specs.Trees.{view, view_system};
 ghost use Rattle.av_flat.specs.Nodes.{number_at};
 ghost use Rattle.av_flat.specs.Signatures.{signatures};
 ghost use Rattle.av_flat.specs.WellFormed.{Fits};
 ghost use Rattle.av_depend.specs.Sites.{sites_in, both};
+ghost use Rattle.av_depend.specs.ComputedPlaces.{computed_at};
 ghost use Rattle.av_elim.specs.Extents.{IsInside};
-ghost use Rattle.av_depend.specs.inner.Adding.{IsReadingSet, IsComputedAt, HasAdded, site_at, site_of};
+ghost use Rattle.av_depend.specs.inner.Adding.{IsReadingSet, HasAdded, site_at, site_of};
 
 use crate::edge::Edge;
-use crate::generator::{generators, same};
+use crate::generator::{copy_point, generators};
 use crate::listing::{all_points, points_within};
 use av_affine::Map;
 use av_base::{List, Memory, Point};
@@ -67,17 +68,14 @@ fn narrowed(alloc: Global, reading: &ReadingSet, set: &Poly) -> Result<ReadingSe
     })
 }
 
-// Whether the variable at this place is computed.
-fn is_computed_at(flat: &Flat, place: u32) -> bool
-    ensures yes { IsTrue result → IsComputedAt (view_system flat.now) place }
-    ensures no { IsComputedAt (view_system flat.now) place → IsTrue result }
+/// Whether a computed variable stands at this place.
+pub fn is_computed_at(flat: &Flat, place: u32) -> bool
+    ensures { result ≡ computed_at (slice_get (view_system flat.now).variables place) }
 {
-    let vars = flat.vars.as_slice();
-    let at = place as usize;
-    if at >= vars.len() {
-        return false;
+    match flat.vars.as_slice().get(place as usize) {
+        Some(var) => var.kind.is_computed(),
+        None => false,
     }
-    vars[at].kind.is_computed()
 }
 
 // The number of the node at a place of the variables.
@@ -101,7 +99,7 @@ fn copy_points(alloc: Global, points: &[Point]) -> Result<List<Point>, Memory>
 {
     let mut to = List::new(alloc);
     for point in points {
-        to.push(same(point))?;
+        to.push(copy_point(point))?;
     }
     Ok(to)
 }

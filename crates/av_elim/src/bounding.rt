@@ -23,7 +23,7 @@ pub enum Elim {
     Unbounded(u8),
     /// No rational point, or an index with no whole number between its bounds, where all are finite.
     Empty,
-    /// Memory was wanted.
+    /// Out of memory.
     Memory,
 }
 

@@ -1,5 +1,5 @@
-//! Rows without one index: those that do not have it, and the combinations of those that bound it from
-//! below with those that bound it from above.
+//! Fourier-Motzkin elimination of one index: the rows that do not have it, and the combinations of those
+//! that bound it from below with those that bound it from above.
 
 ghost use Rattle.std.specs.Prelude.{◌≡◌, ◌≤◌, ◌<◌, ◌+◌, ◌^◌, ◌++◌, ◌*ℤ◌, ◌+ℤ◌, suc, unsigned_abs, All, OnOk, IfOk};
 ghost use Rattle.std.proofs.Math.IntN.{neg_ℤ};

@@ -1,4 +1,4 @@
-//! What rows say of one index, by elimination of the others one after another.
+//! What rows say of one index, by Fourier-Motzkin elimination of the others one after another.
 
 ghost use Rattle.std.specs.Prelude.{ℕ, ◌≡◌, ◌≢◌, ◌≤◌, ◌<◌, ◌+◌, ◌^◌, ◌⊎◌, suc, All, IfOk};
 ghost use Rattle.av_affine.specs.Forms.{IsWithinLimits};

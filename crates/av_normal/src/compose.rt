@@ -60,8 +60,8 @@ pub(crate) fn together(under: &[Map]) -> Result<Option<Map>, NormalFault>
     Ok(Some(whole))
 }
 
-// A map in front of those that it stands under.
-pub(crate) fn within(alloc: Global, own: &Map, under: &[Map]) -> Result<List<Map>, Memory>
+/// A map in front of those that it stands under.
+pub fn prepend_map(alloc: Global, own: &Map, under: &[Map]) -> Result<List<Map>, Memory>
     ensures { IfOk result (λ inner. inner ≡ own.now ∷ under.now) }
 {
     let mut inner = List::new(alloc);
@@ -111,7 +111,7 @@ pub(crate) fn maps_fit(alloc: Global, under: &[Map], tree: &Tree) -> Result<(), 
             Ok(())
         }
         Tree::Depend { map, body } => {
-            let inner = within(alloc, map, under)?;
+            let inner = prepend_map(alloc, map, under)?;
             maps_fit(alloc, inner.as_slice(), body)
         }
         Tree::Reduce { body, .. } => maps_fit(alloc, &[], body),

@@ -10,10 +10,9 @@ ghost use Rattle.av_normal.specs.Searches.{AreNarrow};
 ghost use Rattle.av_normal.specs.inner.UnderMaps.{AreChained, IsRestricting};
 
 use crate::compose::{outwards, together};
-use crate::rows::append;
 use av_affine::{Form, Map};
 use av_base::{List, Memory};
-use av_poly::Poly;
+use av_poly::{Poly, append_rows};
 use std::alloc::Global;
 
 // Puts the rows of a set, taken at the image under a map, behind others.
@@ -30,7 +29,7 @@ pub(crate) fn append_before(
     ensures small { OnOk result (All IsSmall rows.old → All IsSmall rows.new) }
 {
     let before = set.preimage(alloc, own)?;
-    append(rows, before.rows.as_slice())
+    append_rows(rows, before.rows.as_slice())
 }
 
 // Puts the rows of a restriction behind others.
@@ -46,7 +45,7 @@ pub(crate) fn append_under(
 {
     match together(under) {
         Ok(Some(whole)) => append_before(alloc, domain, &whole, rows),
-        Ok(None) => append(rows, domain.rows.as_slice()),
+        Ok(None) => append_rows(rows, domain.rows.as_slice()),
         Err(_fault) => Err(Memory),
     }
 }

@@ -1,7 +1,6 @@
 //! Rows against the limits on sets.
 
 ghost use Rattle.std.specs.Prelude.{◌≡◌, ◌≤◌, ◌^◌, length, All, IfOk, IfErr, OnOk};
-ghost use Rattle.av_affine.specs.Numbers.{greatest};
 ghost use Rattle.av_affine.specs.Forms.{IsWithinLimits};
 ghost use Rattle.av_affine.specs.Maps.{greatest_coefficient, greatest_constant};
 ghost use Rattle.av_poly.specs.Normal.{AreNormalised};
@@ -9,38 +8,10 @@ ghost use Rattle.av_flat.specs.Quantities.{of_set};
 ghost use Rattle.av_normal.specs.Searches.{IsWideRows, IsNarrow, IsWideOne};
 
 use crate::NormalFault;
-use av_affine::Form;
+use av_affine::{Form, most_coefficient, most_constant};
 use av_base::limits::{MOST_COEFFICIENT, MOST_CONSTANT, MOST_ROWS};
 use av_flat::Quantity;
 use av_poly::Poly;
-
-// The greatest absolute value.
-fn greatest_of(numbers: &[i64]) -> u64
-    ensures { result ≡ greatest numbers.now }
-{
-    numbers
-        .iter()
-        .map(|x| x.unsigned_abs())
-        .fold(0, |most, x| most.max(x))
-}
-
-// The greatest absolute value of a coefficient.
-fn most_coefficient(rows: &[Form]) -> u64
-    ensures { result ≡ greatest_coefficient rows.now }
-{
-    rows.iter()
-        .map(|f| greatest_of(&f.coef))
-        .fold(0, |most, x| most.max(x))
-}
-
-// The greatest absolute value of a constant.
-fn most_constant(rows: &[Form]) -> u64
-    ensures { result ≡ greatest_constant rows.now }
-{
-    rows.iter()
-        .map(|f| f.constant.unsigned_abs())
-        .fold(0, |most, x| most.max(x))
-}
 
 // Tries the numbers of the rows, and then how many there are.
 pub(crate) fn rows_fit(rows: &[Form]) -> Result<(), NormalFault>

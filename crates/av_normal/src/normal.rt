@@ -6,10 +6,10 @@ ghost use Rattle.av_flat.specs.WellFormed.{IsWellFormed};
 ghost use Rattle.av_normal.specs.NormalFaults.{IsGiven, IsFault};
 
 use crate::NormalFault;
+use crate::all_pieces::all_pieces;
 use crate::bounded::{boxes_fit, extents};
 use crate::count::few_pieces;
-use crate::sift::kept_variables;
-use crate::spread::spread;
+use crate::nonempty_pieces::kept_variables;
 use av_flat::{Feeds, Flat, Pass};
 use std::alloc::Global;
 
@@ -20,10 +20,10 @@ fn normal_form(alloc: Global, flat: &Flat) -> Result<Flat, NormalFault>
     ensures fault { IfErr result (IsFault (view_system flat.now)) }
 {
     few_pieces(flat.vars.as_slice())?;
-    let spread = spread(alloc, flat)?;
+    let all_pieces = all_pieces(alloc, flat)?;
     let extents = extents(alloc, flat.vars.as_slice())?;
     boxes_fit(extents.as_slice())?;
-    let vars = kept_variables(alloc, spread.as_slice(), extents.as_slice())?;
+    let vars = kept_variables(alloc, all_pieces.as_slice(), extents.as_slice())?;
     Ok(Flat {
         width: flat.width,
         vars,

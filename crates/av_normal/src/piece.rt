@@ -13,7 +13,7 @@ ghost use Rattle.av_normal.specs.inner.Numbered.{part_at, signatures_of};
 ghost use Rattle.av_normal.specs.inner.UnderMaps.{IsReadable, AreReadable};
 ghost use Rattle.av_normal.specs.inner.PieceByNumber.{IsPartAt, AreFourNumbers};
 
-use crate::compose::within;
+use crate::compose::prepend_map;
 use crate::count::piece_count;
 use crate::distribute::{append_before, append_under, composed_map};
 use av_affine::{Form, Map};
@@ -156,7 +156,7 @@ fn part_of(
             part_of_case(alloc, vars, under, branches.as_slice(), number, rows)
         }
         Tree::Depend { map, body } => {
-            let inner = within(alloc, map, under)?;
+            let inner = prepend_map(alloc, map, under)?;
             part_of(alloc, vars, inner.as_slice(), body, number, rows)
         }
         Tree::Reduce { op, map, body, set } => {

@@ -15,7 +15,7 @@ use Rattle.av_flat.specs.Schedules.{cycle}
 use Rattle.av_flat.specs.Broadcasts.{Reference, references}
 use Rattle.av_flat.specs.Helped.{before, IsEntry}
 
--- a word that is computed: of a node, or of a helper, told by their numbers, at a point
+-- a word that is computed: of a node, or of a helper, identified by their numbers, at a point
 pub data Computed : Type 0 where
   of_node : ℕ → Point → Computed
   of_helper : ℕ → Point → Computed

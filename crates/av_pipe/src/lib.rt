@@ -3,10 +3,10 @@
 #![tactic(auto)]
 
 mod direction;
+mod helpers;
 mod laws;
 mod pipe;
 mod site;
-mod whole;
 
 pub use laws::{
     helped_systems_show_the_same, helpers_read_earlier, pipelines_are_all, pipelines_are_given,

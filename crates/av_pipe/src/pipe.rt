@@ -1,6 +1,6 @@
 //! The pass that gives a scheduled system its helpers.
 
-use crate::whole::piped;
+use crate::helpers::piped;
 use av_base::Memory;
 use av_flat::{Pass, Timed};
 use std::alloc::Global;

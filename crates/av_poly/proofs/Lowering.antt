@@ -3,7 +3,7 @@ use Rattle.std.proofs.Common.{◌≡◌, ℕ, ◌<◌, List, get_or, sym, ◌∙
 use Rattle.std.proofs.Math.ListN.{set}
 use Rattle.std.specs.Int.{int_min}
 use Rattle.av_affine.specs.declared.form.Form.{Form}
-use Rattle.av_poly.specs.Normal.{Lowers}
+use Rattle.av_poly.specs.inner.Placing.{Lowers}
 
 pub lowers_at : (kept : ℕ) (row : Form) (old rows : List Form) (k : ℕ) (x new : Form) → k < kept → rows ≡ old → x ≡ get_or rows k row → x.coef ≡ row.coef
     → new ≡ record { coef = x.coef; constant = int_min x.constant row.constant } → Lowers kept row old (set rows k new)

@@ -11,7 +11,8 @@ use Rattle.av_affine.specs.Forms.{value_at}
 use Rattle.av_affine.proofs.Ring.{neg_times}
 use Rattle.std.proofs.lemmas.List.{take_more}
 use Rattle.av_poly.specs.Points.{Set, Has, Holds, HoldsAt, IsSmall}
-use Rattle.av_poly.specs.Parts.{AreDisjoint, AreParts}
+use Rattle.av_poly.specs.Parts.{AreDisjoint}
+use Rattle.av_poly.specs.inner.Parts.{AreParts}
 use Rattle.av_poly.proofs.Anys.{any_before, any_last, any_cases}
 use Rattle.av_poly.proofs.Membership.{holds_append, holds_first, holds_last}
 

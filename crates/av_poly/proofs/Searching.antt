@@ -5,7 +5,8 @@ use Rattle.std.proofs.lemmas.Int.{ints, by_lt_z}
 use Rattle.std.proofs.lemmas.List.{length-drop}
 use Rattle.av_affine.specs.declared.form.Form.{Form}
 use Rattle.av_poly.specs.Points.{Set, Has, Holds}
-use Rattle.av_poly.specs.Search.{IsBetween, IsNotAfter, CanFollow, IsFirstFrom}
+use Rattle.av_poly.specs.Search.{IsBetween, IsNotAfter, CanFollow}
+use Rattle.av_poly.specs.inner.Search.{IsFirstFrom}
 use Rattle.av_poly.proofs.Intervals.{rest_of, between_rest}
 
 -- the bounds but for the first

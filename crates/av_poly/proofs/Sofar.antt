@@ -9,7 +9,8 @@ use Rattle.std.proofs.lemmas.List.{get_or-set_other, get_or-take, get_or_default
 use Rattle.std.proofs.lemmas.List.Elements.{All-nil, All-push, All-set, All-take, All-from_recursion}
 use Rattle.av_affine.specs.declared.form.Form.{Form}
 use Rattle.av_poly.specs.Points.{IsSmall}
-use Rattle.av_poly.specs.Normal.{IsConstant, IsDivided, AreTightest, AreNormalised, Places, impossible}
+use Rattle.av_poly.specs.Normal.{IsConstant, IsDivided, AreTightest, AreNormalised, impossible}
+use Rattle.av_poly.specs.inner.Placing.{Places}
 use Rattle.av_poly.proofs.Dividing.{not_constant}
 use Rattle.av_poly.proofs.Tightening.{lower, tight_none, tight_constant, tight_pushed, tight_lowered}
 

@@ -4,3 +4,4 @@ pub mod Parts
 pub mod Normal
 pub mod Search
 pub mod Rational
+pub mod inner

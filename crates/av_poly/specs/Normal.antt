@@ -1,7 +1,7 @@
 -- Normalised rows: each is divided by the greatest common divisor of its coefficients and its constant is rounded down,
 -- which keeps the whole points (Wilde's reports on Alpha; textbook, the strengthening of an inequality over whole numbers).
-use Rattle.std.specs.Prelude.{ℕ, ℤ, pos, negsuc, zero, suc, ◌≡◌, ◌≢◌, ◌<◌, ◌≤ℤ◌, ◌<ℤ◌, ◌⊎◌, List, [], ◌∷◌, map, take, All, Any, AllPairs, slice_index_or, slice_set}
-use Rattle.std.specs.Int.{int_div_euclid, int_min}
+use Rattle.std.specs.Prelude.{ℕ, ℤ, pos, negsuc, zero, suc, ◌≡◌, ◌≢◌, ◌<◌, ◌≤ℤ◌, ◌<ℤ◌, ◌⊎◌, List, [], ◌∷◌, map, take, All, Any, AllPairs}
+use Rattle.std.specs.Int.{int_div_euclid}
 use Rattle.av_affine.specs.declared.form.Form.{Form}
 use Rattle.av_affine.specs.Numbers.{IsGcdOf}
 use Rattle.av_poly.specs.Points.{Set}
@@ -72,16 +72,3 @@ pub record IsPrimitive (dim : ℕ) (row : Form) : Type 0 where
 -- a set with normalised rows
 abbrev pub IsNormal : Set → Type 0
 IsNormal set = (set.rows ≡ impossible ∷ []) ⊎ (All (IsPrimitive set.dim) set.rows × AllPairs (λ a b. a.coef ≢ b.coef) set.rows)
-
--- one of the first rows has these coefficients, and its constant is lowered to the row's where that is less
-pub record Lowers (kept : ℕ) (row : Form) (old new : List Form) : Type 0 where
-  pub place : ℕ
-  pub within : place < kept
-  pub coef : (slice_index_or old place row).coef ≡ row.coef
-  pub new_rows : new ≡ slice_set old place (record { coef = (slice_index_or old place row).coef; constant = int_min (slice_index_or old place row).constant row.constant })
-
--- a row takes its place among the first rows: its constant lowers another's, or it stands behind them
-abbrev pub Places : ℕ → Form → List Form → List Form → ℕ → Type 0
-Places kept row old new count =
-    ((count ≡ kept) × Lowers kept row old new)
-    ⊎ ((count ≡ suc kept) × All (λ other. other.coef ≢ row.coef) (take kept old) × (new ≡ slice_set old kept row))

@@ -30,7 +30,7 @@ pub record IsRationalPoint (dim : ℕ) (rows : List (List ℤ)) (m : ℤ) (y : L
 abbrev pub HasRationalPoint : ℕ → List (List ℤ) → Type 0
 HasRationalPoint dim rows = (m : ℤ) × (y : List ℤ) × IsRationalPoint dim rows m y
 
--- a direction in which the rows go on without end
+-- a direction in which the rows are unbounded
 pub record IsDirection (dim : ℕ) (rows : List (List ℤ)) (d : List ℤ) : Type 0 where
   pub size : length d ≡ dim
   pub satisfies : Satisfies rows (pos 0 ∷ d)

@@ -21,10 +21,3 @@ pub record CanFollow (rows : List Form) (fixed low high rest : List ℤ) : Type 
   pub size : length rest ≡ length low
   pub between : IsBetween low high rest
   pub holds : Holds rows (fixed ++ rest)
-
--- the point is the fixed entries with the least that may follow them
-pub record IsFirstFrom (rows : List Form) (fixed low high point : List ℤ) : Type 0 where
-  pub rest : List ℤ
-  pub follows : CanFollow rows fixed low high rest
-  pub is : point ≡ fixed ++ rest
-  pub least : (other : List ℤ) → CanFollow rows fixed low high other → IsNotAfter rest other

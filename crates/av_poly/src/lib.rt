@@ -14,3 +14,5 @@ mod search;
 pub use copy::{copy_rows, copy_set, normalised_copy};
 pub use laws::normalised_rows_are_unique;
 pub use poly::{Bounds, Poly};
+pub use row::append_rows;
+pub use search::{extended, first_entries};

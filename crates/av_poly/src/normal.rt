@@ -3,7 +3,8 @@
 ghost use Rattle.std.specs.Prelude.{◌≡◌, ◌≢◌, ◌≤◌, ◌<◌, ◌+◌, ◌^◌, pos, length, take, All, IfSome, IfNone, IsTrue, false, nat_lt, if◌then◌else◌, slice_index_or};
 ghost use Rattle.std.specs.Int.{int_min};
 ghost use Rattle.av_poly.specs.Points.{IsSmall};
-ghost use Rattle.av_poly.specs.Normal.{counted, IsConstant, IsDivided, AreNormalised, impossible, Lowers, Places};
+ghost use Rattle.av_poly.specs.Normal.{counted, IsConstant, IsDivided, AreNormalised, impossible};
+ghost use Rattle.av_poly.specs.inner.Placing.{Lowers, Places};
 
 use av_affine::{Form, coefficients_over, gcd_of};
 use av_base::List;

@@ -1,12 +1,12 @@
-//! What a set leaves of another, in disjoint parts: part k has the points at which row k is the first
-//! that does not hold.
+//! Set difference into disjoint parts: part k has the points at which row k is the first that does not
+//! hold.
 
 ghost use Rattle.std.specs.Prelude.{ℤ, List as Items, ◌≡◌, ◌<◌, ◌^◌, ◌↔◌, length, unsigned_abs, All, IfOk};
 ghost use Rattle.av_poly.specs.Points.{IsSmall, Has, Holds, HoldsAt};
-ghost use Rattle.av_poly.specs.Parts.{AreParts};
+ghost use Rattle.av_poly.specs.inner.Parts.{AreParts};
 
 use crate::Poly;
-use crate::row::append;
+use crate::row::append_rows;
 use av_affine::Form;
 use av_base::{List, Memory};
 use std::alloc::Global;
@@ -35,7 +35,7 @@ fn part(alloc: Global, dim: u8, kept: &[Form], row: &Form) -> Result<Poly, Memor
     ensures dim { IfOk result (λ part. part.dim ≡ dim) }
 {
     let mut rows = List::new(alloc);
-    append(&mut rows, kept)?;
+    append_rows(&mut rows, kept)?;
     rows.push(complement(row))?;
     Ok(Poly { dim, rows })
 }
@@ -54,7 +54,7 @@ pub(crate) fn parts(
 {
     let mut parts = List::new(alloc);
     let mut kept = List::new(alloc);
-    append(&mut kept, within)?;
+    append_rows(&mut kept, within)?;
     for row in rows {
         parts.push(part(alloc, dim, kept.as_slice(), row)?)?;
         kept.push(*row)?;

@@ -11,7 +11,7 @@ ghost use Rattle.av_poly.specs.Search.{IsBetween, IsNotAfter};
 use crate::before::each_before;
 use crate::normal::normalise_rows;
 use crate::parts::parts;
-use crate::row::{append, each_holds};
+use crate::row::{append_rows, each_holds};
 use crate::search::{first_entries, first_from};
 use av_affine::{Form, Map};
 use av_base::{List, Memory, Point};
@@ -56,7 +56,7 @@ impl Poly {
         each_holds(self.rows.as_slice(), z.as_slice())
     }
 
-    /// The points of both sets: the rows of this one, and then those of the other.
+    /// The intersection of both sets: the rows of this one, and then those of the other.
     pub fn meet(&self, alloc: Global, other: &Poly) -> Result<Poly, Memory>
         requires { self.now.dim ≡ other.now.dim }
         ensures points { IfOk result (λ both. (z : Items ℤ) → Has both z ↔ (Has self.now z × Has other.now z)) }
@@ -64,8 +64,8 @@ impl Poly {
         ensures rows { IfOk result (λ both. both.rows ≡ self.now.rows ++ other.now.rows) }
     {
         let mut rows = List::new(alloc);
-        append(&mut rows, self.rows.as_slice())?;
-        append(&mut rows, other.rows.as_slice())?;
+        append_rows(&mut rows, self.rows.as_slice())?;
+        append_rows(&mut rows, other.rows.as_slice())?;
         Ok(Poly {
             dim: self.dim,
             rows,
@@ -99,8 +99,8 @@ impl Poly {
         normalise_rows(self.dim, &mut self.rows);
     }
 
-    /// The points of `within` that are not in the set, as disjoint sets, at most one for each row of
-    /// this one.
+    /// The set difference of `within` and this set, in disjoint parts, at most one for each row of this
+    /// one.
     pub fn split_outside(&self, alloc: Global, within: &Poly) -> Result<List<Poly>, Memory>
         requires fits { self.now.dim ≡ within.now.dim }
         requires constants { All (λ row. unsigned_abs row.constant < 2 ^ 40) self.now.rows }
@@ -118,7 +118,7 @@ impl Poly {
         )
     }
 
-    /// The least point between the bounds, in lexicographic order.
+    /// The lexicographic minimum of the points between the bounds.
     pub fn first_point(&self, bounds: &Bounds) -> Option<Point>
         requires dim { self.now.dim ≤ 4 }
         requires low { AtMost 4095 bounds.now.low }

@@ -54,8 +54,8 @@ pub(crate) fn each_holds(rows: &[Form], z: &[i64]) -> bool
     true
 }
 
-// Puts rows behind others.
-pub(crate) fn append(rows: &mut List<Form>, more: &[Form]) -> Result<(), Memory>
+/// Puts rows behind others.
+pub fn append_rows(rows: &mut List<Form>, more: &[Form]) -> Result<(), Memory>
     ensures { OnOk result (rows.new ≡ rows.old ++ more.now) }
 {
     for row in more {

@@ -1,9 +1,10 @@
-//! The least point of rows between bounds, index by index.
+//! The lexicographic minimum of rows between bounds, index by index.
 
 ghost use Rattle.std.specs.Prelude.{ℕ, ℤ, List, ◌≡◌, ◌≤◌, ◌<◌, ◌+◌, ◌^◌, ◌∷◌, [], ◌++◌, length, take, unsigned_abs, All, IfSome, IfNone};
 ghost use Rattle.av_affine.specs.Numbers.{AtMost};
 ghost use Rattle.av_poly.specs.Points.{IsSmall};
-ghost use Rattle.av_poly.specs.Search.{CanFollow, IsFirstFrom};
+ghost use Rattle.av_poly.specs.Search.{CanFollow};
+ghost use Rattle.av_poly.specs.inner.Search.{IsFirstFrom};
 
 use crate::interval::interval_of;
 use crate::row::each_holds;
@@ -11,8 +12,8 @@ use arrayvec::ArrayVec;
 use av_affine::Form;
 use av_base::Point;
 
-// The first numbers, as many as there are indices.
-pub(crate) fn first_entries(numbers: [i128; 4], dim: u8) -> ArrayVec<i64, 4>
+/// The first numbers, as many as there are indices.
+pub fn first_entries(numbers: [i128; 4], dim: u8) -> ArrayVec<i64, 4>
     requires numbers { AtMost 4095 numbers }
     requires dim { dim ≤ 4 }
     ensures { result.items ≡ take dim numbers }
@@ -24,8 +25,8 @@ pub(crate) fn first_entries(numbers: [i128; 4], dim: u8) -> ArrayVec<i64, 4>
     entries
 }
 
-// Entries with one more.
-fn extended(fixed: &[i64], entry: i64) -> ArrayVec<i64, 4>
+/// Entries with one more.
+pub fn extended(fixed: &[i64], entry: i64) -> ArrayVec<i64, 4>
     requires { length fixed.now < 4 }
     ensures { result.items ≡ fixed.now ++ entry ∷ [] }
 {

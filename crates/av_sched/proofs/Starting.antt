@@ -31,7 +31,8 @@ at_view flat xs k a q l e =
 pub same_item : (xs : List Var) (k : ℕ) (a b : Var) → k < length xs → a ≡ get_or xs k a → b ≡ get_or xs k b → a ≡ b
 same_item xs k a b l e f = e ∙ same_default xs k a b l ∙ sym f
 
-pub record IsReady (s : FlatSystem) (linear : List Point) (k n : ℕ) (v : Variable) : Type 0 where
+-- the variable at a place is the node with this number, and its linear part and its points are small
+pub record IsStartingNode (s : FlatSystem) (linear : List Point) (k n : ℕ) (v : Variable) : Type 0 where
   pub at : slice_get s.variables k ≡ Some v
   pub test : is_node v ≡ true
   pub within : n < length linear
@@ -60,9 +61,9 @@ node_has_point s v own test none =
     let piece = All-contains (IsChainedPiece (signatures s) v) v.pieces p.0 own.pieces p.1 in
     none piece.point ((has_is v.domain piece.point).0 (piece.within piece.point piece.has_point))
 
-pub ready : (flat : Flat) (xs : List Var) (linear : List Point) (k : ℕ) (a b : Var) (t : Bool) (low : List ℤ) → xs ≡ flat.vars → k < length xs → a ≡ get_or xs k a → b ≡ get_or xs k b → t ≡ is_node (view_variable a) → t ≡ true
-    → IsChained (view_system flat) → AreVectors (view_system flat) 4 linear → IsStarted (view_system flat) linear k low → IsReady (view_system flat) linear k (length low) (view_variable b)
-ready flat xs linear k a b t low q l e f is so chained vectors h =
+pub starting_node : (flat : Flat) (xs : List Var) (linear : List Point) (k : ℕ) (a b : Var) (t : Bool) (low : List ℤ) → xs ≡ flat.vars → k < length xs → a ≡ get_or xs k a → b ≡ get_or xs k b → t ≡ is_node (view_variable a) → t ≡ true
+    → IsChained (view_system flat) → AreVectors (view_system flat) 4 linear → IsStarted (view_system flat) linear k low → IsStartingNode (view_system flat) linear k (length low) (view_variable b)
+starting_node flat xs linear k a b t low q l e f is so chained vectors h =
     let s = view_system flat in
     let v = view_variable b in
     let at = at_view flat xs k b q l f in

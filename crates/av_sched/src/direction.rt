@@ -1,14 +1,14 @@
 //! Directions along which references read one point, and linear parts that go up along them.
 
-ghost use Rattle.std.specs.Prelude.{◌≡◌, ◌++◌, ◌∷◌, [], ◌≤◌, ◌<◌, ◌&&◌, ◌||◌, ◌*ℤ◌, pos, negsuc, map, length, unsigned_abs, All, IfOk};
+ghost use Rattle.std.specs.Prelude.{◌≡◌, ◌++◌, ◌∷◌, [], ◌≤◌, ◌<◌, ◌&&◌, ◌||◌, pos, negsuc, map, length, All, IfOk};
 ghost use Rattle.std.specs.List.{flat_map, list_any};
 ghost use Rattle.av_affine.specs.Forms.{IsWithinLimits};
-ghost use Rattle.av_affine.specs.Numbers.{dot, AtMost};
+ghost use Rattle.av_affine.specs.Numbers.{AtMost};
 ghost use Rattle.av_flat.specs.Broadcasts.{lists_of, directions, along, is_zero, stays, moves};
 ghost use Rattle.av_sched.specs.inner.Prices.{IsSmallDirection};
 
 use crate::vector::prepend_all;
-use av_affine::Map;
+use av_affine::{Map, dot};
 use av_base::{List, Memory, Point};
 use std::alloc::Global;
 
@@ -22,32 +22,6 @@ fn either(a: bool, b: bool) -> bool
     ensures { result ≡ (a || b) }
 {
     a || b
-}
-
-// The product of a small number and an entry of a direction.
-fn step(a: i64, b: i64) -> i64
-    requires first { unsigned_abs a ≤ 1024 }
-    requires second { unsigned_abs b ≤ 1 }
-    ensures value { result ≡ a *ℤ b }
-    ensures small { unsigned_abs result ≤ 1024 }
-{
-    a * b
-}
-
-// How far numbers go up along a direction.
-fn rise(numbers: &[i64], direction: &[i64]) -> i64
-    requires numbers { AtMost 1024 numbers.now }
-    requires direction { AtMost 1 direction.now }
-    requires fits { length direction.now ≤ 4 }
-    requires sizes { length direction.now ≤ length numbers.now }
-    ensures { result ≡ dot numbers.now direction.now }
-{
-    let mut sum: i64 = 0;
-    for k in 0..direction.len() {
-        let term = step(numbers[k], direction[k]);
-        sum += term;
-    }
-    sum
 }
 
 fn is_zero_point(point: &Point) -> bool
@@ -65,7 +39,7 @@ fn stays_at(map: &Map, direction: &Point) -> bool
 {
     let mut all = true;
     for form in map.rows.as_slice() {
-        let value = rise(&form.coef, direction.as_slice());
+        let value = dot(&form.coef, direction.as_slice());
         all = both(all, value == 0);
     }
     all
@@ -135,7 +109,7 @@ pub(crate) fn moves_some(linear: &Point, ways: &[Point]) -> bool
 {
     let mut some = false;
     for way in ways {
-        let value = rise(linear.as_slice(), way.as_slice());
+        let value = dot(linear.as_slice(), way.as_slice());
         some = either(some, value > 0);
     }
     some

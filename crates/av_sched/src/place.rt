@@ -1,6 +1,6 @@
 use av_base::Point;
 
-// A listed point of an edge inside a component, with its image. The edge's ends are told by their places in the component.
+// A listed point of an edge inside a component, with its image. The edge's ends are identified by their places in the component.
 #[derive(Debug, Drop)]
 pub(crate) struct Place {
     pub reader: usize,

@@ -22,7 +22,7 @@ use crate::place::Place;
 use crate::pool::{Room, is_forbidden, learn};
 use crate::price::{Best, Price, is_dear, with_more};
 use av_base::{List, Memory, Point};
-use av_depend::Edge;
+use av_depend::{Edge, copy_point};
 use av_flat::{Flat, Reach};
 use std::alloc::Global;
 
@@ -35,19 +35,12 @@ pub(crate) struct Plan {
     pub floors: Vec<Price>,
 }
 
-// The same point.
-fn same(point: &Point) -> Point
-    ensures { result ≡ point.now }
-{
-    Point::from_slice(point.as_slice())
-}
-
 fn copy_points(alloc: Global, points: &[Point]) -> Result<Vec<Point>, Memory>
     ensures { IfOk result (λ to. to.items ≡ points.now) }
 {
     let mut to = Vec::new(alloc);
     for point in points {
-        to.push(same(point))?;
+        to.push(copy_point(point))?;
     }
     Ok(to)
 }
@@ -173,6 +166,7 @@ fn leaf(
 }
 
 // The best choice after all that have these parts for the first nodes.
+#[cycle(walk)]
 pub(crate) fn walk(
     alloc: Global,
     flat: &Flat,
@@ -214,43 +208,76 @@ pub(crate) fn walk(
         );
     }
     let node = component[level] as usize;
-    let before = same(&linear[node]);
+    let before = copy_point(&linear[node]);
     let parts = plan.lists.as_slice()[level].as_slice();
     let prices = plan.prices.as_slice()[level].as_slice();
-    let rest = plan.floors[component.len() - level - 1];
     let mut best = best;
     for k in 0..parts.len() {
-        linear[node] = same(&parts[k]);
+        linear[node] = copy_point(&parts[k]);
         let own = with_more(spent, prices[k]);
-        if !is_barred(
+        best = walk_unless_barred(
+            alloc,
             flat,
             edges,
             reach,
             component,
+            plan,
             level + 1,
             own,
-            rest,
             linear,
             pool,
             room,
-            &best,
-        )? {
-            best = walk(
-                alloc,
-                flat,
-                edges,
-                reach,
-                component,
-                plan,
-                level + 1,
-                own,
-                linear,
-                pool,
-                room,
-                best,
-            )?;
-        }
+            best,
+        )?;
     }
     linear[node] = before;
     Ok(best)
+}
+
+// The same, where those choices may be barred.
+#[cycle(walk)]
+fn walk_unless_barred(
+    alloc: Global,
+    flat: &Flat,
+    edges: &[Edge],
+    reach: Reach,
+    component: &[u32],
+    plan: &Plan,
+    level: usize,
+    spent: Price,
+    linear: &mut [Point],
+    pool: &mut Vec<Place>,
+    room: &mut Room,
+    best: Option<Best>,
+) -> Result<Option<Best>, Memory>
+    requires chained { IsChained (view_system flat.now) }
+    requires proper { IsProper (view_system flat.now) }
+    requires edges { AreEdgesOf (view_system flat.now) edges.now }
+    requires within { All (λ n. n < length (nodes (view_system flat.now))) component.now }
+    requires apart { AllPairs (λ m n. m < n) component.now }
+    requires lists { AreAllParts (view_system flat.now) reach.size component.now plan.now.lists }
+    requires prices { ArePricesTo (view_system flat.now) component.now (length component.now) plan.now.lists plan.now.prices }
+    requires floors { AreFloorsTo (view_system flat.now) reach.size component.now (length component.now) plan.now.floors.items }
+    requires level { level ≤ length component.now }
+    requires linear { AreLinearParts (view_system flat.now) reach.size linear.old }
+    requires spent { IsSpent (view_system flat.now) linear.old (take level component.now) spent }
+    requires pool { All (IsPlace edges.now component.now) pool.old.items }
+    requires best { IsSound (view_system flat.now) reach.size component.now (known best) }
+    requires rated { IsRated (view_system flat.now) component.now best }
+    requires like { IsLike component.now linear.old (known best) }
+    ensures walked { IfOk result (λ new. HasWalked (view_system flat.now) reach.size component.now level linear.old (known best) (known new)) }
+    ensures rated { IfOk result (λ new. IsRated (view_system flat.now) component.now new) }
+    ensures like { IfOk result (λ new. IsLike component.now linear.old (known new)) }
+    ensures linear { IfOk result (λ new. linear.new ≡ linear.old) }
+    ensures pool { IfOk result (λ new. All (IsPlace edges.now component.now) pool.new.items) }
+{
+    let rest = plan.floors[component.len() - level];
+    if is_barred(
+        flat, edges, reach, component, level, spent, rest, linear, pool, room, &best,
+    )? {
+        return Ok(best);
+    }
+    walk(
+        alloc, flat, edges, reach, component, plan, level, spent, linear, pool, room, best,
+    )
 }

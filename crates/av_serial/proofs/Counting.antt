@@ -6,7 +6,7 @@ use Rattle.av_poly.specs.Normal.{AreNormalised}
 use Rattle.av_poly.proofs.Normalising.{normal_set}
 use Rattle.av_tree.specs.Trees.{Text}
 use Rattle.av_flat.specs.Trees.{Tree, Piece, Variable, reference, constant, binary, choice, reduction, pick}
-use Rattle.av_normal.proofs.Filled.{same_set}
+use Rattle.av_normal.proofs.InnerSets.{same_set}
 use Rattle.av_serial.specs.SerialForm.{Chain, AreOfTwo, IsSerialTree, AreSerialPieces, chain_name, IsSerialVariable, AreSerialVariables}
 use Rattle.av_serial.specs.SerialFaults.{IsSum, HasPoint, HasNodes, HaveNodes, HasNodesIn}
 

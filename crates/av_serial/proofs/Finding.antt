@@ -8,7 +8,7 @@ use Rattle.av_base.specs.declared.word.Op.{Op}
 use Rattle.av_affine.specs.declared.map.Map.{Map}
 use Rattle.av_flat.specs.Trees.{Tree, reduction}
 use Rattle.av_normal.specs.Pairwise.{IsFirstOf}
-use Rattle.av_normal.proofs.Filled.{same_set}
+use Rattle.av_normal.proofs.InnerSets.{same_set}
 use Rattle.av_serial.specs.declared.fault.SerialFault.{SerialFault}
 use Rattle.av_serial.specs.declared.fault.SerialFault.TheVariants as fault
 use Rattle.av_serial.specs.SerialFaults.{Reduced, IsCauseOf, IsSum, HasPoint, HasNodes, HaveNodes}

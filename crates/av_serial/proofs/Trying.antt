@@ -18,7 +18,7 @@ use Rattle.av_normal.specs.Domains.{IsDeclaredExtent, HasFourEntries, IsSmallExt
 use Rattle.av_normal.proofs.Boxes.{greatest_append, most_at}
 use Rattle.av_normal.proofs.Ends.{has_end, without_end}
 use Rattle.av_normal.proofs.DomainBoxes.{large_box, no_large_box, bounded_domain, normal_point}
-use Rattle.av_normal.proofs.Filled.{same_set}
+use Rattle.av_normal.proofs.InnerSets.{same_set}
 use Rattle.av_normal.proofs.Normalised.{normalised_again}
 use Rattle.av_normal.proofs.Once.{alike, each_alike}
 use Rattle.av_serial.specs.declared.fault.SerialFault.{SerialFault}

@@ -11,7 +11,7 @@ mod line;
 mod serial;
 mod tries;
 mod walk;
-mod whole;
+mod with_chains;
 
 pub use fault::SerialFault;
 pub use laws::{

@@ -7,7 +7,7 @@ ghost use Rattle.av_serial.specs.SerialFaults.{IsGiven, IsFault};
 
 use crate::SerialFault;
 use crate::walk::all_nodes;
-use crate::whole::whole;
+use crate::with_chains::with_chains;
 use av_base::limits::MOST_REDUCTIONS;
 use av_flat::{Feeds, Flat, Pass, Quantity};
 use av_normal::Normal;
@@ -23,7 +23,7 @@ fn serial_form(alloc: Global, flat: &Flat) -> Result<Flat, SerialFault>
     if nodes > MOST_REDUCTIONS {
         return Err(SerialFault::Limit(Quantity::Reductions, nodes));
     }
-    let vars = whole(alloc, &flat.vars)?;
+    let vars = with_chains(alloc, &flat.vars)?;
     Ok(Flat {
         width: flat.width,
         vars,

@@ -18,7 +18,8 @@ use Rattle.av_flat.specs.Nodes.{nodes, IsComputation}
 use Rattle.av_space.specs.declared.cells.Link.{Link}
 use Rattle.av_space.specs.declared.layout.Layout.{Layout}
 use Rattle.av_space.specs.Coordinates.{Placing}
-use Rattle.av_space.specs.Taps.{Handing, helper_at, computed_at, Place, Tap, node_place, places_in, places_from, taps_by, taps_at, is_own, all_taps, taps}
+use Rattle.av_space.specs.Taps.{Handing, helper_at, Place, Tap, node_place, places_in, places_from, taps_by, taps_at, is_own, all_taps, taps}
+use Rattle.av_depend.specs.ComputedPlaces.{computed_at}
 use Rattle.av_space.specs.Links.{AreLinks}
 use Rattle.av_space.specs.Quantities.{size, Use, IsUse, IsOperatorCount}
 use Rattle.av_space.specs.Layouts.{IsLayout}

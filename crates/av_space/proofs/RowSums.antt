@@ -191,14 +191,14 @@ number_of_s (suc (suc zero)) cell x e a = let f : cell_second ≡ cell = cc in l
 number_of_s (suc (suc (suc p))) cell x e a = absurd cc
 
 -- a computation is one of Y or one of Y#1
-data Standing (p c : ℕ) : ℕ → Point → Type 0 where
-  of_one : (x : ℤ) → OnY p c x → Standing p c 0 (x ∷ [])
-  of_two : (x w : ℤ) → OnS p c x w → Standing p c 1 (x ∷ w ∷ [])
+data Computation (p c : ℕ) : ℕ → Point → Type 0 where
+  of_one : (x : ℤ) → OnY p c x → Computation p c 0 (x ∷ [])
+  of_two : (x w : ℤ) → OnS p c x w → Computation p c 1 (x ∷ w ∷ [])
 
-standing_of : (p c n : ℕ) (z : Point) → Computes system placings cells p c n z → Standing p c n z
-standing_of p c n z h = by_spot h.cell n z h.is_cell (spot_of h.cell c n z h.stands)
+computation_of : (p c n : ℕ) (z : Point) → Computes system placings cells p c n z → Computation p c n z
+computation_of p c n z h = by_spot h.cell n z h.is_cell (spot_of h.cell c n z h.stands)
   where
-    by_spot : (cell : Cell) (n : ℕ) (z : Point) → slice_get cells p ≡ Some cell → Spot cell.at c n z → Standing p c n z
+    by_spot : (cell : Cell) (n : ℕ) (z : Point) → slice_get cells p ≡ Some cell → Spot cell.at c n z → Computation p c n z
     by_spot cell n z e (on_y x r at t) = of_one x (record { cell = number_of_y p cell e at; turn = t; row = r })
     by_spot cell n z e (on_s x w r k at t) = of_two x w (record { cell = number_of_s p cell x e at; turn = t; column = k })
 
@@ -246,7 +246,7 @@ moved p k c q d a b e f g h i j l m o =
     (subst (λ (n : ℕ). Only a b e n d) (sym l) (subst (λ (n : ℕ). Only a b e f n) (sym m) o))))
 
 -- the point that Y#1 is read at, where it is one of these
-there : (q e m : ℕ) (r : Point) (x w : ℤ) → Standing q e m r → m ≡ 1 → r ≡ x ∷ w ∷ [] → OnS q e x w
+there : (q e m : ℕ) (r : Point) (x w : ℤ) → Computation q e m r → m ≡ 1 → r ≡ x ∷ w ∷ [] → OnS q e x w
 there q e m r x w (of_one u o) a b = absurd (let n : length (u ∷ []) ≡ length (x ∷ w ∷ []) = ap (λ (z : Point). length z) b in omega (arith, n))
 there q e m r x w (of_two u v o) a b =
     let f : u ≡ x = cc in
@@ -273,7 +273,7 @@ of_own p k c q d e x w u z o h step column l =
 row_of : (p c : ℕ) (x w : ℤ) → OnS p c x w → (x ≡ pos 0) ⊎ (x ≡ pos 1)
 row_of p c x w o = elim o.cell [ inl a ↦ inl a.1 | inr a ↦ inr a.1 ]
 
-own_reads : (p k c q d e : ℕ) (x w : ℤ) (m : ℕ) (r : Point) → k ≡ 0 → OnS p c x w → picked (before_of ∷ []) (x ∷ w ∷ []) ≡ Some r → m ≡ 1 → Standing q e m r → e + d ≡ c → Only p k c q d
+own_reads : (p k c q d e : ℕ) (x w : ℤ) (m : ℕ) (r : Point) → k ≡ 0 → OnS p c x w → picked (before_of ∷ []) (x ∷ w ∷ []) ≡ Some r → m ≡ 1 → Computation q e m r → e + d ≡ c → Only p k c q d
 own_reads p k c q d e x w m r z o reads node h l = elim o.column [
   | inl a ↦ absurd (let b = none_before x (row_of p c x w o) in let f = sym (ap (λ (v : ℤ). picked (before_of ∷ []) (x ∷ v ∷ [])) a ∙ b) ∙ reads in cc)
   | inr a ↦ elim a [
@@ -285,12 +285,12 @@ own_reads p k c q d e x w m r z o reads node h l = elim o.column [
 ]
 
 only : (p k c q d : ℕ) → IsTapped system [] placings cells p k c q d → Only p k c q d
-only p k c q d t = by_node t.node t.point (standing_of p c t.node t.point t.computes) t.variable t.is_variable t.tap t.is_tap t.piece t.reads
+only p k c q d t = by_node t.node t.point (computation_of p c t.node t.point t.computes) t.variable t.is_variable t.tap t.is_tap t.piece t.reads
   where
     number : (place k : ℕ) → place ≡ 2 → k ≡ Rattle.av_flat.specs.Nodes.number_at system place → k ≡ 1
     number place k e f = f ∙ ap (λ (n : ℕ). Rattle.av_flat.specs.Nodes.number_at system n) e
 
-    by_node : (n : ℕ) (z : Point) → Standing p c n z → (v : Variable) → slice_get (nodes system) n ≡ Some v → (tap : Tap) → slice_get (taps system [] (node_place system n) v) k ≡ Some tap
+    by_node : (n : ℕ) (z : Point) → Computation p c n z → (v : Variable) → slice_get (nodes system) n ≡ Some v → (tap : Tap) → slice_get (taps system [] (node_place system n) v) k ≡ Some tap
         → (g : Piece) → IsTapRead system n tap.place.tree tap.way g z t.producer t.read → Only p k c q d
     by_node n z (of_one x o) v is tap at g read =
         let here : y ≡ v = cc in
@@ -298,13 +298,13 @@ only p k c q d t = by_node t.node t.point (standing_of p c t.node t.point t.comp
         let reads = subst (λ (a : Tap). IsTapRead system 0 a.place.tree a.way g (x ∷ []) t.producer t.read) (sym first.1) read in
         let node : t.producer ≡ 1 = number reads.0 t.producer reads.1.0 reads.2 in
         let f : Some (x ∷ pos 2 ∷ []) ≡ Some t.read = sym (last_read x o.row) ∙ reads.1.1 in
-        of_whole p k c q d t.earlier x first.0 o (there q t.earlier t.producer t.read x (pos 2) (standing_of q t.earlier t.producer t.read t.computed) node cc) t.later
+        of_whole p k c q d t.earlier x first.0 o (there q t.earlier t.producer t.read x (pos 2) (computation_of q t.earlier t.producer t.read t.computed) node cc) t.later
     by_node n z (of_two x w o) v is tap at g read =
         let here : s ≡ v = cc in
         let first = first_of own k tap (subst (λ (u : Variable). slice_get (taps system [] (node_place system 1) u) k ≡ Some tap) (sym here) at) in
         let reads = subst (λ (a : Tap). IsTapRead system 1 a.place.tree a.way g (x ∷ w ∷ []) t.producer t.read) (sym first.1) read in
         let node : t.producer ≡ 1 = number reads.0 t.producer reads.1.0 reads.2 in
-        own_reads p k c q d t.earlier x w t.producer t.read first.0 o reads.1.1 node (standing_of q t.earlier t.producer t.read t.computed) t.later
+        own_reads p k c q d t.earlier x w t.producer t.read first.0 o reads.1.1 node (computation_of q t.earlier t.producer t.read t.computed) t.later
 
 -- ---- links
 

@@ -30,7 +30,8 @@ use Rattle.av_flat.specs.Reads.{IsRead, IsPair}
 use Rattle.av_flat.specs.Chained.{ReadsThere}
 use Rattle.av_flat.specs.Helped.{before}
 use Rattle.av_space.specs.inner.SpotTaps.{IsComputedRead}
-use Rattle.av_space.specs.Taps.{Handing, helper_at, Place, places_in, places_from, Way, each, entries, handed, Tap, computed_at, taps_by, taps_at, is_own, all_taps, taps, IsReadBy, IsTapRead}
+use Rattle.av_space.specs.Taps.{Handing, helper_at, Place, places_in, places_from, Way, each, entries, handed, Tap, taps_by, taps_at, is_own, all_taps, taps, IsReadBy, IsTapRead}
+use Rattle.av_depend.specs.ComputedPlaces.{computed_at}
 use Rattle.av_space.proofs.ByPlace.{there_is}
 use Rattle.av_space.proofs.Elements.{some_is, both_each, each_weaker, each_at, got, get_contained, mapped, in_range}
 use Rattle.av_space.proofs.NodePlaces.{node_at}

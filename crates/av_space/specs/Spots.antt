@@ -132,9 +132,6 @@ abbrev pub own_way : Option Handing → Way
 own_way None = each
 own_way (Some h) = entries h.direction
 
-abbrev pub own_tap : Place → Option Handing → Tap
-own_tap p h = record { place = p; way = own_way h }
-
 -- in cycle c the reference with the number i, to the variable at a place under the map m, reads at a port, or over a link
 pub data IsReferenceOrigin (a : Array) (at : Spot) (c i place : ℕ) (m : Map) (way : Way) : Origin → Type 0 where
   at_port : (n : ℕ) (read : Variable) → slice_get (system_of a).variables place ≡ Some read → IsTrue (is_input read.kind)

@@ -6,9 +6,9 @@ use Rattle.av_affine.specs.Maps.{image}
 use Rattle.av_tree.specs.Points.{Point}
 use Rattle.av_flat.specs.Trees.{Tree, Piece, Variable, FlatSystem, reference, binary, choice, pick}
 use Rattle.av_flat.specs.Points.{has}
-use Rattle.av_flat.specs.Signatures.{is_computed}
 use Rattle.av_flat.specs.Values.{picked}
 use Rattle.av_flat.specs.declared.timed.Helper.{Helper}
+use Rattle.av_depend.specs.ComputedPlaces.{computed_at}
 use Rattle.av_space.specs.Coordinates.{Placing}
 use Rattle.av_space.specs.declared.cells.Cell.{Cell}
 use Rattle.av_flat.specs.Broadcasts.{references}
@@ -83,10 +83,6 @@ pub record Tap : Type 0 where
   pub place : Place
   pub way : Way
 
-abbrev pub computed_at : Option Variable → Bool
-computed_at None = false
-computed_at (Some v) = is_computed v.kind
-
 -- a reference to a computed variable, and its pipeline; of a reference to an input the pipeline alone
 abbrev pub taps_by : Bool → Option Handing → Place → List Tap
 taps_by true None p = record { place = p; way = each } ∷ []
@@ -108,7 +104,7 @@ is_own own _ = false
 abbrev pub all_taps : FlatSystem → List Helper → ℕ → Variable → List Tap
 all_taps s hs own v = flat_map (λ p. taps_at s hs own p.tree p) (places_from 0 v.pieces)
 
--- the tap sites of a variable, told by their numbers from 0: a read of the predecessor comes last
+-- the tap sites of a variable, identified by their numbers from 0: a read of the predecessor comes last
 abbrev pub taps : FlatSystem → List Helper → ℕ → Variable → List Tap
 taps s hs own v = filter (λ (t : Tap). not (is_own own t.place.tree)) (all_taps s hs own v) ++ filter (λ (t : Tap). is_own own t.place.tree) (all_taps s hs own v)
 

@@ -1,4 +1,3 @@
-pub mod SetPoints
 pub mod Counting
 pub mod Feeding
 pub mod NodePieces

@@ -1,7 +1,7 @@
 //! References to inputs, and where and how they read.
 
 ghost use Rattle.std.specs.Prelude.{◌≡◌, IfOk};
-ghost use Rattle.av_space.specs.inner.SetPoints.{IsPointOf};
+ghost use Rattle.av_depend.specs.SetPoints.{IsPointOf};
 ghost use Rattle.av_space.specs.Taps.{helper_at};
 ghost use Rattle.av_space.specs.inner.Feeding.{direction_of, is_entered, line_of, IsReadable};
 

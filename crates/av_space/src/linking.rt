@@ -13,8 +13,8 @@ ghost use Rattle.av_space.specs.inner.Stretches.{HasLinks, IsAt, IsOn};
 
 use crate::layout::{Layout, Slot};
 use crate::locate::locate;
+use crate::node_places::variable_of;
 use crate::reading::{is_in, read_at};
-use crate::standing::variable_of;
 use crate::stretch::{Reading, Stretch, site_stretches};
 use crate::tap::TapSite;
 use crate::tapping::taps_of;

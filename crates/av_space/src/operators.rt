@@ -5,13 +5,13 @@ ghost use Rattle.std.specs.Prelude.{ℕ, ◌≡◌, ◌↔◌, ◌<◌, All, Any
 ghost use Rattle.av_flat.specs.Legal.{IsLegal};
 ghost use Rattle.av_flat.specs.Points.{has};
 ghost use Rattle.av_flat.specs.Trees.{view, view_system};
-ghost use Rattle.av_space.specs.inner.SetPoints.{IsPointOf};
+ghost use Rattle.av_depend.specs.SetPoints.{IsPointOf};
 ghost use Rattle.av_space.specs.Quantities.{size, IsOperatorCount};
 ghost use Rattle.av_space.specs.inner.Counting.{capped, IsCappedCount, IsOnCell};
 ghost use Rattle.av_space.specs.Layouts.{IsLayout};
 
 use crate::layout::{Layout, Slot};
-use crate::standing::variable_of;
+use crate::node_places::variable_of;
 use av_flat::{Piece, Timed, Tree};
 
 // The references, constants, operators, choices and picks of a tree.

@@ -18,8 +18,9 @@ use crate::linking::reading_at;
 use crate::spots::{Site, Spot};
 use crate::stretch::Reading;
 use crate::tap::{Handing, TapSite, Way};
-use crate::tapping::{is_computed_at, same};
+use crate::tapping::same;
 use av_base::{Point, Word};
+use av_depend::is_computed_at;
 use av_flat::Tree;
 use std::marker::Model;
 
@@ -106,8 +107,8 @@ fn own_way(handing: &Option<Handing>) -> Way
 }
 
 impl Array<'_> {
-    ghost use Rattle.av_space.specs.Spots.{IsArray, IsSpot, IsSlotIn, IsSiteOf, system_of, handed_tap, own_tap, IsLinkedBy, IsOriginBy};
-    ghost use Rattle.av_space.specs.inner.SpotTaps.{IsSpotTap, IsReadThere, IsComputedRead, IsPortSite};
+    ghost use Rattle.av_space.specs.Spots.{IsArray, IsSpot, IsSlotIn, IsSiteOf, system_of, handed_tap, IsLinkedBy, IsOriginBy};
+    ghost use Rattle.av_space.specs.inner.SpotTaps.{own_tap, IsSpotTap, IsReadThere, IsComputedRead, IsPortSite};
 
     // What a tap site of a piece reads at a computation.
     fn reading(&self, spot: &Spot<'_>, tap: &TapSite<'_>, slot: &Slot) -> Option<Reading>

@@ -9,7 +9,7 @@ ghost use Rattle.av_depend.specs.AllPoints.{AreAllPoints};
 ghost use Rattle.av_space.specs.Layouts.{places_of};
 ghost use Rattle.av_space.specs.inner.Laying.{AreNodePoints};
 
-use crate::standing::variable_of;
+use crate::node_places::variable_of;
 use av_base::{List, Memory, Point};
 use av_depend::all_points;
 use av_elim::box_of;

@@ -5,7 +5,7 @@ ghost use Rattle.std.specs.Prelude.{ℕ, ◌≡◌, ◌<◌, ◌≤◌, ◌+◌,
 ghost use Rattle.av_flat.specs.Broadcasts.{references};
 ghost use Rattle.av_flat.specs.Legal.{IsLegal};
 ghost use Rattle.av_flat.specs.Trees.{reference, view, view_system};
-ghost use Rattle.av_space.specs.inner.SetPoints.{IsPointOf};
+ghost use Rattle.av_depend.specs.SetPoints.{IsPointOf};
 ghost use Rattle.av_space.specs.Listings.{AreInLines};
 ghost use Rattle.av_space.specs.Ports.{ArePorts};
 ghost use Rattle.av_space.specs.Quantities.{IsOperatorCount};
@@ -17,7 +17,7 @@ ghost use Rattle.av_space.specs.Layouts.{IsLayout};
 use crate::cells::{Cell, InPort};
 use crate::input_site::{InputSite, direction_of};
 use crate::layout::{Layout, Slot};
-use crate::standing::variable_of;
+use crate::node_places::variable_of;
 use av_affine::Map;
 use av_base::{List, Memory};
 use av_flat::{Piece, Timed, Tree};

@@ -13,8 +13,8 @@ ghost use Rattle.av_space.specs.inner.Showing.{IsShownNode, AreLinesBelow};
 
 use crate::layout::Layout;
 use crate::locate::locate;
+use crate::node_places::variable_of;
 use crate::points::node_points;
-use crate::standing::variable_of;
 use av_base::{List, Memory, Name, Point};
 use av_flat::{Kind, Timed, Var};
 use av_net::Entry;

@@ -6,13 +6,13 @@ ghost use Rattle.av_flat.specs.Trees.{view};
 ghost use Rattle.av_space.specs.Taps.{places_in};
 ghost use Rattle.av_space.specs.Sites.{place_of};
 ghost use Rattle.av_space.specs.Spots.{AreEnds, handing_by};
-ghost use Rattle.av_space.specs.inner.SetPoints.{IsPointOf};
+ghost use Rattle.av_depend.specs.SetPoints.{IsPointOf};
 
 use crate::array::Array;
 use crate::layout::Slot;
 use crate::linking::piece_at;
+use crate::node_places::variable_of;
 use crate::reading::is_in;
-use crate::standing::variable_of;
 use crate::tap::{Handing, Place};
 use crate::tapping::{helper_at, same, tree_places};
 use av_base::{List, Memory};

@@ -1,14 +1,15 @@
 //! The tap sites of a node.
 
-ghost use Rattle.std.specs.Prelude.{◌≡◌, ◌+◌, ◌<◌, ◌≤◌, ◌++◌, ◌&&◌, nat_eq, length, map, IfOk, OnOk, slice_get};
+ghost use Rattle.std.specs.Prelude.{◌≡◌, ◌+◌, ◌<◌, ◌≤◌, ◌++◌, ◌&&◌, nat_eq, length, map, IfOk, OnOk};
 ghost use Rattle.av_flat.specs.Trees.{view, view_piece, view_system, view_variable};
-ghost use Rattle.av_space.specs.Taps.{places_from, helper_at, computed_at, taps_by, taps_at, is_own, taps};
+ghost use Rattle.av_space.specs.Taps.{places_from, helper_at, taps_by, taps_at, is_own, taps};
 ghost use Rattle.av_space.specs.inner.Sites.{HasPlaces, tap_of, taps_where};
 ghost use Rattle.av_space.specs.Sites.{place_of};
 
 use crate::tap::{Handing, Place, TapSite, Way};
 use av_base::{List, Memory, Point};
-use av_flat::{Flat, Helper, Piece, Timed, Tree, Var};
+use av_depend::is_computed_at;
+use av_flat::{Helper, Piece, Timed, Tree, Var};
 use std::alloc::Global;
 
 // The number after that of a reference that stands among the places.
@@ -94,16 +95,6 @@ pub(crate) fn helper_at(
         }
     }
     None
-}
-
-/// Whether a computed variable stands at this place.
-pub(crate) fn is_computed_at(flat: &Flat, place: u32) -> bool
-    ensures { result ≡ computed_at (slice_get (view_system flat.now).variables place) }
-{
-    match flat.vars.as_slice().get(place as usize) {
-        Some(var) => var.kind.is_computed(),
-        None => false,
-    }
 }
 
 /// The same place.

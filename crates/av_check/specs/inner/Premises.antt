@@ -26,6 +26,6 @@ HavePremises vs [] [] = Unit {0}
 HavePremises vs (v ∷ xs) (w ∷ ys) = HasPremises vs v w × HavePremises vs xs ys
 HavePremises vs _ _ = ⊥
 
--- no declared point of the variable is wrong
+-- no declared point of the variable is miscovered
 abbrev pub HasNoneMiscovered : List Signature → Variable → Type 0
 HasNoneMiscovered vs v = (z : Point) → IsMiscoveredAt vs v z → ⊥

@@ -10,7 +10,7 @@ use Rattle.av_depend.specs.declared.site.ReadingSet.{ReadingSet}
 use Rattle.av_depend.specs.Sites.{Site, both}
 use Rattle.av_depend.specs.Edges.{AreGenerators, AreEdges}
 use Rattle.av_depend.specs.AllPoints.{AreAllPoints}
-use Rattle.av_depend.specs.inner.Generating.{IsPointOf}
+use Rattle.av_depend.specs.SetPoints.{IsPointOf}
 
 -- a set with all of its points, and its generators
 pub record IsReadingSet (r : ReadingSet) : Type 0 where

@@ -1,6 +1,5 @@
 -- Generators found among all points of a set by mirror images of earlier points.
-use Rattle.std.specs.Prelude.{◌≡◌, ℕ, ◌<◌, ◌≤◌, ◌+ℤ◌, ◌-ℤ◌, List, [], ◌∷◌, length, take, All, AllPairs, Contains, IsTrue, slice_index_or}
-use Rattle.av_affine.specs.Numbers.{AtMost}
+use Rattle.std.specs.Prelude.{ℕ, ◌<◌, ◌+ℤ◌, ◌-ℤ◌, List, [], ◌∷◌, take, All, AllPairs, Contains, IsTrue, slice_index_or}
 use Rattle.av_poly.specs.Points.{Set, Has}
 use Rattle.av_tree.specs.Points.{Point}
 use Rattle.av_flat.specs.Points.{has}
@@ -11,12 +10,6 @@ use Rattle.av_depend.specs.Edges.{IsGenerator}
 abbrev pub mirrored : Point → Point → Point
 mirrored (z ∷ zs) (x ∷ xs) = (z +ℤ z -ℤ x) ∷ mirrored zs xs
 mirrored _ _ = []
-
--- one entry for each index of the set, at most four, within the limit on coordinates
-pub record IsPointOf (set : Set) (z : Point) : Type 0 where
-  pub size : length z ≡ set.dim
-  pub few : length z ≤ 4
-  pub entries : AtMost 4095 z
 
 -- the set has the point of which the one at this place is the midpoint with an earlier one
 abbrev pub HasMirrored : Set → List Point → ℕ → Type 0

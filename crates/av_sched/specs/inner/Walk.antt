@@ -63,7 +63,7 @@ pub record AreAllPartsTo (s : FlatSystem) (c : ℕ) (component : List ℕ) (k : 
   pub one_each : length lists ≡ k
   pub each : (j : ℕ) → j < k → AreParts s c (slice_index_or component j 0) (slice_index_or lists j [])
 
--- a listed point of an edge inside the component, with its image, of small entries; the edge's ends are told by their places in the component
+-- a listed point of an edge inside the component, with its image, of small entries; the edge's ends are identified by their places in the component
 pub record IsPlace (edges : List Edge) (component : List ℕ) (place : Place) : Type 0 where
   pub edge : Edge
   pub among : Contains edges edge

@@ -1,5 +1,5 @@
 -- Tap sites and input ports of the pieces on the cells of an array.
-use Rattle.std.specs.Prelude.{◌≡◌, ℕ, ◌<◌, true, IsTrue, Some, length, slice_get}
+use Rattle.std.specs.Prelude.{◌≡◌, ℕ, ◌<◌, true, IsTrue, Option, Some, length, slice_get}
 use Rattle.av_affine.specs.declared.map.Map.{Map}
 use Rattle.av_tree.specs.Points.{Point}
 use Rattle.av_flat.specs.Trees.{Tree, Variable, FlatSystem, view, view_piece, view_variable, reference, pick}
@@ -11,8 +11,9 @@ use Rattle.av_space.specs.declared.cells.Cell.{Cell}
 use Rattle.av_space.specs.declared.layout.Slot.{Slot}
 use Rattle.av_space.specs.declared.spots.Site.{Site}
 use Rattle.av_space.specs.declared.spots.Spot.{Spot}
-use Rattle.av_space.specs.Taps.{node_place, computed_at, Tap, taps, IsTapRead}
-use Rattle.av_space.specs.Spots.{system_of, helpers_of, cells_of, IsSiteOf}
+use Rattle.av_space.specs.Taps.{node_place, Handing, Place, Tap, taps, IsTapRead}
+use Rattle.av_depend.specs.ComputedPlaces.{computed_at}
+use Rattle.av_space.specs.Spots.{system_of, helpers_of, cells_of, own_way, IsSiteOf}
 
 -- the variable of the node of a cell
 pub record IsVariableOn (a : Array) (p : ℕ) (v : Variable) : Type 0 where
@@ -31,6 +32,10 @@ pub record IsSpotTap (a : Array) (at : Spot) (tap : Tap) : Type 0 where
   pub number : ℕ
   pub is_tap : slice_get (taps (system_of a) (helpers_of a) (node_place (system_of a) at.node) (view_variable at.var.now)) number ≡ Some tap
   pub piece_is : tap.place.piece ≡ at.number
+
+-- the tap of a place with its helper
+abbrev pub own_tap : Place → Option Handing → Tap
+own_tap p h = record { place = p; way = own_way h }
 
 -- it reads at a computation
 pub record IsReadThere (a : Array) (at : Spot) (tap : Tap) (slot : Slot) : Type 0 where

@@ -14,9 +14,9 @@ loop-k-preserved c =
     let l : c.loop-k.k < length c.args.points.now = search rules in
     let points = c.args.points.now in
     let p = c.index-points-k.result in
-    let e : c.push.new.self ≡ c.loop-k.list ++ c.same.result ∷ [] = search rules in
-    let at : c.same.result ≡ slice_index_or points c.loop-k.k [] = c.same.ensures ∙ c.index-points-k.is ∙ same_there points c.loop-k.k p [] l in
-    subst (AreGeneratorsTo c.args.set.now points (c.loop-k.k + 1)) (sym e) (listed_more c.args.set.now c.args.points.now c.requires.all c.loop-k.k l c.loop-k.list c.same.result at (λ m. let t = c.is_middle.ensures.no m in let f = c.if-is_middle.false in cc) c.loop-k.invariant)
+    let e : c.push.new.self ≡ c.loop-k.list ++ c.copy_point.result ∷ [] = search rules in
+    let at : c.copy_point.result ≡ slice_index_or points c.loop-k.k [] = c.copy_point.ensures ∙ c.index-points-k.is ∙ same_there points c.loop-k.k p [] l in
+    subst (AreGeneratorsTo c.args.set.now points (c.loop-k.k + 1)) (sym e) (listed_more c.args.set.now c.args.points.now c.requires.all c.loop-k.k l c.loop-k.list c.copy_point.result at (λ m. let t = c.is_middle.ensures.no m in let f = c.if-is_middle.false in cc) c.loop-k.invariant)
 
 pub returns : goal.returns
 returns c =

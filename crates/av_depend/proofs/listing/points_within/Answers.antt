@@ -20,5 +20,5 @@ loop-point-preserved c =
     let z = c.point-item.result in
     let l : c.loop-point.point-index < length c.args.points.now = search rules in
     let t : IsTrue c.contains.result = search rules in
-    c.in_ok-push.ensures.ok ∙ ap (λ (p : Point). c.loop-point.to ++ p ∷ []) c.same.ensures ∙ ap (λ (ps : List Point). ps ++ z ∷ []) c.loop-point.invariant
+    c.in_ok-push.ensures.ok ∙ ap (λ (p : Point). c.loop-point.to ++ p ∷ []) c.copy_point.ensures ∙ ap (λ (ps : List Point). ps ++ z ∷ []) c.loop-point.invariant
     ∙ sym (filter_more (has set) c.args.points.now c.loop-point.point-index z l c.point-item.is (has_true set z (c.contains.ensures.0 t)))

@@ -5,7 +5,7 @@ use Rattle.av_flat.specs.Trees.{view_system}
 use Rattle.av_depend.specs.declared.edge.Edge.{Edge}
 use Rattle.av_depend.specs.Edges.{AreGenerators, IsEdge}
 use Rattle.av_depend.specs.inner.Adding.{HasAdded, site_at}
-use Rattle.av_depend.proofs.Adds.{added_without, added_with, no_point_no_pair, not_computed_no_pair, has_pair, place_within}
+use Rattle.av_depend.proofs.Adds.{added_without, added_with, no_point_no_pair, not_computed_no_pair, has_pair, place_within, computed_here, here_computed}
 use Rattle.av_depend.proofs.site.add_site.Goals as goal
 
 pub returns-then-is_empty : goal.returns-then-is_empty
@@ -21,12 +21,12 @@ returns-then-not-is_computed_at c =
     let s = view_system c.args.flat.now in
     let set = c.args.reading.now.set in
     let f : c.is_computed_at.result ≡ false = search rules in
-    added_without s (site_at c.args.node c.args.place c.args.map.now set) c.args.edges.now (not_computed_no_pair s c.args.node c.args.place c.args.map.now set (λ k. let t = c.is_computed_at.ensures.no k in cc))
+    added_without s (site_at c.args.node c.args.place c.args.map.now set) c.args.edges.now (not_computed_no_pair s c.args.node c.args.place c.args.map.now set (λ k. let t = c.is_computed_at.ensures in let u = here_computed s c.args.place k in cc))
 
 pub number_of-requires : goal.number_of-requires
 number_of-requires c =
     let t : c.is_computed_at.result ≡ true = search rules in
-    let l = place_within (view_system c.args.flat.now) c.args.flat.now.vars c.args.place refl (c.is_computed_at.ensures.yes t) in
+    let l = place_within (view_system c.args.flat.now) c.args.flat.now.vars c.args.place refl (computed_here (view_system c.args.flat.now) c.args.place (sym c.is_computed_at.ensures ∙ t)) in
     omega (arith, l)
 
 pub returns : goal.returns
@@ -37,7 +37,7 @@ returns c =
     let t : c.is_computed_at.result ≡ true = search rules in
     let k : 0 < length c.as_slice.result.now = search rules in
     let some : 0 < length c.args.reading.now.points = (let e = ap length c.as_slice.ensures in omega (arith, e, k)) in
-    let pair = has_pair s c.args.node c.args.place c.args.map.now set c.args.reading.now.points (c.is_computed_at.ensures.yes t) some c.requires.reading.points in
+    let pair = has_pair s c.args.node c.args.place c.args.map.now set c.args.reading.now.points (computed_here (view_system c.args.flat.now) c.args.place (sym c.is_computed_at.ensures ∙ t)) some c.requires.reading.points in
     let edge : Edge = record { consumer = c.args.node; producer = c.number_of.result; map = c.copy_map.result; points = c.in_ok-copy_points.field-0 } in
     let points = subst (AreGenerators set) (sym (c.in_ok-copy_points.ensures ∙ c.as_slice-2.ensures)) c.requires.reading.generators in
     let is : IsEdge s site edge = record { consumer = refl; producer = c.number_of.ensures; map = c.copy_map.ensures; points = points } in

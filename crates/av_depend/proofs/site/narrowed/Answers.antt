@@ -2,7 +2,7 @@ use Rattle.std.proofs.Common.{◌∙◌, sym, ap, subst, All}
 use Rattle.std.specs.Prelude.{filter}
 use Rattle.av_flat.specs.Points.{has}
 use Rattle.av_depend.specs.AllPoints.{AreAllPoints}
-use Rattle.av_depend.specs.inner.Generating.{IsPointOf}
+use Rattle.av_depend.specs.SetPoints.{IsPointOf}
 use Rattle.av_depend.proofs.Adds.{small_made, all_made}
 use Rattle.av_depend.proofs.site.narrowed.Goals as goal
 

@@ -1,7 +1,7 @@
 use Rattle.std.proofs.Common.{sym, subst, All}
 use Rattle.av_poly.specs.Points.{Set}
 use Rattle.av_depend.specs.declared.site.ReadingSet.{ReadingSet}
-use Rattle.av_depend.specs.inner.Generating.{IsPointOf}
+use Rattle.av_depend.specs.SetPoints.{IsPointOf}
 use Rattle.av_depend.specs.inner.Adding.{IsReadingSet}
 use Rattle.av_depend.proofs.Adds.{small_points}
 use Rattle.av_depend.proofs.site.reading_set.Goals as goal

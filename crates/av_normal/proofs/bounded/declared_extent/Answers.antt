@@ -4,7 +4,7 @@ use Rattle.av_normal.specs.Extents.{IsExtent, IsEndlessOf}
 use Rattle.av_flat.specs.Trees.{view_variable}
 use Rattle.av_normal.proofs.Outcomes.{if_err, if_ok_both}
 use Rattle.av_normal.proofs.Limits.{small_set, few_rows}
-use Rattle.av_normal.proofs.Filled.{same_set}
+use Rattle.av_normal.proofs.InnerSets.{same_set}
 use Rattle.av_normal.proofs.Ends.{without_end}
 use Rattle.av_normal.proofs.bounded.declared_extent.Goals as goal
 

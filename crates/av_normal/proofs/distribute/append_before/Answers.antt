@@ -10,4 +10,4 @@ pub returns-clause-small : goal.returns-clause-small
 returns-clause-small c =
     let P : List Form → Type 0 = λ (rows : List Form). All IsSmall rows in
     let small = subst P (sym c.as_slice.ensures) c.before-2.invariant in
-    on_ok c.append.result c.append.ensures (λ e h. subst P (sym e) (All-append IsSmall c.args.rows.now c.as_slice.result.now h small))
+    on_ok c.append_rows.result c.append_rows.ensures (λ e h. subst P (sym e) (All-append IsSmall c.args.rows.now c.as_slice.result.now h small))

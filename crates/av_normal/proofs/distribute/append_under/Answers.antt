@@ -15,4 +15,4 @@ pub returns-in-Ok-None-clause-small : goal.returns-in-Ok-None-clause-small
 returns-in-Ok-None-clause-small c =
     let P : List Form → Type 0 = λ (rows : List Form). All IsSmall rows in
     let small = subst P (sym c.as_slice.ensures) c.domain.invariant in
-    on_ok c.append.result c.append.ensures (λ e h. subst P (sym e) (All-append IsSmall c.args.rows.now c.as_slice.result.now h small))
+    on_ok c.append_rows.result c.append_rows.ensures (λ e h. subst P (sym e) (All-append IsSmall c.args.rows.now c.as_slice.result.now h small))

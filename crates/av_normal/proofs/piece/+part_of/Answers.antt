@@ -10,7 +10,7 @@ use Rattle.av_normal.specs.inner.PieceByNumber.{IsPartAt}
 use Rattle.av_normal.proofs.Outcomes.{on_ok, if_ok}
 use Rattle.av_normal.proofs.Reading.{fits_read}
 use Rattle.av_normal.proofs.Depths.{less_deep}
-use Rattle.av_normal.proofs.ChosenParts.{case_readable, next_branch_left, one_branch_more, branch_found, binary_part, choice_part, restriction_part, leaf_part}
+use Rattle.av_normal.proofs.PieceByNumber.{case_readable, next_branch_left, one_branch_more, branch_found, binary_part, choice_part, restriction_part, leaf_part}
 use Rattle.av_normal.proofs.piece.+part_of.Goals as goal
 
 pub part_of-append_read-requires-clause-fits : goal.part_of-append_read-requires-clause-fits

@@ -1,6 +1,6 @@
 use Rattle.av_flat.specs.Trees.{view}
 use Rattle.av_flat.specs.Quantities.{piece_count}
-use Rattle.av_normal.proofs.ChosenParts.{four_shares}
+use Rattle.av_normal.proofs.PieceByNumber.{four_shares}
 use Rattle.av_normal.proofs.piece.four_numbers.Goals as goal
 
 pub returns : goal.returns

@@ -1,6 +1,6 @@
 use Rattle.av_flat.specs.Trees.{view}
 use Rattle.av_flat.specs.Quantities.{piece_count}
-use Rattle.av_normal.proofs.ChosenParts.{two_shares}
+use Rattle.av_normal.proofs.PieceByNumber.{two_shares}
 use Rattle.av_normal.proofs.piece.two_numbers.Goals as goal
 
 pub returns : goal.returns

@@ -4,7 +4,7 @@ use Rattle.std.proofs.lemmas.Bool.Decides.{Decides-int_eq}
 use Rattle.std.proofs.lemmas.List.{get_or_default}
 use Rattle.std.proofs.lemmas.List.Elements.{All-more}
 use Rattle.av_affine.specs.declared.form.Form.{Form}
-use Rattle.av_poly.specs.Normal.{Lowers}
+use Rattle.av_poly.specs.inner.Placing.{Lowers}
 use Rattle.av_poly.proofs.Lowering.{lowers_at}
 use Rattle.av_poly.proofs.normal.lowered.Goals as goal
 

@@ -1,7 +1,7 @@
 use Rattle.std.proofs.Common.{◌≡◌, ◌++◌, take}
 use Rattle.std.specs.List.{All}
 use Rattle.av_poly.specs.Points.{IsSmall}
-use Rattle.av_poly.specs.Parts.{AreParts}
+use Rattle.av_poly.specs.inner.Parts.{AreParts}
 use Rattle.av_poly.proofs.parts.parts.Given as goal
 
 abbrev pub invariant-loop-row : goal.invariant-loop-row

@@ -6,7 +6,8 @@ use Rattle.std.proofs.lemmas.List.{length-drop}
 use Rattle.std.proofs.lemmas.List.Elements.{All-push, All-take, All-drop}
 use Rattle.av_affine.specs.Numbers.{AtMost}
 use Rattle.av_affine.proofs.Dots.{entry_most}
-use Rattle.av_poly.specs.Search.{CanFollow, IsFirstFrom}
+use Rattle.av_poly.specs.Search.{CanFollow}
+use Rattle.av_poly.specs.inner.Search.{IsFirstFrom}
 use Rattle.av_poly.proofs.Ends.{at_most_end, past_end}
 use Rattle.av_poly.proofs.Searching.{later, later_is, first_more, passed_more, none_left, none_of, some_weaker}
 use Rattle.av_poly.proofs.search.+first_from.Goals as goal

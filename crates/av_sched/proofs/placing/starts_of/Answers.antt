@@ -5,7 +5,7 @@ use Rattle.av_flat.specs.Trees.{view_variable, view_system}
 use Rattle.av_sched.specs.Offsets.{part}
 use Rattle.av_sched.proofs.Leading.{same_default}
 use Rattle.av_sched.proofs.Started.{IsStarted, started_other, started_node}
-use Rattle.av_sched.proofs.Starting.{at_view, ready}
+use Rattle.av_sched.proofs.Starting.{at_view, starting_node}
 use Rattle.av_sched.proofs.placing.starts_of.Goals as goal
 
 pub loop-k-preserved-then-not-is_node : goal.loop-k-preserved-then-not-is_node
@@ -21,7 +21,7 @@ bounds-linear-node c =
     let b = c.index-vars-k-in-loop-k.result in
     let low = c.loop-k.low in
     let linear = c.args.linear.now in
-    let r = ready c.args.flat.now c.as_slice-vars.result.now linear c.loop-k.k c.index-vars-k.result b c.is_node.result low c.as_slice-vars.ensures l c.index-vars-k.is c.index-vars-k-in-loop-k.is c.is_node.ensures c.if-not-is_node.false c.requires.chained c.requires.linear c.loop-k.invariant in
+    let r = starting_node c.args.flat.now c.as_slice-vars.result.now linear c.loop-k.k c.index-vars-k.result b c.is_node.result low c.as_slice-vars.ensures l c.index-vars-k.is c.index-vars-k-in-loop-k.is c.is_node.ensures c.if-not-is_node.false c.requires.chained c.requires.linear c.loop-k.invariant in
     let n : c.len-node.result ≡ length low = search rules in
     let m = r.within in
     omega (arith, n, m)
@@ -32,7 +32,7 @@ start_of-requires-clause-ordinary c =
     let b = c.index-vars-k-in-loop-k.result in
     let low = c.loop-k.low in
     let linear = c.args.linear.now in
-    let r = ready c.args.flat.now c.as_slice-vars.result.now linear c.loop-k.k c.index-vars-k.result b c.is_node.result low c.as_slice-vars.ensures l c.index-vars-k.is c.index-vars-k-in-loop-k.is c.is_node.ensures c.if-not-is_node.false c.requires.chained c.requires.linear c.loop-k.invariant in
+    let r = starting_node c.args.flat.now c.as_slice-vars.result.now linear c.loop-k.k c.index-vars-k.result b c.is_node.result low c.as_slice-vars.ensures l c.index-vars-k.is c.index-vars-k-in-loop-k.is c.is_node.ensures c.if-not-is_node.false c.requires.chained c.requires.linear c.loop-k.invariant in
     r.ordinary
 
 pub start_of-requires-clause-dim : goal.start_of-requires-clause-dim
@@ -41,7 +41,7 @@ start_of-requires-clause-dim c =
     let b = c.index-vars-k-in-loop-k.result in
     let low = c.loop-k.low in
     let linear = c.args.linear.now in
-    let r = ready c.args.flat.now c.as_slice-vars.result.now linear c.loop-k.k c.index-vars-k.result b c.is_node.result low c.as_slice-vars.ensures l c.index-vars-k.is c.index-vars-k-in-loop-k.is c.is_node.ensures c.if-not-is_node.false c.requires.chained c.requires.linear c.loop-k.invariant in
+    let r = starting_node c.args.flat.now c.as_slice-vars.result.now linear c.loop-k.k c.index-vars-k.result b c.is_node.result low c.as_slice-vars.ensures l c.index-vars-k.is c.index-vars-k-in-loop-k.is c.is_node.ensures c.if-not-is_node.false c.requires.chained c.requires.linear c.loop-k.invariant in
     r.few
 
 pub start_of-requires-clause-some : goal.start_of-requires-clause-some
@@ -50,7 +50,7 @@ start_of-requires-clause-some c =
     let b = c.index-vars-k-in-loop-k.result in
     let low = c.loop-k.low in
     let linear = c.args.linear.now in
-    let r = ready c.args.flat.now c.as_slice-vars.result.now linear c.loop-k.k c.index-vars-k.result b c.is_node.result low c.as_slice-vars.ensures l c.index-vars-k.is c.index-vars-k-in-loop-k.is c.is_node.ensures c.if-not-is_node.false c.requires.chained c.requires.linear c.loop-k.invariant in
+    let r = starting_node c.args.flat.now c.as_slice-vars.result.now linear c.loop-k.k c.index-vars-k.result b c.is_node.result low c.as_slice-vars.ensures l c.index-vars-k.is c.index-vars-k-in-loop-k.is c.is_node.ensures c.if-not-is_node.false c.requires.chained c.requires.linear c.loop-k.invariant in
     r.some
 
 pub start_of-requires-clause-size : goal.start_of-requires-clause-size
@@ -59,7 +59,7 @@ start_of-requires-clause-size c =
     let b = c.index-vars-k-in-loop-k.result in
     let low = c.loop-k.low in
     let linear = c.args.linear.now in
-    let r = ready c.args.flat.now c.as_slice-vars.result.now linear c.loop-k.k c.index-vars-k.result b c.is_node.result low c.as_slice-vars.ensures l c.index-vars-k.is c.index-vars-k-in-loop-k.is c.is_node.ensures c.if-not-is_node.false c.requires.chained c.requires.linear c.loop-k.invariant in
+    let r = starting_node c.args.flat.now c.as_slice-vars.result.now linear c.loop-k.k c.index-vars-k.result b c.is_node.result low c.as_slice-vars.ensures l c.index-vars-k.is c.index-vars-k-in-loop-k.is c.is_node.ensures c.if-not-is_node.false c.requires.chained c.requires.linear c.loop-k.invariant in
     let n : c.len-node.result ≡ length low = search rules in
     let within : c.len-node.result < length linear = (let m = r.within in omega (arith, n, m)) in
     let p : c.index-linear-node.result ≡ part linear (length low) = c.index-linear-node.is ∙ same_default linear c.len-node.result c.index-linear-node.result [] within ∙ ap (part linear) n in
@@ -71,7 +71,7 @@ start_of-requires-clause-linear c =
     let b = c.index-vars-k-in-loop-k.result in
     let low = c.loop-k.low in
     let linear = c.args.linear.now in
-    let r = ready c.args.flat.now c.as_slice-vars.result.now linear c.loop-k.k c.index-vars-k.result b c.is_node.result low c.as_slice-vars.ensures l c.index-vars-k.is c.index-vars-k-in-loop-k.is c.is_node.ensures c.if-not-is_node.false c.requires.chained c.requires.linear c.loop-k.invariant in
+    let r = starting_node c.args.flat.now c.as_slice-vars.result.now linear c.loop-k.k c.index-vars-k.result b c.is_node.result low c.as_slice-vars.ensures l c.index-vars-k.is c.index-vars-k-in-loop-k.is c.is_node.ensures c.if-not-is_node.false c.requires.chained c.requires.linear c.loop-k.invariant in
     let n : c.len-node.result ≡ length low = search rules in
     let within : c.len-node.result < length linear = (let m = r.within in omega (arith, n, m)) in
     let p : c.index-linear-node.result ≡ part linear (length low) = c.index-linear-node.is ∙ same_default linear c.len-node.result c.index-linear-node.result [] within ∙ ap (part linear) n in
@@ -83,7 +83,7 @@ start_of-requires-clause-points c =
     let b = c.index-vars-k-in-loop-k.result in
     let low = c.loop-k.low in
     let linear = c.args.linear.now in
-    let r = ready c.args.flat.now c.as_slice-vars.result.now linear c.loop-k.k c.index-vars-k.result b c.is_node.result low c.as_slice-vars.ensures l c.index-vars-k.is c.index-vars-k-in-loop-k.is c.is_node.ensures c.if-not-is_node.false c.requires.chained c.requires.linear c.loop-k.invariant in
+    let r = starting_node c.args.flat.now c.as_slice-vars.result.now linear c.loop-k.k c.index-vars-k.result b c.is_node.result low c.as_slice-vars.ensures l c.index-vars-k.is c.index-vars-k-in-loop-k.is c.is_node.ensures c.if-not-is_node.false c.requires.chained c.requires.linear c.loop-k.invariant in
     r.points
 
 pub loop-k-preserved : goal.loop-k-preserved
@@ -92,7 +92,7 @@ loop-k-preserved c =
     let b = c.index-vars-k-in-loop-k.result in
     let low = c.loop-k.low in
     let linear = c.args.linear.now in
-    let r = ready c.args.flat.now c.as_slice-vars.result.now linear c.loop-k.k c.index-vars-k.result b c.is_node.result low c.as_slice-vars.ensures l c.index-vars-k.is c.index-vars-k-in-loop-k.is c.is_node.ensures c.if-not-is_node.false c.requires.chained c.requires.linear c.loop-k.invariant in
+    let r = starting_node c.args.flat.now c.as_slice-vars.result.now linear c.loop-k.k c.index-vars-k.result b c.is_node.result low c.as_slice-vars.ensures l c.index-vars-k.is c.index-vars-k-in-loop-k.is c.is_node.ensures c.if-not-is_node.false c.requires.chained c.requires.linear c.loop-k.invariant in
     let n : c.len-node.result ≡ length low = search rules in
     let within : c.len-node.result < length linear = (let m = r.within in omega (arith, n, m)) in
     let p : c.index-linear-node.result ≡ part linear (length low) = c.index-linear-node.is ∙ same_default linear c.len-node.result c.index-linear-node.result [] within ∙ ap (part linear) n in
@@ -108,7 +108,7 @@ offset_bounds-linear-node c =
     let b = c.index-vars-k-in-loop-k.result in
     let low = c.loop-k.low in
     let linear = c.args.linear.now in
-    let r = ready c.args.flat.now c.as_slice-vars.result.now linear c.loop-k.k c.index-vars-k.result b c.is_node.result low c.as_slice-vars.ensures l c.index-vars-k.is c.index-vars-k-in-loop-k.is c.is_node.ensures c.if-not-is_node.false c.requires.chained c.requires.linear c.loop-k.invariant in
+    let r = starting_node c.args.flat.now c.as_slice-vars.result.now linear c.loop-k.k c.index-vars-k.result b c.is_node.result low c.as_slice-vars.ensures l c.index-vars-k.is c.index-vars-k-in-loop-k.is c.is_node.ensures c.if-not-is_node.false c.requires.chained c.requires.linear c.loop-k.invariant in
     let n : c.len-node.result ≡ length low = search rules in
     let within : c.len-node.result < length linear = (let m = r.within in omega (arith, n, m)) in
     omega arith

@@ -10,8 +10,8 @@ use Rattle.av_serial.proofs.serial.serial_form.Goals as goal
 pub all_nodes-requires : goal.all_nodes-requires
 all_nodes-requires c = subst (λ (vs : List Var). CanTryAll (map view_variable vs)) (sym c.as_slice.ensures) (can_try_all (view_system c.args.flat.now) c.requires)
 
-pub whole-requires : goal.whole-requires
-whole-requires c =
+pub with_chains-requires : goal.with_chains-requires
+with_chains-requires c =
     let count = rw c.as_slice.ensures at c.in_ok-nodes.ensures.nodes in
     let few : c.in_ok-nodes.nodes ≤ 16 = search rules in
     ready (view_system c.args.flat.now) count.number c.requires (rw c.as_slice.ensures at c.in_ok-nodes.ensures.clean) count.counted (not_above count.number c.in_ok-nodes.nodes count.is few)

@@ -13,7 +13,7 @@ use Rattle.av_space.specs.declared.layout.Slot.{Slot}
 use Rattle.av_space.specs.declared.layout.Layout.{Layout}
 use Rattle.av_space.specs.Coordinates.{Placing}
 use Rattle.av_space.specs.Layouts.{IsLayout}
-use Rattle.av_space.specs.inner.SetPoints.{IsPointOf}
+use Rattle.av_depend.specs.SetPoints.{IsPointOf}
 use Rattle.av_space.specs.Quantities.{size, Use, IsUse}
 use Rattle.av_space.specs.inner.Counting.{capped, IsCappedCount}
 use Rattle.av_space.proofs.ByPlace.{read_at}

@@ -1,6 +1,6 @@
 use Rattle.std.proofs.Common.{rules, ◌≡◌, ◌∙◌, ◌<◌, ◌≤◌, ℕ, List, Some, sym, ap, subst, arith}
 use Rattle.std.specs.Prelude.{All}
-use Rattle.av_space.specs.inner.SetPoints.{IsPointOf}
+use Rattle.av_depend.specs.SetPoints.{IsPointOf}
 use Rattle.av_space.specs.declared.layout.Slot.{Slot}
 use Rattle.av_space.specs.inner.NodePieces.{ArePortsAt}
 use Rattle.av_space.proofs.PieceParts.{slots_there, points_between, one_cell_more}

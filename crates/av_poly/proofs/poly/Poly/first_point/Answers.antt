@@ -1,6 +1,7 @@
 use Rattle.std.proofs.Common.{rules, ◌≡◌, ℤ, List, [], length, length-take-le, take, arith}
 use Rattle.av_poly.specs.Points.{Has}
-use Rattle.av_poly.specs.Search.{IsBetween, IsNotAfter, CanFollow, IsFirstFrom}
+use Rattle.av_poly.specs.Search.{IsBetween, IsNotAfter, CanFollow}
+use Rattle.av_poly.specs.inner.Search.{IsFirstFrom}
 use Rattle.av_poly.proofs.Searching.{first_is_point, first_is_least, follows_none, first_same, follow_same, some_weaker, none_weaker}
 use Rattle.av_poly.proofs.poly.Poly.first_point.Goals as goal
 

@@ -1,0 +1,22 @@
+use Rattle.std.proofs.Common.{List, ◌∙◌, ap}
+use Rattle.av_flat.specs.Trees.{view_system}
+use Rattle.av_flat.specs.declared.timed.Time.{Time}
+use Rattle.av_pipe.specs.Pipelines.{pipelines}
+use Rattle.av_pipe.proofs.Given.{given}
+use Rattle.av_pipe.proofs.Numbering.{fine_variables, small_times}
+use Rattle.av_pipe.proofs.helpers.piped.Goals as goal
+
+pub all_helpers-requires-clause-linear : goal.all_helpers-requires-clause-linear
+all_helpers-requires-clause-linear c =
+    rw c.as_slice.ensures (small_times (view_system c.args.from.now.flat) c.args.from.now.times c.requires.legal.schedule)
+
+pub all_helpers-requires-clause-maps : goal.all_helpers-requires-clause-maps
+all_helpers-requires-clause-maps c = fine_variables (view_system c.args.from.now.flat) c.requires.legal.chained
+
+pub returns : goal.returns
+returns c =
+    let from = c.args.from.now in
+    let s = view_system from.flat in
+    given from (record { flat = c.in_ok-flat.flat; times = c.in_ok-times.times; helpers = c.in_ok-helpers.helpers }) c.requires.legal c.requires.none
+    c.in_ok-flat.ensures (c.in_ok-times.ensures ∙ c.as_slice-2.ensures)
+    (c.in_ok-helpers.ensures ∙ ap (λ (ts : List Time). pipelines s ts) c.as_slice.ensures)
