@@ -17,7 +17,7 @@ use Rattle.av_cli.specs.declared.status.Status.TheVariants.{Done, Refused, Words
 use Rattle.av_cli.specs.declared.words.Command.{Command}
 use Rattle.av_cli.specs.declared.words.Command.TheVariants.{Check, Schedule, Table, Emit, Run, Trace, Sim, Demo}
 use Rattle.av_cli.specs.Commands.{Asks, IsCheck, IsSchedule, IsTable, IsEmit, IsRun, IsTrace, IsSim, IsDemo, TakeInput, AskDemo, AreRead}
-use Rattle.av_cli.specs.CommandsSeen.{Are, takes_input}
+use Rattle.av_cli.specs.inner.CommandsSeen.{Are, takes_input}
 use Rattle.av_cli.specs.Refusals.{refusal_line}
 use Rattle.av_cli.specs.Sims.{RefusesSim, no_mark, bad_text, bad_stimulus, GivesSim}
 use Rattle.av_cli.specs.inner.Asked.{Refuses, Gives}

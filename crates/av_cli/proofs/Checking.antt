@@ -12,24 +12,22 @@ use Rattle.av_cli.specs.declared.status.Status.{Status}
 use Rattle.av_cli.specs.declared.status.Status.TheVariants.{Done, Refused, Memory}
 use Rattle.av_cli.specs.Commands.{GiveSizes, IsCheck}
 use Rattle.av_cli.specs.Refusals.{refusal_line}
-use Rattle.av_cli.specs.SystemRefusals.{system_reason}
-use Rattle.av_cli.specs.Checks.{RefusesCheck, GivesCheck, RefusesWith, GivesWith}
+use Rattle.av_cli.specs.AlphaRefusals.{alpha_reason}
+use Rattle.av_cli.specs.Checks.{RefusesCheck, GivesCheck}
+use Rattle.av_cli.specs.inner.WithWords.{RefusesWith, GivesWith}
 use Rattle.av_cli.specs.inner.Written.{IsPut, IsAnswered, refused, given, no_memory}
 use Rattle.av_cli.proofs.GivenSizes.{with_sizes}
 
 -- ---- refused or given, and not both
 
-pub exclusive : (sizes : List Size) (bits : ℕ) (bytes out : List ℕ) (cause : Refusal) → IsRefused bytes sizes bits cause → cause ≢ refusal.Memory → GivesCheck sizes bits bytes out → ⊥
-exclusive sizes bits bytes out cause is some g = not_checked bytes sizes bits g.flat cause g.flattens g.normal g.proper is some
-
 pub exclusive_check : (sizes : List Size) (bits : ℕ) (bytes reason out : List ℕ) → RefusesCheck sizes bits bytes reason → GivesCheck sizes bits bytes out → ⊥
-exclusive_check sizes bits bytes reason out r g = exclusive sizes bits bytes out r.cause r.first r.some g
+exclusive_check sizes bits bytes reason out r g = not_checked bytes sizes bits g.flat r.cause g.flattens g.normal g.proper r.first r.some
 
 -- ---- answers
 
 pub check_refused : (words : List (List ℕ)) (sizes : List Size) (bits : ℕ) (bytes : List ℕ) (f : Refusal) {sink sink' : SinkState} {status : Status}
     → GiveSizes words sizes → (f ≢ refusal.Memory → IsRefused bytes sizes bits f) → (f ≡ refusal.Memory → (status ≡ Memory) × (sink'.held ≡ sink.held))
-    → ((f ≡ refusal.Memory → ⊥) → IsPut sink sink' (refusal_line (system_reason f)) Refused status)
+    → ((f ≡ refusal.Memory → ⊥) → IsPut sink sink' (refusal_line (alpha_reason f)) Refused status)
     → IsAnswered (RefusesWith words bits bytes) (GivesWith words bits bytes) sink sink' status
 check_refused words sizes bits bytes f give first none put =
     elim (memory_or_not f) [
@@ -41,7 +39,7 @@ pub check_given : (words : List (List ℕ)) (sizes : List Size) (bits : ℕ) (by
     → GiveSizes words sizes → IsChecked bytes sizes bits t → IsPut sink sink' (codes "ok\n") Done status
     → IsAnswered (RefusesWith words bits bytes) (GivesWith words bits bytes) sink sink' status
 check_given words sizes bits bytes t give is put =
-    given (record { sizes = sizes; give = give; gives = record { flat = is.flat; flattens = is.flattens; normal = is.given.no_cause; proper = is.proper; line = refl } }) put
+    given (record { sizes = sizes; give = give; gives = record { flat = is.flat; flattens = is.flattens; normal = is.given.no_cause; proper = is.proper; text_proper = is.text_proper; line = refl } }) put
 
 -- the words are those that the command was read from
 pub check_answered : (words : List (List ℕ)) (bits : ℕ) (bytes : List ℕ) {sink sink' : SinkState} {status : Status} → ((found : List Size) × IsCheck words bits found)

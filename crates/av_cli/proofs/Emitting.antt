@@ -14,7 +14,8 @@ use Rattle.av_compile.specs.Headline.{Headline}
 use Rattle.av_cli.specs.declared.status.Status.{Status}
 use Rattle.av_cli.specs.declared.status.Status.TheVariants.{Done}
 use Rattle.av_cli.specs.Commands.{GiveSizes, IsEmit}
-use Rattle.av_cli.specs.Emits.{RefusesEmit, GivesEmit, RefusesEmitWith, GivesEmitWith}
+use Rattle.av_cli.specs.Emits.{RefusesEmit, GivesEmit}
+use Rattle.av_cli.specs.inner.WithWords.{RefusesEmitWith, GivesEmitWith}
 use Rattle.av_cli.specs.inner.Written.{IsPut, IsAnswered, refused, given, no_memory}
 use Rattle.av_cli.proofs.GivenSizes.{with_sizes}
 use Rattle.av_cli.proofs.Tabling.{not_unmapped}

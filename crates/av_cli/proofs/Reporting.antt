@@ -58,7 +58,7 @@ use Rattle.av_cli.specs.declared.runs.Report.TheVariants.{Results, Trace}
 use Rattle.av_cli.specs.Commands.{GiveSizes, IsRun, IsTrace}
 use Rattle.av_cli.proofs.GivenSizes.{with_sizes}
 use Rattle.av_cli.specs.Refusals.{refusal_line, data_reason}
-use Rattle.av_cli.specs.SystemRefusals.{system_reason}
+use Rattle.av_cli.specs.AlphaRefusals.{alpha_reason}
 use Rattle.av_cli.specs.Tables.{RefusesTable}
 use Rattle.av_cli.specs.Runs.{RefusesRun, no_mark, bad_system, bad_data, HasData, results, is_result, AreSolved, GivesResults, GivesTrace}
 use Rattle.av_cli.specs.inner.Written.{IsPut, IsAnswered, refused, given, no_memory}
@@ -300,7 +300,7 @@ module _ (bytes : List ℕ) (sizes : List Size) (bits box : ℕ) (t : Timed) (a 
 
 pub run_refused : (Given : List ℕ → Type 0) (words : List (List ℕ)) (sizes : List Size) (bits box : ℕ) (before rest whole : List ℕ) (first : ℕ) (f : Refusal) {sink sink' : SinkState} {status : Status}
     → IsDivided whole before rest first → GiveSizes words sizes → (f ≢ refusal.Memory → IsUnmapped before sizes bits box f) → (f ≡ refusal.Memory → (status ≡ Memory) × (sink'.held ≡ sink.held))
-    → ((f ≡ refusal.Memory → ⊥) → IsPut sink sink' (refusal_line (system_reason f)) Refused status)
+    → ((f ≡ refusal.Memory → ⊥) → IsPut sink sink' (refusal_line (alpha_reason f)) Refused status)
     → IsAnswered (RefusesRunWith words bits box whole) Given sink sink' status
 run_refused Given words sizes bits box before rest whole first f divided give is none put =
     elim (memory_or_not f) [

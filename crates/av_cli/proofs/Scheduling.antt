@@ -19,12 +19,12 @@ use Rattle.av_cli.specs.declared.status.Status.{Status}
 use Rattle.av_cli.specs.declared.status.Status.TheVariants.{Done, Refused, Memory}
 use Rattle.av_cli.specs.Commands.{GiveSizes, IsSchedule}
 use Rattle.av_cli.specs.Refusals.{refusal_line}
-use Rattle.av_cli.specs.SystemRefusals.{system_reason}
-use Rattle.av_cli.specs.Schedules.{RefusesSchedule, GivesSchedule, RefusesScheduleWith, GivesScheduleWith}
+use Rattle.av_cli.specs.AlphaRefusals.{alpha_reason}
+use Rattle.av_cli.specs.Schedules.{RefusesSchedule, GivesSchedule}
+use Rattle.av_cli.specs.inner.WithWords.{RefusesScheduleWith, GivesScheduleWith}
 use Rattle.av_cli.specs.inner.Written.{IsPut, IsAnswered, refused, given, no_memory}
 use Rattle.av_compile.proofs.OneChain.{one_flat}
-use Rattle.av_compile.proofs.OneRefusal.{memory_or_not}
-use Rattle.av_cli.proofs.Checking.{exclusive}
+use Rattle.av_compile.proofs.OneRefusal.{memory_or_not, not_checked}
 use Rattle.av_cli.proofs.GivenSizes.{with_sizes}
 
 -- ---- refused or given, and not both
@@ -47,7 +47,7 @@ not_unscheduled sizes bits box bytes cause first some t is none = go first
     go : IsUnscheduled bytes sizes bits box cause → ⊥
     go (in_text h) =
         let n = is.normalises in
-        exclusive sizes bits bytes (codes "ok\n") cause h some (record { flat = n.flat; flattens = n.flattens; normal = n.given.no_cause; proper = n.proper; line = refl })
+        not_checked bytes sizes bits n.flat cause n.flattens n.given.no_cause n.proper h some
     go (in_reductions f e s normalises fault) =
         let same = one_normal bytes sizes bits s is.normal normalises is.normalises in
         some (e ∙ ap of_serial (is.given.no_cause f (subst (λ (x : FlatSystem). serialised.IsFault x f) same fault)))
@@ -62,7 +62,7 @@ exclusive_schedule sizes bits box bytes reason out r g = not_unscheduled sizes b
 
 pub schedule_refused : (words : List (List ℕ)) (sizes : List Size) (bits box : ℕ) (bytes : List ℕ) (f : Refusal) {sink sink' : SinkState} {status : Status}
     → GiveSizes words sizes → (f ≢ refusal.Memory → IsUnscheduled bytes sizes bits box f) → (f ≡ refusal.Memory → (status ≡ Memory) × (sink'.held ≡ sink.held))
-    → ((f ≡ refusal.Memory → ⊥) → IsPut sink sink' (refusal_line (system_reason f)) Refused status)
+    → ((f ≡ refusal.Memory → ⊥) → IsPut sink sink' (refusal_line (alpha_reason f)) Refused status)
     → IsAnswered (RefusesScheduleWith words bits box bytes) (GivesScheduleWith words bits box bytes) sink sink' status
 schedule_refused words sizes bits box bytes f give first none put =
     elim (memory_or_not f) [

@@ -13,7 +13,7 @@ use Rattle.av_net.specs.Designs.{Spells}
 use Rattle.av_net.proofs.Cycles.{has_runs}
 use Rattle.av_net.proofs.Distinct.{front_distinct}
 use Rattle.av_vread.specs.declared.fault.VFault.{VFault}
-use Rattle.av_vread.specs.declared.fault.VFault.TheVariants as text_fault
+use Rattle.av_vread.specs.declared.fault.VFault.TheVariants as verilog_fault
 use Rattle.av_vread.specs.Faults.{IsFault}
 use Rattle.av_data.specs.declared.fault.DataFault.{DataFault}
 use Rattle.av_data.specs.declared.fault.DataFault.TheVariants.{DataSyntax, DataUnknown, DataOutside, DataTwice, DataMissing, Memory}
@@ -25,9 +25,10 @@ use Rattle.av_data.specs.Reading.{place_of}
 use Rattle.av_data.proofs.Lined.{place_at}
 use Rattle.av_cli.specs.declared.status.Status.{Status}
 use Rattle.av_cli.specs.declared.status.Status.TheVariants.{Done, Refused, WriteFault, Memory as OutOfMemory}
-use Rattle.av_cli.specs.Refusals.{refusal_line, text_reason, data_reason}
+use Rattle.av_cli.specs.Refusals.{refusal_line, verilog_reason, data_reason}
 use Rattle.av_cli.specs.Simulated.{given_word, IsStimulated, run_lines}
-use Rattle.av_cli.specs.Sims.{RefusesSim, bad_text, bad_stimulus, GivesSim, RefusesStimulus, GivesRun}
+use Rattle.av_cli.specs.Sims.{RefusesSim, bad_text, bad_stimulus, GivesSim}
+use Rattle.av_cli.specs.inner.WithModule.{RefusesStimulus, GivesRun}
 use Rattle.av_cli.specs.inner.Written.{IsPut, IsAnswered, refused, given, no_memory, IsClocked}
 use Rattle.av_cli.proofs.Presenting.{given_distinct}
 
@@ -99,8 +100,8 @@ stimulus_refused m bytes first (DataOutside l) (inr is) none put = refused (reco
 stimulus_refused m bytes first (DataTwice l) (inr is) none put = refused (record { cause = DataTwice l; is = is; told = refl }) (put (λ e. cc))
 stimulus_refused m bytes first (DataMissing name point) (inr is) none put = refused (record { cause = DataMissing name point; is = is; told = refl }) (put (λ e. cc))
 
-pub text_refused : (bytes text rest : List ℕ) (first : ℕ) (f : VFault) {sink sink' : SinkState} {status : Status} → IsDivided bytes text rest first → (f ≡ text_fault.Memory) ⊎ IsFault text f
-    → (f ≡ text_fault.Memory → (status ≡ OutOfMemory) × (sink'.held ≡ sink.held)) → ((f ≡ text_fault.Memory → ⊥) → IsPut sink sink' (refusal_line (text_reason f)) Refused status)
+pub verilog_refused : (bytes text rest : List ℕ) (first : ℕ) (f : VFault) {sink sink' : SinkState} {status : Status} → IsDivided bytes text rest first → (f ≡ verilog_fault.Memory) ⊎ IsFault text f
+    → (f ≡ verilog_fault.Memory → (status ≡ OutOfMemory) × (sink'.held ≡ sink.held)) → ((f ≡ verilog_fault.Memory → ⊥) → IsPut sink sink' (refusal_line (verilog_reason f)) Refused status)
     → IsAnswered (RefusesSim bytes) (GivesSim bytes) sink sink' status
-text_refused bytes text rest first f divided (inl e) none put = let (a, b) = none e in no_memory a b
-text_refused bytes text rest first f divided (inr is) none put = refused (bad_text f divided is refl) (put (λ e. subst (λ x. IsFault text x) e is))
+verilog_refused bytes text rest first f divided (inl e) none put = let (a, b) = none e in no_memory a b
+verilog_refused bytes text rest first f divided (inr is) none put = refused (bad_text f divided is refl) (put (λ e. subst (λ x. IsFault text x) e is))

@@ -17,8 +17,9 @@ use Rattle.av_cli.specs.declared.status.Status.{Status}
 use Rattle.av_cli.specs.declared.status.Status.TheVariants.{Done, Refused, Memory}
 use Rattle.av_cli.specs.Commands.{GiveSizes, IsTable}
 use Rattle.av_cli.specs.Refusals.{refusal_line}
-use Rattle.av_cli.specs.SystemRefusals.{system_reason}
-use Rattle.av_cli.specs.Tables.{RefusesTable, GivesTable, RefusesTableWith, GivesTableWith}
+use Rattle.av_cli.specs.AlphaRefusals.{alpha_reason}
+use Rattle.av_cli.specs.Tables.{RefusesTable, GivesTable}
+use Rattle.av_cli.specs.inner.WithWords.{RefusesTableWith, GivesTableWith}
 use Rattle.av_cli.specs.inner.Written.{IsPut, IsAnswered, refused, given, no_memory}
 use Rattle.av_compile.proofs.OneRefusal.{memory_or_not}
 use Rattle.av_cli.proofs.Scheduling.{not_unscheduled}
@@ -41,7 +42,7 @@ exclusive_table sizes bits box bytes reason out r g = not_unmapped sizes bits bo
 
 pub table_refused : (Given : List ℕ → Type 0) (words : List (List ℕ)) (sizes : List Size) (bits box : ℕ) (bytes : List ℕ) (f : Refusal) {sink sink' : SinkState} {status : Status}
     → GiveSizes words sizes → (f ≢ refusal.Memory → IsUnmapped bytes sizes bits box f) → (f ≡ refusal.Memory → (status ≡ Memory) × (sink'.held ≡ sink.held))
-    → ((f ≡ refusal.Memory → ⊥) → IsPut sink sink' (refusal_line (system_reason f)) Refused status)
+    → ((f ≡ refusal.Memory → ⊥) → IsPut sink sink' (refusal_line (alpha_reason f)) Refused status)
     → IsAnswered (RefusesTableWith words bits box bytes) Given sink sink' status
 table_refused Given words sizes bits box bytes f give first none put =
     elim (memory_or_not f) [

@@ -7,8 +7,7 @@ use Rattle.av_net.specs.Texts.{text}
 use Rattle.av_net.specs.Designs.{Spells}
 use Rattle.av_space.specs.declared.cells.Cells.{Cells}
 use Rattle.av_compile.specs.Headline.{Headline}
-use Rattle.av_cli.specs.Commands.{GiveSizes}
-use Rattle.av_cli.specs.Tables.{RefusesTable, RefusesTableWith}
+use Rattle.av_cli.specs.Tables.{RefusesTable}
 
 -- what `table` refuses: the first fault of the bytes with these sizes, up to the quantities of the array
 abbrev pub RefusesEmit : List Size → ℕ → ℕ → List ℕ → List ℕ → Type 0
@@ -23,13 +22,3 @@ pub record GivesEmit (sizes : List Size) (bits box : ℕ) (bytes out : List ℕ)
   pub text_of : out ≡ text design
   pub spelled : Spells out design
   pub only : (other : Design) → Spells out other → other ≡ design
-
--- ---- with the words at hand
-
-abbrev pub RefusesEmitWith : List (List ℕ) → ℕ → ℕ → List ℕ → List ℕ → Type 0
-RefusesEmitWith words bits box bytes reason = RefusesTableWith words bits box bytes reason
-
-pub record GivesEmitWith (words : List (List ℕ)) (bits box : ℕ) (bytes out : List ℕ) : Type 0 where
-  pub sizes : List Size
-  pub give : GiveSizes words sizes
-  pub gives : GivesEmit sizes bits box bytes out

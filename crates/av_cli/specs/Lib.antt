@@ -1,7 +1,6 @@
 pub mod Commands
-pub mod CommandsSeen
 pub mod Refusals
-pub mod SystemRefusals
+pub mod AlphaRefusals
 pub mod Simulated
 pub mod Emits
 pub mod Sims

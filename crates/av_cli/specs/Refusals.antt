@@ -15,16 +15,16 @@ abbrev pub place_text : Place → List ℕ
 place_text p = decimal p.line ++ codes ":" ++ decimal p.column
 
 -- why a design text is refused; out of memory has no line
-abbrev pub text_reason : VFault → List ℕ
-text_reason (VByte p) = codes "verilog bad byte " ++ place_text p
-text_reason (VSyntax p) = codes "verilog syntax " ++ place_text p
-text_reason (VListing number) = codes "verilog listing " ++ decimal number
-text_reason (VTwice name) = codes "verilog twice " ++ name
-text_reason (VName name) = codes "verilog unknown " ++ name
-text_reason (VUnassigned name) = codes "verilog unassigned " ++ name
-text_reason (VOrder name) = codes "verilog order " ++ name
-text_reason (VWidth name) = codes "verilog width " ++ name
-text_reason Memory = []
+abbrev pub verilog_reason : VFault → List ℕ
+verilog_reason (VByte p) = codes "verilog bad byte " ++ place_text p
+verilog_reason (VSyntax p) = codes "verilog syntax " ++ place_text p
+verilog_reason (VListing number) = codes "verilog listing " ++ decimal number
+verilog_reason (VTwice name) = codes "verilog twice " ++ name
+verilog_reason (VName name) = codes "verilog unknown " ++ name
+verilog_reason (VUnassigned name) = codes "verilog unassigned " ++ name
+verilog_reason (VOrder name) = codes "verilog order " ++ name
+verilog_reason (VWidth name) = codes "verilog width " ++ name
+verilog_reason Memory = []
 
 -- why lines of data are refused
 abbrev pub data_reason : DataFault → List ℕ

@@ -6,15 +6,14 @@ use Rattle.av_data.specs.Schedules.{schedule_text}
 use Rattle.av_compile.specs.declared.refusal.Refusal.{Refusal}
 use Rattle.av_compile.specs.declared.refusal.Refusal.TheVariants as refusal
 use Rattle.av_compile.specs.Scheduled.{IsScheduled, IsUnscheduled, HasOneSolutionEach}
-use Rattle.av_cli.specs.Commands.{GiveSizes}
-use Rattle.av_cli.specs.SystemRefusals.{system_reason}
+use Rattle.av_cli.specs.AlphaRefusals.{alpha_reason}
 
 -- the first fault of the bytes with these sizes, up to the search in the box
 pub record RefusesSchedule (sizes : List Size) (bits box : ℕ) (bytes reason : List ℕ) : Type 0 where
   pub cause : Refusal
   pub first : IsUnscheduled bytes sizes bits box cause
   pub some : cause ≢ refusal.Memory
-  pub told : reason ≡ system_reason cause
+  pub told : reason ≡ alpha_reason cause
 
 -- the lines of the first schedule in the box of what the bytes spell. The equations have just one solution, whatever the inputs.
 pub record GivesSchedule (sizes : List Size) (bits box : ℕ) (bytes out : List ℕ) : Type 0 where
@@ -22,15 +21,3 @@ pub record GivesSchedule (sizes : List Size) (bits box : ℕ) (bytes out : List 
   pub scheduled : IsScheduled bytes sizes bits box timed
   pub one_solution : HasOneSolutionEach bytes sizes bits
   pub lines : out ≡ schedule_text timed
-
--- ---- with the words at hand
-
-pub record RefusesScheduleWith (words : List (List ℕ)) (bits box : ℕ) (bytes reason : List ℕ) : Type 0 where
-  pub sizes : List Size
-  pub give : GiveSizes words sizes
-  pub refuses : RefusesSchedule sizes bits box bytes reason
-
-pub record GivesScheduleWith (words : List (List ℕ)) (bits box : ℕ) (bytes out : List ℕ) : Type 0 where
-  pub sizes : List Size
-  pub give : GiveSizes words sizes
-  pub gives : GivesSchedule sizes bits box bytes out

@@ -1,6 +1,5 @@
 -- What `sim` refuses, and what it writes.
 use Rattle.std.specs.Prelude.{◌≡◌, ℕ, List, codes}
-use Rattle.av_net.specs.declared.netlist.Module.{Module}
 use Rattle.av_net.specs.declared.design.Design.{Design}
 use Rattle.av_net.specs.Designs.{Spells}
 use Rattle.av_vread.specs.declared.fault.VFault.{VFault}
@@ -9,13 +8,13 @@ use Rattle.av_data.specs.declared.fault.DataFault.{DataFault}
 use Rattle.av_data.specs.declared.stimulus.Stimulus.{Stimulus}
 use Rattle.av_data.specs.Divisions.{IsDivided, HasNoMark}
 use Rattle.av_data.specs.Stimuli.{SpellsStimulus, IsStimulusFault}
-use Rattle.av_cli.specs.Refusals.{text_reason, data_reason}
+use Rattle.av_cli.specs.Refusals.{verilog_reason, data_reason}
 use Rattle.av_cli.specs.Simulated.{AreSimulated}
 
 -- there is no mark, or the text before it spells no design, or what follows it is no stimulus for the design's module
 pub data RefusesSim (bytes reason : List ℕ) : Type 0 where
   no_mark : HasNoMark bytes → reason ≡ codes "no mark" → RefusesSim bytes reason
-  bad_text : {text rest : List ℕ} {first : ℕ} (fault : VFault) → IsDivided bytes text rest first → IsFault text fault → reason ≡ text_reason fault → RefusesSim bytes reason
+  bad_text : {text rest : List ℕ} {first : ℕ} (fault : VFault) → IsDivided bytes text rest first → IsFault text fault → reason ≡ verilog_reason fault → RefusesSim bytes reason
   bad_stimulus : {text rest : List ℕ} {first : ℕ} {design : Design} (fault : DataFault) → IsDivided bytes text rest first → Spells text design
       → IsStimulusFault design.module.inputs first rest fault → reason ≡ data_reason fault → RefusesSim bytes reason
 
@@ -30,15 +29,3 @@ pub record GivesSim (bytes out : List ℕ) : Type 0 where
   pub stimulus : Stimulus
   pub stimulated : SpellsStimulus design.module.inputs rest stimulus
   pub simulated : AreSimulated design.module stimulus out
-
--- ---- with the module at hand
-
-pub record RefusesStimulus (m : Module) (bytes : List ℕ) (first : ℕ) (reason : List ℕ) : Type 0 where
-  pub cause : DataFault
-  pub is : IsStimulusFault m.inputs first bytes cause
-  pub told : reason ≡ data_reason cause
-
-pub record GivesRun (m : Module) (bytes out : List ℕ) : Type 0 where
-  pub stimulus : Stimulus
-  pub stimulated : SpellsStimulus m.inputs bytes stimulus
-  pub simulated : AreSimulated m stimulus out

@@ -8,15 +8,14 @@ use Rattle.av_compile.specs.declared.refusal.Refusal.{Refusal}
 use Rattle.av_compile.specs.declared.refusal.Refusal.TheVariants as refusal
 use Rattle.av_compile.specs.Scheduled.{HasOneSolutionEach}
 use Rattle.av_compile.specs.Mapped.{IsMapped, IsUnmapped}
-use Rattle.av_cli.specs.Commands.{GiveSizes}
-use Rattle.av_cli.specs.SystemRefusals.{system_reason}
+use Rattle.av_cli.specs.AlphaRefusals.{alpha_reason}
 
 -- the first fault of the bytes with these sizes, up to the quantities of the array
 pub record RefusesTable (sizes : List Size) (bits box : ℕ) (bytes reason : List ℕ) : Type 0 where
   pub cause : Refusal
   pub first : IsUnmapped bytes sizes bits box cause
   pub some : cause ≢ refusal.Memory
-  pub told : reason ≡ system_reason cause
+  pub told : reason ≡ alpha_reason cause
 
 -- the lines of the array of what the bytes spell, by its first schedule in the box, with its whole listing. The equations have just
 -- one solution, whatever the inputs.
@@ -26,15 +25,3 @@ pub record GivesTable (sizes : List Size) (bits box : ℕ) (bytes out : List ℕ
   pub mapped : IsMapped bytes sizes bits box timed cells
   pub one_solution : HasOneSolutionEach bytes sizes bits
   pub lines : out ≡ table_text timed cells
-
--- ---- with the words at hand
-
-pub record RefusesTableWith (words : List (List ℕ)) (bits box : ℕ) (bytes reason : List ℕ) : Type 0 where
-  pub sizes : List Size
-  pub give : GiveSizes words sizes
-  pub refuses : RefusesTable sizes bits box bytes reason
-
-pub record GivesTableWith (words : List (List ℕ)) (bits box : ℕ) (bytes out : List ℕ) : Type 0 where
-  pub sizes : List Size
-  pub give : GiveSizes words sizes
-  pub gives : GivesTable sizes bits box bytes out

@@ -7,3 +7,6 @@ pub mod DemoWords
 pub mod Clocking
 pub mod Asked
 pub mod Written
+pub mod WithWords
+pub mod WithModule
+pub mod CommandsSeen

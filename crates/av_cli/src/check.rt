@@ -1,7 +1,7 @@
 //! The command `check`.
 
 ghost use Rattle.std.specs.Prelude.{◌≤◌, length};
-ghost use Rattle.av_cli.specs.Checks.{RefusesWith, GivesWith};
+ghost use Rattle.av_cli.specs.inner.WithWords.{RefusesWith, GivesWith};
 ghost use Rattle.av_cli.specs.inner.Written.{IsAnswered};
 
 use crate::put::{put, put_alpha_refusal};

@@ -1,7 +1,7 @@
 //! The command `emit`.
 
 ghost use Rattle.std.specs.Prelude.{◌≤◌, length};
-ghost use Rattle.av_cli.specs.Emits.{RefusesEmitWith, GivesEmitWith};
+ghost use Rattle.av_cli.specs.inner.WithWords.{RefusesEmitWith, GivesEmitWith};
 ghost use Rattle.av_cli.specs.inner.Written.{IsAnswered};
 
 use crate::put::{put_alpha_refusal, put_design};

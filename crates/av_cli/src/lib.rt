@@ -1,6 +1,7 @@
 //! The command line: what the program `alphav` answers to its words, its input and its output.
 #![tactic(auto)]
 
+mod alpha_refusals;
 mod check;
 mod demo;
 mod emit;
@@ -18,7 +19,6 @@ mod size_word;
 mod sizes;
 mod standard;
 mod status;
-mod system_refusals;
 mod table;
 mod words;
 

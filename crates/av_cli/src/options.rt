@@ -3,7 +3,7 @@
 ghost use Rattle.std.specs.Prelude.{◌≡◌, ◌<◌, ◌≤◌, ◌↔◌, ℕ, List, Some, None, codes, drop, length, IsTrue, IfSome, IfNone};
 ghost use Rattle.std.specs.List.{AllByRecursion};
 ghost use Rattle.av_cli.specs.Commands.{Options as Said, Say, IsOption, IsSize, SpellsUpTo, no_options, having_width, having_box, given_or, default_width, default_box};
-ghost use Rattle.av_cli.specs.CommandsSeen.{seen};
+ghost use Rattle.av_cli.specs.inner.CommandsSeen.{seen};
 
 use crate::numbers::number_up_to;
 use crate::size_word::is_size;

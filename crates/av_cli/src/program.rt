@@ -3,7 +3,7 @@ ghost use Rattle.av_base.specs.Outside.{HasRisen};
 ghost use Rattle.av_cli.specs.Program.{AddsWhole, AddsFront, IsComplete};
 ghost use Rattle.av_cli.specs.inner.Written.{IsAnswered};
 ghost use Rattle.av_cli.specs.inner.Asked.{Refuses, Gives};
-ghost use Rattle.av_cli.specs.CommandsSeen.{Are};
+ghost use Rattle.av_cli.specs.inner.CommandsSeen.{Are};
 
 use crate::check::check;
 use crate::demo::demo;

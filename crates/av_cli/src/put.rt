@@ -6,16 +6,16 @@ ghost use Rattle.av_flat.specs.Legal.{IsLegal};
 ghost use Rattle.av_data.specs.Schedules.{schedule_text};
 ghost use Rattle.av_data.specs.Tables.{table_text};
 ghost use Rattle.av_space.specs.Arrays.{IsArrayOf};
-ghost use Rattle.av_vread.specs.declared.fault.VFault.TheVariants as text_fault;
+ghost use Rattle.av_vread.specs.declared.fault.VFault.TheVariants as verilog_fault;
 ghost use Rattle.av_data.specs.declared.fault.DataFault.TheVariants as data_fault;
-ghost use Rattle.av_compile.specs.declared.refusal.Refusal.TheVariants as system_refusal;
-ghost use Rattle.av_cli.specs.Refusals.{refusal_line, text_reason, data_reason};
-ghost use Rattle.av_cli.specs.SystemRefusals.{system_reason};
+ghost use Rattle.av_compile.specs.declared.refusal.Refusal.TheVariants as alpha_refusal;
+ghost use Rattle.av_cli.specs.Refusals.{refusal_line, verilog_reason, data_reason};
+ghost use Rattle.av_cli.specs.AlphaRefusals.{alpha_reason};
 ghost use Rattle.av_cli.specs.inner.Written.{IsPut};
 
-use crate::refusals::{write_data_refusal, write_text_refusal};
+use crate::alpha_refusals::write_alpha_refusal;
+use crate::refusals::{write_data_refusal, write_verilog_refusal};
 use crate::status::Status;
-use crate::system_refusals::write_system_refusal;
 use av_base::{Sink, write_all};
 use av_compile::{Array, Refusal};
 use av_data::{DataFault, write_schedule, write_table};
@@ -68,12 +68,12 @@ pub(crate) fn put_table<K: Sink>(sink: &mut K, array: &Array) -> Status
 
 /// Adds the line of the refusal of a design text. Out of memory has no line: the status tells it.
 pub(crate) fn put_verilog_refusal<K: Sink>(sink: &mut K, fault: &VFault) -> Status
-    ensures memory { fault.now ≡ text_fault.Memory → (result ≡ Status.Memory) × ((K.state sink.new).held ≡ (K.state sink.old).held) }
-    ensures refused { (fault.now ≡ text_fault.Memory → ⊥) → IsPut (K.state sink.old) (K.state sink.new) (refusal_line (text_reason fault.now)) Status.Refused result }
+    ensures memory { fault.now ≡ verilog_fault.Memory → (result ≡ Status.Memory) × ((K.state sink.new).held ≡ (K.state sink.old).held) }
+    ensures refused { (fault.now ≡ verilog_fault.Memory → ⊥) → IsPut (K.state sink.old) (K.state sink.new) (refusal_line (verilog_reason fault.now)) Status.Refused result }
 {
     match fault {
         VFault::Memory => Status::Memory,
-        _ => match write_text_refusal(fault, sink) {
+        _ => match write_verilog_refusal(fault, sink) {
             Ok(()) => Status::Refused,
             Err(_) => Status::WriteFault,
         },
@@ -96,12 +96,12 @@ pub(crate) fn put_data_refusal<K: Sink>(sink: &mut K, fault: &DataFault) -> Stat
 
 /// Adds the line of the refusal of an Alpha text. Out of memory has no line: the status tells it.
 pub(crate) fn put_alpha_refusal<K: Sink>(sink: &mut K, refusal: &Refusal) -> Status
-    ensures memory { refusal.now ≡ system_refusal.Memory → (result ≡ Status.Memory) × ((K.state sink.new).held ≡ (K.state sink.old).held) }
-    ensures refused { (refusal.now ≡ system_refusal.Memory → ⊥) → IsPut (K.state sink.old) (K.state sink.new) (refusal_line (system_reason refusal.now)) Status.Refused result }
+    ensures memory { refusal.now ≡ alpha_refusal.Memory → (result ≡ Status.Memory) × ((K.state sink.new).held ≡ (K.state sink.old).held) }
+    ensures refused { (refusal.now ≡ alpha_refusal.Memory → ⊥) → IsPut (K.state sink.old) (K.state sink.new) (refusal_line (alpha_reason refusal.now)) Status.Refused result }
 {
     match refusal {
         Refusal::Memory => Status::Memory,
-        _ => match write_system_refusal(refusal, sink) {
+        _ => match write_alpha_refusal(refusal, sink) {
             Ok(()) => Status::Refused,
             Err(_) => Status::WriteFault,
         },

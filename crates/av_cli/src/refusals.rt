@@ -3,7 +3,7 @@
 ghost use Rattle.std.specs.Prelude.{◌++◌, decimal, OnOk, OnErr, IsErr};
 ghost use Rattle.av_base.specs.Outside.{Adds, AddsPrefix, HasRisen};
 ghost use Rattle.av_page.specs.Pages.{Puts};
-ghost use Rattle.av_cli.specs.Refusals.{refusal_line, place_text, text_reason, data_reason};
+ghost use Rattle.av_cli.specs.Refusals.{refusal_line, place_text, verilog_reason, data_reason};
 
 use av_base::{Name, Place, Sink, WriteFault};
 use av_data::DataFault;
@@ -36,8 +36,8 @@ pub(crate) fn put_place<K: Sink>(page: &mut Page, sink: &mut K, words: &str, pla
     page.put_number(sink, place.column);
 }
 
-fn put_text_reason<K: Sink>(page: &mut Page, sink: &mut K, fault: &VFault)
-    ensures { Puts (K.state sink.old) (K.state sink.new) page.old page.new (text_reason fault.now) }
+fn put_verilog_reason<K: Sink>(page: &mut Page, sink: &mut K, fault: &VFault)
+    ensures { Puts (K.state sink.old) (K.state sink.new) page.old page.new (verilog_reason fault.now) }
 {
     match fault {
         VFault::VByte(place) => put_place(page, sink, "verilog bad byte ", *place),
@@ -70,14 +70,14 @@ fn put_data_reason<K: Sink>(page: &mut Page, sink: &mut K, fault: &DataFault)
 }
 
 /// Writes the line of the refusal of a design text.
-pub(crate) fn write_text_refusal<K: Sink>(fault: &VFault, sink: &mut K) -> Result<(), WriteFault>
-    ensures added { OnOk result (Adds (K.state sink.old).held (K.state sink.new).held (refusal_line (text_reason fault.now))) }
+pub(crate) fn write_verilog_refusal<K: Sink>(fault: &VFault, sink: &mut K) -> Result<(), WriteFault>
+    ensures added { OnOk result (Adds (K.state sink.old).held (K.state sink.new).held (refusal_line (verilog_reason fault.now))) }
     ensures fault { IsErr result → HasRisen (K.state sink.old).faults (K.state sink.new).faults }
-    ensures front { OnErr result (AddsPrefix (K.state sink.old).held (K.state sink.new).held (refusal_line (text_reason fault.now))) }
+    ensures front { OnErr result (AddsPrefix (K.state sink.old).held (K.state sink.new).held (refusal_line (verilog_reason fault.now))) }
 {
     let mut page = Page::new();
     page.put(sink, "refused: ");
-    put_text_reason(&mut page, sink, fault);
+    put_verilog_reason(&mut page, sink, fault);
     page.put(sink, "\n");
     page.finish(sink)
 }

@@ -1,7 +1,7 @@
 //! The command `schedule`.
 
 ghost use Rattle.std.specs.Prelude.{◌≤◌, length};
-ghost use Rattle.av_cli.specs.Schedules.{RefusesScheduleWith, GivesScheduleWith};
+ghost use Rattle.av_cli.specs.inner.WithWords.{RefusesScheduleWith, GivesScheduleWith};
 ghost use Rattle.av_cli.specs.inner.Written.{IsAnswered};
 
 use crate::put::{put_alpha_refusal, put_schedule};

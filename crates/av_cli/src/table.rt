@@ -1,7 +1,7 @@
 //! The command `table`.
 
 ghost use Rattle.std.specs.Prelude.{◌≤◌, length};
-ghost use Rattle.av_cli.specs.Tables.{RefusesTableWith, GivesTableWith};
+ghost use Rattle.av_cli.specs.inner.WithWords.{RefusesTableWith, GivesTableWith};
 ghost use Rattle.av_cli.specs.inner.Written.{IsAnswered};
 
 use crate::put::{put_alpha_refusal, put_table};

@@ -1,6 +1,6 @@
 ghost use Rattle.std.specs.Prelude.{◌≡◌, ◌<◌, ◌≤◌, ◌↔◌, ◌∷◌, [], ℕ, List as Items, false, codes, drop, length, Contains, IsTrue, IfSome, IfNone};
 ghost use Rattle.av_cli.specs.Commands.{Options as Said, Say, GiveSizes, AreRead, AskDemo, IsDemo, IsBare, no_options, given_or, default_width, default_box};
-ghost use Rattle.av_cli.specs.CommandsSeen.{Are, takes_input};
+ghost use Rattle.av_cli.specs.inner.CommandsSeen.{Are, takes_input};
 ghost use Rattle.av_cli.specs.inner.DemoWords.{IsDemoAt};
 
 use crate::numbers::number_up_to;
@@ -14,7 +14,7 @@ const LARGEST_DEMO: u32 = 16;
 
 /// What the words ask for.
 #[derive(Clone, Copy, Debug)]
-pub enum Command {
+pub(crate) enum Command {
     /// Whether a system has each declared point exactly once. Its sizes stand in the words.
     Check {
         width: Width,
@@ -73,7 +73,7 @@ impl Command {
 }
 
 /// Reads the words of the command line. `None` says that the words are no command.
-pub fn read_words(words: &[Name]) -> Option<Command>
+pub(crate) fn read_words(words: &[Name]) -> Option<Command>
     ensures read { IfSome result (λ command. Are command words.now) }
     ensures unread { IfNone result (AreRead words.now → ⊥) }
 {

@@ -24,7 +24,8 @@ use Rattle.av_net.proofs.Settles.{with_word, with_word_same, with_word_other, na
 use Rattle.av_clock.specs.declared.gate.Assignment.{Assignment}
 use Rattle.av_clock.specs.Named.{named, AllFit}
 use Rattle.av_clock.specs.inner.Gates.{gate_word}
-use Rattle.av_clock.specs.Marked.{IsSet, IsClear, AreHeld, ReadTheSame, AreAhead}
+use Rattle.av_clock.specs.Marked.{IsClear, AreHeld}
+use Rattle.av_clock.specs.inner.Marking.{IsSet, ReadTheSame, AreAhead}
 use Rattle.av_clock.specs.inner.Readers.{IsOther}
 use Rattle.av_clock.proofs.Lookup.{look_set}
 use Rattle.av_clock.proofs.Marking.{cleared, clear_after}

@@ -7,7 +7,8 @@ use Rattle.std.proofs.lemmas.List.{get_or-set_same, get_or-set_other, get_or-rep
 use Rattle.std.specs.declared.alloc.Global.{Global}
 use Rattle.std.specs.Vec.{with_items}
 use Rattle.std.proofs.lemmas.List.{with_items_is}
-use Rattle.av_clock.specs.Marked.{IsSet, IsClear, AreBlocked}
+use Rattle.av_clock.specs.Marked.{IsClear}
+use Rattle.av_clock.specs.inner.Marking.{IsSet, AreBlocked}
 
 never : true ≡ false → ⊥
 never e = cc

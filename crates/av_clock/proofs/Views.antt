@@ -28,7 +28,8 @@ use Rattle.av_net.proofs.Settles.{with_word, with_word_same, with_word_other, na
 use Rattle.av_clock.specs.Named.{named, AllFit}
 use Rattle.av_clock.specs.inner.Gates.{AreTaken, FitRegisters}
 use Rattle.av_clock.specs.Seen.{Seen, carried}
-use Rattle.av_clock.specs.Marked.{IsClear, AreHeld, ReadTheSame}
+use Rattle.av_clock.specs.Marked.{IsClear, AreHeld}
+use Rattle.av_clock.specs.inner.Marking.{ReadTheSame}
 use Rattle.av_clock.proofs.Held.{given_apart}
 use Rattle.av_clock.proofs.Marking.{none_clear}
 use Rattle.av_clock.proofs.Lookup.{look_at, look_set, look_zero, contains_at}

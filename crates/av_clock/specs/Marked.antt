@@ -1,45 +1,18 @@
--- Marks of drives and steps, and what holds of those that are not marked.
-use Rattle.std.specs.Prelude.{◌≡◌, ◌⊎◌, ℕ, ◌<◌, ◌/◌, ◌+◌, List, ◌++◌, length, take, slice_index, slice_index_or, Bool, true, false, Contains}
+-- What holds of drives and steps that are not marked.
+use Rattle.std.specs.Prelude.{◌≡◌, ℕ, ◌<◌, List, length, slice_index_or, Bool, true, false}
 use Rattle.av_net.specs.declared.netlist.Drive.{Drive}
 use Rattle.av_net.specs.declared.netlist.Step.{Step}
 use Rattle.av_net.specs.declared.netlist.Module.{Module}
-use Rattle.av_net.specs.Meaning.{Words, word_of, result_of}
-use Rattle.av_net.specs.Names.{given_names, targets_of, width_of}
+use Rattle.av_net.specs.Meaning.{word_of}
+use Rattle.av_net.specs.Names.{width_of}
 use Rattle.av_net.specs.Settled.{Holds}
-use Rattle.av_clock.specs.declared.marks.Marks.TheInside.{Inside}
 use Rattle.av_clock.specs.Named.{named}
-
--- the mark is set
-abbrev pub IsSet : List Bool → ℕ → Type 0
-IsSet marks k = slice_index_or marks k false ≡ true
 
 -- the mark is there, and clear
 abbrev pub IsClear : List Bool → ℕ → Type 0
 IsClear marks k = slice_index_or marks k true ≡ false
 
--- a block of 64 in which a mark is set is set itself
-pub record AreBlocked (c : Inside) : Type 0 where
-  pub count : length c.blocks.items ≡ length c.each.items / 64 + 1
-  pub blocked : (k : ℕ) → IsSet c.each.items k → IsSet c.blocks.items (k / 64)
-
 -- every drive that is not marked holds, and the register of every step that is not marked has its operand's word
 pub record AreHeld (m : Module) (words : List ℕ) (stale due : List Bool) : Type 0 where
   pub drives : (k : ℕ) (d : Drive) → k < length m.drives → IsClear stale k → Holds (width_of m) (named m words) (slice_index_or m.drives k d)
   pub steps : (k : ℕ) (d : Step) → k < length m.steps → IsClear due k → named m words (slice_index_or m.steps k d).register ≡ word_of (named m words) (slice_index_or m.steps k d).next
-
--- what is not marked now was not marked before, and reads the words that it read
-pub record ReadTheSame (m : Module) (words words' : List ℕ) (stale stale' due due' : List Bool) : Type 0 where
-  pub drives : (k : ℕ) (d : Drive) → k < length m.drives → IsClear stale' k
-      → IsClear stale k × (result_of (width_of m) (named m words') (slice_index_or m.drives k d).operation ≡ result_of (width_of m) (named m words) (slice_index_or m.drives k d).operation)
-  pub steps : (k : ℕ) (d : Step) → k < length m.steps → IsClear due' k
-      → IsClear due k × (word_of (named m words') (slice_index_or m.steps k d).next ≡ word_of (named m words) (slice_index_or m.steps k d).next)
-
--- no drive is marked for which this name is not known yet
-abbrev pub AreAhead : Module → List ℕ → List Bool → List Bool → Type 0
-AreAhead m name stale stale' =
-    (k : ℕ) → IsClear stale k → (Contains (given_names m ++ targets_of (take k m.drives)) name → ⊥) → IsClear stale' k
-
--- the first of these steps, as many as are counted, have these words beside them, and the register of any other has its word already
-pub record AreDue (m : Module) (v : Words) (word : ℕ → ℕ) (taken next : List ℕ) (count : ℕ) : Type 0 where
-  pub words : (j : ℕ) → j < count → slice_index next j ≡ word (slice_index taken j)
-  pub others : (i : ℕ) (d : Step) → i < length m.steps → ((j : ℕ) × (j < count) × (slice_index taken j ≡ i)) ⊎ (v (slice_index_or m.steps i d).register ≡ word i)

@@ -3,3 +3,4 @@ pub mod Found
 pub mod Resolver
 pub mod Circuit
 pub mod Readers
+pub mod Marking

@@ -7,7 +7,8 @@ ghost use Rattle.av_net.specs.Clocked.{Edge};
 ghost use Rattle.av_net.specs.Sound.{IsSound};
 ghost use Rattle.av_net.specs.Meaning.{word_of, EachOperand};
 ghost use Rattle.av_clock.specs.Named.{named, AllFit};
-ghost use Rattle.av_clock.specs.Marked.{IsSet, IsClear, AreHeld, ReadTheSame, AreAhead, AreDue};
+ghost use Rattle.av_clock.specs.Marked.{IsClear, AreHeld};
+ghost use Rattle.av_clock.specs.inner.Marking.{IsSet, ReadTheSame, AreAhead, AreDue};
 ghost use Rattle.av_clock.specs.inner.Readers.{IsOther};
 
 use crate::gate::{Assignment, FlipFlop};

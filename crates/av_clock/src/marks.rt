@@ -1,5 +1,6 @@
 ghost use Rattle.std.specs.Prelude.{◌≡◌, ◌<◌, ◌≤◌, ◌+◌, ℕ, length, replicate, slice_set, true, false, All, Contains, IfOk, IsTrue};
-ghost use Rattle.av_clock.specs.Marked.{IsSet, IsClear};
+ghost use Rattle.av_clock.specs.Marked.{IsClear};
+ghost use Rattle.av_clock.specs.inner.Marking.{IsSet};
 
 use av_base::Memory;
 use std::alloc::Global;
@@ -20,7 +21,7 @@ impl Model for Marks {
 
     ghost Value = { Items Bool };
 
-    ghost use Rattle.av_clock.specs.Marked.{AreBlocked};
+    ghost use Rattle.av_clock.specs.inner.Marking.{AreBlocked};
 
     ghost view = { λ m. m.each.items };
 

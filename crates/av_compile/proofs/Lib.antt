@@ -4,5 +4,6 @@ pub mod OneRefusal
 pub mod Pipelined
 mod OnlySolution
 mod Unscheduled
+mod TextProper
 mod Meant
 pub mod Promised

@@ -3,6 +3,7 @@ use Rattle.std.specs.Prelude.{◌≡◌, ℕ, List}
 use Rattle.av_base.specs.Tokens.{Token, IsText, start}
 use Rattle.av_tree.specs.Trees.{System}
 use Rattle.av_tree.specs.Grammar.{IsProgramText}
+use Rattle.av_tree.specs.Proper as text
 use Rattle.av_flat.specs.Trees.{FlatSystem}
 use Rattle.av_flat.specs.Proper.{IsProper}
 use Rattle.av_lex.specs.declared.fault.LexFault.{LexFault}
@@ -34,12 +35,14 @@ pub record Flattens (bytes : List ℕ) (words : List Size) (width : ℕ) (s : Fl
 abbrev pub HasNormalForm : FlatSystem → Type 0
 HasNormalForm s = (f : NormalFault) → normalised.IsFault s f → f ≡ normal.Memory
 
--- the bytes spell a system whose equations are proper with these sizes, and t is the normal form of its flat system
+-- the bytes spell a system whose equations are proper with these sizes, as they stand in the text and as they stand in its flat
+-- system, and t is the normal form of that
 pub record IsChecked (bytes : List ℕ) (words : List Size) (width : ℕ) (t : FlatSystem) : Type 0 where
   pub flat : FlatSystem
   pub flattens : Flattens bytes words width flat
   pub given : IsGiven flat t
   pub proper : IsProper flat
+  pub text_proper : text.IsProper (instance_of flattens.system words width)
 
 -- the first fault, each behind the steps that found none: of the bytes, of the tokens, with its place, of the names, of the
 -- pieces, of the points

@@ -45,7 +45,7 @@ pub fn checked(alloc: Global, bytes: &[u8], sizes: &[Size], width: Width) -> Res
     requires short { length bytes.now < 4294967295 }
     requires small { AreSmall sizes.now }
 
-    // What is answered is the normal form of what the bytes spell, and that is proper.
+    // What is answered is the normal form of what the bytes spell, and that is proper. So are the equations of the text itself.
     ensures found { IfOk result (λ to. IsChecked bytes.now sizes.now width.bits (view_system to)) }
 
     // A text is refused for its first fault, unless memory runs out.

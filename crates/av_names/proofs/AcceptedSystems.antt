@@ -18,7 +18,8 @@ use Rattle.av_names.specs.Arities.{arity, equation_arity, part_arity}
 use Rattle.av_names.specs.Equations.{equation_found, declaration_found, second_equation, defined, defines_input, no_equation}
 use Rattle.av_names.specs.Forms.{over}
 use Rattle.av_base.specs.declared.place.Place.{Place}
-use Rattle.av_names.specs.Found.{Found, at_option, first_found, first_place}
+use Rattle.av_names.specs.Found.{Found, first_found, first_place}
+use Rattle.av_names.specs.inner.AtOption.{at_option}
 use Rattle.av_names.specs.Parts.{Part, parts, equation_parts, arity_of}
 use Rattle.av_names.specs.Quantities as quantity
 use Rattle.av_names.specs.Quantities.{Counted, exceeds, index_lists, too_many_indices}

@@ -13,7 +13,8 @@ use Rattle.av_tree.specs.Domains.{variables}
 use Rattle.av_tree.specs.Counts.{Instance}
 use Rattle.av_flat.proofs.Sets.{equal}
 use Rattle.av_names.specs.Forms.{Context, over, nameless, names_or}
-use Rattle.av_names.specs.Found.{at_option, first_found, place_where}
+use Rattle.av_names.specs.Found.{first_found, place_where}
+use Rattle.av_names.specs.inner.AtOption.{at_option}
 use Rattle.av_names.specs.Parts.{Part, parts_of, parts_of_all}
 use Rattle.av_names.specs.Written.{Written, written_at}
 use Rattle.av_names.specs.Repetitions.{repeated_index, again, of_map}

@@ -7,7 +7,8 @@ use Rattle.av_tree.specs.declared.system.Equation.{Equation as EquationMade}
 use Rattle.av_tree.specs.Trees.{Text, System, Equation, view_equation, view_equations}
 use Rattle.av_tree.specs.Domains.{variables}
 use Rattle.av_names.specs.declared.part.Part.{Part as PartMade}
-use Rattle.av_names.specs.Found.{Found, sooner, first_found, at_option}
+use Rattle.av_names.specs.Found.{Found, sooner, first_found}
+use Rattle.av_names.specs.inner.AtOption.{at_option}
 use Rattle.av_tree.specs.Rows.{is_index}
 use Rattle.av_names.specs.Equations.{equation_found, declaration_found, second_equation}
 use Rattle.av_names.specs.Parts.{parts}

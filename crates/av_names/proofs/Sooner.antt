@@ -5,7 +5,8 @@ use Rattle.std.specs.List.{cons_option}
 use Rattle.std.proofs.lemmas.Bool.{ltb-true, lt-ltb}
 use Rattle.std.proofs.lemmas.Bool.Decides.{eqb_tells}
 use Rattle.av_base.specs.declared.place.Place.{Place}
-use Rattle.av_names.specs.Found.{is_before, sooner, first_of, at_option}
+use Rattle.av_names.specs.Found.{is_before, sooner, first_of}
+use Rattle.av_names.specs.inner.AtOption.{at_option}
 
 -- ---- places
 

@@ -20,7 +20,7 @@ use Rattle.av_tree.specs.declared.relation.Relation.TheVariants as relation
 use Rattle.av_tree.specs.Trees.{Text}
 use Rattle.av_tree.specs.Parts.{IsName, IsNumber}
 use Rattle.av_tree.specs.IndexGrammar.{IsNames, last_name, more_names, IsOptionalNames, no_names, some_names, IsTerm, number, name, number_name, number_times_name, name_times_number, IsTerms, terms_end, plus_term, minus_term, IsIndex, index, minus_index, IsIndices, last_index, more_indices, IsOptionalIndices, no_indices, some_indices, with_each, compared, IsSide, one_side, list_side, IsChain, last_side, more_sides, IsConstraint, constraint, IsConstraints, last_constraint, closed_constraint, more_constraints, IsConditions, no_bar, bar, conditions, IsDomain, domain, IsMap, mapping}
-use Rattle.av_names.specs.Texts.{IsShort}
+use Rattle.av_names.specs.inner.ShortSums.{IsShort}
 
 -- ---- tokens
 

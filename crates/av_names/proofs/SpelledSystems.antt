@@ -18,7 +18,8 @@ use Rattle.av_names.specs.Forms.{Context, over, nameless}
 use Rattle.av_names.specs.Parts.{Part, parts, parts_of, parts_of_all, equation_parts}
 use Rattle.av_names.specs.Written.{Written, written_at, written_declaration, all_written}
 use Rattle.av_names.specs.Accepted.{HasNoInequality}
-use Rattle.av_names.specs.Texts.{IsOfText, HasShortSides, IsShortWritten, HasShortSums}
+use Rattle.av_names.specs.Texts.{IsOfText}
+use Rattle.av_names.specs.inner.ShortSums.{HasShortSides, IsShortWritten, HasShortSums}
 use Rattle.av_names.proofs.Among.{Among, all_at, all_from, among_parts, among_source}
 use Rattle.av_names.proofs.Spelled.{Fits, without, IsFew, IsFewSides, tokens_good, tokens_few, names_fit, optional_names_fit, optional_indices_fit, domain_fits, map_fits}
 

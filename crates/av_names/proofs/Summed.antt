@@ -30,7 +30,7 @@ use Rattle.av_names.specs.inner.Sums.{of_index, of_row, numbers_of, limit_of, gr
 use Rattle.av_names.specs.declared.part.Part.{Part as PartMade}
 use Rattle.av_names.specs.Parts.{parts}
 use Rattle.av_names.specs.inner.Seen.{part}
-use Rattle.av_names.specs.Texts.{IsShortWritten, HasShortSums}
+use Rattle.av_names.specs.inner.ShortSums.{IsShortWritten, HasShortSums}
 use Rattle.av_names.specs.Written.{Written, all_written, written_at, written_sizes, written_declaration}
 use Rattle.av_tree.specs.declared.system.Declaration.{Declaration}
 use Rattle.av_tree.specs.Domains.{variables}

@@ -12,7 +12,8 @@ use Rattle.av_tree.specs.Domains.{variables, given_or}
 use Rattle.av_tree.specs.Rows.{is_index}
 use Rattle.av_names.specs.declared.part.Part.{Part as PartMade}
 use Rattle.av_names.specs.Forms.{over}
-use Rattle.av_names.specs.Found.{Found, sooner, first_of, first_found, found_where, at_option}
+use Rattle.av_names.specs.Found.{Found, sooner, first_of, first_found, found_where}
+use Rattle.av_names.specs.inner.AtOption.{at_option}
 use Rattle.av_names.specs.Parts.{Part, parts, parts_of, equation_parts}
 use Rattle.av_names.specs.Quantities.{Counted, exceeds, of_declaration, of_equation, of_part, too_many_indices, nodes_of, too_many_nodes}
 use Rattle.av_names.specs.inner.Seen.{part, names_at, SameNames}

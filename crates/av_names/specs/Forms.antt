@@ -1,5 +1,5 @@
--- Index expressions, maps and domains as affine forms: the sizes put in, like terms added, all in whole numbers without
--- an end (Mauras 1989; Wilde's reports on Alpha).
+-- Index expressions, maps and domains as affine forms: the sizes put in, like terms added, all in unbounded whole
+-- numbers (Mauras 1989; Wilde's reports on Alpha).
 use Rattle.std.specs.Prelude.{ℕ, ℤ, pos, List, [], ◌∷◌, map, length, nat_eq, slice_index_or, if◌then◌else◌}
 use Rattle.std.specs.List.{flat_map, range_with_len}
 use Rattle.av_affine.specs.declared.form.Form.{Form}

@@ -35,8 +35,3 @@ found_where test name place = if test then Some (record { name = name; place = p
 
 abbrev pub place_where : Bool → Place → Option Place
 place_where test place = if test then Some place else None
-
--- what a rule finds at something that may not be there
-abbrev pub at_option : {A B : Type 0} → (B → Option A) → Option B → Option A
-at_option rule None = None
-at_option rule (Some x) = rule x

@@ -2,3 +2,5 @@ pub mod Seen
 pub mod Fitting
 pub mod Sums
 pub mod Building
+pub mod ShortSums
+pub mod AtOption

@@ -9,7 +9,7 @@ ghost use Rattle.av_names.specs.Forms as forms;
 ghost use Rattle.av_names.specs.Forms.{form_of, form_of_row, rows_over};
 ghost use Rattle.av_names.specs.inner.Seen.{context as seen};
 ghost use Rattle.av_names.specs.inner.Sums.{sizes_in, HasSmallValues};
-ghost use Rattle.av_names.specs.Texts.{AreShort, HasShortTerms};
+ghost use Rattle.av_names.specs.inner.ShortSums.{AreShort, HasShortTerms};
 
 use crate::part::Context;
 use crate::sums::{coefficient, coefficient_between, constant, constant_between};

@@ -13,7 +13,8 @@ ghost use Rattle.av_names.specs.inner.Seen.{part};
 ghost use Rattle.av_names.specs.SizeWords.{sizes_of};
 ghost use Rattle.av_names.specs.inner.Sums as seen;
 ghost use Rattle.av_names.specs.inner.Sums.{sizes_in, HasSmallValues, limit_of};
-ghost use Rattle.av_names.specs.Texts.{AreShort, AreSmall, HasShortTerms, HasShortSides, IsOfText, IsShortWritten};
+ghost use Rattle.av_names.specs.Texts.{AreSmall, IsOfText};
+ghost use Rattle.av_names.specs.inner.ShortSums.{AreShort, HasShortTerms, HasShortSides, IsShortWritten};
 ghost use Rattle.av_names.specs.Written.{all_written};
 
 use crate::Size;

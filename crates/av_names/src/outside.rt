@@ -6,7 +6,8 @@ ghost use Rattle.av_tree.specs.Points as points;
 ghost use Rattle.av_tree.specs.Trees.{view_system};
 ghost use Rattle.av_names.specs.SizeWords as words;
 ghost use Rattle.av_names.specs.inner.Sums.{sizes_in, HasSmallValues};
-ghost use Rattle.av_names.specs.Texts.{AreShort, AreSmall, HasShortSides, IsOfText};
+ghost use Rattle.av_names.specs.Texts.{AreSmall, IsOfText};
+ghost use Rattle.av_names.specs.inner.ShortSums.{AreShort, HasShortSides};
 
 use crate::Size;
 use crate::size_table::{size_at, size_table};

@@ -7,7 +7,7 @@ ghost use Rattle.std.specs.Prelude.{◌≡◌, ◌≤◌, ◌<◌, ◌^◌, ◌*
 ghost use Rattle.av_tree.specs.Points as points;
 ghost use Rattle.av_tree.specs.Rows as rows;
 ghost use Rattle.av_names.specs.inner.Sums.{sizes_in, HasSmallValues};
-ghost use Rattle.av_names.specs.Texts.{AreShort};
+ghost use Rattle.av_names.specs.inner.ShortSums.{AreShort};
 
 use crate::size_table::value_of;
 use av_base::Name;

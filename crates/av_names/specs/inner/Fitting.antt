@@ -11,7 +11,7 @@ use Rattle.av_tree.specs.Trees.{Text, Expression, Expressions, reference, consta
 use Rattle.av_tree.specs.Points.{Sizes}
 use Rattle.av_tree.specs.Rows.{compared}
 use Rattle.av_names.specs.Forms.{Context, over, nameless, names_or, form_of, form_of_row}
-use Rattle.av_names.specs.Texts.{HasShortTerms, HasShortSides}
+use Rattle.av_names.specs.inner.ShortSums.{HasShortTerms, HasShortSides}
 
 abbrev pub FitsForm : Sizes → List Text → IndexExpr → Type 0
 FitsForm sizes names e = HasShortTerms e × IsWithinLimits (form_of sizes names e)

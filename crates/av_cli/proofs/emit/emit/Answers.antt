@@ -2,7 +2,7 @@ use Rattle.std.proofs.Common.{refl, subst, List}
 use Rattle.av_names.specs.declared.size.Size.{Size}
 use Rattle.av_compile.specs.Mapped.{IsUnmapped}
 use Rattle.av_compile.specs.Headline.{Headline}
-use Rattle.av_cli.specs.Emits.{GivesEmitWith}
+use Rattle.av_cli.specs.inner.WithWords.{GivesEmitWith}
 use Rattle.av_cli.proofs.Tabling.{table_refused}
 use Rattle.av_cli.proofs.Emitting.{emit_given}
 use Rattle.av_cli.proofs.emit.emit.Goals as goal

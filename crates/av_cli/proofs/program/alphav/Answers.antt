@@ -1,6 +1,6 @@
 use Rattle.std.proofs.Common.{◌≡◌, ℕ, List, Option, Err, true, false, ap, refl, sym, inr}
 use Rattle.av_cli.specs.Commands.{AreRead}
-use Rattle.av_cli.specs.CommandsSeen.{takes_input}
+use Rattle.av_cli.specs.inner.CommandsSeen.{takes_input}
 use Rattle.av_cli.specs.Program.{IsComplete}
 use Rattle.av_cli.specs.declared.status.Status.{Status}
 use Rattle.av_cli.specs.declared.status.Status.TheVariants.{Refused, Words}

@@ -1,7 +1,7 @@
 use Rattle.std.proofs.Common.{subst}
 use Rattle.av_cli.specs.declared.words.Command.{Command}
 use Rattle.av_cli.specs.declared.words.Command.TheVariants.{Check, Schedule, Table, Emit, Run, Trace, Sim, Demo}
-use Rattle.av_cli.specs.CommandsSeen.{Are}
+use Rattle.av_cli.specs.inner.CommandsSeen.{Are}
 use Rattle.av_cli.proofs.Answered.{by_command}
 use Rattle.av_cli.proofs.Checking.{check_answered}
 use Rattle.av_cli.proofs.Scheduling.{schedule_answered}

@@ -1,7 +1,7 @@
 use Rattle.std.proofs.Common.{refl}
 use Rattle.av_cli.specs.Sims.{no_mark}
 use Rattle.av_cli.specs.inner.Written.{refused}
-use Rattle.av_cli.proofs.Simulating.{module_answered, text_refused}
+use Rattle.av_cli.proofs.Simulating.{module_answered, verilog_refused}
 use Rattle.av_cli.proofs.sim.sim.Goals as goal
 
 pub sim_module-requires-clause-sound : goal.sim_module-requires-clause-sound
@@ -15,5 +15,5 @@ returns-in-Ok g c = module_answered c.args.bytes.now c.in-Some.parts.text.now c.
 
 pub returns-in-Err : goal.returns-in-Err
 returns-in-Err g c =
-    text_refused c.args.bytes.now c.in-Some.parts.text.now c.in-Some.parts.rest.now c.in-Some.parts.first_line c.in-Err.fault c.in-Some.ensures.some (c.in-Err.ensures.fault c.in-Err.fault refl)
+    verilog_refused c.args.bytes.now c.in-Some.parts.text.now c.in-Some.parts.rest.now c.in-Some.parts.first_line c.in-Err.fault c.in-Some.ensures.some (c.in-Err.ensures.fault c.in-Err.fault refl)
     c.put_verilog_refusal.ensures.memory c.put_verilog_refusal.ensures.refused

@@ -2,7 +2,7 @@ use Rattle.std.proofs.Common.{refl, subst, List}
 use Rattle.av_names.specs.declared.size.Size.{Size}
 use Rattle.av_compile.specs.Scheduled.{HasOneSolutionEach}
 use Rattle.av_compile.specs.Mapped.{IsMapped, IsUnmapped}
-use Rattle.av_cli.specs.Tables.{GivesTableWith}
+use Rattle.av_cli.specs.inner.WithWords.{GivesTableWith}
 use Rattle.av_cli.proofs.Tabling.{table_refused, table_given}
 use Rattle.av_cli.proofs.table.table.Goals as goal
 

@@ -1,4 +1,4 @@
-use Rattle.av_cli.specs.CommandsSeen.{seen}
+use Rattle.av_cli.specs.inner.CommandsSeen.{seen}
 use Rattle.av_cli.proofs.OptionWords.{if_none}
 use Rattle.av_cli.proofs.DemoPlaces.{said_behind}
 use Rattle.av_cli.proofs.words.demo_at.Goals as goal

@@ -12,7 +12,19 @@ use Rattle.av_compile.specs.Refusals.{of_normal, of_check}
 use Rattle.av_compile.proofs.FirstFaults.{told, memory_only}
 use Rattle.av_compile.proofs.OneChain.{one_flat}
 use Rattle.av_compile.proofs.OneRefusal.{caused}
+use Rattle.av_compile.proofs.TextProper.{text_is_proper}
 use Rattle.av_compile.proofs.front.checked.Goals as goal
+
+-- ---- what is found
+
+pub returns-clause-found : goal.returns-clause-found
+returns-clause-found c = record {
+  flat = view_system c.in_ok-flat.flat;
+  flattens = c.in_ok-flat.ensures.found;
+  given = c.in_ok-normal.ensures.gives;
+  proper = c.in_ok-check.ensures.proper;
+  text_proper = text_is_proper c.args.bytes.now c.args.sizes.now c.args.width.bits (view_system c.in_ok-flat.flat) c.requires.short c.in_ok-flat.ensures.found c.in_ok-check.ensures.proper;
+}
 
 -- ---- the first fault
 
@@ -78,10 +90,5 @@ returns-in_err-check-clause-cause c =
 
 pub returns-clause-cause : goal.returns-clause-cause
 returns-clause-cause c =
-    let found : IsChecked c.args.bytes.now c.args.sizes.now c.args.width.bits (view_system c.in_ok-normal.normal) = record {
-      flat = view_system c.in_ok-flat.flat;
-      flattens = c.in_ok-flat.ensures.found;
-      given = c.in_ok-normal.ensures.gives;
-      proper = c.in_ok-check.ensures.proper;
-    } in
+    let found : IsChecked c.args.bytes.now c.args.sizes.now c.args.width.bits (view_system c.in_ok-normal.normal) = returns-clause-found c in
     caused c.args.bytes.now c.args.sizes.now c.args.width.bits (Ok c.in_ok-normal.normal) found (λ f is. absurd cc)

@@ -3,7 +3,7 @@ use Rattle.std.proofs.lemmas.List.Elements.{All-get_or}
 use Rattle.av_names.specs.Found.{sooner, first_of}
 use Rattle.av_names.specs.Quantities.{exceeds}
 use Rattle.av_names.specs.inner.Sums.{sizes_in, limit_of, numbers_of, counted, written}
-use Rattle.av_names.specs.Texts.{IsShortWritten}
+use Rattle.av_names.specs.inner.ShortSums.{IsShortWritten}
 use Rattle.av_names.proofs.Sooner.{first_more, first_whole}
 use Rattle.av_names.proofs.Summed.{great_is}
 use Rattle.av_names.proofs.measure.great.Goals as goal

@@ -4,7 +4,7 @@ use Rattle.av_tree.specs.declared.domain.Constraint.{Constraint}
 use Rattle.av_tree.specs.Domains as domains
 use Rattle.av_tree.specs.Points.{Sizes}
 use Rattle.av_tree.specs.Trees.{view_system}
-use Rattle.av_names.specs.Texts.{IsShortWritten, HasShortSides}
+use Rattle.av_names.specs.inner.ShortSums.{IsShortWritten, HasShortSides}
 use Rattle.av_names.specs.Written.{all_written, written_sizes}
 use Rattle.av_names.proofs.Among.{all_at}
 use Rattle.av_names.proofs.SpelledSystems.{short_sums}

@@ -4,7 +4,7 @@ use Rattle.av_names.specs.Found.{first_of}
 use Rattle.av_names.specs.inner.Sums.{counted}
 use Rattle.av_names.specs.Quantities as rules
 use Rattle.av_tree.specs.Trees.{view_equation}
-use Rattle.av_names.specs.Found.{at_option}
+use Rattle.av_names.specs.inner.AtOption.{at_option}
 use Rattle.av_names.proofs.quantities_in.indices_of_equations.Given as goal
 
 abbrev pub invariant-loop-equation : goal.invariant-loop-equation

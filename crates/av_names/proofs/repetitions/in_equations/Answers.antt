@@ -1,7 +1,8 @@
 use Rattle.std.proofs.Common.{ap, ◌∙◌}
 use Rattle.std.specs.Prelude.{option_map}
 use Rattle.av_tree.specs.Trees.{view_equation}
-use Rattle.av_names.specs.Found.{sooner, at_option}
+use Rattle.av_names.specs.Found.{sooner}
+use Rattle.av_names.specs.inner.AtOption.{at_option}
 use Rattle.av_names.specs.Repetitions as repeats
 use Rattle.av_names.specs.inner.Seen.{found}
 use Rattle.av_names.proofs.Sooner.{first_more}

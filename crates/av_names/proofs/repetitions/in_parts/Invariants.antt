@@ -1,6 +1,7 @@
 use Rattle.std.proofs.Common.{◌≡◌, take}
 use Rattle.std.specs.Prelude.{option_map}
-use Rattle.av_names.specs.Found.{at_option, first_found}
+use Rattle.av_names.specs.Found.{first_found}
+use Rattle.av_names.specs.inner.AtOption.{at_option}
 use Rattle.av_names.specs.Repetitions as repeats
 use Rattle.av_names.specs.inner.Seen.{found, part}
 use Rattle.av_names.proofs.repetitions.in_parts.Given as goal

@@ -1,7 +1,8 @@
 use Rattle.std.proofs.Common.{refl, ap, ◌∙◌}
 use Rattle.std.specs.Prelude.{option_map}
 use Rattle.av_tree.specs.Trees.{view_system, view_equation}
-use Rattle.av_names.specs.Found.{sooner, at_option, first_found}
+use Rattle.av_names.specs.Found.{sooner, first_found}
+use Rattle.av_names.specs.inner.AtOption.{at_option}
 use Rattle.av_names.specs.Repetitions.{repeated_index, of_declaration, of_equation, of_part}
 use Rattle.av_names.specs.inner.Seen.{found, part}
 use Rattle.av_names.proofs.Lists.{repeated_is}

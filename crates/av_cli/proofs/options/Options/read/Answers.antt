@@ -1,6 +1,6 @@
 use Rattle.std.proofs.Common.{sym, subst, drop}
 use Rattle.av_cli.specs.Commands.{Options, Say}
-use Rattle.av_cli.specs.CommandsSeen.{seen}
+use Rattle.av_cli.specs.inner.CommandsSeen.{seen}
 use Rattle.av_cli.proofs.OptionWords.{if_none, width_steps, width_said, box_steps, box_said}
 use Rattle.av_cli.proofs.options.Options.read.Goals as goal
 

@@ -1,7 +1,7 @@
 use Rattle.std.proofs.Common.{◌≡◌, [], drop, arith}
 use Rattle.std.proofs.lemmas.List.{drop_all}
 use Rattle.av_cli.specs.Commands.{nothing}
-use Rattle.av_cli.specs.CommandsSeen.{seen}
+use Rattle.av_cli.specs.inner.CommandsSeen.{seen}
 use Rattle.av_cli.proofs.options.Options.read_after.Goals as goal
 
 pub returns-clause-read : goal.returns-clause-read

@@ -1,6 +1,6 @@
 use Rattle.std.proofs.Common.{◌≤◌, ◌↔◌, ◌-◌, length, drop}
 use Rattle.av_cli.specs.Commands.{Options, Say}
-use Rattle.av_cli.specs.CommandsSeen.{seen}
+use Rattle.av_cli.specs.inner.CommandsSeen.{seen}
 use Rattle.av_cli.proofs.options.Options.read_after.Given as goal
 
 abbrev pub invariant-loop-at : goal.invariant-loop-at

@@ -4,7 +4,7 @@ ghost use Rattle.std.specs.Prelude.{◌≡◌, ◌++◌, codes, decimal, OnOk, O
 ghost use Rattle.av_base.specs.Outside.{Adds, AddsPrefix, HasRisen};
 ghost use Rattle.av_page.specs.Pages.{Puts};
 ghost use Rattle.av_cli.specs.Refusals.{refusal_line, place_text};
-ghost use Rattle.av_cli.specs.SystemRefusals.{quantity_text, named_point, blame_text, system_reason};
+ghost use Rattle.av_cli.specs.AlphaRefusals.{quantity_text, named_point, blame_text, alpha_reason};
 
 use crate::refusals::{put_name, put_place};
 use av_base::{Name, Place, Point, Sink, WriteFault};
@@ -87,8 +87,8 @@ fn put_limit<K: Sink>(page: &mut Page, sink: &mut K, kind: Quantity, amount: u12
     put_amount(page, sink, " ", amount);
 }
 
-fn put_reason<K: Sink>(page: &mut Page, sink: &mut K, refusal: &Refusal)
-    ensures { Puts (K.state sink.old) (K.state sink.new) page.old page.new (system_reason refusal.now) }
+fn put_alpha_reason<K: Sink>(page: &mut Page, sink: &mut K, refusal: &Refusal)
+    ensures { Puts (K.state sink.old) (K.state sink.new) page.old page.new (alpha_reason refusal.now) }
 {
     match refusal {
         Refusal::BadByte(place) => put_place(page, sink, "bad byte ", *place),
@@ -138,17 +138,17 @@ fn put_reason<K: Sink>(page: &mut Page, sink: &mut K, refusal: &Refusal)
 }
 
 /// Writes the line of the refusal of an Alpha text.
-pub(crate) fn write_system_refusal<K: Sink>(
+pub(crate) fn write_alpha_refusal<K: Sink>(
     refusal: &Refusal,
     sink: &mut K,
 ) -> Result<(), WriteFault>
-    ensures added { OnOk result (Adds (K.state sink.old).held (K.state sink.new).held (refusal_line (system_reason refusal.now))) }
+    ensures added { OnOk result (Adds (K.state sink.old).held (K.state sink.new).held (refusal_line (alpha_reason refusal.now))) }
     ensures fault { IsErr result → HasRisen (K.state sink.old).faults (K.state sink.new).faults }
-    ensures front { OnErr result (AddsPrefix (K.state sink.old).held (K.state sink.new).held (refusal_line (system_reason refusal.now))) }
+    ensures front { OnErr result (AddsPrefix (K.state sink.old).held (K.state sink.new).held (refusal_line (alpha_reason refusal.now))) }
 {
     let mut page = Page::new();
     page.put(sink, "refused: ");
-    put_reason(&mut page, sink, refusal);
+    put_alpha_reason(&mut page, sink, refusal);
     page.put(sink, "\n");
     page.finish(sink)
 }

@@ -1,7 +1,7 @@
 use Rattle.std.proofs.Common.{append_assoc, codes, ◌++◌, ◌∙◌, ap}
 use Rattle.av_net.specs.Texts.{point_text}
 use Rattle.av_page.proofs.Putting.{Puts-more, Puts-is}
-use Rattle.av_cli.proofs.system_refusals.put_named_point.Goals as goal
+use Rattle.av_cli.proofs.alpha_refusals.put_named_point.Goals as goal
 
 pub returns : goal.returns
 returns g c =

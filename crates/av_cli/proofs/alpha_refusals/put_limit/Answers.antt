@@ -1,7 +1,7 @@
 use Rattle.std.proofs.Common.{◌++◌, ◌∙◌, ap, append_assoc, codes, sym}
 use Rattle.std.specs.Prelude.{decimal}
 use Rattle.av_page.proofs.Putting.{Puts-more, Puts-is}
-use Rattle.av_cli.proofs.system_refusals.put_limit.Goals as goal
+use Rattle.av_cli.proofs.alpha_refusals.put_limit.Goals as goal
 
 pub returns : goal.returns
 returns g c =

@@ -1,0 +1,46 @@
+-- What commands refuse and write, with the words at hand that give the sizes.
+use Rattle.std.specs.Prelude.{ℕ, List}
+use Rattle.av_names.specs.declared.size.Size.{Size}
+use Rattle.av_cli.specs.Commands.{GiveSizes}
+use Rattle.av_cli.specs.Checks.{RefusesCheck, GivesCheck}
+use Rattle.av_cli.specs.Schedules.{RefusesSchedule, GivesSchedule}
+use Rattle.av_cli.specs.Tables.{RefusesTable, GivesTable}
+use Rattle.av_cli.specs.Emits.{GivesEmit}
+
+pub record RefusesWith (words : List (List ℕ)) (bits : ℕ) (bytes reason : List ℕ) : Type 0 where
+  pub sizes : List Size
+  pub give : GiveSizes words sizes
+  pub refuses : RefusesCheck sizes bits bytes reason
+
+pub record GivesWith (words : List (List ℕ)) (bits : ℕ) (bytes out : List ℕ) : Type 0 where
+  pub sizes : List Size
+  pub give : GiveSizes words sizes
+  pub gives : GivesCheck sizes bits bytes out
+
+pub record RefusesScheduleWith (words : List (List ℕ)) (bits box : ℕ) (bytes reason : List ℕ) : Type 0 where
+  pub sizes : List Size
+  pub give : GiveSizes words sizes
+  pub refuses : RefusesSchedule sizes bits box bytes reason
+
+pub record GivesScheduleWith (words : List (List ℕ)) (bits box : ℕ) (bytes out : List ℕ) : Type 0 where
+  pub sizes : List Size
+  pub give : GiveSizes words sizes
+  pub gives : GivesSchedule sizes bits box bytes out
+
+pub record RefusesTableWith (words : List (List ℕ)) (bits box : ℕ) (bytes reason : List ℕ) : Type 0 where
+  pub sizes : List Size
+  pub give : GiveSizes words sizes
+  pub refuses : RefusesTable sizes bits box bytes reason
+
+pub record GivesTableWith (words : List (List ℕ)) (bits box : ℕ) (bytes out : List ℕ) : Type 0 where
+  pub sizes : List Size
+  pub give : GiveSizes words sizes
+  pub gives : GivesTable sizes bits box bytes out
+
+abbrev pub RefusesEmitWith : List (List ℕ) → ℕ → ℕ → List ℕ → List ℕ → Type 0
+RefusesEmitWith words bits box bytes reason = RefusesTableWith words bits box bytes reason
+
+pub record GivesEmitWith (words : List (List ℕ)) (bits box : ℕ) (bytes out : List ℕ) : Type 0 where
+  pub sizes : List Size
+  pub give : GiveSizes words sizes
+  pub gives : GivesEmit sizes bits box bytes out
