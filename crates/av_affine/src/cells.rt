@@ -95,7 +95,7 @@ fn completed_row(vector: &[i64], pivot: &Pivot, row: usize) -> [i64; 4]
     [first, second, third, fourth]
 }
 
-// The completed matrix.
+/// The completed matrix.
 pub(crate) fn completed(vector: &[i64], pivot: &Pivot) -> Square
     requires few { length vector.now ≤ 4 }
     requires pivot { IsAmong (length vector.now) pivot.now }
@@ -242,7 +242,7 @@ fn inverse_row(vector: &[i64], pivot: &Pivot, row: usize) -> [i64; 4]
     [first, second, third, fourth]
 }
 
-// The inverse of the completed matrix.
+/// The inverse of the completed matrix.
 pub(crate) fn inverted(vector: &[i64], pivot: &Pivot) -> Square
     requires few { length vector.now ≤ 4 }
     requires small { AtMost 4 vector.now }

@@ -52,7 +52,7 @@ fn coefficient(form: &Form, inner: &Map, index: usize) -> i64
     }
 }
 
-// A form of what the inner map gives, as a form of the inner map's indices.
+/// A form of what the inner map gives, as a form of the inner map's indices.
 pub(crate) fn inward(form: &Form, inner: &Map) -> Form
     requires form { IsWithinLimits form.now }
     requires inner { All IsWithinLimits inner.now.rows }
@@ -71,7 +71,7 @@ pub(crate) fn inward(form: &Form, inner: &Map) -> Form
     }
 }
 
-// First `inner`, then `outer`.
+/// First `inner`, then `outer`.
 pub(crate) fn composed(outer: &Map, inner: &Map) -> Map
     requires outer { All IsWithinLimits outer.now.rows }
     requires inner { All IsWithinLimits inner.now.rows }

@@ -42,7 +42,7 @@ impl Form {
     }
 }
 
-// The sum of the products of coefficients and numbers.
+/// The sum of the products of coefficients and numbers.
 pub(crate) fn products(coef: [i64; 4], numbers: &[i64]) -> i64
     requires coef { AtMost 1024 coef }
     requires numbers { AtMost (2 ^ 20) numbers.now }

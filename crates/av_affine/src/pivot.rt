@@ -15,7 +15,7 @@ pub(crate) enum Pivot {
     Two(usize, usize),
 }
 
-// The number at a place among all but one.
+/// The number at a place among all but one.
 pub(crate) fn nth_other(left: usize, place: usize) -> usize
     requires { place < 4 }
     ensures value { result ≡ skip left place }
@@ -45,8 +45,8 @@ fn last_of(numbers: &[i64], sizes: &[u64]) -> Option<usize>
     None
 }
 
-// The pivot of a primitive vector with small entries. Without an entry 1 or -1 it has one that is
-// odd and one that no 3 divides.
+/// The pivot of a primitive vector with small entries. Without an entry 1 or -1 it has one that is
+/// odd and one that no 3 divides.
 pub(crate) fn pivot_of(vector: &[i64]) -> Pivot
     requires primitive { IsGcdOf vector.now 1 }
     requires small { AtMost 4 vector.now }

@@ -14,7 +14,7 @@ pub(crate) struct Primitive {
     pub(crate) gcd: i64,
 }
 
-// The primitive vector of a vector with small entries.
+/// The primitive vector of a vector with small entries.
 pub(crate) fn primitive_of(vector: &[i64]) -> Primitive
     requires few { length vector.now ≤ 4 }
     requires not_zero { Any (λ x. x ≢ pos 0) vector.now }

@@ -118,8 +118,8 @@ fn check_variables(alloc: Global, vars: &[Var], kept: &[Var]) -> Result<(), Chec
     Ok(())
 }
 
-// Whether each declared point has just one word, where the normal form is at hand. Its pieces are compared as sets of rows,
-// and no point is looked at but the one that is answered.
+/// Whether each declared point has just one word, where the normal form is at hand. Its pieces are compared as sets of rows,
+/// and no point is looked at but the one that is answered.
 pub(crate) fn check_normal(alloc: Global, flat: &Flat, normal: &Flat) -> Result<(), CheckFault>
     requires well_formed { IsWellFormed (view_system flat.now) }
     requires ends { (name : Text) → HasUnbounded (view_system flat.now) name → ⊥ }

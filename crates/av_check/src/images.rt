@@ -24,8 +24,8 @@ fn composed(own: &Map, outer: &Map) -> Map
     }
 }
 
-// The image under a map that stands under others. Composed maps are within their limits, where images of images
-// need not be.
+/// The image under a map that stands under others. Composed maps are within their limits, where images of images
+/// need not be.
 pub(crate) fn image_under(own: &Map, under: &[Map], z: &Point) -> Point
     requires stands { IsImage own.now under.now z.now }
     requires small { AtMost 4095 z.now }
@@ -39,7 +39,7 @@ pub(crate) fn image_under(own: &Map, under: &[Map], z: &Point) -> Point
     whole.apply(z)
 }
 
-// The point at which a tree stands under maps.
+/// The point at which a tree stands under maps.
 pub(crate) fn point_under(under: &[Map], z: &Point) -> Point
     requires stands { IsReached under.now z.now }
     requires small { AtMost 4095 z.now }

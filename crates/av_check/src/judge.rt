@@ -115,7 +115,7 @@ fn judge_piece(alloc: Global, vars: &[Var], piece: &Piece, z: &Point) -> Result<
     }
 }
 
-// What a variable's right side has.
+/// What a variable's right side has.
 pub(crate) fn judge_pieces(
     alloc: Global,
     vars: &[Var],

@@ -35,7 +35,7 @@ fn least_between(
     Ok(lesser(shared, left))
 }
 
-// The least point of the domain that not just one of the sets has.
+/// The least point of the domain that not just one of the sets has.
 pub(crate) fn least_miscovered(
     alloc: Global,
     domain: &Poly,

@@ -31,7 +31,7 @@ fn lesser_point(some: Point, other: Point) -> Point
     }
 }
 
-// The one of two points, where there are any, that comes first.
+/// The one of two points, where there are any, that comes first.
 pub(crate) fn lesser(some: Option<Point>, other: Option<Point>) -> Option<Point>
     ensures { result ≡ first_of some other }
 {

@@ -100,7 +100,7 @@ fn least_of_parts(dim: u8, extent: &Bounds, parts: &[Poly]) -> Option<Point>
     least
 }
 
-// The least point of the domain that no set has.
+/// The least point of the domain that no set has.
 pub(crate) fn least_left(
     alloc: Global,
     extent: &Bounds,

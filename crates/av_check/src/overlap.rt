@@ -58,7 +58,7 @@ fn least_with_others(
     Ok(least)
 }
 
-// The least point of the domain that two sets or more have.
+/// The least point of the domain that two sets or more have.
 pub(crate) fn least_overlap(
     alloc: Global,
     domain: &Poly,

@@ -10,7 +10,7 @@ use crate::opposed::are_contrary;
 use av_base::Point;
 use av_poly::{Bounds, Poly};
 
-// The least point of a set that has none outside the box.
+/// The least point of a set that has none outside the box.
 pub(crate) fn least_point(set: &Poly, extent: &Bounds) -> Option<Point>
     requires dim { set.now.dim ≤ 4 }
     requires low { AtMost 4095 extent.now.low }

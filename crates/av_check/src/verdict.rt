@@ -29,7 +29,7 @@ pub(crate) enum Verdict {
     Missing(Option<Blame>),
 }
 
-// What two parts have of which both are needed: what the first has where it has no word, else what the other has.
+/// What two parts have of which both are needed: what the first has where it has no word, else what the other has.
 pub(crate) fn both(first: Verdict, other: Verdict) -> Verdict
     ensures { (m n : ℕ) (a b : Option Blamed) → IsOf m a first → IsOf n b other → IsOf (m * n) (where_none m a b) result }
 {
@@ -49,7 +49,7 @@ fn earlier(first: Option<Blame>, other: Option<Blame>) -> Option<Blame>
     }
 }
 
-// What two branches have of which either will do.
+/// What two branches have of which either will do.
 pub(crate) fn either(first: Verdict, other: Verdict) -> Verdict
     ensures { (m n : ℕ) (a b : Option Blamed) → IsOf m a first → IsOf n b other → IsOf (m + n) (or_else a b) result }
 {

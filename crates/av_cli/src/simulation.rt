@@ -49,6 +49,7 @@ fn header_ports(alloc: Global, of: &Module) -> Result<List<Port>, Memory>
     Ok(ports)
 }
 
+/// The targets of the drives, in order.
 pub(crate) fn targets(alloc: Global, drives: &[Drive]) -> Result<Places<'_>, Memory>
     requires { AreDistinct (targets_of drives.now) }
     ensures { IfOk result (λ targets. targets ≡ targets_of drives.now) }
@@ -87,6 +88,7 @@ fn wires(alloc: Global, of: &Module) -> Result<List<u32>, Memory>
     Ok(wires)
 }
 
+/// So many words that are 0.
 pub(crate) fn zeros(alloc: Global, count: usize) -> Result<List<u64>, Memory>
     ensures { IfOk result (λ words. length words ≡ count) }
 {

@@ -45,6 +45,7 @@ impl<'a> Model for Circuit<'a> {
 impl<'a> Circuit<'a> {
     ghost use Rattle.av_clock.specs.inner.Gates.{AreTaken, FitRegisters};
 
+    /// The circuit of a sound module, with its names resolved.
     pub(crate) fn new(alloc: Global, of: &'a Module) -> Result<Circuit<'a>, Memory>
         requires { IsSound of.now }
         ensures { IfOk result (λ circuit. circuit ≡ of.now) }

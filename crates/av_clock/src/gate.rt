@@ -59,6 +59,7 @@ pub(crate) struct FlipFlop {
 impl Reading {
     ghost use Rattle.av_clock.specs.inner.Gates.{reading_word, IsWithin};
 
+    /// The word that it gives where the words of the module are these.
     #[inline(always)]
     pub(crate) fn word(self, words: &[u64]) -> u64
         requires { IsWithin (length words.now) self }
@@ -74,6 +75,7 @@ impl Reading {
 impl Gate {
     ghost use Rattle.av_clock.specs.inner.Gates.{gate_word, CanTake};
 
+    /// The word that it gives where the words of the module are these.
     #[inline(always)]
     pub(crate) fn word(&self, words: &[u64]) -> u64
         requires { CanTake words.now self.now }

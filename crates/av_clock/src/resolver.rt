@@ -46,6 +46,7 @@ impl<'a> Resolver<'a> {
     ghost use Rattle.av_clock.specs.inner.Gates.{IsRead, IsResolved, AreAssigned, AreStepped};
     ghost use Rattle.av_clock.specs.inner.Readers.{HaveDrives, HaveSteps};
 
+    /// The resolver of a sound module.
     pub(crate) fn new(alloc: Global, of: &'a Module) -> Result<Resolver<'a>, Memory>
         requires { IsSound of.now }
         ensures { IfOk result (λ resolver. resolver ≡ of.now) }
@@ -62,6 +63,7 @@ impl<'a> Resolver<'a> {
         Ok(Resolver { of, table })
     }
 
+    /// The place and the width of a name.
     pub(crate) fn declared(&self, name: &Name) -> Declared
         requires { Contains (all_names self.now) name.now }
         ensures place { slice_get (all_names self.now) result.place ≡ Some name.now }

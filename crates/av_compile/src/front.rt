@@ -17,7 +17,7 @@ use av_normal::Normal;
 use av_parse::parse;
 use std::alloc::Global;
 
-// The flat system of what a text spells, with its sizes, in words of this width.
+/// The flat system of what a text spells, with its sizes, in words of this width.
 pub(crate) fn flattened(
     alloc: Global,
     bytes: &[u8],

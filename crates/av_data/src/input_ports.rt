@@ -31,6 +31,7 @@ impl<'a> Model for InputPorts<'a> {
 }
 
 impl<'a> InputPorts<'a> {
+    /// The input ports by name.
     pub(crate) fn new(alloc: Global, ports: &'a [Port]) -> Result<InputPorts<'a>, Memory>
         requires { AreDistinct (names_of ports.now) }
         ensures { IfOk result (λ inputs. inputs ≡ ports.now) }

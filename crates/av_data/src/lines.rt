@@ -76,6 +76,7 @@ fn is_gap(byte: u8) -> bool
     byte == b' ' || byte == b'\t'
 }
 
+/// How many blanks and tabs stand at the front.
 pub(crate) fn gap_len(text: &[u8]) -> usize
     ensures len { result ≡ prefix_len is_gap text.now }
     ensures within { result ≤ length text.now }

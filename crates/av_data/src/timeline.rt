@@ -27,6 +27,7 @@ impl Model for Timeline {
 }
 
 impl Timeline {
+    /// A timeline without a word.
     pub fn new(alloc: Global) -> Timeline
         ensures { result ≡ [] }
     {

@@ -23,8 +23,8 @@ fn product(a: i64, b: i64) -> i128
     a as i128 * b as i128
 }
 
-// A number of the combination, of those of a row that bounds the index from below by the factor `low`
-// and of one that bounds it from above by the factor `high`.
+/// A number of the combination, of those of a row that bounds the index from below by the factor `low`
+/// and of one that bounds it from above by the factor `high`.
 pub(crate) fn combined_number(low: i64, high: i64, below: i64, above: i64) -> i128
     requires low { unsigned_abs low ≤ 2 ^ 43 }
     requires high { unsigned_abs high ≤ 2 ^ 43 }
@@ -105,7 +105,7 @@ fn add_pairs(out: &mut List<Form>, below: &Form, rows: &[Form], other: usize) ->
     Ok(())
 }
 
-// The rows without an index.
+/// The rows without an index.
 pub(crate) fn eliminate(alloc: Global, rows: &[Form], other: usize) -> Result<List<Form>, Memory>
     requires other { other < 4 }
     requires rows { All (λ r. Small (2 ^ 21) (line r)) rows.now }

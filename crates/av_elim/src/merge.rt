@@ -43,7 +43,7 @@ fn replaced(rows: &mut List<Form>, row: &Form) -> bool
     false
 }
 
-// Adds a row to rows of which no two have equal coefficients.
+/// Adds a row to rows of which no two have equal coefficients.
 pub(crate) fn add(rows: &mut List<Form>, row: &Form) -> Result<(), Memory>
     requires { Small (2 ^ 43) (line row.now) }
     ensures { OnOk result (StandsFor (homogeneous rows.old ++ line row.now ∷ []) (homogeneous rows.new)) }

@@ -59,7 +59,7 @@ fn last_other(dim: usize, index: usize) -> usize
     if index + 1 == dim { dim - 2 } else { dim - 1 }
 }
 
-// What rows say of an index.
+/// What rows say of an index.
 pub(crate) fn span_of(
     alloc: Global,
     rows: &[Form],

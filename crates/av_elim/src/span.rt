@@ -101,7 +101,7 @@ fn pair_step(span: Span, below: &Form, above: &Form, other: usize, index: usize)
     step(span, a, c)
 }
 
-// What rows say of an index that no other is left beside.
+/// What rows say of an index that no other is left beside.
 pub(crate) fn scan(rows: &[Form], index: usize) -> Span
     requires index { index < 4 }
     requires rows { All (λ r. Small (2 ^ 43) (line r)) rows.now }
@@ -135,7 +135,7 @@ fn scan_pairs(span: Span, below: &Form, rows: &[Form], other: usize, index: usiz
     all
 }
 
-// What rows say of an index once the only other one is eliminated. The combinations are not kept.
+/// What rows say of an index once the only other one is eliminated. The combinations are not kept.
 pub(crate) fn scan_without(rows: &[Form], other: usize, index: usize) -> Span
     requires other { other < 4 }
     requires index { index < 4 }
@@ -160,7 +160,7 @@ pub(crate) fn scan_without(rows: &[Form], other: usize, index: usize) -> Span
     span
 }
 
-// Both ends, where there are both.
+/// Both ends, where there are both.
 pub(crate) fn ends(span: Span) -> Option<(i128, i128)>
     ensures some { IfSome result (λ e. (span.low ≡ Some e.0) × (span.high ≡ Some e.1)) }
     ensures none { IfNone result ((span.low ≡ None) ⊎ (span.high ≡ None)) }

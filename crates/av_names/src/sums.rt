@@ -60,6 +60,7 @@ fn is_among(names: &[Name], name: &Name) -> bool
     false
 }
 
+/// The product of a coefficient and a value.
 pub(crate) fn product(factor: i128, value: i64) -> i128
     requires factor { unsigned_abs factor < 2 ^ 64 }
     requires value { unsigned_abs value ≤ 1048576 }

@@ -159,7 +159,7 @@ fn with_all_pieces(alloc: Global, flat: &Flat, var: &Var) -> Result<Var, NormalF
     Ok(var.with_pieces(alloc, pieces)?)
 }
 
-// The variables with all their pieces, whose rows are normalised: domain, composed maps, pieces and bodies are tried.
+/// The variables with all their pieces, whose rows are normalised: domain, composed maps, pieces and bodies are tried.
 pub(crate) fn all_pieces(alloc: Global, flat: &Flat) -> Result<List<Var>, NormalFault>
     requires well_formed { IsWellFormed (view_system flat.now) }
     requires few { HasFew (view_system flat.now).variables }

@@ -44,7 +44,7 @@ fn declared_extent(alloc: Global, var: &Var) -> Result<Option<Bounds>, NormalFau
     extent(alloc, &var.name, &domain)
 }
 
-// The boxes of the declared domains.
+/// The boxes of the declared domains.
 pub(crate) fn extents(alloc: Global, vars: &[Var]) -> Result<List<Option<Bounds>>, NormalFault>
     requires { AllByRecursion HasNarrowDomain (map view_variable vars.now) }
     ensures found { IfOk result (Pairwise IsDeclaredExtent (map view_variable vars.now)) }
@@ -71,7 +71,7 @@ fn extent_fits(extent: &Option<Bounds>) -> Result<(), NormalFault>
     }
 }
 
-// Tries each box.
+/// Tries each box.
 pub(crate) fn boxes_fit(extents: &[Option<Bounds>]) -> Result<(), NormalFault>
     ensures fit { OnOk result (AllByRecursion IsSmallExtent extents.now) }
     ensures over { IfErr result (λ fault. IsFirstOf IsSmallExtent (IsLargeExtent fault) extents.now) }

@@ -30,7 +30,7 @@ fn step(own: &Map, outer: &Map) -> Result<Map, NormalFault>
     }
 }
 
-// The map after those that it stands under, of which the innermost comes first.
+/// The map after those that it stands under, of which the innermost comes first.
 pub(crate) fn outwards(own: &Map, under: &[Map]) -> Result<Map, NormalFault>
     requires { AreChained (own.now ∷ under.now) }
     ensures composed { IfOk result (λ m. m ≡ composed own.now under.now) }
@@ -45,7 +45,7 @@ pub(crate) fn outwards(own: &Map, under: &[Map]) -> Result<Map, NormalFault>
     Ok(whole)
 }
 
-// All maps as one, where there are any; the innermost comes first.
+/// All maps as one, where there are any; the innermost comes first.
 pub(crate) fn together(under: &[Map]) -> Result<Option<Map>, NormalFault>
     requires { AreChained under.now }
     ensures composed { IfOk result (λ m. m ≡ composed_under under.now) }
@@ -72,7 +72,7 @@ pub fn prepend_map(alloc: Global, own: &Map, under: &[Map]) -> Result<List<Map>,
     Ok(inner)
 }
 
-// Tries each composed map of a tree, in the order of the text.
+/// Tries each composed map of a tree, in the order of the text.
 pub(crate) fn maps_fit(alloc: Global, under: &[Map], tree: &Tree) -> Result<(), NormalFault>
     requires { StandsUnder under.now (view tree.now) }
     ensures narrow { OnOk result (AreNarrow (map of_map (composed_maps under.now (view tree.now)))) }

@@ -9,7 +9,7 @@ use crate::NormalFault;
 use av_base::limits::MOST_PIECES;
 use av_flat::{Piece, Tree, Var};
 
-// How many pieces a tree has.
+/// How many pieces a tree has.
 #[cycle(count)]
 pub(crate) fn piece_count(tree: &Tree) -> u128
     ensures { result ≡ min (piece_count (view tree.now)) (2 ^ 128 - 1) }
@@ -68,7 +68,7 @@ fn many_pieces(var: &Var) -> Option<u128>
     }
 }
 
-// Tries the number of pieces of each equation.
+/// Tries the number of pieces of each equation.
 pub(crate) fn few_pieces(vars: &[Var]) -> Result<(), NormalFault>
     ensures few { OnOk result (HasFew (map view_variable vars.now)) }
     ensures many { IfErr result (IsOfMany (map view_variable vars.now)) }

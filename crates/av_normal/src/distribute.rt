@@ -15,7 +15,7 @@ use av_base::{List, Memory};
 use av_poly::{Poly, append_rows};
 use std::alloc::Global;
 
-// Puts the rows of a set, taken at the image under a map, behind others.
+/// Puts the rows of a set, taken at the image under a map, behind others.
 pub(crate) fn append_before(
     alloc: Global,
     set: &Poly,
@@ -32,7 +32,7 @@ pub(crate) fn append_before(
     append_rows(rows, before.rows.as_slice())
 }
 
-// Puts the rows of a restriction behind others.
+/// Puts the rows of a restriction behind others.
 pub(crate) fn append_under(
     alloc: Global,
     under: &[Map],
@@ -50,7 +50,7 @@ pub(crate) fn append_under(
     }
 }
 
-// The map after those that it stands under, which are known to compose within the limits.
+/// The map after those that it stands under, which are known to compose within the limits.
 pub(crate) fn composed_map(own: &Map, under: &[Map]) -> Result<Map, Memory>
     requires chained { AreChained (own.now ∷ under.now) }
     requires narrow { AreNarrow (map of_map (steps own.now under.now)) }

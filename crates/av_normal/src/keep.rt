@@ -77,7 +77,7 @@ fn reach(alloc: Global, set: &Poly, within: &Bounds) -> Result<Option<Bounds>, M
     }
 }
 
-// Whether a set that has no point outside a box has one.
+/// Whether a set that has no point outside a box has one.
 pub(crate) fn has_point(alloc: Global, set: &Poly, within: &Bounds) -> Result<bool, Memory>
     requires dim { set.now.dim ≤ 4 }
     requires rows { All IsWithinLimits set.now.rows }

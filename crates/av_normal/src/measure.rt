@@ -13,7 +13,7 @@ use av_base::limits::{MOST_COEFFICIENT, MOST_CONSTANT, MOST_ROWS};
 use av_flat::Quantity;
 use av_poly::Poly;
 
-// Tries the numbers of the rows, and then how many there are.
+/// Tries the numbers of the rows, and then how many there are.
 pub(crate) fn rows_fit(rows: &[Form]) -> Result<(), NormalFault>
     ensures fit { OnOk result ((greatest_coefficient rows.now ≤ 1024) × (greatest_constant rows.now ≤ 2 ^ 20) × (length rows.now ≤ 20)) }
     ensures wide { IfErr result (IsWideRows rows.now) }
@@ -32,7 +32,7 @@ pub(crate) fn rows_fit(rows: &[Form]) -> Result<(), NormalFault>
     Ok(())
 }
 
-// The set with normalised rows, where they are within the limits.
+/// The set with normalised rows, where they are within the limits.
 pub(crate) fn narrowed(set: Poly) -> Result<Poly, NormalFault>
     ensures dim { IfOk result (λ to. to.dim ≡ set.dim) }
     ensures normalised { IfOk result (λ to. AreNormalised set.dim set.rows to.rows) }

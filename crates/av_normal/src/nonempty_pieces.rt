@@ -57,7 +57,7 @@ fn kept_variable(alloc: Global, var: &Var, extent: &Option<Bounds>) -> Result<Va
     var.with_pieces(alloc, pieces)
 }
 
-// The variables with their kept pieces.
+/// The variables with their kept pieces.
 pub(crate) fn kept_variables(
     alloc: Global,
     vars: &[Var],

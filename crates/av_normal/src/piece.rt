@@ -22,7 +22,7 @@ use av_flat::{Piece, Tree, Var, copy_map, copy_tree};
 use av_poly::{Poly, copy_rows};
 use std::alloc::Global;
 
-// The piece of a variable's right side with this number, before its bodies' sets are filled in.
+/// The piece of a variable's right side with this number, before its bodies' sets are filled in.
 pub(crate) fn piece_at(
     alloc: Global,
     vars: &[Var],

@@ -18,8 +18,8 @@ use av_flat::{Tree, copy_map, copy_tree};
 use av_poly::Poly;
 use std::alloc::Global;
 
-// The set of a body: the rows of its holder at the kept indices, and then its own. What the holder's rows were made
-// from makes no difference.
+/// The set of a body: the rows of its holder at the kept indices, and then its own. What the holder's rows were made
+/// from makes no difference.
 pub(crate) fn inner_set(
     alloc: Global,
     holder: &Poly,
@@ -43,7 +43,7 @@ pub(crate) fn inner_set(
     Ok(inner)
 }
 
-// The tree of a piece with the rows of what holds it in the set of each reduction, outer ones before inner ones.
+/// The tree of a piece with the rows of what holds it in the set of each reduction, outer ones before inner ones.
 #[cycle(filled)]
 pub(crate) fn filled(alloc: Global, holder: &Poly, tree: &Tree) -> Result<Tree, NormalFault>
     requires fillable { IsFillable holder.now.dim (view tree.now) }

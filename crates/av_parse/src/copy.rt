@@ -46,6 +46,7 @@ fn terms(alloc: Global, terms: &[Term]) -> Result<List<Term>, Memory>
     Ok(copies)
 }
 
+/// The same index expression.
 pub(crate) fn index(alloc: Global, index: &IndexExpr) -> Result<IndexExpr, Memory>
     ensures { IfOk result (λ copy. copy ≡ index.now) }
 {
@@ -75,6 +76,7 @@ fn constraints(alloc: Global, constraints: &[Constraint]) -> Result<List<Constra
     Ok(copies)
 }
 
+/// The same domain.
 pub(crate) fn domain(alloc: Global, domain: &DomainText) -> Result<DomainText, Memory>
     ensures { IfOk result (λ copy. copy ≡ domain.now) }
 {

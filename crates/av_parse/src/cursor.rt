@@ -36,6 +36,7 @@ impl<'t, 'a> Cursor<'t, 'a> {
         self.rest.len()
     }
 
+    /// Whether the token at the cursor is of this kind.
     pub(crate) fn begins(&self, kind: TokenKind) -> bool
         ensures { result ≡ begins kind (views self.now.rest.now) }
     {
@@ -54,12 +55,14 @@ impl<'t, 'a> Cursor<'t, 'a> {
         }
     }
 
+    /// Whether the token at the cursor is this symbol.
     pub(crate) fn is_symbol(&self, text: &[u8]) -> bool
         ensures { result ≡ begins_symbol text.now (views self.now.rest.now) }
     {
         self.begins_with(TokenKind::Symbol, text)
     }
 
+    /// Whether the token at the cursor is this reserved word.
     pub(crate) fn is_word(&self, text: &[u8]) -> bool
         ensures { result ≡ begins_word text.now (views self.now.rest.now) }
     {
@@ -76,6 +79,7 @@ impl<'t, 'a> Cursor<'t, 'a> {
         }
     }
 
+    /// The place of the token at the cursor.
     pub(crate) fn place(&self) -> Place
         ensures { result ≡ place_of (views self.now.rest.now) }
     {

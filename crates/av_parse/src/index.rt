@@ -42,6 +42,7 @@ impl<'t, 'a> Cursor<'t, 'a> {
         Err(self.syntax())
     }
 
+    /// Names with commas between them, or none.
     #[tactic(auto, unfolding(crate::specs::inner::IndexReader::optional_names_of))]
     pub(crate) fn optional_names(&mut self) -> Result<List<Name>, Stop>
         ensures { Gives (λ ns. (ns, views self.new.rest.now)) result (optional_names_of (views self.old.rest.now)) }
@@ -165,6 +166,7 @@ impl<'t, 'a> Cursor<'t, 'a> {
         Ok(IndexExpr { terms, place })
     }
 
+    /// An index expression.
     #[tactic(auto, unfolding(crate::specs::inner::IndexReader::index_of))]
     pub(crate) fn index(&mut self) -> Result<IndexExpr, Stop>
         ensures { Gives (λ e. (e, views self.new.rest.now)) result (index_of (views self.old.rest.now)) }
@@ -200,6 +202,7 @@ impl<'t, 'a> Cursor<'t, 'a> {
         self.begins(TokenKind::Name) || self.begins(TokenKind::Number) || self.is_symbol(b"-")
     }
 
+    /// Index expressions with commas between them, or none.
     #[tactic(auto, unfolding(crate::specs::inner::IndexReader::optional_indices_of))]
     pub(crate) fn optional_indices(&mut self) -> Result<List<IndexExpr>, Stop>
         ensures { Gives (λ es. (es, views self.new.rest.now)) result (optional_indices_of (views self.old.rest.now)) }

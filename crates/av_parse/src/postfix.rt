@@ -82,6 +82,7 @@ impl<'t, 'a> Cursor<'t, 'a> {
         }
     }
 
+    /// A relation between two expressions.
     #[tactic(auto, unfolding(crate::specs::inner::IndexReader::relation_by))]
     pub(crate) fn compare(&mut self) -> Result<Relation, Stop>
         ensures { Gives (λ r. (r, views self.new.rest.now)) result (relation_by (compare_at (views self.old.rest.now)) (views self.old.rest.now)) }
@@ -113,6 +114,7 @@ impl<'t, 'a> Cursor<'t, 'a> {
         }
     }
 
+    /// The operator of a reduction.
     #[tactic(auto, unfolding(crate::specs::inner::ExpressionReader::op_by))]
     pub(crate) fn op(&mut self) -> Result<Op, Stop>
         ensures { Gives (λ f. (f, views self.new.rest.now)) result (op_of (views self.old.rest.now)) }

@@ -20,7 +20,7 @@ fn row_before(row: &Form, map: &Map) -> Form
     row.after(map)
 }
 
-// Each row of the map's image, as a row of the map's own indices.
+/// Each row of the map's image, as a row of the map's own indices.
 pub(crate) fn each_before(alloc: Global, rows: &[Form], map: &Map) -> Result<List<Form>, Memory>
     requires rows { All IsWithinLimits rows.now }
     requires map { All IsWithinLimits map.now.rows }

@@ -104,7 +104,7 @@ fn narrowed(row: &Form, fixed: &[i64], low: &[i64], high: &[i64], span: Interval
     restricted(coef[at], before + row.constant as i128 + after, span)
 }
 
-// The interval of the next index that the rows leave, where the first bounds are its own.
+/// The interval of the next index that the rows leave, where the first bounds are its own.
 pub(crate) fn interval_of(rows: &[Form], fixed: &[i64], low: &[i64], high: &[i64]) -> Interval
     requires rows { All IsSmall rows.now }
     requires fixed { AtMost 4095 fixed.now }

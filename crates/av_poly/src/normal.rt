@@ -99,7 +99,7 @@ fn impossible_row() -> Form
     }
 }
 
-// Normalises rows.
+/// Normalises rows.
 pub(crate) fn normalise_rows(dim: u8, rows: &mut List<Form>)
     requires { All IsSmall rows.old }
     ensures normalised { AreNormalised dim rows.old rows.new }

@@ -40,7 +40,7 @@ fn part(alloc: Global, dim: u8, kept: &[Form], row: &Form) -> Result<Poly, Memor
     Ok(Poly { dim, rows })
 }
 
-// The points at which the rows within hold and not all of the others do.
+/// The points at which the rows within hold and not all of the others do.
 pub(crate) fn parts(
     alloc: Global,
     dim: u8,

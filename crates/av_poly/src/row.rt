@@ -8,7 +8,7 @@ ghost use Rattle.av_poly.specs.Points.{IsSmall, Holds};
 use av_affine::{Form, dot};
 use av_base::{List, Memory};
 
-// The product of small numbers.
+/// The product of small numbers.
 pub(crate) fn product(a: i64, b: i64) -> i128
     requires first { unsigned_abs a ≤ 2 ^ 40 }
     requires second { unsigned_abs b ≤ 2 ^ 25 }
@@ -18,7 +18,7 @@ pub(crate) fn product(a: i64, b: i64) -> i128
     a as i128 * b as i128
 }
 
-// The sum of the products of coefficients and numbers.
+/// The sum of the products of coefficients and numbers.
 pub(crate) fn products(coef: [i64; 4], numbers: &[i64]) -> i128
     requires coef { AtMost (2 ^ 40) coef }
     requires numbers { AtMost (2 ^ 25) numbers.now }
@@ -29,7 +29,7 @@ pub(crate) fn products(coef: [i64; 4], numbers: &[i64]) -> i128
     dot(&coef, numbers)
 }
 
-// The value of a row at a point.
+/// The value of a row at a point.
 pub(crate) fn value(row: &Form, z: &[i64]) -> i128
     requires row { IsSmall row.now }
     requires point { AtMost (2 ^ 25) z.now }
@@ -39,7 +39,7 @@ pub(crate) fn value(row: &Form, z: &[i64]) -> i128
     products(row.coef, z) + row.constant as i128
 }
 
-// Whether each row holds at a point.
+/// Whether each row holds at a point.
 pub(crate) fn each_holds(rows: &[Form], z: &[i64]) -> bool
     requires rows { All IsSmall rows.now }
     requires point { AtMost (2 ^ 25) z.now }

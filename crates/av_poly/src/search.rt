@@ -38,7 +38,7 @@ pub fn extended(fixed: &[i64], entry: i64) -> ArrayVec<i64, 4>
     entries
 }
 
-// The least point that begins with the fixed entries, where bounds are given for the others.
+/// The least point that begins with the fixed entries, where bounds are given for the others.
 pub(crate) fn first_from(rows: &[Form], fixed: &[i64], low: &[i64], high: &[i64]) -> Option<Point>
     requires rows { All IsSmall rows.now }
     requires fixed { AtMost 4095 fixed.now }

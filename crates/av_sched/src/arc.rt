@@ -62,7 +62,7 @@ fn raise_all(off: &mut Vec<i64>, old: &[i64], arcs: &[Arc])
     }
 }
 
-// The least offsets that are at least `low` and have each reader late enough, if there are any.
+/// The least offsets that are at least `low` and have each reader late enough, if there are any.
 pub(crate) fn least(
     alloc: Global,
     arcs: &[Arc],
@@ -99,7 +99,7 @@ fn clear(numbers: &mut Vec<i64>, many: usize) -> Result<(), Memory>
 // The offsets of so many nodes stay small in all rounds.
 const MOST_NODES: usize = 1 << 30;
 
-// Whether offsets from 0 on make each reader late enough. Of very many nodes it is not tried.
+/// Whether offsets from 0 on make each reader late enough. Of very many nodes it is not tried.
 pub(crate) fn settles(
     arcs: &[Arc],
     off: &mut Vec<i64>,

@@ -103,7 +103,7 @@ fn choose_one(
     }
 }
 
-// The first feasible choices of all components, from any linear parts on.
+/// The first feasible choices of all components, from any linear parts on.
 pub(crate) fn choose_all(
     alloc: Global,
     flat: &Flat,

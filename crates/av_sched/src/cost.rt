@@ -41,7 +41,7 @@ fn add_ranks(to: &mut Vec<u64>, point: &Point) -> Result<(), Memory>
     Ok(())
 }
 
-// The places of all entries of the component's linear parts.
+/// The places of all entries of the component's linear parts.
 pub(crate) fn ranks_of(
     alloc: Global,
     component: &[u32],
@@ -173,7 +173,7 @@ fn prices_at(
     Ok(prices)
 }
 
-// What each linear part costs that a node of the component can have.
+/// What each linear part costs that a node of the component can have.
 pub(crate) fn prices_of(
     alloc: Global,
     flat: &Flat,
@@ -195,7 +195,7 @@ pub(crate) fn prices_of(
     Ok(prices)
 }
 
-// The least that the last nodes of the component can cost, for each number of them.
+/// The least that the last nodes of the component can cost, for each number of them.
 pub(crate) fn floors_of(
     alloc: Global,
     _flat: &Flat,

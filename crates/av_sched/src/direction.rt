@@ -84,7 +84,7 @@ fn directions_of(alloc: Global, size: u8) -> Result<Vec<Point>, Memory>
     Ok(to)
 }
 
-// The directions along which a reference reads one point.
+/// The directions along which a reference reads one point.
 pub(crate) fn along_of(alloc: Global, map: &Map) -> Result<List<Point>, Memory>
     requires from { map.now.from ≤ 4 }
     requires rows { All IsWithinLimits map.now.rows }
@@ -101,7 +101,7 @@ pub(crate) fn along_of(alloc: Global, map: &Map) -> Result<List<Point>, Memory>
     Ok(to)
 }
 
-// Whether the linear part goes up along some of the directions.
+/// Whether the linear part goes up along some of the directions.
 pub(crate) fn moves_some(linear: &Point, ways: &[Point]) -> bool
     requires linear { AtMost 4 linear.now }
     requires ways { All (IsSmallDirection (length linear.now)) ways.now }

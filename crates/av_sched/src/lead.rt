@@ -10,7 +10,7 @@ use av_affine::{Map, dot};
 use av_base::Point;
 use av_depend::Edge;
 
-// The sum of the products of numbers.
+/// The sum of the products of numbers.
 pub(crate) fn products(linear: &[i64], z: &[i64]) -> i64
     requires linear { AtMost 4 linear.now }
     requires z { AtMost (2 ^ 25) z.now }
@@ -21,7 +21,7 @@ pub(crate) fn products(linear: &[i64], z: &[i64]) -> i64
     dot(linear, z) as i64
 }
 
-// How far the reader is ahead at a point, before offsets are added.
+/// How far the reader is ahead at a point, before offsets are added.
 pub(crate) fn lead_at(consumer: &Point, producer: &Point, map: &Map, z: &Point) -> i64
     requires consumer { IsSmallPart (length z.now) consumer.now }
     requires producer { IsSmallPart (length producer.now) producer.now }
@@ -52,7 +52,7 @@ fn least_lead(consumer: &Point, producer: &Point, map: &Map, points: &[Point]) -
     least
 }
 
-// The edge as a difference of offsets: what the reader's offset is at least above that of what it reads.
+/// The edge as a difference of offsets: what the reader's offset is at least above that of what it reads.
 pub(crate) fn arc_of(edge: &Edge, linear: &[Point]) -> Arc
     requires { IsUsable linear.now edge.now }
     ensures { IsArcOf linear.now edge.now result }

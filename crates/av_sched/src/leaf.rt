@@ -17,7 +17,7 @@ use av_depend::Edge;
 use av_flat::{Flat, Reach};
 use std::alloc::Global;
 
-// Whether the component has the node.
+/// Whether the component has the node.
 pub(crate) fn is_in(component: &[u32], node: u32) -> bool
     ensures { IsTrue result ↔ Contains component.now node }
 {
@@ -52,7 +52,7 @@ fn arcs_inside(
     Ok(arcs)
 }
 
-// So many zeros.
+/// So many zeros.
 pub(crate) fn no_offsets(alloc: Global, many: usize) -> Result<List<i64>, Memory>
     ensures { IfOk result (λ low. low ≡ zeros many) }
 {
@@ -63,7 +63,7 @@ pub(crate) fn no_offsets(alloc: Global, many: usize) -> Result<List<i64>, Memory
     Ok(low)
 }
 
-// Whether the choice is feasible.
+/// Whether the choice is feasible.
 pub(crate) fn is_feasible(
     alloc: Global,
     _flat: &Flat,

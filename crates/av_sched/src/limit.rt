@@ -14,7 +14,7 @@ use av_base::{List, Memory};
 use av_flat::{Flat, Reach};
 use std::alloc::Global;
 
-// How many candidates the first component with too many of them has.
+/// How many candidates the first component with too many of them has.
 pub(crate) fn too_many(
     alloc: Global,
     flat: &Flat,

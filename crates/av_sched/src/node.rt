@@ -11,7 +11,7 @@ use av_base::{List, Memory, Point};
 use av_flat::{Flat, Reach};
 use std::alloc::Global;
 
-// How many indices each node has.
+/// How many indices each node has.
 pub(crate) fn dimensions(alloc: Global, flat: &Flat) -> Result<Vec<u8>, Memory>
     ensures { IfOk result (λ dims. dims.items ≡ map (λ v. v.domain.dim) (nodes (view_system flat.now))) }
 {
@@ -24,7 +24,7 @@ pub(crate) fn dimensions(alloc: Global, flat: &Flat) -> Result<Vec<u8>, Memory>
     Ok(dims)
 }
 
-// The linear parts that each node of the component can have.
+/// The linear parts that each node of the component can have.
 pub(crate) fn lists_of(
     alloc: Global,
     flat: &Flat,
@@ -45,7 +45,7 @@ pub(crate) fn lists_of(
     Ok(lists)
 }
 
-// The place of a node among the variables.
+/// The place of a node among the variables.
 pub(crate) fn place_of(flat: &Flat, node: usize) -> usize
     requires { node < length (nodes (view_system flat.now)) }
     ensures fits { result < length flat.now.vars }

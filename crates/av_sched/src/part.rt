@@ -32,7 +32,7 @@ fn unit(dim: u8) -> Point
     }
 }
 
-// A linear part for each node.
+/// A linear part for each node.
 pub(crate) fn first_parts(alloc: Global, flat: &Flat, _reach: Reach) -> Result<Vec<Point>, Memory>
     requires { IsChained (view_system flat.now) }
     ensures { IfOk result (λ parts. AreLinearParts (view_system flat.now) _reach.size parts.items) }
@@ -45,7 +45,7 @@ pub(crate) fn first_parts(alloc: Global, flat: &Flat, _reach: Reach) -> Result<V
     Ok(parts)
 }
 
-// Whether the first number in which they differ is less in the first.
+/// Whether the first number in which they differ is less in the first.
 pub(crate) fn is_less(a: &[u64], b: &[u64]) -> bool
     ensures { IsTrue result ↔ IsLess a.now b.now }
 {
@@ -64,7 +64,7 @@ pub(crate) fn is_less(a: &[u64], b: &[u64]) -> bool
     is_less(&a[1..], &b[1..])
 }
 
-// How many candidates the component has, and at most the greatest number.
+/// How many candidates the component has, and at most the greatest number.
 pub(crate) fn candidates_of(component: &[u32], dims: &[u8], base: u128) -> u128
     requires within { All (λ n. n < length dims.now) component.now }
     requires base { 1 ≤ base }

@@ -23,7 +23,7 @@ use av_depend::Edge;
 use av_flat::{Flat, Var};
 use std::alloc::Global;
 
-// The edges as differences of offsets.
+/// The edges as differences of offsets.
 pub(crate) fn arcs_of(alloc: Global, edges: &[Edge], linear: &[Point]) -> Result<Vec<Arc>, Memory>
     requires { All (IsUsable linear.now) edges.now }
     ensures { IfOk result (λ arcs. AllZip (IsArcOf linear.now) edges.now arcs.items) }
@@ -35,7 +35,7 @@ pub(crate) fn arcs_of(alloc: Global, edges: &[Edge], linear: &[Point]) -> Result
     Ok(arcs)
 }
 
-// The least offsets, where for each node the offset is known with which its first cycle is 0.
+/// The least offsets, where for each node the offset is known with which its first cycle is 0.
 pub(crate) fn offsets_from(
     alloc: Global,
     _flat: &Flat,

@@ -68,7 +68,7 @@ fn witness_arcs(
     Ok(())
 }
 
-// Whether the witnesses forbid the parts of the first nodes.
+/// Whether the witnesses forbid the parts of the first nodes.
 pub(crate) fn is_forbidden(
     _flat: &Flat,
     edges: &[Edge],
@@ -182,7 +182,7 @@ fn is_listed(pool: &[Place], place: &Place) -> bool {
     false
 }
 
-// Adds, where the choice is not feasible, places that show it: for two nodes one that asks for most. Nothing is told of which.
+/// Adds, where the choice is not feasible, places that show it: for two nodes one that asks for most. Nothing is told of which.
 pub(crate) fn learn(
     alloc: Global,
     edges: &[Edge],

@@ -19,7 +19,7 @@ pub(crate) struct Best {
     pub price: Price,
 }
 
-// What nodes and one more cost together.
+/// What nodes and one more cost together.
 pub(crate) fn with_more(spent: Price, more: Price) -> Price
     requires left { spent.left + more.left < 2 ^ 128 }
     requires size { spent.size + more.size < 2 ^ 128 }
@@ -32,7 +32,7 @@ pub(crate) fn with_more(spent: Price, more: Price) -> Price
     }
 }
 
-// No more than both together.
+/// No more than both together.
 pub(crate) fn at_least(a: Price, b: Price) -> Price
     ensures left { result.left ≤ a.left + b.left }
     ensures size { result.size ≤ a.size + b.size }
@@ -43,7 +43,7 @@ pub(crate) fn at_least(a: Price, b: Price) -> Price
     }
 }
 
-// Of each number no more than any of the prices has.
+/// Of each number no more than any of the prices has.
 pub(crate) fn least_of(prices: &[Price]) -> Price
     ensures left { All (λ p. result.left ≤ p.left) prices.now }
     ensures size { All (λ p. result.size ≤ p.size) prices.now }
@@ -70,7 +70,7 @@ fn is_above(a: Price, b: Price) -> bool
     a.size > b.size
 }
 
-// Whether what was spent and the least of the rest are above the price of the best choice.
+/// Whether what was spent and the least of the rest are above the price of the best choice.
 pub(crate) fn is_dear(spent: Price, rest: Price, best: &Option<Best>) -> bool
     ensures { IsTrue result → IsAbove spent rest best.now }
 {

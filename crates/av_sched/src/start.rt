@@ -94,7 +94,7 @@ fn narrowed(
     }
 }
 
-// The least value over the points of the set; None where it has no point.
+/// The least value over the points of the set; None where it has no point.
 pub(crate) fn least_value(
     alloc: Global,
     domain: &Poly,

@@ -9,7 +9,7 @@ use av_base::{List, Memory, Point};
 use av_flat::Reach;
 use std::alloc::Global;
 
-// The point with one more entry before its own.
+/// The point with one more entry before its own.
 pub(crate) fn with_first(entry: i64, rest: &Point) -> Point
     requires { length rest.now < 4 }
     ensures { result ≡ entry ∷ rest.now }
@@ -22,7 +22,7 @@ pub(crate) fn with_first(entry: i64, rest: &Point) -> Point
     Point::from_slice(entries.as_slice())
 }
 
-// Adds each of the points with one more entry before its own.
+/// Adds each of the points with one more entry before its own.
 pub(crate) fn prepend_all(to: &mut Vec<Point>, entry: i64, shorter: &[Point]) -> Result<(), Memory>
     requires { All (λ y. length y < 4) shorter.now }
     ensures { IfOk result (λ done. to.new.items ≡ to.old.items ++ map (λ y. entry ∷ y) shorter.now) }
@@ -91,7 +91,7 @@ fn has_entry(point: &Point) -> bool
     false
 }
 
-// All linear parts of a node with so many indices.
+/// All linear parts of a node with so many indices.
 pub(crate) fn vectors(alloc: Global, dim: u8, reach: Reach) -> Result<List<Point>, Memory>
     requires { dim ≤ 4 }
     ensures { IfOk result (AreLinearPartsOf reach.size dim) }

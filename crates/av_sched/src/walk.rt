@@ -165,7 +165,7 @@ fn leaf(
     Ok(best)
 }
 
-// The best choice after all that have these parts for the first nodes.
+/// The best choice after all that have these parts for the first nodes.
 #[cycle(walk)]
 pub(crate) fn walk(
     alloc: Global,

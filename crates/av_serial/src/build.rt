@@ -210,7 +210,7 @@ fn variable_chained(
     var.with_pieces(alloc, pieces)
 }
 
-// The variables with their reductions replaced.
+/// The variables with their reductions replaced.
 pub(crate) fn variables_chained(
     alloc: Global,
     base: u32,

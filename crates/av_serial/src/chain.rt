@@ -110,7 +110,7 @@ fn whole_piece(alloc: Global, domain: &Poly, tree: Tree) -> Result<List<Piece>, 
     one_piece(alloc, Piece { domain: own, tree })
 }
 
-// The chain at a place, where the first one of the equation has the place `first`.
+/// The chain at a place, where the first one of the equation has the place `first`.
 pub(crate) fn chain(
     alloc: Global,
     name: Name,
@@ -145,7 +145,7 @@ pub(crate) fn chain(
     })
 }
 
-// The name of the chain at a place, where the first one of the equation has the place `first`.
+/// The name of the chain at a place, where the first one of the equation has the place `first`.
 pub(crate) fn name_at(alloc: Global, name: &Name, first: u32, place: u32) -> Result<Name, Memory>
     requires order { first ≤ place }
     requires small { place < 2 ^ 32 - 1 }
@@ -154,7 +154,7 @@ pub(crate) fn name_at(alloc: Global, name: &Name, first: u32, place: u32) -> Res
     chain_name(alloc, name, place - first + 1)
 }
 
-// What stands in the place of a chain until its body is made.
+/// What stands in the place of a chain until its body is made.
 pub(crate) fn placeholder(alloc: Global, width: Width) -> Result<Var, Memory> {
     let name = Name::new(alloc, "")?;
     let domain = Poly {

@@ -17,7 +17,7 @@ use av_flat::Choice;
 use av_poly::Poly;
 use std::alloc::Global;
 
-// The read of the point before, where that is in the set too.
+/// The read of the point before, where that is in the set too.
 pub(crate) fn choice_before(alloc: Global, map: &Map, domain: &Poly) -> Result<Choice, Memory>
     requires projection { IsProjection map.now }
     requires from { map.now.from ≤ 4 }
@@ -78,7 +78,7 @@ fn choice_of(alloc: Global, map: &Map, domain: &Poly, place: usize) -> Result<Ch
     Ok(Choice { set, map: last })
 }
 
-// One read for each upper row, in the order of the rows.
+/// One read for each upper row, in the order of the rows.
 pub(crate) fn choices_of(alloc: Global, map: &Map, domain: &Poly) -> Result<List<Choice>, Memory>
     requires projection { IsProjection map.now }
     requires from { map.now.from ≤ 4 }

@@ -121,7 +121,7 @@ fn inhabited(domain: Poly, extent: &Option<Bounds>) -> Option<Poly>
 
 // ---- one reduction
 
-// Tries a reduction; where it has a point, its set with normalised rows.
+/// Tries a reduction; where it has a point, its set with normalised rows.
 pub(crate) fn reduction_domain(
     alloc: Global,
     name: &Name,

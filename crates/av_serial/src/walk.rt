@@ -69,7 +69,7 @@ fn pieces_nodes(alloc: Global, name: &Name, pieces: &[Piece]) -> Result<u128, Se
     Ok(count)
 }
 
-// Tries each reduction of a system.
+/// Tries each reduction of a system.
 pub(crate) fn all_nodes(alloc: Global, vars: &[Var]) -> Result<u128, SerialFault>
     requires { CanTryAll (map view_variable vars.now) }
     ensures clean { OnOk result (AllByRecursion IsClean

@@ -21,7 +21,7 @@ fn append_copies(alloc: Global, vars: &mut List<Var>, more: &[Var]) -> Result<()
     Ok(())
 }
 
-// The variables with their reductions replaced, and the chains.
+/// The variables with their reductions replaced, and the chains.
 pub(crate) fn with_chains(alloc: Global, given: &List<Var>) -> Result<List<Var>, Memory>
     requires { VariablesHavePremises 0 (map view_variable given.now) }
     ensures { IfOk result (λ made. (width : ℕ) → AllByRecursion (λ v. v.width ≡ width) (map view_variable given.now) →

@@ -25,6 +25,7 @@ fn after_base(bytes: &[u8]) -> Option<&[u8]>
     }
 }
 
+/// Whether all bytes are decimal digits, and there is one.
 pub(crate) fn are_digits(bytes: &[u8]) -> bool
     ensures { result ≡ are_digits bytes.now }
 {

@@ -25,6 +25,7 @@ impl<'a> Model for Names<'a> {
 impl<'a> Names<'a> {
     ghost use Rattle.av_vread.specs.inner.Scoped.{texts, Bytes};
 
+    /// No names.
     pub(crate) fn new(alloc: Global) -> Names<'a>
         ensures { result ≡ [] }
     {
@@ -33,6 +34,7 @@ impl<'a> Names<'a> {
         }
     }
 
+    /// Whether the name is among them.
     pub(crate) fn contains(&self, name: &str) -> bool
         ensures { result ≡ is_in self.now name.now }
     {

@@ -23,6 +23,7 @@ pub(crate) enum Item {
 }
 
 impl Declaration {
+    /// The port of the declaration.
     pub(crate) fn port(&self) -> &Port
         ensures { result.now ≡ declared_port (said_declaration self.now) }
     {

@@ -31,6 +31,7 @@ fn first_repeated<'a>(seen: &mut Names<'a>, names: &[&'a str]) -> Result<Option<
     Ok(None)
 }
 
+/// The first name that is declared a second time.
 pub(crate) fn declared_twice<'a>(alloc: Global, text: &'a Text) -> Result<Option<&'a str>, Memory>
     ensures { IfOk result (λ r. option_map (λ name. name.now) r ≡ declared_twice (said text.now)) }
 {
@@ -41,6 +42,7 @@ pub(crate) fn declared_twice<'a>(alloc: Global, text: &'a Text) -> Result<Option
     first_repeated(&mut seen, names.as_slice())
 }
 
+/// The first name that is driven a second time.
 pub(crate) fn driven_twice<'a>(alloc: Global, text: &'a Text) -> Result<Option<&'a str>, Memory>
     ensures { IfOk result (λ r. option_map (λ name. name.now) r ≡ driven_twice (said text.now)) }
 {
@@ -121,6 +123,7 @@ fn first_wrong<'a>(
     None
 }
 
+/// The first name of an item that may not stand there.
 pub(crate) fn wrong_name<'a>(alloc: Global, text: &'a Text) -> Result<Option<&'a Name>, Memory>
     ensures { IfOk result (λ r. option_map (λ name. name.now) r ≡ wrong_name (said text.now)) }
 {
@@ -144,6 +147,7 @@ fn first_missing<'a>(among: &Names, names: &[&'a str]) -> Option<&'a str>
     None
 }
 
+/// The first output, wire or register that no item drives.
 pub(crate) fn undriven_name<'a>(alloc: Global, text: &'a Text) -> Result<Option<&'a str>, Memory>
     ensures { IfOk result (λ r. option_map (λ name. name.now) r ≡ undriven_name (said text.now)) }
 {
@@ -206,6 +210,7 @@ fn first_early<'a>(
     Ok(None)
 }
 
+/// The first target whose operation reads a wire or an output that no earlier item drives.
 pub(crate) fn early_name<'a>(alloc: Global, text: &'a Text) -> Result<Option<&'a Name>, Memory>
     ensures { IfOk result (λ r. option_map (λ name. name.now) r ≡ early_name (said text.now)) }
 {
@@ -288,6 +293,7 @@ fn first_unsuited<'a>(widths: &Widths, items: &'a [Item]) -> Option<&'a Name>
     None
 }
 
+/// The first target of an item with wrong widths.
 pub(crate) fn unsuited_name<'a>(alloc: Global, text: &'a Text) -> Result<Option<&'a Name>, Memory>
     ensures { IfOk result (λ r. option_map (λ name. name.now) r ≡ unsuited_name (said text.now)) }
 {

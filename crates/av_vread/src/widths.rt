@@ -26,6 +26,7 @@ impl<'a> Model for Widths<'a> {
 }
 
 impl<'a> Widths<'a> {
+    /// No widths.
     pub(crate) fn new(alloc: Global) -> Widths<'a>
         ensures { result ≡ [] }
     {

@@ -8,6 +8,7 @@ use av_base::{Point, Sink};
 use av_net::{Entry, Listing};
 use av_page::Page;
 
+/// Puts the lines of a listing on the page.
 #[tactic(auto, unfolding(av_net::specs::Texts::listing_text))]
 pub(crate) fn write_listing<K: Sink>(page: &mut Page, sink: &mut K, listing: &Listing)
     ensures { Puts (K.state sink.old) (K.state sink.new) page.old page.new (listing_text listing.now) }

@@ -9,6 +9,7 @@ use av_base::{Name, Sink, Width};
 use av_net::{Drive, Module, Port, Step};
 use av_page::Page;
 
+/// Puts the text of a module on the page.
 #[tactic(auto, unfolding(av_net::specs::Texts::module_text))]
 pub(crate) fn write_module<K: Sink>(page: &mut Page, sink: &mut K, of: &Module)
     ensures { Puts (K.state sink.old) (K.state sink.new) page.old page.new (module_text of.now) }

@@ -6,6 +6,7 @@ use av_base::Sink;
 use av_net::{Operand, Operation, Symbol};
 use av_page::Page;
 
+/// Puts the right side of an `assign` on the page.
 pub(crate) fn write_operation<K: Sink>(page: &mut Page, sink: &mut K, operation: &Operation)
     ensures { Puts (K.state sink.old) (K.state sink.new) page.old page.new (operation_text operation.now) }
 {
@@ -77,6 +78,7 @@ fn write_signed<K: Sink>(page: &mut Page, sink: &mut K, operand: &Operand)
     page.put(sink, ")");
 }
 
+/// Puts an operand on the page.
 pub(crate) fn write_operand<K: Sink>(page: &mut Page, sink: &mut K, operand: &Operand)
     ensures { Puts (K.state sink.old) (K.state sink.new) page.old page.new (operand_text operand.now) }
 {
@@ -86,6 +88,7 @@ pub(crate) fn write_operand<K: Sink>(page: &mut Page, sink: &mut K, operand: &Op
     }
 }
 
+/// Puts a literal with its width on the page.
 pub(crate) fn write_literal<K: Sink>(page: &mut Page, sink: &mut K, bits: u32, value: u64)
     ensures { Puts (K.state sink.old) (K.state sink.new) page.old page.new (literal_text bits value) }
 {
