@@ -1,42 +1,16 @@
 //! The lexicographic minimum of rows between bounds, index by index.
 
-ghost use Rattle.std.specs.Prelude.{ℕ, ℤ, List, ◌≡◌, ◌≤◌, ◌<◌, ◌+◌, ◌^◌, ◌∷◌, [], ◌++◌, length, take, unsigned_abs, All, IfSome, IfNone};
+ghost use Rattle.std.specs.Prelude.{ℤ, List, ◌≡◌, ◌≤◌, ◌+◌, length, All, IfSome, IfNone};
 ghost use Rattle.av_affine.specs.Numbers.{AtMost};
 ghost use Rattle.av_poly.specs.Points.{IsSmall};
 ghost use Rattle.av_poly.specs.Search.{CanFollow};
 ghost use Rattle.av_poly.specs.inner.Search.{IsFirstFrom};
 
+use crate::entries::extended;
 use crate::interval::interval_of;
 use crate::row::each_holds;
-use arrayvec::ArrayVec;
 use av_affine::Form;
 use av_base::Point;
-
-/// The first numbers, as many as there are indices.
-pub fn first_entries(numbers: [i128; 4], dim: u8) -> ArrayVec<i64, 4>
-    requires numbers { AtMost 4095 numbers }
-    requires dim { dim ≤ 4 }
-    ensures { result.items ≡ take dim numbers }
-{
-    let mut entries: ArrayVec<i64, 4> = ArrayVec::new();
-    for k in 0..dim as usize {
-        entries.push(numbers[k] as i64);
-    }
-    entries
-}
-
-/// Entries with one more.
-pub fn extended(fixed: &[i64], entry: i64) -> ArrayVec<i64, 4>
-    requires { length fixed.now < 4 }
-    ensures { result.items ≡ fixed.now ++ entry ∷ [] }
-{
-    let mut entries: ArrayVec<i64, 4> = ArrayVec::new();
-    for number in fixed {
-        entries.push(*number);
-    }
-    entries.push(entry);
-    entries
-}
 
 // The least point that begins with the fixed entries, where bounds are given for the others.
 pub(crate) fn first_from(rows: &[Form], fixed: &[i64], low: &[i64], high: &[i64]) -> Option<Point>
