@@ -6,9 +6,9 @@ ghost use Rattle.av_affine.specs.Numbers.{AtMost, dot};
 ghost use Rattle.av_affine.specs.Forms.{IsWithinLimits};
 ghost use Rattle.av_flat.specs.Broadcasts.{lists_of, is_zero, stays, moves, first_moving};
 
-use arrayvec::ArrayVec;
 use av_affine::{Form, Map};
 use av_base::{List, Memory, Point};
+use av_poly::with_first;
 use std::alloc::Global;
 
 // Whether the coefficients of a form send a direction to 0.
@@ -38,26 +38,13 @@ fn stays(map: &Map, w: &Point) -> bool
     true
 }
 
-// The point with one more entry in front.
-fn longer(x: i64, w: &Point) -> Point
-    requires { length w.now < 4 }
-    ensures { result ≡ x ∷ w.now }
-{
-    let mut entries: ArrayVec<i64, 4> = ArrayVec::new();
-    entries.push(x);
-    for entry in w.as_slice() {
-        entries.push(*entry);
-    }
-    Point::from_slice(entries.as_slice())
-}
-
 // Puts the points behind others, each with one more entry in front.
 fn append_longer(x: i64, ws: &[Point], to: &mut List<Point>) -> Result<(), Memory>
     requires { All (λ w. length w < 4) ws.now }
     ensures { OnOk result (to.new ≡ to.old ++ map (λ w. x ∷ w) ws.now) }
 {
     for w in ws {
-        to.push(longer(x, w))?;
+        to.push(with_first(x, w))?;
     }
     Ok(())
 }

@@ -3,6 +3,7 @@
 
 mod before;
 mod copy;
+mod entries;
 mod interval;
 mod laws;
 mod normal;
@@ -12,7 +13,7 @@ mod row;
 mod search;
 
 pub use copy::{copy_rows, copy_set, normalised_copy};
+pub use entries::{extended, first_entries, with_first};
 pub use laws::normalised_rows_are_unique;
 pub use poly::{Bounds, Poly};
 pub use row::append_rows;
-pub use search::{extended, first_entries};

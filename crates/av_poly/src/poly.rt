@@ -9,10 +9,11 @@ ghost use Rattle.av_poly.specs.Parts.{AreDisjoint};
 ghost use Rattle.av_poly.specs.Search.{IsBetween, IsNotAfter};
 
 use crate::before::each_before;
+use crate::entries::first_entries;
 use crate::normal::normalise_rows;
 use crate::parts::parts;
 use crate::row::{append_rows, each_holds};
-use crate::search::{first_entries, first_from};
+use crate::search::first_from;
 use av_affine::{Form, Map};
 use av_base::{List, Memory, Point};
 use std::alloc::Global;

@@ -1,17 +1,18 @@
 //! The lexicographic minimum of rows between bounds, index by index.
 
-ghost use Rattle.std.specs.Prelude.{ℕ, ℤ, List, ◌≡◌, ◌≤◌, ◌<◌, ◌+◌, ◌^◌, ◌∷◌, [], ◌++◌, length, take, unsigned_abs, All, IfSome, IfNone};
+ghost use Rattle.std.specs.Prelude.{ℤ, List, ◌≡◌, ◌≤◌, ◌+◌, length, All, IfSome, IfNone};
 ghost use Rattle.av_affine.specs.Numbers.{AtMost};
 ghost use Rattle.av_poly.specs.Points.{IsSmall};
 ghost use Rattle.av_poly.specs.Search.{CanFollow};
 ghost use Rattle.av_poly.specs.inner.Search.{IsFirstFrom};
 
+use crate::entries::extended;
 use crate::interval::interval_of;
 use crate::row::each_holds;
-use arrayvec::ArrayVec;
 use av_affine::Form;
 use av_base::Point;
 
+<<<<<<< HEAD
 /// The first numbers, as many as there are indices.
 pub fn first_entries(numbers: [i128; 4], dim: u8) -> ArrayVec<i64, 4>
     requires numbers { AtMost 4095 numbers }
@@ -39,6 +40,9 @@ pub fn extended(fixed: &[i64], entry: i64) -> ArrayVec<i64, 4>
 }
 
 /// The least point that begins with the fixed entries, where bounds are given for the others.
+=======
+// The least point that begins with the fixed entries, where bounds are given for the others.
+>>>>>>> 3619fd38d311967b5b1fcc5ab65bdcd3b0355d12
 pub(crate) fn first_from(rows: &[Form], fixed: &[i64], low: &[i64], high: &[i64]) -> Option<Point>
     requires rows { All IsSmall rows.now }
     requires fixed { AtMost 4095 fixed.now }

@@ -4,23 +4,10 @@ ghost use Rattle.std.specs.Prelude.{◌≡◌, ◌≢◌, ◌≤◌, ◌<◌, �
 ghost use Rattle.std.proofs.Math.IntN.{neg_ℤ};
 ghost use Rattle.av_sched.specs.inner.Vectors.{ArePrepended, AreVectorsOf, AreLinearPartsOf};
 
-use arrayvec::ArrayVec;
 use av_base::{List, Memory, Point};
 use av_flat::Reach;
+use av_poly::with_first;
 use std::alloc::Global;
-
-/// The point with one more entry before its own.
-pub(crate) fn with_first(entry: i64, rest: &Point) -> Point
-    requires { length rest.now < 4 }
-    ensures { result ≡ entry ∷ rest.now }
-{
-    let mut entries: ArrayVec<i64, 4> = ArrayVec::new();
-    entries.push(entry);
-    for other in rest.as_slice() {
-        entries.push(*other);
-    }
-    Point::from_slice(entries.as_slice())
-}
 
 /// Adds each of the points with one more entry before its own.
 pub(crate) fn prepend_all(to: &mut Vec<Point>, entry: i64, shorter: &[Point]) -> Result<(), Memory>
