@@ -12,37 +12,7 @@ use crate::row::each_holds;
 use av_affine::Form;
 use av_base::Point;
 
-<<<<<<< HEAD
-/// The first numbers, as many as there are indices.
-pub fn first_entries(numbers: [i128; 4], dim: u8) -> ArrayVec<i64, 4>
-    requires numbers { AtMost 4095 numbers }
-    requires dim { dim ≤ 4 }
-    ensures { result.items ≡ take dim numbers }
-{
-    let mut entries: ArrayVec<i64, 4> = ArrayVec::new();
-    for k in 0..dim as usize {
-        entries.push(numbers[k] as i64);
-    }
-    entries
-}
-
-/// Entries with one more.
-pub fn extended(fixed: &[i64], entry: i64) -> ArrayVec<i64, 4>
-    requires { length fixed.now < 4 }
-    ensures { result.items ≡ fixed.now ++ entry ∷ [] }
-{
-    let mut entries: ArrayVec<i64, 4> = ArrayVec::new();
-    for number in fixed {
-        entries.push(*number);
-    }
-    entries.push(entry);
-    entries
-}
-
 /// The least point that begins with the fixed entries, where bounds are given for the others.
-=======
-// The least point that begins with the fixed entries, where bounds are given for the others.
->>>>>>> 3619fd38d311967b5b1fcc5ab65bdcd3b0355d12
 pub(crate) fn first_from(rows: &[Form], fixed: &[i64], low: &[i64], high: &[i64]) -> Option<Point>
     requires rows { All IsSmall rows.now }
     requires fixed { AtMost 4095 fixed.now }
