@@ -1,24 +1,40 @@
 //! How far readers are ahead of what they read.
 
-ghost use Rattle.std.specs.Prelude.{◌≡◌, ◌≤◌, ◌<◌, ◌^◌, length, unsigned_abs, All};
+ghost use Rattle.std.specs.Prelude.{◌≡◌, ◌≤◌, ◌<◌, ◌*◌, ◌^◌, pos, ◌*ℤ◌, ◌-ℤ◌, length, unsigned_abs, All};
 ghost use Rattle.av_affine.specs.Numbers.{dot, AtMost};
 ghost use Rattle.av_sched.specs.Offsets.{part};
 ghost use Rattle.av_sched.specs.inner.Leads.{lead, IsLeastLead, IsSmallPoint, IsSmallPart, IsSmallMap, IsUsable, IsArcOf};
 
 use crate::arc::Arc;
-use av_affine::{Map, dot};
+use av_affine::Map;
 use av_base::Point;
 use av_depend::Edge;
+
+// The product of small numbers.
+fn product(a: i64, b: i64) -> i64
+    requires first { unsigned_abs a ≤ 4 }
+    requires second { unsigned_abs b ≤ 2 ^ 25 }
+    ensures value { result ≡ a *ℤ b }
+    ensures small { unsigned_abs result ≤ 2 ^ 27 }
+{
+    a * b
+}
 
 /// The sum of the products of numbers.
 pub(crate) fn products(linear: &[i64], z: &[i64]) -> i64
     requires linear { AtMost 4 linear.now }
     requires z { AtMost (2 ^ 25) z.now }
     requires fits { length z.now ≤ 4 }
+    requires sizes { length z.now ≤ length linear.now }
     ensures value { result ≡ dot linear.now z.now }
     ensures small { unsigned_abs result ≤ 2 ^ 29 }
 {
-    dot(linear, z) as i64
+    let mut sum: i64 = 0;
+    for k in 0..z.len() {
+        let term = product(linear[k], z[k]);
+        sum += term;
+    }
+    sum
 }
 
 /// How far the reader is ahead at a point, before offsets are added.
