@@ -5,3 +5,4 @@ pub mod Passing
 pub mod Tables
 pub mod Runs
 pub mod Spelled
+pub mod Longest

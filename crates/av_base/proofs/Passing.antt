@@ -1,6 +1,7 @@
 -- The places of a text's bytes.
-use Rattle.std.proofs.Common.{◌≡◌, ℕ, suc, ◌+◌, ◌<◌, ◌≤◌, true, false, cond, List, [], ◌∷◌, ◌++◌, length, drop, get_or, refl, sym, ap, ◌∙◌, arith, drop-cons}
+use Rattle.std.proofs.Common.{◌≡◌, ℕ, suc, ◌+◌, ◌<◌, ◌≤◌, true, false, cond, List, [], ◌∷◌, ◌++◌, length, take, drop, get_or, refl, sym, ap, ◌∙◌, arith, drop-cons}
 use Rattle.std.specs.Prelude.{nat_eq}
+use Rattle.std.proofs.lemmas.List.{length-take}
 use Rattle.av_base.specs.declared.place.Place.{Place}
 use Rattle.av_base.specs.Tokens.{next_place, moved}
 
@@ -19,6 +20,13 @@ moved_line p (b ∷ bytes) = omega (arith, next_line p b, moved_line (next_place
 pub moved_column : (p : Place) (bytes : List ℕ) → (moved p bytes).column ≤ p.column + length bytes
 moved_column p [] = omega arith
 moved_column p (b ∷ bytes) = omega (arith, next_column p b, moved_column (next_place p b) bytes)
+
+-- so does the place behind some bytes from an index on
+pub line_after : (bytes : List ℕ) (at : ℕ) (place : Place) (n : ℕ) → place.line ≤ at + 1 → (moved place (take n (drop at bytes))).line ≤ at + n + 1
+line_after bytes at place n h = omega (arith, moved_line place (take n (drop at bytes)), length-take n (drop at bytes))
+
+pub column_after : (bytes : List ℕ) (at : ℕ) (place : Place) (n : ℕ) → place.column ≤ at + 1 → (moved place (take n (drop at bytes))).column ≤ at + n + 1
+column_after bytes at place n h = omega (arith, moved_column place (take n (drop at bytes)), length-take n (drop at bytes))
 
 pub moved-append : (p : Place) (front back : List ℕ) → moved p (front ++ back) ≡ moved (moved p front) back
 moved-append p [] back = refl

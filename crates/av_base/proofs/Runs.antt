@@ -1,9 +1,10 @@
 -- Runs of bytes at the front of a text.
-use Rattle.std.proofs.Common.{◌≡◌, ◌≢◌, ℕ, ◌+◌, ◌≤◌, Bool, true, false, cond, not, ◌||◌, List, [], ◌∷◌, ◌++◌, length, take, drop, refl, sym, ap, subst, arith, inl, inr, ◌⊎◌, eq-eqb}
+use Rattle.std.proofs.Common.{◌≡◌, ◌≢◌, ℕ, suc, ◌+◌, ◌-◌, ◌<◌, ◌≤◌, get_or, drop-cons, ◌∙◌, Bool, true, false, cond, not, ◌||◌, List, [], ◌∷◌, ◌++◌, length, take, drop, refl, sym, ap, subst, arith, inl, inr, ◌⊎◌, eq-eqb}
 use Rattle.std.specs.Prelude.{nat_eq}
 use Rattle.std.specs.List.{prefix_len, AllByRecursion}
 use Rattle.std.proofs.Math.Numerals.{one-add}
 use Rattle.std.proofs.lemmas.Bool.{eqb-true}
+use Rattle.std.proofs.lemmas.List.{length-drop}
 use Rattle.av_base.specs.Tokens.{is_blank, IsLineEnd}
 use Rattle.av_base.specs.Spelling.{is_not_feed}
 
@@ -25,6 +26,15 @@ run_all p (b ∷ bytes) = go (p b) refl (run_all p bytes)
 pub run_covers : (p : ℕ → Bool) (front back : List ℕ) → AllByRecursion (λ x. p x ≡ true) front → length front ≤ prefix_len p (front ++ back)
 run_covers p [] back h = omega arith
 run_covers p (b ∷ front) back h = let ih = run_covers p front back h.1 in rw h.0 (omega arith)
+
+-- what holds at the front of each text holds at each index
+pub at_index : {A : Type 0} (P : A → ℕ → Type 0) (read : ℕ → List ℕ → A) → ((b : ℕ) (bytes : List ℕ) → P (read b (b ∷ bytes)) (length (b ∷ bytes)))
+    → (bytes : List ℕ) (at : ℕ) → at < length bytes → P (read (get_or bytes at 0) (drop at bytes)) (length bytes - at)
+at_index P read front bytes at lt =
+    let b = get_or bytes at 0 in
+    let here : drop at bytes ≡ b ∷ drop (suc at) bytes = drop-cons bytes at 0 lt in
+    let room : length (b ∷ drop (suc at) bytes) ≡ length bytes - at = sym (ap length here) ∙ length-drop at bytes in
+    subst (λ (z : List ℕ). P (read b z) (length bytes - at)) (sym here) (subst (λ n. P (read b (b ∷ drop (suc at) bytes)) n) room (front b (drop (suc at) bytes)))
 
 -- ---- up to the end of the line
 

@@ -1,5 +1,5 @@
 -- The test of a name tells that the text is spelled as one.
-use Rattle.std.proofs.Common.{◌≡◌, ℕ, Bool, true, false, not, List, [], ◌∷◌, refl, sym, ap, ◌∙◌, true≢false}
+use Rattle.std.proofs.Common.{◌≡◌, ℕ, true, not, List, [], ◌∷◌, refl, sym, ap, ◌∙◌, true≢false}
 use Rattle.std.specs.Prelude.{IsTrue}
 use Rattle.std.specs.List.{list_all, AllByRecursion}
 use Rattle.std.specs.Char.{is_ascii_alphabetic}
@@ -7,7 +7,7 @@ use Rattle.std.proofs.lemmas.List.Elements.{All-from_recursion, recursion_from_A
 use Rattle.av_base.specs.declared.token_kind.TokenKind.TheVariants as kind
 use Rattle.av_base.specs.Tokens.{reserved_words, is_word_byte, IsSpelled}
 use Rattle.av_base.specs.Spelling.{is_reserved, is_name}
-use Rattle.av_base.proofs.Tables.{both, and_true, is_found, is_there}
+use Rattle.av_base.proofs.Tables.{both, and_true, is_found, not_there}
 
 pub all_word : (text : List ℕ) → list_all is_word_byte text ≡ true → AllByRecursion (λ x. IsTrue (is_word_byte x)) text
 all_word [] e = tt
@@ -27,8 +27,4 @@ name_is (b ∷ text) e =
 pub name_gives : (text : List ℕ) → IsSpelled kind.Name text → is_name text ≡ true
 name_gives [] s = absurd s.0
 name_gives (b ∷ text) s =
-    and_true (is_ascii_alphabetic b) _ s.0.0 (and_true (list_all is_word_byte text) _ (word_all text (recursion_from_All (λ x. IsTrue (is_word_byte x)) text s.0.1)) (free (is_reserved (b ∷ text)) refl))
-  where
-    free : (t : Bool) → is_reserved (b ∷ text) ≡ t → not t ≡ true
-    free true h = absurd (s.1 (is_there (b ∷ text) reserved_words h))
-    free false h = refl
+    and_true (is_ascii_alphabetic b) _ s.0.0 (and_true (list_all is_word_byte text) _ (word_all text (recursion_from_All (λ x. IsTrue (is_word_byte x)) text s.0.1)) (ap not (not_there (b ∷ text) reserved_words s.1)))

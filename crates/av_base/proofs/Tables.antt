@@ -1,5 +1,5 @@
 -- Tables of words and symbols, and the tests by which their texts are found.
-use Rattle.std.proofs.Common.{◌≡◌, ℕ, Bool, true, false, ◌&&◌, List, [], ◌∷◌, refl}
+use Rattle.std.proofs.Common.{◌≡◌, ℕ, Bool, true, false, ◌&&◌, List, [], ◌∷◌, refl, sym, ◌∙◌, true≢false}
 use Rattle.std.specs.Prelude.{nat_eq, Contains}
 use Rattle.std.specs.List.{list_all, list_any}
 use Rattle.std.specs.Str.{bytes_eq}
@@ -25,6 +25,16 @@ is_found text table h = list_any-from_Contains nat_list_eq_equiv text table h
 pub is_there : (text : List ℕ) (table : List (List ℕ)) → list_any (bytes_eq text) table ≡ true → Contains table text
 is_there text table h = Contains-from_any (λ x y e. (bytes_eq-Decides x y).0 e) text table h
 
+pub not_there : (text : List ℕ) (table : List (List ℕ)) → (Contains table text → ⊥) → list_any (bytes_eq text) table ≡ false
+not_there text table h = go (list_any (bytes_eq text) table) refl
+  where
+    go : (t : Bool) → list_any (bytes_eq text) table ≡ t → list_any (bytes_eq text) table ≡ false
+    go true e = absurd (h (is_there text table e))
+    go false e = e
+
+pub none_there : (text : List ℕ) (table : List (List ℕ)) → list_any (bytes_eq text) table ≡ false → Contains table text → ⊥
+none_there text table e h = true≢false (sym (is_found text table h) ∙ e)
+
 -- what a test of each text of a table tells of one
 pub tells : (test : List ℕ → Bool) (table : List (List ℕ)) → list_all test table ≡ true → (text : List ℕ) → Contains table text → test text ≡ true
 tells test table h text c = All-contains (λ x. test x ≡ true) table text (AllPass-from_list_all test table h) c
@@ -39,6 +49,9 @@ is_short is_first is_single is_pair _ = false
 pub data IsShort (is_first is_single : ℕ → Bool) (is_pair : ℕ → ℕ → Bool) : List ℕ → Type 0 where
   one : {b : ℕ} → is_first b ≡ true → is_single b ≡ true → IsShort is_first is_single is_pair (b ∷ [])
   two : {b c : ℕ} → is_first b ≡ true → is_pair b c ≡ true → IsShort is_first is_single is_pair (b ∷ c ∷ [])
+
+pub none_short : (is_first is_single : ℕ → Bool) (is_pair : ℕ → ℕ → Bool) → IsShort is_first is_single is_pair [] → ⊥
+none_short is_first is_single is_pair s = elim s [ ]
 
 pub short_is : (is_first is_single : ℕ → Bool) (is_pair : ℕ → ℕ → Bool) (table : List (List ℕ)) → list_all (is_short is_first is_single is_pair) table ≡ true
     → (text : List ℕ) → Contains table text → IsShort is_first is_single is_pair text

@@ -1,5 +1,7 @@
 ghost use Rattle.std.specs.Prelude.{◌≡◌, ◌≤◌, ◌<◌, ◌⊎◌, IfSome, IfNone};
 
+use crate::limits::MOST_BITS;
+
 /// The width of a word, 1 to 64 bits.
 #[derive(Clone, Copy, Debug, PartialEq, Eq)]
 pub struct Width {
@@ -14,7 +16,7 @@ impl Width {
         ensures some { IfSome result (λ width. width.bits ≡ bits) }
         ensures none { IfNone result ((bits ≡ 0) ⊎ (64 < bits)) }
     {
-        if bits == 0 || bits > 64 {
+        if bits == 0 || bits > MOST_BITS {
             None
         } else {
             Some(Width { bits })

@@ -17,9 +17,10 @@ use Rattle.av_lex.specs.Faults.{BeginsNone, IsFault, bad_byte, number, past_blan
 use Rattle.av_lex.specs.Lexing.{LieInOrder, views, Gives}
 use Rattle.av_lex.specs.declared.token.Token.{Token as Code}
 use Rattle.av_lex.specs.inner.Reading.{Reading, with_token, read_by, read_of}
-use Rattle.av_lex.specs.inner.Scan.{piece_of, is_in_range}
+use Rattle.av_lex.specs.inner.Scan.{is_single, is_pair, piece_of, is_in_range}
 use Rattle.av_base.proofs.Runs.{chosen}
-use Rattle.av_lex.proofs.Tables.{reserved_word, IsSymbol, symbol_is}
+use Rattle.av_base.proofs.Tables.{none_short}
+use Rattle.av_lex.proofs.Tables.{reserved_word, is_other, symbol_is}
 use Rattle.av_base.proofs.Passing.{moved-append}
 use Rattle.av_lex.proofs.Pieces.{IsPiece, a_blank, a_comment, a_token, no_piece, is_piece, piece_blank, piece_comment, piece_token, piece_none}
 
@@ -109,14 +110,11 @@ read_sound (suc n) p (b ∷ bytes) tokens e = sound_by n p (b ∷ bytes) (piece_
 
 -- ---- what is spelled is read
 
-no_symbol : IsSymbol [] → ⊥
-no_symbol s = elim s [ ]
-
 spelled_some : (k : TokenKind) → IsSpelled k [] → ⊥
 spelled_some kind.Name s = s.0
 spelled_some kind.Reserved s = reserved_word [] s
 spelled_some kind.Number s = s
-spelled_some kind.Symbol s = no_symbol (symbol_is [] s)
+spelled_some kind.Symbol s = none_short is_other is_single is_pair (symbol_is [] s)
 spelled_some kind.End s = s
 
 comment_at : (b : ℕ) (bytes text rest : List ℕ) → b ∷ bytes ≡ text ++ rest → IsComment text rest → piece_of b (b ∷ bytes) ≡ piece.Gap (length text)

@@ -1,6 +1,6 @@
 -- One turn of the loop that reads piece by piece.
 use Rattle.std.proofs.Common.{◌≡◌, ℕ, zero, suc, ◌+◌, ◌-◌, ◌<◌, ◌≤◌, true, false, List, [], ◌∷◌, ◌++◌, length, take, drop, get_or, Ok, Err, refl, sym, ap, subst, ◌∙◌, arith, append_assoc, drop-cons}
-use Rattle.std.proofs.lemmas.List.{length-take, length-drop, drop-drop, nil_from_length}
+use Rattle.std.proofs.lemmas.List.{length-drop, drop-drop, nil_from_length}
 use Rattle.av_base.specs.declared.place.Place.{Place}
 use Rattle.av_base.specs.declared.token_kind.TokenKind.{TokenKind}
 use Rattle.av_base.specs.declared.token_kind.TokenKind.TheVariants as kind
@@ -10,7 +10,8 @@ use Rattle.av_lex.specs.declared.scan.Piece.{Piece}
 use Rattle.av_lex.specs.declared.scan.Piece.TheVariants as piece
 use Rattle.av_lex.specs.inner.Reading.{Reading, with_token, read_by, read_of}
 use Rattle.av_lex.specs.inner.Scan.{piece_of, is_in_range, FitsIn}
-use Rattle.av_base.proofs.Passing.{moved_line, moved_column}
+use Rattle.av_base.proofs.Passing.{line_after, column_after}
+use Rattle.av_base.proofs.Runs.{at_index}
 use Rattle.av_lex.proofs.Pieces.{IsPiece, a_blank, a_comment, a_token, no_piece, is_piece}
 
 -- ---- what stands at an index fits there
@@ -22,12 +23,7 @@ fits_in (a_token h f) = (f.some, f.within)
 fits_in (no_piece h c f) = tt
 
 pub piece_fits : (bytes : List ℕ) (at : ℕ) → at < length bytes → FitsIn (piece_of (get_or bytes at 0) (drop at bytes)) (length bytes - at)
-piece_fits bytes at lt =
-    let b = get_or bytes at 0 in
-    let here : drop at bytes ≡ b ∷ drop (suc at) bytes = drop-cons bytes at 0 lt in
-    let room : length (b ∷ drop (suc at) bytes) ≡ length bytes - at = sym (ap length here) ∙ length-drop at bytes in
-    subst (λ (z : List ℕ). FitsIn (piece_of b z) (length bytes - at)) (sym here)
-    (subst (λ n. FitsIn (piece_of b (b ∷ drop (suc at) bytes)) n) room (fits_in (is_piece b (drop (suc at) bytes) (piece_of b (b ∷ drop (suc at) bytes)) refl)))
+piece_fits bytes at lt = at_index FitsIn piece_of (λ b rest. fits_in (is_piece b rest (piece_of b (b ∷ rest)) refl)) bytes at lt
 
 -- ---- the loop
 
@@ -69,12 +65,6 @@ module _ (bytes : List ℕ) (at : ℕ) (place : Place) (found : List Token) (lt 
       subst (λ (z : List ℕ). read_of (suc m) place z ≡ read_by (λ q r. read_of m q r) place z p) (sym here)
       (ap (read_by (λ q r. read_of m q r) place (get_or bytes at 0 ∷ drop (suc at) bytes)) (sym (ap (piece_of (get_or bytes at 0)) here) ∙ sym e))
 
-  line_after : (n : ℕ) → place.line ≤ at + 1 → (moved place (take n (drop at bytes))).line ≤ at + n + 1
-  line_after n h = omega (arith, moved_line place (take n (drop at bytes)), length-take n (drop at bytes))
-
-  column_after : (n : ℕ) → place.column ≤ at + 1 → (moved place (take n (drop at bytes))).column ≤ at + n + 1
-  column_after n h = omega (arith, moved_column place (take n (drop at bytes)), length-take n (drop at bytes))
-
   gap_at : (fuel n : ℕ) → length bytes ≤ at + fuel → with_front found (read_of fuel place (drop at bytes)) ≡ read_of (length bytes) start bytes
       → piece.Gap n ≡ piece_of (get_or bytes at 0) (drop at bytes) → 0 < n → n ≤ length bytes - at → place.line ≤ at + 1 → place.column ≤ at + 1
       → Goes bytes (at + n) (moved place (take n (drop at bytes))) found
@@ -83,7 +73,7 @@ module _ (bytes : List ℕ) (at : ℕ) (place : Place) (found : List Token) (lt 
   gap_at (suc m) n enough is e some room l c =
       let next : Place = moved place (take n (drop at bytes)) in
       let one : read_of (suc m) place (drop at bytes) ≡ read_of m next (drop (at + n) bytes) = step m (piece.Gap n) e ∙ ap (read_of m next) (drop-drop n at bytes) in
-      record { fuel = m; within = omega arith; enough = omega arith; line = line_after n l; column = column_after n c; is = ap (with_front found) (sym one) ∙ is }
+      record { fuel = m; within = omega arith; enough = omega arith; line = line_after bytes at place n l; column = column_after bytes at place n c; is = ap (with_front found) (sym one) ∙ is }
 
   token_at : (fuel n : ℕ) (k : TokenKind) → length bytes ≤ at + fuel → with_front found (read_of fuel place (drop at bytes)) ≡ read_of (length bytes) start bytes
       → piece.Token k n ≡ piece_of (get_or bytes at 0) (drop at bytes) → is_in_range k (take n (drop at bytes)) ≡ true → 0 < n → n ≤ length bytes - at → place.line ≤ at + 1 → place.column ≤ at + 1
@@ -95,7 +85,7 @@ module _ (bytes : List ℕ) (at : ℕ) (place : Place) (found : List Token) (lt 
       let next : Place = moved place (take n (drop at bytes)) in
       let one : read_of (suc m) place (drop at bytes) ≡ with_token t (read_of m next (drop (at + n) bytes)) =
       step m (piece.Token k n) e ∙ rw ranged refl ∙ ap (λ (z : List ℕ). with_token t (read_of m next z)) (drop-drop n at bytes) in
-      record { fuel = m; within = omega arith; enough = omega arith; line = line_after n l; column = column_after n c; is = sym (ap (with_front found) one ∙ regroup found t (read_of m next (drop (at + n) bytes))) ∙ is }
+      record { fuel = m; within = omega arith; enough = omega arith; line = line_after bytes at place n l; column = column_after bytes at place n c; is = sym (ap (with_front found) one ∙ regroup found t (read_of m next (drop (at + n) bytes))) ∙ is }
 
   number_at : (fuel n : ℕ) (k : TokenKind) → length bytes ≤ at + fuel → with_front found (read_of fuel place (drop at bytes)) ≡ read_of (length bytes) start bytes
       → piece.Token k n ≡ piece_of (get_or bytes at 0) (drop at bytes) → is_in_range k (take n (drop at bytes)) ≡ false → read_of (length bytes) start bytes ≡ Err (fault.Number place)

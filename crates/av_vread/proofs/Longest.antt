@@ -5,8 +5,8 @@ use Rattle.std.specs.List.{prefix_len, AllByRecursion}
 use Rattle.std.specs.Char.{is_ascii_digit}
 use Rattle.std.specs.Str.{bytes_eq}
 use Rattle.std.proofs.Math.Numerals.{one-add}
-use Rattle.std.proofs.Math.Seq.{take-append_seam, drop-append_seam}
-use Rattle.std.proofs.lemmas.List.{length-take, length-drop, take-append-drop}
+use Rattle.std.proofs.Math.Seq.{drop-append_seam}
+use Rattle.std.proofs.lemmas.List.{length-drop}
 use Rattle.std.proofs.lemmas.List.Elements.{All-from_recursion, recursion_from_All}
 use Rattle.std.proofs.lemmas.List.Sums.{prefix_len-le-length}
 use Rattle.std.proofs.lemmas.Slice.Eq.{bytes_eq-Decides}
@@ -19,18 +19,15 @@ use Rattle.av_vread.specs.declared.scan.Piece.{Piece}
 use Rattle.av_vread.specs.declared.scan.Piece.TheVariants as piece
 use Rattle.av_net.specs.Spelling.{is_reserved}
 use Rattle.av_vread.specs.inner.Scan.{is_single, begins_pair, is_signed, based_len, tail_len, number_by, number_of, word_kind, symbol_of, token_of}
-use Rattle.av_base.proofs.Tables.{both, is_found, is_there, one, two}
+use Rattle.av_base.proofs.Tables.{both, is_found, is_there, not_there, none_there, one, two}
 use Rattle.av_base.proofs.Runs.{chosen, run_all, run_covers}
+use Rattle.av_base.proofs.Longest.{CoversBy, run_covered, FitsBy, found_longest, longest_found, none_begins, none_found}
 use Rattle.av_vread.proofs.Tables.{reserved_word, is_other, IsSymbol, symbol_is, single_symbol, pair_symbol}
 
 -- ---- what is spelled is covered by the token that is found
 
-pub record Covers (k : TokenKind) (len : ℕ) (found : Piece) : Type 0 where
-  pub kind : TokenKind
-  pub len' : ℕ
-  pub is : found ≡ piece.Token kind len'
-  pub no_less : len ≤ len'
-  pub same : len ≡ len' → k ≡ kind
+abbrev pub Covers : TokenKind → ℕ → Piece → Type 0
+Covers k len found = CoversBy piece.Token k len found
 
 alphabetic_word : (b : ℕ) → begins_name b ≡ true → is_word_byte b ≡ true
 alphabetic_word b h = grind arith
@@ -39,11 +36,7 @@ digit_not_letter : (b : ℕ) → is_ascii_digit b ≡ true → begins_name b ≡
 digit_not_letter b h = grind arith
 
 pub name_kind : (text : List ℕ) → (Contains reserved_words text → ⊥) → word_kind text ≡ kind.Name
-name_kind text h = go (is_reserved text) refl
-  where
-    go : (t : Bool) → is_reserved text ≡ t → cond t kind.Reserved kind.Name ≡ kind.Name
-    go true e = absurd (h (is_there text reserved_words e))
-    go false e = refl
+name_kind text h = rw (not_there text reserved_words h) refl
 
 pub reserved_kind : (text : List ℕ) → Contains reserved_words text → word_kind text ≡ kind.Reserved
 reserved_kind text h = rw (is_found text reserved_words h) refl
@@ -55,14 +48,7 @@ word_covers k (x ∷ front) back s w b bytes e =
     let head : x ≡ b = cc in
     let letter : begins_name b ≡ true = subst (λ z. begins_name z ≡ true) head s.0 in
     let all : AllByRecursion (λ x. is_word_byte x ≡ true) (x ∷ front) = (alphabetic_word x s.0, recursion_from_All (λ x. is_word_byte x ≡ true) front s.1) in
-    let n = prefix_len is_word_byte (x ∷ front ++ back) in
-    record {
-      kind = word_kind (take n (x ∷ front ++ back));
-      len' = n;
-      is = rw letter refl;
-      no_less = run_covers is_word_byte (x ∷ front) back all;
-      same = λ h. sym (ap word_kind (ap (λ z. take z (x ∷ front ++ back)) (sym h) ∙ take-append_seam (x ∷ front) back) ∙ w);
-    }
+    run_covered piece.Token word_kind is_word_byte k (x ∷ front) back (token_of b (x ∷ front ++ back)) all w (rw letter refl)
 
 pub one_or_two : (t : Bool) (found : Piece) → found ≡ cond t (piece.Token kind.Symbol 2) (piece.Token kind.Symbol 1) → Covers kind.Symbol 1 found
 one_or_two true found h = record { kind = kind.Symbol; len' = 2; is = h; no_less = omega arith; same = λ e. absurd (omega arith) }
@@ -211,10 +197,8 @@ covers kind.End front back s b bytes e = absurd s
 
 -- ---- the token that is found is spelled
 
-pub record Fits (k : TokenKind) (n : ℕ) (bytes : List ℕ) : Type 0 where
-  pub spelled : IsSpelled k (take n bytes)
-  pub some : 0 < n
-  pub within : n ≤ length bytes
+abbrev pub Fits : TokenKind → ℕ → List ℕ → Type 0
+Fits k n bytes = FitsBy IsSpelled k n bytes
 
 fits_as : (k l : TokenKind) (m n : ℕ) (bytes : List ℕ) → piece.Token l m ≡ piece.Token k n → Fits l m bytes → Fits k n bytes
 fits_as k l m n bytes e f =
@@ -242,7 +226,7 @@ word_spelled text w = go (is_reserved text) refl
   where
     go : (t : Bool) → is_reserved text ≡ t → IsSpelled (cond t kind.Reserved kind.Name) text
     go true e = is_there text reserved_words e
-    go false e = (w, λ h. true≢false (sym (is_found text reserved_words h) ∙ e))
+    go false e = (w, none_there text reserved_words e)
 
 -- the digits that are found, and their tail
 run_digits : (b : ℕ) (bytes : List ℕ) → is_ascii_digit b ≡ true → (0 < prefix_len is_ascii_digit (b ∷ bytes)) × IsDigits (take (prefix_len is_ascii_digit (b ∷ bytes)) (b ∷ bytes))
@@ -355,41 +339,20 @@ pub record Found (k : TokenKind) (n : ℕ) (bytes : List ℕ) : Type 0 where
   pub some : 0 < n
   pub within : n ≤ length bytes
 
+same_len : (k l : TokenKind) (m n : ℕ) → piece.Token k m ≡ piece.Token l n → m ≡ n
+same_len k l m n e = cc
+
 pub token_found : (b : ℕ) (bytes : List ℕ) (k : TokenKind) (n : ℕ) → token_of b (b ∷ bytes) ≡ piece.Token k n → Found k n (b ∷ bytes)
 token_found b bytes k n e =
     let f = token_fits b bytes k n e in
-    let len : length (take n (b ∷ bytes)) ≡ n = let w = f.within in simp length-take (omega arith) in
-    record {
-      longest = record {
-        spelled = f.spelled;
-        longest = λ other front back same s.
-            let whole : b ∷ bytes ≡ front ++ back = sym (take-append-drop n (b ∷ bytes)) ∙ same in
-            let c = covers other front back s b bytes (sym whole) in
-            let here : piece.Token k n ≡ piece.Token c.kind c.len' = sym e ∙ ap (token_of b) whole ∙ c.is in
-            let n-is : n ≡ c.len' = cc in
-            omega (arith, c.no_less);
-      };
-      some = f.some;
-      within = f.within;
-    }
+    record { longest = record { spelled = f.spelled; longest = found_longest piece.Token same_len IsSpelled token_of covers token_fits b bytes k n e }; some = f.some; within = f.within }
 
 pub token_none : (b : ℕ) (bytes : List ℕ) → token_of b (b ∷ bytes) ≡ piece.Bad → BeginsNone (b ∷ bytes)
-token_none b bytes e k front back whole s =
-    let c = covers k front back s b bytes (sym whole) in
-    let here : piece.Bad ≡ piece.Token c.kind c.len' = sym e ∙ ap (token_of b) whole ∙ c.is in
-    cc
+token_none b bytes e = none_begins piece.Token same_len IsSpelled token_of covers token_fits b bytes (λ k n h. let here : piece.Bad ≡ piece.Token k n = sym e ∙ h in cc)
 
 -- the longest token is the one that is found
 pub token_is : (k : TokenKind) (b : ℕ) (bytes text rest : List ℕ) → b ∷ bytes ≡ text ++ rest → IsLongest k text rest → token_of b (b ∷ bytes) ≡ piece.Token k (length text)
-token_is k b bytes text rest whole l =
-    let c = covers k text rest l.spelled b bytes (sym whole) in
-    let e : token_of b (b ∷ bytes) ≡ piece.Token c.kind c.len' = ap (token_of b) whole ∙ c.is in
-    let f = token_fits b bytes c.kind c.len' e in
-    let no_more = l.longest c.kind (take c.len' (b ∷ bytes)) (drop c.len' (b ∷ bytes)) (sym whole ∙ sym (take-append-drop c.len' (b ∷ bytes))) f.spelled in
-    let len : length (take c.len' (b ∷ bytes)) ≡ c.len' = let w = f.within in simp length-take (omega arith) in
-    let n-is : length text ≡ c.len' = omega (arith, c.no_less) in
-    let k-is : k ≡ c.kind = c.same n-is in
-    e ∙ ap (λ z. piece.Token c.kind z) (sym n-is) ∙ ap (λ z. piece.Token z (length text)) (sym k-is)
+token_is k b bytes text rest whole l = longest_found piece.Token same_len IsSpelled token_of covers token_fits k b bytes text rest whole l.spelled l.longest
 
 abbrev pub IsNoGap : Piece → Type 0
 IsNoGap (piece.Gap n) = ⊥
@@ -411,5 +374,5 @@ token_no_gap b text =
 -- where no token begins, none is found
 pub none_is : (b : ℕ) (bytes : List ℕ) → BeginsNone (b ∷ bytes) → (found : Piece) → token_of b (b ∷ bytes) ≡ found → IsNoGap found → found ≡ piece.Bad
 none_is b bytes h piece.Bad e g = refl
-none_is b bytes h (piece.Token k n) e g = absurd (h k (take n (b ∷ bytes)) (drop n (b ∷ bytes)) (sym (take-append-drop n (b ∷ bytes))) (token_fits b bytes k n e).spelled)
+none_is b bytes h (piece.Token k n) e g = absurd (none_found piece.Token same_len IsSpelled token_of covers token_fits b bytes h k n e)
 none_is b bytes h (piece.Gap n) e g = absurd g

@@ -10,8 +10,9 @@ use Rattle.av_net.specs.Lexemes.{Token, IsSpelled, IsLongest, IsSized, IsComment
 use Rattle.av_vread.specs.declared.scan.Piece.{Piece}
 use Rattle.av_vread.specs.declared.scan.Piece.TheVariants as piece
 use Rattle.av_vread.specs.inner.Lexing.{Lexed, with_token, lexed_by, lexed_of}
-use Rattle.av_vread.specs.inner.Scan.{piece_of}
-use Rattle.av_vread.proofs.Tables.{reserved_word, IsSymbol, symbol_is}
+use Rattle.av_vread.specs.inner.Scan.{is_single, is_pair, piece_of}
+use Rattle.av_base.proofs.Tables.{none_short}
+use Rattle.av_vread.proofs.Tables.{reserved_word, is_other, symbol_is}
 use Rattle.av_vread.proofs.Pieces.{IsPiece, a_blank, a_comment, a_token, no_piece, is_piece, piece_blank, piece_comment, piece_token, piece_none}
 
 ok_is : (x y : List Token) → ◌≡◌ {A = Lexed} (Ok x) (Ok y) → x ≡ y
@@ -68,9 +69,6 @@ read_sound (suc n) p (b ∷ bytes) tokens e = sound_by n p (b ∷ bytes) (piece_
 
 -- ---- what is spelled is read
 
-no_symbol : IsSymbol [] → ⊥
-no_symbol s = elim s [ ]
-
 no_sized : IsSized [] → ⊥
 no_sized s = go s.size s.spelled
   where
@@ -84,7 +82,7 @@ spelled_some kind.Reserved s = reserved_word [] s
 spelled_some kind.System s = absurd cc
 spelled_some kind.Number s = s
 spelled_some kind.Literal s = no_sized s
-spelled_some kind.Symbol s = no_symbol (symbol_is [] s)
+spelled_some kind.Symbol s = none_short is_other is_single is_pair (symbol_is [] s)
 spelled_some kind.End s = s
 
 comment_at : (b : ℕ) (bytes text rest : List ℕ) → b ∷ bytes ≡ text ++ rest → IsComment text rest → piece_of b (b ∷ bytes) ≡ piece.Gap (length text)

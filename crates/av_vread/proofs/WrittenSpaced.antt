@@ -1,5 +1,5 @@
 -- The tokens of a written module are those that are found in its text.
-use Rattle.std.proofs.Common.{◌≡◌, ℕ, ◌-◌, ◌<◌, ◌≤◌, ◌^◌, Bool, true, false, cond, List, [], ◌∷◌, ◌++◌, refl, sym, ◌∙◌, arith, true≢false}
+use Rattle.std.proofs.Common.{◌≡◌, ℕ, ◌-◌, ◌<◌, ◌≤◌, ◌^◌, Bool, true, false, cond, List, [], ◌∷◌, ◌++◌, refl, arith}
 use Rattle.std.specs.Prelude.{codes, decimal, Contains, IsTrue}
 use Rattle.std.specs.List.{AllByRecursion}
 use Rattle.std.specs.Str.{bytes_eq}
@@ -22,7 +22,7 @@ use Rattle.av_net.specs.Names.{clk, rst, width_in}
 use Rattle.av_net.specs.Lexemes.{reserved_words, IsName}
 use Rattle.av_net.specs.Grammar.{spelling}
 use Rattle.av_net.specs.Spelling.{is_reserved}
-use Rattle.av_base.proofs.Tables.{is_there, is_found}
+use Rattle.av_base.proofs.Tables.{is_there, none_there}
 use Rattle.av_vread.proofs.Numerals.{number_digits}
 use Rattle.av_vread.proofs.Spaced.{Written, bytes_of, IsNext, AreBlank, AreSpaced}
 use Rattle.av_vread.proofs.NextTokens.{is_clear, name_next, reserved_next, plain_next, single_next, pair_next, signed_next, number_next, literal_next}
@@ -51,14 +51,11 @@ is_word text h = is_there text reserved_words h
 small_number : (n : ℕ) → n ≤ 64 → IsDigits (decimal n)
 small_number n le = number_digits n (omega arith)
 
-no_reserved : (text : List ℕ) → is_reserved text ≡ false → Contains reserved_words text → ⊥
-no_reserved text e h = true≢false (sym (is_found text reserved_words h) ∙ e)
-
 pub clk_name : IsName clk
-clk_name = ((refl, All-from_recursion (λ x. IsTrue (is_word_byte x)) (codes "lk") (refl, (refl, tt))), no_reserved clk refl)
+clk_name = ((refl, All-from_recursion (λ x. IsTrue (is_word_byte x)) (codes "lk") (refl, (refl, tt))), none_there clk reserved_words refl)
 
 pub rst_name : IsName rst
-rst_name = ((refl, All-from_recursion (λ x. IsTrue (is_word_byte x)) (codes "st") (refl, (refl, tt))), no_reserved rst refl)
+rst_name = ((refl, All-from_recursion (λ x. IsTrue (is_word_byte x)) (codes "st") (refl, (refl, tt))), none_there rst reserved_words refl)
 
 -- ---- declarations
 

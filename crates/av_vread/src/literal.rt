@@ -5,6 +5,7 @@ ghost use Rattle.std.specs.List.{prefix_len};
 ghost use Rattle.av_base.specs.Tokens.{number_of};
 ghost use Rattle.av_vread.specs.inner.Reading.{size_digits, value_digits, begins_base, are_digits, fits_in, is_literal, GivesOption, sized_view, literal_in};
 
+use av_base::limits::MOST_BITS;
 use av_base::{Width, Word, decimal_value, digits_len};
 
 /// A constant word and its width.
@@ -43,7 +44,7 @@ fn width_of(bits: u64) -> Option<Width>
     ensures some { IfSome result (λ width. (width.bits ≡ bits) × (1 ≤ bits) × (bits ≤ 64)) }
     ensures none { IfNone result ((bits ≡ 0) ⊎ (64 < bits)) }
 {
-    if bits > 64 {
+    if bits > u64::from(MOST_BITS) {
         return None;
     }
     Width::new(bits as u32)
