@@ -7,7 +7,6 @@ mod flat;
 mod laws;
 mod pass;
 mod quantity;
-mod solved;
 mod then;
 mod timed;
 mod tree;
@@ -15,13 +14,11 @@ mod tree;
 pub use copy::{copy_flat, copy_map, copy_pieces, copy_tree, copy_variable};
 pub use flat::{Flat, Kind, Piece, Var};
 pub use laws::{
-    counted_pieces, counted_word, number_of_pieces, one_word, points_of_sets, words_of_pieces,
+    counted_pieces, counted_word, nodes_have_points, number_of_pieces, one_solution, one_word,
+    points_of_sets, unhelped_systems_show_the_same, unreduced_is_chained, words_of_pieces,
 };
 pub use pass::{Feeds, Meant, Pass};
 pub use quantity::Quantity;
-pub use solved::{
-    nodes_have_points, one_solution, unhelped_systems_show_the_same, unreduced_is_chained,
-};
 pub use then::{Then, ThenFault};
 pub use timed::{Helper, Reach, Time, Timed};
 pub use tree::{Choice, Tree};

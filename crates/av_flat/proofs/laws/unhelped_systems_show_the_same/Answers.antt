@@ -1,5 +1,5 @@
 use Rattle.av_flat.proofs.Unhelped.{same_meaning}
-use Rattle.av_flat.proofs.solved.unhelped_systems_show_the_same.Goals as goal
+use Rattle.av_flat.proofs.laws.unhelped_systems_show_the_same.Goals as goal
 
 pub returns : goal.returns
 returns c = same_meaning
