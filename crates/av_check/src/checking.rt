@@ -149,7 +149,7 @@ pub fn check(alloc: Global, flat: &Flat) -> Result<(), CheckFault>
     ensures proper { OnOk result (IsProper (view_system flat.now)) }
     ensures complete { IsProper (view_system flat.now) → IfErr result (λ f. f ≡ fault.Memory) }
 
-    // Else the fault is that of the first variable's that has a miscovered point, at the least one.
+    // Else the fault is that of the first variable with a miscovered point, at its least one.
     ensures fault { IfErr result (IsFault (view_system flat.now)) }
     ensures refused { (f : FaultSeen) → IsFault (view_system flat.now) f → f ≢ fault.Memory → (result ≡ Err f) ⊎ (result ≡ Err fault.Memory) }
 {
