@@ -34,7 +34,6 @@ module _ {Kind Piece : Type 0} (token : Kind → ℕ → Piece) (same_len : (k l
     (IsSpelled : Kind → List ℕ → Type 0) (token_of : ℕ → List ℕ → Piece)
     (covers : (k : Kind) (front back : List ℕ) → IsSpelled k front → (b : ℕ) (bytes : List ℕ) → front ++ back ≡ b ∷ bytes → CoversBy token k (length front) (token_of b (front ++ back)))
     (fits : (b : ℕ) (bytes : List ℕ) (k : Kind) (n : ℕ) → token_of b (b ∷ bytes) ≡ token k n → FitsBy IsSpelled k n (b ∷ bytes)) where
-
   -- no token is longer than the one that is found
   pub found_longest : (b : ℕ) (bytes : List ℕ) (k : Kind) (n : ℕ) → token_of b (b ∷ bytes) ≡ token k n
       → (other : Kind) (front back : List ℕ) → take n (b ∷ bytes) ++ drop n (b ∷ bytes) ≡ front ++ back → IsSpelled other front → length front ≤ length (take n (b ∷ bytes))
