@@ -1,10 +1,11 @@
 //! The small types, words, and whole reads and writes.
 
+use crate::asserts::same;
 use av_base::{
     HonestSink, HonestSource, List, MemSink, MemSource, Memory, Name, Op, Point, ReadAll, Width,
     Word, WriteFault, read_all, write_all,
 };
-use av_testing::{same, sink_of};
+use av_testing::sink_of;
 use std::alloc::Global;
 use std::test::Fail;
 

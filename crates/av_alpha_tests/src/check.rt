@@ -1,9 +1,10 @@
 //! The first point of a system of rectangles that has no word, or two.
 
+use crate::asserts::same;
 use av_check::{CheckFault, check};
 use av_flat::{Flat, Pass};
 use av_normal::Normal;
-use av_testing::{push_point, push_words, same, system};
+use av_testing::{push_point, push_words, system};
 use std::alloc::Global;
 use std::process::Abort;
 use std::test::Fail;

@@ -3,12 +3,12 @@
 mod schedules;
 mod twice;
 
+use crate::answers::{Answers, TextRow, assert_text, assert_texts};
 use av_base::{Name, Point, Width};
 use av_compile::{Refusal, checked};
 use av_names::Size;
 use av_testing::{
-    Answers, TextRow, assert_text, assert_texts, push_both, push_limit, push_named, push_number,
-    push_place, push_point, push_words,
+    push_both, push_limit, push_named, push_number, push_place, push_point, push_words,
 };
 use std::alloc::Global;
 use std::test::Fail;

@@ -1,7 +1,8 @@
 //! The tokens of texts.
 
+use crate::asserts::same;
 use av_lex::{LexFault, Token, TokenKind, lex};
-use av_testing::{push_place, push_words, same};
+use av_testing::{push_place, push_words};
 use std::alloc::Global;
 use std::fmt::Write;
 use std::process::Abort;

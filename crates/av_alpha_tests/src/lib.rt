@@ -3,6 +3,10 @@
 #![tactic(auto)]
 
 #[cfg(test)]
+mod answers;
+#[cfg(test)]
+mod asserts;
+#[cfg(test)]
 mod base;
 #[cfg(test)]
 mod check;

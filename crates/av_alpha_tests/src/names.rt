@@ -1,16 +1,14 @@
 ghost use Rattle.std.specs.Prelude.{◌<◌, length};
 ghost use Rattle.av_names.specs.Texts.{AreSmall};
 
+use crate::answers::{Answers, TextRow, assert_text, assert_texts};
 use av_base::Width;
 use av_flat::Flat;
 use av_lex::{LexFault, lex};
 use av_names::{NameFault, Size, resolve};
 use av_parse::{ParseFault, parse};
 use av_testing::texts::MATRIX_VECTOR;
-use av_testing::{
-    Answers, TextRow, assert_text, assert_texts, push_both, push_limit, push_named, push_place,
-    push_words,
-};
+use av_testing::{push_both, push_limit, push_named, push_place, push_words};
 use std::alloc::Global;
 use std::fmt::Write;
 use std::test::Fail;

@@ -3,9 +3,10 @@
 ghost use Rattle.av_flat.specs.Trees.{view_system};
 ghost use Rattle.av_flat.specs.WellFormed.{IsWellFormed};
 
+use crate::asserts::same;
 use av_flat::{Flat, Pass};
 use av_normal::{Normal, NormalFault};
-use av_testing::{push_limit, push_named, push_number, push_words, same, system};
+use av_testing::{push_limit, push_named, push_number, push_words, system};
 use std::alloc::Global;
 use std::fmt::Write;
 use std::process::Abort;

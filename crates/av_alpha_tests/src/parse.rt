@@ -1,11 +1,12 @@
 mod trees;
 
 use self::trees::{push_domain, push_expr, push_system};
+use crate::asserts::same;
 use av_base::Place;
 use av_lex::{Token, TokenKind, lex};
 use av_parse::{ParseFault, parse};
+use av_testing::push_place;
 use av_testing::texts::MATRIX_VECTOR;
-use av_testing::{push_place, same};
 use av_tree::System;
 use std::alloc::Global;
 use std::fmt::Write;

@@ -1,10 +1,10 @@
 //! The texts of compiled designs.
 
+use crate::asserts::same;
 use av_base::{List, MemSink, Width};
 use av_compile::{Compiled, compile};
 use av_flat::Reach;
 use av_net::Design;
-use av_testing::same;
 use av_testing::texts::INCREMENT_DESIGN;
 use av_vtext::write_design;
 use std::alloc::Global;

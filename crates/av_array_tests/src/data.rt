@@ -2,10 +2,11 @@
 
 mod written;
 
+use crate::asserts::same;
 use crate::sched::serial_of;
 use av_base::{Name, Point};
 use av_data::{DataFault, Inputs, read_data};
-use av_testing::{push_number, push_point, push_words, same, system_at};
+use av_testing::{push_number, push_point, push_words, system_at};
 use std::alloc::Global;
 use std::fmt::Write;
 use std::process::Abort;

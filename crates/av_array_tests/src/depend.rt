@@ -5,12 +5,12 @@ ghost use Rattle.av_flat.specs.Trees.{view_system};
 ghost use Rattle.av_flat.specs.Chained.{IsChained};
 ghost use Rattle.av_flat.specs.Proper.{IsProper};
 
+use crate::asserts::same;
 use crate::sched::{chained, push_points};
 use av_affine::{Form, Map, Rows};
 use av_base::{List, Memory};
 use av_depend::{Edge, components, edges};
 use av_flat::Flat;
-use av_testing::same;
 use std::alloc::Global;
 use std::fmt::Write;
 use std::process::Abort;

@@ -6,12 +6,12 @@ ghost use Rattle.av_flat.specs.Chained.{IsChained};
 ghost use Rattle.av_flat.specs.Proper.{IsProper};
 ghost use Rattle.av_flat.specs.Legal.{IsLegal};
 
+use crate::asserts::same;
 use crate::sched::{chained, lines, push_point};
 use av_depend::edges;
 use av_flat::{Flat, Helper, Pass, Reach, Timed};
 use av_pipe::Pipe;
 use av_sched::search;
-use av_testing::same;
 use av_testing::texts::{CONVOLUTION, FORWARD, MATRIX_PRODUCT, MATRIX_VECTOR};
 use std::alloc::Global;
 use std::fmt::Write;

@@ -11,6 +11,7 @@ mod listed;
 mod placed;
 mod rows;
 
+use crate::asserts::same;
 use av_base::{Name, Point};
 use av_check::check;
 use av_depend::{Edge, edges};
@@ -18,7 +19,7 @@ use av_flat::{Flat, Pass, Reach, Time, Timed};
 use av_normal::Normal;
 use av_sched::{SchedFault, search};
 use av_serial::Serial;
-use av_testing::{push_named, push_words, same, system_with};
+use av_testing::{push_named, push_words, system_with};
 use std::alloc::Global;
 use std::fmt::Write;
 use std::process::Abort;

@@ -5,7 +5,6 @@ ghost use Rattle.std.specs.Prelude.{◌<◌};
 use av_base::{List, MemSink, Memory, Name, Width};
 use av_net::Port;
 use std::alloc::Global;
-use std::process::Abort;
 use std::test::Fail;
 
 /// A sink with room for so many bytes, of which it takes so many in a call.
@@ -13,11 +12,6 @@ pub fn sink_of(alloc: Global, room: usize, per_call: usize) -> Result<MemSink, M
     requires { 0 < per_call }
 {
     MemSink::new(alloc, room, per_call, List::new(alloc))
-}
-
-/// The sink has these bytes.
-pub fn assert_held(rt: &impl Abort, sink: &MemSink, wanted: &[u8]) {
-    assert_eq!(rt; sink.held(), wanted);
 }
 
 /// A port of this name, so many bits wide.

@@ -4,7 +4,6 @@ use av_base::{Name, Place, Point};
 use av_flat::Quantity;
 use av_tree::Relation;
 use std::fmt::Write;
-use std::process::Abort;
 use std::test::Fail;
 
 /// Adds words.
@@ -78,9 +77,4 @@ pub fn relation_text(relation: Relation) -> &'static str {
         Relation::Equal => " = ",
         Relation::Unequal => " <> ",
     }
-}
-
-/// Both texts are one.
-pub fn same(rt: &impl Abort, found: &str, wanted: &str) {
-    assert_eq!(rt; found, wanted);
 }

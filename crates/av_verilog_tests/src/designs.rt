@@ -3,9 +3,9 @@
 ghost use Rattle.std.specs.Prelude.{◌<◌, length, IfOk};
 ghost use Rattle.av_net.specs.Designs.{IsSoundDesign};
 
+use crate::asserts::same;
 use av_base::{List, MemSink};
 use av_net::Design;
-use av_testing::same;
 use av_vread::{VFault, read_design};
 use av_vtext::write_design;
 use std::alloc::Global;

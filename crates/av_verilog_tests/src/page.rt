@@ -1,8 +1,8 @@
 //! Pages, piece by piece.
 
+use crate::asserts::assert_held;
 use av_base::{List, MemSink, WriteFault};
 use av_page::Page;
-use av_testing::assert_held;
 use std::alloc::Global;
 use std::process::Abort;
 use std::test::Fail;

@@ -1,9 +1,10 @@
 //! What is read of texts: designs, and the first fault of each.
 
+use crate::asserts::same;
 use crate::designs::{assert_text, design, read};
 use av_net::{Design, Entry, Module};
 use av_testing::texts::INCREMENT_DESIGN;
-use av_testing::{push_named, push_number, push_place, push_words, same};
+use av_testing::{push_named, push_number, push_place, push_words};
 use av_vread::{VFault, design_or_fault, one_design, one_text, read_back, spelled_is_sound};
 use std::alloc::Global;
 use std::fmt::Write;

@@ -1,12 +1,13 @@
 //! What becomes of texts that are to be scheduled: the times of the nodes, or the first fault.
 
 use super::{CONVOLUTION, FORWARD, MATRIX_PRODUCT, MATRIX_VECTOR, N4, STEPS, SUMS, push_refusal};
+use crate::answers::{Answers, assert_text};
 use av_base::Width;
 use av_compile::scheduled;
 use av_flat::{Reach, Timed};
 use av_names::Size;
+use av_testing::push_point;
 use av_testing::texts::TEN;
-use av_testing::{Answers, assert_text, push_point};
 use std::alloc::Global;
 use std::fmt::Write;
 use std::process::Abort;

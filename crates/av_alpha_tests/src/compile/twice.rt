@@ -5,9 +5,10 @@ ghost use Rattle.av_flat.specs.Trees.{view_system};
 ghost use Rattle.av_flat.specs.WellFormed.{IsWellFormed};
 
 use super::{MATRIX_VECTOR, STEPS};
+use crate::asserts::same;
 use av_flat::{Flat, Pass, Then};
 use av_normal::Normal;
-use av_testing::{same, system};
+use av_testing::system;
 use std::alloc::Global;
 use std::fmt::Write;
 use std::process::Abort;

@@ -4,9 +4,10 @@ use super::forms::normal_form;
 use super::texts::{
     ENDLESS, ENDLESS_BEFORE_STEEP, LARGE_COORDINATE, LARGER_BOX, LARGEST_BOX, STEEP,
 };
+use crate::asserts::same;
 use av_flat::{Flat, Kind, Pass};
 use av_serial::{Serial, SerialFault};
-use av_testing::{push_limit, push_named, push_number, push_words, same};
+use av_testing::{push_limit, push_named, push_number, push_words};
 use std::alloc::Global;
 use std::process::Abort;
 use std::test::Fail;

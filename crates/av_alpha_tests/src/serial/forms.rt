@@ -6,11 +6,12 @@ ghost use Rattle.av_flat.specs.Kept.{IsKept};
 
 use super::show::{push_equation, push_points, push_variables};
 use super::texts::{GAP, LARGEST_BOX, NESTED, SEVERAL, SUMS, TIES};
+use crate::asserts::same;
 use av_flat::{Flat, Pass};
 use av_normal::Normal;
 use av_serial::Serial;
+use av_testing::system_with;
 use av_testing::texts::{CONVOLUTION, FORWARD, LEAST, MATRIX_PRODUCT};
-use av_testing::{same, system_with};
 use std::alloc::Global;
 use std::process::Abort;
 use std::test::Fail;

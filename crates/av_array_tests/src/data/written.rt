@@ -2,10 +2,11 @@
 
 ghost use Rattle.std.specs.Prelude.{◌≡◌, length, IfOk};
 
+use crate::asserts::assert_held;
 use av_base::{List, MemSink, Memory, Name, Point, Width, Word, WriteFault};
 use av_data::{write_cycle, write_result};
 use av_net::Port;
-use av_testing::{assert_held, port, sink_of};
+use av_testing::{port, sink_of};
 use std::alloc::Global;
 use std::process::Abort;
 use std::test::Fail;

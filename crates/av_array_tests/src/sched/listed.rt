@@ -1,7 +1,7 @@
 //! The points that edges list.
 
 use super::{assert_schedule, edge_lines};
-use av_testing::same;
+use crate::asserts::same;
 use av_testing::texts::{ROW_SUMS, RUNNING_SUMS, SWEEP};
 use std::alloc::Global;
 use std::process::Abort;

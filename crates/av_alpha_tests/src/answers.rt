@@ -3,19 +3,19 @@
 ghost use Rattle.std.specs.Prelude.{◌<◌, length};
 ghost use Rattle.av_names.specs.Texts.{AreSmall};
 
-use crate::systems::size_list;
-use crate::words::same;
+use crate::asserts::same;
 use av_base::Width;
 use av_names::Size;
+use av_testing::size_list;
 use std::alloc::Global;
 use std::process::Abort;
 use std::test::Fail;
 
 /// A text or a part of one, the sizes, and the answer.
-pub type TextRow = (&'static str, &'static [(&'static str, i64)], &'static str);
+pub(crate) type TextRow = (&'static str, &'static [(&'static str, i64)], &'static str);
 
 /// A call whose answer to a text is told in words.
-pub trait Answers {
+pub(crate) trait Answers {
     /// Adds what becomes of the text with the sizes.
     fn push_answer(
         &self,
@@ -47,7 +47,7 @@ fn shown<A: Answers>(
 }
 
 /// The text with the sizes has this answer, in words of 8 bits.
-pub fn assert_text<A: Answers>(
+pub(crate) fn assert_text<A: Answers>(
     rt: &impl Abort,
     alloc: Global,
     answers: &A,
@@ -60,7 +60,7 @@ pub fn assert_text<A: Answers>(
 }
 
 /// Each row has its answer, between a head and a tail.
-pub fn assert_texts<A: Answers>(
+pub(crate) fn assert_texts<A: Answers>(
     rt: &impl Abort,
     alloc: Global,
     answers: &A,
