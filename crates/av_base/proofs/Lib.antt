@@ -2,6 +2,10 @@ pub mod Moves
 pub mod Numbers
 pub mod Residues
 pub mod Passing
+pub mod Truths
+pub mod Lists
+pub mod Among
+pub mod Anys
 pub mod Tables
 pub mod Runs
 pub mod Spelled

@@ -6,7 +6,7 @@ use Rattle.std.proofs.lemmas.List.Elements.{All-push}
 use Rattle.av_poly.specs.declared.poly.Bounds.{Bounds}
 use Rattle.av_poly.specs.Points.{Set, Has}
 use Rattle.av_poly.specs.Search.{IsBetween}
-use Rattle.av_poly.proofs.Anys.{any_before, any_last, any_cases}
+use Rattle.av_base.proofs.Anys.{any_before, any_last, any_cases}
 use Rattle.av_tree.specs.Points.{Point}
 use Rattle.av_flat.specs.Points.{has}
 use Rattle.av_flat.proofs.Sets.{has_is}

@@ -28,7 +28,7 @@ use Rattle.av_elim.specs.Extents.{IsInside}
 use Rattle.av_depend.specs.AllPoints.{AreAllPoints}
 use Rattle.av_depend.specs.SetPoints.{IsPointOf}
 use Rattle.av_depend.specs.inner.Adding.{IsComputedAt, HasAdded, site_at}
-use Rattle.av_depend.proofs.Among.{first_among, more_among, among_cases, none_among}
+use Rattle.av_base.proofs.Among.{first_among, more_among, among_cases, none_among}
 use Rattle.av_depend.proofs.Covering.{has_both, both_have}
 use Rattle.av_elim.proofs.Boxes.{small_between}
 

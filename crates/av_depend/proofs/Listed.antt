@@ -16,7 +16,7 @@ use Rattle.av_flat.proofs.Solving.{by_test}
 use Rattle.av_flat.specs.Order.{IsBefore}
 use Rattle.av_depend.specs.AllPoints.{AreAllPoints}
 use Rattle.av_depend.specs.inner.Listing.{AreListed, HasListed}
-use Rattle.av_depend.proofs.Among.{first_among, more_among, among_cases, none_among}
+use Rattle.av_base.proofs.Among.{first_among, more_among, among_cases, none_among}
 use Rattle.av_depend.proofs.Mirrors.{take_more}
 
 -- ---- joined lists in order

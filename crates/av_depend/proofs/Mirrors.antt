@@ -13,7 +13,7 @@ use Rattle.av_flat.specs.Order.{IsBefore}
 use Rattle.av_depend.specs.Edges.{IsMiddle, IsGenerator, AreGenerators}
 use Rattle.av_depend.specs.AllPoints.{AreAllPoints}
 use Rattle.av_depend.specs.inner.Generating.{mirrored, HasMirrored, AreGeneratorsTo}
-use Rattle.av_depend.proofs.Among.{last_among}
+use Rattle.av_base.proofs.Among.{last_among}
 use Rattle.av_depend.proofs.Generators.{before_chain, before_itself}
 
 -- ---- midpoints and mirror images

@@ -6,7 +6,7 @@ use Rattle.std.proofs.lemmas.List.Elements.{All-push, All-contains, Contains-get
 use Rattle.std.proofs.lemmas.List.Quantifiers.{all_pairs_push}
 use Rattle.av_depend.specs.Components.{Reaches, itself, first_node, IsTogether, AreApart, AreComponents}
 use Rattle.av_depend.specs.inner.Reaching.{leads, AreReached, IsComponentIn}
-use Rattle.av_depend.proofs.Among.{last_among}
+use Rattle.av_base.proofs.Among.{last_among}
 use Rattle.av_depend.proofs.Marks.{reaches_through}
 
 -- ---- the nodes of one component

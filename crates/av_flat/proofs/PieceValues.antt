@@ -15,6 +15,7 @@ use Rattle.av_tree.specs.declared.sign.Sign.{Sign}
 use Rattle.av_tree.specs.Points.{Point}
 use Rattle.av_tree.specs.Folds.{IsAmong, ArePaired, IsFolded, folded}
 use Rattle.av_tree.specs.Values.{combined, words_compare, IsCombined, IsChosen}
+use Rattle.av_tree.proofs.SameParts.{folded_too}
 use Rattle.av_flat.specs.Trees.{Tree, Trees, reference, constant, binary, choice, restriction, cases, dependence, reduction, pick, none, more}
 use Rattle.av_flat.specs.Points.{has, holds, entry_over, point_over}
 use Rattle.av_flat.specs.Signatures.{Signature, is_declared_at}
@@ -165,23 +166,6 @@ module _ (vs : List Signature) (t : Tree) (u : Point) (few : length u ≤ 4) (fi
       (sym (fitting (length u) n (list_all (holds u) (set.rows ++ b.rows)) e ∙ list_all-append (holds u) set.rows b.rows))
 
 -- ---- folds
-
-paired_too : (C : ℤ → ℕ) (V W : ℤ → ℕ → Type 0) → ((k : ℤ) (v : ℕ) → C k ≡ 1 → V k v → W k v) → (ks : List ℤ) (vs : List ℕ)
-    → ((k : ℤ) → IsAmong k ks → C k ≡ 1) → ArePaired V ks vs → ArePaired W ks vs
-paired_too C V W f [] [] each p = tt
-paired_too C V W f [] (v ∷ vs) each p = absurd p
-paired_too C V W f (k ∷ ks) [] each p = absurd p
-paired_too C V W f (k ∷ ks) (v ∷ vs) each p = (f k v (each k (inl refl)) p.0, paired_too C V W f ks vs (λ j m. each j (inr m)) p.1)
-
-folded_too : (C D : ℤ → ℕ) (V W : ℤ → ℕ → Type 0) (F : List ℕ → ℕ) (w : ℕ) → ((k : ℤ) → C k ≡ D k) → ((k : ℤ) (v : ℕ) → C k ≡ 1 → V k v → W k v)
-    → IsFolded C V F w → IsFolded D W F w
-folded_too C D V W F w same f p = record {
-  fibre = p.fibre;
-  words = p.words;
-  is_fibre = record { ascending = p.is_fibre.ascending; each = λ k m. sym (same k) ∙ p.is_fibre.each k m; all = λ k e. p.is_fibre.all k (same k ∙ e) };
-  paired = paired_too C V W f p.fibre p.words p.is_fibre.each p.paired;
-  is = p.is;
-}
 
 -- ---- from a tree to its parts
 

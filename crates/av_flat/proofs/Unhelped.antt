@@ -6,6 +6,7 @@ use Rattle.av_affine.specs.declared.map.Map.{Map}
 use Rattle.av_affine.specs.Maps.{image}
 use Rattle.av_tree.specs.Points.{Point}
 use Rattle.av_tree.specs.Values.{Assignment, IsCombined, IsChosen}
+use Rattle.av_tree.proofs.SameParts.{combined_same, chosen_same}
 use Rattle.av_flat.specs.Trees.{Tree, Piece, Variable, FlatSystem, reference, constant, binary, choice, restriction, cases, dependence, reduction, pick, right_side, trees_of}
 use Rattle.av_flat.specs.Points.{has}
 use Rattle.av_flat.specs.Signatures.{is_computed}
@@ -14,39 +15,6 @@ use Rattle.av_flat.specs.Shown.{SameMeaning}
 use Rattle.av_flat.specs.Solutions.{scene, Satisfies, IsSolution, shows_of, declares_of}
 use Rattle.av_flat.specs.Broadcasts.{references}
 use Rattle.av_flat.specs.Helped.{PointWords, HelperWords, HasRead, HasHelped, IsOfPiece, helped_at, HelpedSatisfies, IsHelpedSolution, helped_shows_of}
-
-combined_same : (R S X Y : ℕ → Type 0) (f : ℕ → ℕ → ℕ) (w : ℕ) → ((a : ℕ) → R a ↔ X a) → ((a : ℕ) → S a ↔ Y a) → IsCombined R S f w ↔ IsCombined X Y f w
-combined_same R S X Y f w p q = (
-  (λ v. record { left = v.left; right = v.right; left_has = (p v.left).0 v.left_has; right_has = (q v.right).0 v.right_has; is = v.is }),
-  (λ v. record { left = v.left; right = v.right; left_has = (p v.left).1 v.left_has; right_has = (q v.right).1 v.right_has; is = v.is }),
-)
-
-chosen_same : (A B C D E F G H : ℕ → Type 0) (test : ℕ → ℕ → _) (w : ℕ) → ((a : ℕ) → A a ↔ E a) → ((a : ℕ) → B a ↔ F a) → ((a : ℕ) → C a ↔ G a) → ((a : ℕ) → D a ↔ H a)
-    → IsChosen A B C D test w ↔ IsChosen E F G H test w
-chosen_same A B C D E F G H test w p q r s = (
-  (λ v. record {
-    left = v.left;
-    right = v.right;
-    first = v.first;
-    second = v.second;
-    left_has = (p v.left).0 v.left_has;
-    right_has = (q v.right).0 v.right_has;
-    first_has = (r v.first).0 v.first_has;
-    second_has = (s v.second).0 v.second_has;
-    is = v.is;
-  }),
-  (λ v. record {
-    left = v.left;
-    right = v.right;
-    first = v.first;
-    second = v.second;
-    left_has = (p v.left).1 v.left_has;
-    right_has = (q v.right).1 v.right_has;
-    first_has = (r v.first).1 v.first_has;
-    second_has = (s v.second).1 v.second_has;
-    is = v.is;
-  }),
-)
 
 unhelped_tree : (s : Scene) (n : ℕ) (t : Tree) (z : Point) (w : ℕ) → HasValue s t z w ↔ HasHelped s (λ i. None) n t z w
 unhelped_tree s n (reference place m) z w = ((λ p. p), (λ p. p))

@@ -11,6 +11,7 @@ use Rattle.av_poly.proofs.Normalising.{normal_set}
 use Rattle.av_tree.specs.Points.{Point}
 use Rattle.av_tree.specs.Folds.{IsAmong, ArePaired, IsFolded, folded}
 use Rattle.av_tree.specs.Values.{IsCombined, IsChosen}
+use Rattle.av_tree.proofs.SameParts.{combined_same, chosen_same, folded_same}
 use Rattle.av_flat.specs.Trees.{Tree, reference, constant, binary, choice, reduction}
 use Rattle.av_flat.specs.Points.{has, holds, point_over}
 use Rattle.av_flat.specs.Signatures.{Signature}
@@ -48,63 +49,6 @@ hold_over m rows z k is e few h =
     rows_reach m [] rows (point_over m z k) (sym size) (omega (arith, size, few)) ∙ ap (λ y. list_all (holds y) rows) (image_over m z k is e) ∙ h
 
 -- ---- words of parts of trees
-
-combined_same : (R S X Y : ℕ → Type 0) (f : ℕ → ℕ → ℕ) (w : ℕ) → ((a : ℕ) → R a ↔ X a) → ((a : ℕ) → S a ↔ Y a) → IsCombined R S f w ↔ IsCombined X Y f w
-combined_same R S X Y f w p q = (
-  (λ v. record { left = v.left; right = v.right; left_has = (p v.left).0 v.left_has; right_has = (q v.right).0 v.right_has; is = v.is }),
-  (λ v. record { left = v.left; right = v.right; left_has = (p v.left).1 v.left_has; right_has = (q v.right).1 v.right_has; is = v.is }),
-)
-
-chosen_same : (A B C D E F G H : ℕ → Type 0) (test : ℕ → ℕ → Bool) (w : ℕ) → ((a : ℕ) → A a ↔ E a) → ((a : ℕ) → B a ↔ F a) → ((a : ℕ) → C a ↔ G a) → ((a : ℕ) → D a ↔ H a)
-    → IsChosen A B C D test w ↔ IsChosen E F G H test w
-chosen_same A B C D E F G H test w p q r s = (
-  (λ v. record {
-    left = v.left;
-    right = v.right;
-    first = v.first;
-    second = v.second;
-    left_has = (p v.left).0 v.left_has;
-    right_has = (q v.right).0 v.right_has;
-    first_has = (r v.first).0 v.first_has;
-    second_has = (s v.second).0 v.second_has;
-    is = v.is;
-  }),
-  (λ v. record {
-    left = v.left;
-    right = v.right;
-    first = v.first;
-    second = v.second;
-    left_has = (p v.left).1 v.left_has;
-    right_has = (q v.right).1 v.right_has;
-    first_has = (r v.first).1 v.first_has;
-    second_has = (s v.second).1 v.second_has;
-    is = v.is;
-  }),
-)
-
-paired_too : (C : ℤ → ℕ) (V W : ℤ → ℕ → Type 0) → ((k : ℤ) (v : ℕ) → C k ≡ 1 → V k v → W k v) → (ks : List ℤ) (vs : List ℕ)
-    → ((k : ℤ) → IsAmong k ks → C k ≡ 1) → ArePaired V ks vs → ArePaired W ks vs
-paired_too C V W f [] [] each p = tt
-paired_too C V W f [] (v ∷ vs) each p = absurd p
-paired_too C V W f (k ∷ ks) [] each p = absurd p
-paired_too C V W f (k ∷ ks) (v ∷ vs) each p = (f k v (each k (inl refl)) p.0, paired_too C V W f ks vs (λ j m. each j (inr m)) p.1)
-
-folded_too : (C D : ℤ → ℕ) (V W : ℤ → ℕ → Type 0) (F : List ℕ → ℕ) (w : ℕ) → ((k : ℤ) → C k ≡ D k) → ((k : ℤ) (v : ℕ) → C k ≡ 1 → V k v → W k v)
-    → IsFolded C V F w → IsFolded D W F w
-folded_too C D V W F w same f p = record {
-  fibre = p.fibre;
-  words = p.words;
-  is_fibre = record { ascending = p.is_fibre.ascending; each = λ k m. sym (same k) ∙ p.is_fibre.each k m; all = λ k e. p.is_fibre.all k (same k ∙ e) };
-  paired = paired_too C V W f p.fibre p.words p.is_fibre.each p.paired;
-  is = p.is;
-}
-
-folded_same : (C D : ℤ → ℕ) (V W : ℤ → ℕ → Type 0) (F : List ℕ → ℕ) (w : ℕ) → ((k : ℤ) → C k ≡ D k) → ((k : ℤ) (v : ℕ) → C k ≡ 1 → V k v ↔ W k v)
-    → IsFolded C V F w ↔ IsFolded D W F w
-folded_same C D V W F w same f = (
-  (λ p. folded_too C D V W F w same (λ k v e. (f k v e).0) p),
-  (λ p. folded_too D C W V F w (λ k. sym (same k)) (λ k v e. (f k v (same k ∙ e)).1) p),
-)
 
 pub cond_same : (a b : Bool) (m n : ℕ) → a ≡ b → (IsTrue a → m ≡ n) → (if a then m else 0) ≡ (if b then n else 0)
 cond_same true true m n e f = f refl

@@ -5,6 +5,7 @@ use Rattle.av_affine.specs.Maps.{image}
 use Rattle.av_poly.specs.Points.{Set}
 use Rattle.av_tree.specs.Points.{Point}
 use Rattle.av_tree.specs.Values.{IsCombined, IsChosen}
+use Rattle.av_tree.proofs.SameParts.{combined_same, chosen_same}
 use Rattle.av_flat.specs.Trees.{Tree, reference, constant, binary, choice, restriction, cases, dependence, reduction, pick}
 use Rattle.av_flat.specs.Points.{has}
 use Rattle.av_flat.specs.Signatures.{Signature, is_declared_at}
@@ -82,39 +83,6 @@ fits_at vs n (reduction o m t inner) i r h e = absurd cc
 fits_at vs n (pick place choices k) i r h e = absurd cc
 
 -- ---- words of trees
-
-combined_same : (R S X Y : ℕ → Type 0) (f : ℕ → ℕ → ℕ) (w : ℕ) → ((a : ℕ) → R a ↔ X a) → ((a : ℕ) → S a ↔ Y a) → IsCombined R S f w ↔ IsCombined X Y f w
-combined_same R S X Y f w p q = (
-  (λ v. record { left = v.left; right = v.right; left_has = (p v.left).0 v.left_has; right_has = (q v.right).0 v.right_has; is = v.is }),
-  (λ v. record { left = v.left; right = v.right; left_has = (p v.left).1 v.left_has; right_has = (q v.right).1 v.right_has; is = v.is }),
-)
-
-chosen_same : (A B C D E F G H : ℕ → Type 0) (test : ℕ → ℕ → Bool) (w : ℕ) → ((a : ℕ) → A a ↔ E a) → ((a : ℕ) → B a ↔ F a) → ((a : ℕ) → C a ↔ G a) → ((a : ℕ) → D a ↔ H a)
-    → IsChosen A B C D test w ↔ IsChosen E F G H test w
-chosen_same A B C D E F G H test w p q r s = (
-  (λ v. record {
-    left = v.left;
-    right = v.right;
-    first = v.first;
-    second = v.second;
-    left_has = (p v.left).0 v.left_has;
-    right_has = (q v.right).0 v.right_has;
-    first_has = (r v.first).0 v.first_has;
-    second_has = (s v.second).0 v.second_has;
-    is = v.is;
-  }),
-  (λ v. record {
-    left = v.left;
-    right = v.right;
-    first = v.first;
-    second = v.second;
-    left_has = (p v.left).1 v.left_has;
-    right_has = (q v.right).1 v.right_has;
-    first_has = (r v.first).1 v.first_has;
-    second_has = (s v.second).1 v.second_has;
-    is = v.is;
-  }),
-)
 
 module _ (s : Scene) (h : ℕ → Option PointWords) (z : Point) where
   -- a helper of this reference has its word

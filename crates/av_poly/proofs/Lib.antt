@@ -1,5 +1,4 @@
 pub mod Membership
-pub mod Anys
 pub mod Parting
 pub mod Fours
 pub mod Dividing

@@ -13,7 +13,7 @@ use Rattle.std.proofs.lemmas.List.{take_more}
 use Rattle.av_poly.specs.Points.{Set, Has, Holds, HoldsAt, IsSmall}
 use Rattle.av_poly.specs.Parts.{AreDisjoint}
 use Rattle.av_poly.specs.inner.Parts.{AreParts}
-use Rattle.av_poly.proofs.Anys.{any_before, any_last, any_cases}
+use Rattle.av_base.proofs.Anys.{any_before, any_last, any_cases}
 use Rattle.av_poly.proofs.Membership.{holds_append, holds_first, holds_last}
 
 -- ---- the complement of a row

@@ -10,7 +10,7 @@ use Rattle.std.proofs.lemmas.List.Elements.{All-nil, All-push, All-weaker, All-s
 use Rattle.std.proofs.lemmas.List.Quantifiers.{all_pairs_push}
 use Rattle.av_affine.specs.declared.form.Form.{Form}
 use Rattle.av_poly.specs.Normal.{IsConstant, IsDivided, Tightens, IsMetBefore, AreTightest}
-use Rattle.av_poly.proofs.Anys.{any_before, any_last, any_set}
+use Rattle.av_base.proofs.Anys.{any_before, any_last, any_set}
 use Rattle.av_poly.proofs.Meeting.{met_more, met_alike, met_last}
 
 -- a row with its constant lowered to another's

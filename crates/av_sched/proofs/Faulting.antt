@@ -10,7 +10,7 @@ use Rattle.av_flat.specs.Nodes.{nodes}
 use Rattle.av_flat.specs.Chained.{IsChained}
 use Rattle.av_flat.specs.Quantities.{IsFirst}
 use Rattle.av_depend.specs.Components.{ReadsNode, AreComponents, first_node}
-use Rattle.av_depend.proofs.Among.{first_among}
+use Rattle.av_base.proofs.Among.{first_among}
 use Rattle.av_depend.proofs.Unique.{one_components}
 use Rattle.av_sched.specs.declared.fault.SchedFault.{SchedFault}
 use Rattle.av_sched.specs.declared.fault.SchedFault.TheVariants as fault

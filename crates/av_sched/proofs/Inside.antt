@@ -12,7 +12,7 @@ use Rattle.av_tree.specs.Points.{Point}
 use Rattle.av_flat.specs.Trees.{FlatSystem}
 use Rattle.av_flat.specs.Nodes.{nodes}
 use Rattle.av_depend.specs.declared.edge.Edge.{Edge}
-use Rattle.av_depend.proofs.Among.{none_among}
+use Rattle.av_base.proofs.Among.{none_among}
 use Rattle.av_sched.specs.declared.arc.Arc.{Arc}
 use Rattle.av_sched.specs.inner.Arcs.{zeros, IsArc, AreSmall, Solves, IsLeastSolution}
 use Rattle.av_sched.specs.inner.Leads.{IsArcOf}

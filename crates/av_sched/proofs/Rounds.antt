@@ -6,7 +6,7 @@ use Rattle.std.proofs.lemmas.Bool.{cases_eq}
 use Rattle.std.proofs.lemmas.Bool.Decides.{nat_tests}
 use Rattle.std.proofs.lemmas.List.Elements.{All-contains_itself, All-contains, All-weaker, All-head, All-tail, All-cons, All-nil}
 use Rattle.av_flat.proofs.Solving.{by_test}
-use Rattle.av_depend.proofs.Among.{first_among, more_among}
+use Rattle.av_base.proofs.Among.{first_among, more_among}
 use Rattle.av_sched.specs.declared.arc.Arc.{Arc}
 use Rattle.av_sched.specs.inner.Arcs.{at, IsLate, Solves, IsLeastSolution, raised, raised_all, IsArc, AreSmall}
 

@@ -14,7 +14,7 @@ use Rattle.av_flat.specs.Signatures.{signatures, is_computed}
 use Rattle.av_flat.proofs.Sets.{has_is}
 use Rattle.std.proofs.lemmas.Bool.Decides.{nat_tests}
 use Rattle.std.proofs.lemmas.List.Elements.{All-contains}
-use Rattle.av_depend.proofs.Among.{first_among}
+use Rattle.av_base.proofs.Among.{first_among}
 use Rattle.av_flat.specs.Nodes.{is_node, nodes}
 use Rattle.av_flat.proofs.Solving.{all_at}
 use Rattle.av_flat.proofs.Cycles.{node_at}

@@ -21,7 +21,7 @@ use Rattle.av_flat.proofs.Cycles.{node_at, is_node_with}
 use Rattle.av_depend.specs.declared.edge.Edge.{Edge}
 use Rattle.av_depend.specs.Sites.{sites_in, sites}
 use Rattle.av_depend.specs.Edges.{AreEdgesOf}
-use Rattle.av_depend.proofs.Among.{from_flat_map}
+use Rattle.av_base.proofs.Among.{from_flat_map}
 use Rattle.av_depend.proofs.Covering.{read_of_site}
 use Rattle.av_depend.proofs.Pairs.{at_node, site_of_edge, small_site}
 use Rattle.av_depend.proofs.Generators.{dot_mid, little_listed}

@@ -5,7 +5,7 @@ use Rattle.std.proofs.lemmas.Int.{ints, by_lt_z}
 use Rattle.std.proofs.lemmas.List.Elements.{All-nil, All-push, All-contains, All-from_recursion, recursion_from_All, All-append, Contains-append_left, Contains-append_right, Contains-push_cases, Contains-get_or}
 use Rattle.av_tree.specs.Points.{Point}
 use Rattle.av_flat.specs.Schedules.{IsLinearPart}
-use Rattle.av_depend.proofs.Among.{first_among, none_among, among_map, from_map}
+use Rattle.av_base.proofs.Among.{first_among, none_among, among_map, from_map}
 use Rattle.av_sched.specs.inner.Vectors.{IsPrepended, ArePrepended, IsVectorOf, AreVectorsOf, AreLinearPartsOf, AreLinearPartsTo}
 use Rattle.av_sched.proofs.Steps.{take_more, take_whole}
 

@@ -15,7 +15,7 @@ use Rattle.av_flat.specs.declared.tree.Tree.{Tree as TreeMade}
 use Rattle.av_flat.specs.declared.tree.Tree.TheVariants as made
 use Rattle.av_flat.specs.declared.tree.Tree.TheViews.{sized-Binary, sized-Choose}
 use Rattle.av_flat.proofs.tree.Tree.TheLaws.{the_size}
-use Rattle.av_depend.proofs.Among.{among_map}
+use Rattle.av_base.proofs.Among.{among_map}
 use Rattle.av_flat.specs.Trees.{view, view_piece, view_variable, Tree, Piece, Variable, FlatSystem, reference, constant, binary, choice, restriction, cases, dependence, reduction, pick}
 use Rattle.av_flat.specs.Signatures.{Signature, signatures}
 use Rattle.av_flat.specs.WellFormed.{EachPart, Fits, HasSmallRows}

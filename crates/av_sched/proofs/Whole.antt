@@ -19,7 +19,7 @@ use Rattle.av_flat.proofs.Solving.{all_at}
 use Rattle.av_depend.specs.declared.edge.Edge.{Edge}
 use Rattle.av_depend.specs.Edges.{AreEdgesOf}
 use Rattle.av_depend.specs.Components.{Reaches, itself, onward, ReadsNode, AreApart, AreComponents}
-use Rattle.av_depend.proofs.Among.{first_among, among_cases, none_among}
+use Rattle.av_base.proofs.Among.{first_among, among_cases, none_among}
 use Rattle.av_depend.proofs.Pairs.{covered_by}
 use Rattle.av_depend.proofs.Small.{small_point}
 use Rattle.av_sched.specs.Offsets.{part, AreOffsets, AreVectors}

@@ -20,7 +20,7 @@ use Rattle.av_flat.specs.Nodes.{nodes}
 use Rattle.av_flat.specs.declared.timed.Helper.{Helper}
 use Rattle.av_flat.proofs.Sets.{both_true, both_hold}
 use Rattle.av_net.specs.declared.design.Entry.{Entry}
-use Rattle.av_depend.proofs.Among.{among_map, from_map, among_at, first_among}
+use Rattle.av_base.proofs.Among.{among_map, from_map, among_at, first_among}
 use Rattle.av_depend.proofs.Adds.{among_filter}
 use Rattle.av_depend.proofs.Listed.{pairs_joined}
 use Rattle.av_space.specs.Coordinates.{Placing}

@@ -18,7 +18,7 @@ use Rattle.av_flat.specs.Trees.{Variable, view_system}
 use Rattle.av_flat.specs.Nodes.{IsComputation}
 use Rattle.av_flat.specs.Order.{IsBefore}
 use Rattle.av_flat.specs.Schedules.{cycle}
-use Rattle.av_depend.proofs.Among.{among_at, among_map, from_map}
+use Rattle.av_base.proofs.Among.{among_at, among_map, from_map}
 use Rattle.av_depend.proofs.Generators.{before_itself}
 use Rattle.av_space.specs.declared.cells.Cell.{Cell}
 use Rattle.av_space.specs.declared.layout.Slot.{Slot}

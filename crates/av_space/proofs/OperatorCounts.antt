@@ -7,7 +7,7 @@ use Rattle.std.proofs.lemmas.List.Sums.{sum-map, sum_by-cons, sum_by-append}
 use Rattle.std.proofs.lemmas.Option.{slice_get_within}
 use Rattle.std.proofs.lemmas.List.Elements.{Contains-append_left, Contains-append_right}
 use Rattle.av_flat.specs.Trees.{Piece, FlatSystem}
-use Rattle.av_depend.proofs.Among.{first_among}
+use Rattle.av_base.proofs.Among.{first_among}
 use Rattle.av_depend.proofs.Listed.{pairs_joined}
 use Rattle.av_space.specs.declared.cells.Cell.{Cell}
 use Rattle.av_space.specs.Coordinates.{Placing}

@@ -11,7 +11,7 @@ use Rattle.av_affine.specs.Numbers.{AtMost, dot}
 use Rattle.av_affine.specs.Completion.{unit_row, signs_at, positions_but, entry, IsCompletion}
 use Rattle.av_affine.specs.Completion.IsCompletion.{beside_one, beside_two}
 use Rattle.av_flat.proofs.Sets.{is_equal}
-use Rattle.av_depend.proofs.Among.{among_cases, none_among}
+use Rattle.av_base.proofs.Among.{among_cases, none_among}
 use Rattle.av_space.specs.Coordinates.{Placing, IsPlacing, point, space, along}
 use Rattle.av_affine.proofs.Dots.{dot_most}
 

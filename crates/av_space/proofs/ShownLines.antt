@@ -17,7 +17,7 @@ use Rattle.av_flat.specs.Nodes.{nodes, IsComputation}
 use Rattle.av_flat.specs.Order.{IsBefore}
 use Rattle.av_flat.specs.Signatures.{is_shown}
 use Rattle.av_flat.specs.Trees.{Variable, FlatSystem}
-use Rattle.av_depend.proofs.Among.{last_among, among_cases, none_among}
+use Rattle.av_base.proofs.Among.{last_among, among_cases, none_among}
 use Rattle.av_net.specs.declared.design.Entry.{Entry}
 use Rattle.av_space.specs.declared.cells.Cell.{Cell}
 use Rattle.av_space.specs.Coordinates.{Placing}

@@ -1,5 +1,6 @@
 pub mod Fibres
 pub mod Words
+pub mod SameParts
 mod Shorthand
 mod Examples
 mod RowExamples
