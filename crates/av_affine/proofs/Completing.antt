@@ -21,7 +21,7 @@ use Rattle.av_affine.proofs.Pairs.{IsTurned, head_at, head_other, second_at, sec
 
 -- ---- the rows
 
-one_rows : (v : List ℤ) (p : ℕ) → length v ≤ 4 → p < length v → rows_of (square_of (length v) (one_cell v p)) ≡ v ∷ map (unit_row (length v)) (positions_but (p ∷ []) (length v))
+pub one_rows : (v : List ℤ) (p : ℕ) → length v ≤ 4 → p < length v → rows_of (square_of (length v) (one_cell v p)) ≡ v ∷ map (unit_row (length v)) (positions_but (p ∷ []) (length v))
 one_rows [] p h l = absurd (omega arith)
 one_rows (a ∷ []) zero h l = refl
 one_rows (a ∷ []) (suc p) h l = absurd (omega arith)
@@ -39,7 +39,7 @@ one_rows (a ∷ b ∷ c ∷ d ∷ []) (suc (suc (suc zero))) h l = refl
 one_rows (a ∷ b ∷ c ∷ d ∷ []) (suc (suc (suc (suc p)))) h l = absurd (omega arith)
 one_rows (a ∷ b ∷ c ∷ d ∷ e ∷ v) p h l = absurd (omega arith)
 
-two_rows : (v : List ℤ) (p r : ℕ) → length v ≤ 4 → p < length v → suc r < length v
+pub two_rows : (v : List ℤ) (p r : ℕ) → length v ≤ 4 → p < length v → suc r < length v
     → rows_of (square_of (length v) (two_cell v p r)) ≡ v ∷ signs_at p (skip p r) v ∷ map (unit_row (length v)) (positions_but (p ∷ skip p r ∷ []) (length v))
 two_rows [] p r h l m = absurd (omega arith)
 two_rows (a ∷ []) p r h l m = absurd (omega arith)
@@ -80,7 +80,7 @@ first_of (a ∷ b ∷ c ∷ d ∷ []) M h f l = λ i. f 0 i ∷ f 1 i ∷ f 2 i 
 first_of (a ∷ b ∷ c ∷ d ∷ e ∷ v) M h f l = absurd (omega arith)
 
 -- the place beside the first is among the others
-place_within : (n p r : ℕ) → p < n → skip p r < n → suc r < n
+pub place_within : (n p r : ℕ) → p < n → skip p r < n → suc r < n
 place_within n p r l m = elim (compared r p) [
   | inl e ↦ omega (arith, e)
   | inr e ↦ let s = skip_after p r e in omega (arith, s)
@@ -106,13 +106,13 @@ completed_rows v (Two p r) h s = beside_two p (skip p r) s.0 s.1 s.2 (two_rows v
 -- ---- the inverse
 
 -- a unit times itself
-unit_square : (a : ℤ) → unsigned_abs a ≡ 1 → a *ℤ a ≡ pos 1
+pub unit_square : (a : ℤ) → unsigned_abs a ≡ 1 → a *ℤ a ≡ pos 1
 unit_square a e = elim (by_size a 0 e) [ inl f ↦ rw f refl | inr f ↦ rw f refl ]
 
-one_size : (v : List ℤ) (p : ℕ) → IsLastOf (1 ∷ []) v p → unsigned_abs (entry v p) ≡ 1
+pub one_size : (v : List ℤ) (p : ℕ) → IsLastOf (1 ∷ []) v p → unsigned_abs (entry v p) ≡ 1
 one_size v p s = contains_one (unsigned_abs (entry v p)) 1 s.here
 
-two_turned : (v : List ℤ) (p q : ℕ) → IsLastOf (3 ∷ []) v p → IsLastOf (2 ∷ 4 ∷ []) v q → IsTurned (entry v p) (entry v q)
+pub two_turned : (v : List ℤ) (p q : ℕ) → IsLastOf (3 ∷ []) v p → IsLastOf (2 ∷ 4 ∷ []) v q → IsTurned (entry v p) (entry v q)
 two_turned v p q s t = is_turned (entry v p) (entry v q) (contains_one (unsigned_abs (entry v p)) 3 s.here) (contains_two (unsigned_abs (entry v q)) 2 4 t.here)
 
 one_inverts : (v : List ℤ) (n p : ℕ) → n ≤ 4 → p < n → entry v p *ℤ entry v p ≡ pos 1

@@ -39,7 +39,7 @@ constants_apart [] gs z = omega (arith, ints)
 constants_apart (f ∷ fs) [] z = omega (arith, ints)
 constants_apart (f ∷ fs) (g ∷ gs) z = rw (constants_apart fs gs z) (simp ring (omega (arith, ints, cube)))
 
-dot_none : (xs : List ℤ) → dot xs [] ≡ pos 0
+pub dot_none : (xs : List ℤ) → dot xs [] ≡ pos 0
 dot_none [] = refl
 dot_none (x ∷ xs) = refl
 

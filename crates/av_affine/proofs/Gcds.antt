@@ -8,23 +8,16 @@ use Prim.Native.Nat.{◌∣◌}
 use Rattle.std.proofs.lemmas.List.Elements.{All-more, All-weaker, All-nil, All-from_recursion, recursion_from_All}
 use Rattle.std.proofs.lemmas.List.{take_more}
 use Rattle.av_affine.specs.Numbers.{IsGcdOf}
+use Rattle.av_base.proofs.Lists.{each_first, each_second}
 
 pub gcd_none : IsGcdOf [] 0
 gcd_none = record { divides = All-nil (λ x. 0 ∣ unsigned_abs x); greatest = λ d h. dvd-zero d }
-
-left : {X : Type 0} (P : X → Type 0) (xs ys : List X) → AllByRecursion P (xs ++ ys) → AllByRecursion P xs
-left P [] ys h = tt
-left P (x ∷ xs) ys h = (h.0, left P xs ys h.1)
-
-right : {X : Type 0} (P : X → Type 0) (xs ys : List X) → AllByRecursion P (xs ++ ys) → AllByRecursion P ys
-right P [] ys h = h
-right P (x ∷ xs) ys h = right P xs ys h.1
 
 -- what holds of one more holds of those before it, and of it
 pub all_before : (P : ℤ → Type 0) (xs : List ℤ) (i : ℕ) → i < length xs → All P (take (i + 1) xs) → All P (take i xs) × P (get_or xs i (pos 0))
 all_before P xs i l h =
     let k = recursion_from_All P (take i xs ++ get_or xs i (pos 0) ∷ []) (subst (All P) (take_more xs i (pos 0) l) h) in
-    (All-from_recursion P (take i xs) (left P (take i xs) (get_or xs i (pos 0) ∷ []) k), (right P (take i xs) (get_or xs i (pos 0) ∷ []) k).0)
+    (All-from_recursion P (take i xs) (each_first P (take i xs) (get_or xs i (pos 0) ∷ []) k), (each_second P (take i xs) (get_or xs i (pos 0) ∷ []) k).0)
 
 pub gcd_more : (xs : List ℤ) (i g h : ℕ) → i < length xs → IsGcdOf (take i xs) g → IsGcd g (unsigned_abs (get_or xs i (pos 0))) h → IsGcdOf (take (i + 1) xs) h
 gcd_more xs i g h l s n = record {

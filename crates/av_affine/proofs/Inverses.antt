@@ -41,7 +41,7 @@ cancel_one : (a x : ℤ) → a *ℤ a ≡ pos 1 → a *ℤ neg_ℤ (a *ℤ x) +�
 cancel_one a x h = let e = simp ring at (ap (λ y. y *ℤ x) h) in simp ring (omega (arith, ints, cube, e))
 
 -- sums with zeros
-none_right : (n : ℕ) (f : ℕ → ℤ) → total n (λ k. f k *ℤ pos 0) ≡ pos 0
+pub none_right : (n : ℕ) (f : ℕ → ℤ) → total n (λ k. f k *ℤ pos 0) ≡ pos 0
 none_right n f = total_none n (λ k. f k *ℤ pos 0) (λ k l. omega (arith, ints))
 
 pub one_right : (v : List ℤ) (n p i j : ℕ) → p ≤ n → entry v p *ℤ entry v p ≡ pos 1 → i < suc n → j < suc n → total (suc n) (λ k. one_cell v p i k *ℤ one_inverse v p k j) ≡ delta i j

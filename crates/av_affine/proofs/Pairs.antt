@@ -10,6 +10,7 @@ use Rattle.av_affine.specs.Cells.{delta, skip, skip_two, turn, two_cell, two_sol
 use Rattle.av_affine.proofs.Ring.{ring, cube}
 use Rattle.av_affine.proofs.Sums.{total, total_same, total_none, total_apart, total_delta, total_delta_left, delta_same, delta_sym, delta_skipped, delta_skip, skip_all, skip_apart}
 use Rattle.av_affine.proofs.Blocks.{two_at, two_at_other, two_beside}
+use Rattle.av_affine.proofs.Inverses.{none_right}
 
 -- ---- the block of two numbers over their signs
 
@@ -115,9 +116,6 @@ two_split v n p r j g h l =
     let a = ap (λ x. g p *ℤ x) (two_at v p r p j refl) in
     let b = ap (λ x. g (skip p r) *ℤ x) (two_at_other v p r (skip p r) j (skip_apart p r) refl) in
     omega (arith, ints, e, f, a, b)
-
-none_right : (n : ℕ) (f : ℕ → ℤ) → total n (λ k. f k *ℤ pos 0) ≡ pos 0
-none_right n f = total_none n (λ k. f k *ℤ pos 0) (λ k l. omega (arith, ints))
 
 none_left : (n : ℕ) (f g : ℕ → ℤ) → ((k : ℕ) → f k ≡ pos 0) → total n (λ k. f k *ℤ g k) ≡ pos 0
 none_left n f g h = total_none n (λ k. f k *ℤ g k) (λ k l. ap (λ x. x *ℤ g k) (h k) ∙ (let z : pos 0 *ℤ g k ≡ pos 0 = omega (arith, ints) in z))

@@ -6,11 +6,11 @@ use Rattle.std.proofs.lemmas.Bool.{cases_eq}
 use Rattle.std.proofs.lemmas.List.{get_or-set_same, get_or-set_other}
 use Rattle.std.proofs.lemmas.List.Elements.{Contains-append_left, Contains-push, Contains-push_cases}
 
-pub any_before : {X : Type 0} (P : X → Type 0) (xs : List X) (x : X) → Any P xs → Any P (xs ++ x ∷ [])
-any_before P xs x (k, y, l, e, p) = let w = Contains-append_left xs (x ∷ []) y (k, l, e) in (w.0, y, w.1, w.2, p)
-
 pub any_first : {X : Type 0} (P : X → Type 0) (xs ys : List X) → Any P xs → Any P (xs ++ ys)
 any_first P xs ys (k, y, l, e, p) = let w = Contains-append_left xs ys y (k, l, e) in (w.0, y, w.1, w.2, p)
+
+pub any_before : {X : Type 0} (P : X → Type 0) (xs : List X) (x : X) → Any P xs → Any P (xs ++ x ∷ [])
+any_before P xs x h = any_first P xs (x ∷ []) h
 
 pub any_last : {X : Type 0} (P : X → Type 0) (xs : List X) (x : X) → P x → Any P (xs ++ x ∷ [])
 any_last P xs x p = let w = Contains-push xs x in (w.0, x, w.1, w.2, p)

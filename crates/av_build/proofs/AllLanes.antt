@@ -5,12 +5,13 @@ use Rattle.std.proofs.lemmas.Bool.{cases_lt}
 use Rattle.std.proofs.lemmas.List.{length-map, take_all}
 use Rattle.av_space.specs.declared.array.Array.{Array as ArrayMade}
 use Rattle.av_space.proofs.ByPlace.{pair_at, from_map}
-use Rattle.av_space.proofs.Elements.{some_is, at_index, mapped, got, in_range}
-use Rattle.av_build.proofs.Appended.{get_left, get_right, get_cases}
+use Rattle.av_space.proofs.Elements.{at_index, got, in_range}
+use Rattle.av_build.proofs.Appended.{get_right}
 use Rattle.av_build.specs.declared.blueprint.CellPlan.{CellPlan}
 use Rattle.av_build.specs.declared.blueprint.HelperPlan.{HelperPlan}
 use Rattle.av_build.specs.declared.blueprint.LanePlan.{LanePlan}
 use Rattle.av_build.specs.inner.Blueprints.{number_in, ArePieces, IsHelperOn, IsBeforeAt, AreHelpers, AreLanes}
+use Rattle.av_base.proofs.Lists.{get_cases, get_first, get_mapped, some_is}
 
 -- ---- the lanes of a cell
 
@@ -83,7 +84,7 @@ module _ (w : ArrayMade) (cells : List CellPlan) (lanes : List LanePlan) (are : 
   only : (q : ℕ) (lane : LanePlan) → slice_get (lanes ++ mine) q ≡ Some lane
       → (x : CellPlan) × (slice_get (cells ++ plan ∷ []) lane.cell ≡ Some x) × IfSome lane.helper (IsHelperOn w x.pieces lane.cell) × (x.first ≤ q) × (q ≤ x.value)
   only q lane e = elim (get_cases lanes mine q lane e) [
-    | inl l ↦ (let o = are.only q lane l in (o.0, get_left cells (plan ∷ []) lane.cell o.0 o.1, o.2, o.3, o.4))
+    | inl l ↦ (let o = are.only q lane l in (o.0, get_first cells (plan ∷ []) lane.cell o.0 o.1, o.2, o.3, o.4))
     | inr r ↦ elim (own_cases p helpers own.once r.0 lane r.2) [
       | inl a ↦
           let low = in_range helpers r.0 a.0 a.1 in
@@ -120,12 +121,12 @@ module _ (w : ArrayMade) (cells : List CellPlan) (lanes : List LanePlan) (are : 
     only = only;
     own = own_lane;
     values = λ k x e. (elim (cell_cases k x e) [
-      | inl l ↦ get_left lanes mine x.value (record { cell = k; helper = None }) (are.values k x l)
+      | inl l ↦ get_first lanes mine x.value (record { cell = k; helper = None }) (are.values k x l)
       | inr b ↦ subst (λ (n : ℕ). slice_get (lanes ++ mine) x.value ≡ Some (record { cell = n; helper = None })) (sym b.0)
           (subst (λ (y : CellPlan). slice_get (lanes ++ mine) y.value ≡ Some (record { cell = p; helper = None })) (sym b.1) last_lane)
     ]);
     helpers = λ k x e h on. (elim (cell_cases k x e) [
-      | inl l ↦ (let f = are.helpers k x l h on in (f.0, get_left lanes mine f.0 (of_helper k h) f.1))
+      | inl l ↦ (let f = are.helpers k x l h on in (f.0, get_first lanes mine f.0 (of_helper k h) f.1))
       | inr b ↦ (
           let here_on = subst (λ (n : ℕ). IsHelperOn w plan.pieces n h) b.0 (subst (λ (y : CellPlan). IsHelperOn w y.pieces k h) b.1 on) in
           let f = helper_lane h here_on in
@@ -146,7 +147,7 @@ module _ (w : ArrayMade) (cells : List CellPlan) (lanes : List LanePlan) (are : 
       helper_lane h on =
           let low = in_range plan.pieces.sites h.piece on.on.own on.on.is_own in
           let i = got helpers h (own.all h on (inl low)) in
-          let there = get_left (map (of_helper p) helpers) (record { cell = p; helper = None } ∷ []) i.0 (of_helper p h) (mapped (of_helper p) helpers i.0 h i.1) in
+          let there = get_first (map (of_helper p) helpers) (record { cell = p; helper = None } ∷ []) i.0 (of_helper p h) (get_mapped (of_helper p) helpers i.0 h i.1) in
           (length lanes + i.0, get_right lanes mine i.0 (of_helper p h) there)
 
       -- the lanes of other cells are of cells before

@@ -12,8 +12,7 @@ use Rattle.av_space.specs.Layouts.{AreSlots}
 use Rattle.av_space.specs.Links.{line_length}
 use Rattle.av_space.specs.Spots.{system_of, helpers_of, placings_of, cells_of, IsSpot, IsSiteOf, AreEnds}
 use Rattle.av_space.specs.Taps.{Handing}
-use Rattle.av_space.proofs.ByPlace.{there_is}
-use Rattle.av_space.proofs.Elements.{some_is, at_index}
+use Rattle.av_space.proofs.Elements.{at_index}
 use Rattle.av_space.proofs.SlotEnds.{are_ends}
 use Rattle.av_build.specs.declared.blueprint.Blueprint.{Blueprint}
 use Rattle.av_build.specs.declared.blueprint.CellPlan.{CellPlan}
@@ -28,6 +27,7 @@ use Rattle.av_build.proofs.HelperLanes.{helper_lane}
 use Rattle.av_build.proofs.HelperSteps.{handing_is}
 use Rattle.av_build.proofs.PieceWorks.{stay_for}
 use Rattle.av_build.proofs.ValueLanes.{AreStays, one_stay_more, whole_lane}
+use Rattle.av_base.proofs.Lists.{some_is, there_is}
 
 module _ (b : Blueprint) (is : IsBlueprint b) (p : ℕ) (plan : CellPlan) (is_plan : slice_get b.cells p ≡ Some plan) where
   abbrev w : ArrayMade

@@ -4,7 +4,7 @@ use Rattle.std.specs.Prelude.{slice_get}
 use Rattle.av_space.specs.declared.spots.Site.{Site as PlaceMade}
 use Rattle.av_space.specs.declared.spots.Spot.{Spot as SpotMade}
 use Rattle.av_space.specs.Spots.{cells_of, helpers_of, IsSiteOf}
-use Rattle.av_space.proofs.Elements.{some_is, in_range}
+use Rattle.av_space.proofs.Elements.{in_range}
 use Rattle.av_build.specs.declared.blueprint.Blueprint.{Blueprint}
 use Rattle.av_build.specs.declared.blueprint.CellPlan.{CellPlan}
 use Rattle.av_build.specs.declared.blueprint.HelperPlan.{HelperPlan}
@@ -13,6 +13,7 @@ use Rattle.av_build.proofs.BuiltLanes.{helper_on, site_there}
 use Rattle.av_build.proofs.CellPieces.{plan_at, spot_at, own_at}
 use Rattle.av_build.proofs.HelperLanes.{helped}
 use Rattle.av_build.proofs.Pairwise.{element_of}
+use Rattle.av_base.proofs.Lists.{some_is}
 
 module _ (b : Blueprint) (is : IsBlueprint b) (p : ℕ) (h : HelperPlan) (x : HasHelper b p h) where
   low : p < length b.cells

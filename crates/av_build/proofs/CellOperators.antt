@@ -6,11 +6,11 @@ use Rattle.std.proofs.lemmas.List.Sums.{sum_by-cons}
 use Rattle.std.proofs.lemmas.Option.{get_or_from_slice_get}
 use Rattle.av_flat.specs.Trees.{Piece, Variable}
 use Rattle.av_space.specs.ArrayForm.{Sort, operators}
-use Rattle.av_space.proofs.Elements.{some_is}
 use Rattle.av_build.specs.inner.Programs.{Work, Lane}
 use Rattle.av_build.specs.inner.Selections.{Stay, shifts_by, last_work}
 use Rattle.av_build.specs.inner.Kinds.{of_tree, of_shifts, of_lane}
 use Rattle.av_build.proofs.Sorts.{unit, tree_has}
+use Rattle.av_base.proofs.Lists.{some_is}
 
 -- ---- numbers of pieces
 

@@ -6,8 +6,9 @@ use Rattle.av_space.specs.declared.spots.Spot.{Spot as SpotMade}
 use Rattle.av_build.specs.declared.blueprint.Blueprint.{Blueprint}
 use Rattle.av_build.specs.declared.blueprint.CellPlan.{CellPlan}
 use Rattle.av_build.specs.inner.Blueprints.{IsBlueprint, IsSpotAt}
-use Rattle.av_space.proofs.Elements.{some_is, in_range}
+use Rattle.av_space.proofs.Elements.{in_range}
 use Rattle.av_build.proofs.Pairwise.{element_of}
+use Rattle.av_base.proofs.Lists.{some_is}
 
 module _ (b : Blueprint) (is : IsBlueprint b) (p : ℕ) (low : p < length b.cells) (cells : List CellPlan) (plan : CellPlan) (cells_are : cells ≡ b.cells) (plan_is : plan ≡ get_or cells p plan) where
   pub plan_at : slice_get b.cells p ≡ Some plan

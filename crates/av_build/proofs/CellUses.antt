@@ -11,12 +11,14 @@ use Rattle.av_space.specs.declared.spots.Spot.{Spot as SpotMade}
 use Rattle.av_space.specs.Layouts.{AreSlots}
 use Rattle.av_space.specs.Spots.{system_of, helpers_of, placings_of, cells_of, ComputesIn, IsArray, AreSpots}
 use Rattle.av_space.specs.Occupancy.{IsUsed}
-use Rattle.av_space.proofs.ByPlace.{there_is, from_map}
-use Rattle.av_space.proofs.Elements.{at_index, got, in_range, get_contained}
+use Rattle.av_space.proofs.ByPlace.{from_map}
+use Rattle.av_space.proofs.Elements.{at_index, got, in_range}
 use Rattle.av_space.proofs.Nodes.{passing}
 use Rattle.av_space.proofs.Scheduling.{scheduled}
 use Rattle.av_space.proofs.Timely.{some_piece_of}
 use Rattle.av_build.proofs.Serving.{computed_node}
+use Rattle.av_base.proofs.Among.{among_at}
+use Rattle.av_base.proofs.Lists.{there_is}
 
 -- a computation on the cell p
 pub record IsBusy (w : ArrayMade) (p : ℕ) : Type 0 where
@@ -59,7 +61,7 @@ some_spot w is p low spots are =
     let v = computation.variable in
     let r = passing is_node s.variables b.cell.node v computation.is in
     let g = scheduled w.timed.now (placings_of w) (cells_of w) is.whole.legal is.layout.are_placings is.layout.are_cells in
-    let piece = some_piece_of s (helpers_of w) (placings_of w) (cells_of w) g v b.point (get_contained s.variables r.place v r.is) (computed_node v r.passes) computation.declared in
+    let piece = some_piece_of s (helpers_of w) (placings_of w) (cells_of w) g v b.point (among_at s.variables r.place v r.is) (computed_node v r.passes) computation.declared in
     let among = are.all b.cycle b.cell.node b.point v piece.0 piece.1 b.computes computation.is piece.2 piece.3 in
     let i = got (map (λ (at : SpotMade). at.number) spots) piece.0 among in
     let at = from_map (λ (at : SpotMade). at.number) spots i.0 piece.0 i.1 in

@@ -31,13 +31,10 @@ use Rattle.av_build.proofs.Owned.{AreFew, AreWords}
 use Rattle.av_build.proofs.Joined.{Legal, arranged, fits_words, one_point}
 use Rattle.av_build.proofs.Listed.{place_of}
 use Rattle.av_build.proofs.Whole.{Given, module_sound, module_shows}
-use Rattle.av_space.proofs.Elements.{some_is, at_index}
+use Rattle.av_space.proofs.Elements.{at_index}
 use Rattle.av_space.proofs.Scheduling.{chained_variable, chained_piece, scheduled}
-
-contains_at : {X : Type 0} (xs : List X) (k : ℕ) (x : X) → slice_get xs k ≡ Some x → Contains xs x
-contains_at [] k x is = absurd cc
-contains_at (y ∷ xs) zero x is = (0, omega arith, some_is y x is)
-contains_at (y ∷ xs) (suc k) x is = let r = contains_at xs k x is in (suc r.0, omega (arith, r.1), r.2)
+use Rattle.av_base.proofs.Among.{among_at}
+use Rattle.av_base.proofs.Lists.{some_is}
 
 module _ (t : Timed) (a : Cells) (legal : IsLegal t) (array : IsArrayOf t a) where
   abbrev own : FlatSystem
@@ -58,7 +55,7 @@ module _ (t : Timed) (a : Cells) (legal : IsLegal t) (array : IsArrayOf t a) whe
   inverted : (n : ℕ) (v : Variable) (p : Placing) → slice_get (nodes own) n ≡ Some v → slice_get array.placings n ≡ Some p → (v.domain.dim ≡ 0) ⊎ Inverts p v.domain.dim
   inverted n v p is_variable is_placing =
       let here = place_of own.variables n v is_variable in
-      let variable = chained_variable t array.placings a.cells legal array.are_placings array.cells v (contains_at own.variables here.place v here.is_variable) in
+      let variable = chained_variable t array.placings a.cells legal array.are_placings array.cells v (among_at own.variables here.place v here.is_variable) in
       let time : slice_get t.times n ≡ Some p.time = subst (λ (l : List Time). slice_get l n ≡ Some p.time) times_of (time_at array.placings n p is_placing) in
       let part = legal.schedule.linear n v p.time is_variable time in
       inverse_of v.domain.dim p part.size variable.indices (at_index IsPlacing array.placings array.are_placings.each n p is_placing)
@@ -76,7 +73,7 @@ module _ (w : Width) (t : Timed) (a : Cells) (legal : IsLegal t) (array : IsArra
   pub words_fit : AreWords w.bits (array_of t a array.placings)
   words_fit n v k piece is_variable is_piece =
       let here = place_of (view_system t.flat).variables n v is_variable in
-      let among = contains_at (view_system t.flat).variables here.place v here.is_variable in
+      let among = among_at (view_system t.flat).variables here.place v here.is_variable in
       let variable = chained_variable t array.placings a.cells legal array.are_placings array.cells v among in
       let tree = (chained_piece t array.placings a.cells legal array.are_placings array.cells v k piece among is_piece).tree in
       let width : v.width ≡ w.bits = variable.width ∙ width_is in

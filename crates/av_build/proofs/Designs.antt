@@ -10,7 +10,6 @@ use Rattle.av_space.specs.declared.cells.Cells.{Cells}
 use Rattle.av_space.specs.declared.cells.Cell.{Cell}
 use Rattle.av_space.specs.Occupancy.{Computes}
 use Rattle.av_space.specs.Whole.{IsWhole}
-use Rattle.av_space.proofs.Elements.{some_is}
 use Rattle.av_build.specs.inner.Programs.{Program}
 use Rattle.av_build.specs.inner.Programmed.{Lanes, IsProgramFor}
 use Rattle.av_build.specs.inner.Built.{HasSmallNumbers, IsProgramOf, array_of, design_of}
@@ -19,6 +18,7 @@ use Rattle.av_build.proofs.Connected.{one_computation}
 use Rattle.av_build.proofs.Headline.{carries, headline}
 use Rattle.av_build.proofs.InArrayForm.{in_array_form, linked}
 use Rattle.av_build.proofs.SoundDesigns.{sound_design}
+use Rattle.av_base.proofs.Lists.{some_is}
 
 module _ (w : Width) (t : Timed) (a : Cells) (program : Program) (whole : IsWhole t a) (lanes : Lanes) (is_program : IsProgramFor (array_of t a whole.list.placings) lanes program)
     (outputs_are : program.outputs ≡ map lanes.of_value a.outputs) (width_is : (view_system t.flat).width ≡ w.bits) (few : a.cycles ≤ 4096) (small : HasSmallNumbers w a program) where

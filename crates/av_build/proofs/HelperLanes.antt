@@ -17,8 +17,8 @@ use Rattle.av_space.specs.declared.spots.Spot.{Spot as SpotMade}
 use Rattle.av_space.specs.Sites.{place_of}
 use Rattle.av_space.specs.Spots.{system_of, helpers_of, ComputesIn, IsArray, IsSpot, IsSiteOf, handing_by}
 use Rattle.av_space.specs.Taps.{Handing, helper_at, node_place, Place, places_in}
-use Rattle.av_space.proofs.ByPlace.{there_is, from_map}
-use Rattle.av_space.proofs.Elements.{some_is, at_index, in_range, got}
+use Rattle.av_space.proofs.ByPlace.{from_map}
+use Rattle.av_space.proofs.Elements.{at_index, in_range, got}
 use Rattle.av_space.proofs.Helpers.{found_helper}
 use Rattle.av_space.proofs.Nodes.{own_place}
 use Rattle.av_space.proofs.NodePlaces.{node_at}
@@ -30,9 +30,10 @@ use Rattle.av_build.specs.inner.Programs.{Source, Site, Lane}
 use Rattle.av_build.specs.inner.Programmed.{Lanes, Spot, later, helper_length, IsHandSource, IsSiteFor, IsHelper, IsHelperLane}
 use Rattle.av_build.specs.inner.Blueprints.{seen, spot_of, ArePieces, IsHelperOn}
 use Rattle.av_build.specs.inner.Moments.{IsHandBy}
-use Rattle.av_build.proofs.Appended.{get_left, get_right, get_cases}
+use Rattle.av_build.proofs.Appended.{get_right}
 use Rattle.av_build.proofs.HelperPlans.{by_tree}
 use Rattle.av_build.proofs.SpotNodes.{node_of}
+use Rattle.av_base.proofs.Lists.{get_cases, get_first, some_is, there_is}
 
 -- ---- the place of a reference
 
@@ -42,7 +43,7 @@ Tells k n ps rs = (i : ℕ) (r : Reference) → slice_get rs i ≡ Some r → (j
 
 both_told : (k n m : ℕ) (ps qs : List Place) (rs more : List Reference) → m ≡ n + length rs → Tells k n ps rs → Tells k m qs more → Tells k n (ps ++ qs) (rs ++ more)
 both_told k n m ps qs rs more e f g = λ i r is. (elim (get_cases rs more i r is) [
-  | inl l ↦ (let x = f i r l in (x.0, get_left ps qs x.0 (record { piece = k; site = n + i; tree = reference r.place r.map }) x.1))
+  | inl l ↦ (let x = f i r l in (x.0, get_first ps qs x.0 (record { piece = k; site = n + i; tree = reference r.place r.map }) x.1))
   | inr b ↦ (
       let x = g b.0 r b.2 in
       let d = b.1 in

@@ -14,13 +14,14 @@ use Rattle.av_space.specs.Sites.{place_of}
 use Rattle.av_space.specs.Spots.{helpers_of, handing_by, IsSiteOf}
 use Rattle.av_space.specs.Taps.{Handing, helper_at, Place, places_in}
 use Rattle.av_space.proofs.ByPlace.{pair_at}
-use Rattle.av_space.proofs.Elements.{some_is, at_index, mapped, in_range}
+use Rattle.av_space.proofs.Elements.{at_index, in_range}
 use Rattle.av_space.proofs.Helpers.{found_helper}
 use Rattle.av_space.proofs.SpotPlaces.{place_read}
 use Rattle.av_build.specs.declared.blueprint.HelperPlan.{HelperPlan}
 use Rattle.av_build.specs.declared.blueprint.Pieces.{Pieces}
 use Rattle.av_build.specs.inner.Blueprints.{ArePieces, IsHelperOn, IsBeforeAt, AreHelpers}
 use Rattle.av_build.proofs.PlaceNumbers.{one_reference}
+use Rattle.av_base.proofs.Lists.{get_mapped, some_is}
 
 -- ---- a helper is of one place
 
@@ -94,8 +95,8 @@ module _ (w : ArrayMade) (p : ℕ) (pieces : Pieces) (are : ArePieces w p pieces
       let P : List Place = places_in y.spot.number 0 (view y.spot.piece.now.tree) in
       let is_x : slice_get x.on.own g.site ≡ Some x.site = x.on.is_site in
       let at_x : slice_get P g.site ≡ Some (place_of x.site.place) =
-      ap (λ (ps : List Place). slice_get ps g.site) (sym listed.places) ∙ mapped (λ (s : PlaceMade). place_of s.place) y.on.own g.site x.site (ap (λ (l : List PlaceMade). slice_get l g.site) (sym own) ∙ is_x) in
-      let at_y : slice_get P h.site ≡ Some (place_of y.site.place) = ap (λ (ps : List Place). slice_get ps h.site) (sym listed.places) ∙ mapped (λ (s : PlaceMade). place_of s.place) y.on.own h.site y.site y.on.is_site in
+      ap (λ (ps : List Place). slice_get ps g.site) (sym listed.places) ∙ get_mapped (λ (s : PlaceMade). place_of s.place) y.on.own g.site x.site (ap (λ (l : List PlaceMade). slice_get l g.site) (sym own) ∙ is_x) in
+      let at_y : slice_get P h.site ≡ Some (place_of y.site.place) = ap (λ (ps : List Place). slice_get ps h.site) (sym listed.places) ∙ get_mapped (λ (s : PlaceMade). place_of s.place) y.on.own h.site y.site y.on.is_site in
       (piece, one_reference y.spot.number (view y.spot.piece.now.tree) g.site h.site (place_of x.site.place) (place_of y.site.place) a.reference.place b.reference.place a.reference.map_is b.reference.map_is at_x at_y a.reference.tree b.reference.tree site)
 
   -- ---- one place after another

@@ -5,12 +5,12 @@ use Rattle.av_space.specs.declared.array.Array.{Array as ArrayMade}
 use Rattle.av_space.specs.declared.spots.Site.{Site as PlaceMade}
 use Rattle.av_space.specs.declared.spots.Spot.{Spot as SpotMade}
 use Rattle.av_space.specs.Taps.{Handing}
-use Rattle.av_space.proofs.Elements.{some_is}
 use Rattle.av_build.specs.declared.blueprint.HelperPlan.{HelperPlan}
 use Rattle.av_build.specs.declared.blueprint.Pieces.{Pieces}
 use Rattle.av_build.specs.inner.Programmed.{helper_length}
 use Rattle.av_build.specs.inner.Blueprints.{seen, ArePieces, IsHelperOn, AreHelpers}
 use Rattle.av_build.proofs.HelperPlans.{no_helper, one_helper}
+use Rattle.av_base.proofs.Lists.{some_is}
 
 pub at_most : (m n : ℕ) → m ≤ n → nat_le m n ≡ true
 at_most m n h = grind arith

@@ -30,8 +30,8 @@ use Rattle.av_space.specs.Ports.{output_cells, is_output_cell}
 use Rattle.av_space.specs.Occupancy.{IsUsed, Computes}
 use Rattle.av_space.specs.Quantities.{IsUse}
 use Rattle.av_space.specs.ArrayForm.{IsWire, IsRegister, MayName, MayTake, operands_of, Sort, rest, AreOfSorts, ended, sorted, how_many, is_same, operators, ArePiecesOn, AreDrivesOf, of_cell, other, HasFewOperators, HasCounter, counting, without, IsArrayForm}
-use Rattle.av_space.proofs.ByPlace.{there_is, from_map, pairs_by_place}
-use Rattle.av_space.proofs.Elements.{some_is, both_each, each_at, in_range, get_contained, mapped, at_index}
+use Rattle.av_space.proofs.ByPlace.{from_map, pairs_by_place}
+use Rattle.av_space.proofs.Elements.{each_at, in_range, at_index}
 use Rattle.av_space.proofs.Timely.{some_piece_of}
 use Rattle.av_build.specs.declared.gates.Gate.{Gate}
 use Rattle.av_build.specs.inner.Names.{Labels, input_name, output_name, value_name, line_name, counter_name, next_name}
@@ -55,12 +55,14 @@ use Rattle.av_build.proofs.Sorts.{NotCounter, Good, GoodGates, GoodBuilt, Among,
 use Rattle.av_build.proofs.Listed.{value_label, place_of}
 use Rattle.av_build.proofs.Connected.{given, legal_array}
 use Rattle.av_build.proofs.Whole.{module_reads}
+use Rattle.av_base.proofs.Among.{among_at}
+use Rattle.av_base.proofs.Lists.{each_append, get_mapped, some_is, there_is}
 
 -- ---- lists of lanes
 
 lanes_each : {X : Type 0} (P : X → Type 0) (f : ℕ → Lane → List X) (n : ℕ) (lanes : List Lane) → Each (λ p lane. AllByRecursion P (f p lane)) n lanes → AllByRecursion P (of_lanes f n lanes)
 lanes_each P f n [] h = tt
-lanes_each P f n (lane ∷ lanes) h = both_each P (f n lane) (of_lanes f (n + 1) lanes) (h 0 lane refl n (omega arith)) (lanes_each P f (n + 1) lanes (later_each (λ p lane. AllByRecursion P (f p lane)) n lane lanes h))
+lanes_each P f n (lane ∷ lanes) h = each_append P (f n lane) (of_lanes f (n + 1) lanes) (h 0 lane refl n (omega arith)) (lanes_each P f (n + 1) lanes (later_each (λ p lane. AllByRecursion P (f p lane)) n lane lanes h))
 
 lane_contains : {X : Type 0} (f : ℕ → Lane → List X) (n : ℕ) (lanes : List Lane) (k : ℕ) (lane : Lane) → slice_get lanes k ≡ Some lane → (p : ℕ) → n + k ≡ p → (x : X) → Contains (f p lane) x → Contains (of_lanes f n lanes) x
 lane_contains f n [] k lane is p at x here = absurd cc
@@ -198,16 +200,16 @@ module _ (w : Width) (t : Timed) (a : Cells) (program : Program) (g : IsProgramO
   wires_each : (P : Port → Type 0) → ((q : ℕ) (lane : Lane) → slice_get program.lanes q ≡ Some lane → (i : ℕ) (x : Width) → P (port x (N.wire q i)))
       → ((q : ℕ) (lane : Lane) → slice_get program.lanes q ≡ Some lane → P (port w (N.value q))) → (counts program ≡ true → P (port counter_width next_name)) → AllByRecursion P m.wires
   wires_each P inner value next =
-      both_each P (of_lanes (cell_wires N w) 0 program.lanes) (if_counted program (port counter_width next_name))
+      each_append P (of_lanes (cell_wires N w) 0 program.lanes) (if_counted program (port counter_width next_name))
       (lanes_each P (cell_wires N w) 0 program.lanes (λ k lane at q e.
       let is = moved program.lanes k q lane at e in
-      both_each P (ports_from (N.wire q) 0 (gates q lane)) (port w (N.value q) ∷ []) (port_each P (N.wire q) 0 (gates q lane) (λ i x. inner q lane is i x)) (value q lane is, tt)))
+      each_append P (ports_from (N.wire q) 0 (gates q lane)) (port w (N.value q) ∷ []) (port_each P (N.wire q) 0 (gates q lane) (λ i x. inner q lane is i x)) (value q lane is, tt)))
       (if_there P (counts program) (port counter_width next_name) next)
 
   registers_each : (P : Port → Type 0) → ((q : ℕ) (lane : Lane) → slice_get program.lanes q ≡ Some lane → (d : ℕ) → P (port w (N.register q d))) → (counts program ≡ true → P (port counter_width counter_name))
       → AllByRecursion P m.registers
   registers_each P register counter =
-      both_each P (of_lanes (cell_registers N w) 0 program.lanes) (if_counted program (port counter_width counter_name))
+      each_append P (of_lanes (cell_registers N w) 0 program.lanes) (if_counted program (port counter_width counter_name))
       (lanes_each P (cell_registers N w) 0 program.lanes (λ k lane at q e. range_each q lane (moved program.lanes k q lane at e) lane.length 0))
       (if_there P (counts program) (port counter_width counter_name) counter)
     where
@@ -232,7 +234,7 @@ module _ (w : Width) (t : Timed) (a : Cells) (program : Program) (g : IsProgramO
   lane_each : (P : Drive → Type 0) (q : ℕ) (lane : Lane) → ((i : ℕ) (x : Gate) → slice_get (gates q lane) i ≡ Some x → P (record { target = N.wire q i; operation = x.operation }))
       → P (record { target = N.value q; operation = (cell_built N w q lane).root }) → AllByRecursion P (cell_drives N w q lane)
   lane_each P q lane inner root =
-      both_each P (drives_from (N.wire q) 0 (gates q lane)) (record { target = N.value q; operation = (cell_built N w q lane).root } ∷ [])
+      each_append P (drives_from (N.wire q) 0 (gates q lane)) (record { target = N.value q; operation = (cell_built N w q lane).root } ∷ [])
       (drive_each P (N.wire q) 0 (gates q lane) (λ i x there j f. (let same : i ≡ j = omega (arith, f) in subst (λ y. P (record { target = N.wire q y; operation = x.operation })) same (inner i x there))))
       (root, tt)
 
@@ -242,7 +244,7 @@ module _ (w : Width) (t : Timed) (a : Cells) (program : Program) (g : IsProgramO
   others_each : (P : Drive → Type 0) → ((k q : ℕ) → slice_get program.outputs k ≡ Some q → P (record { target = output_name k; operation = Plain (Name (N.value q)) })) → (counts program ≡ true → P next_drive)
       → AllByRecursion P others
   others_each P out next =
-      both_each P (output_drives N 0 program.outputs) (if_counted program next_drive)
+      each_append P (output_drives N 0 program.outputs) (if_counted program next_drive)
       (outputs_each 0 program.outputs (λ k q at j e. (let same : k ≡ j = omega (arith, e) in subst (λ y. P (record { target = output_name y; operation = Plain (Name (N.value q)) })) same (out k q at))))
       (if_there P (counts program) next_drive next)
     where
@@ -255,7 +257,7 @@ module _ (w : Width) (t : Timed) (a : Cells) (program : Program) (g : IsProgramO
       → ((k q : ℕ) → slice_get program.outputs k ≡ Some q → P (record { target = output_name k; operation = Plain (Name (N.value q)) }))
       → (counts program ≡ true → P next_drive) → AllByRecursion P m.drives
   drives_each P inner root out next =
-      both_each P (of_lanes (cell_drives N w) 0 program.lanes) others
+      each_append P (of_lanes (cell_drives N w) 0 program.lanes) others
       (lanes_each P (cell_drives N w) 0 program.lanes (λ k lane at q e. (let is = moved program.lanes k q lane at e in lane_each P q lane (inner q lane is) (root q lane is))))
       (others_each P out next)
 
@@ -343,7 +345,7 @@ module _ (w : Width) (t : Timed) (a : Cells) (program : Program) (g : IsProgramO
 
   takes : All Takes m.steps
   takes = All-from_recursion Takes m.steps
-      (both_each Takes (of_lanes (cell_steps N) 0 program.lanes) (if_counted program counter_step)
+      (each_append Takes (of_lanes (cell_steps N) 0 program.lanes) (if_counted program counter_step)
       (lanes_each Takes (cell_steps N) 0 program.lanes (λ k lane at q e. steps_range q lane (moved program.lanes k q lane at e) lane.length 0))
       (if_step (counts program)))
     where
@@ -400,7 +402,7 @@ module _ (w : Width) (t : Timed) (a : Cells) (program : Program) (g : IsProgramO
   output_is k p d is among named = All-contains IsOutput m.drives d (All-from_recursion IsOutput m.drives each) among named
     where
       here : slice_get program.outputs k ≡ Some (g.lanes.of_value p)
-      here = ap (λ (l : List ℕ). slice_get l k) (g.outputs_are ∙ ap (λ (l : List ℕ). map g.lanes.of_value l) g.array.outputs) ∙ mapped g.lanes.of_value (output_cells own a.cells) k p is
+      here = ap (λ (l : List ℕ). slice_get l k) (g.outputs_are ∙ ap (λ (l : List ℕ). map g.lanes.of_value l) g.array.outputs) ∙ get_mapped g.lanes.of_value (output_cells own a.cells) k p is
 
       IsOutput : Drive → Type 0
       IsOutput x = x.target ≡ output_name k → x.operation ≡ Plain (Name (value_name p))
@@ -537,7 +539,7 @@ module _ (w : Width) (t : Timed) (a : Cells) (program : Program) (g : IsProgramO
   own_good : (p n : ℕ) (lanes : List Lane) → Each IsThere n lanes → AllByRecursion (λ (d : Drive). Good m.drives d.operation) (cell_own p n lanes)
   own_good p n [] h = tt
   own_good p n (lane ∷ lanes) h =
-      both_each (λ (d : Drive). Good m.drives d.operation) (if nat_eq lane.home p then cell_drives N w n lane else []) (cell_own p (n + 1) lanes)
+      each_append (λ (d : Drive). Good m.drives d.operation) (if nat_eq lane.home p then cell_drives N w n lane else []) (cell_own p (n + 1) lanes)
       (go (nat_eq lane.home p)) (own_good p (n + 1) lanes (later_each IsThere n lane lanes h))
     where
       go : (b : Bool) → AllByRecursion (λ (d : Drive). Good m.drives d.operation) (if b then cell_drives N w n lane else [])
@@ -579,7 +581,7 @@ module _ (w : Width) (t : Timed) (a : Cells) (program : Program) (g : IsProgramO
         let computation = h.computes.stands.computation in
         let one : computation.variable ≡ v = some_is computation.variable v (sym computation.is ∙ h.is_variable) in
         let inside : has v.domain h.point ≡ true = subst (λ (x : Variable). has x.domain h.point ≡ true) one computation.declared in
-        some_piece_of own t.helpers g.array.placings a.cells (legal_array t a g.legal g.array).scheduled v h.point (get_contained own.variables at.place v at.is_variable) (both_true (is_computed v.kind) (nat_lt 0 (length v.pieces)) at.is_one).0 inside
+        some_piece_of own t.helpers g.array.placings a.cells (legal_array t a g.legal g.array).scheduled v h.point (among_at own.variables at.place v at.is_variable) (both_true (is_computed v.kind) (nat_lt 0 (length v.pieces)) at.is_one).0 inside
       where
         both_true : (x y : Bool) → (x && y) ≡ true → (x ≡ true) × (y ≡ true)
         both_true true y e = (refl, e)
@@ -671,7 +673,7 @@ module _ (w : Width) (t : Timed) (a : Cells) (program : Program) (g : IsProgramO
           let one : u.variable ≡ v = some_is u.variable v (sym u.is_variable ∙ ap (λ n. slice_get (nodes own) n) node ∙ h.is_variable) in
           let is_piece : slice_get v.pieces k ≡ Some piece = subst (λ (x : Variable). slice_get x.pieces k ≡ Some piece) one u.is_piece in
           let found = h.is.every k piece is_piece u.cycle u.node u.point u.computes u.within in
-          get_contained numbers found.0 k (take_has (length stays) h.is.pieces found.0 k (slice_get_within stays found.0 found.1 found.2) found.3);
+          among_at numbers found.0 k (take_has (length stays) h.is.pieces found.0 k (slice_get_within stays found.0 found.1 found.2) found.3);
       once = pairs_by_place (λ (x y : ℕ). x ≢ y) numbers (λ i j x y ix jy less same.
           let ax = taken_at (length stays) h.is.pieces i x ix in
           let ay = taken_at (length stays) h.is.pieces j y jy in
@@ -703,7 +705,7 @@ module _ (w : Width) (t : Timed) (a : Cells) (program : Program) (g : IsProgramO
       are_drives = own_drives p others [] (lanes_own p lt 0 program.lanes all_there)
           (none_own p others (others_each (λ (d : Drive). IsWire p d.target → ⊥) (λ k q at wire. output_no_wire k q p at (small p lt) wire) (λ counted wire. next_no_wire p (small p lt) wire)));
       sorts = sorts_in (cell_own p 0 program.lanes ++ []);
-      are_sorts = are_sorted m.drives (cell_own p 0 program.lanes ++ []) (both_each (λ (d : Drive). Good m.drives d.operation) (cell_own p 0 program.lanes) [] (own_good p 0 program.lanes all_there) tt);
+      are_sorts = are_sorted m.drives (cell_own p 0 program.lanes ++ []) (each_append (λ (d : Drive). Good m.drives d.operation) (cell_own p 0 program.lanes) [] (own_good p 0 program.lanes all_there) tt);
       few = few;
     }
 

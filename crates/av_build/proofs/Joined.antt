@@ -18,22 +18,19 @@ use Rattle.av_space.proofs.OneCell.{one_node, Inverts, between_cycles, same_poin
 use Rattle.av_build.specs.inner.Programs.{Program}
 use Rattle.av_build.specs.inner.Programmed.{Array, Lanes, IsProgramFor}
 use Rattle.av_build.proofs.Fine.{FitsTree}
-use Rattle.av_build.proofs.Serving.{own_place, Arranged}
+use Rattle.av_build.proofs.Serving.{Arranged}
 use Rattle.av_space.proofs.Timely.{Scheduled, some_piece_of, one_piece_of, earlier}
 use Rattle.av_build.proofs.Listed.{place_of}
-use Rattle.av_space.proofs.Elements.{some_is}
+use Rattle.av_space.proofs.Nodes.{own_place}
+use Rattle.av_space.proofs.Placed.{empty}
+use Rattle.av_base.proofs.Truths.{both}
+use Rattle.av_space.proofs.Helpers.{equal}
+use Rattle.av_base.proofs.Lists.{some_is}
 
 pub record Legal (a : Array) : Type 0 where
   pub scheduled : Scheduled a.system a.helpers a.times a.cells
   -- the rows of a node with indices have an inverse
   pub inverts : (n : ℕ) (v : Variable) (pl : Placing) → slice_get (nodes a.system) n ≡ Some v → slice_get a.times n ≡ Some pl → (v.domain.dim ≡ 0) ⊎ Inverts pl v.domain.dim
-
-both : (p q : Bool) → (p && q) ≡ true → (p ≡ true) × (q ≡ true)
-both true q e = (refl, e)
-both false q e = absurd cc
-
-equal : (m n : ℕ) → nat_eq m n ≡ true → m ≡ n
-equal m n h = grind arith
 
 has_size : (set : Set) (z : Point) → has set z ≡ true → length z ≡ set.dim
 has_size set z h = equal (length z) set.dim (both (nat_eq (length z) set.dim) _ h).0
@@ -49,10 +46,6 @@ point_of a p c n z v h is =
     let same : computation.variable ≡ v = some_is computation.variable v (sym computation.is ∙ is) in
     has_size v.domain z (subst (λ (w : Variable). has w.domain z ≡ true) same computation.declared)
 
-no_entry : (z : Point) → length z ≡ 0 → z ≡ []
-no_entry [] e = refl
-no_entry (x ∷ z) e = absurd (omega arith)
-
 -- on a cell a piece has each computed cycle between two of its own
 between : (a : Array) → Legal a → (p n : ℕ) (piece : Piece) (b c d : ℕ) (x y z : Point) → Computes a.system a.times a.cells p b n x → Computes a.system a.times a.cells p c n y → Computes a.system a.times a.cells p d n z
     → b ≤ c → c ≤ d → has piece.domain x ≡ true → has piece.domain z ≡ true → has piece.domain y ≡ true
@@ -63,7 +56,7 @@ between a g p n piece b c d x y z hx hy hz low high in_x in_z =
     let sy = point_of a p c n y v hy is in
     let sz = point_of a p d n z v hz is in
     elim (g.inverts n v hx.stands.placing is hx.stands.is_placing) [
-      | inl none ↦ subst (λ (q : Point). has piece.domain q ≡ true) (no_entry x (sx ∙ none) ∙ sym (no_entry y (sy ∙ none))) in_x
+      | inl none ↦ subst (λ (q : Point). has piece.domain q ≡ true) (empty x (sx ∙ none) ∙ sym (empty y (sy ∙ none))) in_x
       | inr i ↦ between_cycles a.system a.times a.cells p n hx.stands.placing v.domain.dim hx.stands.is_placing i piece.domain b c d x y z sx sy sz hx hy hz low high in_x in_z
     ]
 
@@ -110,6 +103,6 @@ one_point a g p c n x y hx hy =
     let sx = point_of a p c n x v hx is in
     let sy = point_of a p c n y v hy is in
     elim (g.inverts n v hx.stands.placing is hx.stands.is_placing) [
-      | inl none ↦ no_entry x (sx ∙ none) ∙ sym (no_entry y (sy ∙ none))
+      | inl none ↦ empty x (sx ∙ none) ∙ sym (empty y (sy ∙ none))
       | inr i ↦ same_point a.system a.times a.cells p n hx.stands.placing v.domain.dim hx.stands.is_placing i c x y sx sy hx hy
     ]

@@ -2,19 +2,16 @@
 use Rattle.std.proofs.Common.{◌≡◌, ℕ, zero, suc, List, [], ◌∷◌, refl, sym, ap, ◌∙◌, Bool, true, false, ◌&&◌, if◌then◌else◌, Option, Some, None, arith}
 use Rattle.std.specs.Prelude.{slice_get, nat_eq}
 use Rattle.av_space.specs.Links.{is_same}
-use Rattle.av_space.proofs.Elements.{some_is}
 use Rattle.av_build.specs.declared.blueprint.LanePlan.{LanePlan}
 use Rattle.av_build.specs.inner.Blueprints.{number_in, is_lane, lane_at}
-
-equal : (m n : ℕ) → nat_eq m n ≡ true → m ≡ n
-equal m n h = grind arith
-
-itself : (n : ℕ) → nat_eq n n ≡ true
-itself n = grind arith
+use Rattle.av_space.proofs.LineLengths.{same_number}
+use Rattle.av_base.proofs.Truths.{and_true, both}
+use Rattle.av_space.proofs.Helpers.{equal}
+use Rattle.av_base.proofs.Lists.{some_is}
 
 pub same_itself : (h : Option ℕ) → is_same h h ≡ true
 same_itself None = refl
-same_itself (Some n) = itself n
+same_itself (Some n) = same_number n
 
 pub same_is : (h k : Option ℕ) → is_same h k ≡ true → h ≡ k
 same_is None None e = refl
@@ -22,19 +19,12 @@ same_is (Some m) (Some n) e = ap Some (equal m n e)
 same_is None (Some n) e = absurd cc
 same_is (Some m) None e = absurd cc
 
-both : (a b : Bool) → (a && b) ≡ true → (a ≡ true) × (b ≡ true)
-both true b e = (refl, e)
-both false b e = absurd cc
-
-joined : (a b : Bool) → a ≡ true → b ≡ true → (a && b) ≡ true
-joined a b e f = rw (e, f) refl
-
 pub lane_is : (p : ℕ) (h : Option ℕ) (lane : LanePlan) → is_lane p h lane ≡ true → (lane.cell ≡ p) × (number_in lane.helper ≡ h)
 lane_is p h lane e = let b = both (nat_eq lane.cell p) (is_same (number_in lane.helper) h) e in (equal lane.cell p b.0, same_is (number_in lane.helper) h b.1)
 
 pub is_that : (p : ℕ) (h : Option ℕ) (lane : LanePlan) → lane.cell ≡ p → number_in lane.helper ≡ h → is_lane p h lane ≡ true
 is_that p h lane e f =
-    joined (nat_eq lane.cell p) (is_same (number_in lane.helper) h) (ap (λ n. nat_eq n p) e ∙ itself p) (ap (λ (k : Option ℕ). is_same k h) f ∙ same_itself h)
+    and_true (nat_eq lane.cell p) (is_same (number_in lane.helper) h) (ap (λ n. nat_eq n p) e ∙ same_number p) (ap (λ (k : Option ℕ). is_same k h) f ∙ same_itself h)
 
 there : (p : ℕ) (h : Option ℕ) (lanes : List LanePlan) (q : ℕ) (lane : LanePlan) → slice_get lanes q ≡ Some lane → is_lane p h lane ≡ true → (x : LanePlan) × (slice_get lanes (lane_at p h lanes) ≡ Some x) × (is_lane p h x ≡ true)
 there p h [] q lane e t = absurd cc

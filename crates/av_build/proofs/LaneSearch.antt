@@ -4,12 +4,13 @@ use Rattle.std.specs.Prelude.{slice_get}
 use Rattle.std.proofs.lemmas.Bool.{cases_lt}
 use Rattle.std.proofs.lemmas.Option.{slice_get-get_or}
 use Rattle.av_space.specs.Links.{is_same}
-use Rattle.av_space.proofs.Elements.{some_is, in_range}
+use Rattle.av_space.proofs.Elements.{in_range}
 use Rattle.av_build.specs.declared.blueprint.Blueprint.{Blueprint}
 use Rattle.av_build.specs.declared.blueprint.CellPlan.{CellPlan}
 use Rattle.av_build.specs.declared.blueprint.LanePlan.{LanePlan}
 use Rattle.av_build.specs.inner.Blueprints.{number_in, is_helper, lanes_of, IsBlueprint, HasLane}
 use Rattle.av_build.proofs.LanePlans.{lane_found, same_is, same_itself}
+use Rattle.av_base.proofs.Lists.{some_is}
 
 pub helper_is : (lane : LanePlan) (j : ℕ) → is_helper lane j ≡ true → number_in lane.helper ≡ Some j
 helper_is lane j e = same_is (number_in lane.helper) (Some j) e

@@ -9,10 +9,12 @@ use Rattle.av_space.specs.Taps.{Way, handed, node_of, helper_of, helper_read}
 use Rattle.av_space.specs.Occupancy.{Computes}
 use Rattle.av_space.specs.Links.{reads_line, is_same, line_length}
 use Rattle.av_build.specs.inner.Programmed.{Array, Spot, IsLinked, later}
-use Rattle.av_space.proofs.Elements.{some_is, got, get_contained, mapped}
-
-pub contained_map : {X Y : Type 0} (f : X → Y) (xs : List X) (x : X) → Contains xs x → Contains (map f xs) (f x)
-contained_map f xs x at = let r = got xs x at in get_contained (map f xs) r.0 (f x) (mapped f xs r.0 x r.1)
+use Rattle.av_space.proofs.Elements.{got}
+use Rattle.av_build.proofs.LanePlans.{same_itself}
+use Rattle.av_base.proofs.Truths.{and_true}
+use Rattle.av_build.proofs.HelperSteps.{at_most}
+use Rattle.av_base.proofs.Among.{among_at, among_map}
+use Rattle.av_base.proofs.Lists.{get_mapped, some_is}
 
 most_from : (a : ℕ) (xs : List ℕ) → a ≤ fold max a xs
 most_from a [] = omega arith
@@ -38,16 +40,6 @@ kept test (y ∷ xs) (suc k) x is passes = by_test (test y) (kept test xs k x is
 is_equal : (m n : ℕ) → m ≡ n → nat_eq m n ≡ true
 is_equal m n h = grind arith
 
-at_most : (m n : ℕ) → m ≤ n → nat_le m n ≡ true
-at_most m n h = grind arith
-
-same_line : (o : Option ℕ) → is_same o o ≡ true
-same_line None = refl
-same_line (Some h) = is_equal h h refl
-
-both : (p q : Bool) → p ≡ true → q ≡ true → (p && q) ≡ true
-both p q e f = rw (e, f) refl
-
 -- the line that a link reads
 line_read : (a : Array) (at : Spot) (c : ℕ) (z : Point) → Computes a.system a.times a.cells at.cell c at.node z → slice_get (nodes a.system) at.node ≡ Some at.variable → (site : ℕ) (tree : Tree) (way : Way) (producer delay : ℕ)
     → (l : IsLinked a at c site tree way producer delay) → helper_read a.system a.helpers a.cells l.link.consumer l.link.site ≡ helper_of way
@@ -60,10 +52,10 @@ pub long_enough : (a : Array) (at : Spot) (c : ℕ) (z : Point) → Computes a.s
     → IsLinked a at c site tree way producer delay → delay ≤ line_length a.system a.helpers a.cells a.links producer (helper_of way)
 long_enough a at c z computes is_variable site tree way producer delay l =
     let test : LinkMade → Bool = reads_line a.system a.helpers a.cells producer (helper_of way) in
-    let passes : test l.link ≡ true = both (nat_eq l.link.producer producer) (is_same (helper_read a.system a.helpers a.cells l.link.consumer l.link.site) (helper_of way))
-    (is_equal l.link.producer producer (sym l.producer_is)) (rw (line_read a at c z computes is_variable site tree way producer delay l) (same_line (helper_of way))) in
+    let passes : test l.link ≡ true = and_true (nat_eq l.link.producer producer) (is_same (helper_read a.system a.helpers a.cells l.link.consumer l.link.site) (helper_of way))
+    (is_equal l.link.producer producer (sym l.producer_is)) (rw (line_read a at c z computes is_variable site tree way producer delay l) (same_itself (helper_of way))) in
     let at' = got a.links l.link l.is_link in
-    let among = contained_map (λ (l : LinkMade). l.delay) (filter test a.links) l.link (kept test a.links at'.0 l.link at'.1 passes) in
+    let among = among_map (λ (l : LinkMade). l.delay) (filter test a.links) l.link (kept test a.links at'.0 l.link at'.1 passes) in
     omega (arith, l.delay_is, most 0 (map (λ (l : LinkMade). l.delay) (filter test a.links)) l.link.delay among)
 
 -- the helper whose word a link brings from an earlier cycle has a lane there

@@ -26,10 +26,9 @@ use Rattle.av_build.specs.inner.Labels.{label_in, lane_value, labels}
 use Rattle.av_build.specs.inner.Programs.{Lane, Program, IsProgram}
 use Rattle.av_build.specs.inner.Modules.{of_lanes, cell_drives, output_drives, if_counted, next_drive, module_of}
 use Rattle.av_build.specs.inner.Programmed.{Array, Lanes, IsPlacedAt, IsHandedAt}
-use Rattle.av_build.proofs.Lists.{front_each, back_each}
 use Rattle.av_build.proofs.Shown.{Setting, computed, signature_at}
 use Rattle.av_build.proofs.Serving.{Arranged, serves}
-use Rattle.av_space.proofs.Elements.{some_is, each_weaker}
+use Rattle.av_base.proofs.Lists.{each_first, each_second, each_weaker, some_is}
 
 -- ---- places of nodes
 
@@ -61,7 +60,7 @@ output_has w program v settled k p is =
     let P : Drive → Type 0 = Holds (width_of m) v in
     let cells = of_lanes (cell_drives (labels program) w) 0 program.lanes in
     let outputs = output_drives (labels program) 0 program.outputs in
-    let drives = front_each P outputs (if_counted program next_drive) (back_each P cells (outputs ++ if_counted program next_drive) (recursion_from_All P m.drives settled)) in
+    let drives = each_first P outputs (if_counted program next_drive) (each_second P cells (outputs ++ if_counted program next_drive) (recursion_from_All P m.drives settled)) in
     at_output 0 program.outputs drives k is k (omega arith)
   where
     at_output : (n : ℕ) (outputs : List ℕ) → AllByRecursion (Holds (width_of (module_of w program)) v) (output_drives (labels program) n outputs) → (i : ℕ) → slice_get outputs i ≡ Some p → (j : ℕ) → n + i ≡ j → v (output_name j) ≡ v ((labels program).value p)

@@ -8,8 +8,8 @@ use Rattle.av_space.specs.declared.array.Array.{Array as ArrayMade}
 use Rattle.av_space.specs.declared.layout.Slot.{Slot}
 use Rattle.av_space.specs.declared.spots.Spot.{Spot as SpotMade}
 use Rattle.av_space.specs.Spots.{ComputesIn, IsSlotIn, AreSlotsIn}
-use Rattle.av_space.proofs.ByPlace.{there_is, from_map, pair_at}
-use Rattle.av_space.proofs.Elements.{at_index, mapped, got, in_range}
+use Rattle.av_space.proofs.ByPlace.{from_map, pair_at}
+use Rattle.av_space.proofs.Elements.{at_index, got, in_range}
 use Rattle.av_build.specs.declared.moments.Moment.{Moment as MomentMade}
 use Rattle.av_build.specs.inner.Programs.{Source, Site}
 use Rattle.av_build.specs.inner.Selections.{Moment, runs_of, site_by}
@@ -18,14 +18,11 @@ use Rattle.av_build.specs.inner.Blueprints.{seen, spot_of}
 use Rattle.av_build.specs.inner.Moments.{moment_of, AreMoments}
 use Rattle.av_build.proofs.Runs.{AreAscending}
 use Rattle.av_build.proofs.Sites.{IsMoment, site_from}
-
-each_index : {X : Type 0} (P : X → Type 0) (xs : List X) → ((k : ℕ) (x : X) → slice_get xs k ≡ Some x → P x) → AllByRecursion P xs
-each_index P [] h = tt
-each_index P (x ∷ xs) h = (h 0 x refl, each_index P xs (λ k y at. h (suc k) y at))
+use Rattle.av_base.proofs.Lists.{each_by_place, get_mapped, there_is}
 
 ascending : (moments : List Moment) → ((i j : ℕ) (t u : Moment) → i < j → slice_get moments i ≡ Some t → slice_get moments j ≡ Some u → t.cycle < u.cycle) → AreAscending moments
 ascending [] h = tt
-ascending (t ∷ moments) h = (each_index (λ (u : Moment). t.cycle < u.cycle) moments (λ k u e. h 0 (suc k) t u (omega arith) refl e), ascending moments (λ i j x y l a b. h (suc i) (suc j) x y (omega (arith, l)) a b))
+ascending (t ∷ moments) h = (each_by_place (λ (u : Moment). t.cycle < u.cycle) moments (λ k u e. h 0 (suc k) t u (omega arith) refl e), ascending moments (λ i j x y l a b. h (suc i) (suc j) x y (omega (arith, l)) a b))
 
 module _ (w : ArrayMade) (at : SpotMade) (P : Point → ℕ → Source → Type 0) (slots : AreSlotsIn w at.cell at.node at.piece.now.domain at.slots) (moments : List MomentMade) (are : AreMoments P at.slots moments) where
   -- the computation of a moment
@@ -70,7 +67,7 @@ module _ (w : ArrayMade) (at : SpotMade) (P : Point → ℕ → Source → Type 
       let size = are.one_each in
       let m = there_is moments i.0 (omega (arith, low, size)) in
       let h = are.each i.0 (record { cycle = c; point = z }) m.0 i.1 m.1 in
-      (i.0, moment_of m.0, mapped moment_of moments i.0 m.0 m.1, h.0, h.1)
+      (i.0, moment_of m.0, get_mapped moment_of moments i.0 m.0 m.1, h.0, h.1)
 
   pub moments_site_for : (site : Site) → site ≡ site_by (runs_of (map moment_of moments)) → IsSiteFor (seen w) (spot_of at) P site
   moments_site_for site e = subst (IsSiteFor (seen w) (spot_of at) P) (sym e) (site_from (seen w) (spot_of at) P (map moment_of moments) up each every)

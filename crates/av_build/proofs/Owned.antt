@@ -32,9 +32,12 @@ use Rattle.av_build.proofs.ArrayForm.{IsOwn}
 use Rattle.av_build.proofs.Fine.{FitsTree}
 use Rattle.av_build.proofs.SoundProgram.{FitsStretch, FitsWork, FitsCell}
 use Rattle.av_build.proofs.Lengths.{long_enough, has_lane}
-use Rattle.av_build.proofs.Serving.{own_place, Arranged, Reading, linked, Here, here, hand_moved}
-use Rattle.av_space.proofs.Elements.{some_is, each_weaker, get_contained, in_range}
+use Rattle.av_build.proofs.Serving.{Arranged, Reading, linked, Here, here, hand_moved}
+use Rattle.av_space.proofs.Elements.{in_range}
 use Rattle.av_space.proofs.NodePlaces.{node_at}
+use Rattle.av_space.proofs.Nodes.{own_place}
+use Rattle.av_base.proofs.Among.{among_at}
+use Rattle.av_base.proofs.Lists.{each_weaker, some_is}
 
 -- ---- sources
 
@@ -252,7 +255,7 @@ good_value w a lanes ins program g few words p c n z v own is_own node number co
     let Q : Source → Type 0 = IsOwn w.bits program a.ports a.links (lanes.of_value p) p in
     let G : Work → Type 0 = GoodWork w.bits Q in
     let P : Shift → Type 0 = λ t. FitsStretch t.stretch × G t.work in
-    let piece = g.some_piece v z (get_contained a.system.variables own v is_own) is_comp declared in
+    let piece = g.some_piece v z (among_at a.system.variables own v is_own) is_comp declared in
     let there = h.every piece.0 piece.1 piece.2 c n z computes piece.3 in
     let some : 0 < length h.stays = omega (arith, in_range h.stays there.0 there.1 there.2) in
     let all = stays_good P G h.first h.last h.none h.stays some (λ k t is.

@@ -13,8 +13,8 @@ use Rattle.av_space.specs.declared.spots.Spot.{Spot as SpotMade}
 use Rattle.av_space.specs.Sites.{place_of}
 use Rattle.av_space.specs.Spots.{system_of, placings_of, cells_of, ComputesIn, IsArray, IsSpot, IsSlotIn, AreEnds, AreSites}
 use Rattle.av_space.specs.Taps.{node_place, Place, places_in}
-use Rattle.av_space.proofs.ByPlace.{there_is, from_map}
-use Rattle.av_space.proofs.Elements.{some_is, in_range, mapped, get_contained}
+use Rattle.av_space.proofs.ByPlace.{from_map}
+use Rattle.av_space.proofs.Elements.{in_range}
 use Rattle.av_space.proofs.Nodes.{node_variable}
 use Rattle.av_space.proofs.Scheduling.{scheduled}
 use Rattle.av_build.specs.declared.program.Site.{Site as SiteMade}
@@ -25,6 +25,8 @@ use Rattle.av_build.specs.inner.Blueprints.{seen, spot_of}
 use Rattle.av_build.specs.inner.Works.{AreWorkSites, IsWorkFor, shift_in}
 use Rattle.av_build.specs.inner.Written.{site_of}
 use Rattle.av_build.proofs.PlaceSites.{IsPlainTree, plain_tree, place_count, each_place}
+use Rattle.av_base.proofs.Among.{among_at}
+use Rattle.av_base.proofs.Lists.{get_mapped, some_is, there_is}
 
 -- ---- plain trees
 
@@ -33,7 +35,7 @@ plain_piece w is at spot =
     let s = system_of w in
     let g = scheduled w.timed.now (placings_of w) (cells_of w) is.whole.legal is.layout.are_placings is.layout.are_cells in
     let v = view_variable at.var.now in
-    let among = get_contained s.variables (node_place s at.node) v (node_variable s at.node v spot.is_variable) in
+    let among = among_at s.variables (node_place s at.node) v (node_variable s at.node v spot.is_variable) in
     plain_tree (view at.piece.now.tree) (g.plain v at.number (view_piece at.piece.now) among spot.is_piece) (g.no_reduction v at.number (view_piece at.piece.now) among spot.is_piece)
 
 -- ---- one piece
@@ -57,7 +59,7 @@ work_for w lanes at plain places are sites h = record {
         let site = there_is sites i (omega (arith, low, size)) in
         let a : i ≡ 0 + i = omega arith in
         subst (λ (n : ℕ). R n p.site p.tree) a
-        (subst (λ (q : Place). R i q.site q.tree) x.2 (site_of site.0, mapped site_of sites i site.0 site.1, h.each i x.0 site.0 x.1 site.1))
+        (subst (λ (q : Place). R i q.site q.tree) x.2 (site_of site.0, get_mapped site_of sites i site.0 site.1, h.each i x.0 site.0 x.1 site.1))
 
 -- in its cycles
 pub stay_for : (w : ArrayMade) (lanes : Lanes) (at : SpotMade) → IsSpot w at → (work : Work) → IsWorkFor (seen w) lanes (spot_of at) work → (ends : Ends) → AreEnds at.slots ends

@@ -7,7 +7,8 @@ use Rattle.av_affine.specs.declared.map.Map.{Map}
 use Rattle.av_flat.specs.Trees.{Tree, reference, constant, binary, choice, restriction, cases, dependence, reduction, pick}
 use Rattle.av_flat.specs.Broadcasts.{references}
 use Rattle.av_space.specs.Taps.{Place, places_in}
-use Rattle.av_space.proofs.Elements.{some_is, both_each, each_weaker, each_at}
+use Rattle.av_space.proofs.Elements.{each_at}
+use Rattle.av_base.proofs.Lists.{each_append, each_weaker, some_is}
 
 -- of a reference the number is in the range, and of others nothing is said
 abbrev IsWithinBy : ℕ → ℕ → Place → Tree → Type 0
@@ -40,7 +41,7 @@ apart_by m p q _ _ low high a b = tt
 joined : (low m high : ℕ) (ps qs : List Place) → AllByRecursion (IsWithin low m) ps → AllByRecursion (IsWithin m high) qs → AreRising ps → AreRising qs → AreRising (ps ++ qs)
 joined low m high [] qs a b f g = g
 joined low m high (p ∷ ps) qs a b f g =
-    (both_each (IsAbove p) ps qs f.0 (each_weaker (IsWithin m high) (IsAbove p) (λ q w. apart_by m p q p.tree q.tree low high a.0 w) qs b), joined low m high ps qs a.1 b f.1 g)
+    (each_append (IsAbove p) ps qs f.0 (each_weaker (IsWithin m high) (IsAbove p) (λ q w. apart_by m p q p.tree q.tree low high a.0 w) qs b), joined low m high ps qs a.1 b f.1 g)
 
 widened : (low high a b : ℕ) → a ≤ low → high ≤ b → (ps : List Place) → AllByRecursion (IsWithin low high) ps → AllByRecursion (IsWithin a b) ps
 widened low high a b l h ps w = each_weaker (IsWithin low high) (IsWithin a b) (λ p x. wider_by low high a b l h p p.tree x) ps w
@@ -51,7 +52,7 @@ AreNumbered low high ps = AllByRecursion (IsWithin low high) ps × AreRising ps
 
 both_numbered : (low m high : ℕ) → low ≤ m → m ≤ high → (ps qs : List Place) → AreNumbered low m ps → AreNumbered m high qs → AreNumbered low high (ps ++ qs)
 both_numbered low m high l h ps qs a b = (
-  both_each (IsWithin low high) ps qs (widened low m low high (omega arith) h ps a.0) (widened m high low high l (omega arith) qs b.0),
+  each_append (IsWithin low high) ps qs (widened low m low high (omega arith) h ps a.0) (widened m high low high l (omega arith) qs b.0),
   joined low m high ps qs a.0 b.0 a.1 b.1,
 )
 

@@ -8,7 +8,8 @@ use Rattle.av_flat.specs.WellFormed.{EachPart, is_reduction}
 use Rattle.av_space.specs.Taps.{Place, places_in}
 use Rattle.av_build.specs.inner.Trees.{site_count}
 use Rattle.av_build.specs.inner.Serving.{EachPlace}
-use Rattle.av_build.proofs.Appended.{get_left, get_right}
+use Rattle.av_build.proofs.Appended.{get_right}
+use Rattle.av_base.proofs.Lists.{get_first}
 
 -- ---- plain trees
 
@@ -65,7 +66,7 @@ abbrev AllPlaces : (ℕ → ℕ → Tree → Type 0) → ℕ → List Place → 
 AllPlaces R s ps = (i : ℕ) (p : Place) → slice_get ps i ≡ Some p → R (s + i) p.site p.tree
 
 of_left : (R : ℕ → ℕ → Tree → Type 0) (s : ℕ) (ps qs : List Place) → AllPlaces R s (ps ++ qs) → AllPlaces R s ps
-of_left R s ps qs h = λ i p e. h i p (get_left ps qs i p e)
+of_left R s ps qs h = λ i p e. h i p (get_first ps qs i p e)
 
 of_right : (R : ℕ → ℕ → Tree → Type 0) (s t : ℕ) (ps qs : List Place) → t ≡ s + length ps → AllPlaces R s (ps ++ qs) → AllPlaces R t qs
 of_right R s t ps qs e h = λ i p f.

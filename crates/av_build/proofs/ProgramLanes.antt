@@ -17,8 +17,8 @@ use Rattle.av_space.specs.Whole.{IsWhole}
 use Rattle.av_space.specs.Coordinates.{Placing}
 use Rattle.av_space.specs.Spots.{system_of, helpers_of, placings_of, cells_of, ComputesIn, IsArray, IsSpot, IsSlotIn}
 use Rattle.av_space.specs.Occupancy.{IsUsed}
-use Rattle.av_space.proofs.ByPlace.{there_is, from_map}
-use Rattle.av_space.proofs.Elements.{some_is, at_index, mapped, in_range}
+use Rattle.av_space.proofs.ByPlace.{from_map}
+use Rattle.av_space.proofs.Elements.{at_index, in_range}
 use Rattle.av_build.specs.declared.blueprint.Blueprint.{Blueprint}
 use Rattle.av_build.specs.declared.blueprint.CellPlan.{CellPlan}
 use Rattle.av_build.specs.declared.blueprint.HelperPlan.{HelperPlan}
@@ -31,6 +31,7 @@ use Rattle.av_build.specs.inner.Works.{IsBuiltBy, AreBuilt}
 use Rattle.av_build.specs.inner.Written.{LaneMade, lane_of}
 use Rattle.av_build.proofs.HelperLanes.{helped, helper_there}
 use Rattle.av_build.proofs.LanePlans.{lane_found}
+use Rattle.av_base.proofs.Lists.{get_mapped, some_is, there_is}
 
 -- ---- lanes by cell and helper
 
@@ -87,7 +88,7 @@ module _ (b : Blueprint) (is : IsBlueprint b) where
         let low = in_range b.lanes q plan e in
         let size = built.one_each in
         let x = there_is lanes q (omega (arith, low, size)) in
-        (lane_of x.0, mapped lane_of lanes q x.0 x.1, built.each q plan x.0 e x.1)
+        (lane_of x.0, get_mapped lane_of lanes q x.0 x.1, built.each q plan x.0 e x.1)
 
     values : (p c n : ℕ) (z : Point) (v : Variable) → ComputesIn w p c n z → slice_get (nodes (system_of w)) n ≡ Some v
         → (lane : Lane) × (slice_get (map lane_of lanes) ((lanes_of b.lanes).of_value p) ≡ Some lane) × IsValueLane (seen w) (lanes_of b.lanes) p n v lane

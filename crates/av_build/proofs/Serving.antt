@@ -24,47 +24,26 @@ use Rattle.av_build.specs.inner.Programs.{Source, word, line, Site, Work, Lane, 
 use Rattle.av_build.specs.inner.Selections.{Stay, shifts_by, last_work}
 use Rattle.av_build.specs.inner.Serving.{Placement, of_helper, read_of, read_by, read_at, EachPlace, IsEarlier, IsPointBrought, IsHandedOn, IsHelperBrought, IsBrought, IsWorked, IsHandled, Serves}
 use Rattle.av_build.specs.inner.Programmed.{Array, Lanes, Spot, IsLinked, IsReferenceSource, by_port, by_link, later, IsHandSource, IsHandedSource, IsHelpedSource, IsPickSource, IsPlaceSource, IsSiteFor, IsStayFor, IsValueLane, IsPlacedAt, IsHelper, IsHandedAt, IsProgramFor}
-use Rattle.av_build.proofs.Lengths.{contained_map, has_lane}
+use Rattle.av_build.proofs.Lengths.{has_lane}
 use Rattle.av_build.proofs.Words.{place_weaker}
 use Rattle.av_build.proofs.Selections.{run_taken, stay_taken, IsElsewhere}
 use Rattle.av_build.proofs.Shown.{signature_at}
-use Rattle.av_space.proofs.Elements.{some_is, get_contained}
 use Rattle.av_space.proofs.NodePlaces.{node_at}
-use Rattle.av_space.proofs.Helpers.{found_helper, both_of}
+use Rattle.av_space.proofs.Helpers.{found_helper}
+use Rattle.av_space.proofs.Nodes.{own_place, passed, place_at}
+use Rattle.av_base.proofs.Truths.{both}
+use Rattle.av_base.proofs.Among.{among_at, among_map}
+use Rattle.av_base.proofs.Lists.{some_is}
 
 -- ---- nodes
 
 pub computed_node : (v : Variable) → is_node v ≡ true → is_computed v.kind ≡ true
-computed_node v h = (both_of (is_computed v.kind) _ h).0
+computed_node v h = (both (is_computed v.kind) _ h).0
 
 source_at : (c : ℕ) (sites : List Site) (i : ℕ) (site : Site) → slice_get sites i ≡ Some site → get_or (map (source_in c) sites) i (word 0) ≡ source_in c site
 source_at c [] i site is = absurd cc
 source_at c (t ∷ sites) zero site is = ap (source_in c) (some_is t site is)
 source_at c (t ∷ sites) (suc i) site is = source_at c sites i site is
-
--- what is no node is passed over
-passed : (a n : ℕ) (w : Variable) (vs : List Variable) → is_node w ≡ false → place_from a n (w ∷ vs) ≡ place_from (suc a) n vs
-passed a zero w vs t = rw t refl
-passed a (suc n) w vs t = rw t refl
-
--- the place of the node at a place
-place_at : (a : ℕ) (vs : List Variable) (place : ℕ) (v : Variable) → slice_get vs place ≡ Some v → is_node v ≡ true → place_from a (length (filter is_node (take place vs))) vs ≡ a + place
-place_at a [] place v is node = absurd cc
-place_at a (w ∷ vs) zero v is node =
-    let e = some_is w v is in
-    let t : is_node w ≡ true = subst (λ (x : Variable). is_node x ≡ true) (sym e) node in
-    rw t (omega arith)
-place_at a (w ∷ vs) (suc place) v is node =
-    let rest = place_at (suc a) vs place v is node in
-    let e : suc a + place ≡ a + suc place = omega arith in
-    by_test (is_node w) refl (rest ∙ e)
-  where
-    by_test : (b : Bool) → is_node w ≡ b → place_from (suc a) (length (filter is_node (take place vs))) vs ≡ a + suc place → place_from a (length (if b then w ∷ filter is_node (take place vs) else filter is_node (take place vs))) (w ∷ vs) ≡ a + suc place
-    by_test true t rest = rw t rest
-    by_test false t rest = passed a (length (filter is_node (take place vs))) w vs t ∙ rest
-
-pub own_place : (s : FlatSystem) (place : ℕ) (v : Variable) → slice_get s.variables place ≡ Some v → is_node v ≡ true → node_place s (number_at s place) ≡ place
-own_place s place v is node = place_at 0 s.variables place v is node ∙ omega arith
 
 -- ---- what a system gives to its array
 
@@ -180,7 +159,7 @@ reference_brought a lanes ins program g at c z r i place m way entered reads sou
     } in
     let l : InLine = record { port = n; entry = entry } in
     let is_line : IsInLine a.system a.helpers a.times a.cells a.ports l = record { port = record { cell = at.cell; piece = at.number; site = i }; is_port = is_port; input = read; map = m; point = z; fed = fed; variable_is = refl; point_is = refl; wire_is = refl } in
-    let listed = contained_map (λ (l : InLine). l.entry) g.are_ins.lines l (g.are_ins.all l is_line) in
+    let listed = among_map (λ (l : InLine). l.entry) g.are_ins.lines l (g.are_ins.all l is_line) in
     inl (record { port = n; from_port = refl; variable = signature read; here = signature_at a.system.variables place read is_read; is_input = is_in; listed = subst (λ (es : List Entry). Contains es entry) (sym g.are_ins.entries) listed })
 reference_brought a lanes ins program g at c z r i place m way entered reads source (by_link producer delay read is_read node l) =
     inr (from_value a lanes c producer delay place (image m.rows z) read is_read node
@@ -419,7 +398,7 @@ value_served a lanes ins program g place z q c h =
     let is_comp = computed_node v h.is_node in
     let prog = g.is_program.values p c n z v h.computes is_variable in
     let lane = prog.0 in
-    let w = working a lanes ins program g p c n z v (get_contained a.system.variables place v h.is_variable) is_comp declared h.computes is_variable lane prog.2 in
+    let w = working a lanes ins program g p c n z v (among_at a.system.variables place v h.is_variable) is_comp declared h.computes is_variable lane prog.2 in
     let at : Spot = record { cell = p; node = n; variable = v; number = w.number; piece = w.piece } in
     let tree : (work_in c lane).tree ≡ w.piece.tree = ap (λ (x : Work). x.tree) w.works ∙ w.is_stay.tree in
     let own = own_place a.system place v h.is_variable h.is_node in
@@ -438,7 +417,7 @@ value_served a lanes ins program g place z q c h =
       declared = declared;
       number = w.number;
       piece = λ k q at inside.
-          let k_is : k ≡ w.number = g.one_piece v z (get_contained a.system.variables place v h.is_variable) is_comp declared k w.number q w.piece at w.reading.is_piece inside w.reading.within in
+          let k_is : k ≡ w.number = g.one_piece v z (among_at a.system.variables place v h.is_variable) is_comp declared k w.number q w.piece at w.reading.is_piece inside w.reading.within in
           let q_is : q ≡ w.piece = some_of q w.piece (slice_get v.pieces w.number) (sym (ap (slice_get v.pieces) k_is) ∙ at) w.reading.is_piece in
           (k_is, ap (λ (x : Piece). x.tree) q_is ∙ sym tree);
       brought = subst (λ (t : Tree). EachPlace (Brings (work_in c lane)) 0 0 t) (sym tree) moved;

@@ -45,7 +45,8 @@ use Rattle.av_build.proofs.Plans.{words_in}
 use Rattle.av_build.proofs.Lines.{line_has}
 use Rattle.av_build.proofs.Values.{cell_value}
 use Rattle.av_build.proofs.Words.{place_weaker, value_is, piece_value}
-use Rattle.av_space.proofs.Elements.{some_is, each_at}
+use Rattle.av_space.proofs.Elements.{each_at}
+use Rattle.av_base.proofs.Lists.{some_is}
 
 -- ---- what holds of each source holds of the one that is taken
 

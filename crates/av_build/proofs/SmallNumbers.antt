@@ -7,7 +7,7 @@ use Rattle.std.proofs.lemmas.List.FromFn.{length-map-range_with_len}
 use Rattle.av_base.specs.declared.width.Width.{Width}
 use Rattle.av_net.specs.declared.netlist.Module.{Module}
 use Rattle.av_space.specs.declared.cells.Cells.{Cells}
-use Rattle.av_space.proofs.Elements.{some_is, in_range}
+use Rattle.av_space.proofs.Elements.{in_range}
 use Rattle.av_build.specs.declared.gates.Gate.{Gate}
 use Rattle.av_build.specs.inner.Built.{HasSmallNumbers}
 use Rattle.av_build.specs.inner.Gates.{Naming, ports_from}
@@ -17,6 +17,7 @@ use Rattle.av_build.specs.inner.Names.{counter_name, next_name}
 use Rattle.av_build.specs.inner.Programs.{Lane, Program}
 use Rattle.av_build.specs.inner.Programmed.{Array, Lanes, IsLaneFor, of_value, of_helper, IsProgramFor}
 use Rattle.av_build.proofs.Declared.{times_more}
+use Rattle.av_base.proofs.Lists.{some_is}
 
 -- ---- a lane brings no more than all lanes
 

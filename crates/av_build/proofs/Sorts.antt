@@ -19,7 +19,6 @@ use Rattle.av_net.specs.declared.operation.Operation.TheVariants.{Plain, Binary,
 use Rattle.av_net.specs.declared.netlist.Drive.{Drive}
 use Rattle.av_space.specs.ArrayForm as form
 use Rattle.av_space.specs.ArrayForm.{Sort, plus, minus, times, test, rest, NamesCounter, IsControl, compared, IsOfSort, adds, subtracts, multiplies, compares, compares_signed, counts, joins, chooses, copies, is_same, how_many, sort_of, operators}
-use Rattle.av_space.proofs.Elements.{both_each}
 use Rattle.av_build.specs.declared.gates.Gate.{Gate}
 use Rattle.av_build.specs.inner.Names.{counter_name}
 use Rattle.av_build.specs.inner.Gates.{gate, Naming, Built, built, Named, named_by, named}
@@ -27,6 +26,7 @@ use Rattle.av_build.specs.inner.Trees.{site_count, one_bit, joined, comparison, 
 use Rattle.av_build.specs.inner.Choices.{Span, up_to, from, within, span_built, either_built, Option, Tap, options_built, tap_built}
 use Rattle.av_build.specs.inner.Cells.{Part, Turn, Plan, Taken, taps_built, operand_at, over_taps, place_built, piece_built, part_built, turns_built, plan_built}
 use Rattle.av_build.specs.inner.Kinds.{Kinds, of_symbol, of_operation, of_gates, of_sign, of_tree}
+use Rattle.av_base.proofs.Lists.{each_append}
 
 -- ---- what an operation may read, by its kind
 
@@ -224,7 +224,7 @@ module _ (D : List Drive) (name : Naming) (free : (i : ℕ) → NotCounter (Name
   literal_free w n e = cc
 
   good_join : (xs ys : List Gate) → GoodGates D xs → GoodGates D ys → GoodGates D (xs ++ ys)
-  good_join xs ys p q = both_each (λ (g : Gate). Good D g.operation) xs ys p q
+  good_join xs ys p q = each_append (λ (g : Gate). Good D g.operation) xs ys p q
 
   good_last : (xs : List Gate) (w : Width) (o : Operation) → GoodGates D xs → Good D o → GoodGates D (xs ++ gate w o ∷ [])
   good_last xs w o p q = good_join xs (gate w o ∷ []) p (q, tt)

@@ -20,8 +20,8 @@ use Rattle.av_flat.specs.Signatures.{is_kind, is_input, is_shown, rank}
 use Rattle.av_flat.specs.Chained.{IsChainedVariable}
 use Rattle.av_flat.specs.Nodes.{is_node, nodes}
 use Rattle.av_flat.proofs.Sets.{has_is}
-use Rattle.av_flat.proofs.Solving.{declared_from, all_at}
-use Rattle.av_depend.proofs.Small.{small_point}
+use Rattle.av_flat.proofs.Solving.{declared_from}
+use Rattle.av_flat.proofs.Bounded.{small_point}
 use Rattle.av_net.specs.declared.operation.Operand.{Operand}
 use Rattle.av_net.specs.declared.operation.Operand.TheVariants.{Name, Literal}
 use Rattle.av_net.specs.declared.operation.Operation.{Operation}
@@ -37,7 +37,6 @@ use Rattle.av_space.specs.Listings.{InLine, IsInLine, AtLine, IsAtLine, IsWireOf
 use Rattle.av_space.specs.Occupancy.{Computes}
 use Rattle.av_space.specs.Whole.{IsWhole, IsPresented}
 use Rattle.av_space.proofs.ByPlace.{from_map, all_by_place, place_of}
-use Rattle.av_space.proofs.Elements.{some_is}
 use Rattle.av_build.specs.inner.Names.{input_name, output_name, value_name, next_name}
 use Rattle.av_build.specs.inner.Labels.{labels}
 use Rattle.av_build.specs.inner.Programs.{Lane, Program}
@@ -49,6 +48,7 @@ use Rattle.av_build.proofs.Listed.{value_label}
 use Rattle.av_build.proofs.SoundProgram.{contained_range, contained_cell}
 use Rattle.av_build.proofs.SpelledNames.{array_name, names_spelled}
 use Rattle.av_build.proofs.Whole.{is_fit}
+use Rattle.av_base.proofs.Lists.{all_at, some_is}
 
 -- ---- widths are 1 to 64 by their type
 

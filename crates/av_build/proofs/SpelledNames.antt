@@ -14,13 +14,14 @@ use Rattle.av_net.specs.Lexemes.{IsName, IsIdentifier, reserved_words, begins_na
 use Rattle.av_net.specs.Names.{names_of, all_names}
 use Rattle.av_net.proofs.Distinct.{apart}
 use Rattle.av_net.proofs.Tested.{are_distinct, distinct_tested}
-use Rattle.av_space.proofs.Elements.{both_each}
 use Rattle.av_build.specs.inner.Names.{value_name, wire_name, counter_name, next_name}
 use Rattle.av_build.specs.inner.Labels.{number_in, lane_value, lane_wire, lane_register, labels}
 use Rattle.av_build.specs.inner.Programs.{Lane, Program, counts}
 use Rattle.av_build.specs.inner.Modules.{of_lanes, cell_built, if_counted, module_of}
 use Rattle.av_build.proofs.NameParts.{decimal_some, digits_of, each_of_range}
 use Rattle.av_build.proofs.Declared.{Each, later_each, IsSmallLane, AreSmall, own_wires, own_registers, below, below_line, same_wires, same_registers, moved, wires_of, registers_in, wire_list, register_list, inputs_are, outputs_are, wires_are, registers_are}
+use Rattle.av_base.proofs.Truths.{both}
+use Rattle.av_base.proofs.Lists.{each_append}
 
 -- ---- one name
 
@@ -46,10 +47,6 @@ digit_word x e = go (is_ascii_alphabetic x) (is_ascii_digit x) (nat_eq x 95) e
     go true b c e = refl
     go false true c e = refl
     go false false c e = absurd cc
-
-both : (a b : Bool) → (a && b) ≡ true → (a ≡ true) × (b ≡ true)
-both true b e = (refl, e)
-both false b e = absurd cc
 
 words_more : (digits more : List ℕ) → all_ascii_digits digits ≡ true → list_all is_word_byte more ≡ true → list_all is_word_byte (digits ++ more) ≡ true
 words_more [] more d m = m
@@ -108,7 +105,7 @@ value_spelled stride lane home small = by_rank (nat_eq lane.rank 0)
     by_rank false = twice_numbered 99 lane.home (number_in stride lane 0) refl home small
 
 wires_spelled : (stride many : ℕ) (lane : Lane) → IsSmallLane stride many lane → AllByRecursion IsName (own_wires stride many lane)
-wires_spelled stride many lane h = both_each IsName (map (λ k. lane_wire stride k lane) (range_with_len 0 many)) (lane_value stride lane ∷ [])
+wires_spelled stride many lane h = each_append IsName (map (λ k. lane_wire stride k lane) (range_with_len 0 many)) (lane_value stride lane ∷ [])
     (each_of_range IsName (λ k. lane_wire stride k lane) 0 many (λ k low high. twice_numbered 99 lane.home (number_in stride lane (suc k)) refl h.home (below stride many lane h (suc k) (omega arith))))
     (value_spelled stride lane h.home (below stride many lane h 0 (omega arith)), tt)
 
@@ -120,7 +117,7 @@ registers_spelled stride many lane h =
 
 lanes_keep : (P : List ℕ → Type 0) (g : ℕ → Lane → List (List ℕ)) (n : ℕ) (lanes : List Lane) → Each (λ p lane. AllByRecursion P (g p lane)) n lanes → AllByRecursion P (of_lanes g n lanes)
 lanes_keep P g n [] h = tt
-lanes_keep P g n (lane ∷ lanes) h = both_each P (g n lane) (of_lanes g (n + 1) lanes) (h 0 lane refl n (omega arith)) (lanes_keep P g (n + 1) lanes (later_each (λ p lane. AllByRecursion P (g p lane)) n lane lanes h))
+lanes_keep P g n (lane ∷ lanes) h = each_append P (g n lane) (of_lanes g (n + 1) lanes) (h 0 lane refl n (omega arith)) (lanes_keep P g (n + 1) lanes (later_each (λ p lane. AllByRecursion P (g p lane)) n lane lanes h))
 
 numbers_spelled : (a n : ℕ) → begins_name a ≡ true → n ≤ 10 ^ 64 → AllByRecursion IsName (map (λ k. a ∷ decimal k) (range_with_len 0 n))
 numbers_spelled a n letter few = each_of_range IsName (λ k. a ∷ decimal k) 0 n (λ k low high. one_numbered a k letter (omega arith))
@@ -145,11 +142,11 @@ module _ (w : Width) (program : Program) (small : AreSmall w program) where
       let n = if_counted program next_name in
       let inputs = subst (λ (xs : List (List ℕ)). AllByRecursion IsName xs) (sym (inputs_are w program)) (numbers_spelled 105 program.inputs refl small.inputs) in
       let registers = subst (λ (xs : List (List ℕ)). AllByRecursion IsName xs) (sym (registers_are w program))
-      (both_each IsName (register_list program) c register_names_spelled (if_named (counts program) counter_name counter_spelled)) in
+      (each_append IsName (register_list program) c register_names_spelled (if_named (counts program) counter_name counter_spelled)) in
       let outputs = subst (λ (xs : List (List ℕ)). AllByRecursion IsName xs) (sym (outputs_are w program)) (numbers_spelled 111 (length program.outputs) refl small.outputs) in
       let wires = subst (λ (xs : List (List ℕ)). AllByRecursion IsName xs) (sym (wires_are w program))
-      (both_each IsName (wire_list w program) n wire_names_spelled (if_named (counts program) next_name next_spelled)) in
+      (each_append IsName (wire_list w program) n wire_names_spelled (if_named (counts program) next_name next_spelled)) in
       All-from_recursion IsName (all_names m)
-      (both_each IsName (names_of m.inputs ++ names_of m.registers) (names_of m.outputs ++ names_of m.wires)
-      (both_each IsName (names_of m.inputs) (names_of m.registers) inputs registers)
-      (both_each IsName (names_of m.outputs) (names_of m.wires) outputs wires))
+      (each_append IsName (names_of m.inputs ++ names_of m.registers) (names_of m.outputs ++ names_of m.wires)
+      (each_append IsName (names_of m.inputs) (names_of m.registers) inputs registers)
+      (each_append IsName (names_of m.outputs) (names_of m.wires) outputs wires))

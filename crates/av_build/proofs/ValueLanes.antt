@@ -16,15 +16,15 @@ use Rattle.av_space.specs.declared.spots.Spot.{Spot as SpotMade}
 use Rattle.av_space.specs.Layouts.{AreSlots}
 use Rattle.av_space.specs.Links.{line_length}
 use Rattle.av_space.specs.Spots.{system_of, helpers_of, placings_of, cells_of, ComputesIn, IsSpot, AreSpots, AreEnds}
-use Rattle.av_space.proofs.ByPlace.{there_is, from_map, pair_at}
-use Rattle.av_space.proofs.Elements.{some_is, at_index, mapped, got, in_range}
+use Rattle.av_space.proofs.ByPlace.{from_map, pair_at}
+use Rattle.av_space.proofs.Elements.{at_index, got, in_range}
 use Rattle.av_build.specs.inner.Programs.{Work, Shift, Lane}
 use Rattle.av_build.specs.inner.Selections.{Stay, shifts_by, last_work}
 use Rattle.av_build.specs.inner.Programmed.{Lanes, Spot, IsStayFor, IsValueLane}
 use Rattle.av_build.specs.inner.Blueprints.{seen, spot_of}
 use Rattle.av_build.specs.inner.Works.{shift_in}
-use Rattle.av_build.proofs.Appended.{get_cases}
 use Rattle.av_build.proofs.PieceWorks.{shifts_are as all_shifts, last_is}
+use Rattle.av_base.proofs.Lists.{get_cases, get_mapped, some_is, there_is}
 
 module _ (w : ArrayMade) (lanes : Lanes) (p : ℕ) (cell : Cell) (v : Variable) (is_cell : slice_get (cells_of w) p ≡ Some cell) (is_variable : slice_get (nodes (system_of w)) cell.node ≡ Some v) (spots : List SpotMade) (are : AreSpots w p spots) where
   abbrev spot : ℕ → Piece → Spot
@@ -54,7 +54,7 @@ module _ (w : ArrayMade) (lanes : Lanes) (p : ℕ) (cell : Cell) (v : Variable) 
         let is = at_index (λ (at : SpotMade). (at.cell ≡ p) × (0 < length at.slots) × IsSpot w at) spots are.each i at.0 at.1 in (
           at.0.number,
           view_piece at.0.piece.now,
-          mapped (λ (at : SpotMade). at.number) spots i at.0 at.1,
+          get_mapped (λ (at : SpotMade). at.number) spots i at.0 at.1,
           of_variable at.0 is.0 is.2,
           subst (λ (s : Spot). IsStayFor (seen w) lanes s t) (spot_is at.0 is.0 is.2) (for i at.0 t at.1 e),
         )

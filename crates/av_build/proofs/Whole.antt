@@ -25,7 +25,8 @@ use Rattle.av_build.proofs.SoundProgram.{FitsCell, IsFit, are_wide, is_sound}
 use Rattle.av_build.proofs.Serving.{computed_node, Arranged}
 use Rattle.av_build.proofs.Owned.{AreFew, AreWords, GoodLane, good_value, good_helper, each_found}
 use Rattle.av_build.proofs.Listed.{place_of, Made, shows}
-use Rattle.av_space.proofs.Elements.{some_is, each_weaker, in_range, at_index}
+use Rattle.av_space.proofs.Elements.{in_range, at_index}
+use Rattle.av_base.proofs.Lists.{each_weaker, some_is, there_is}
 
 pub record Given (w : Width) (a : Array) (lanes : Lanes) (listing : Listing) (program : Program) : Type 0 where
   pub arranged : Arranged a lanes listing.ins program
@@ -69,11 +70,6 @@ lane_weaker P Q f lane h = (
 )
 
 -- ---- outputs
-
-pub there_is : {X : Type 0} (xs : List X) (k : ℕ) → k < length xs → (x : X) × (slice_get xs k ≡ Some x)
-there_is [] k lt = absurd (omega arith)
-there_is (x ∷ xs) zero lt = (x, refl)
-there_is (x ∷ xs) (suc k) lt = there_is xs k (omega arith)
 
 -- each cell has a lane
 pub cell_lane : (a : Array) (lanes : Lanes) (program : Program) → IsProgramFor a lanes program → AreCells a.system a.times a.cells → (p : ℕ) → p < length a.cells → lanes.of_value p < length program.lanes

@@ -8,7 +8,7 @@ use Rattle.av_flat.specs.Trees.{Variable, view_system, reference}
 use Rattle.av_flat.specs.Points.{has}
 use Rattle.av_space.specs.declared.cells.Cells.{Cells}
 use Rattle.av_space.specs.Ports.{is_output_cell}
-use Rattle.av_space.proofs.Elements.{some_is, get_contained, in_range, each_weaker}
+use Rattle.av_space.proofs.Elements.{in_range}
 use Rattle.av_build.specs.inner.Programs.{Source, word, input, line, Work, Shift, Lane, Program, EachOfCell, IsPlaced}
 use Rattle.av_build.specs.inner.Programmed.{Array, IsLaneFor, of_value, of_helper}
 use Rattle.av_build.specs.inner.Trees.{site_count}
@@ -21,7 +21,9 @@ use Rattle.av_build.proofs.Joined.{arranged}
 use Rattle.av_build.proofs.Listed.{place_of}
 use Rattle.av_build.proofs.Owned.{AreFew, AreWords, GoodLane, good_value, good_helper, each_found, stays_good}
 use Rattle.av_build.proofs.Serving.{computed_node, Arranged}
-use Rattle.av_build.proofs.Whole.{lane_weaker, there_is, cell_lane, outputs_there}
+use Rattle.av_build.proofs.Whole.{lane_weaker, cell_lane, outputs_there}
+use Rattle.av_base.proofs.Among.{among_at}
+use Rattle.av_base.proofs.Lists.{each_weaker, some_is, there_is}
 
 there : (width : ℕ) (program : Program) (p : ℕ) (source : Source) → IsPlaced width program p source → IsThere (length program.lanes) source
 there width program p (word n) h = tt
@@ -67,7 +69,7 @@ module _ (w : Width) (t : Timed) (a : Cells) (program : Program) (g : IsProgramm
       let declared : has v.domain z ≡ true = subst (λ (x : Variable). has x.domain z ≡ true) same computation.declared in
       let kind = computed_node v here.is_one in
       let lane_good = good_value w own g.lanes a.listing.ins program are few words p c n z v here.place here.is_variable here.is_one (sym here.number) computes is_variable declared kind lane is in
-      let piece = are.some_piece v z (get_contained own.system.variables here.place v here.is_variable) kind declared in
+      let piece = are.some_piece v z (among_at own.system.variables here.place v here.is_variable) kind declared in
       let one = is.every piece.0 piece.1 piece.2 c n z computes piece.3 in
       let some : 0 < length is.stays = omega (arith, in_range is.stays one.0 one.1 one.2) in
       let P : Shift → Type 0 = λ t. HasSites t.work in

@@ -13,6 +13,7 @@ use Rattle.av_check.specs.declared.verdict.Verdict.{Verdict}
 use Rattle.av_check.specs.declared.verdict.Verdict.TheVariants as verdict
 use Rattle.av_check.specs.Blame.{Blamed, where_none, or_else, blamed, blamed_of_all}
 use Rattle.av_check.specs.inner.Verdicts.{IsOf, IsVerdict, IsVerdictOfAll, IsReading}
+use Rattle.av_flat.proofs.Parts.{in_order}
 
 -- ---- numbers
 
@@ -50,9 +51,6 @@ last_part n b (verdict.Missing own) h = (h.0, h.1 ∙ sym (where_zero n b None h
 
 same_number : (m n : ℕ) (b : Option Blamed) (v : Verdict) → m ≡ n → IsOf m b v → IsOf n b v
 same_number m n b v e h = let P : ℕ → Type 0 = λ k. IsOf k b v in subst P e h
-
-in_order : (a b c d : ℕ) → a * (b * (c * d)) ≡ a * b * c * d
-in_order a b c d = sym (mul_assoc (a * b) c d ∙ mul_assoc a b (c * d))
 
 abbrev Both : Verdict → Verdict → Verdict → Type 0
 Both v w r = (m n : ℕ) (a b : Option Blamed) → IsOf m a v → IsOf n b w → IsOf (m * n) (where_none m a b) r

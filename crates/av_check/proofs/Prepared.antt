@@ -20,6 +20,7 @@ use Rattle.av_flat.specs.WellFormed.{EachPart, IsWellFormedPiece, IsWellFormedVa
 use Rattle.av_flat.specs.Kept.{IsPlain, ReadsDeclared, IsKeptPiece, IsKeptVariable, IsKept}
 use Rattle.av_flat.specs.Quantities.{HasWideSets}
 use Rattle.av_flat.proofs.Sets.{has_is}
+use Rattle.av_flat.proofs.Bounded.{small_point}
 use Rattle.av_normal.specs.NormalForm.{IsNormalised, IsNormalVariable, AreNormalVariables, IsNormalForm}
 use Rattle.av_normal.specs.declared.fault.NormalFault.{NormalFault}
 use Rattle.av_normal.specs.declared.fault.NormalFault.TheVariants as normal_fault
@@ -32,27 +33,6 @@ use Rattle.av_elim.specs.Extents.{IsOrdinary}
 use Rattle.av_check.specs.inner.Coverage.{coverage}
 use Rattle.av_check.specs.inner.Premises.{HasPremises, HavePremises}
 use Rattle.av_check.proofs.Founded.{IsFoundedPiece, pieces_stand}
-
--- ---- points of bounded domains
-
-pub small_point : (set : Set) → IsBounded set → (z : Point) → Has set z → AtMost 4095 z
-small_point set (inr none) z h = absurd (none z h)
-small_point set (inl b) z h = λ k d l.
-    let inner : Set = record { dim = set.dim; rows = b.is_box.rows } in
-    let normal : IsNormalised set inner = record { dim = refl; rows = b.is_box.normalised } in
-    let own : Has inner z = (has_is inner z).0 (has_normal set inner z normal ∙ (has_is set z).1 h) in
-    let size = h.dimension in
-    let m : k < set.dim = omega (arith, l, size) in
-    let spans = b.is_box.spans k m in
-    let within = point_within_bounds inner z k own in
-    let least : entry_of b.low k ≤ℤ entry_of z k = spans.least (entry_of z k) within in
-    let greatest : entry_of z k ≤ℤ entry_of b.high k = spans.greatest (entry_of z k) within in
-    let lows = b.is_box.lows in
-    let highs = b.is_box.highs in
-    let low : unsigned_abs (entry_of b.low k) ≤ 4095 = b.lows k (pos 0) (omega (arith, lows, m)) in
-    let high : unsigned_abs (entry_of b.high k) ≤ 4095 = b.highs k (pos 0) (omega (arith, highs, m)) in
-    let most : unsigned_abs (entry_of z k) ≤ 4095 = omega (arith, ints, least, greatest, low, high) in
-    subst (λ (x : ℤ). unsigned_abs x ≤ 4095) (get_or_default z k (pos 0) d l) most
 
 -- ---- kept pieces have one word each at their points
 

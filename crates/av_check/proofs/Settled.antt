@@ -27,6 +27,7 @@ use Rattle.av_check.specs.Blame.{Blamed, blamed, named}
 use Rattle.av_check.specs.CheckFaults.{IsFaultOf, IsFault}
 use Rattle.av_check.specs.inner.Premises.{HasPremises, HavePremises, HasNoneMiscovered}
 use Rattle.av_check.proofs.Lexicographic.{least_same, same_point}
+use Rattle.av_base.proofs.Lists.{same_head, same_tail}
 
 -- ---- one variable
 
@@ -153,12 +154,6 @@ no_fault s (fault.TwoBranches name z) p h = absurd (not_miscovered s h.0 z p h.1
 no_fault s fault.Memory p h = refl
 
 -- ---- one fault
-
-same_head : {X : Type 0} (x y : X) (xs ys : List X) → x ∷ xs ≡ y ∷ ys → x ≡ y
-same_head x y xs ys e = cc
-
-same_tail : {X : Type 0} (x y : X) (xs ys : List X) → x ∷ xs ≡ y ∷ ys → xs ≡ ys
-same_tail x y xs ys e = cc
 
 pub first_is_one : {X : Type 0} (P : X → Type 0) (b a c d : List X) (x y : X) → b ++ x ∷ a ≡ c ++ y ∷ d → All (λ u. P u → ⊥) b → P x → All (λ u. P u → ⊥) c → P y → x ≡ y
 first_is_one P [] a [] d x y e h p k q = same_head x y a d e

@@ -7,6 +7,7 @@ use Rattle.av_names.specs.declared.size.Size.{Size}
 use Rattle.av_cli.specs.Commands.{Options, Say, IsSize, SpellsUpTo, GiveSizes, no_more, given, passed, IsDemo, AskDemo, no_options, given_or, default_width, default_box}
 use Rattle.av_cli.specs.inner.DemoWords.{IsDemoAt}
 use Rattle.av_cli.proofs.OptionWords.{one_said}
+use Rattle.av_space.proofs.JoinedLinks.{one_more}
 
 -- ---- no sizes
 
@@ -150,9 +151,3 @@ said_behind words at bits box k middle is say =
     (is.options, subst (λ (o : Options). Say o (drop (at + 1) words) is.options) same is.say_after)
 
 -- ---- the places before the next
-
-pub before_next : (at n : ℕ) → at < n + 1 → (at < n) ⊎ (at ≡ n)
-before_next zero zero lt = inr refl
-before_next zero (suc n) lt = inl (omega arith)
-before_next (suc at) zero lt = absurd (omega (arith, lt))
-before_next (suc at) (suc n) lt = elim (before_next at n (omega (arith, lt))) [ inl less ↦ inl (omega (arith, less)) | inr same ↦ inr (ap suc same) ]

@@ -24,9 +24,10 @@ use Rattle.av_cli.specs.Demos.{product_text, product_sizes, AreEntries, GivesDem
 use Rattle.av_cli.specs.declared.status.Status.{Status}
 use Rattle.av_cli.specs.inner.Tellings.{IsTold, told, untold}
 use Rattle.av_cli.specs.inner.DemoData.{entry, entries, IsEntered, IsSummed}
-use Rattle.av_cli.proofs.Fed.{some_one, shows_words}
+use Rattle.av_cli.proofs.Fed.{shows_words}
 use Rattle.av_cli.proofs.Reporting.{clockable, port_widths, presented_inputs}
 use Rattle.std.proofs.Math.Nat.{mod-lt, one-le-pow}
+use Rattle.av_data.proofs.Lined.{one_some}
 
 -- a residue is a word
 residue_fits : (bits a : ℕ) → IsWord bits (residue bits a)
@@ -67,7 +68,7 @@ matrices_are i bits width = record {
     both false o some = (λ h. absurd (true≢false (sym h)), λ h. absurd (true≢false (sym h)))
 
     by : (b : Bool) (name : Text) (z : Point) (w : ℕ) → (if b then entries bits name z else None) ≡ Some w → IsWord i.width w
-    by true name z w e = subst (λ n. IsWord n w) (sym width) (subst (IsWord bits) (some_one e) (residue_fits bits (entry name z)))
+    by true name z w e = subst (λ n. IsWord n w) (sym width) (subst (IsWord bits) (one_some e) (residue_fits bits (entry name z)))
     by false name z w e = absurd cc
 
 matrices_entries : (i : Instance) (bits : ℕ) → AreEntries bits (matrices i bits)
@@ -77,7 +78,7 @@ matrices_entries i bits = record {
 }
   where
     word : (b : Bool) (n w : ℕ) → (if b then Some (residue bits n) else None) ≡ Some w → residue bits n ≡ w
-    word true n w e = some_one e
+    word true n w e = one_some e
     word false n w e = absurd cc
 
 -- ---- the answer

@@ -25,18 +25,10 @@ use Rattle.av_cli.specs.Simulated.{given_word, IsStimulated}
 use Rattle.av_cli.specs.inner.Clocking.{IsFrom, IsForPort, AreLeft}
 use Rattle.av_cli.specs.Shown.{IsIdle, IsFed, word_on, AreShown}
 use Rattle.av_cli.specs.inner.Feeding.{IsOfLine, IsOfOne, AreOfLines}
+use Rattle.av_base.proofs.Lists.{all_at}
+use Rattle.av_data.proofs.Lined.{one_some}
 
 -- ---- lists
-
-pub all_at : {X : Type 0} (P : X → Type 0) (xs : List X) (k : ℕ) (x : X) → All P xs → slice_get xs k ≡ Some x → P x
-all_at P xs k x h e = subst P (get_or_from_slice_get xs k x x e) (h k x (slice_get_within xs k x e))
-
-pub some_one : {X : Type 0} {x y : X} → Some x ≡ Some y → x ≡ y
-some_one {X = X} {x = x} e = ap value e
-  where
-    value : Option X → X
-    value None = x
-    value (Some z) = z
 
 -- the port of a name
 abbrev name_in : Port → List ℕ
@@ -51,7 +43,7 @@ port_of ports k name e = by (slice_get ports k) refl (sym (slice_get-map name_in
 
     by : (o : Option Port) → slice_get ports k ≡ o → option_map name_in o ≡ Some name → (port : Port) × (slice_get ports k ≡ Some port) × (port.name ≡ name)
     by None f h = absurd (true≢false (sym (ap flag h)))
-    by (Some port) f h = (port, f, some_one h)
+    by (Some port) f h = (port, f, one_some h)
 
 pub at_index : {X : Type 0} (xs : List X) (k : ℕ) (x : X) → k < length xs → x ≡ get_or xs k x → slice_get xs k ≡ Some x
 at_index xs k x lt is = slice_get-get_or xs k x lt ∙ ap Some (sym is)
@@ -71,7 +63,7 @@ module _ (d : Design) (x : Values) (n : ℕ) (values : List Given) (line : Entry
   none_same : (h : Given) → Contains values h → IsSame g h → ⊥
   none_same h c same =
       let one = so.each h c in
-      let wire : one.line.wire ≡ line.wire = some_one (sym one.is.port ∙ ap (slice_get (names_of d.module.inputs)) (sym same.1) ∙ is.port) in
+      let wire : one.line.wire ≡ line.wire = one_some (sym one.is.port ∙ ap (slice_get (names_of d.module.inputs)) (sym same.1) ∙ is.port) in
       let cycle : one.line.cycle ≡ line.cycle = sym one.is.cycle ∙ sym same.0 ∙ is.cycle in
       line_apart d.listing.ins one.number n one.line line apart one.within one.is_line there wire cycle
 
@@ -96,7 +88,7 @@ module _ (d : Design) (x : Values) (n : ℕ) (values : List Given) (line : Entry
       by_all k l e (inl before) lt = let (h, c, of) = so.all k l before e in (h, placed_keeps g values h c, of)
       by_all k l e (inr now) lt =
           let same : n ≡ k = omega (arith, now, lt) in
-          let one : line ≡ l = some_one (sym there ∙ ap (slice_get d.listing.ins) same ∙ e) in
+          let one : line ≡ l = one_some (sym there ∙ ap (slice_get d.listing.ins) same ∙ e) in
           (g, placed_has g values, subst (λ (m : Entry). IsOfLine d x m g) one is)
 
   pub given_more : (values' : List Given) → values' ≡ (if is_given values g then values else placed g values) → AreOfLines d x (n + 1) values'
@@ -151,7 +143,7 @@ module _ (d : Design) (x : Values) (values : List Given) (so : AreOfLines d x (l
       let one = so.each g c in
       let (port, at, named) = port_of d.module.inputs g.port one.line.wire one.is.port in
       let (word, has, fits) = all_at (HasFittingWord d.module.inputs x) d.listing.ins one.number one.line fitting one.is_line in
-      let same : word ≡ g.value = some_one (sym has ∙ one.is.word) in
+      let same : word ≡ g.value = one_some (sym has ∙ one.is.word) in
       (port, at, subst (IsWord port.width.bits) same (all_at (λ (p : Port). one.line.wire ≡ p.name → IsWord p.width.bits word) d.module.inputs g.port port fits at (sym named)))
 
   pub left : AreLeft d.module.inputs values 0 0 values
@@ -187,7 +179,7 @@ fed d x s stream so stimulated = record {
       ∙ given_none s.values c k (λ g h cycle place.
       let one = so.each g h in
       let (p, there, named) = port_of d.module.inputs g.port one.line.wire one.is.port in
-      let same : p ≡ port = some_one (sym there ∙ ap (slice_get d.module.inputs) place ∙ at) in
+      let same : p ≡ port = one_some (sym there ∙ ap (slice_get d.module.inputs) place ∙ at) in
       all_at (λ (l : Entry). l.cycle ≡ c → l.wire ≡ port.name → ⊥) d.listing.ins one.number one.line none one.is_line (sym one.is.cycle ∙ cycle) (sym named ∙ ap (λ (q : Port). q.name) same));
 }
 
@@ -224,7 +216,7 @@ fed_presents d x n stream fitting feeds = record {
         let is_line : slice_get d.listing.ins j ≡ Some line = at_index d.listing.ins j line lt (sym at) in
         let (word, has, each) = all_at (HasFittingWord d.module.inputs x) d.listing.ins j line fitting is_line in
         let listed = all_at (λ (l : Entry). Some (stream.in_cycle l.cycle l.wire) ≡ x l.variable l.point) d.listing.ins j line feeds.listed is_line in
-        let same : stream.in_cycle c port.name ≡ word = ap (λ m. stream.in_cycle m port.name) (sym cycle) ∙ ap (stream.in_cycle line.cycle) (sym wire) ∙ some_one (listed ∙ has) in
+        let same : stream.in_cycle c port.name ≡ word = ap (λ m. stream.in_cycle m port.name) (sym cycle) ∙ ap (stream.in_cycle line.cycle) (sym wire) ∙ one_some (listed ∙ has) in
         subst (IsWord port.width.bits) (sym same) (all_at (λ (p : Port). line.wire ≡ p.name → IsWord p.width.bits word) d.module.inputs k port each there wire)
     fits c port k there idle_is (inr idle) = subst (IsWord port.width.bits) (sym (idle_is idle)) (one-le-pow port.width.bits 2 (omega arith))
 

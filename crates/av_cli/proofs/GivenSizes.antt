@@ -11,7 +11,8 @@ use Rattle.std.specs.Prelude.{MatchOption}
 use Rattle.av_base.specs.declared.token_kind.TokenKind.TheVariants as kind
 use Rattle.av_base.specs.Tokens.{IsDigits, IsSpelled, is_word_byte}
 use Rattle.av_names.specs.declared.size.Size.{Size}
-use Rattle.av_cli.specs.Commands.{SpellsWhole, IsSize, size_of, GiveSizes, no_more, given, passed, Options, Say, nothing, width, box, size, sizes, IsOption, no_options, given_or, default_width, default_box, Asks, IsCheck}
+use Rattle.av_data.specs.Data.{SpellsWhole}
+use Rattle.av_cli.specs.Commands.{IsSize, size_of, GiveSizes, no_more, given, passed, Options, Say, nothing, width, box, size, sizes, IsOption, no_options, given_or, default_width, default_box, Asks, IsCheck}
 use Rattle.av_cli.proofs.OptionWords.{head, letter_first, no_size, width_head, box_head, dashes_head, at_words, one_said}
 use Rattle.av_cli.proofs.SizeWords.{word_bytes, text_is, one_size}
 

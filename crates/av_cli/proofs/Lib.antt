@@ -17,7 +17,6 @@ pub mod Fed
 pub mod Watched
 pub mod Watching
 mod DemoPlaces
-mod Chained
 pub mod Reporting
 pub mod Entering
 mod ResultLines

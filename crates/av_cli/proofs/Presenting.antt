@@ -17,6 +17,8 @@ use Rattle.av_clock.specs.Seen.{Seen, carried}
 use Rattle.av_data.specs.declared.stimulus.Given.{Given}
 use Rattle.av_cli.specs.Simulated.{given_word, port_words}
 use Rattle.av_cli.specs.inner.Clocking.{ArePresented, AreWires}
+use Rattle.av_data.proofs.Lined.{name_there}
+use Rattle.av_data.proofs.Named.{port_name}
 
 abbrev name_in : Port → List ℕ
 name_in port = port.name
@@ -28,9 +30,6 @@ pub name_at : (ports : List Port) (k : ℕ) (port : Port) → slice_get ports k 
 name_at ports k port e =
     let there : slice_get (names_of ports) k ≡ Some port.name = slice_get-map name_in ports k ∙ ap (option_map name_in) e in
     (slice_get_within (names_of ports) k port.name there, get_or_from_slice_get (names_of ports) k port.name port.name there)
-
-pub name_contained : (ports : List Port) (k : ℕ) (port : Port) → slice_get ports k ≡ Some port → Contains (names_of ports) port.name
-name_contained ports k port e = let at = name_at ports k port e in (k, at.0, at.1)
 
 -- other ports have other names
 other_name : (names : List (List ℕ)) (j k : ℕ) (a b : List ℕ) → AreDistinct names → j < length names → k < length names → get_or names j a ≡ a → get_or names k b ≡ b → j ≢ k → a ≢ b
@@ -76,7 +75,7 @@ pub registers_kept : (m : Module) (k : ℕ) (v v' w : Words) (port : Port) → I
 registers_kept m k v v' w port sound there others agree = λ i d lt.
     let name = get_or (names_of m.registers) i d in
     let differ : name ≢ port.name = λ same.
-    apart (names_of m.inputs) (names_of m.registers) port.name (given_distinct m sound) (name_contained m.inputs k port there) (i, lt, at i d lt (sym same)) in
+    apart (names_of m.inputs) (names_of m.registers) port.name (given_distinct m sound) (name_there m.inputs k port there) (i, lt, at i d lt (sym same)) in
     agree i d lt ∙ sym (others name differ)
   where
     at : (i : ℕ) (d : List ℕ) → i < length (names_of m.registers) → port.name ≡ get_or (names_of m.registers) i d → get_or (names_of m.registers) i port.name ≡ port.name
@@ -162,10 +161,6 @@ pub words_noted : (ports : List Port) (f : Port → ℕ) (words : List ℕ) → 
 words_noted [] f words le h = refl
 words_noted (p ∷ ports) f [] le h = absurd (omega arith)
 words_noted (p ∷ ports) f (w ∷ words) le h = ap (λ z. z ∷ take (length ports) words) (h 0 p refl) ∙ ap (λ (z : List ℕ). f p ∷ z) (words_noted ports f words (omega arith) (λ k port e. h (suc k) port e))
-
--- the name of a port is at its place
-pub port_named : (ports : List Port) (i : ℕ) (port : Port) → i < length ports → port ≡ get_or ports i port → (i < length (names_of ports)) × (port.name ≡ get_or (names_of ports) i port.name)
-port_named ports i port lt is = let at = name_at ports i port (slice_get-get_or ports i port lt ∙ ap Some (sym is)) in (at.0, sym at.1)
 
 -- the input ports have different names
 pub inputs_apart : (m : Module) → IsSound m → AreDistinct (names_of m.inputs)

@@ -37,8 +37,6 @@ use Rattle.av_space.specs.declared.cells.Cells.{Cells}
 use Rattle.av_space.specs.Listings.{AtLine, IsAtLine}
 use Rattle.av_space.specs.Whole.{IsPresented}
 use Rattle.av_space.proofs.ByPlace.{from_map, pair_at, all_by_place, place_of}
-use Rattle.av_space.proofs.Elements.{some_is}
-use Rattle.av_data.proofs.Spelled.{one_and}
 use Rattle.av_data.proofs.Outcome.{readable}
 use Rattle.av_data.proofs.OneData.{not_both}
 use Rattle.av_data.specs.declared.fault.DataFault.{DataFault}
@@ -64,11 +62,13 @@ use Rattle.av_cli.specs.Runs.{RefusesRun, no_mark, bad_system, bad_data, HasData
 use Rattle.av_cli.specs.inner.Written.{IsPut, IsAnswered, refused, given, no_memory}
 use Rattle.av_cli.specs.inner.Reported.{GivesReport, RefusesRunWith, GivesReportWith, IsClockable, names_output, is_output_named, RefusesLines, AreResultsOf, IsTraceOf, IsReport, GivesReported}
 use Rattle.av_cli.specs.inner.Tellings.{IsTold, told, untold}
-use Rattle.av_cli.proofs.Chained.{meaning}
-use Rattle.av_cli.proofs.Scheduling.{one_serial}
+use Rattle.av_compile.proofs.Meant.{meaning}
 use Rattle.av_compile.proofs.OneRefusal.{memory_or_not}
 use Rattle.av_cli.proofs.Tabling.{not_unmapped}
-use Rattle.av_cli.proofs.Fed.{all_at, shows_words}
+use Rattle.av_cli.proofs.Fed.{shows_words}
+use Rattle.av_compile.proofs.OneChain.{one_chained}
+use Rattle.av_base.proofs.Truths.{and_true, either, same_truth}
+use Rattle.av_base.proofs.Lists.{all_at, some_is}
 
 -- ---- a design of a text can be clocked
 
@@ -101,10 +101,6 @@ clockable bytes sizes bits box t a d h =
 
 -- ---- outputs
 
-either : (a b : Bool) → (a || b) ≡ true → (a ≡ true) ⊎ (b ≡ true)
-either true b e = inl refl
-either false b e = inr e
-
 -- results by two tests that agree are the same
 pub same_results : (f g : Entry → Bool) (lines : List Entry) (words : List ℕ) → All (λ line. f line ≡ g line) lines → results f lines words ≡ results g lines words
 same_results f g [] words same = refl
@@ -132,19 +128,13 @@ output_named : (vs : List Variable) (name : Text) (place : ℕ) (v : Variable) �
 output_named [] name place v e output named = absurd cc
 output_named (w ∷ vs) name zero v e output named =
     let same : w ≡ v = some_is w v e in
-    let here : is_output_named name w ≡ true = rw same (one_and (is_kind v.kind kind.Output) (bytes_eq v.name name) output ((bytes_eq-Decides v.name name).1 named)) in
+    let here : is_output_named name w ≡ true = rw same (and_true (is_kind v.kind kind.Output) (bytes_eq v.name name) output ((bytes_eq-Decides v.name name).1 named)) in
     ap (λ t. t || list_any (is_output_named name) vs) here
 output_named (w ∷ vs) name (suc place) v e output named = ap (λ t. is_output_named name w || t) (output_named vs name place v e output named) ∙ or_true (is_output_named name w)
   where
     or_true : (t : Bool) → (t || true) ≡ true
     or_true true = refl
     or_true false = refl
-
--- both tests hold, or neither
-same_test : (a b : Bool) → (a ≡ true → b ≡ true) → (b ≡ true → a ≡ true) → a ≡ b
-same_test true b f g = sym (f refl)
-same_test false true f g = g refl
-same_test false false f g = refl
 
 -- the kinds that a test tells
 input_kind : (k : Kind) → is_kind kind.Input k ≡ is_input k
@@ -229,7 +219,7 @@ module _ (bytes : List ℕ) (sizes : List Size) (bits box : ℕ) (t : Timed) (a 
       (subst (λ (n : Text). IsTrue (flat.is_declared is_shown (signatures own) n b.0.entry.point)) (sym is.variable_is) there)
 
   same_line : (i : ℕ) (line : Entry) → slice_get a.listing.ats i ≡ Some line → names_output own line.variable ≡ is_result (instance_of h.system sizes bits) line
-  same_line i line e = same_test (names_output own line.variable) (is_result (instance_of h.system sizes bits) line) into back
+  same_line i line e = same_truth (names_output own line.variable) (is_result (instance_of h.system sizes bits) line) into back
     where
       names : AllPairs (λ (a b : Variable). a.name ≢ b.name) own.variables
       names = h.mapped.pipelined.legal.chained.names
@@ -319,7 +309,7 @@ exclusive_run sizes bits box bytes reason t a d x (bad_data {before} {rest} {fir
     let same : has.before ≡ before = has.divided.text_is ∙ sym divided.text_is in
     let behind : has.rest ≡ rest = has.divided.rest_is ∙ sym divided.rest_is in
     let own = subst (λ b. IsMapped b sizes bits box t a) same has.computes.mapped in
-    let one : view_system t.flat ≡ view_system timed.flat = one_serial before sizes bits (view_system t.flat) (view_system timed.flat) own.pipelined.serialises mapped.pipelined.serialises in
+    let one : view_system t.flat ≡ view_system timed.flat = one_chained before sizes bits (view_system t.flat) (view_system timed.flat) own.pipelined.serialises mapped.pipelined.serialises in
     let spelled : SpellsInputs (view_system timed.flat) rest x = subst (λ (s : FlatSystem). SpellsInputs s rest x) one (subst (λ r. SpellsInputs (view_system t.flat) r x) behind has.spelled) in
     not_both (view_system timed.flat) (readable (view_system timed.flat) (inr mapped.pipelined.legal.chained)) first rest x fault spelled is
 

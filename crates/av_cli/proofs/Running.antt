@@ -23,7 +23,8 @@ use Rattle.av_data.specs.Cycles.{cycle_line}
 use Rattle.av_cli.specs.declared.simulation.Prepared.{Prepared}
 use Rattle.av_cli.specs.Simulated.{given_word, IsStimulated, header_ports, port_words, words_line, run_lines}
 use Rattle.av_cli.specs.inner.Clocking.{AreLeft, ArePresented, IsPrepared}
-use Rattle.av_cli.proofs.Presenting.{name_contained, words_noted}
+use Rattle.av_cli.proofs.Presenting.{words_noted}
+use Rattle.av_data.proofs.Lined.{name_there}
 
 -- what holds of each run under the stimulus
 abbrev pub ForRuns : Module → Stimulus → (Run → Type 0) → Type 0
@@ -81,8 +82,8 @@ same_words names v w (p ∷ ports) agree all =
 
 header_named : (m : Module) → All (λ port. Contains (all_names m) port.name) (header_ports m)
 header_named m = All-append (λ port. Contains (all_names m) port.name) m.inputs m.outputs
-    (λ k d lt. let port = get_or m.inputs k d in Contains-append_left (given_names m) (wire_names m) port.name (Contains-append_left (names_of m.inputs) (names_of m.registers) port.name (name_contained m.inputs k port (slice_get-get_or m.inputs k d lt))))
-    (λ k d lt. let port = get_or m.outputs k d in Contains-append_right (given_names m) (wire_names m) port.name (Contains-append_left (names_of m.outputs) (names_of m.wires) port.name (name_contained m.outputs k port (slice_get-get_or m.outputs k d lt))))
+    (λ k d lt. let port = get_or m.inputs k d in Contains-append_left (given_names m) (wire_names m) port.name (Contains-append_left (names_of m.inputs) (names_of m.registers) port.name (name_there m.inputs k port (slice_get-get_or m.inputs k d lt))))
+    (λ k d lt. let port = get_or m.outputs k d in Contains-append_right (given_names m) (wire_names m) port.name (Contains-append_left (names_of m.outputs) (names_of m.wires) port.name (name_there m.outputs k port (slice_get-get_or m.outputs k d lt))))
 
 pub shown_line : (m : Module) (s : Stimulus) (c : ℕ) (w : Words) → ForRuns m s (λ run. c < s.cycles → Agree (all_names m) w (run.in_cycle c))
     → ForRuns m s (λ run. c < s.cycles → cycle_line c (header_ports m) (port_words w (header_ports m)) ≡ words_line m (run.in_cycle c) c)
@@ -140,7 +141,7 @@ inputs_noted m s c parts seen seen' words prepared room of of' presented agree =
     let each : (k : ℕ) (port : Port) → slice_get m.inputs k ≡ Some port → get_or words k 0 ≡ carried seen' port.name = λ k port e.
     let lt : k < parts.inputs = (let w = slice_get_within m.inputs k port e in let n = prepared.count in omega (arith, w, n)) in
     let both = here k port lt e in
-    both.1 ∙ sym both.0 ∙ All-contains (λ name. carried seen name ≡ carried seen' name) (given_names m) port.name same (Contains-append_left (names_of m.inputs) (names_of m.registers) port.name (name_contained m.inputs k port e)) in
+    both.1 ∙ sym both.0 ∙ All-contains (λ name. carried seen name ≡ carried seen' name) (given_names m) port.name same (Contains-append_left (names_of m.inputs) (names_of m.registers) port.name (name_there m.inputs k port e)) in
     let long : length m.inputs ≤ length words = (let r = prepared.room in let a = length-append m.inputs m.outputs in omega (arith, r, a, room)) in
     ap (λ n. take n words) prepared.count ∙ words_noted m.inputs (λ port. carried seen' port.name) words long each ∙ ap (λ (x : Module). port_words (carried seen') x.inputs) (sym at)
 

@@ -23,21 +23,11 @@ use Rattle.av_cli.specs.AlphaRefusals.{alpha_reason}
 use Rattle.av_cli.specs.Schedules.{RefusesSchedule, GivesSchedule}
 use Rattle.av_cli.specs.inner.WithWords.{RefusesScheduleWith, GivesScheduleWith}
 use Rattle.av_cli.specs.inner.Written.{IsPut, IsAnswered, refused, given, no_memory}
-use Rattle.av_compile.proofs.OneChain.{one_flat}
+use Rattle.av_compile.proofs.OneChain.{one_flat, one_chained, one_normalised}
 use Rattle.av_compile.proofs.OneRefusal.{memory_or_not, not_checked}
 use Rattle.av_cli.proofs.GivenSizes.{with_sizes}
 
 -- ---- refused or given, and not both
-
-one_normal : (bytes : List ℕ) (sizes : List Size) (bits : ℕ) (s t : FlatSystem) → Normalises bytes sizes bits s → Normalises bytes sizes bits t → s ≡ t
-one_normal bytes sizes bits s t a b =
-    let same = one_flat bytes sizes bits b.flat a.flat b.flattens a.flattens in
-    normal.unique b.flat s t (subst (λ (x : FlatSystem). normalised.IsGiven x s) same a.given).form b.given.form
-
-pub one_serial : (bytes : List ℕ) (sizes : List Size) (bits : ℕ) (s t : FlatSystem) → Serialises bytes sizes bits s → Serialises bytes sizes bits t → s ≡ t
-one_serial bytes sizes bits s t a b =
-    let same = one_normal bytes sizes bits a.normal b.normal a.normalises b.normalises in
-    serial.unique b.normal s t (subst (λ (x : FlatSystem). serialised.IsGiven x s) same a.given).form b.given.form
 
 -- a system that has a first schedule is not refused before it
 pub not_unscheduled : (sizes : List Size) (bits box : ℕ) (bytes : List ℕ) (cause : Refusal) → IsUnscheduled bytes sizes bits box cause → cause ≢ refusal.Memory → (t : Timed) → Serialises bytes sizes bits (view_system t.flat)
@@ -49,10 +39,10 @@ not_unscheduled sizes bits box bytes cause first some t is none = go first
         let n = is.normalises in
         not_checked bytes sizes bits n.flat cause n.flattens n.given.no_cause n.proper h some
     go (in_reductions f e s normalises fault) =
-        let same = one_normal bytes sizes bits s is.normal normalises is.normalises in
+        let same = one_normalised bytes sizes bits s is.normal normalises is.normalises in
         some (e ∙ ap of_serial (is.given.no_cause f (subst (λ (x : FlatSystem). serialised.IsFault x f) same fault)))
     go (in_search f e s serialises fault) =
-        let same = one_serial bytes sizes bits s (view_system t.flat) serialises is in
+        let same = one_chained bytes sizes bits s (view_system t.flat) serialises is in
         some (e ∙ ap of_sched (none f (subst (λ (x : FlatSystem). searched.IsFault x box f) same fault)))
 
 pub exclusive_schedule : (sizes : List Size) (bits box : ℕ) (bytes reason out : List ℕ) → RefusesSchedule sizes bits box bytes reason → GivesSchedule sizes bits box bytes out → ⊥

@@ -11,7 +11,8 @@ use Rattle.av_base.specs.declared.token_kind.TokenKind.TheVariants as kind
 use Rattle.av_base.specs.Tokens.{IsDigits, IsSpelled, IsWord, is_word_byte, number_of}
 use Rattle.av_base.specs.Spelling.{is_name}
 use Rattle.av_base.proofs.Spelled.{name_gives}
-use Rattle.av_cli.specs.Commands.{IsSize, size_of, SpellsWhole}
+use Rattle.av_data.specs.Data.{SpellsWhole}
+use Rattle.av_cli.specs.Commands.{IsSize, size_of}
 
 -- ---- values
 

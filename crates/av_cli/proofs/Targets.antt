@@ -10,7 +10,7 @@ use Rattle.av_net.specs.declared.netlist.Module.{Module}
 use Rattle.av_net.specs.Names.{names_of, targets_of, wire_names}
 use Rattle.av_net.specs.Sound.{IsSound}
 use Rattle.av_cli.specs.inner.Clocking.{AreWires}
-use Rattle.av_cli.proofs.Presenting.{name_contained}
+use Rattle.av_data.proofs.Lined.{name_there}
 
 pub target_name : (drives : List Drive) (i : ℕ) (drive : Drive) → i < length drives → drive ≡ get_or drives i drive → (i < length (targets_of drives)) × (drive.target ≡ get_or (targets_of drives) i drive.target)
 target_name drives i drive lt at =
@@ -19,7 +19,7 @@ target_name drives i drive lt at =
 -- an output is driven
 pub output_driven : (m : Module) (k : ℕ) (port : Port) → IsSound m → slice_get m.outputs k ≡ Some port → Contains (targets_of m.drives) port.name
 output_driven m k port sound e =
-    All-contains (Contains (targets_of m.drives)) (wire_names m) port.name sound.wires_driven (Contains-append_left (names_of m.outputs) (names_of m.wires) port.name (name_contained m.outputs k port e))
+    All-contains (Contains (targets_of m.drives)) (wire_names m) port.name sound.wires_driven (Contains-append_left (names_of m.outputs) (names_of m.wires) port.name (name_there m.outputs k port e))
 
 -- one output more
 pub wires_more : (m : Module) (n : ℕ) (wires wires' : List ℕ) (place : ℕ) (port : Port) → AreWires m n wires → slice_get m.outputs n ≡ Some port → slice_get (targets_of m.drives) place ≡ Some port.name → wires' ≡ wires ++ place ∷ [] → AreWires m (n + 1) wires'

@@ -7,6 +7,7 @@ use Rattle.std.proofs.lemmas.List.Sums.{sum_by_more, sum-map}
 use Rattle.av_base.specs.declared.word.Word.{Word}
 use Rattle.av_base.specs.Words.{residue}
 use Rattle.av_cli.specs.inner.Watching.{bits_of}
+use Rattle.av_base.proofs.Truths.{neither}
 
 -- a remainder stands for the number
 mod_plus : (s x m : ℕ) → (s % m + x) % m ≡ (s + x) % m
@@ -34,15 +35,11 @@ any_here p f (y ∷ xs) (suc k) x lt is found = ap (λ (t : Bool). p (f y) || t)
     or_true true = refl
     or_true false = refl
 
-none_of : (a b : Bool) → (a || b) ≡ false → (a ≡ false) × (b ≡ false)
-none_of true b e = absurd cc
-none_of false b e = (refl, e)
-
 none_past : {A X : Type 0} (p : X → Bool) (f : A → X) (xs : List A) (k : ℕ) (x : A) → k < length xs → x ≡ get_or xs k x → list_any p (map f (take k xs)) ≡ false → p (f x) ≡ false → list_any p (map f (take (suc k) xs)) ≡ false
 none_past p f [] k x lt is none other = absurd (omega (arith, lt))
 none_past p f (y ∷ xs) zero x lt is none other = ap (λ (t : Bool). t || false) (ap (λ z. p (f z)) (sym is) ∙ other)
 none_past p f (y ∷ xs) (suc k) x lt is none other =
-    let both = none_of (p (f y)) (list_any p (map f (take k xs))) none in
+    let both = neither (p (f y)) (list_any p (map f (take k xs))) none in
     ap (λ (t : Bool). t || list_any p (map f (take (suc k) xs))) both.0 ∙ none_past p f xs k x (omega (arith, lt)) is both.1 other
 
 pub none_more : {A X : Type 0} (p : X → Bool) (f : A → X) (xs : List A) (k : ℕ) (x : A) → k < length xs → x ≡ get_or xs k x → list_any p (map f (take k xs)) ≡ false → p (f x) ≡ false → list_any p (map f (take (k + 1) xs)) ≡ false

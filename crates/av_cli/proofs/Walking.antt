@@ -13,11 +13,9 @@ use Rattle.av_data.specs.Stimuli.{IsBefore, SpellsStimulus}
 use Rattle.av_data.proofs.Fits.{IsFor, values_fit}
 use Rattle.av_cli.specs.Simulated.{given_word}
 use Rattle.av_cli.specs.inner.Clocking.{is_here, word_next, rest_next, IsFrom, IsForPort, AreLeft}
-
-both : (a b : Bool) → (a && b) ≡ true → (a ≡ true) × (b ≡ true)
-both true true e = (refl, refl)
-both true false e = absurd (true≢false (sym e))
-both false b e = absurd (true≢false (sym e))
+use Rattle.av_data.proofs.Sorting.{pairs_head, pairs_tail}
+use Rattle.av_base.proofs.Truths.{both}
+use Rattle.av_data.proofs.Lined.{one_some}
 
 here_is : (c k : ℕ) (g : Given) → is_here c k g ≡ true → (g.cycle ≡ c) × (g.port ≡ k)
 here_is c k g e = let z = both (nat_eq g.cycle c) (nat_eq g.port k) e in (eqb-true g.cycle c z.0, eqb-true g.port k z.1)
@@ -34,12 +32,6 @@ here_not c k g e a b = true≢false (sym (one (nat_eq g.cycle c) (nat_eq g.port 
   where
     one : (t u : Bool) → t ≡ true → u ≡ true → (t && u) ≡ true
     one t u e f = rw (e, f) refl
-
-pairs_head : (x : Given) (xs : List Given) → AllPairs IsBefore (x ∷ xs) → All (IsBefore x) xs
-pairs_head x xs a = λ k d lt. a 0 (suc k) d (omega arith) (omega arith)
-
-pairs_tail : (x : Given) (xs : List Given) → AllPairs IsBefore (x ∷ xs) → AllPairs IsBefore xs
-pairs_tail x xs a = λ i j d lt within. a (suc i) (suc j) d (omega arith) (omega arith)
 
 -- one behind another that is from here on
 from_before : (c k : ℕ) (g h : Given) → IsFrom c k g.cycle g.port → IsBefore g h → IsFrom c (k + 1) h.cycle h.port
@@ -101,13 +93,6 @@ word_of_left c k (g ∷ left) all ascending =
 pub word_is : (inputs : List Port) (given : List Given) (c k : ℕ) (left : List Given) → AreLeft inputs given c k left → given_word given c k ≡ word_next left c k
 word_is inputs given c k left ready = ready.words c k (inr (refl, omega arith)) ∙ word_of_left c k left ready.ahead ready.ascending
 
-some_one : {X : Type 0} {x y : X} → Some x ≡ Some y → x ≡ y
-some_one {X = X} {x = x} e = ap value e
-  where
-    value : Option X → X
-    value None = x
-    value (Some z) = z
-
 pub word_fits : (inputs : List Port) (given : List Given) (c k : ℕ) (left : List Given) → AreLeft inputs given c k left → (port : Port) → slice_get inputs k ≡ Some port → IsWord port.width.bits (word_next left c k)
 word_fits inputs given c k left ready port there = by left ready.fit
   where
@@ -117,7 +102,7 @@ word_fits inputs given c k left ready port there = by left ready.fit
       where
         one : (t : Bool) → is_here c k g ≡ t → IsForPort inputs g → IsWord port.width.bits (if t then g.value else 0)
         one true e (p, declared, fits) =
-            let same : p ≡ port = some_one (sym declared ∙ ap (slice_get inputs) (here_is c k g e).1 ∙ there) in
+            let same : p ≡ port = one_some (sym declared ∙ ap (slice_get inputs) (here_is c k g e).1 ∙ there) in
             subst (λ (q : Port). IsWord q.width.bits g.value) same fits
         one false e fit = one-le-pow port.width.bits 2 (omega arith)
 

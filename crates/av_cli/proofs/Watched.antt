@@ -15,8 +15,10 @@ use Rattle.av_net.specs.Settled.{Agree}
 use Rattle.av_net.specs.Sound.{IsSound}
 use Rattle.av_cli.specs.Shown.{word_on}
 use Rattle.av_cli.specs.inner.Watching.{bits_of, AreTaps, noted, watched}
-use Rattle.av_cli.proofs.Fed.{all_at, at_index, some_one}
+use Rattle.av_cli.proofs.Fed.{at_index}
 use Rattle.av_cli.proofs.Presenting.{drive_there}
+use Rattle.av_base.proofs.Lists.{all_at}
+use Rattle.av_data.proofs.Lined.{one_some}
 
 -- ---- places
 
@@ -75,14 +77,14 @@ pub mixed_noted : (v : Words) (cycle k : ℕ) (lines : List Entry) (words : List
     → mixed v cycle (suc k) lines words ≡ slice_set (mixed v cycle k lines words) k (v line.wire)
 mixed_noted v cycle k [] words line e long is = absurd cc
 mixed_noted v cycle k (l ∷ lines) [] line e long is = absurd (omega (arith, long))
-mixed_noted v cycle zero (l ∷ lines) (word ∷ words) line e long is = let same : l ≡ line = some_one e in rw (ap (λ (x : Entry). x.cycle) same, is) (ap (λ (x : Entry). v x.wire ∷ words) same)
+mixed_noted v cycle zero (l ∷ lines) (word ∷ words) line e long is = let same : l ≡ line = one_some e in rw (ap (λ (x : Entry). x.cycle) same, is) (ap (λ (x : Entry). v x.wire ∷ words) same)
 mixed_noted v cycle (suc k) (l ∷ lines) (word ∷ words) line e long is = ap (λ (z : List ℕ). (if nat_eq l.cycle cycle then v l.wire else word) ∷ z) (mixed_noted v cycle k lines words line e (omega (arith, long)) is)
 
 pub mixed_passed : (v : Words) (cycle k : ℕ) (lines : List Entry) (words : List ℕ) (line : Entry) → slice_get lines k ≡ Some line → length words ≡ length lines → nat_eq line.cycle cycle ≡ false
     → mixed v cycle (suc k) lines words ≡ mixed v cycle k lines words
 mixed_passed v cycle k [] words line e long is = absurd cc
 mixed_passed v cycle k (l ∷ lines) [] line e long is = absurd (omega (arith, long))
-mixed_passed v cycle zero (l ∷ lines) (word ∷ words) line e long is = let same : l ≡ line = some_one e in rw (ap (λ (x : Entry). x.cycle) same, is) refl
+mixed_passed v cycle zero (l ∷ lines) (word ∷ words) line e long is = let same : l ≡ line = one_some e in rw (ap (λ (x : Entry). x.cycle) same, is) refl
 mixed_passed v cycle (suc k) (l ∷ lines) (word ∷ words) line e long is = ap (λ (z : List ℕ). (if nat_eq l.cycle cycle then v l.wire else word) ∷ z) (mixed_passed v cycle k lines words line e (omega (arith, long)) is)
 
 -- a line more is looked at

@@ -5,6 +5,7 @@ use Rattle.std.proofs.Math.IntN.{neg_ℤ}
 use Rattle.av_base.specs.declared.token_kind.TokenKind.TheVariants as kind
 use Rattle.av_base.specs.Tokens.{IsDigits, IsSpelled, number_of}
 use Rattle.av_names.specs.declared.size.Size.{Size}
+use Rattle.av_data.specs.Data.{SpellsWhole}
 
 -- ---- numbers
 
@@ -14,12 +15,6 @@ pub record SpellsUpTo (greatest : ℕ) (digits : List ℕ) (n : ℕ) : Type 0 wh
   pub value : number_of digits ≡ n
   pub least : 1 ≤ n
   pub most : n ≤ greatest
-
--- digits of a whole number, with a minus sign before them or without
-abbrev pub SpellsWhole : List ℕ → ℤ → Type 0
-SpellsWhole text value =
-    (IsDigits text × (value ≡ pos (number_of text)))
-    ⊎ ((digits : List ℕ) × (text ≡ codes "-" ++ digits) × IsDigits digits × (value ≡ neg_ℤ (pos (number_of digits))))
 
 -- ---- sizes
 

@@ -1,7 +1,8 @@
 //! Sizes in words: NAME=VALUE.
 
 ghost use Rattle.std.specs.Prelude.{◌≡◌, ◌≤◌, ◌↔◌, ℤ, ◌++◌, List as Items, ℕ, unsigned_abs, codes, IsTrue, IfSome, IfNone};
-ghost use Rattle.av_cli.specs.Commands.{IsSize, SpellsWhole};
+ghost use Rattle.av_data.specs.Data.{SpellsWhole};
+ghost use Rattle.av_cli.specs.Commands.{IsSize};
 
 use crate::numbers::number_at_most;
 use av_base::limits::MOST_SIZE;

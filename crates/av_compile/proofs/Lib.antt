@@ -5,5 +5,5 @@ pub mod Pipelined
 mod OnlySolution
 mod Unscheduled
 mod TextProper
-mod Meant
+pub mod Meant
 pub mod Promised

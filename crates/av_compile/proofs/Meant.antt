@@ -22,7 +22,7 @@ use Rattle.av_normal.specs.NormalFaults as normalised
 use Rattle.av_serial.proofs.OnlySolutions as serial
 use Rattle.av_compile.specs.Scheduled.{Serialises}
 
-module _ (bytes : List ℕ) (words : List Size) (width : ℕ) (t : FlatSystem) (short : length bytes < 4294967295) (wide : 1 ≤ width) (h : Serialises bytes words width t) (s : System) (program : IsProgramText bytes s) where
+module _ (bytes : List ℕ) (words : List Size) (width : ℕ) (t : FlatSystem) (short : length bytes < 4294967295) (h : Serialises bytes words width t) (s : System) (program : IsProgramText bytes s) where
   of_text : IsOfText s
   of_text = record { bytes = bytes; short = short; text = program }
 
@@ -45,8 +45,8 @@ module _ (bytes : List ℕ) (words : List Size) (width : ℕ) (t : FlatSystem) (
       same_meaning_trans (shows_in (instance_of s words width)) (declares_in (instance_of s words width)) (shows_of own) (declares_of own) (shows_of t) (declares_of t)
       (is_the_same s words width of_text accepted).meaning rest
 
-  pub inputs : (x : Assignment) → text.AreInputs (instance_of s words width) x → flat.AreInputs t x
-  inputs x p =
+  pub inputs : 1 ≤ width → (x : Assignment) → text.AreInputs (instance_of s words width) x → flat.AreInputs t x
+  inputs wide x p =
       let i = instance_of s words width in
       let narrow : 1 ≤ h.normal.width = subst (λ (w : ℕ). 1 ≤ w) (sym given.form.width) wide in
       let of_flat = names.same_inputs i (is_regular s words width of_text accepted) x p in

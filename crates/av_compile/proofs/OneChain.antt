@@ -22,7 +22,7 @@ one_flat bytes words width s t g h = same_flat words width g.system h.system s t
 pub one_normal : (s t u : FlatSystem) → normalised.IsGiven s t → normalised.IsGiven s u → t ≡ u
 one_normal s t u g h = normal.unique s t u g.form h.form
 
-one_normalised : (bytes : List ℕ) (words : List Size) (width : ℕ) (s t : FlatSystem) → Normalises bytes words width s → Normalises bytes words width t → s ≡ t
+pub one_normalised : (bytes : List ℕ) (words : List Size) (width : ℕ) (s t : FlatSystem) → Normalises bytes words width s → Normalises bytes words width t → s ≡ t
 one_normalised bytes words width s t g h =
     normal.unique h.flat s t (subst (λ (f : FlatSystem). IsNormalForm f s) (one_flat bytes words width h.flat g.flat h.flattens g.flattens) g.given.form) h.given.form
 

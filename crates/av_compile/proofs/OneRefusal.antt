@@ -38,11 +38,9 @@ use Rattle.av_compile.specs.declared.refusal.Refusal.TheVariants as refusal
 use Rattle.av_compile.specs.Refusals.{of_lex, of_parse, of_names, of_normal, of_check}
 use Rattle.av_compile.specs.Checked.{Flattens, HasNormalForm, IsChecked, IsRefused, in_bytes, in_tokens, in_names, in_pieces, in_points}
 use Rattle.av_compile.proofs.OneChain.{one_flat}
+use Rattle.av_sched.proofs.Faulting.{one_first}
 
 -- ---- one quantity above its limit
-
-one_first : {X : Type 0} (P : X → Type 0) (xs : List X) (x y : X) → IsFirst P xs x → IsFirst P xs y → x ≡ y
-one_first P xs x y h k = settled.first_is_one P h.before h.after k.before k.after x y (sym h.is ∙ k.is) h.not_before h.here k.not_before k.here
 
 one_of_numbers : (rows : List Form) (k j : Quantity) (n m : ℕ) → IsOverNumbers rows k n → IsOverNumbers rows j m → (k ≡ j) × (n ≡ m)
 one_of_numbers rows k j n m (inl h) (inl i) = (h.0 ∙ sym i.0, h.1 ∙ sym i.1)

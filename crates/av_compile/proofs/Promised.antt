@@ -21,7 +21,7 @@ use Rattle.av_flat.specs.Shown.{SameMeaning}
 use Rattle.av_flat.specs.Solutions.{shows_of, declares_of, Shows as ShowsFlat}
 use Rattle.av_flat.specs.Nodes.{is_node, number_at}
 use Rattle.av_flat.proofs.Cycles.{node_at, is_node_with}
-use Rattle.av_flat.proofs.Solving.{declared_from, declares, all_at}
+use Rattle.av_flat.proofs.Solving.{declared_from, declares}
 use Rattle.av_net.specs.declared.design.Entry.{Entry}
 use Rattle.av_net.specs.declared.design.Design.{Design}
 use Rattle.av_net.specs.declared.design.Listing.{Listing}
@@ -34,12 +34,12 @@ use Rattle.av_names.proofs.Declared.{declared_parts}
 use Rattle.av_space.specs.declared.cells.Cells.{Cells}
 use Rattle.av_space.specs.Listings.{AtLine, IsAtLine}
 use Rattle.av_space.proofs.ByPlace.{from_map, all_by_place, place_of}
-use Rattle.av_space.proofs.Elements.{some_is}
 use Rattle.av_build.specs.ArrayDesigns.{IsDesignOf, ShowsSolution}
 use Rattle.av_compile.specs.Scheduled.{HasOneSolutionEach}
 use Rattle.av_compile.specs.Mapped.{IsMapped}
 use Rattle.av_compile.specs.Headline.{IsListedOnce, Computes, Headline}
 use Rattle.av_compile.proofs.Meant.{meaning, inputs}
+use Rattle.av_base.proofs.Lists.{all_at, some_is}
 
 -- ---- kinds
 
@@ -64,7 +64,7 @@ module _ (bytes : List ℕ) (words : List Size) (width c : ℕ) (t : Timed) (a :
   own = view_system t.flat
 
   same : SameMeaning (shows_in (instance_of s words width)) (declares_in (instance_of s words width)) (shows_of own) (declares_of own)
-  same = meaning bytes words width own short wide h.pipelined.serialises s program
+  same = meaning bytes words width own short h.pipelined.serialises s program
 
   -- ---- every declared point is listed once
 
@@ -112,7 +112,7 @@ module _ (bytes : List ℕ) (words : List Size) (width c : ℕ) (t : Timed) (a :
 
   module _ (x u : Assignment) (p : text.AreInputs (instance_of s words width) x) (solves : text.IsSolution (instance_of s words width) x u) where
     shown : ShowsSolution t d x
-    shown = g.shows x (inputs bytes words width own short wide h.pipelined.serialises s program x p)
+    shown = g.shows x (inputs bytes words width own short h.pipelined.serialises s program wide x p)
 
     -- where the chained system's solution has a word, the text's has it
     agrees : (variable : Text) (z : Point) (w : ℕ) → IsTrue (flat.is_declared is_shown (signatures own) variable z) → shown.one.solution variable z ≡ Some w → u variable z ≡ Some w
@@ -136,7 +136,7 @@ module _ (bytes : List ℕ) (words : List Size) (width c : ℕ) (t : Timed) (a :
   computes : Computes (instance_of s words width) d
   computes = record {
     one_solution = λ x p. each s program x p;
-    presentable = λ x p. (g.shows x (inputs bytes words width own short wide h.pipelined.serialises s program x p)).presentable;
+    presentable = λ x p. (g.shows x (inputs bytes words width own short h.pipelined.serialises s program wide x p)).presentable;
     listed = listed;
     shows = shows;
   }

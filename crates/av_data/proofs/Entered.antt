@@ -18,7 +18,8 @@ use Rattle.av_data.specs.Reading.{first_part, is_empty}
 use Rattle.av_data.specs.Data.{IsInRange, word_of, is_filled_by}
 use Rattle.av_data.specs.inner.Sayings.{IsFar, Keeps}
 use Rattle.av_data.proofs.Parted.{end_is, end_of}
-use Rattle.av_data.proofs.Gathered.{any_front}
+use Rattle.av_depend.proofs.Listed.{has_false}
+use Rattle.av_base.proofs.Anys.{any_first}
 
 -- ---- answers
 
@@ -77,7 +78,7 @@ opposite_word width n least most =
 
 far_more : (z : Point) (x : ℤ) → IsFar z → IsFar (z ++ x ∷ [])
 far_more z x (inl h) = inl (let e = length-append z (x ∷ []) in omega (arith, h, e))
-far_more z x (inr h) = inr (any_front (λ y. 4095 < unsigned_abs y) z (x ∷ []) h)
+far_more z x (inr h) = inr (any_first (λ y. 4095 < unsigned_abs y) z (x ∷ []) h)
 
 pub kept_more : (kept z : Point) (far : Bool) (x : ℤ) → length kept < 4 → unsigned_abs x ≤ 4095 → Keeps kept far z → Keeps (kept ++ x ∷ []) far (z ++ x ∷ [])
 kept_more kept z far x room small k = record {
@@ -105,20 +106,13 @@ far_great kept z far x great k = now_far kept z far x (λ e. inr (Any-push (λ y
 pub none_kept : Keeps [] false []
 none_kept = record { near = λ e. (refl, omega arith, λ k d lt. absurd (omega (arith, lt))); beyond = λ e. absurd (true≢false (sym e)) }
 
-pub no_point : (set : Set) (y : Point) → (Has set y → ⊥) → has set y ≡ false
-no_point set y h = by (has set y) refl
-  where
-    by : (t : Bool) → has set y ≡ t → t ≡ false
-    by true e = absurd (h ((has_is set y).0 e))
-    by false e = refl
-
 -- a far point is in no set of small points
 pub far_outside : (set : Set) (y : Point) → set.dim ≤ 4 → ((z : Point) → Has set z → AtMost 4095 z) → IsFar y → has set y ≡ false
-far_outside set y few small far = no_point set y (λ h. by far h)
+far_outside set y few small far = has_false set y (λ h. by far h)
   where
     by : IsFar y → Has set y → ⊥
     by (inl long) h = let e = h.dimension in omega (arith, long, e, few)
     by (inr (k, x, lt, at, great)) h = let s = small y h k x lt in let t = subst (λ (v : ℤ). unsigned_abs v ≤ 4095) at s in omega (arith, great, t)
 
 pub long_outside : (set : Set) (kept y : Point) (far : Bool) → far ≡ false → (length kept ≡ set.dim → ⊥) → Keeps kept far y → has set y ≡ false
-long_outside set kept y far near other k = no_point set y (λ h. other (sym (ap length (k.near near).0) ∙ h.dimension))
+long_outside set kept y far near other k = has_false set y (λ h. other (sym (ap length (k.near near).0) ∙ h.dimension))

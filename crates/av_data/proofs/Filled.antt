@@ -11,8 +11,8 @@ use Rattle.av_data.specs.Inputs.{is_at, word_among}
 use Rattle.av_data.specs.Data.{is_filled_by}
 use Rattle.av_data.specs.inner.Sayings.{SaysOnly, Keeps}
 use Rattle.av_data.specs.inner.ReadData.{IsReadable, IsInputAt, HasRead, IsCause}
-use Rattle.av_data.proofs.Worded.{some_one}
 use Rattle.av_data.proofs.Gathered.{line_taken, fault_outside, fault_twice}
+use Rattle.av_base.proofs.Lists.{some_is}
 
 was_none : (o : Option ℕ) (t : Bool) → t ≡ true → t ≡ not (is_some o) → o ≡ None
 was_none None t e f = refl
@@ -24,7 +24,7 @@ was_some (Some w) t e f = refl
 
 module _ (s : FlatSystem) (r : IsReadable s) (ws : List ((ℕ × Point) × ℕ)) (k : ℕ) (line : List ℕ) (fill : is_filled_by (parts_of line) ≡ true) (name : Text) (kept : List ℤ) (far : Bool) (w : ℕ) (said : (z : Point) × Keeps kept far z × SaysOnly s.width line name z w) (p : ℕ) (u : Variable) (found : (v : Variable) × IsInputAt s name p v) (there : slice_get s.variables p ≡ Some u) where
   input_here : IsInputAt s name p u
-  input_here = subst (IsInputAt s name p) (some_one found.0 u (sym found.1.there ∙ there)) found.1
+  input_here = subst (IsInputAt s name p) (some_is found.0 u (sym found.1.there ∙ there)) found.1
 
   pub outside_cause : ((y : Point) → Keeps kept far y → has u.domain y ≡ false) → (lines : List (List ℕ)) → HasRead s lines ws → IsCause s lines k line (DataOutside k)
   outside_cause none lines was = fault_outside s r lines k line name said.0 w p u fill said.2 input_here (none said.0 said.1)

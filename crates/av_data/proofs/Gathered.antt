@@ -22,26 +22,13 @@ use Rattle.av_data.specs.Inputs.{is_at, is_point, word_among, word_at, words_of}
 use Rattle.av_data.specs.Data.{filled, is_filled_by, Gives, Tells, IsTold, AreSound, NamesInput}
 use Rattle.av_data.specs.inner.Sayings.{SaysOnly}
 use Rattle.av_data.specs.inner.ReadData.{IsReadable, names_in, IsInputAt, HasRead, IsCause}
-use Rattle.av_data.proofs.Spelled.{both, one_and}
 use Rattle.av_data.proofs.Lined.{at_place, no_place}
-use Rattle.av_data.proofs.Worded.{some_one, none_some}
+use Rattle.av_data.proofs.Worded.{none_some}
+use Rattle.av_base.proofs.Truths.{and_true, both}
+use Rattle.av_base.proofs.Anys.{any_cases, any_first}
+use Rattle.av_base.proofs.Lists.{some_is}
 
 -- ---- lists
-
-pub any_front : {X : Type 0} (P : X → Type 0) (xs ys : List X) → Any P xs → Any P (xs ++ ys)
-any_front P [] ys (k, x, lt, at, p) = absurd (omega (arith, lt))
-any_front P (y ∷ xs) ys (zero, x, lt, at, p) = (0, x, omega arith, at, p)
-any_front P (y ∷ xs) ys (suc k, x, lt, at, p) = let more = any_front P xs ys (k, x, omega (arith, lt), at, p) in (suc more.0, more.1, (let l = more.2 in omega (arith, l)), more.3, more.4)
-
-pub any_parts : {X : Type 0} (P : X → Type 0) (xs : List X) (y : X) → Any P (xs ++ y ∷ []) → Any P xs ⊎ P y
-any_parts P [] y (zero, x, lt, at, p) = inr (subst P (sym at) p)
-any_parts P [] y (suc k, x, lt, at, p) = absurd (omega (arith, lt))
-any_parts P (z ∷ xs) y (zero, x, lt, at, p) = inl (0, x, omega arith, at, p)
-any_parts P (z ∷ xs) y (suc k, x, lt, at, p) = by (any_parts P xs y (k, x, omega (arith, lt), at, p))
-  where
-    by : Any P xs ⊎ P y → Any P (z ∷ xs) ⊎ P y
-    by (inl more) = inl (suc more.0, more.1, (let l = more.2 in omega (arith, l)), more.3, more.4)
-    by (inr h) = inr h
 
 pub any_as : {X : Type 0} (P Q : X → Type 0) (xs : List X) → ((x : X) → P x → Q x) → Any P xs → Any Q xs
 any_as P Q xs f (k, x, lt, at, p) = (k, x, lt, at, f x p)
@@ -78,7 +65,7 @@ point_is (x ∷ xs) (y ∷ ys) h = let p = both (int_eq x y) (is_point xs ys) h 
 
 pub point_itself : (z : Point) → is_point z z ≡ true
 point_itself [] = refl
-point_itself (x ∷ xs) = one_and (int_eq x x) (is_point xs xs) ((Decides-int_eq x x).1 refl) (point_itself xs)
+point_itself (x ∷ xs) = and_true (int_eq x x) (is_point xs xs) ((Decides-int_eq x x).1 refl) (point_itself xs)
 
 -- ---- the place of a variable
 
@@ -106,7 +93,7 @@ module _ (s : FlatSystem) (r : IsReadable s) where
           r.names i j a lt (slice_get_within s.variables j b f) (ap name_in at ∙ same ∙ sym (ap name_in bt))
 
   pub one_variable : (p : ℕ) (u v : Variable) → slice_get s.variables p ≡ Some u → slice_get s.variables p ≡ Some v → u ≡ v
-  one_variable p u v e f = some_one u v (sym e ∙ f)
+  one_variable p u v e f = some_is u v (sym e ∙ f)
 
   -- the place of a name is where the variable of that name stands
   pub placed : (name : Text) (p : ℕ) (v : Variable) → slice_get s.variables p ≡ Some v → v.name ≡ name → position (bytes_eq name) (names_in s) ≡ Some p
@@ -124,7 +111,7 @@ module _ (s : FlatSystem) (r : IsReadable s) where
             where
               go : (o : Option Variable) → slice_get s.variables q ≡ o → named_of o ≡ Some name → q ≡ p
               go None h k = absurd (none_some k)
-              go (Some u) h k = one_place q p u v h e (some_one u.name name k ∙ sym named)
+              go (Some u) h k = one_place q p u v h e (some_is u.name name k ∙ sym named)
 
   pub input_of : (name : Text) → NamesInput s name → (p : ℕ) × (v : Variable) × IsInputAt s name p v
   input_of name (p, v, lt, at, (is, named)) = (p, v, record { there = slice_get-get_or s.variables p v lt ∙ ap (λ (u : Variable). Some u) at; is_input_one = is; named = named })
@@ -150,7 +137,7 @@ module _ (s : FlatSystem) (r : IsReadable s) where
   -- ---- the place of an input by its name
 
   named_at : (name : Text) (p : ℕ) (v : Variable) → position (bytes_eq name) (names_in s) ≡ Some p → slice_get s.variables p ≡ Some v → v.name ≡ name
-  named_at name p v e at = some_one v.name name (sym (slice_get-map name_in s.variables p ∙ ap named_of at) ∙ at_place (names_in s) name p e)
+  named_at name p v e at = some_is v.name name (sym (slice_get-map name_in s.variables p ∙ ap named_of at) ∙ at_place (names_in s) name p e)
 
   pub no_name : (name : Text) → position (bytes_eq name) (names_in s) ≡ None → NamesInput s name → ⊥
   no_name name e known = let (p, v, is) = input_of name known in none_some (sym e ∙ placed name p v is.there is.named)
@@ -158,7 +145,7 @@ module _ (s : FlatSystem) (r : IsReadable s) where
   pub no_input : (name : Text) (p : ℕ) (v : Variable) → position (bytes_eq name) (names_in s) ≡ Some p → slice_get s.variables p ≡ Some v → is_computed v.kind ≡ true → NamesInput s name → ⊥
   no_input name p v e at computed known =
       let (q, u, is) = input_of name known in
-      let same : q ≡ p = some_one q p (sym (placed name q u is.there is.named) ∙ e) in
+      let same : q ≡ p = some_is q p (sym (placed name q u is.there is.named) ∙ e) in
       let one : u ≡ v = one_variable p u v (subst (λ k. slice_get s.variables k ≡ Some u) same is.there) at in
       true≢false (sym computed ∙ ap not (subst (λ (w : Variable). is_input w.kind ≡ true) one is.is_input_one))
 
@@ -214,7 +201,7 @@ module _ (s : FlatSystem) (r : IsReadable s) where
     word_new : now ws' name point ≡ Some w
     word_new =
         word_named ws' name place v point is.there is.named ∙ h.more place point
-        ∙ ap (λ t. if t then Some w else word_among ws place point) (one_and (nat_eq place place) (is_point point point) (eq-eqb place place refl) (point_itself point))
+        ∙ ap (λ t. if t then Some w else word_among ws place point) (and_true (nat_eq place place) (is_point point point) (eq-eqb place place refl) (point_itself point))
 
     word_either : (n : Text) (z : Point) (u : ℕ) → now ws' n z ≡ Some u → (now ws n z ≡ Some u) ⊎ ((name ≡ n) × (point ≡ z) × (w ≡ u))
     word_either n z u e = by (position (bytes_eq n) (names_in s)) refl
@@ -229,7 +216,7 @@ module _ (s : FlatSystem) (r : IsReadable s) where
                 let same = same_place place point p z g in
                 let there : slice_get (names_in s) place ≡ Some n = subst (λ q. slice_get (names_in s) q ≡ Some n) (sym same.0) (at_place (names_in s) n p f) in
                 let own = at_place (names_in s) name place (placed name place v is.there is.named) in
-                inr (some_one name n (sym own ∙ there), same.1, some_one w u k)
+                inr (some_is name n (sym own ∙ there), same.1, some_is w u k)
 
     -- ---- one line more
 
@@ -256,13 +243,13 @@ module _ (s : FlatSystem) (r : IsReadable s) where
       given_from n z u e = by (word_either n z u e)
         where
           by : (now ws n z ≡ Some u) ⊎ ((name ≡ n) × (point ≡ z) × (w ≡ u)) → Any (Gives s n z u) (filled lines ++ line ∷ [])
-          by (inl old) = any_front (Gives s n z u) (filled lines) (line ∷ []) ((was.given n z u).0 old)
+          by (inl old) = any_first (Gives s n z u) (filled lines) (line ∷ []) ((was.given n z u).0 old)
           by (inr same) =
               let moved : Gives s n z u line = subst (λ m. Gives s m z u line) same.0 (subst (λ y. Gives s name y u line) same.1 (subst (λ x. Gives s name point x line) same.2 gives)) in
               Any-push (Gives s n z u) (filled lines) line moved
 
       given_to : (n : Text) (z : Point) (u : ℕ) → Any (Gives s n z u) (filled lines ++ line ∷ []) → now ws' n z ≡ Some u
-      given_to n z u some = by (any_parts (Gives s n z u) (filled lines) line some)
+      given_to n z u some = by (any_cases (Gives s n z u) (filled lines) line some)
         where
           by : Any (Gives s n z u) (filled lines) ⊎ Gives s n z u line → now ws' n z ≡ Some u
           by (inl old) = word_kept n z u ((was.given n z u).1 old)

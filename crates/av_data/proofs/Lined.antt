@@ -35,7 +35,7 @@ abbrev value_or : {A : Type 0} → A → Option A → A
 value_or x None = x
 value_or x (Some y) = y
 
-one_some : {A : Type 0} {x y : A} → Some x ≡ Some y → x ≡ y
+pub one_some : {A : Type 0} {x y : A} → Some x ≡ Some y → x ≡ y
 one_some {x = x} e = ap (value_or x) e
 
 -- ---- `cycles N`
@@ -134,7 +134,7 @@ no_place names name e (k, lt, at) = by (nat_lt (position_or_len (bytes_eq name) 
 contained_name : (inputs : List Port) (place : ℕ) (port : Port) → slice_get inputs place ≡ Some port → slice_get (names_of inputs) place ≡ Some port.name
 contained_name inputs place port e = slice_get-map name_in inputs place ∙ ap (option_map name_in) e
 
-name_there : (inputs : List Port) (place : ℕ) (port : Port) → slice_get inputs place ≡ Some port → Contains (names_of inputs) port.name
+pub name_there : (inputs : List Port) (place : ℕ) (port : Port) → slice_get inputs place ≡ Some port → Contains (names_of inputs) port.name
 name_there inputs place port e =
     let there = contained_name inputs place port e in
     (place, slice_get_within (names_of inputs) place port.name there, get_or_from_slice_get (names_of inputs) place port.name port.name there)

@@ -12,9 +12,9 @@ use Rattle.av_data.specs.inner.Walks.{IsNext, IsLast}
 use Rattle.av_flat.specs.Trees.{Variable, FlatSystem}
 use Rattle.av_flat.specs.Signatures.{is_input, is_computed}
 use Rattle.av_data.specs.inner.ReadData.{AreWhole, IsMissingAt}
-use Rattle.av_data.proofs.Worded.{some_one}
 use Rattle.av_data.proofs.OneData.{before_cases}
 use Rattle.av_data.proofs.Walked.{not_after, left_behind, fewer_none, fewer_left}
+use Rattle.av_base.proofs.Lists.{some_is}
 
 abbrev Words : Type 0
 Words = List ((ℕ × Point) × ℕ)
@@ -71,7 +71,7 @@ module _ (s : FlatSystem) (words : Words) where
         | inl less ↦ whole p u z less there input has
         | inr le ↦
             let same : p ≡ place = omega (arith, le, lt) in
-            let one : u ≡ v = some_one u v (sym (subst (λ q. slice_get s.variables q ≡ Some u) same there) ∙ at) in
+            let one : u ≡ v = some_is u v (sym (subst (λ q. slice_get s.variables q ≡ Some u) same there) ∙ at) in
             subst (λ q. IsSome (word_among words q z)) (sym same) (here (subst (λ (w : Variable). IsTrue (is_input w.kind)) one input) z (subst (λ (w : Variable). Has w.domain z) one has))
       ]
 

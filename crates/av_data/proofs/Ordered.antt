@@ -10,6 +10,7 @@ use Rattle.std.proofs.lemmas.Bool.{ltb-true, eqb-true}
 use Rattle.std.proofs.Common.{arith}
 use Rattle.av_data.specs.declared.stimulus.Given.{Given}
 use Rattle.av_data.specs.Kept.{entry_given, is_same, is_before, is_given, placed}
+use Rattle.av_base.proofs.Truths.{neither}
 
 abbrev Entry : Type 0
 Entry = (ℕ × ℕ) × ℕ
@@ -75,10 +76,6 @@ found_given (e ∷ es) g = go (is_eq (key_cmp (key_of g) e.0)) (is_same g (entry
     go false false e h = h
     go true false e h = absurd (true≢false e)
     go false true e h = absurd (true≢false (sym e))
-
-neither : (t u : Bool) → (t || u) ≡ false → (t ≡ false) × (u ≡ false)
-neither true u e = absurd (true≢false e)
-neither false u e = (refl, e)
 
 -- a new value goes to its place
 pub entry_placed : (es : List Entry) (g : Given) → is_given (map entry_given es) g ≡ false → map entry_given (insert_entry key_cmp es (key_of g) g.value) ≡ placed g (map entry_given es)

@@ -13,7 +13,7 @@ use Rattle.av_flat.specs.Signatures.{is_input}
 use Rattle.av_flat.specs.Kept.{IsKept}
 use Rattle.av_flat.specs.Chained.{IsChained}
 use Rattle.av_flat.proofs.Sets.{has_is}
-use Rattle.av_flat.proofs.Solving.{declared_from}
+use Rattle.av_flat.proofs.Solving.{declared_from, is_some, some_of}
 use Rattle.av_data.specs.declared.fault.DataFault.{DataFault}
 use Rattle.av_data.specs.declared.fault.DataFault.TheVariants.{DataSyntax, DataUnknown, DataOutside, DataTwice, DataMissing, Memory}
 use Rattle.av_data.specs.Lines.{data_lines}
@@ -21,9 +21,10 @@ use Rattle.av_data.specs.Inputs.{InputWords, word_among, words_of, AreInputsOf}
 use Rattle.av_data.specs.Data.{word_of, filled, Gives, Tells, IsTold, SpellsInputs, IsFirstMissing, IsInputFault, GivesInputs, RefusesInputs}
 use Rattle.av_data.specs.inner.ReadData.{IsReadable, names_in, HasRead, IsRefused, AreWhole, IsMissingAt, IsOutcome, TellsMissing}
 use Rattle.av_data.proofs.Told.{ok_err}
-use Rattle.av_data.proofs.Worded.{some_one, none_some}
+use Rattle.av_data.proofs.Worded.{none_some}
 use Rattle.av_data.proofs.Gathered.{any_as, word_named}
 use Rattle.av_data.proofs.OneData.{not_both, one_fault}
+use Rattle.av_base.proofs.Lists.{some_is}
 
 -- ---- what is needed of a system
 
@@ -48,13 +49,6 @@ readable s (inl k) = kept_readable s k
 readable s (inr k) = chained_readable s k
 
 -- ---- options
-
-some_of : (o : Option ℕ) → IsSome o → (w : ℕ) × (o ≡ Some w)
-some_of None h = absurd cc
-some_of (Some w) h = (w, refl)
-
-is_some : (o : Option ℕ) (w : ℕ) → o ≡ Some w → IsSome o
-is_some o w e = subst (λ (p : Option ℕ). IsSome p) (sym e) refl
 
 same_options : (a b : Option ℕ) → ((w : ℕ) → (a ≡ Some w) ↔ (b ≡ Some w)) → a ≡ b
 same_options None None h = refl
@@ -114,7 +108,7 @@ module _ (s : FlatSystem) (r : IsReadable s) (bytes : List ℕ) where
 
     split_at : (vs : List Variable) (place : ℕ) (v : Variable) → slice_get vs place ≡ Some v → vs ≡ take place vs ++ (v ∷ drop (suc place) vs)
     split_at [] place v e = absurd cc
-    split_at (u ∷ vs) zero v e = ap (λ w. w ∷ vs) (some_one u v e)
+    split_at (u ∷ vs) zero v e = ap (λ w. w ∷ vs) (some_is u v e)
     split_at (u ∷ vs) (suc place) v e = ap (λ ws. u ∷ ws) (split_at vs place v e)
 
     in_front : (vs : List Variable) (place k : ℕ) (d : Variable) → k < length (take place vs) → (k < place) × (slice_get vs k ≡ Some (get_or (take place vs) k d))
@@ -126,7 +120,7 @@ module _ (s : FlatSystem) (r : IsReadable s) (bytes : List ℕ) where
 
     pub missing_first : (place : ℕ) (z : Point) (v : Variable) → slice_get s.variables place ≡ Some v → IsMissingAt s words place z → IsFirstMissing s Lines v.name z
     missing_first place z v at is =
-        let same : is.variable ≡ v = some_one is.variable v (sym is.there ∙ at) in
+        let same : is.variable ≡ v = some_is is.variable v (sym is.there ∙ at) in
         record {
           sound = read.sound;
           before = take place s.variables;

@@ -12,9 +12,9 @@ use Rattle.av_data.specs.Data.{IsInRange, word_of}
 use Rattle.av_data.specs.inner.Parts.{pieces_of, piece_len, first_piece, after_piece}
 use Rattle.av_base.specs.Spelling.{is_name}
 use Rattle.av_data.specs.inner.Sayings.{whole_in, in_front, entries_behind, entries_in, Saying, said_value, said_behind, said_of, said_in, is_in_range, Keeps}
-use Rattle.av_data.proofs.Spelled.{both}
 use Rattle.av_data.proofs.Worded.{range_from, range_to}
 use Rattle.av_data.proofs.Pieced.{NoPiece, OnePiece, front, piece_is, end_is}
+use Rattle.av_base.proofs.Truths.{both}
 
 abbrev Found : Type 0
 Found = Point × List (List ℕ)

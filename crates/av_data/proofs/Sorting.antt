@@ -7,7 +7,7 @@ use Rattle.std.proofs.lemmas.List.Kept.{AllPairs-cons}
 use Rattle.av_data.specs.declared.stimulus.Given.{Given}
 use Rattle.av_data.specs.Stimuli.{IsSame, IsBefore}
 use Rattle.av_data.specs.Kept.{is_same, is_before, is_given, placed}
-use Rattle.av_data.proofs.Spelled.{both, one_and}
+use Rattle.av_base.proofs.Truths.{and_true, both, neither}
 
 -- ---- elements and pairs
 
@@ -24,10 +24,10 @@ contains_cases y xs x (suc i, lt, at) = inr (i, omega arith, at)
 contains_none : (x : Given) → Contains [] x → ⊥
 contains_none x (i, lt, at) = omega arith
 
-pairs_head : (x : Given) (xs : List Given) → AllPairs IsBefore (x ∷ xs) → All (IsBefore x) xs
+pub pairs_head : (x : Given) (xs : List Given) → AllPairs IsBefore (x ∷ xs) → All (IsBefore x) xs
 pairs_head x xs a = λ k d lt. a 0 (suc k) d (omega arith) (omega arith)
 
-pairs_tail : (x : Given) (xs : List Given) → AllPairs IsBefore (x ∷ xs) → AllPairs IsBefore xs
+pub pairs_tail : (x : Given) (xs : List Given) → AllPairs IsBefore (x ∷ xs) → AllPairs IsBefore xs
 pairs_tail x xs a = λ i j d lt within. a (suc i) (suc j) d (omega arith) (omega arith)
 
 -- what holds of each element holds of all
@@ -40,7 +40,7 @@ same_from : (g h : Given) → is_same g h ≡ true → IsSame g h
 same_from g h e = let z = both (nat_eq g.cycle h.cycle) (nat_eq g.port h.port) e in (eqb-true g.cycle h.cycle z.0, eqb-true g.port h.port z.1)
 
 same_to : (g h : Given) → IsSame g h → is_same g h ≡ true
-same_to g h e = one_and (nat_eq g.cycle h.cycle) (nat_eq g.port h.port) (eq-eqb g.cycle h.cycle e.0) (eq-eqb g.port h.port e.1)
+same_to g h e = and_true (nat_eq g.cycle h.cycle) (nat_eq g.port h.port) (eq-eqb g.cycle h.cycle e.0) (eq-eqb g.port h.port e.1)
 
 before_from : (g h : Given) → is_before g h ≡ true → IsBefore g h
 before_from g h e = by (nat_lt g.cycle h.cycle) refl e
@@ -81,10 +81,6 @@ before_differ g h (inr a) (inr b) = omega (arith, a.1, b.1)
 
 -- ---- a value put in its place
 
-split_any : (t u : Bool) → (t || u) ≡ false → (t ≡ false) × (u ≡ false)
-split_any true u e = absurd (true≢false e)
-split_any false u e = (refl, e)
-
 placed_all : (P : Given → Type 0) (g : Given) (values : List Given) → P g → All P values → All P (placed g values)
 placed_all P g [] p all = All-cons P g [] p all
 placed_all P g (h ∷ values) p all = by (is_before g h) (placed_all P g values p (All-tail P h values all))
@@ -96,7 +92,7 @@ placed_all P g (h ∷ values) p all = by (is_before g h) (placed_all P g values 
 placed_ascends : (g : Given) (values : List Given) → AllPairs IsBefore values → is_given values g ≡ false → AllPairs IsBefore (placed g values)
 placed_ascends g [] ascending none = AllPairs-cons IsBefore g [] (All-nil (IsBefore g)) ascending
 placed_ascends g (h ∷ values) ascending none =
-    let apart = split_any (is_same g h) (is_given values g) none in
+    let apart = neither (is_same g h) (is_given values g) none in
     by (is_before g h) refl apart.0 (placed_ascends g values (pairs_tail h values ascending) apart.1)
   where
     by : (t : Bool) → is_before g h ≡ t → is_same g h ≡ false → AllPairs IsBefore (placed g values) → AllPairs IsBefore (if t then g ∷ h ∷ values else h ∷ placed g values)
@@ -165,10 +161,10 @@ given_none values given g sorts e = all_of (λ h. IsSame g h → ⊥) given (λ 
   where
     none : (hs : List Given) → is_given hs g ≡ false → (h : Given) → Contains hs h → IsSame g h → ⊥
     none [] e h c same = contains_none h c
-    none (k ∷ hs) e h c same = let z = split_any (is_same g k) (is_given hs g) e in by (contains_cases k hs h c) (none hs z.1 h)
+    none (k ∷ hs) e h c same = let z = neither (is_same g k) (is_given hs g) e in by (contains_cases k hs h c) (none hs z.1 h)
       where
         by : (k ≡ h) ⊎ Contains hs h → (Contains hs h → IsSame g h → ⊥) → ⊥
-        by (inl is) ih = true≢false (sym (same_to g k (subst (IsSame g) (sym is) same)) ∙ (split_any (is_same g k) (is_given hs g) e).0)
+        by (inl is) ih = true≢false (sym (same_to g k (subst (IsSame g) (sym is) same)) ∙ (neither (is_same g k) (is_given hs g) e).0)
         by (inr later) ih = ih later same
 
 pub none_given : (values given : List Given) (g : Given) → Sorts values given → All (λ h. IsSame g h → ⊥) given → is_given values g ≡ false

@@ -18,14 +18,7 @@ use Rattle.av_base.proofs.Spelled.{all_word, word_all}
 use Rattle.av_data.specs.Lines.{separated}
 use Rattle.av_data.specs.Reading.{first_part, after_part, is_empty, are_digits, cycles_digits, Setting, setting_in}
 use Rattle.av_data.proofs.Parted.{part_is, end_is, part_of, end_of}
-
-pub both : (a b : Bool) → (a && b) ≡ true → (a ≡ true) × (b ≡ true)
-both true true e = (refl, refl)
-both true false e = absurd (true≢false (sym e))
-both false b e = absurd (true≢false (sym e))
-
-pub one_and : (a b : Bool) → a ≡ true → b ≡ true → (a && b) ≡ true
-one_and a b e f = rw (e, f) refl
+use Rattle.av_base.proofs.Truths.{and_true, both}
 
 some_if : {A : Type 0} (t : Bool) (x y : A) → (if t then Some x else None) ≡ Some y → (t ≡ true) × (x ≡ y)
 some_if {A = A} true x y e = (refl, (by e))
@@ -69,7 +62,7 @@ some_bytes n = by (nat_lt 0 (suc n)) refl
 pub digits_to : (text : List ℕ) → IsDigits text → are_digits text ≡ true
 digits_to [] h = absurd h
 digits_to (b ∷ bytes) h =
-    one_and (nat_lt 0 (length (b ∷ bytes))) (nat_eq (prefix_len is_ascii_digit (b ∷ bytes)) (length (b ∷ bytes))) (some_bytes (length bytes))
+    and_true (nat_lt 0 (length (b ∷ bytes))) (nat_eq (prefix_len is_ascii_digit (b ∷ bytes)) (length (b ∷ bytes))) (some_bytes (length bytes))
     (pass_all is_ascii_digit (b ∷ bytes) (All-cons (λ x. IsTrue (is_ascii_digit x)) b bytes h.0 h.1))
 
 identifier_from : (text : List ℕ) → is_identifier text ≡ true → IsIdentifier text
@@ -78,7 +71,7 @@ identifier_from (b ∷ bytes) h = let z = both (begins_name b) (list_all is_word
 
 identifier_to : (text : List ℕ) → IsIdentifier text → is_identifier text ≡ true
 identifier_to [] h = absurd h
-identifier_to (b ∷ bytes) h = one_and (begins_name b) (list_all is_word_byte bytes) h.0 (word_all bytes (recursion_from_All (λ x. IsTrue (is_word_byte x)) bytes h.1))
+identifier_to (b ∷ bytes) h = and_true (begins_name b) (list_all is_word_byte bytes) h.0 (word_all bytes (recursion_from_All (λ x. IsTrue (is_word_byte x)) bytes h.1))
 
 pub not_true : (t : Bool) → not t ≡ true → t ≡ true → ⊥
 not_true t e f = true≢false (sym e ∙ ap not f)
@@ -94,7 +87,7 @@ name_from text h =
 
 pub name_to : (text : List ℕ) → IsName text → is_name text ≡ true
 name_to text h =
-    one_and (is_identifier text) (not (is_reserved text)) (identifier_to text h.0)
+    and_true (is_identifier text) (not (is_reserved text)) (identifier_to text h.0)
     (is_false (is_reserved text) (λ found. h.1 (Contains-from_any (λ x y e. (bytes_eq-Decides x y).0 e) text reserved_words found)))
 
 -- ---- `cycles N`

@@ -14,8 +14,8 @@ use Rattle.std.proofs.lemmas.Int.{ints}
 use Rattle.av_tree.specs.Points.{Point}
 use Rattle.av_data.specs.Inputs.{is_point, is_at, word_among}
 use Rattle.av_data.proofs.Ordered.{Compared, compared, less, equal, greater}
-use Rattle.av_data.proofs.Spelled.{both, one_and}
 use Rattle.av_data.proofs.Gathered.{point_is, point_itself}
+use Rattle.av_base.proofs.Truths.{and_true, both}
 
 -- ---- equal keys
 
@@ -66,7 +66,7 @@ equal_points [] (y ∷ ys) e = absurd (true≢false (sym (ap is_eq e)))
 equal_points (x ∷ xs) [] e = absurd (true≢false (sym (ap is_eq e)))
 equal_points (x ∷ xs) (y ∷ ys) e =
     let p = both_equal (int_cmp x y) (slice_cmp int_cmp xs ys) e in
-    subst (λ (w : ℤ). is_point (x ∷ xs) (w ∷ ys) ≡ true) (equal_ints x y p.0) (one_and (int_eq x x) (is_point xs ys) (same_entry x) (equal_points xs ys p.1))
+    subst (λ (w : ℤ). is_point (x ∷ xs) (w ∷ ys) ≡ true) (equal_ints x y p.0) (and_true (int_eq x x) (is_point xs ys) (same_entry x) (equal_points xs ys p.1))
   where
     same_entry : (x : ℤ) → int_eq x x ≡ true
     same_entry x = (Decides-int_eq x x).1 refl
@@ -107,7 +107,7 @@ same_at : (q : ℕ) (z : Point) (p : ℕ) (y : Point) → is_at q z p y ≡ true
 same_at q z p y h = let t = both (nat_eq q p) (is_point z y) h in (eqb-true q p t.0, point_is z y t.1)
 
 at_itself : (p : ℕ) (y : Point) → is_at p y p y ≡ true
-at_itself p y = one_and (nat_eq p p) (is_point y y) (eq-eqb p p refl) (point_itself y)
+at_itself p y = and_true (nat_eq p p) (is_point y y) (eq-eqb p p refl) (point_itself y)
 
 -- a key is found where the place and the entries are the same
 pub found_at : (p : ℕ) (y : Point) (q : ℕ) (z : Point) → is_eq (key_cmp p y q z) ≡ is_at q z p y

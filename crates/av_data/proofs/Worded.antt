@@ -19,8 +19,10 @@ use Rattle.av_data.specs.inner.Parts.{is_joined, pieces_of}
 use Rattle.av_data.specs.inner.Sayings.{signed_value, digits_in, whole_in, is_in_range, in_front, entries_behind, entries_in, Saying, said_value, said_behind, said_of, said_in, SaysOnly}
 use Rattle.av_base.specs.Spelling.{is_name}
 use Rattle.av_base.proofs.Spelled.{name_is, name_gives}
-use Rattle.av_data.proofs.Spelled.{both, one_and, digits_from, digits_to}
+use Rattle.av_data.proofs.Spelled.{digits_from, digits_to}
 use Rattle.av_data.proofs.Pieced.{IsRun, Stops, AreApart, spread_pieces, spread_are}
+use Rattle.av_base.proofs.Truths.{and_true, both}
+use Rattle.av_base.proofs.Lists.{some_is}
 
 -- ---- bytes that are joined
 
@@ -89,9 +91,6 @@ abbrev is_there : {A : Type 0} → Option A → Bool
 is_there (Some y) = true
 is_there None = false
 
-pub some_one : {A : Type 0} (x y : A) → Some x ≡ Some y → x ≡ y
-some_one x y e = ap (value_or x) e
-
 pub none_some : {A : Type 0} {x : A} → None ≡ Some x → ⊥
 none_some e = true≢false (sym (ap is_there e))
 
@@ -99,7 +98,7 @@ digits_spelled : (negative : Bool) (digits : List ℕ) (x : ℤ) → digits_in n
 digits_spelled negative digits x h = by (are_digits digits) refl h
   where
     by : (t : Bool) → are_digits digits ≡ t → (if t then Some (signed_value negative digits) else None) ≡ Some x → IsDigits digits × (x ≡ signed_value negative digits)
-    by true e f = (digits_from digits e, sym (some_one (signed_value negative digits) x f))
+    by true e f = (digits_from digits e, sym (some_is (signed_value negative digits) x f))
     by false e f = absurd (none_some f)
 
 whole_spelled : (text : List ℕ) (x : ℤ) → whole_in text ≡ Some x → SpellsWhole text x
@@ -127,7 +126,7 @@ range_from width x h =
 
 pub range_to : (width : ℕ) (x : ℤ) → IsInRange width x → is_in_range width x ≡ true
 range_to width x h =
-    one_and (int_le (neg_ℤ (pos (2 ^ (width - 1)))) x) (int_lt x (pos (2 ^ width))) (is_at_most (neg_ℤ (pos (2 ^ (width - 1)))) x h.0) (is_below x (pos (2 ^ width)) h.1)
+    and_true (int_le (neg_ℤ (pos (2 ^ (width - 1)))) x) (int_lt x (pos (2 ^ width))) (is_at_most (neg_ℤ (pos (2 ^ (width - 1)))) x h.0) (is_below x (pos (2 ^ width)) h.1)
 
 -- ---- entries
 
@@ -172,21 +171,21 @@ front_found u found f h = by (whole_in u) found refl refl h
     by : (a : Option ℤ) (b : Option Found) → whole_in u ≡ a → found ≡ b → in_front a b ≡ Some f → (x : ℤ) × (g : Found) × (whole_in u ≡ Some x) × (found ≡ Some g) × (f ≡ (x ∷ g.0, g.1))
     by None b p q k = absurd (none_some k)
     by (Some x) None p q k = absurd (none_some k)
-    by (Some x) (Some g) p q k = (x, g, p, q, sym (some_one (x ∷ g.0, g.1) f k))
+    by (Some x) (Some g) p q k = (x, g, p, q, sym (some_is (x ∷ g.0, g.1) f k))
 
 behind_found : (parts : List (List ℕ)) (f : Found) → entries_behind parts ≡ Some f → AreRead behind_commas parts f.0 f.1
 behind_found [] f h = absurd (none_some h)
 behind_found (t ∷ []) f h = by (bytes_eq t (codes ")")) refl h
   where
     by : (b : Bool) → bytes_eq t (codes ")") ≡ b → (if b then Some ([], []) else None) ≡ Some f → AreRead behind_commas (t ∷ []) f.0 f.1
-    by true e k = subst (λ (g : Found). AreRead behind_commas (t ∷ []) g.0 g.1) (some_one ([], []) f k) (none_behind t e)
+    by true e k = subst (λ (g : Found). AreRead behind_commas (t ∷ []) g.0 g.1) (some_is ([], []) f k) (none_behind t e)
     by false e k = absurd (none_some k)
 behind_found (t ∷ u ∷ parts) f h = by (bytes_eq t (codes ")")) (bytes_eq t (codes ",")) refl refl h (λ g. behind_found parts g)
   where
     by : (b c : Bool) → bytes_eq t (codes ")") ≡ b → bytes_eq t (codes ",") ≡ c → (if b then Some ([], u ∷ parts) else (if c then in_front (whole_in u) (entries_behind parts) else None)) ≡ Some f
         → ((g : Found) → entries_behind parts ≡ Some g → AreRead behind_commas parts g.0 g.1) → AreRead behind_commas (t ∷ u ∷ parts) f.0 f.1
     by true c e d k ih =
-        subst (λ (g : Found). AreRead behind_commas (t ∷ u ∷ parts) g.0 g.1) (some_one ([], u ∷ parts) f k)
+        subst (λ (g : Found). AreRead behind_commas (t ∷ u ∷ parts) g.0 g.1) (some_is ([], u ∷ parts) f k)
         (record { texts = []; are = ap (λ v. v ∷ u ∷ parts) ((bytes_eq-Decides t (codes ")")).0 e); spelled = tt })
     by false true e d k ih =
         let (x, g, w, same, is) = front_found u (entries_behind parts) f k in
@@ -205,7 +204,7 @@ entries_found (t ∷ parts) f h = by (bytes_eq t (codes ")")) refl h
   where
     by : (b : Bool) → bytes_eq t (codes ")") ≡ b → (if b then Some ([], parts) else in_front (whole_in t) (entries_behind parts)) ≡ Some f → AreRead with_commas (t ∷ parts) f.0 f.1
     by true e k =
-        subst (λ (g : Found). AreRead with_commas (t ∷ parts) g.0 g.1) (some_one ([], parts) f k)
+        subst (λ (g : Found). AreRead with_commas (t ∷ parts) g.0 g.1) (some_is ([], parts) f k)
         (record { texts = []; are = ap (λ v. v ∷ parts) ((bytes_eq-Decides t (codes ")")).0 e); spelled = tt })
     by false e k =
         let (x, g, w, same, is) = front_found t (entries_behind parts) f k in
@@ -254,7 +253,7 @@ value_found width name z (Some x) r h = by (is_in_range width x) refl h
   where
     by : (t : Bool) → is_in_range width x ≡ t → (if t then Some (record { name = name; point = z; word = word_of width x }) else None) ≡ Some r
         → (y : ℤ) × (Some x ≡ Some y) × IsInRange width y × (r ≡ record { name = name; point = z; word = word_of width y })
-    by true e k = (x, refl, range_from width x e, sym (some_one (record { name = name; point = z; word = word_of width x }) r k))
+    by true e k = (x, refl, range_from width x e, sym (some_is (record { name = name; point = z; word = word_of width x }) r k))
     by false e k = absurd (none_some k)
 
 -- what is read of parts
@@ -335,7 +334,7 @@ pub read_only : (width : ℕ) (line : List ℕ) (r : Saying) → said_in width (
 read_only width line r h = record {
   says = read_says width line r h;
   only = λ n y u s.
-      let same : record { name = n; point = y; word = u } ≡ r = some_one (record { name = n; point = y; word = u }) r (sym (says_read width line n y u s) ∙ h) in
+      let same : record { name = n; point = y; word = u } ≡ r = some_is (record { name = n; point = y; word = u }) r (sym (says_read width line n y u s) ∙ h) in
       (ap (λ (q : Saying). q.name) same, ap (λ (q : Saying). q.point) same, ap (λ (q : Saying). q.word) same);
 }
 
@@ -345,5 +344,5 @@ read_none width line h name z w s = none_some (sym h ∙ says_read width line na
 -- a line says one thing
 pub says_one : (width : ℕ) (line name other : List ℕ) (z y : Point) (w u : ℕ) → Says width line name z w → Says width line other y u → (name ≡ other) × (z ≡ y) × (w ≡ u)
 says_one width line name other z y w u s t =
-    let same : record { name = name; point = z; word = w } ≡ record { name = other; point = y; word = u } = some_one (record { name = name; point = z; word = w }) (record { name = other; point = y; word = u }) (sym (says_read width line name z w s) ∙ says_read width line other y u t) in
+    let same : record { name = name; point = z; word = w } ≡ record { name = other; point = y; word = u } = some_is (record { name = name; point = z; word = w }) (record { name = other; point = y; word = u }) (sym (says_read width line name z w s) ∙ says_read width line other y u t) in
     (ap (λ (q : Saying). q.name) same, ap (λ (q : Saying). q.point) same, ap (λ (q : Saying). q.word) same)

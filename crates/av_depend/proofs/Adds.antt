@@ -18,7 +18,6 @@ use Rattle.av_flat.specs.Trees.{Variable, FlatSystem, view_variable}
 use Rattle.av_flat.specs.Signatures.{is_computed}
 use Rattle.av_flat.proofs.Sets.{has_is}
 use Rattle.av_flat.specs.Points.{has}
-use Rattle.av_flat.proofs.Solving.{by_test}
 use Rattle.av_depend.specs.declared.edge.Edge.{Edge}
 use Rattle.av_depend.specs.ComputedPlaces.{computed_at}
 use Rattle.av_depend.specs.Sites.{Site, both, HasPair, sites_of, sites_from}
@@ -31,6 +30,7 @@ use Rattle.av_depend.specs.inner.Adding.{IsComputedAt, HasAdded, site_at}
 use Rattle.av_base.proofs.Among.{first_among, more_among, among_cases, none_among}
 use Rattle.av_depend.proofs.Covering.{has_both, both_have}
 use Rattle.av_elim.proofs.Boxes.{small_between}
+use Rattle.av_base.proofs.Truths.{by_test}
 
 -- ---- edges one behind the other
 

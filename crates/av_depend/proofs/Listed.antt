@@ -12,12 +12,13 @@ use Rattle.av_poly.proofs.Searching.{later, follow_rest, follow_first, follows_n
 use Rattle.av_tree.specs.Points.{Point}
 use Rattle.av_flat.specs.Points.{has}
 use Rattle.av_flat.proofs.Sets.{has_is}
-use Rattle.av_flat.proofs.Solving.{by_test}
 use Rattle.av_flat.specs.Order.{IsBefore}
 use Rattle.av_depend.specs.AllPoints.{AreAllPoints}
 use Rattle.av_depend.specs.inner.Listing.{AreListed, HasListed}
 use Rattle.av_base.proofs.Among.{first_among, more_among, among_cases, none_among}
 use Rattle.av_depend.proofs.Mirrors.{take_more}
+use Rattle.av_base.proofs.Truths.{by_test}
+use Rattle.av_base.proofs.Lists.{pairs_rest}
 
 -- ---- joined lists in order
 
@@ -32,9 +33,6 @@ pairs_first R x xs h p zero (suc j) d l m = h (get_or xs j d) (j, omega (arith, 
 pairs_first R x xs h p (suc i) zero d l m = absurd (omega (arith, l))
 pairs_first R x xs h p (suc i) (suc j) d l m = p i j d (omega (arith, l)) (omega (arith, m))
 
-pairs_left : {X : Type 0} (R : X → X → Type 0) (x : X) (xs : List X) → AllPairs R (x ∷ xs) → AllPairs R xs
-pairs_left R x xs p i j d l m = p (suc i) (suc j) d (omega (arith, l)) (omega (arith, m))
-
 pairs_of : {X : Type 0} (R : X → X → Type 0) (x y : X) (xs : List X) → AllPairs R (x ∷ xs) → Contains xs y → R x y
 pairs_of R x y xs p (k, l, e) = subst (R x) e (p 0 (suc k) y (omega arith) (omega (arith, l)))
 
@@ -42,7 +40,7 @@ pub pairs_joined : {X : Type 0} (R : X → X → Type 0) (xs ys : List X) → Al
 pairs_joined R [] ys p q h = q
 pairs_joined R (x ∷ xs) ys p q h = pairs_first R x (xs ++ ys)
     (λ y c. ⊎_elim (λ a. pairs_of R x y xs p a) (λ b. h x y (first_among x xs) b) (Contains-append_cases xs ys y c))
-    (pairs_joined R xs ys (pairs_left R x xs p) q (λ z y a b. h z y (more_among x z xs a) b))
+    (pairs_joined R xs ys (pairs_rest R x xs p) q (λ z y a b. h z y (more_among x z xs a) b))
 
 before_behind : (fixed xs ys : Point) → IsBefore xs ys → IsBefore (fixed ++ xs) (fixed ++ ys)
 before_behind [] xs ys h = h

@@ -15,6 +15,7 @@ use Rattle.av_depend.specs.AllPoints.{AreAllPoints}
 use Rattle.av_depend.specs.inner.Generating.{mirrored, HasMirrored, AreGeneratorsTo}
 use Rattle.av_base.proofs.Among.{last_among}
 use Rattle.av_depend.proofs.Generators.{before_chain, before_itself}
+use Rattle.av_base.proofs.Lists.{same_default, take_whole}
 
 -- ---- midpoints and mirror images
 
@@ -63,15 +64,10 @@ one_earlier (x ∷ xs) (y ∷ ys) (z ∷ zs) h n =
 
 -- ---- places in ascending lists
 
-pub same_there : {X : Type 0} (xs : List X) (k : ℕ) (d e : X) → k < length xs → get_or xs k d ≡ get_or xs k e
-same_there [] k d e h = absurd (omega (arith, h))
-same_there (x ∷ xs) zero d e h = refl
-same_there (x ∷ xs) (suc k) d e h = same_there xs k d e (omega (arith, h))
-
 -- an earlier point stands before
 pub stands_before : (points : List Point) (x : Point) (k : ℕ) → AllPairs IsBefore points → k < length points → Contains points x → IsBefore x (get_or points k []) → (j : ℕ) × (j < k) × (get_or points j [] ≡ x)
 stands_before points x k up l (j, m, e) b =
-    let at : get_or points j [] ≡ x = same_there points j [] x m ∙ e in
+    let at : get_or points j [] ≡ x = same_default points j [] x m ∙ e in
     ⊎_elim
     (λ less. (j, less, at))
     (λ more. ⊎_elim
@@ -124,12 +120,6 @@ pub mirrored_more : (z x entries : Point) (k : ℕ) (y : ℤ) → length x ≡ l
     → entries ++ y ∷ [] ≡ take (k + 1) (mirrored z x)
 mirrored_more z x entries k y e l f g = rw (add-one, f, g) (sym (mirrored_next z x k e l))
 
-pub take_whole : {X : Type 0} (xs : List X) (i : ℕ) → length xs ≤ i → take i xs ≡ xs
-take_whole [] zero l = refl
-take_whole [] (suc i) l = refl
-take_whole (x ∷ xs) zero l = absurd (omega (arith, l))
-take_whole (x ∷ xs) (suc i) l = ap (λ ys. x ∷ ys) (take_whole xs i (omega (arith, l)))
-
 pub take_more : {X : Type 0} (xs : List X) (i : ℕ) (d : X) → i < length xs → take (i + 1) xs ≡ take i xs ++ get_or xs i d ∷ []
 take_more xs i d l = rw add-one (go xs i d l)
   where
@@ -152,7 +142,7 @@ first_before : (points : List Point) (k : ℕ) (z : Point) → AllPairs IsBefore
 first_before points k z up l (i, m, e) =
     let t = taken_at points k i z m in
     let own : i < length points = (let q = t.0 in omega (arith, q, l)) in
-    subst (λ (y : Point). IsBefore y (get_or points k [])) (same_there points i [] z own ∙ sym t.1 ∙ e) (up i k [] t.0 l)
+    subst (λ (y : Point). IsBefore y (get_or points k [])) (same_default points i [] z own ∙ sym t.1 ∙ e) (up i k [] t.0 l)
 
 module _ (set : Set) (points : List Point) (all : AreAllPoints set points) (k : ℕ) (l : k < length points) where
   pub listed_skip : (list : List Point) → HasMirrored set points k → AreGeneratorsTo set points k list → AreGeneratorsTo set points (k + 1) list

@@ -19,7 +19,7 @@ use Rattle.av_elim.specs.inner.Clamped.{clamp}
 
 -- ---- normalised rows keep their limits
 
-divided_within : (dim : ℕ) (row new : Form) → IsDivided dim row new → IsWithinLimits row → IsWithinLimits new
+pub divided_within : (dim : ℕ) (row new : Form) → IsDivided dim row new → IsWithinLimits row → IsWithinLimits new
 divided_within dim row new s h = record {
   coefficients = subst (AtMost 1024) (sym s.coef) (divided_most (counted dim row.coef) s.divisor 1024 s.positive s.gcd (counted_most 1024 dim row.coef h.coefficients));
   constant = rw s.constant (constant_most row.constant s.divisor (2 ^ 20) s.positive h.constant);

@@ -12,10 +12,7 @@ use Rattle.av_poly.specs.declared.poly.Bounds.{Bounds}
 use Rattle.av_poly.specs.Rational.{homogeneous, Satisfies, entry_of, IsRationalPoint, HasRationalPoint, AreBounds}
 use Rattle.av_poly.proofs.Rationals.{point_within_bounds}
 use Rattle.av_elim.proofs.Reaching.{zeros}
-
-dot_none : (xs : List ℤ) → dot xs [] ≡ pos 0
-dot_none [] = refl
-dot_none (x ∷ xs) = refl
+use Rattle.av_affine.proofs.Composing.{dot_none}
 
 satisfied : (rows : List Form) → AllByRecursion (λ row. pos 0 ≤ℤ row.constant) rows → Satisfies (homogeneous rows) (pos 1 ∷ [])
 satisfied [] h = tt

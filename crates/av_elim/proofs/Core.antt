@@ -4,10 +4,7 @@ use Rattle.std.proofs.lemmas.Int.{ints, by_lt_z}
 use Rattle.std.specs.List.{AllByRecursion}
 use Rattle.av_affine.proofs.Ring.{times_neg, neg_times}
 use Rattle.av_affine.proofs.Order.{product_nonneg, over_trans}
-
-pub weaker : {X : Type 0} (P Q : X → Type 0) → ((x : X) → P x → Q x) → (xs : List X) → AllByRecursion P xs → AllByRecursion Q xs
-weaker P Q f [] h = tt
-weaker P Q f (x ∷ xs) h = (f x h.0, weaker P Q f xs h.1)
+use Rattle.av_base.proofs.Lists.{each_weaker}
 
 pub both : {X : Type 0} (P Q R : X → Type 0) → ((x : X) → P x → Q x → R x) → (xs : List X) → AllByRecursion P xs → AllByRecursion Q xs → AllByRecursion R xs
 both P Q R f [] h k = tt
@@ -22,13 +19,13 @@ module _ {X : Type 0} (a b : X → ℤ) where
   best Q [] h = inl tt
   best Q (x ∷ rows) h = by_lt_z (pos 0) (a x)
       (λ up. ⊎_elim
-      (λ none. inr (x, h.0, up, ((λ _. omega (arith, ints)), weaker (λ r. a r ≤ℤ pos 0) (Above x) (λ r low high. absurd (omega (arith, ints))) rows none)))
+      (λ none. inr (x, h.0, up, ((λ _. omega (arith, ints)), each_weaker (λ r. a r ≤ℤ pos 0) (Above x) (λ r low high. absurd (omega (arith, ints))) rows none)))
       (λ found.
       let p = found.0 in
       let low = found.2 in
       by_lt_z (a x *ℤ b p -ℤ a p *ℤ b x) (pos 0)
       (λ over. inr (p, found.1, low, ((λ _. omega (arith, ints)), found.3)))
-      (λ under. inr (x, h.0, up, ((λ _. omega (arith, ints)), weaker (Above p) (Above x) (λ r f high. over_trans (a x) (b x) (a p) (b p) (a r) (b r) up low high under (f high)) rows found.3))))
+      (λ under. inr (x, h.0, up, ((λ _. omega (arith, ints)), each_weaker (Above p) (Above x) (λ r f high. over_trans (a x) (b x) (a p) (b p) (a r) (b r) up low high under (f high)) rows found.3))))
       (best Q rows h.1))
       (λ low. ⊎_elim
       (λ none. inl (low, none))

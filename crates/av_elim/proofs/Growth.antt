@@ -7,10 +7,10 @@ use Rattle.std.proofs.lemmas.Int.{ints, unsigned_abs-mul}
 use Rattle.std.specs.List.{AllByRecursion}
 use Rattle.av_affine.proofs.Ring.{ring}
 use Rattle.av_elim.proofs.Steps.{split}
-use Rattle.av_elim.proofs.Merging.{all_append}
 use Rattle.av_elim.proofs.Lift.{factor_combine}
 use Rattle.av_elim.specs.inner.Rows.{factor, Clear, Small}
 use Rattle.av_elim.specs.inner.Step.{pairs_of, all_pairs, flats, combination, eliminated}
+use Rattle.av_base.proofs.Lists.{each_append}
 
 -- what rows without k and combinations have, each row out has
 module _ (P Q : List ℤ → Type 0) (k : ℕ) (flat : (r : List ℤ) → P r → factor k r ≡ pos 0 → Q r)
@@ -30,11 +30,11 @@ module _ (P Q : List ℤ → Type 0) (k : ℕ) (flat : (r : List ℤ) → P r �
   all_all : (ps rows : List (List ℤ)) → AllByRecursion P ps → AllByRecursion P rows → AllByRecursion Q (all_pairs k ps rows)
   all_all [] rows hp h = tt
   all_all (p ∷ ps) rows hp h = split (λ t. AllByRecursion Q (cond t (pairs_of k p rows ++ all_pairs k ps rows) (all_pairs k ps rows))) (int_lt (pos 0) (factor k p))
-      (λ e. all_append Q (pairs_of k p rows) (all_pairs k ps rows) (pairs_all p rows hp.0 h) (all_all ps rows hp.1 h))
+      (λ e. each_append Q (pairs_of k p rows) (all_pairs k ps rows) (pairs_all p rows hp.0 h) (all_all ps rows hp.1 h))
       (λ e. all_all ps rows hp.1 h)
 
   pub eliminated_all : (rows : List (List ℤ)) → AllByRecursion P rows → AllByRecursion Q (eliminated k rows)
-  eliminated_all rows h = all_append Q (flats k rows) (all_pairs k rows rows) (flats_all rows h) (all_all rows rows h h)
+  eliminated_all rows h = each_append Q (flats k rows) (all_pairs k rows rows) (flats_all rows h) (all_all rows rows h h)
 
 every : {X : Type 0} (xs : List X) → AllByRecursion (λ (x : X). Unit {0}) xs
 every [] = tt

@@ -3,10 +3,11 @@ use Rattle.std.proofs.Common.{◌≡◌, ℕ, zero, suc, ◌<◌, arith, ℤ, po
 use Rattle.std.proofs.Math.ListN.{set}
 use Rattle.std.proofs.lemmas.Int.{ints}
 use Rattle.av_affine.proofs.Ring.{ring, cube}
-use Rattle.av_elim.proofs.Core.{core, Flat, Pairs, weaker}
+use Rattle.av_elim.proofs.Core.{core, Flat, Pairs}
 use Rattle.av_affine.specs.Numbers.{dot}
 use Rattle.av_poly.specs.Rational.{Satisfies}
 use Rattle.av_elim.specs.inner.Rows.{scale, combine, factor}
+use Rattle.av_base.proofs.Lists.{each_weaker}
 
 -- the entry at k apart from the rest
 pub dot_set : (r v : List ℤ) (k : ℕ) (t : ℤ) → k < length v → dot r (set v k t) ≡ factor k r *ℤ t +ℤ dot r (set v k (pos 0))
@@ -45,7 +46,7 @@ complete rows v k h flat pairs =
       s,
       t,
       c.2,
-      weaker (λ r. pos 0 ≤ℤ (factor k r *ℤ t +ℤ s *ℤ dot r (set v k (pos 0)))) (λ r. pos 0 ≤ℤ dot r (set (scale s v) k t))
+      each_weaker (λ r. pos 0 ≤ℤ (factor k r *ℤ t +ℤ s *ℤ dot r (set v k (pos 0)))) (λ r. pos 0 ≤ℤ dot r (set (scale s v) k t))
           (λ r x. subst (λ (z : ℤ). pos 0 ≤ℤ z) (sym (dot_set r (scale s v) k t (omega (arith, length_scale s v)) ∙ ap (λ z. factor k r *ℤ t +ℤ z) (ap (dot r) (set_scale v k s) ∙ dot_scale r (set v k (pos 0)) s))) x) rows c.3,
     )
 

@@ -20,18 +20,7 @@ use Rattle.av_affine.proofs.Dots.{entry_most}
 use Rattle.av_poly.specs.Rational.{homogeneous}
 use Rattle.av_elim.specs.inner.Rows.{line, scale, combine, factor, Small, IsReduced, StandsFor}
 use Rattle.av_elim.proofs.Lift.{dot_scale', factor_scale}
-
-pub all_append : {X : Type 0} (Q : X → Type 0) (xs ys : List X) → AllByRecursion Q xs → AllByRecursion Q ys → AllByRecursion Q (xs ++ ys)
-all_append Q [] ys h k = k
-all_append Q (x ∷ xs) ys h k = (h.0, all_append Q xs ys h.1 k)
-
-pub all_left : {X : Type 0} (Q : X → Type 0) (xs ys : List X) → AllByRecursion Q (xs ++ ys) → AllByRecursion Q xs
-all_left Q [] ys h = tt
-all_left Q (x ∷ xs) ys h = (h.0, all_left Q xs ys h.1)
-
-pub all_right : {X : Type 0} (Q : X → Type 0) (xs ys : List X) → AllByRecursion Q (xs ++ ys) → AllByRecursion Q ys
-all_right Q [] ys h = h
-all_right Q (x ∷ xs) ys h = all_right Q xs ys h.1
+use Rattle.av_base.proofs.Lists.{each_append, each_first, each_second}
 
 pub stands_same : (rows : List (List ℤ)) → StandsFor rows rows
 stands_same rows = record { kept = λ v o h. h; back = λ v o h. h; small = λ b h. h; clear = λ j h. h }
@@ -47,19 +36,19 @@ stands_after a b c s t = record {
 -- with the same rows behind both
 pub stands_before : (a b zs : List (List ℤ)) → StandsFor a b → StandsFor (a ++ zs) (b ++ zs)
 stands_before a b zs s = record {
-  kept = λ v o h. all_append (λ r. pos 0 ≤ℤ dot r v) b zs (s.kept v o (all_left (λ r. pos 0 ≤ℤ dot r v) a zs h)) (all_right (λ r. pos 0 ≤ℤ dot r v) a zs h);
-  back = λ v o h. all_append (λ r. pos 0 ≤ℤ dot r v) a zs (s.back v o (all_left (λ r. pos 0 ≤ℤ dot r v) b zs h)) (all_right (λ r. pos 0 ≤ℤ dot r v) b zs h);
-  small = λ n h. all_append (Small n) b zs (s.small n (all_left (Small n) a zs h)) (all_right (Small n) a zs h);
-  clear = λ j h. all_append (λ r. factor j r ≡ pos 0) b zs (s.clear j (all_left (λ r. factor j r ≡ pos 0) a zs h)) (all_right (λ r. factor j r ≡ pos 0) a zs h);
+  kept = λ v o h. each_append (λ r. pos 0 ≤ℤ dot r v) b zs (s.kept v o (each_first (λ r. pos 0 ≤ℤ dot r v) a zs h)) (each_second (λ r. pos 0 ≤ℤ dot r v) a zs h);
+  back = λ v o h. each_append (λ r. pos 0 ≤ℤ dot r v) a zs (s.back v o (each_first (λ r. pos 0 ≤ℤ dot r v) b zs h)) (each_second (λ r. pos 0 ≤ℤ dot r v) b zs h);
+  small = λ n h. each_append (Small n) b zs (s.small n (each_first (Small n) a zs h)) (each_second (Small n) a zs h);
+  clear = λ j h. each_append (λ r. factor j r ≡ pos 0) b zs (s.clear j (each_first (λ r. factor j r ≡ pos 0) a zs h)) (each_second (λ r. factor j r ≡ pos 0) a zs h);
 }
 
 -- with the same rows before both
 pub stands_behind : (zs a b : List (List ℤ)) → StandsFor a b → StandsFor (zs ++ a) (zs ++ b)
 stands_behind zs a b s = record {
-  kept = λ v o h. all_append (λ r. pos 0 ≤ℤ dot r v) zs b (all_left (λ r. pos 0 ≤ℤ dot r v) zs a h) (s.kept v o (all_right (λ r. pos 0 ≤ℤ dot r v) zs a h));
-  back = λ v o h. all_append (λ r. pos 0 ≤ℤ dot r v) zs a (all_left (λ r. pos 0 ≤ℤ dot r v) zs b h) (s.back v o (all_right (λ r. pos 0 ≤ℤ dot r v) zs b h));
-  small = λ n h. all_append (Small n) zs b (all_left (Small n) zs a h) (s.small n (all_right (Small n) zs a h));
-  clear = λ j h. all_append (λ r. factor j r ≡ pos 0) zs b (all_left (λ r. factor j r ≡ pos 0) zs a h) (s.clear j (all_right (λ r. factor j r ≡ pos 0) zs a h));
+  kept = λ v o h. each_append (λ r. pos 0 ≤ℤ dot r v) zs b (each_first (λ r. pos 0 ≤ℤ dot r v) zs a h) (s.kept v o (each_second (λ r. pos 0 ≤ℤ dot r v) zs a h));
+  back = λ v o h. each_append (λ r. pos 0 ≤ℤ dot r v) zs a (each_first (λ r. pos 0 ≤ℤ dot r v) zs b h) (s.back v o (each_second (λ r. pos 0 ≤ℤ dot r v) zs b h));
+  small = λ n h. each_append (Small n) zs b (each_first (Small n) zs a h) (s.small n (each_second (Small n) zs a h));
+  clear = λ j h. each_append (λ r. factor j r ≡ pos 0) zs b (each_first (λ r. factor j r ≡ pos 0) zs a h) (s.clear j (each_second (λ r. factor j r ≡ pos 0) zs a h));
 }
 
 -- ---- a row divided by a common factor of its numbers
@@ -156,12 +145,12 @@ weakened a b (m ∷ y) e l o h =
 
 module _ (rows : List Form) (k : ℕ) (d row : Form) (l : k < length rows) (e : (get_or rows k d).coef ≡ row.coef) where
   at : (Q : List ℤ → Type 0) → AllByRecursion Q (homogeneous rows ++ line row ∷ []) → AllByRecursion Q (homogeneous rows) × Q (line row)
-  at Q h = (all_left Q (homogeneous rows) (line row ∷ []) h, (all_right Q (homogeneous rows) (line row ∷ []) h).0)
+  at Q h = (each_first Q (homogeneous rows) (line row ∷ []) h, (each_second Q (homogeneous rows) (line row ∷ []) h).0)
 
   pub stands_stronger : (get_or rows k d).constant ≤ℤ row.constant → StandsFor (homogeneous rows ++ line row ∷ []) (homogeneous rows)
   stands_stronger o = record {
     kept = λ v p h. (at (λ r. pos 0 ≤ℤ dot r v) h).0;
-    back = λ v p h. all_append (λ r. pos 0 ≤ℤ dot r v) (homogeneous rows) (line row ∷ []) h (weakened (get_or rows k d) row v e o p (all_get (λ r. pos 0 ≤ℤ dot r v) rows k d l h), tt);
+    back = λ v p h. each_append (λ r. pos 0 ≤ℤ dot r v) (homogeneous rows) (line row ∷ []) h (weakened (get_or rows k d) row v e o p (all_get (λ r. pos 0 ≤ℤ dot r v) rows k d l h), tt);
     small = λ b h. (at (Small b) h).0;
     clear = λ j h. (at (λ r. factor j r ≡ pos 0) h).0;
   }
@@ -171,7 +160,7 @@ module _ (rows : List Form) (k : ℕ) (d row : Form) (l : k < length rows) (e : 
     kept = λ v p h. let a = at (λ r. pos 0 ≤ℤ dot r v) h in all_set (λ r. pos 0 ≤ℤ dot r v) rows k row a.0 a.1;
     back = λ v p h.
         let q = all_here (λ r. pos 0 ≤ℤ dot r v) rows k row l h in
-        all_append (λ r. pos 0 ≤ℤ dot r v) (homogeneous rows) (line row ∷ []) (all_unset (λ r. pos 0 ≤ℤ dot r v) rows k row d l h (weakened row (get_or rows k d) v (sym e) o p q)) (q, tt);
+        each_append (λ r. pos 0 ≤ℤ dot r v) (homogeneous rows) (line row ∷ []) (all_unset (λ r. pos 0 ≤ℤ dot r v) rows k row d l h (weakened row (get_or rows k d) v (sym e) o p q)) (q, tt);
     small = λ b h. let a = at (Small b) h in all_set (Small b) rows k row a.0 a.1;
     clear = λ j h. let a = at (λ r. factor j r ≡ pos 0) h in all_set (λ r. factor j r ≡ pos 0) rows k row a.0 a.1;
   }

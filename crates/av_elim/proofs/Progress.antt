@@ -8,11 +8,11 @@ use Rattle.av_affine.specs.Forms.{IsWithinLimits}
 use Rattle.av_poly.specs.Rational.{homogeneous}
 use Rattle.av_elim.specs.inner.Rows.{line, Small, Shadow, Clear, StandsFor}
 use Rattle.av_elim.specs.inner.Step.{eliminated, growth}
-use Rattle.av_elim.proofs.Core.{weaker}
 use Rattle.av_elim.proofs.Steps.{projects_by}
 use Rattle.av_elim.proofs.Growth.{clear_here, clear_kept, small_eliminated}
 use Rattle.av_elim.proofs.Merging.{larger, small_within}
 use Rattle.av_elim.proofs.Shadows.{shadow_none, shadow_more}
+use Rattle.av_base.proofs.Lists.{each_weaker}
 
 -- the indices below j are eliminated, but for the one that is asked for
 pub record Progress (index : ℕ) (rows : List (List ℤ)) (j : ℕ) (out : List (List ℤ)) : Type 0 where
@@ -74,7 +74,7 @@ module _ (index last j : ℕ) (rows : List (List ℤ)) (out : List Form) (a : in
   few = once_at_most index last j p.steps a b n l m p.before p.after
 
   pub ready : All (λ r. Small (2 ^ 21) (line r)) out
-  ready = all_lines (Small (2 ^ 21)) out (weaker (Small (growth p.steps)) (Small (2 ^ 21)) (λ r s. larger (growth p.steps) (2 ^ 21) r (grown_once p.steps few) s) (homogeneous out) p.small)
+  ready = all_lines (Small (2 ^ 21)) out (each_weaker (Small (growth p.steps)) (Small (2 ^ 21)) (λ r s. larger (growth p.steps) (2 ^ 21) r (grown_once p.steps few) s) (homogeneous out) p.small)
 
   pub next : (new : List (List ℤ)) → StandsFor (eliminated (suc j) (homogeneous out)) new → Progress index rows (j + 1) new
   next new s = record {
@@ -100,4 +100,4 @@ module _ (index last j : ℕ) (rows : List (List ℤ)) (out : List Form) (a : in
   pub small_left : All (λ r. Small (2 ^ 43) (line r)) out
   small_left =
       let few = twice_at_most index last p.steps a b n (λ k. p.before (omega arith) ∙ e) (λ k. p.after (omega arith) ∙ e) in
-      all_lines (Small (2 ^ 43)) out (weaker (Small (growth p.steps)) (Small (2 ^ 43)) (λ r s. larger (growth p.steps) (2 ^ 43) r (grown_twice p.steps few) s) (homogeneous out) p.small)
+      all_lines (Small (2 ^ 43)) out (each_weaker (Small (growth p.steps)) (Small (2 ^ 43)) (λ r s. larger (growth p.steps) (2 ^ 43) r (grown_twice p.steps few) s) (homogeneous out) p.small)

@@ -7,6 +7,7 @@ use Rattle.av_elim.specs.declared.span.Span.{Span}
 use Rattle.av_elim.specs.inner.Span.{Tells}
 use Rattle.av_elim.specs.inner.Rows.{factor}
 use Rattle.av_elim.proofs.Answering.{bounded, spans, no_whole}
+use Rattle.av_base.proofs.Truths.{not_false, not_true}
 
 -- what stands after some indices
 pub record Reached (dim : ℕ) (rows : List (List ℤ)) (i : ℕ) (void : Bool) (low high : List ℤ) : Type 0 where
@@ -78,11 +79,3 @@ module _ (dim i : ℕ) (rows : List Form) (void : Bool) (low high : List ℤ) (s
     spans = λ j l. r.spans e j (omega arith);
     rest = λ j l. r.rest j (omega arith);
   }
-
-pub was_true : (b : Bool) → not b ≡ false → b ≡ true
-was_true true e = refl
-was_true false e = sym e
-
-pub was_false : (b : Bool) → not b ≡ true → b ≡ false
-was_false true e = sym e
-was_false false e = refl

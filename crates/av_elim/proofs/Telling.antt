@@ -4,7 +4,6 @@ use Rattle.std.proofs.Math.ListN.{set, replicate, length-replicate}
 use Rattle.std.proofs.lemmas.Int.{ints}
 use Rattle.av_affine.proofs.Ring.{ring, cube}
 use Rattle.av_affine.proofs.Order.{nonneg_by}
-use Rattle.av_elim.proofs.Core.{weaker}
 use Rattle.av_elim.proofs.Shadows.{dot_two, shadow_none, shadow_more}
 use Rattle.av_elim.proofs.Merging.{stands_same}
 use Rattle.av_elim.proofs.Steps.{projects}
@@ -15,6 +14,7 @@ use Rattle.av_elim.specs.inner.Span.{Tells, scanned, whole}
 use Rattle.av_elim.proofs.Reading.{Fits, AllFit, in_all, out_all, near_all, ways_all, all_ways}
 use Rattle.av_poly.specs.Rational.{Satisfies, IsRationalPoint, IsDirection, IsWithinBounds}
 use Rattle.av_elim.specs.inner.Rows.{factor, Shadow, Clear}
+use Rattle.av_base.proofs.Lists.{each_weaker}
 
 fits_of : (v : List ℤ) (k : ℕ) (out : List (List ℤ)) → 0 < k → k < length v → ((j : ℕ) → 0 < j → j ≢ k → j < length v → Clear j out) → Satisfies out v → AllFit k (factor 0 v) (factor k v) out
 fits_of v k [] i l c h = tt
@@ -51,7 +51,7 @@ module _ (dim i n : ℕ) (rows out : List (List ℤ)) (within : i < dim) (few : 
         let m = b.0 in
         let y = b.1 in
         in_all (suc i) out _ x (record { flat = refl; low = tt; high = tt })
-        (weaker (λ r. Fits (factor (suc i) r) (factor 0 r) m (x *ℤ m)) (λ r. Fits (factor (suc i) r) (factor 0 r) (pos 1) x) (λ r h. unscaled (factor 0 r) (factor (suc i) r) m x b.2.positive h) out
+        (each_weaker (λ r. Fits (factor (suc i) r) (factor 0 r) m (x *ℤ m)) (λ r. Fits (factor (suc i) r) (factor 0 r) (pos 1) x) (λ r h. unscaled (factor 0 r) (factor (suc i) r) m x b.2.positive h) out
         (subst (λ z. AllFit (suc i) m z out) b.3 (fit m y b.2)));
     outof = λ x h.
         let v = pos 1 ∷ set (replicate dim (pos 0)) i x in

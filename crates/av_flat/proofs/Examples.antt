@@ -172,7 +172,7 @@ not_in_set = refl
 not_declared : at_fibre (pos 1) (negsuc 0) ≡ 0
 not_declared = refl
 
-both_are : (b : Bool) (n : ℕ) → (if b then n else 0) ≡ 1 → IsTrue b × (n ≡ 1)
+pub both_are : (b : Bool) (n : ℕ) → (if b then n else 0) ≡ 1 → IsTrue b × (n ≡ 1)
 both_are true n e = (refl, e)
 both_are false n e = absurd cc
 

@@ -3,7 +3,7 @@ pub mod Words
 pub mod Views
 pub mod Parts
 pub mod PieceValues
-mod Examples
+pub mod Examples
 mod WellFormedSystem
 mod PieceExamples
 pub mod Evaluated
@@ -11,3 +11,6 @@ pub mod Solving
 pub mod Cycles
 pub mod Chaining
 pub mod Unhelped
+pub mod Bounded
+pub mod Falling
+pub mod DeclaredPoints

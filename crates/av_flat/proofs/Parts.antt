@@ -55,7 +55,7 @@ to_third a b c d = mul_assoc (a * b) c d ∙ mul_left_comm (a * b) c d
 to_second : (a b c d : ℕ) → c * (a * b * d) ≡ b * (a * (c * d))
 to_second a b c d = ap (λ x. c * x) (mul_assoc a b d) ∙ mul_left_comm c a (b * d) ∙ ap (λ x. a * x) (mul_left_comm c b d) ∙ mul_left_comm a b (c * d)
 
-in_order : (a b c d : ℕ) → a * (b * (c * d)) ≡ a * b * c * d
+pub in_order : (a b c d : ℕ) → a * (b * (c * d)) ≡ a * b * c * d
 in_order a b c d = sym (mul_assoc (a * b) c d ∙ mul_assoc a b (c * d))
 
 module _ (z : Point) (f : Tree → Tree → Tree → Tree → Tree) (rs ss : List Part) where
@@ -107,7 +107,7 @@ begun : (ds : List Map) (z : Point) → Chain ds z → length z ≤ 4
 begun [] z h = h
 begun (d ∷ ds) z h = begun ds z h.2
 
-composed_from : (m : Map) (ds : List Map) (z : Point) → m.from ≡ length (reach ds z) → Chain ds z → (composed m ds).from ≡ length z
+pub composed_from : (m : Map) (ds : List Map) (z : Point) → m.from ≡ length (reach ds z) → Chain ds z → (composed m ds).from ≡ length z
 composed_from m [] z e h = e
 composed_from m (d ∷ ds) z e h = composed_from (composition m d) ds z h.0 h.2
 

@@ -27,6 +27,8 @@ use Rattle.av_flat.specs.Pieces.{Part, part, rows_under, in_pairs, in_fours, fir
 use Rattle.av_flat.proofs.Sets.{both_true, both_hold}
 use Rattle.av_flat.proofs.Words.{value_counted}
 use Rattle.av_flat.proofs.Parts.{reach, Chain, length_parts, pieces_at, composed_image, pieces_at_all, declared_where, under_at, fitting}
+use Rattle.av_flat.proofs.Examples.{both_are}
+use Rattle.av_tree.proofs.Words.{product_one}
 
 -- ---- parts that hold
 
@@ -78,10 +80,7 @@ all_spread : (P Q : Part → Type 0) (g : Part → List Part) → ((p : Part) �
 all_spread P Q g f [] h = tt
 all_spread P Q g f (p ∷ ps) h = all_append Q (g p) (flat_map g ps) (f p h.0) (all_spread P Q g f ps h.1)
 
-one_by_one : (a b : ℕ) → a ≡ 1 → b ≡ 1 → a * b ≡ 1
-one_by_one a b p q = rw (p, q) refl
-
-if_here : (b : Bool) → IsTrue b → ◌≡◌ {A = ℕ} (if b then 1 else 0) 1
+pub if_here : (b : Bool) → IsTrue b → ◌≡◌ {A = ℕ} (if b then 1 else 0) 1
 if_here b h = rw h refl
 
 mutual
@@ -92,7 +91,7 @@ mutual
   single_at vs ds (binary g l r) z h f =
       all_spread (IsSingle vs z) (IsSingle vs z) (λ p. map (λ q. part (p.rows ++ q.rows) (binary g p.tree q.tree)) (parts vs ds r))
       (λ p single. all_map (IsSingle vs z) (IsSingle vs z) (λ q. part (p.rows ++ q.rows) (binary g p.tree q.tree))
-      (λ q other k. let both = both_holding z p.rows q.rows k in one_by_one _ _ (single both.0) (other both.1))
+      (λ q other k. let both = both_holding z p.rows q.rows k in product_one _ _ (single both.0) (other both.1))
       (parts vs ds r) (single_at vs ds r z h f.1))
       (parts vs ds l) (single_at vs ds l z h f.0)
   single_at vs ds (choice l c r x y) z h f =
@@ -104,7 +103,7 @@ mutual
       let last = both_holding z (p.rows ++ q.rows ++ a.rows) b.rows k in
       let third = both_holding z (p.rows ++ q.rows) a.rows last.0 in
       let second = both_holding z p.rows q.rows third.0 in
-      one_by_one _ _ (one_by_one _ _ (one_by_one _ _ (at_p second.0) (at_q second.1)) (at_a third.1)) (at_b last.1))
+      product_one _ _ (product_one _ _ (product_one _ _ (at_p second.0) (at_q second.1)) (at_a third.1)) (at_b last.1))
       (parts vs ds y) (single_at vs ds y z h f.3))
       (parts vs ds x) (single_at vs ds x z h f.2))
       (parts vs ds r) (single_at vs ds r z h f.1))
@@ -125,11 +124,11 @@ mutual
 -- ---- bodies of reductions
 
 -- without a case there is one piece
-caseless : (t : Tree) → EachPart (λ u. is_case u ≡ false) t → piece_count t ≡ 1
+pub caseless : (t : Tree) → EachPart (λ u. is_case u ≡ false) t → piece_count t ≡ 1
 caseless (reference place m) h = refl
 caseless (constant n) h = refl
-caseless (binary g l r) h = one_by_one _ _ (caseless l h.1) (caseless r h.2)
-caseless (choice l c r x y) h = one_by_one _ _ (one_by_one _ _ (one_by_one _ _ (caseless l h.1) (caseless r h.2)) (caseless x h.3)) (caseless y h.4)
+caseless (binary g l r) h = product_one _ _ (caseless l h.1) (caseless r h.2)
+caseless (choice l c r x y) h = product_one _ _ (product_one _ _ (product_one _ _ (caseless l h.1) (caseless r h.2)) (caseless x h.3)) (caseless y h.4)
 caseless (restriction d t) h = caseless t h.1
 caseless (cases ts) h = absurd (let e = h.0 in cc)
 caseless (dependence m t) h = caseless t h.1
@@ -219,15 +218,11 @@ NoReduction t = EachPart (λ u. is_reduction u ≡ false) t
 abbrev NoReductionIn : Trees → Type 0
 NoReductionIn ts = EachPartOfAll (λ u. is_reduction u ≡ false) ts
 
-over_length : (m : Map) (z : Point) (k : ℤ) → length (point_over m z k) ≡ m.from
+pub over_length : (m : Map) (z : Point) (k : ℤ) → length (point_over m z k) ≡ m.from
 over_length m z k = length-map-range_with_len (entry_over m.rows z k) 0 m.from
 
 abbrev NoPick : Tree → Type 0
 NoPick t = EachPart (λ u. is_pick u ≡ false) t
-
-both_are : (b : Bool) (n : ℕ) → (if b then n else 0) ≡ 1 → IsTrue b × (n ≡ 1)
-both_are true n e = (refl, e)
-both_are false n e = absurd cc
 
 module _ (s : Scene) (m : Map) (t : Tree) (set : Set) (z : Point) (f : Fits s.variables (length z) (reduction op.Add m t set)) (one : piece_count t ≡ 1) where
   abbrev part_of_body : Part

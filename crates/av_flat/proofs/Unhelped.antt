@@ -15,6 +15,7 @@ use Rattle.av_flat.specs.Shown.{SameMeaning}
 use Rattle.av_flat.specs.Solutions.{scene, Satisfies, IsSolution, shows_of, declares_of}
 use Rattle.av_flat.specs.Broadcasts.{references}
 use Rattle.av_flat.specs.Helped.{PointWords, HelperWords, HasRead, HasHelped, IsOfPiece, helped_at, HelpedSatisfies, IsHelpedSolution, helped_shows_of}
+use Rattle.av_base.proofs.Lists.{each_at, each_by_place}
 
 unhelped_tree : (s : Scene) (n : ℕ) (t : Tree) (z : Point) (w : ℕ) → HasValue s t z w ↔ HasHelped s (λ i. None) n t z w
 unhelped_tree s n (reference place m) z w = ((λ p. p), (λ p. p))
@@ -49,15 +50,6 @@ satisfied s u g place v z = (
   (λ h. (h.0, h.1, (h.2, (unhelped_pieces (scene s u v) g place 0 v.pieces z h.0).1 h.3))),
 )
 
-all_at : {X : Type 0} (P : X → Type 0) (xs : List X) (i : ℕ) (x : X) → AllByRecursion P xs → slice_get xs i ≡ Some x → P x
-all_at P [] i x h e = absurd cc
-all_at P (y ∷ xs) zero x h e = let same : y ≡ x = cc in subst (λ k. P k) same h.0
-all_at P (y ∷ xs) (suc i) x h e = all_at P xs i x h.1 e
-
-from_places : {X : Type 0} (P : X → Type 0) (xs : List X) → ((i : ℕ) (x : X) → slice_get xs i ≡ Some x → P x) → AllByRecursion P xs
-from_places P [] h = tt
-from_places P (x ∷ xs) h = (h 0 x refl, from_places P xs (λ i y e. h (suc i) y e))
-
 pub helped : (s : FlatSystem) (x u : Assignment) (g : HelperWords) → IsSolution s x u → IsHelpedSolution s [] x u (λ j z. None)
 helped s x u g p = record {
   declared = p.declared;
@@ -65,7 +57,7 @@ helped s x u g p = record {
   inputs = p.inputs;
   equations = λ place v e c z here.
       (satisfied s u (λ j y. None) place v z).0
-      (all_at (λ y. IsTrue (is_computed y.kind) → (k : Point) → IsTrue (has y.domain k) → Satisfies s u y k) s.variables place v
+      (each_at (λ y. IsTrue (is_computed y.kind) → (k : Point) → IsTrue (has y.domain k) → Satisfies s u y k) s.variables place v
       (recursion_from_All (λ y. IsTrue (is_computed y.kind) → (k : Point) → IsTrue (has y.domain k) → Satisfies s u y k) s.variables p.equations) e c z here);
   helpers = λ j h e. absurd cc;
   others = λ j l z. refl;
@@ -77,7 +69,7 @@ unhelped s x u g p = record {
   words = p.words;
   inputs = p.inputs;
   equations = All-from_recursion (λ v. IsTrue (is_computed v.kind) → (z : Point) → IsTrue (has v.domain z) → Satisfies s u v z) s.variables
-      (from_places (λ v. IsTrue (is_computed v.kind) → (z : Point) → IsTrue (has v.domain z) → Satisfies s u v z) s.variables
+      (each_by_place (λ v. IsTrue (is_computed v.kind) → (z : Point) → IsTrue (has v.domain z) → Satisfies s u v z) s.variables
       (λ place v e c z here. (satisfied s u g place v z).1 (p.equations place v e c z here)));
 }
 

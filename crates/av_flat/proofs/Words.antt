@@ -3,19 +3,13 @@ use Rattle.std.proofs.Common.{◌≡◌, ℕ, ◌+◌, ◌*◌, ◌≤◌, Bool,
 use Rattle.av_affine.specs.Maps.{image}
 use Rattle.av_tree.specs.Points.{Point}
 use Rattle.av_tree.proofs.Fibres.{IsOnce, folded_once}
-use Rattle.av_tree.proofs.Words.{combined_once, chosen_once}
+use Rattle.av_tree.proofs.Words.{combined_once, chosen_once, if_true, product_one, too_many}
 use Rattle.av_flat.specs.Trees.{Tree, Trees, reference, constant, binary, choice, restriction, cases, dependence, reduction, pick, none, more}
 use Rattle.av_flat.specs.Points.{point_over}
 use Rattle.av_flat.specs.Counts.{count, count_all}
 use Rattle.av_flat.specs.Values.{Scene, HasValue, IsOfBranch, IsWordAt, HasPicked, picked}
 
 -- ---- a word only where the count is 1
-
-if_true : (b : Bool) (n : ℕ) → IsTrue b → n ≡ 1 → (if b then n else 0) ≡ 1
-if_true b n h e = grind arith
-
-product_one : (a b : ℕ) → a ≡ 1 → b ≡ 1 → a * b ≡ 1
-product_one a b p q = rw (p, q) refl
 
 pub value_counted : (s : Scene) (t : Tree) (z : Point) (w : ℕ) → HasValue s t z w → count s.variables t z ≡ 1
 value_counted s (reference place m) z w p = if_true _ _ p.declared refl
@@ -37,9 +31,6 @@ branch_counted : (s : Scene) (ts : Trees) (z : Point) (w : ℕ) → IsOfBranch s
 branch_counted s none z w p = absurd p
 branch_counted s (more t ts) z w (inl p) = let h = value_counted s t z w p in omega arith
 branch_counted s (more t ts) z w (inr p) = let h = branch_counted s ts z w p in omega arith
-
-too_many : (m n : ℕ) → m ≡ 1 → 1 ≤ n → m + n ≤ 1 → ⊥
-too_many m n p q r = omega arith
 
 word_once : (s : Scene) (place : ℕ) (z : Point) → IsOnce (IsWordAt s place z)
 word_once s place z a b p q = let e = p.has in let h = q.has in cc

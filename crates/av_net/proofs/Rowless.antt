@@ -27,6 +27,7 @@ use Rattle.av_net.specs.Grammar.{Text, Declaration, wire, register, Item, drive,
 use Rattle.av_net.specs.Rows.{wires_of, registers_in, drives_of, steps_of, module_of, declared_port, declared_names, target_of, operands_of, is_in, first_from, first_some, first_repeated, Among, wrong_operand, wrong_in_text, is_early, first_early, suits_width, suits}
 use Rattle.av_net.specs.Designs.{HasNoRow}
 use Rattle.av_net.proofs.Distinct.{apart, front_distinct, rest_distinct, cons_distinct, append_distinct}
+use Rattle.av_base.proofs.Truths.{both}
 
 -- ---- names in lists
 
@@ -280,11 +281,6 @@ each_fails p (x ∷ xs) e = go (p x) refl e (each_fails p xs)
     go : (t : Bool) → p x ≡ t → cond (not t) (Some x) (find (λ y. not (p y)) xs) ≡ None → (find (λ y. not (p y)) xs ≡ None → AllByRecursion (λ y. p y ≡ true) xs) → (p x ≡ true) × AllByRecursion (λ y. p y ≡ true) xs
     go true g e ih = (g, ih e)
     go false g e ih = absurd cc
-
-both : (a b : Bool) → (a && b) ≡ true → (a ≡ true) × (b ≡ true)
-both true true e = (refl, refl)
-both true false e = absurd cc
-both false b e = absurd cc
 
 -- a fact on each operand of a list is one on each operand of the operation
 each_operand : (P : Operand → Type 0) (o : Operation) → AllByRecursion P (operands_of o) → EachOperand P o

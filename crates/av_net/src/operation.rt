@@ -1,4 +1,7 @@
-use av_base::{Name, Width};
+ghost use Rattle.std.specs.Prelude.{◌≡◌, IfOk};
+
+use av_base::{Memory, Name, Width};
+use std::alloc::Global;
 
 /// The binary operators `+ - * & | == != < <= > >=`, in this order.
 #[derive(Clone, Copy, Debug, PartialEq, Eq)]
@@ -23,6 +26,21 @@ pub enum Operand {
     Name(Name),
     /// A constant word of a width, as `8'd255`.
     Literal { width: Width, value: u64 },
+}
+
+impl Operand {
+    /// The same operand, in memory of its own.
+    pub fn copied(&self, alloc: Global) -> Result<Operand, Memory>
+        ensures { IfOk result (λ copy. copy ≡ self.now) }
+    {
+        match self {
+            Operand::Name(name) => Ok(Operand::Name(Name::new(alloc, name.as_str())?)),
+            Operand::Literal { width, value } => Ok(Operand::Literal {
+                width: *width,
+                value: *value,
+            }),
+        }
+    }
 }
 
 /// The right side of an `assign`.

@@ -9,7 +9,7 @@ use Rattle.av_normal.specs.declared.fault.NormalFault.{NormalFault}
 use Rattle.av_normal.specs.Searches.{IsNarrow, IsWideOne, IsWide}
 use Rattle.av_normal.specs.inner.UnderMaps.{LeadsTo, AreChained, IsUnder}
 use Rattle.av_normal.proofs.Searching.{wide_here, wide_after}
-use Rattle.av_normal.proofs.Dropping.{next_item}
+use Rattle.av_base.proofs.Lists.{next_item}
 
 -- the next of the outer maps stands in front of the others
 pub next_of : (own : Map) (under : List Map) (whole : Map) (i : ℕ) (d : Map) → i < length under → d ≡ get_or under i d → IsUnder own under whole (drop i under) → IsUnder own under whole (d ∷ drop (i + 1) under)

@@ -19,8 +19,9 @@ use Rattle.av_flat.specs.WellFormed.{Fits, FitAll, Leads, EachPart, EachPartOfAl
 use Rattle.av_flat.specs.Quantities.{piece_count, steps, steps_under, composed_maps, composed_maps_of_all}
 use Rattle.av_flat.specs.Pieces.{Part, part, rows_of, composed, rows_under, first_part, parts, parts_of_all}
 use Rattle.av_flat.proofs.Sets.{both_true, both_hold}
-use Rattle.av_flat.proofs.Parts.{reach, Chain, composed_image, declared_where, length_parts}
-use Rattle.av_normal.proofs.Projecting.{length_over}
+use Rattle.av_flat.proofs.Parts.{reach, Chain, composed_image, declared_where, length_parts, composed_from}
+use Rattle.av_flat.proofs.PieceValues.{caseless, if_here, over_length}
+use Rattle.av_tree.proofs.Words.{product_one}
 
 -- ---- rows that hold
 
@@ -75,20 +76,14 @@ looser vs M W S n rows others (choice l c r x y) i a =
 looser vs M W S n rows others (reduction o m t set) i a = a
 looser vs M W S n rows others t i a = absurd a
 
-if_one : (b : Bool) → IsTrue b → ◌≡◌ {A = ℕ} (if b then 1 else 0) 1
-if_one b h = rw h refl
-
-one_by_one : (a b : ℕ) → a ≡ 1 → b ≡ 1 → a * b ≡ 1
-one_by_one a b p q = rw (p, q) refl
-
 -- where the rows hold, there is one word
 pub count_one : (vs : List Signature) (M : Map → Type 0) (W : ℕ → Type 0) (S : Set → Type 0) (n : ℕ) (rows : List Form) (t : Tree) (z : Point) → IsLaid vs M W S n rows t
     → length z ≡ n → Hold rows z → count vs t z ≡ 1
-count_one vs M W S n rows (reference place m) z a e h = if_one _ (a.declared z e h)
+count_one vs M W S n rows (reference place m) z a e h = if_here _ (a.declared z e h)
 count_one vs M W S n rows (constant k) z a e h = refl
-count_one vs M W S n rows (binary s l r) z a e h = one_by_one _ _ (count_one vs M W S n rows l z a.0 e h) (count_one vs M W S n rows r z a.1 e h)
+count_one vs M W S n rows (binary s l r) z a e h = product_one _ _ (count_one vs M W S n rows l z a.0 e h) (count_one vs M W S n rows r z a.1 e h)
 count_one vs M W S n rows (choice l c r x y) z a e h =
-    one_by_one _ _ (one_by_one _ _ (one_by_one _ _ (count_one vs M W S n rows l z a.0 e h) (count_one vs M W S n rows r z a.1 e h)) (count_one vs M W S n rows x z a.2 e h)) (count_one vs M W S n rows y z a.3 e h)
+    product_one _ _ (product_one _ _ (product_one _ _ (count_one vs M W S n rows l z a.0 e h) (count_one vs M W S n rows r z a.1 e h)) (count_one vs M W S n rows x z a.2 e h)) (count_one vs M W S n rows y z a.3 e h)
 count_one vs M W S n rows (reduction o m t set) z a e h = refl
 count_one vs M W S n rows t z a e h = absurd a
 
@@ -103,11 +98,7 @@ composed_of M m [] p h = p
 composed_of M m (d ∷ ds) p h =
     composed_of M (composition m d) ds (All-head M (composition m d) (steps (composition m d) ds) h) (All-tail M (composition m d) (steps (composition m d) ds) h)
 
-composed_from : (m : Map) (ds : List Map) (z : Point) → m.from ≡ length (reach ds z) → Chain ds z → (composed m ds).from ≡ length z
-composed_from m [] z e h = e
-composed_from m (d ∷ ds) z e h = composed_from (composition m d) ds z h.0 h.2
-
-composed_length : (m : Map) (ds : List Map) → length (composed m ds).rows ≡ length m.rows
+pub composed_length : (m : Map) (ds : List Map) → length (composed m ds).rows ≡ length m.rows
 composed_length m [] = refl
 composed_length m (d ∷ ds) = composed_length (composition m d) ds ∙ length-map m.rows (through d.from d.rows)
 
@@ -131,18 +122,6 @@ all_spread P Q g f (x ∷ xs) h = All-append Q (g x) (flat_map g xs) (f x (All-h
 only_part : (P : Part → Type 0) (ps : List Part) → All P ps → length ps ≡ 1 → P (first_part ps)
 only_part P [] h e = absurd (omega (arith, e))
 only_part P (p ∷ ps) h e = All-head P p ps h
-
--- without a case there is one piece
-pub caseless : (t : Tree) → EachPart (λ u. is_case u ≡ false) t → piece_count t ≡ 1
-caseless (reference place m) h = refl
-caseless (constant n) h = refl
-caseless (binary g l r) h = one_by_one _ _ (caseless l h.1) (caseless r h.2)
-caseless (choice l c r x y) h = one_by_one _ _ (one_by_one _ _ (one_by_one _ _ (caseless l h.1) (caseless r h.2)) (caseless x h.3)) (caseless y h.4)
-caseless (restriction d t) h = caseless t h.1
-caseless (cases ts) h = absurd (let e = h.0 in cc)
-caseless (dependence m t) h = caseless t h.1
-caseless (reduction o m t set) h = refl
-caseless (pick place choices n) h = refl
 
 -- ---- the parts of a tree
 
@@ -219,7 +198,7 @@ module _ (vs : List Signature) (M : Map → Type 0) (W : ℕ → Type 0) where
         laid_parts (m ∷ ds) t z (f.0, f.1, h) (let P : ℕ → Type 0 = λ k. Fits vs k t in subst P (sym (length-map m.rows (λ e. value_at e (reach ds z)))) f.2) g.1 n.1 (λ k. g.0) o.1 w
     laid_parts [] (reduction o m t set) z h f g n c own w =
         let y = point_over m z (pos 0) in
-        let size = length_over m z (pos 0) in
+        let size = over_length m z (pos 0) in
         let fits : Fits vs (length y) t = (let P : ℕ → Type 0 = λ k. Fits vs k t in subst P (sym size) f.3) in
         let body = first_part (parts vs [] t) in
         let rec = only_part (IsLaidPart (length y)) (parts vs [] t) (laid_parts [] t y (let few = f.1 in omega (arith, size, few)) fits g.1 n.1 (λ k. absurd (omega (arith, k))) own.1 w) (length_parts vs [] t ∙ caseless t g.0.1) in

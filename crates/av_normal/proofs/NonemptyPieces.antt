@@ -5,7 +5,6 @@ use Rattle.std.proofs.lemmas.List.{append-nil}
 use Rattle.av_poly.specs.declared.poly.Bounds.{Bounds}
 use Rattle.av_poly.specs.Points.{Has, HoldsAt}
 use Rattle.av_poly.proofs.Normalising.{normal_set}
-use Rattle.av_elim.proofs.Merging.{all_left}
 use Rattle.av_flat.specs.declared.flat.Piece.{Piece as PieceMade}
 use Rattle.av_flat.specs.Trees.{Piece, Variable, right_side, view_piece}
 use Rattle.av_flat.specs.Signatures.{Signature}
@@ -18,6 +17,7 @@ use Rattle.av_normal.specs.inner.NonemptyPieces.{IsEmpty, AreNonemptyPieces, not
 use Rattle.av_normal.proofs.Boxes.{greatest_append, most_at}
 use Rattle.av_normal.proofs.Reaches.{no_point}
 use Rattle.av_normal.proofs.DomainBoxes.{normal_point}
+use Rattle.av_base.proofs.Lists.{each_first}
 
 -- ---- one more
 
@@ -76,7 +76,7 @@ normal_variables vs (v ∷ xs) (y ∷ ys) (w ∷ zs) s a = (normal_variable vs v
 declared_point : (v : Variable) (p : Part) (q : Piece) → IsPieceOfPart v.domain.dim (part (v.domain.rows ++ p.rows) (filled (v.domain.rows ++ p.rows) p.tree)) q → (z : List ℤ) → Has q.domain z → Has v.domain z
 declared_point v p q s z h =
     let there = (same_points s z).0 h in
-    record { dimension = there.dimension; holds = all_left (λ row. HoldsAt row z) v.domain.rows p.rows there.holds }
+    record { dimension = there.dimension; holds = each_first (λ row. HoldsAt row z) v.domain.rows p.rows there.holds }
 
 each_piece : (v : Variable) (P : Piece → Type 0)
     → ((p : Part) (q : Piece) → IsPieceOfPart v.domain.dim (part (v.domain.rows ++ p.rows) (filled (v.domain.rows ++ p.rows) p.tree)) q → P q)

@@ -21,11 +21,11 @@ use Rattle.av_poly.specs.Normal.{counted, IsConstant, IsNever, IsDivided, Tighte
 use Rattle.av_poly.proofs.Dividing.{not_constant, divided_once}
 use Rattle.av_normal.proofs.Laid.{all_parts}
 use Rattle.av_normal.proofs.Meeting.{MeetsFirst, asymmetric, in_first, some_met, met_in_front, met_behind, met_either, met_too, first_of, met_of}
+use Rattle.av_poly.proofs.Tightening.{same_form}
+use Rattle.av_poly.proofs.Normalising.{counted_divided}
+use Rattle.av_base.proofs.Anys.{any_first}
 
 -- ---- some element
-
-pub any_first : {X : Type 0} (P : X → Type 0) (xs ys : List X) → Any P xs → Any P (xs ++ ys)
-any_first P xs ys (k, x, l, e, p) = let w = Contains-append_left xs ys x (k, l, e) in (w.0, x, w.1, w.2, p)
 
 pub any_second : {X : Type 0} (P : X → Type 0) (xs ys : List X) → Any P ys → Any P (xs ++ ys)
 any_second P xs ys (k, x, l, e, p) = let w = Contains-append_right xs ys x (k, l, e) in (w.0, x, w.1, w.2, p)
@@ -46,14 +46,6 @@ by_one (negsuc n) = ap negsuc (div-one n)
 all_by_one : (xs : List ℤ) → map (λ x. int_div_euclid x (pos 1)) xs ≡ xs
 all_by_one [] = refl
 all_by_one (x ∷ xs) = ap₂ (λ (y : ℤ) ys. y ∷ ys) (by_one x) (all_by_one xs)
-
-same_form : (a b : Form) → a.coef ≡ b.coef → a.constant ≡ b.constant → a ≡ b
-same_form a b p q = ap₂ (λ coef constant. record { coef = coef; constant = constant }) p q
-
-counted_divided : (n g : ℕ) (xs : List ℤ) → counted n (divided (counted n xs) g) ≡ divided (counted n xs) g
-counted_divided n g [] = refl
-counted_divided zero g (x ∷ xs) = ap₂ (λ (y : ℤ) ys. y ∷ ys) (ap pos (sym (zero-div g))) (counted_divided zero g xs)
-counted_divided (suc n) g (x ∷ xs) = ap (λ ys. int_div_euclid x (pos g) ∷ ys) (counted_divided n g xs)
 
 pub primitive : (dim : ℕ) (row new : Form) → IsDivided dim row new → IsPrimitive dim new
 primitive dim row new d = record {

@@ -20,14 +20,11 @@ use Rattle.av_flat.specs.WellFormed.{IsIndex, IsProjection}
 use Rattle.av_normal.proofs.Projecting.{unit_here, unit_elsewhere, coefficient_at, AreIndices, AreOnce}
 use Rattle.av_normal.proofs.Meeting.{met_mapped, mapped_met}
 use Rattle.av_normal.proofs.Normalised.{Shows, ShowsFirst, StandFor, stand_for, normalised_among}
+use Rattle.av_affine.proofs.Composing.{dot_none}
 
 -- ---- columns
 
-dot_nothing : (xs : List ℤ) → dot xs [] ≡ pos 0
-dot_nothing [] = refl
-dot_nothing (x ∷ xs) = refl
-
-entry_nothing : (i : ℕ) → get_or [] i (pos 0) ≡ pos 0
+pub entry_nothing : (i : ℕ) → get_or [] i (pos 0) ≡ pos 0
 entry_nothing zero = refl
 entry_nothing (suc i) = refl
 
@@ -35,7 +32,7 @@ abbrev IsZeroAt : ℕ → List Form → Type 0
 IsZeroAt j forms = All (λ f. get_or f.coef j (pos 0) ≡ pos 0) forms
 
 zero_column : (j : ℕ) (forms : List Form) (xs : List ℤ) → IsZeroAt j forms → dot xs (coefficients_of j forms) ≡ pos 0
-zero_column j [] xs h = dot_nothing xs
+zero_column j [] xs h = dot_none xs
 zero_column j (f ∷ forms) [] h = refl
 zero_column j (f ∷ forms) (x ∷ xs) h =
     let e = All-head (λ g. get_or g.coef j (pos 0) ≡ pos 0) f forms h in
@@ -79,7 +76,7 @@ later_none n f forms p j is l e h (x ∷ xs) = later_entry n f forms p j is l e 
 
 -- each column has one entry of the row, or 0
 column_is : (n : ℕ) (forms : List Form) (j : ℕ) → j < n → AreIndices n forms → AreOnce n forms → ((i : ℕ) × IsEntry forms j i) ⊎ ((xs : List ℤ) → column forms j xs ≡ pos 0)
-column_is n [] j l each once = inr dot_nothing
+column_is n [] j l each once = inr dot_none
 column_is n (f ∷ forms) j l each once =
     let (p, is) = All-head (λ g. (place : ℕ) × IsIndex n g place) f forms each in
     elim (cases_eq j p) [
@@ -105,7 +102,7 @@ entry_is n (f ∷ forms) (suc i) l each once =
     (j, (within, at, later_column n f forms p j is within (λ e. once 0 (suc i) f (omega arith) l p is (let P : ℕ → Type 0 = λ a. IsIndex n (get_or forms i f) a in subst P e (at f))) i h))
 
 constants_none : (n : ℕ) (forms : List Form) (xs : List ℤ) → AreIndices n forms → dot xs (constants_of forms) ≡ pos 0
-constants_none n [] xs each = dot_nothing xs
+constants_none n [] xs each = dot_none xs
 constants_none n (f ∷ forms) [] each = refl
 constants_none n (f ∷ forms) (x ∷ xs) each =
     let (p, is) = All-head (λ g. (place : ℕ) × IsIndex n g place) f forms each in

@@ -21,12 +21,13 @@ use Rattle.av_normal.specs.inner.ReductionSets.{IsFillable}
 use Rattle.av_normal.specs.inner.Making.{maps_measured, held_parts, IsParted}
 use Rattle.av_normal.proofs.Searching.{narrow_first, narrow_second}
 use Rattle.av_normal.proofs.Capped.{counted_right_side}
-use Rattle.av_normal.proofs.Laid.{IsLaid, IsLaidPart, Anything, caseless}
+use Rattle.av_normal.proofs.Laid.{IsLaid, IsLaidPart, Anything}
 use Rattle.av_normal.proofs.Walks.{Narrow}
 use Rattle.av_normal.proofs.Limits.{small_map}
 use Rattle.av_normal.proofs.KeptPieces.{SmallMap, laid_all}
 use Rattle.av_normal.proofs.Trying.{apart, maps_are}
 use Rattle.av_normal.proofs.Making.{held_fillable}
+use Rattle.av_flat.proofs.PieceValues.{caseless}
 
 -- ---- under dependences
 

@@ -19,8 +19,8 @@ use Rattle.av_flat.proofs.Views.{view_case}
 use Rattle.av_normal.specs.inner.Numbered.{part_at}
 use Rattle.av_normal.specs.inner.UnderMaps.{IsReadable, AreReadable}
 use Rattle.av_normal.specs.inner.PieceByNumber.{IsPartAt, AreShares, AreLeft}
-use Rattle.av_normal.proofs.Dropping.{next_item}
 use Rattle.av_normal.proofs.Numbering.{at_first, at_second, at_map, at_pairs, at_fours, below}
+use Rattle.av_base.proofs.Lists.{next_item}
 
 -- ---- numbers
 

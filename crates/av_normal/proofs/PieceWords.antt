@@ -23,8 +23,9 @@ use Rattle.av_flat.specs.Pieces.{filled}
 use Rattle.av_flat.proofs.Sets.{has_is}
 use Rattle.av_flat.proofs.Parts.{fitting, rows_reach}
 use Rattle.av_normal.specs.NormalForm.{IsNormalised, HasNormalSets}
-use Rattle.av_normal.proofs.Projecting.{length_over, image_over}
+use Rattle.av_normal.proofs.Projecting.{image_over}
 use Rattle.av_normal.proofs.Laid.{Hold, both_of, hold_both, IsReduced, IsLaid, Anything, looser, count_one, all_parts}
+use Rattle.av_flat.proofs.PieceValues.{over_length}
 
 -- ---- points of normalised sets
 
@@ -45,7 +46,7 @@ hold_normal set inner z n e =
 -- the rows of a holder hold at the points over its point
 pub hold_over : (m : Map) (rows : List Form) (z : Point) (k : ℤ) → IsProjection m → length m.rows ≡ length z → m.from ≤ 4 → Hold rows z → Hold (rows_before m rows) (point_over m z k)
 hold_over m rows z k is e few h =
-    let size = length_over m z k in
+    let size = over_length m z k in
     rows_reach m [] rows (point_over m z k) (sym size) (omega (arith, size, few)) ∙ ap (λ y. list_all (holds y) rows) (image_over m z k is e) ∙ h
 
 -- ---- words of parts of trees
@@ -56,7 +57,7 @@ cond_same true false m n e f = absurd cc
 cond_same false true m n e f = absurd cc
 cond_same false false m n e f = refl
 
-cond_true : (b : Bool) (n : ℕ) → (if b then n else 0) ≡ 1 → IsTrue b
+pub cond_true : (b : Bool) (n : ℕ) → (if b then n else 0) ≡ 1 → IsTrue b
 cond_true true n e = refl
 cond_true false n e = absurd cc
 
@@ -102,7 +103,7 @@ module _ (vs : List Signature) (M : Map → Type 0) (W : ℕ → Type 0) where
   module _ (rows : List Form) (m : Map) (t u : Tree) (set inner : Set) (n : ℕ) (z : Point) (a : IsReduced M Anything n m set) (laid : IsLaid vs M W Anything m.from set.rows t)
       (same : HasNormalSets (filled (rows_before m rows ++ set.rows) t) u) (normal : IsNormalised (record { dim = set.dim; rows = rows_before m rows ++ set.rows }) inner) (size : length z ≡ n) (here : Hold rows z) where
     over_size : (k : ℤ) → length (point_over m z k) ≡ set.dim
-    over_size k = length_over m z k ∙ sym a.dimension
+    over_size k = over_length m z k ∙ sym a.dimension
 
     over_holds : (k : ℤ) → Hold (rows_before m rows) (point_over m z k)
     over_holds k = hold_over m rows z k a.projection (a.results ∙ sym size) a.few here
@@ -126,8 +127,8 @@ module _ (vs : List Signature) (M : Map → Type 0) (W : ℕ → Type 0) where
     over_count k =
         let y = point_over m z k in
         cond_same (has set y) (has inner y) (count vs t y) (count vs u y) (over_has k)
-        (λ h. count_one vs M W Anything m.from (rows_before m rows ++ set.rows) t y over_laid (length_over m z k) (over_set k h)
-        ∙ sym (count_one vs M W Anything m.from (rows_before m rows ++ set.rows) u y (laid_any m.from (rows_before m rows ++ set.rows) t u over_laid same) (length_over m z k) (over_set k h)))
+        (λ h. count_one vs M W Anything m.from (rows_before m rows ++ set.rows) t y over_laid (over_length m z k) (over_set k h)
+        ∙ sym (count_one vs M W Anything m.from (rows_before m rows ++ set.rows) u y (laid_any m.from (rows_before m rows ++ set.rows) t u over_laid same) (over_length m z k) (over_set k h)))
 
 module _ (s : Scene) (M : Map → Type 0) (W : ℕ → Type 0) where
   pub value_same : (n : ℕ) (rows : List Form) (t u : Tree) (z : Point) (w : ℕ) → IsLaid s.variables M W Anything n rows t → HasNormalSets (filled rows t) u → length z ≡ n → Hold rows z
@@ -142,6 +143,6 @@ module _ (s : Scene) (M : Map → Type 0) (W : ℕ → Type 0) where
       rw (h.0, h.1) (folded_same (λ j. count_inside s.variables set t (point_over m z j)) (λ j. count_inside s.variables inner u (point_over m z j))
       (λ j. HasValue s t (point_over m z j)) (λ j. HasValue s u (point_over m z j)) (folded s.width o) w
       (over_count s.variables M W rows m t u set inner n z a.0 a.1 h.2 h.3 e here)
-      (λ j v once. value_same m.from (rows_before m rows ++ set.rows) t u (point_over m z j) v (over_laid s.variables M W rows m t u set inner n z a.0 a.1 h.2 h.3 e here) h.2 (length_over m z j)
+      (λ j v once. value_same m.from (rows_before m rows ++ set.rows) t u (point_over m z j) v (over_laid s.variables M W rows m t u set inner n z a.0 a.1 h.2 h.3 e here) h.2 (over_length m z j)
       (over_set s.variables M W rows m t u set inner n z a.0 a.1 h.2 h.3 e here j (cond_true (has set (point_over m z j)) _ once))))
   value_same n rows t u z w a h e here = absurd h

@@ -14,6 +14,7 @@ use Rattle.av_tree.specs.Points.{Point, is_one}
 use Rattle.av_flat.specs.Points.{is_index, entry_over, point_over}
 use Rattle.av_flat.specs.WellFormed.{IsIndex, IsProjection}
 use Rattle.av_flat.proofs.Sets.{equal, is_equal}
+use Rattle.av_flat.proofs.PieceValues.{over_length}
 
 -- ---- one index
 
@@ -34,7 +35,7 @@ unit_here k j e = ap (λ t. if t then pos 1 else pos 0) (is_equal j k e)
 pub unit_elsewhere : (k j : ℕ) → (j ≡ k → ⊥) → unit k j ≡ pos 0
 unit_elsewhere k j n = ap (λ t. if t then pos 1 else pos 0) (other j k n)
 
-dot_take : (n : ℕ) (xs y : List ℤ) → length y ≡ n → dot (take n xs) y ≡ dot xs y
+pub dot_take : (n : ℕ) (xs y : List ℤ) → length y ≡ n → dot (take n xs) y ≡ dot xs y
 dot_take zero [] y h = refl
 dot_take (suc n) [] y h = refl
 dot_take zero (x ∷ xs) [] h = refl
@@ -68,13 +69,13 @@ units_dot k start (suc n) (suc i) (x ∷ y) h e =
     let rest = units_dot k (start + 1) n i y (omega (arith, h)) (omega (arith, e)) in
     rw (here, rest) (omega (arith, ints))
 
-index_value : (n : ℕ) (f : Form) (place : ℕ) (y : Point) → IsIndex n f place → length y ≡ n → value_at f y ≡ get_or y place (pos 0)
+pub index_value : (n : ℕ) (f : Form) (place : ℕ) (y : Point) → IsIndex n f place → length y ≡ n → value_at f y ≡ get_or y place (pos 0)
 index_value n f place y is e =
     let d : dot f.coef y ≡ get_or y place (pos 0) = sym (dot_take n f.coef y e) ∙ ap (λ xs. dot xs y) is.coefficients ∙ units_dot place 0 n place y e (omega arith) in
     let c = is.constant in
     omega (arith, ints, d, c)
 
-one_is : (t : Bool) → is_one (if t then pos 1 else pos 0) ≡ t
+pub one_is : (t : Bool) → is_one (if t then pos 1 else pos 0) ≡ t
 one_is true = refl
 one_is false = refl
 
@@ -83,7 +84,7 @@ coefficient_at n f p place is l =
     sym (get_or-take n f.coef place (pos 0) l) ∙ ap (λ xs. get_or xs place (pos 0)) is.coefficients
     ∙ get_or-map-range_with_len (unit p) 0 n place place (pos 0) l (omega arith)
 
-index_at : (n : ℕ) (f : Form) (p place : ℕ) → IsIndex n f p → place < n → is_index place f ≡ nat_eq place p
+pub index_at : (n : ℕ) (f : Form) (p place : ℕ) → IsIndex n f p → place < n → is_index place f ≡ nat_eq place p
 index_at n f p place is l = ap is_one (coefficient_at n f p place is l) ∙ one_is (nat_eq place p)
 
 -- ---- all but one, each once
@@ -111,11 +112,8 @@ image_is n entry k y size at (f ∷ forms) (x ∷ z) e each once h =
     ∙ ap (λ t. if t then x else entry_over forms z k place)
     (index_at n f p place is there.within ∙ other place p (λ q. once 0 (suc i) d (omega arith) (omega (arith, l)) place (let P : ℕ → Type 0 = λ a. IsIndex n f a in subst P (sym q) is) there))))
 
-pub length_over : (m : Map) (z : Point) (k : ℤ) → length (point_over m z k) ≡ m.from
-length_over m z k = length-map-range_with_len (entry_over m.rows z k) 0 m.from
-
 pub image_over : (m : Map) (z : Point) (k : ℤ) → IsProjection m → length m.rows ≡ length z → image m.rows (point_over m z k) ≡ z
 image_over m z k is e =
-    image_is m.from (entry_over m.rows z k) k (point_over m z k) (length_over m z k)
+    image_is m.from (entry_over m.rows z k) k (point_over m z k) (over_length m z k)
     (λ place l. get_or-map-range_with_len (entry_over m.rows z k) 0 m.from place place (pos 0) l (omega arith))
     m.rows z e is.indices is.once (λ i d l place at. refl)

@@ -12,14 +12,11 @@ use Rattle.av_flat.specs.WellFormed.{dimension_of}
 use Rattle.av_flat.specs.Pieces.{composed, rows_of}
 use Rattle.av_normal.specs.inner.Numbered.{signatures_of}
 use Rattle.av_normal.specs.inner.UnderMaps.{composed_under, FitsUnder}
-
-pub composed_results : (m : Map) (ds : List Map) → length (composed m ds).rows ≡ length m.rows
-composed_results m [] = refl
-composed_results m (d ∷ ds) = composed_results (composition m d) ds ∙ length-map m.rows (through d.from d.rows)
+use Rattle.av_normal.proofs.Laid.{composed_length}
 
 pub fits_under : (ds : List Map) (d : Set) (whole : Map) → Some whole ≡ composed_under ds → FitsUnder ds d → length whole.rows ≡ d.dim
 fits_under [] d whole e f = absurd cc
-fits_under (m ∷ ds) d whole e f = ap (λ (n : Map). length n.rows) (the_same whole (composed m ds) e) ∙ composed_results m ds ∙ f
+fits_under (m ∷ ds) d whole e f = ap (λ (n : Map). length n.rows) (the_same whole (composed m ds) e) ∙ composed_length m ds ∙ f
   where
     the_same : (a b : Map) → Some a ≡ Some b → a ≡ b
     the_same a b p = cc
@@ -48,4 +45,4 @@ module _ (vars : List Var) (place : ℕ) (v : Var) (l : place < length vars) (e 
 
 -- the image under all maps is one of the variable that is read
 pub fits_read : (vs : List Signature) (ds : List Map) (place : ℕ) (m whole : Map) → whole ≡ composed m ds → dimension_of (slice_get vs place) ≡ Some (length m.rows) → dimension_of (slice_get vs place) ≡ Some (length whole.rows)
-fits_read vs ds place m whole w e = e ∙ ap Some (sym (ap (λ (n : Map). length n.rows) w ∙ composed_results m ds))
+fits_read vs ds place m whole w e = e ∙ ap Some (sym (ap (λ (n : Map). length n.rows) w ∙ composed_length m ds))

@@ -40,7 +40,7 @@ against vs G P Q f (v ∷ xs) (w ∷ ys) n g h =
 pub both_all : {X : Type 0} (P Q : X → Type 0) (xs : List X) → All P xs → All Q xs → All (λ x. P x × Q x) xs
 both_all P Q xs p q k d l = (p k d l, q k d l)
 
-same_signature : (a b : Signature) → a.name ≡ b.name → a.kind ≡ b.kind → a.width ≡ b.width → a.domain ≡ b.domain → a ≡ b
+pub same_signature : (a b : Signature) → a.name ≡ b.name → a.kind ≡ b.kind → a.width ≡ b.width → a.domain ≡ b.domain → a ≡ b
 same_signature a b n k w d =
     ap₂ (λ x y. record { name = x; kind = y; width = a.width; domain = a.domain }) n k ∙ ap₂ (λ x y. record { name = b.name; kind = b.kind; width = x; domain = y }) w d
 

@@ -16,7 +16,7 @@ use Rattle.av_normal.specs.NormalFaults.{HasNarrowSets}
 use Rattle.av_normal.specs.Searches.{IsNarrow, AreNarrow, IsFirstWide, IsWide}
 use Rattle.av_normal.specs.inner.Making.{maps_measured, parts_measured, bodies_measured, StandsFor, held_parts, filled_part}
 use Rattle.av_normal.specs.inner.AllPieces.{IsWideIn}
-use Rattle.av_normal.proofs.Dropping.{next_item}
+use Rattle.av_base.proofs.Lists.{next_item}
 
 -- ---- one list behind another
 

@@ -10,7 +10,7 @@ use Rattle.av_normal.specs.declared.fault.NormalFault.{NormalFault}
 use Rattle.av_normal.specs.Searches.{AreNarrow, IsWide}
 use Rattle.av_normal.specs.inner.UnderMaps.{AreUnder, StandsUnder, StandUnder}
 use Rattle.av_normal.proofs.Searching.{narrow_append, wide_first, wide_second}
-use Rattle.av_normal.proofs.Dropping.{next_item}
+use Rattle.av_base.proofs.Lists.{next_item}
 
 abbrev pub Narrow : List Map → Type 0
 Narrow ms = AreNarrow (map of_map ms)

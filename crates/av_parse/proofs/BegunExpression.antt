@@ -30,6 +30,7 @@ use Rattle.av_parse.proofs.SoundIndex.{optional_indices_sound, relation_by_sound
 use Rattle.av_parse.proofs.SoundExpression.{Sound, all_sound, op_at_sound, op_by_sound, compare_at_sound, IsSumSign, sign_at_sound, brackets_sound, indexed_sound, branches_sound, primary_sound, unary_sound, product_sound}
 use Rattle.av_parse.proofs.FrontSteps.{StandsAt, given, faulty, deeper, stays, passed, no_end, wider, behind, by_test, by_symbol, by_word, by_kind, symbol, word}
 use Rattle.av_parse.proofs.BegunIndex.{optional_indices_begun, domain_rest_begun, map_begun}
+use Rattle.av_base.proofs.Truths.{either}
 
 -- the readers of one level, of what begins on the level n
 pub record Begun (l n : ℕ) (b : Readers) : Type 0 where
@@ -244,10 +245,6 @@ came_there {n = n} {Is = Is} {ts = ts} q = subst (λ z. FrontToken (ending n) n 
 kind_starts : (k : TokenKind) (ts : List Token) → begins k ts ≡ true → Starts (λ x. x.kind ≡ k) ts (after ts)
 kind_starts k [] e = absurd cc
 kind_starts k (x ∷ ts) e = (x, refl, same_is x.kind k e)
-
-either : (a b : Bool) → (a || b) ≡ true → (a ≡ true) ⊎ (b ≡ true)
-either true b e = inl refl
-either false b e = inr e
 
 abbrev FirstOf : ℕ → (Meant → List Token → Type 0) → List Token → Type 0
 FirstOf l F ts = (x : Token) × ((ts ≡ x ∷ after ts) × F (ending l) (after ts))

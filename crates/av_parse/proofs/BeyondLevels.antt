@@ -16,7 +16,7 @@ use Rattle.av_parse.specs.inner.Reader.{begins_symbol, too_deep, deep_fault, exp
 use Rattle.av_parse.specs.inner.ExpressionReader.{begins_unary, begins_expr, begins_domain_rest, readers}
 use Rattle.av_parse.proofs.Follow.{known, symbol_yes, symbol_gives}
 use Rattle.av_parse.proofs.WithinIndex.{Within, left, stops, deep, if_within, le_same, symbol_within}
-use Rattle.av_parse.proofs.WithinExpression.{all_within}
+use Rattle.av_parse.proofs.WithinExpression.{all_within, too_deep_within}
 use Rattle.av_parse.proofs.Takes.{map_takes}
 use Rattle.av_parse.proofs.FrontsTake.{front_map_takes, front_postfix_tail_takes}
 use Rattle.av_parse.proofs.FrontsEnd.{front_domain_rest_ends}
@@ -28,15 +28,10 @@ use Rattle.av_parse.proofs.BeyondExpression.{Beyond, front_expr, front_sum, fron
 
 -- ---- where no level is left
 
-deep_within : {A : Type 0} (t : Bool) (ts : List Token) → Within {A = A} (length ts) (too_deep t ts)
-unfolding deep_fault
-deep_within true ts = deep
-deep_within false ts = stops (le_same _)
-
 too_deep_reaches : {A : Type 0} {w : Meant} {l : ℕ} (t : Bool) (ts r : List Token) → ((r ≡ ts) × MayWait w) ⊎ (t ≡ true) → MayWait w ⊎ (length r < length ts)
     → Reaches {A = A} w l (length r) (too_deep t ts)
 unfolding deep_fault
-too_deep_reaches {w = w} {l = l} t ts r (inl e) comes = at_rest e.0 (reach (wait_below w l e.1) (deep_within t ts))
+too_deep_reaches {w = w} {l = l} t ts r (inl e) comes = at_rest e.0 (reach (wait_below w l e.1) (too_deep_within t ts))
 too_deep_reaches {w = w} {l = l} true ts r (inr e) (inl wait) = reach (wait_below w l wait) deep
 too_deep_reaches {w = w} {l = l} true ts r (inr e) (inr less) = sinks (above w l (length r) (length ts) less)
 too_deep_reaches false ts r (inr e) comes = absurd cc
@@ -93,8 +88,8 @@ domain_rest_open (inner.at_close whole.no_names (whole.conditions {b = b} {ts = 
 
 tail_none : (w : Meant) (l : ℕ) (ts r : List Token) → FrontPostfixTail w l ts r → (a : Expression) → Reaches w l (length r) ((readers zero).postfix_tail a ts)
 unfolding readers deep_fault
-tail_none w l ts r (fronts.no_dot_yet wait) a = reach (wait_below w l wait) (if_within (begins_symbol (codes ".") ts) (deep_within true ts) (left (le_same _)))
-tail_none w l ts r (fronts.at_dot (parts.not_yet wait)) a = reach (wait_below w l wait) (if_within (begins_symbol (codes ".") ts) (deep_within true ts) (left (le_same _)))
+tail_none w l ts r (fronts.no_dot_yet wait) a = reach (wait_below w l wait) (if_within (begins_symbol (codes ".") ts) (too_deep_within true ts) (left (le_same _)))
+tail_none w l ts r (fronts.at_dot (parts.not_yet wait)) a = reach (wait_below w l wait) (if_within (begins_symbol (codes ".") ts) (too_deep_within true ts) (left (le_same _)))
 tail_none w l ts r (fronts.at_dot (parts.came {x = d} {ts = rest} is e)) a = rw (symbol_yes (codes ".") d rest is) (sinks (above w l (length rest) (length (d ∷ rest)) (omega arith)))
 tail_none w l ts r (fronts.in_map {d = d} {ts = rest} is map) a =
     let less = front_map_takes map in rw (symbol_yes (codes ".") d rest is) (sinks (above w l (length r) (length (d ∷ rest)) (omega arith)))

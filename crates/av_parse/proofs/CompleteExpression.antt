@@ -108,7 +108,7 @@ unary_begins (postfix p) = (postfix_begins p).0
 sum_begins : {n : ℕ} {ts rest : List Token} {e : Expression} → IsSum n ts rest e → BeginsSum ts
 sum_begins (sum (product u t) s) = unary_begins u
 
-expr_begins : {n : ℕ} {ts rest : List Token} {e : Expression} → IsExpr n ts rest e → begins_word (codes "esac") ts ≡ false
+pub expr_begins : {n : ℕ} {ts rest : List Token} {e : Expression} → IsExpr n ts rest e → begins_word (codes "esac") ts ≡ false
 expr_begins (restricted (domain {o = o} {ts = ts} is names bounds c) colon e) = known (λ z. begins_word (codes "esac") (z ∷ ts) ≡ false) o is refl
 expr_begins (chosen {i = i} {t0 = t0} is a q b t x s y) = known (λ z. begins_word (codes "esac") (z ∷ t0) ≡ false) i is refl
 expr_begins (plain s) = (sum_begins s).2

@@ -181,7 +181,7 @@ depth_left a b e = cc
 apart_faults : (a b : ℕ) → ◌≡◌ {A = Result System Fault} (Err (Syntax a)) (Err (Depth b)) → ⊥
 apart_faults a b e = cc
 
-apart_answer : (s : System) (f : Fault) → ◌≡◌ {A = Result System Fault} (Ok s) (Err f) → ⊥
+pub apart_answer : (s : System) (f : Fault) → ◌≡◌ {A = Result System Fault} (Ok s) (Err f) → ⊥
 apart_answer s f e = cc
 
 -- the place that a call answers is that of the fault

@@ -27,6 +27,7 @@ use Rattle.av_parse.proofs.SoundSteps.{Holds, fine, failed}
 use Rattle.av_parse.proofs.SoundExpression.{all_sound}
 use Rattle.av_parse.proofs.WithinIndex.{Within, left, stops, deep, closer, bind_within, if_within, le_same, after_within, expect_with_within, symbol_within, relation_within, map_within}
 use Rattle.av_parse.proofs.WithinExpression.{WithinAll, all_within, op_within, branches_within, postfix_tail_within, product_tail_within, sum_tail_within}
+use Rattle.av_base.proofs.Truths.{or_true}
 
 -- ---- the two readings
 
@@ -272,14 +273,10 @@ product_opens (product u t) = unary_opens u
 pub sum_opens : {n : ℕ} {ts rest : List Token} {e : Expression} → IsSum n ts rest e → begins_unary ts ≡ true
 sum_opens (sum p t) = product_opens p
 
-any_true : (b : Bool) → (b || true) ≡ true
-any_true true = refl
-any_true false = refl
-
 pub expr_opens : {n : ℕ} {ts rest : List Token} {e : Expression} → IsExpr n ts rest e → begins_expr ts ≡ true
 expr_opens (restricted (domain {o = o} {ts = ts} is names bounds c) colon e) = known (λ z. begins_expr (z ∷ ts) ≡ true) o is refl
 expr_opens (chosen {i = i} {t0 = t0} is a q b t x s y) = known (λ z. begins_expr (z ∷ t0) ≡ true) i is refl
-expr_opens (plain s) = rw (sum_opens s) (any_true _)
+expr_opens (plain s) = rw (sum_opens s) (or_true _)
 
 conditions_open : {ts rest : List Token} {c : Token} {cs : List Constraint} → IsConditions ts (c ∷ rest) cs → IsSymbol (codes "}") c → begins_domain_rest ts ≡ true
 conditions_open {rest = rest} {c = c} no_bar is = known (λ z. begins_domain_rest (z ∷ rest) ≡ true) c is refl

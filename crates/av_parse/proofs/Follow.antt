@@ -10,6 +10,7 @@ use Rattle.av_base.specs.Tokens.{Token}
 use Rattle.av_tree.specs.Trees.{Text}
 use Rattle.av_tree.specs.Parts.{IsSymbol, IsReserved}
 use Rattle.av_parse.specs.inner.Reader.{code, same, begins, begins_with, begins_symbol, begins_word, expect, expect_with, expect_symbol, expect_word}
+use Rattle.av_base.proofs.Truths.{both}
 
 -- ---- kinds
 
@@ -29,10 +30,6 @@ same_is a b e = sym (kind_of-code a) ∙ (ap kind_of (eqb-true (code a) (code b)
 
 pub same_self : (a b : TokenKind) → a ≡ b → same a b ≡ true
 same_self a b e = eq-eqb (code a) (code b) (ap code e)
-
-both : (b c : Bool) → (b && c) ≡ true → (b ≡ true) × (c ≡ true)
-both true c e = (refl, e)
-both false c e = absurd cc
 
 -- ---- a token that passes a test
 

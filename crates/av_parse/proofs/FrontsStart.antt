@@ -15,7 +15,8 @@ use Rattle.av_tree.specs.FrontsExpression.{FrontExpr, FrontSum, FrontSumTail, Fr
 use Rattle.av_parse.specs.inner.Reader.{begins_symbol, begins_word}
 use Rattle.av_parse.specs.inner.ExpressionReader.{begins_unary, begins_expr}
 use Rattle.av_parse.proofs.Follow.{known}
-use Rattle.av_parse.proofs.CompleteExpression.{EndsPostfix, EndsProduct}
+use Rattle.av_parse.proofs.CompleteExpression.{EndsPostfix, EndsProduct, expr_begins}
+use Rattle.av_base.proofs.Truths.{or_true}
 
 -- ---- what follows a whole part
 
@@ -165,10 +166,6 @@ sum_start (fronts.past_product p h) = inr (whole_product p)
 abbrev pub OpensExpr : List Token → Type 0
 OpensExpr ts = (begins_expr ts ≡ true) × (begins_word (codes "esac") ts ≡ false)
 
-any_true : (b : Bool) → (b || true) ≡ true
-any_true true = refl
-any_true false = refl
-
 brace_opens : (x : Token) (ts : List Token) → IsSymbol (codes "{") x → OpensExpr (x ∷ ts)
 brace_opens x ts is = known (λ z. OpensExpr (z ∷ ts)) x is (refl, refl)
 
@@ -177,7 +174,7 @@ if_opens x ts is = known (λ z. OpensExpr (z ∷ ts)) x is (refl, refl)
 
 sum_opens : (w : Meant) {ts r : List Token} → ((r ≡ ts) × MayWait w) ⊎ Opens ts → ((r ≡ ts) × MayWait w) ⊎ OpensExpr ts
 sum_opens w (inl e) = inl e
-sum_opens w (inr h) = inr (rw h.0 (any_true _), h.3)
+sum_opens w (inr h) = inr (rw h.0 (or_true _), h.3)
 
 domain_opens : {ts rest : List Token} {d : DomainText} → IsDomain ts rest d → OpensExpr ts
 domain_opens (domain {o = o} {ts = ts} is names bounds c) = brace_opens o ts is
@@ -197,12 +194,7 @@ expr_start (fronts.at_else {i = i} {t0 = ts} is a1 a2 a3 a4 a5 a6) = inr (if_ope
 expr_start (fronts.in_no {i = i} {t0 = ts} is a1 a2 a3 a4 a5 a6 a7) = inr (if_opens i ts is)
 expr_start (fronts.in_sum h) = sum_opens _ (sum_start h)
 
-branch_opens : {k : ℕ} {ts rest : List Token} {e : Expression} → IsExpr k ts rest e → begins_word (codes "esac") ts ≡ false
-branch_opens (whole.restricted d c e) = (domain_opens d).1
-branch_opens (whole.chosen {i = i} {t0 = t0} is a q b t x s y) = (if_opens i t0 is).1
-branch_opens (whole.plain (whole.sum p t)) = (whole_product p).3
-
 pub branches_start : {w : Meant} {n : ℕ} {ts r : List Token} → FrontBranches w n ts r → ((r ≡ ts) × MayWait w) ⊎ (begins_word (codes "esac") ts ≡ false)
 branches_start (fronts.in_branch h) = elim (expr_start h) [ inl e ↦ inl e | inr o ↦ inr o.1 ]
-branches_start (fronts.at_semicolon is h) = inr (branch_opens is)
-branches_start (fronts.past_semicolon is s h) = inr (branch_opens is)
+branches_start (fronts.at_semicolon is h) = inr (expr_begins is)
+branches_start (fronts.past_semicolon is s h) = inr (expr_begins is)

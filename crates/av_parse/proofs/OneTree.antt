@@ -7,7 +7,7 @@ use Rattle.av_parse.specs.declared.fault.Fault.{Fault}
 use Rattle.av_parse.proofs.CompleteProgram.{program_complete}
 use Rattle.av_parse.proofs.Lifted.{lifted}
 
-same_ok : (s t : System) → ◌≡◌ {A = Result System Fault} (Ok s) (Ok t) → s ≡ t
+pub same_ok : (s t : System) → ◌≡◌ {A = Result System Fault} (Ok s) (Ok t) → s ≡ t
 same_ok s t e = cc
 
 pub one_tree_only : (n m : ℕ) (ts : List Token) (s t : System) → IsProgram n ts s → IsProgram m ts t → s ≡ t

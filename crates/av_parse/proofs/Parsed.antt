@@ -18,29 +18,23 @@ use Rattle.av_parse.specs.inner.Reader.{Gives, Stops}
 use Rattle.av_parse.specs.inner.ProgramReader.{program_of}
 use Rattle.av_parse.proofs.SoundProgram.{program_sound}
 use Rattle.av_parse.proofs.CompleteProgram.{program_complete}
-use Rattle.av_parse.proofs.OneTree.{one_tree_only}
-use Rattle.av_parse.proofs.FaultPlaces.{IsPlaceOf, text_ends, syntax_place, depth_place, syntax_same, depth_same, syntax_not_depth, depth_not_syntax, program_has_no_fault}
+use Rattle.av_parse.proofs.OneTree.{one_tree_only, same_ok}
+use Rattle.av_parse.proofs.FaultPlaces.{IsPlaceOf, text_ends, syntax_place, depth_place, syntax_same, depth_same, syntax_not_depth, depth_not_syntax, program_has_no_fault, apart_answer}
 
 pub is_found : (ts : List Token) (r : Result SystemMade Stop) (s : SystemMade) → Gives view_system r (program_of levels ts) → r ≡ Ok s → IsProgram levels ts (view_system s)
 is_found ts r s h e = program_sound levels ts (view_system s) (subst (λ z. Gives view_system z (program_of levels ts)) e h)
-
-same_ok : (s t : System) → ◌≡◌ {A = Result System Fault} (Ok s) (Ok t) → s ≡ t
-same_ok s t e = cc
 
 pub is_only : (ts : List Token) (r : Result SystemMade Stop) (s : SystemMade) (tree : System) → Gives view_system r (program_of levels ts) → r ≡ Ok s → IsProgram levels ts tree → view_system s ≡ tree
 is_only ts r s tree h e p =
     let read : program_of levels ts ≡ Ok (view_system s) = subst (λ z. Gives view_system z (program_of levels ts)) e h in
     same_ok (view_system s) tree (sym read ∙ program_complete levels ts tree p)
 
-apart : (s : System) (f : Fault) → ◌≡◌ {A = Result System Fault} (Ok s) (Err f) → ⊥
-apart s f e = cc
-
 -- the fault that is read
 pub is_read : (ts : List Token) (r : Result SystemMade Stop) (e : Stop) (f : Fault) → Gives view_system r (program_of levels ts) → r ≡ Err e → e ≡ stop.Fault f → program_of levels ts ≡ Err f
 is_read ts r e f h is w = subst (λ z. Stops z (program_of levels ts)) w (subst (λ z. Gives view_system z (program_of levels ts)) is h)
 
 pub is_none : (ts : List Token) (r : Result SystemMade Stop) (e : Stop) (f : Fault) (tree : System) → Gives view_system r (program_of levels ts) → r ≡ Err e → e ≡ stop.Fault f → IsProgram levels ts tree → ⊥
-is_none ts r e f tree h is w p = apart tree f (sym (program_complete levels ts tree p) ∙ is_read ts r e f h is w)
+is_none ts r e f tree h is w p = apart_answer tree f (sym (program_complete levels ts tree p) ∙ is_read ts r e f h is w)
 
 -- where a tree is read there is no fault
 pub is_faultless : (ts : List Token) (r : Result SystemMade Stop) (s : SystemMade) (wanted : ParseFault) → Gives view_system r (program_of levels ts) → r ≡ Ok s → IsFault ts wanted → ⊥

@@ -139,7 +139,7 @@ module _ (b : Readers) (g : WithinAll b) where
       if_within _ (closer (restriction_within (place_of ts) (after ts)) (after_within ts))
       (if_within _ (closer (choice_within (place_of ts) (after ts)) (after_within ts)) (sum_within ts))
 
-too_deep_within : {A : Type 0} (t : Bool) (ts : List Token) → Within {A = A} (length ts) (too_deep t ts)
+pub too_deep_within : {A : Type 0} (t : Bool) (ts : List Token) → Within {A = A} (length ts) (too_deep t ts)
 unfolding deep_fault
 too_deep_within true ts = deep
 too_deep_within false ts = stops (le_same _)

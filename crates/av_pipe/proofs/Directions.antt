@@ -13,6 +13,8 @@ use Rattle.av_affine.proofs.Ring.{times_sum, times_neg}
 use Rattle.av_tree.specs.Points.{Point}
 use Rattle.av_flat.specs.Broadcasts.{lists_of, is_zero, directions, stays, along, moves, first_moving}
 use Rattle.av_flat.specs.Helped.{before}
+use Rattle.av_flat.proofs.Sets.{both_true}
+use Rattle.av_base.proofs.Lists.{each_append}
 
 -- ---- sums of products at the point before
 
@@ -41,10 +43,6 @@ filter_all P p (x ∷ xs) h = go (p x) refl (filter_all P p xs h.1)
     go true e r = ((h.0, e), r)
     go false e r = r
 
-all_append : {X : Type 0} (P : X → Type 0) (xs ys : List X) → AllByRecursion P xs → AllByRecursion P ys → AllByRecursion P (xs ++ ys)
-all_append P [] ys p q = q
-all_append P (x ∷ xs) ys p q = (p.0, all_append P xs ys p.1 q)
-
 all_first : {X : Type 0} (P : X → Type 0) (xs : List X) (x : X) → AllByRecursion P xs → slice_get xs 0 ≡ Some x → P x
 all_first P [] x h e = absurd cc
 all_first P (y ∷ xs) x h e = let same : y ≡ x = cc in subst P same h.0
@@ -59,7 +57,7 @@ lists_sized numbers (suc n) = each numbers (lists_sized numbers n)
   where
     each : (xs : List ℤ) → AllByRecursion (λ w. length w ≡ n) (lists_of numbers n) → AllByRecursion (λ w. length w ≡ suc n) (flat_map (λ x. map (λ w. x ∷ w) (lists_of numbers n)) xs)
     each [] h = tt
-    each (x ∷ xs) h = all_append _ (map (λ w. x ∷ w) (lists_of numbers n)) (flat_map (λ x. map (λ w. x ∷ w) (lists_of numbers n)) xs) (longer x n (lists_of numbers n) h) (each xs h)
+    each (x ∷ xs) h = each_append _ (map (λ w. x ∷ w) (lists_of numbers n)) (flat_map (λ x. map (λ w. x ∷ w) (lists_of numbers n)) xs) (longer x n (lists_of numbers n) h) (each xs h)
 
 pub mover : (linear w : Point) (m : Map) → first_moving linear m ≡ Some w → IsMover linear w m
 mover linear w m e =
@@ -70,10 +68,6 @@ mover linear w m e =
     record { size = first.0.0.0; stays = first.0.1; moves = first.1 }
 
 -- ---- points along it
-
-both_true : (a b : Bool) → IsTrue (a && b) → IsTrue a × IsTrue b
-both_true true b h = (refl, h)
-both_true false b h = absurd cc
 
 image_stays : (forms : List Form) (z w : Point) → length w ≡ length z → IsTrue (list_all (λ f. int_eq (dot f.coef w) (pos 0)) forms) → image forms (before z w) ≡ image forms z
 image_stays [] z w e h = refl

@@ -16,35 +16,24 @@ use Rattle.av_flat.specs.declared.timed.Helper.{Helper}
 use Rattle.av_flat.specs.Broadcasts.{Reference, references}
 use Rattle.av_flat.specs.Chained.{ReadsThere}
 use Rattle.av_flat.specs.Helped.{PointWords, HelperWords, HasRead, HasHelped, helped_at}
+use Rattle.av_base.proofs.Lists.{get_cases, some_is}
 
 -- ---- lists by place
-
-pub slice_parts : {X : Type 0} (xs ys : List X) (i : ℕ) (x : X) → slice_get (xs ++ ys) i ≡ Some x → (slice_get xs i ≡ Some x) ⊎ ((j : ℕ) × (i ≡ length xs + j) × (slice_get ys j ≡ Some x))
-slice_parts [] ys i x e = inr (i, omega arith, e)
-slice_parts (y ∷ xs) ys zero x e = inl e
-slice_parts (y ∷ xs) ys (suc i) x e = elim (slice_parts xs ys i x e) [ inl h ↦ inl h | inr h ↦ inr (h.0, (let l = h.1 in omega (arith, l)), h.2) ]
-
-pub same_some : {X : Type 0} (a b : X) → Some a ≡ Some b → a ≡ b
-same_some {X} a b e = ap (unwrap a) e
-  where
-    unwrap : X → Option X → X
-    unwrap d None = d
-    unwrap d (Some x) = x
 
 -- ---- what references read
 
 pub reads_at : (vs : List Signature) (set : Set) (t : Tree) (i : ℕ) (r : Reference) → ReadsThere vs set t → slice_get (references t) i ≡ Some r → (z : Point) → IsTrue (has set z)
     → IsTrue (is_declared_at vs r.place (image r.map.rows z))
-reads_at vs set (reference place m) zero r h e z here = subst (λ (x : Reference). IsTrue (is_declared_at vs x.place (image x.map.rows z))) (same_some (record { place = place; map = m }) r e) (h z here)
+reads_at vs set (reference place m) zero r h e z here = subst (λ (x : Reference). IsTrue (is_declared_at vs x.place (image x.map.rows z))) (some_is (record { place = place; map = m }) r e) (h z here)
 reads_at vs set (reference place m) (suc i) r h e z here = absurd cc
 reads_at vs set (constant k) i r h e z here = absurd cc
-reads_at vs set (binary s l q) i r h e z here = elim (slice_parts (references l) (references q) i r e) [
+reads_at vs set (binary s l q) i r h e z here = elim (get_cases (references l) (references q) i r e) [
   | inl k ↦ reads_at vs set l i r h.0 k z here
   | inr k ↦ reads_at vs set q k.0 r h.1 k.2 z here
 ]
-reads_at vs set (choice l c q x y) i r h e z here = elim (slice_parts (references l ++ references q ++ references x) (references y) i r e) [
-  | inl k ↦ elim (slice_parts (references l ++ references q) (references x) i r k) [
-    | inl a ↦ elim (slice_parts (references l) (references q) i r a) [
+reads_at vs set (choice l c q x y) i r h e z here = elim (get_cases (references l ++ references q ++ references x) (references y) i r e) [
+  | inl k ↦ elim (get_cases (references l ++ references q) (references x) i r k) [
+    | inl a ↦ elim (get_cases (references l) (references q) i r a) [
       | inl b ↦ reads_at vs set l i r h.0 b z here
       | inr b ↦ reads_at vs set q b.0 r h.1 b.2 z here
     ]
@@ -59,16 +48,16 @@ reads_at vs set (reduction o m t inner) i r h e z here = absurd cc
 reads_at vs set (pick place choices n) i r h e z here = absurd cc
 
 pub fits_at : (vs : List Signature) (n : ℕ) (t : Tree) (i : ℕ) (r : Reference) → Fits vs n t → slice_get (references t) i ≡ Some r → Leads vs n r.map r.place
-fits_at vs n (reference place m) zero r h e = subst (λ (x : Reference). Leads vs n x.map x.place) (same_some (record { place = place; map = m }) r e) h
+fits_at vs n (reference place m) zero r h e = subst (λ (x : Reference). Leads vs n x.map x.place) (some_is (record { place = place; map = m }) r e) h
 fits_at vs n (reference place m) (suc i) r h e = absurd cc
 fits_at vs n (constant k) i r h e = absurd cc
-fits_at vs n (binary s l q) i r h e = elim (slice_parts (references l) (references q) i r e) [
+fits_at vs n (binary s l q) i r h e = elim (get_cases (references l) (references q) i r e) [
   | inl k ↦ fits_at vs n l i r h.0 k
   | inr k ↦ fits_at vs n q k.0 r h.1 k.2
 ]
-fits_at vs n (choice l c q x y) i r h e = elim (slice_parts (references l ++ references q ++ references x) (references y) i r e) [
-  | inl k ↦ elim (slice_parts (references l ++ references q) (references x) i r k) [
-    | inl a ↦ elim (slice_parts (references l) (references q) i r a) [
+fits_at vs n (choice l c q x y) i r h e = elim (get_cases (references l ++ references q ++ references x) (references y) i r e) [
+  | inl k ↦ elim (get_cases (references l ++ references q) (references x) i r k) [
+    | inl a ↦ elim (get_cases (references l) (references q) i r a) [
       | inl b ↦ fits_at vs n l i r h.0 b
       | inr b ↦ fits_at vs n q b.0 r h.1 b.2
     ]
@@ -167,7 +156,7 @@ of_helper (h ∷ hs) g j place piece site words e = go (nat_eq h.var place) (nat
       place_is = equal h.var place p;
       piece_is = equal h.piece piece q;
       site_is = equal h.site site r;
-      words_are = ap g (omega arith) ∙ same_some (g j) words f;
+      words_are = ap g (omega arith) ∙ some_is (g j) words f;
     }
     go true true false p q r f k = later (k f)
     go true false c p q r f k = later (k f)

@@ -9,10 +9,7 @@ use Rattle.av_flat.specs.Nodes.{number_at}
 use Rattle.av_flat.specs.Broadcasts.{Reference, references, first_moving}
 use Rattle.av_flat.specs.Legal.{IsMoving}
 use Rattle.av_pipe.specs.Pipelines.{helper_of, of_references, of_pieces, of_variable, of_variables, pipelines}
-
-all_append : {X : Type 0} (P : X → Type 0) (xs ys : List X) → AllByRecursion P xs → AllByRecursion P ys → AllByRecursion P (xs ++ ys)
-all_append P [] ys p q = q
-all_append P (x ∷ xs) ys p q = (p.0, all_append P xs ys p.1 q)
+use Rattle.av_base.proofs.Lists.{each_append}
 
 module _ (s : FlatSystem) (times : List Time) where
   module _ (place : ℕ) (v : Variable) (ev : slice_get s.variables place ≡ Some v) (t : Time) (et : slice_get times (number_at s place) ≡ Some t) where
@@ -20,7 +17,7 @@ module _ (s : FlatSystem) (times : List Time) where
         → AllByRecursion (IsMoving s times) (of_references place i t.linear n rs)
     moving_references i p ep n [] at = tt
     moving_references i p ep n (r ∷ rs) at =
-        all_append (IsMoving s times) (helper_of place i n (first_moving t.linear r.map)) (of_references place i t.linear (suc n) rs)
+        each_append (IsMoving s times) (helper_of place i n (first_moving t.linear r.map)) (of_references place i t.linear (suc n) rs)
         (first (first_moving t.linear r.map) refl)
         (moving_references i p ep (suc n) rs (λ k q e. subst (λ (j : ℕ). slice_get (references p.tree) j ≡ Some q) (omega arith) (at (suc k) q e)))
       where
@@ -44,7 +41,7 @@ module _ (s : FlatSystem) (times : List Time) where
     moving_pieces : (i : ℕ) (ps : List Piece) → ((k : ℕ) (p : Piece) → slice_get ps k ≡ Some p → slice_get v.pieces (i + k) ≡ Some p) → AllByRecursion (IsMoving s times) (of_pieces place t.linear i ps)
     moving_pieces i [] at = tt
     moving_pieces i (p ∷ ps) at =
-        all_append (IsMoving s times) (of_references place i t.linear 0 (references p.tree)) (of_pieces place t.linear (suc i) ps)
+        each_append (IsMoving s times) (of_references place i t.linear 0 (references p.tree)) (of_pieces place t.linear (suc i) ps)
         (moving_references i p (subst (λ (j : ℕ). slice_get v.pieces j ≡ Some p) (omega arith) (at 0 p refl)) 0 (references p.tree) (λ k r e. subst (λ (j : ℕ). slice_get (references p.tree) j ≡ Some r) (omega arith) e))
         (moving_pieces (suc i) ps (λ k q e. subst (λ (j : ℕ). slice_get v.pieces j ≡ Some q) (omega arith) (at (suc k) q e)))
 
@@ -55,7 +52,7 @@ module _ (s : FlatSystem) (times : List Time) where
   moving_variables : (place : ℕ) (vs : List Variable) → ((k : ℕ) (v : Variable) → slice_get vs k ≡ Some v → slice_get s.variables (place + k) ≡ Some v) → AllByRecursion (IsMoving s times) (of_variables s times place vs)
   moving_variables place [] at = tt
   moving_variables place (v ∷ vs) at =
-      all_append (IsMoving s times) (of_variable place (slice_get times (number_at s place)) v) (of_variables s times (suc place) vs)
+      each_append (IsMoving s times) (of_variable place (slice_get times (number_at s place)) v) (of_variables s times (suc place) vs)
       (moving_variable place v (subst (λ (j : ℕ). slice_get s.variables j ≡ Some v) (omega arith) (at 0 v refl)) (slice_get times (number_at s place)) refl)
       (moving_variables (suc place) vs (λ k q e. subst (λ (j : ℕ). slice_get s.variables j ≡ Some q) (omega arith) (at (suc k) q e)))
 

@@ -17,6 +17,7 @@ use Rattle.av_flat.specs.Nodes.{is_node, nodes, number_at}
 use Rattle.av_flat.specs.Chained.{IsChained, IsChainedVariable, IsChainedPiece}
 use Rattle.av_flat.specs.Schedules.{IsSchedule, IsLinearPart}
 use Rattle.av_pipe.specs.inner.Helping.{HasFineMaps, HasFinePieces}
+use Rattle.av_base.proofs.Lists.{next_item}
 
 -- ---- one more variable
 
@@ -75,9 +76,6 @@ pub small_times : (s : FlatSystem) (times : List Time) → IsSchedule s 4 times 
 small_times s times h = All-from_recursion (λ (t : Time). AtMost 4 t.linear) times (small_all (nodes s) times h.one_each h.linear)
 
 -- ---- variables that are gone through
-
-pub next_item : {X : Type 0} (xs : List X) (i : ℕ) (x : X) → i < length xs → x ≡ get_or xs i x → drop i xs ≡ x ∷ drop (i + 1) xs
-next_item xs i x l e = drop-cons xs i x l ∙ ap (λ y. y ∷ drop (suc i) xs) (sym e) ∙ ap (λ k. x ∷ drop k xs) (sym (add-one i))
 
 at_map : (vars : List Var) (i : ℕ) (x : Var) (rest : List Var) → drop i vars ≡ x ∷ rest → slice_get (map view_variable vars) i ≡ Some (view_variable x)
 at_map [] zero x rest e = absurd cc

@@ -25,19 +25,16 @@ use Rattle.av_flat.specs.Broadcasts.{Reference, references}
 use Rattle.av_flat.specs.Chained.{IsChainedPiece, IsChainedVariable, IsChained}
 use Rattle.av_flat.specs.Legal.{IsMoving}
 use Rattle.av_flat.specs.Helped.{before, IsEntry, PointWords, HelperWords, IsOfPiece, helped_at, HelpedSatisfies, IsHanded, IsHelpedSolution, helped_shows_of}
+use Rattle.av_flat.proofs.DeclaredPoints.{declared_at}
 use Rattle.av_pipe.proofs.Directions.{IsMover, mover, same_image, earlier}
-use Rattle.av_pipe.proofs.HelpedTrees.{same_some, reads_at, fits_at, IsRight, right_by_place, helped_same, of_helper}
+use Rattle.av_pipe.proofs.HelpedTrees.{reads_at, fits_at, IsRight, right_by_place, helped_same, of_helper}
+use Rattle.av_base.proofs.Lists.{each_at, some_is}
 
 -- ---- by place
 
-pub all_at : {X : Type 0} (P : X → Type 0) (xs : List X) (i : ℕ) (x : X) → AllByRecursion P xs → slice_get xs i ≡ Some x → P x
-all_at P [] i x h e = absurd cc
-all_at P (y ∷ xs) zero x h e = subst P (same_some y x e) h.0
-all_at P (y ∷ xs) (suc i) x h e = all_at P xs i x h.1 e
-
 pub filtered_at : {X : Type 0} (p : X → Bool) (xs : List X) (i : ℕ) (x : X) → slice_get xs i ≡ Some x → IsTrue (p x) → slice_get (filter p xs) (length (filter p (take i xs))) ≡ Some x
 filtered_at p [] i x e t = absurd cc
-filtered_at p (y ∷ xs) zero x e t = let same = same_some y x e in let k : p y ≡ true = ap p same ∙ t in rw k e
+filtered_at p (y ∷ xs) zero x e t = let same = some_is y x e in let k : p y ≡ true = ap p same ∙ t in rw k e
 filtered_at p (y ∷ xs) (suc i) x e t = go (p y) (filtered_at p xs i x e t)
   where
     go : (b : Bool) → slice_get (filter p xs) (length (filter p (take i xs))) ≡ Some x
@@ -47,31 +44,10 @@ filtered_at p (y ∷ xs) (suc i) x e t = go (p y) (filtered_at p xs i x e t)
 
 -- ---- declared points
 
-or_true : (a b : Bool) → IsTrue a → IsTrue (a || b)
-or_true true b h = refl
-or_true false b h = absurd cc
-
-or_later : (a b : Bool) → IsTrue b → IsTrue (a || b)
-or_later true b h = refl
-or_later false b h = h
-
-and_true : (a b c : Bool) → IsTrue a → IsTrue b → IsTrue c → IsTrue (a && b && c)
-and_true true true true p q r = refl
-and_true true true false p q r = absurd cc
-and_true true false c p q r = absurd cc
-and_true false b c p q r = absurd cc
-
-declared_at : (sigs : List Signature) (place : ℕ) (v : Signature) (z : Point) → slice_get sigs place ≡ Some v → IsTrue (has v.domain z) → IsTrue (is_declared is_any sigs v.name z)
-declared_at [] place v z e h = absurd cc
-declared_at (x ∷ sigs) zero v z e h =
-    or_true _ (is_declared is_any sigs v.name z) (subst (λ (y : Signature). IsTrue (is_any y.kind && bytes_eq y.name v.name && has y.domain z)) (sym (same_some x v e))
-    (and_true _ _ _ refl ((bytes_eq-Decides v.name v.name).1 refl) h))
-declared_at (x ∷ sigs) (suc place) v z e h = or_later _ _ (declared_at sigs place v z e h)
-
 below : (n : ℕ) → IsTrue (nat_lt 0 (suc n))
 below n = grind arith
 
-not_computed : (k : Kind) → is_computed k ≡ false → IsTrue (is_input k)
+pub not_computed : (k : Kind) → is_computed k ≡ false → IsTrue (is_input k)
 not_computed kind.Input e = refl
 not_computed kind.Output e = absurd cc
 not_computed kind.Local e = absurd cc
@@ -79,10 +55,10 @@ not_computed kind.Partial e = absurd cc
 
 module _ (s : FlatSystem) (times : List Time) (chained : IsChained s) (sched : IsSchedule s 4 times) where
   pub variable_at : (place : ℕ) (v : Variable) → slice_get s.variables place ≡ Some v → IsChainedVariable s v
-  variable_at place v e = all_at (IsChainedVariable s) s.variables place v (recursion_from_All (IsChainedVariable s) s.variables chained.each) e
+  variable_at place v e = each_at (IsChainedVariable s) s.variables place v (recursion_from_All (IsChainedVariable s) s.variables chained.each) e
 
   piece_at : (v : Variable) (i : ℕ) (p : Piece) → IsChainedVariable s v → slice_get v.pieces i ≡ Some p → IsChainedPiece (signatures s) v p
-  piece_at v i p c e = all_at (IsChainedPiece (signatures s) v) v.pieces i p (recursion_from_All (IsChainedPiece (signatures s) v) v.pieces c.pieces) e
+  piece_at v i p c e = each_at (IsChainedPiece (signatures s) v) v.pieces i p (recursion_from_All (IsChainedPiece (signatures s) v) v.pieces c.pieces) e
 
   -- a variable with a piece is a node
   pub node_is : (v : Variable) (i : ℕ) (p : Piece) → IsChainedVariable s v → slice_get v.pieces i ≡ Some p → IsTrue (is_node v)
@@ -144,15 +120,15 @@ module _ (s : FlatSystem) (times : List Time) (chained : IsChained s) (sched : I
       pub word_is : (z : Point) → IsTrue (has m.piece.domain z) → (w : ℕ) → (words z ≡ Some w) ↔ IsWordAt sc m.reference.place (image m.reference.map.rows z) w
       word_is z here w =
           let q = word_within (unsigned_abs (cycle m.time z) + 1) z (omega (arith, ints)) here in (
-            (λ e. let n : q.0 ≡ w = same_some q.0 w (sym q.1 ∙ e) in subst (λ (k : ℕ). IsWordAt sc m.reference.place (image m.reference.map.rows z) k) n q.2),
-            (λ p. let n : q.0 ≡ w = same_some q.0 w (sym q.2.has ∙ p.has) in q.1 ∙ ap Some n),
+            (λ e. let n : q.0 ≡ w = some_is q.0 w (sym q.1 ∙ e) in subst (λ (k : ℕ). IsWordAt sc m.reference.place (image m.reference.map.rows z) k) n q.2),
+            (λ p. let n : q.0 ≡ w = some_is q.0 w (sym q.2.has ∙ p.has) in q.1 ∙ ap Some n),
           )
 
   -- ---- solutions
 
   module _ (hs : List Helper) (moving : AllByRecursion (IsMoving s times) hs) where
     moving_at : (j : ℕ) (h : Helper) → slice_get hs j ≡ Some h → IsMoving s times h
-    moving_at j h e = all_at (IsMoving s times) hs j h moving e
+    moving_at j h e = each_at (IsMoving s times) hs j h moving e
 
     -- the words of a helper that is handed on, in the terms of the variable, the piece and the reference where it stands
     module _ (u : Assignment) (g : HelperWords) (handed : (j : ℕ) (h : Helper) → slice_get hs j ≡ Some h → IsHanded s u h (g j)) where
@@ -172,12 +148,12 @@ module _ (s : FlatSystem) (times : List Time) (chained : IsChained s) (sched : I
           let h = o.helper in
           let m = moving_at o.number h o.is in
           let k = handed o.number h o.is in
-          let mv : m.variable ≡ v = same_some m.variable v (sym m.is ∙ ap (λ (x : ℕ). slice_get s.variables x) o.place_is ∙ ev) in
-          let kv : k.variable ≡ v = same_some k.variable v (sym k.is ∙ ap (λ (x : ℕ). slice_get s.variables x) o.place_is ∙ ev) in
-          let mp : m.piece ≡ p = same_some m.piece p (sym m.is_piece ∙ ap (λ (x : ℕ). slice_get m.variable.pieces x) o.piece_is ∙ ap (λ (y : Variable). slice_get y.pieces i) mv ∙ ep) in
-          let kp : k.piece ≡ p = same_some k.piece p (sym k.is_piece ∙ ap (λ (x : ℕ). slice_get k.variable.pieces x) o.piece_is ∙ ap (λ (y : Variable). slice_get y.pieces i) kv ∙ ep) in
-          let mr : m.reference ≡ r = same_some m.reference r (sym m.is_reference ∙ ap (λ (x : ℕ). slice_get (references m.piece.tree) x) o.site_is ∙ ap (λ (y : Piece). slice_get (references y.tree) n) mp ∙ er) in
-          let kr : k.site ≡ r = same_some k.site r (sym k.is_site ∙ ap (λ (x : ℕ). slice_get (references k.piece.tree) x) o.site_is ∙ ap (λ (y : Piece). slice_get (references y.tree) n) kp ∙ er) in
+          let mv : m.variable ≡ v = some_is m.variable v (sym m.is ∙ ap (λ (x : ℕ). slice_get s.variables x) o.place_is ∙ ev) in
+          let kv : k.variable ≡ v = some_is k.variable v (sym k.is ∙ ap (λ (x : ℕ). slice_get s.variables x) o.place_is ∙ ev) in
+          let mp : m.piece ≡ p = some_is m.piece p (sym m.is_piece ∙ ap (λ (x : ℕ). slice_get m.variable.pieces x) o.piece_is ∙ ap (λ (y : Variable). slice_get y.pieces i) mv ∙ ep) in
+          let kp : k.piece ≡ p = some_is k.piece p (sym k.is_piece ∙ ap (λ (x : ℕ). slice_get k.variable.pieces x) o.piece_is ∙ ap (λ (y : Variable). slice_get y.pieces i) kv ∙ ep) in
+          let mr : m.reference ≡ r = some_is m.reference r (sym m.is_reference ∙ ap (λ (x : ℕ). slice_get (references m.piece.tree) x) o.site_is ∙ ap (λ (y : Piece). slice_get (references y.tree) n) mp ∙ er) in
+          let kr : k.site ≡ r = some_is k.site r (sym k.is_site ∙ ap (λ (x : ℕ). slice_get (references k.piece.tree) x) o.site_is ∙ ap (λ (y : Piece). slice_get (references y.tree) n) kp ∙ er) in
           let right = right_at o.number h o.is m k (kp ∙ sym mp) (kr ∙ sym mr) z (subst (λ (y : Piece). IsTrue (has y.domain z)) (sym mp) here) w in
           let there : (g o.number z ≡ Some w) ↔ IsWordAt (scene s u v) r.place (image r.map.rows z) w =
           subst (λ (y : Variable). (g o.number z ≡ Some w) ↔ IsWordAt (scene s u y) r.place (image r.map.rows z) w) kv
@@ -224,7 +200,7 @@ module _ (s : FlatSystem) (times : List Time) (chained : IsChained s) (sched : I
       where
         go : (o : Option Signature) → slice_get (signatures s) place ≡ o → IsTrue (domain_has o y) → (w : ℕ) × (word_of u o y ≡ Some w)
         go None e k = absurd cc
-        go (Some v) e k = some_word (u v.name y) ((p.declared v.name y).1 (declared_at (signatures s) place v y e k))
+        go (Some v) e k = some_word (u v.name y) ((p.declared v.name y).1 (declared_at is_any (signatures s) place v y e refl k))
 
     if_true : (b : Bool) (a c : Option ℕ) → IsTrue b → (if b then a else c) ≡ a
     if_true true a c h = refl
@@ -261,7 +237,7 @@ module _ (s : FlatSystem) (times : List Time) (chained : IsChained s) (sched : I
     all_handed : (hs : List Helper) (a : AllByRecursion (IsMoving s times) hs) (j : ℕ) (h : Helper) → slice_get hs j ≡ Some h → IsHanded s u h (all_words hs a j)
     unfolding all_words
     all_handed [] a j h e = absurd cc
-    all_handed (y ∷ hs) a zero h e = subst (λ (k : Helper). IsHanded s u k (λ z. own_words y a.0 z)) (same_some y h e) (own_handed y a.0)
+    all_handed (y ∷ hs) a zero h e = subst (λ (k : Helper). IsHanded s u k (λ z. own_words y a.0 z)) (some_is y h e) (own_handed y a.0)
     all_handed (y ∷ hs) a (suc j) h e = all_handed hs a.1 j h e
 
     no_others : (hs : List Helper) (a : AllByRecursion (IsMoving s times) hs) (j : ℕ) → length hs ≤ j → (z : Point) → all_words hs a j z ≡ None

@@ -57,7 +57,7 @@ normal_points dim old new z n (inr (never, s)) = tightest_points dim old new z n
 
 -- ---- primitive rows
 
-counted_divided : (n g : ℕ) (xs : List ℤ) → counted n (divided (counted n xs) g) ≡ divided (counted n xs) g
+pub counted_divided : (n g : ℕ) (xs : List ℤ) → counted n (divided (counted n xs) g) ≡ divided (counted n xs) g
 counted_divided n g [] = refl
 counted_divided zero g (x ∷ xs) = ap₂ (λ (y : ℤ) ys. y ∷ ys) (ap pos (sym (zero-div g))) (counted_divided zero g xs)
 counted_divided (suc n) g (x ∷ xs) = ap (λ ys. int_div_euclid x (pos g) ∷ ys) (counted_divided n g xs)

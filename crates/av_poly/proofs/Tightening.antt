@@ -17,7 +17,7 @@ use Rattle.av_poly.proofs.Meeting.{met_more, met_alike, met_last}
 abbrev pub lower : Form → ℤ → Form
 lower row constant = record { coef = row.coef; constant = int_min row.constant constant }
 
-same_form : (a b : Form) → a.coef ≡ b.coef → a.constant ≡ b.constant → a ≡ b
+pub same_form : (a b : Form) → a.coef ≡ b.coef → a.constant ≡ b.constant → a ≡ b
 same_form a b p q = ap₂ (λ coef constant. record { coef = coef; constant = constant }) p q
 
 -- the lowered row is one of the two

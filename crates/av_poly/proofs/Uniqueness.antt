@@ -7,6 +7,7 @@ use Rattle.std.proofs.lemmas.List.{get_or_default}
 use Rattle.av_affine.specs.declared.form.Form.{Form}
 use Rattle.av_poly.specs.Normal.{IsConstant, IsNever, IsDivided, HasDirection, IsMetBefore, AreTightest, AreNormalised}
 use Rattle.av_poly.proofs.Dividing.{divided_once, not_constant}
+use Rattle.av_poly.proofs.Tightening.{same_form}
 
 -- ---- lists with the same elements in one order
 
@@ -83,9 +84,6 @@ record IsMatch (x : Form) (b : List Form) : Type 0 where
   pub within : place < length b
   pub coef : (get_or b place x).coef ≡ x.coef
   pub constant : (get_or b place x).constant ≤ℤ x.constant
-
-same_form : (a b : Form) → a.coef ≡ b.coef → a.constant ≡ b.constant → a ≡ b
-same_form a b p q = ap₂ (λ coef constant. record { coef = coef; constant = constant }) p q
 
 module _ (dim : ℕ) (rows : List Form) where
   matched : (a b : List Form) → AreTightest dim rows a → AreTightest dim rows b → (k : ℕ) (d : Form) → k < length a → IsMatch (get_or a k d) b

@@ -13,8 +13,8 @@ use Rattle.av_sched.specs.inner.Walk.{HasWalked, IsLike}
 use Rattle.av_sched.specs.inner.FirstChoices.{HasNone, IsBestChoice, AreFirstChoices, IsStuck}
 use Rattle.av_sched.proofs.Tries.{SameIn, same_cost, same_feasible, first_of_all, none_of_all}
 use Rattle.std.proofs.lemmas.Option.{slice_get-get_or}
-use Rattle.av_sched.proofs.Leading.{same_default}
 use Rattle.av_sched.proofs.Steps.{take_more}
+use Rattle.av_base.proofs.Lists.{same_default}
 
 -- what the walk over the whole box gives
 pub best_of_walk : (s : FlatSystem) (c : ℕ) (component : List ℕ) (linear best : List Point) → All (λ n. n < length (nodes s)) component → HasWalked s c component 0 linear None (Some best) → IsLike component linear (Some best)

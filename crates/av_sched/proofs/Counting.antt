@@ -12,7 +12,8 @@ use Rattle.std.proofs.Math.Nat.{pow-suc}
 use Rattle.std.proofs.lemmas.List.Sums.{sum_by_more}
 use Rattle.std.proofs.lemmas.Bool.{cases_lt}
 use Rattle.av_sched.specs.inner.Vectors.{indices_of}
-use Rattle.av_sched.proofs.Steps.{take_more, take_whole}
+use Rattle.av_sched.proofs.Steps.{take_more}
+use Rattle.av_base.proofs.Lists.{take_whole}
 
 -- a number that stops at m, times b
 pub capped_times : (a b m : ℕ) → 1 ≤ b → min (min a m * b) m ≡ min (a * b) m

@@ -12,21 +12,17 @@ use Rattle.av_tree.specs.Points.{Point}
 use Rattle.av_flat.specs.Trees.{FlatSystem}
 use Rattle.av_flat.specs.Nodes.{nodes}
 use Rattle.av_depend.specs.declared.edge.Edge.{Edge}
-use Rattle.av_base.proofs.Among.{none_among}
+use Rattle.av_base.proofs.Among.{none_among, last_among}
 use Rattle.av_sched.specs.declared.arc.Arc.{Arc}
 use Rattle.av_sched.specs.inner.Arcs.{zeros, IsArc, AreSmall, Solves, IsLeastSolution}
 use Rattle.av_sched.specs.inner.Leads.{IsArcOf}
 use Rattle.av_sched.specs.Offsets.{part, AreVectors}
 use Rattle.av_sched.specs.Choices.{AreLinearParts, IsFeasible}
 use Rattle.av_sched.specs.inner.Walk.{AreArcsInside}
-use Rattle.av_sched.proofs.Tries.{there}
 use Rattle.av_sched.proofs.Usable.{usable_edge}
 use Rattle.av_sched.proofs.Bridge.{arcs_fit}
 use Rattle.av_sched.proofs.Leaves.{solved_feasible, unsolved_infeasible}
-
-last_among : {X : Type 0} (xs : List X) (x : X) → Contains (xs ++ x ∷ []) x
-last_among [] x = (0, omega arith, refl)
-last_among (y ∷ xs) x = let r = last_among xs x in (suc r.0, (let l = r.1 in omega (arith, l)), r.2)
+use Rattle.av_base.proofs.Lists.{there_is}
 
 zip_push : {X Y : Type 0} (R : X → Y → Type 0) (xs : List X) (ys : List Y) (x : X) (y : Y) → AllZip R xs ys → R x y → AllZip R (xs ++ x ∷ []) (ys ++ y ∷ [])
 zip_push R [] [] x y h r = (r, tt)
@@ -89,7 +85,7 @@ pub vectors_of : (s : FlatSystem) (c : ℕ) (linear : List Point) → c ≤ 4 �
 vectors_of s c linear wide are = record {
   one_each = are.one_each;
   sizes = λ n v e. (are.each n v e).size;
-  entries = λ n l. let v = there (nodes s) n l in All-weaker (λ x. unsigned_abs x ≤ c) (λ x. unsigned_abs x ≤ 4) (λ x m. omega (arith, m, wide)) (part linear n) (are.each n v.0 v.1).entries;
+  entries = λ n l. let v = there_is (nodes s) n l in All-weaker (λ x. unsigned_abs x ≤ c) (λ x. unsigned_abs x ≤ 4) (λ x m. omega (arith, m, wide)) (part linear n) (are.each n v.0 v.1).entries;
 }
 
 pub zeros_small : (low : List ℤ) (n : ℕ) → low ≡ zeros n → AreSmall 1073741824 low

@@ -6,16 +6,12 @@ use Rattle.std.proofs.lemmas.Bool.{cases_eq}
 use Rattle.av_affine.specs.declared.map.Map.{Map}
 use Rattle.av_tree.specs.Points.{Point}
 use Rattle.av_sched.specs.inner.Leads.{lead, IsLeastLead}
+use Rattle.av_base.proofs.Lists.{same_default}
 
 pub record IsLeastSoFar (a b : Point) (m : Map) (points : List Point) (k : ℕ) (x : ℤ) : Type 0 where
   pub within : k ≤ length points
   pub below : (j : ℕ) (d : Point) → j < k → x ≤ℤ lead a b m (get_or points j d)
   pub taken : (j : ℕ) × (j < k) × ((d : Point) → lead a b m (get_or points j d) ≡ x)
-
-pub same_default : {X : Type 0} (xs : List X) (k : ℕ) (d e : X) → k < length xs → get_or xs k d ≡ get_or xs k e
-same_default [] k d e h = absurd (omega (arith, h))
-same_default (x ∷ xs) zero d e h = refl
-same_default (x ∷ xs) (suc k) d e h = same_default xs k d e (omega (arith, h))
 
 -- the point at k, whatever the default is
 lead_there : (a b : Point) (m : Map) (points : List Point) (k : ℕ) (p : Point) (y : ℤ) → k < length points → p ≡ get_or points k p → y ≡ lead a b m p → (d : Point) → lead a b m (get_or points k d) ≡ y

@@ -10,11 +10,9 @@ use Rattle.av_flat.specs.Trees.{Variable, FlatSystem}
 use Rattle.av_flat.specs.Schedules.{IsLinearPart}
 use Rattle.av_flat.specs.Nodes.{is_node, nodes}
 use Rattle.av_flat.specs.Chained.{IsChained, IsChainedVariable}
-use Rattle.av_flat.proofs.Solving.{all_at}
 use Rattle.av_sched.specs.inner.Vectors.{AreLinearPartsOf}
 use Rattle.av_sched.specs.inner.Walk.{AreParts, AreAllParts, AreAllPartsTo}
-use Rattle.av_sched.proofs.Leading.{same_default}
-use Rattle.av_sched.proofs.Tries.{there}
+use Rattle.av_base.proofs.Lists.{all_at, same_default, there_is}
 
 -- the dimensions of those among the variables that are nodes
 abbrev pub sizes : List Variable → List ℕ
@@ -39,7 +37,7 @@ size_at s dims n d v e f g =
 
 pub size_fits : (s : FlatSystem) (dims : List ℕ) (n d : ℕ) → IsChained s → n < length (nodes s) → dims ≡ sizes s.variables → d ≡ get_or dims n d → d ≤ 4
 size_fits s dims n d chained l e f =
-    let r = there (nodes s) n l in
+    let r = there_is (nodes s) n l in
     let v = all_at (IsChainedVariable s) (nodes s) n r.0 (All-filter is_node (IsChainedVariable s) s.variables chained.each) r.1 in
     let q = size_at s dims n d r.0 e f r.1 in
     let few = v.indices in

@@ -15,6 +15,7 @@ use Rattle.av_depend.proofs.Unique.{one_components}
 use Rattle.av_sched.specs.Offsets.{part, AreLeastOffsets}
 use Rattle.av_sched.specs.Order.{entry_rank, left_still, size_of, cost, IsLess}
 use Rattle.av_sched.specs.First.{IsFirstSchedule}
+use Rattle.av_base.proofs.Lists.{same_head, same_tail}
 
 -- ---- costs
 
@@ -28,19 +29,13 @@ rank_once x y e = go (int_lt (pos 0) x) (int_lt (pos 0) y) refl refl e
     go false true p q h = absurd (omega (arith, ints, p, q, h))
     go false false p q h = omega (arith, ints, p, q, h)
 
-head_is : {X : Type 0} (x y : X) (xs ys : List X) → x ∷ xs ≡ y ∷ ys → x ≡ y
-head_is x y xs ys e = cc
-
-tail_is : {X : Type 0} (x y : X) (xs ys : List X) → x ∷ xs ≡ y ∷ ys → xs ≡ ys
-tail_is x y xs ys e = cc
-
 ranks_once : (xs ys : List ℤ) → map entry_rank xs ≡ map entry_rank ys → xs ≡ ys
 ranks_once [] [] e = refl
 ranks_once [] (y ∷ ys) e = absurd (let l = ap (λ (l : List ℕ). length l) e in omega (arith, l))
 ranks_once (x ∷ xs) [] e = absurd (let l = ap (λ (l : List ℕ). length l) e in omega (arith, l))
 ranks_once (x ∷ xs) (y ∷ ys) e =
-    ap₂ (λ a b. a ∷ b) (rank_once x y (head_is (entry_rank x) (entry_rank y) (map entry_rank xs) (map entry_rank ys) e))
-    (ranks_once xs ys (tail_is (entry_rank x) (entry_rank y) (map entry_rank xs) (map entry_rank ys) e))
+    ap₂ (λ a b. a ∷ b) (rank_once x y (same_head (entry_rank x) (entry_rank y) (map entry_rank xs) (map entry_rank ys) e))
+    (ranks_once xs ys (same_tail (entry_rank x) (entry_rank y) (map entry_rank xs) (map entry_rank ys) e))
 
 -- of two lists of one length, neither of which is less, both are the same
 neither_less : (xs ys : List ℕ) → length xs ≡ length ys → (IsLess xs ys → ⊥) → (IsLess ys xs → ⊥) → xs ≡ ys
@@ -64,8 +59,8 @@ first_parts [] [] xs ys e h = (refl, h)
 first_parts [] (y ∷ b) xs ys e h = absurd (omega (arith, e))
 first_parts (x ∷ a) [] xs ys e h = absurd (omega (arith, e))
 first_parts (x ∷ a) (y ∷ b) xs ys e h =
-    let r = first_parts a b xs ys (omega (arith, e)) (tail_is x y (a ++ xs) (b ++ ys) h) in
-    (ap₂ (λ c d. c ∷ d) (head_is x y (a ++ xs) (b ++ ys) h) r.0, r.1)
+    let r = first_parts a b xs ys (omega (arith, e)) (same_tail x y (a ++ xs) (b ++ ys) h) in
+    (ap₂ (λ c d. c ∷ d) (same_head x y (a ++ xs) (b ++ ys) h) r.0, r.1)
 
 module _ (f g : ℕ → Point) where
   abbrev HaveSizes : List ℕ → Type 0
@@ -98,9 +93,9 @@ times_are [] [] e f = refl
 times_are [] (u ∷ us) e f = absurd (let l = ap (λ (l : List Point). length l) e in omega (arith, l))
 times_are (t ∷ ts) [] e f = absurd (let l = ap (λ (l : List Point). length l) e in omega (arith, l))
 times_are (t ∷ ts) (u ∷ us) e f =
-    let a = head_is t.linear u.linear (map (λ x. x.linear) ts) (map (λ x. x.linear) us) e in
-    let b = head_is t.offset u.offset (map (λ x. x.offset) ts) (map (λ x. x.offset) us) f in
-    let rest = times_are ts us (tail_is t.linear u.linear (map (λ x. x.linear) ts) (map (λ x. x.linear) us) e) (tail_is t.offset u.offset (map (λ x. x.offset) ts) (map (λ x. x.offset) us) f) in
+    let a = same_head t.linear u.linear (map (λ x. x.linear) ts) (map (λ x. x.linear) us) e in
+    let b = same_head t.offset u.offset (map (λ x. x.offset) ts) (map (λ x. x.offset) us) f in
+    let rest = times_are ts us (same_tail t.linear u.linear (map (λ x. x.linear) ts) (map (λ x. x.linear) us) e) (same_tail t.offset u.offset (map (λ x. x.offset) ts) (map (λ x. x.offset) us) f) in
     let same : t ≡ u = ap₂ (λ x y. record { linear = x; offset = y }) a b in
     ap₂ (λ x y. x ∷ y) same rest
 
@@ -136,9 +131,9 @@ module _ (s : FlatSystem) (c : ℕ) (ts us : List Time) (h : IsFirstSchedule s c
       let long = as_long (part first) (part second) d sizes in
       let as_many = length-map (flat_map (part first) d) entry_rank ∙ long ∙ sym (length-map (flat_map (part second) d) entry_rank) in
       let costs = neither_less (cost s d first) (cost s d second) (omega (arith, as_many)) (λ l. b.first first h.linear a.feasible l) (λ l. a.first second k.linear b.feasible l) in
-      let broadcasts = tail_is (sum (map (left_still s first) d)) (sum (map (left_still s second) d)) (sum (map (λ m. size_of (part first m)) d) ∷ map entry_rank (flat_map (part first) d))
+      let broadcasts = same_tail (sum (map (left_still s first) d)) (sum (map (left_still s second) d)) (sum (map (λ m. size_of (part first m)) d) ∷ map entry_rank (flat_map (part first) d))
       (sum (map (λ m. size_of (part second m)) d) ∷ map entry_rank (flat_map (part second) d)) costs in
-      let ranks = tail_is (sum (map (λ m. size_of (part first m)) d)) (sum (map (λ m. size_of (part second m)) d)) (map entry_rank (flat_map (part first) d)) (map entry_rank (flat_map (part second) d)) broadcasts in
+      let ranks = same_tail (sum (map (λ m. size_of (part first m)) d)) (sum (map (λ m. size_of (part second m)) d)) (map entry_rank (flat_map (part first) d)) (map entry_rank (flat_map (part second) d)) broadcasts in
       let entries = ranks_once (flat_map (part first) d) (flat_map (part second) d) ranks in
       subst (λ (m : ℕ). part first m ≡ part second m) member.2 (each_part (part first) (part second) d sizes entries member.0 member.1 n)
 

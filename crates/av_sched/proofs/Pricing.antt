@@ -1,7 +1,6 @@
 -- What linear parts cost at nodes: sums over the first nodes, the least of the rest, and what prices say of the order.
 use Rattle.std.proofs.Common.{◌≡◌, ◌≢◌, ◌↔◌, ℕ, zero, suc, ◌+◌, ◌*◌, ◌-◌, ◌^◌, ◌<◌, ◌≤◌, ◌⊎◌, inl, inr, ⊎_elim, Bool, true, false, cond, Option, Some, None, List, [], ◌∷◌, ◌++◌, map, length, take, drop, get_or, refl, sym, ap, ap₂, subst, ◌∙◌, arith, All, get_or-set_same, get_or-set_other, length-append, unsigned_abs}
 use Rattle.std.proofs.Math.Seq.{drop-cons}
-use Rattle.av_sched.proofs.Leading.{same_default}
 use Rattle.av_sched.proofs.Listing.{get_push, get_last}
 use Rattle.av_sched.proofs.Steps.{take_more}
 use Rattle.av_sched.proofs.Ways.{small_node}
@@ -25,7 +24,8 @@ use Rattle.av_sched.specs.Choices.{AreLinearParts}
 use Rattle.av_sched.specs.Order.{references_of, left_still, size_of, IsLess, entry_rank}
 use Rattle.av_sched.specs.inner.Walk.{Agrees, IsAhead, IsBarred, known, AreParts, AreAllParts}
 use Rattle.av_sched.specs.inner.Prices.{IsSmallDirection, ways_of, still_among, left_at, IsPriceAt, ArePricesAt, ArePricesTo, IsSpent, IsFloor, AreFloorsTo, IsRated, IsAbove}
-use Rattle.av_sched.proofs.Tries.{SameIn, there}
+use Rattle.av_sched.proofs.Tries.{SameIn}
+use Rattle.av_base.proofs.Lists.{same_default, there_is}
 
 -- ---- broadcasts that are not moved
 
@@ -275,7 +275,7 @@ module _ (s : FlatSystem) where
   }
     where
       at : (other : List Point) → AreLinearParts s c other → Contains parts (part other n)
-      at other are = let v = there (nodes s) n l in valid.all v.0 v.1 (part other n) (are.each n v.0 v.1)
+      at other are = let v = there_is (nodes s) n l in valid.all v.0 v.1 (part other n) (are.each n v.0 v.1)
 
       within : (other : List Point) (are : AreLinearParts s c other) → (at other are).0 < length prices
       within other are = let i = (at other are).1 in let z = priced.one_each in omega (arith, i, z)
@@ -344,7 +344,7 @@ module _ (s : FlatSystem) where
   pub directions_fit : (c n : ℕ) (items : List Point) (ways : List (List Point)) → IsChained s → n < length (nodes s) → AreParts s c n items → ways ≡ ways_of (references_of (slice_get (nodes s) n))
       → All (λ part. All (All (IsSmallDirection (length part))) ways) items
   directions_fit c n items ways chained l valid e =
-      let r = there (nodes s) n l in
+      let r = there_is (nodes s) n l in
       let small = small_node s n r.0 chained r.1 in
       λ i d m. subst (λ (k : ℕ). All (All (IsSmallDirection k)) ways) (sym (valid.valid r.0 r.1 i d m).size) (subst (All (All (IsSmallDirection r.0.domain.dim))) (sym e) small)
 

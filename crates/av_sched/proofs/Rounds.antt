@@ -5,10 +5,11 @@ use Rattle.std.proofs.lemmas.Int.{ints, by_lt_z}
 use Rattle.std.proofs.lemmas.Bool.{cases_eq}
 use Rattle.std.proofs.lemmas.Bool.Decides.{nat_tests}
 use Rattle.std.proofs.lemmas.List.Elements.{All-contains_itself, All-contains, All-weaker, All-head, All-tail, All-cons, All-nil}
-use Rattle.av_flat.proofs.Solving.{by_test}
 use Rattle.av_base.proofs.Among.{first_among, more_among}
 use Rattle.av_sched.specs.declared.arc.Arc.{Arc}
 use Rattle.av_sched.specs.inner.Arcs.{at, IsLate, Solves, IsLeastSolution, raised, raised_all, IsArc, AreSmall}
+use Rattle.av_base.proofs.Lists.{same_default}
+use Rattle.av_base.proofs.Truths.{by_test}
 
 -- ---- what a round makes of the old offsets
 
@@ -256,11 +257,6 @@ kept_first arcs low off g b e = subst (IsKept arcs low 0) (sym e) (record {
   under = λ x s k i. s.above k i;
   left = λ x s. (nodes (length x), (let l = length_nodes (length x) in let z = s.size in omega (arith, l, z)), first_settled arcs x low (subst (λ (n : ℕ). All (λ e. e.read < n) arcs) (sym s.size) (reads (length low) arcs g)));
 })
-
-same_default : (xs : List ℤ) (k : ℕ) (d e : ℤ) → k < length xs → get_or xs k d ≡ get_or xs k e
-same_default [] k d e h = absurd (omega (arith, h))
-same_default (x ∷ xs) zero d e h = refl
-same_default (x ∷ xs) (suc k) d e h = same_default xs k d e (omega (arith, h))
 
 small_new : (arcs : List Arc) (old new : List ℤ) (b : ℕ) → All (IsArc (length old)) arcs → AreSmall b old → IsRound arcs old new → AreSmall (b + 1073741825) new
 small_new arcs old new b g h r = λ k d i.

@@ -10,11 +10,11 @@ use Rattle.av_flat.specs.Trees.{FlatSystem}
 use Rattle.av_flat.specs.Chained.{IsChained, IsChainedVariable}
 use Rattle.av_flat.specs.Nodes.{is_node, nodes, IsComputation}
 use Rattle.av_flat.proofs.Sets.{has_is}
-use Rattle.av_flat.proofs.Solving.{all_at}
-use Rattle.av_depend.proofs.Small.{small_point}
+use Rattle.av_flat.proofs.Bounded.{small_point}
 use Rattle.av_sched.specs.Offsets.{part}
 use Rattle.av_sched.specs.Choices.{AreLinearParts, IsFeasible, HasSchedule}
 use Rattle.av_sched.proofs.Walking.{lowest}
+use Rattle.av_base.proofs.Lists.{all_at}
 
 pub feasible_of_schedule : (s : FlatSystem) (c : ℕ) (component : List ℕ) → (h : HasSchedule s c component) → IsFeasible s component h.linear
 feasible_of_schedule s c component h = (h.off, h.later)

@@ -16,13 +16,12 @@ use Rattle.std.proofs.lemmas.Bool.Decides.{nat_tests}
 use Rattle.std.proofs.lemmas.List.Elements.{All-contains}
 use Rattle.av_base.proofs.Among.{first_among}
 use Rattle.av_flat.specs.Nodes.{is_node, nodes}
-use Rattle.av_flat.proofs.Solving.{all_at}
 use Rattle.av_flat.proofs.Cycles.{node_at}
 use Rattle.av_elim.specs.Extents.{IsOrdinary}
-use Rattle.av_depend.proofs.Small.{small_point}
+use Rattle.av_flat.proofs.Bounded.{small_point}
 use Rattle.av_sched.specs.Offsets.{part, AreVectors}
-use Rattle.av_sched.proofs.Leading.{same_default}
 use Rattle.av_sched.proofs.Started.{IsStarted}
+use Rattle.av_base.proofs.Lists.{all_at, same_default}
 
 pub at_view : (flat : Flat) (xs : List Var) (k : ℕ) (a : Var) → xs ≡ flat.vars → k < length xs → a ≡ get_or xs k a → slice_get (view_system flat).variables k ≡ Some (view_variable a)
 at_view flat xs k a q l e =

@@ -13,9 +13,9 @@ use Rattle.av_sched.specs.declared.place.Place.{Place}
 use Rattle.av_sched.specs.Offsets.{part}
 use Rattle.av_sched.specs.Choices.{AreLinearParts}
 use Rattle.av_sched.specs.inner.Walk.{Agrees, IsSound, HasWalked, HasTried, AreParts, AreAllParts, IsPlace, IsBarred, IsLike}
-use Rattle.av_sched.proofs.Leading.{same_default}
 use Rattle.av_sched.proofs.Walking.{nothing_there}
-use Rattle.av_sched.proofs.Tries.{there, tried_none, tried_more, tried_all, leads_on}
+use Rattle.av_sched.proofs.Tries.{tried_none, tried_more, tried_all, leads_on}
+use Rattle.av_base.proofs.Lists.{same_default, take_whole, there_is}
 
 pub set_set : {X : Type 0} (xs : List X) (n : ℕ) (a b : X) → slice_set (slice_set xs n a) n b ≡ slice_set xs n b
 set_set [] n a b = refl
@@ -118,7 +118,7 @@ module _ (s : FlatSystem) (c : ℕ) (component : List ℕ) (edges : List Edge) (
       → HasWalked s c component k start old new
   walking_done start now parts old new pool all h =
       tried_all s c component within k start parts old new
-      (λ other are agrees f. let e = there (nodes s) (node_at_level component k) node_within in all.all e.0 e.1 (part other (node_at_level component k)) (are.each (node_at_level component k) e.0 e.1))
+      (λ other are agrees f. let e = there_is (nodes s) (node_at_level component k) node_within in all.all e.0 e.1 (part other (node_at_level component k)) (are.each (node_at_level component k) e.0 e.1))
       h.done
 
 -- ---- the lists of parts
@@ -140,9 +140,3 @@ take_more xs i x y l e f = rw (add-one, f) (go xs i x l e)
     go [] i x l e = absurd (omega (arith, l))
     go (a ∷ xs) zero x l e = ap (λ b. b ∷ []) (sym e)
     go (a ∷ xs) (suc i) x l e = ap (λ ys. a ∷ ys) (go xs i x (omega (arith, l)) e)
-
-pub take_whole : {X : Type 0} (xs : List X) (i : ℕ) → length xs ≤ i → take i xs ≡ xs
-take_whole [] zero l = refl
-take_whole [] (suc i) l = refl
-take_whole (x ∷ xs) zero l = absurd (omega (arith, l))
-take_whole (x ∷ xs) (suc i) l = ap (λ ys. x ∷ ys) (take_whole xs i (omega (arith, l)))

@@ -15,8 +15,8 @@ use Rattle.av_sched.specs.Offsets.{part}
 use Rattle.av_sched.specs.Choices.{AreLinearParts, IsFeasible}
 use Rattle.av_sched.specs.Order.{entry_rank, references_of, left_still, size_of, cost, IsLess}
 use Rattle.av_sched.specs.inner.Walk.{Agrees, IsMet, IsSound, IsAhead, HasWalked, HasTried}
-use Rattle.av_sched.proofs.Leading.{same_default}
 use Rattle.av_sched.proofs.Walking.{not_before}
+use Rattle.av_base.proofs.Lists.{same_default, there_is}
 
 -- ---- the order
 
@@ -71,14 +71,9 @@ flat_length : (f g : ℕ → Point) (xs : List ℕ) → AllByRecursion (λ n. le
 flat_length f g [] h = refl
 flat_length f g (x ∷ xs) h = length-append (f x) (flat_map f xs) ∙ ap₂ (λ a b. a + b) h.0 (flat_length f g xs h.1) ∙ sym (length-append (g x) (flat_map g xs))
 
-pub there : {X : Type 0} (xs : List X) (n : ℕ) → n < length xs → (x : X) × (slice_get xs n ≡ Some x)
-there [] n l = absurd (omega (arith, l))
-there (x ∷ xs) zero l = (x, refl)
-there (x ∷ xs) (suc n) l = there xs n (omega (arith, l))
-
 part_length : (s : FlatSystem) (c : ℕ) (a b : List Point) (n : ℕ) → AreLinearParts s c a → AreLinearParts s c b → n < length (nodes s) → length (part a n) ≡ length (part b n)
 part_length s c a b n p q l =
-    let e = there (nodes s) n l in (p.each n e.0 e.1).size ∙ sym (q.each n e.0 e.1).size
+    let e = there_is (nodes s) n l in (p.each n e.0 e.1).size ∙ sym (q.each n e.0 e.1).size
 
 pub cost_length : (s : FlatSystem) (c : ℕ) (component : List ℕ) (a b : List Point) → AreLinearParts s c a → AreLinearParts s c b → All (λ n. n < length (nodes s)) component
     → length (cost s component a) ≡ length (cost s component b)

@@ -16,7 +16,7 @@ use Rattle.av_flat.specs.Proper.{IsProper}
 use Rattle.av_flat.specs.Chained.{IsChained, IsChainedVariable, IsChainedPiece}
 use Rattle.av_flat.specs.Nodes.{is_node, nodes, number_at}
 use Rattle.av_flat.proofs.Sets.{has_is}
-use Rattle.av_flat.proofs.Solving.{all_at, read_declared}
+use Rattle.av_flat.proofs.Solving.{read_declared}
 use Rattle.av_flat.proofs.Cycles.{node_at, is_node_with}
 use Rattle.av_depend.specs.declared.edge.Edge.{Edge}
 use Rattle.av_depend.specs.Sites.{sites_in, sites}
@@ -25,9 +25,11 @@ use Rattle.av_base.proofs.Among.{from_flat_map}
 use Rattle.av_depend.proofs.Covering.{read_of_site}
 use Rattle.av_depend.proofs.Pairs.{at_node, site_of_edge, small_site}
 use Rattle.av_depend.proofs.Generators.{dot_mid, little_listed}
-use Rattle.av_depend.proofs.Small.{small_point, small_map}
+use Rattle.av_flat.proofs.Bounded.{small_point}
+use Rattle.av_depend.proofs.Small.{small_map}
 use Rattle.av_sched.specs.Offsets.{part, AreVectors}
 use Rattle.av_sched.specs.inner.Leads.{IsSmallPart, IsSmallMap, IsUsableAs, IsUsable}
+use Rattle.av_base.proofs.Lists.{all_at}
 
 small_part : (s : FlatSystem) (linear : List Point) (n : ℕ) (v : Variable) → AreVectors s 4 linear → IsChainedVariable s v → slice_get (nodes s) n ≡ Some v → IsSmallPart (length (part linear n)) (part linear n)
 small_part s linear n v vectors chained e = record {

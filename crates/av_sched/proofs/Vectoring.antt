@@ -7,7 +7,8 @@ use Rattle.av_tree.specs.Points.{Point}
 use Rattle.av_flat.specs.Schedules.{IsLinearPart}
 use Rattle.av_base.proofs.Among.{first_among, none_among, among_map, from_map}
 use Rattle.av_sched.specs.inner.Vectors.{IsPrepended, ArePrepended, IsVectorOf, AreVectorsOf, AreLinearPartsOf, AreLinearPartsTo}
-use Rattle.av_sched.proofs.Steps.{take_more, take_whole}
+use Rattle.av_sched.proofs.Steps.{take_more}
+use Rattle.av_base.proofs.Lists.{take_whole}
 
 prepended_each : (shorter : List Point) (b : ℕ) (x : ℤ) → unsigned_abs x ≤ b → All (IsPrepended shorter b) (map (λ y. x ∷ y) shorter)
 prepended_each shorter b x h = λ k d l.

@@ -19,12 +19,12 @@ use Rattle.av_base.proofs.Among.{among_map}
 use Rattle.av_flat.specs.Trees.{view, view_piece, view_variable, Tree, Piece, Variable, FlatSystem, reference, constant, binary, choice, restriction, cases, dependence, reduction, pick}
 use Rattle.av_flat.specs.Signatures.{Signature, signatures}
 use Rattle.av_flat.specs.WellFormed.{EachPart, Fits, HasSmallRows}
-use Rattle.av_flat.proofs.Solving.{all_at}
 use Rattle.av_sched.specs.Order.{references_of}
 use Rattle.av_flat.specs.Nodes.{is_node, nodes}
 use Rattle.av_flat.specs.Chained.{IsChained, IsChainedVariable, IsChainedPiece}
 use Rattle.av_flat.specs.Broadcasts.{Reference, references, lists_of, directions, is_zero, along, stays, is_broadcast}
 use Rattle.av_sched.specs.inner.Prices.{HasSmallReferences, IsSmallDirection, ways_of}
+use Rattle.av_base.proofs.Lists.{all_at}
 
 abbrev pub three : List ℤ
 three = pos 0 ∷ pos 1 ∷ negsuc 0 ∷ []
@@ -125,28 +125,3 @@ pub small_seen : (s : FlatSystem) (var : Var) → IsChainedVariable s (view_vari
 small_seen s var own = λ k d l.
     let p = get_or var.pieces k d in
     (small_piece s (view_variable var) (view_piece p) own (among_map view_piece var.pieces p (Contains-get_or var.pieces k d l))).0
-
--- ---- the parts of a tree are smaller than the tree
-
-abbrev Boxed : Type 0
-Boxed = Box TreeMade Global
-
-module _ (t : ℕ) (e x : TreeMade) (d : the_size e ≡ t) where
-  pub left_falls : (s : Sign) (l r : Boxed) → e ≡ made.Binary s l r → x ≡ l.value → the_size x < t
-  left_falls s l r is same = let f = ap the_size is in let g = ap the_size same in let k = sized-Binary s l r in omega (arith, d, f, g, k)
-
-  pub right_falls : (s : Sign) (l r : Boxed) → e ≡ made.Binary s l r → x ≡ r.value → the_size x < t
-  right_falls s l r is same = let f = ap the_size is in let g = ap the_size same in let k = sized-Binary s l r in omega (arith, d, f, g, k)
-
-  module _ (c : Relation) (l r y n : Boxed) (is : e ≡ made.Choose l c r y n) where
-    pub first_falls : x ≡ l.value → the_size x < t
-    first_falls same = let f = ap the_size is in let g = ap the_size same in let k = sized-Choose l c r y n in omega (arith, d, f, g, k)
-
-    pub second_falls : x ≡ r.value → the_size x < t
-    second_falls same = let f = ap the_size is in let g = ap the_size same in let k = sized-Choose l c r y n in omega (arith, d, f, g, k)
-
-    pub third_falls : x ≡ y.value → the_size x < t
-    third_falls same = let f = ap the_size is in let g = ap the_size same in let k = sized-Choose l c r y n in omega (arith, d, f, g, k)
-
-    pub fourth_falls : x ≡ n.value → the_size x < t
-    fourth_falls same = let f = ap the_size is in let g = ap the_size same in let k = sized-Choose l c r y n in omega (arith, d, f, g, k)

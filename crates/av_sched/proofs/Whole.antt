@@ -15,22 +15,21 @@ use Rattle.av_flat.specs.Chained.{IsChained, IsChainedVariable}
 use Rattle.av_flat.specs.Nodes.{is_node, nodes, IsComputation}
 use Rattle.av_flat.specs.Reads.{IsPair}
 use Rattle.av_flat.proofs.Sets.{has_is}
-use Rattle.av_flat.proofs.Solving.{all_at}
 use Rattle.av_depend.specs.declared.edge.Edge.{Edge}
 use Rattle.av_depend.specs.Edges.{AreEdgesOf}
 use Rattle.av_depend.specs.Components.{Reaches, itself, onward, ReadsNode, AreApart, AreComponents}
 use Rattle.av_base.proofs.Among.{first_among, among_cases, none_among}
 use Rattle.av_depend.proofs.Pairs.{covered_by}
-use Rattle.av_depend.proofs.Small.{small_point}
+use Rattle.av_flat.proofs.Bounded.{small_point}
 use Rattle.av_sched.specs.Offsets.{part, AreOffsets, AreVectors}
 use Rattle.av_sched.specs.Choices.{IsFeasible}
 use Rattle.av_sched.specs.inner.Leads.{lead}
 use Rattle.av_sched.proofs.Bridge.{lead_mid}
 use Rattle.av_sched.proofs.Halving.{first_span}
-use Rattle.av_sched.proofs.Leading.{same_default}
 use Rattle.av_sched.proofs.Usable.{usable_edge}
 use Rattle.av_sched.proofs.Walking.{lifted, at_lifted}
 use Rattle.av_flat.specs.Proper.{IsProper}
+use Rattle.av_base.proofs.Lists.{all_at, same_default}
 
 -- ---- what is not to be denied
 

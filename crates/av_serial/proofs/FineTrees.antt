@@ -30,11 +30,12 @@ use Rattle.av_serial.specs.Lines.{is_upper, bound, map_over, choice_before, choi
 use Rattle.av_flat.specs.Chained.{HasApartChoices, IsOfPartial, ReadsThere}
 use Rattle.av_serial.specs.SerialForm.{Chain, sign_of, chain_tree, chain_variable, IsSerialTree}
 use Rattle.av_serial.proofs.Sound.{IsSound, IsSoundChain}
-use Rattle.av_serial.proofs.TreeWords.{all_join, all_parts, the_chain}
+use Rattle.av_serial.proofs.TreeWords.{all_parts, the_chain}
 use Rattle.av_serial.proofs.RightSides.{IsPrefix, declared_too}
 use Rattle.av_serial.proofs.Widths.{identity_word}
 use Rattle.av_serial.proofs.Apart.{AreApartAt, apart, reads}
 use Rattle.av_serial.proofs.Small.{normal_within, bound_within, map_within, before_within}
+use Rattle.av_base.proofs.Lists.{each_append}
 
 pub record IsFineTree (vs' : List Signature) (width : ℕ) (set : Set) (t : Tree) : Type 0 where
   pub fits : Fits vs' set.dim t
@@ -267,7 +268,7 @@ module _ (vs vs' : List Signature) (width : ℕ) (prefix : IsPrefix vs vs') (wid
       let two = h.1 in
       let i = all_parts (IsSoundChain vs) two.first two.second (subst (λ (k : List Chain). AllByRecursion (IsSoundChain vs) k) two.is is) in
       let a = all_parts At two.first two.second (subst (λ (k : List Chain). AllByRecursion At k) two.is at) in
-      subst (λ (k : List Chain). AllByRecursion IsFineChain k) (sym two.is) (all_join IsFineChain two.first two.second
+      subst (λ (k : List Chain). AllByRecursion IsFineChain k) (sym two.is) (each_append IsFineChain two.first two.second
       (fine_chains names place l x two.first set two.first_are (record { sound = g.sound.0; rows = g.rows.1; words = g.words.1; few = g.few.1 }) i.0 a.0)
       (fine_chains names (place + length two.first) r y two.second set two.second_are (record { sound = g.sound.1; rows = g.rows.2; words = g.words.2; few = g.few.2 }) i.1 a.1))
   fine_chains names place (choice l c r x y) (choice b d j v w) cs set h g is at =
@@ -280,11 +281,11 @@ module _ (vs vs' : List Signature) (width : ℕ) (prefix : IsPrefix vs vs') (wid
       let a = all_parts At one.first one.second (subst (λ (k : List Chain). AllByRecursion At k) one.is at) in
       let a2 = all_parts At two.first two.second (subst (λ (k : List Chain). AllByRecursion At k) two.is a.1) in
       let a3 = all_parts At three.first three.second (subst (λ (k : List Chain). AllByRecursion At k) three.is a2.1) in
-      subst (λ (k : List Chain). AllByRecursion IsFineChain k) (sym one.is) (all_join IsFineChain one.first one.second
+      subst (λ (k : List Chain). AllByRecursion IsFineChain k) (sym one.is) (each_append IsFineChain one.first one.second
       (fine_chains names place l b one.first set one.first_are (record { sound = g.sound.0; rows = g.rows.1; words = g.words.1; few = g.few.1 }) i.0 a.0)
-      (subst (λ (k : List Chain). AllByRecursion IsFineChain k) (sym two.is) (all_join IsFineChain two.first two.second
+      (subst (λ (k : List Chain). AllByRecursion IsFineChain k) (sym two.is) (each_append IsFineChain two.first two.second
       (fine_chains names (place + length one.first) r j two.first set two.first_are (record { sound = g.sound.1; rows = g.rows.2; words = g.words.2; few = g.few.2 }) i2.0 a2.0)
-      (subst (λ (k : List Chain). AllByRecursion IsFineChain k) (sym three.is) (all_join IsFineChain three.first three.second
+      (subst (λ (k : List Chain). AllByRecursion IsFineChain k) (sym three.is) (each_append IsFineChain three.first three.second
       (fine_chains names (place + length one.first + length two.first) x v three.first set three.first_are (record { sound = g.sound.2; rows = g.rows.3; words = g.words.3; few = g.few.3 }) i3.0 a3.0)
       (fine_chains names (place + length one.first + length two.first + length three.first) y w three.second set three.second_are (record { sound = g.sound.3; rows = g.rows.4; words = g.words.4; few = g.few.4 }) i3.1 a3.1))))))
   fine_chains names place (reduction o m t inner) (pick q choices n) cs set h g is at =

@@ -12,9 +12,9 @@ use Rattle.av_flat.specs.Nodes.{is_node, nodes, number_at}
 use Rattle.av_serial.specs.SerialForm.{Chain, chain_variable, AreSerialPieces, IsSerialVariable, AreSerialVariables, IsSerialForm, chain_name}
 use Rattle.av_serial.specs.SerialFaults.{HaveNodes, HasNodesIn}
 use Rattle.av_serial.specs.Dependences.{IsPieceAt}
-use Rattle.av_serial.proofs.Systems.{slice_first, slice_map}
-use Rattle.av_serial.proofs.Folds.{slice_second, slice_split}
 use Rattle.av_serial.proofs.FoldPieces.{StandsIn, IsMade, made_piece, count_pieces, IsMadeVariable, made_variable, count_variables}
+use Rattle.av_base.proofs.Among.{among_at}
+use Rattle.av_base.proofs.Lists.{get_cases, get_first, get_mapped, get_second}
 
 -- ---- filtered lists
 
@@ -50,9 +50,6 @@ at_kept p (y ∷ xs) (suc i) x e h = go (p y) (at_kept p xs i x e h)
         → slice_get (if b then y ∷ filter p xs else filter p xs) (length (if b then y ∷ filter p (take i xs) else filter p (take i xs))) ≡ Some x
     go true h = h
     go false h = h
-
-pub contained : {X : Type 0} (xs : List X) (i : ℕ) (x : X) → slice_get xs i ≡ Some x → Contains xs x
-contained xs i x e = (i, slice_get_within xs i x e, get_or_from_slice_get xs i x x e)
 
 pub place_in : {X : Type 0} (xs : List X) (x : X) → Contains xs x → (i : ℕ) × (slice_get xs i ≡ Some x)
 place_in xs x c = (c.0, slice_get_read xs (length xs) c.0 x refl c.1 (sym c.2))
@@ -167,17 +164,17 @@ module _ (s t : FlatSystem) (form : IsSerialForm s t) where
       record { above = n.0; are_above = n.1; made = m.0; is = m.1; is_made = m.2 }
 
   pub variable_at : (place : ℕ) (w : Variable) → slice_get form.variables place ≡ Some w → slice_get t.variables place ≡ Some w
-  variable_at place w e = ap (λ l. slice_get l place) form.all ∙ slice_first form.variables chains place w e
+  variable_at place w e = ap (λ l. slice_get l place) form.all ∙ get_first form.variables chains place w e
 
   pub chain_at : (j : ℕ) (c : Chain) → slice_get form.chains j ≡ Some c → slice_get t.variables (first + j) ≡ Some (chain_variable s.width c)
   chain_at j c e =
       let P : ℕ → Type 0 = λ n. slice_get (form.variables ++ chains) (n + j) ≡ Some (chain_variable s.width c) in
-      ap (λ l. slice_get l (first + j)) form.all ∙ subst P size (slice_second form.variables chains j ∙ slice_map (chain_variable s.width) form.chains j c e)
+      ap (λ l. slice_get l (first + j)) form.all ∙ subst P size (get_second form.variables chains j ∙ get_mapped (chain_variable s.width) form.chains j c e)
 
   pub node_of_variable : (place : ℕ) (w : Variable) → slice_get form.variables place ≡ Some w → is_node w ≡ true → slice_get (nodes t) (number_at s place) ≡ Some w
   node_of_variable place w e h =
       let a = at_kept is_node form.variables place w e h in
-      let b = slice_first (filter is_node form.variables) chains (length (filter is_node (take place form.variables))) w a in
+      let b = get_first (filter is_node form.variables) chains (length (filter is_node (take place form.variables))) w a in
       let c = same_count (first + 0) s.variables form.variables form.chains place serial in
       ap₂ (λ (l : List Variable) (n : ℕ). slice_get l n) nodes_are (sym c) ∙ b
 
@@ -185,7 +182,7 @@ module _ (s t : FlatSystem) (form : IsSerialForm s t) where
   node_of_chain j c e =
       let P : ℕ → Type 0 = λ n. slice_get (filter is_node form.variables ++ chains) (n + j) ≡ Some (chain_variable s.width c) in
       ap (λ l. slice_get l (length (nodes s) + j)) nodes_are
-      ∙ subst P as_many_nodes (slice_second (filter is_node form.variables) chains j ∙ slice_map (chain_variable s.width) form.chains j c e)
+      ∙ subst P as_many_nodes (get_second (filter is_node form.variables) chains j ∙ get_mapped (chain_variable s.width) form.chains j c e)
 
   -- a node of the serial form is what is made of a variable, or a chain
   pub record IsVariableNode (n : ℕ) (x : Variable) : Type 0 where
@@ -205,7 +202,7 @@ module _ (s t : FlatSystem) (form : IsSerialForm s t) where
     pub number : n ≡ length (nodes s) + at
 
   pub node_is : (n : ℕ) (x : Variable) → slice_get (nodes t) n ≡ Some x → IsVariableNode n x ⊎ IsChainNode n x
-  node_is n x e = elim (slice_split (filter is_node form.variables) chains n x (sym (ap (λ l. slice_get l n) nodes_are) ∙ e)) [
+  node_is n x e = elim (get_cases (filter is_node form.variables) chains n x (sym (ap (λ l. slice_get l n) nodes_are) ∙ e)) [
     | inl h ↦
         let k = kept_at is_node form.variables n x h in
         let v = given_variable (first + 0) s.variables form.variables form.chains k.place x serial k.is in

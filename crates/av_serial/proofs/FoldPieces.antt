@@ -5,21 +5,21 @@ use Rattle.av_tree.specs.Trees.{Text}
 use Rattle.av_flat.specs.Trees.{Piece, Variable}
 use Rattle.av_serial.specs.SerialForm.{Chain, IsSerialTree, AreSerialPieces, chain_name, IsSerialVariable, AreSerialVariables}
 use Rattle.av_serial.specs.SerialFaults.{HasNodes, HaveNodes, HasNodesIn}
-use Rattle.av_serial.proofs.Systems.{slice_first}
 use Rattle.av_serial.proofs.Counting.{long_tree, long_pieces}
-use Rattle.av_serial.proofs.Folds.{slice_second, slice_split, count_tree}
+use Rattle.av_serial.proofs.Folds.{count_tree}
+use Rattle.av_base.proofs.Lists.{get_cases, get_first, get_second}
 
 -- the one list stands in the other from a place on
 abbrev pub StandsIn : List Chain → List Chain → ℕ → Type 0
 StandsIn own all o = (i : ℕ) (c : Chain) → slice_get own i ≡ Some c → slice_get all (o + i) ≡ Some c
 
 pub first_in : (xs ys cs all : List Chain) (o : ℕ) → cs ≡ xs ++ ys → StandsIn cs all o → StandsIn xs all o
-first_in xs ys cs all o e h i c s = h i c (ap (λ (l : List Chain). slice_get l i) e ∙ slice_first xs ys i c s)
+first_in xs ys cs all o e h i c s = h i c (ap (λ (l : List Chain). slice_get l i) e ∙ get_first xs ys i c s)
 
 pub second_in : (xs ys cs all : List Chain) (o : ℕ) → cs ≡ xs ++ ys → StandsIn cs all o → StandsIn ys all (o + length xs)
 second_in xs ys cs all o e h i c s =
     let same : (o + length xs) + i ≡ o + (length xs + i) = omega arith in
-    ap (λ (j : ℕ). slice_get all j) same ∙ h (length xs + i) c (ap (λ (l : List Chain). slice_get l (length xs + i)) e ∙ slice_second xs ys i ∙ s)
+    ap (λ (j : ℕ). slice_get all j) same ∙ h (length xs + i) c (ap (λ (l : List Chain). slice_get l (length xs + i)) e ∙ get_second xs ys i ∙ s)
 
 abbrev pub nodes_of : Piece → ℕ → Type 0
 nodes_of = λ (p : Piece). HasNodes p.tree
@@ -104,7 +104,7 @@ pub piece_of : (names : ℕ → Text) (width first o : ℕ) (ps qs : List Piece)
 piece_of names width first o [] [] cs all j c h is e = absurd (let n = ap (λ (l : List Chain). slice_get l j) h in cc)
 piece_of names width first o [] (y ∷ qs) cs all j c h is e = absurd h
 piece_of names width first o (x ∷ ps) [] cs all j c h is e = absurd h
-piece_of names width first o (x ∷ ps) (y ∷ qs) cs all j c h is e = elim (slice_split h.1.first h.1.second j c (sym (ap (λ (l : List Chain). slice_get l j) h.1.is) ∙ e)) [
+piece_of names width first o (x ∷ ps) (y ∷ qs) cs all j c h is e = elim (get_cases h.1.first h.1.second j c (sym (ap (λ (l : List Chain). slice_get l j) h.1.is) ∙ e)) [
   | inl g ↦
       let T : ℕ → Type 0 = λ i. IsMade first all i x y in
       let none : o ≡ o + 0 = omega arith in
@@ -192,7 +192,7 @@ pub variable_of : (first o : ℕ) (vs ws : List Variable) (cs all : List Chain) 
 variable_of first o [] [] cs all j c h is e = absurd (let n = ap (λ (l : List Chain). slice_get l j) h in cc)
 variable_of first o [] (y ∷ ws) cs all j c h is e = absurd h
 variable_of first o (x ∷ vs) [] cs all j c h is e = absurd h
-variable_of first o (x ∷ vs) (y ∷ ws) cs all j c h is e = elim (slice_split h.first h.second j c (sym (ap (λ (l : List Chain). slice_get l j) h.is) ∙ e)) [
+variable_of first o (x ∷ vs) (y ∷ ws) cs all j c h is e = elim (get_cases h.first h.second j c (sym (ap (λ (l : List Chain). slice_get l j) h.is) ∙ e)) [
   | inl g ↦
       let none : o ≡ o + 0 = omega arith in
       let own : IsMadeVariable first all o x y = record { own = h.first; serial = h.first_are; inside = first_in h.first h.second cs all o h.is is } in

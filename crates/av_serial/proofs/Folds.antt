@@ -20,25 +20,13 @@ use Rattle.av_serial.specs.Lines.{choices_of, IsLined, IsLastOver}
 use Rattle.av_serial.specs.SerialForm.{Chain, AreOfTwo, IsSerialTree, IsSerialReduction}
 use Rattle.av_serial.specs.SerialFaults.{IsSum, HasNodes}
 use Rattle.av_serial.specs.Dependences.{Fold, IsFoldIn, IsLastRead}
-use Rattle.av_serial.proofs.Systems.{slice_first}
 use Rattle.av_serial.proofs.Counting.{point_of, long_tree}
 use Rattle.av_serial.proofs.Sound.{IsSound, IsSoundReduction, has_normal, ends}
 use Rattle.av_serial.proofs.Choosing.{last}
 use Rattle.av_serial.proofs.LastPoints.{last_point, no_point}
+use Rattle.av_base.proofs.Lists.{get_cases, get_first, get_second}
 
 -- ---- lists by place
-
-pub slice_second : {X : Type 0} (xs ys : List X) (i : ℕ) → slice_get (xs ++ ys) (length xs + i) ≡ slice_get ys i
-slice_second [] ys i = let same : 0 + i ≡ i = omega arith in ap (λ (j : ℕ). slice_get ys j) same
-slice_second (x ∷ xs) ys i = let same : length (x ∷ xs) + i ≡ suc (length xs + i) = omega arith in ap (λ (j : ℕ). slice_get (x ∷ (xs ++ ys)) j) same ∙ slice_second xs ys i
-
-pub slice_split : {X : Type 0} (xs ys : List X) (i : ℕ) (x : X) → slice_get (xs ++ ys) i ≡ Some x → (slice_get xs i ≡ Some x) ⊎ ((j : ℕ) × (i ≡ length xs + j) × (slice_get ys j ≡ Some x))
-slice_split [] ys i x e = inr (i, omega arith, e)
-slice_split (y ∷ xs) ys zero x e = inl e
-slice_split (y ∷ xs) ys (suc i) x e = elim (slice_split xs ys i x e) [
-  | inl h ↦ inl h
-  | inr h ↦ inr (h.0, (let k = h.1 in omega (arith, k)), h.2)
-]
 
 -- ---- how many
 
@@ -82,7 +70,7 @@ pub record IsChainOf (names : ℕ → Text) (width place : ℕ) (cs : List Chain
 module _ (names : ℕ → Text) (width place : ℕ) where
   in_first : (xs ys cs : List Chain) (i : ℕ) (c : Chain) (f : Fold) → cs ≡ xs ++ ys → IsChainOf names width place xs i c f → IsChainOf names width place cs i c f
   in_first xs ys cs i c f e h = record {
-    is = ap (λ (l : List Chain). slice_get l i) e ∙ slice_first xs ys i c h.is;
+    is = ap (λ (l : List Chain). slice_get l i) e ∙ get_first xs ys i c h.is;
     place_is = h.place_is;
     map_is = h.map_is;
     dimension = h.dimension;
@@ -90,12 +78,12 @@ module _ (names : ℕ → Text) (width place : ℕ) where
     source_is = h.source_is;
     inner = h.inner;
     body = h.body;
-    inside = λ j d k. ap (λ (l : List Chain). slice_get l (suc (i + j))) e ∙ slice_first xs ys (suc (i + j)) d (h.inside j d k);
+    inside = λ j d k. ap (λ (l : List Chain). slice_get l (suc (i + j))) e ∙ get_first xs ys (suc (i + j)) d (h.inside j d k);
   }
 
   in_second : (xs ys cs : List Chain) (i n : ℕ) (c : Chain) (f : Fold) → cs ≡ xs ++ ys → n ≡ length xs + i → IsChainOf names width (place + length xs) ys i c f → IsChainOf names width place cs n c f
   in_second xs ys cs i n c f e k h = record {
-    is = ap₂ (λ (l : List Chain) (j : ℕ). slice_get l j) e k ∙ slice_second xs ys i ∙ h.is;
+    is = ap₂ (λ (l : List Chain) (j : ℕ). slice_get l j) e k ∙ get_second xs ys i ∙ h.is;
     place_is = (let a = h.place_is in omega (arith, a, k));
     map_is = h.map_is;
     dimension = h.dimension;
@@ -105,7 +93,7 @@ module _ (names : ℕ → Text) (width place : ℕ) where
     body = (let P : ℕ → Type 0 = λ p. IsSerialTree names width (suc p) f.body c.body h.inner in let same : (place + length xs) + i ≡ place + n = omega (arith, k) in subst P same h.body);
     inside = λ j d g.
         let same : suc (n + j) ≡ length xs + suc (i + j) = omega (arith, k) in
-        ap₂ (λ (l : List Chain) (p : ℕ). slice_get l p) e same ∙ slice_second xs ys (suc (i + j)) ∙ h.inside j d g;
+        ap₂ (λ (l : List Chain) (p : ℕ). slice_get l p) e same ∙ get_second xs ys (suc (i + j)) ∙ h.inside j d g;
   }
 
 -- the chain of the fold with the number n, where the first has the number `first`
@@ -196,7 +184,7 @@ fold_two : (names : ℕ → Text) (width place first : ℕ) (P : List Chain → 
     → ((ds : List Chain) (j : ℕ) → P ds → slice_get ds j ≡ Some c → HasFold names width place first ds j c X)
     → ((p a : ℕ) (ds : List Chain) (j : ℕ) → Q p ds → slice_get ds j ≡ Some c → HasFold names width p (first + a) ds j c (Y a))
     → AreOfTwo place P Q cs → slice_get cs i ≡ Some c → HasFold names width place first cs i c (λ n f. X n f ⊎ ((a : ℕ) × N a × Y a n f))
-fold_two names width place first P Q N X Y cs i c count left right h e = elim (slice_split h.first h.second i c (sym (ap (λ (l : List Chain). slice_get l i) h.is) ∙ e)) [
+fold_two names width place first P Q N X Y cs i c count left right h e = elim (get_cases h.first h.second i c (sym (ap (λ (l : List Chain). slice_get l i) h.is) ∙ e)) [
   | inl g ↦ let r = left h.first i h.first_are g in record { fold = r.fold; within = inl r.within; is = in_first names width place h.first h.second cs i c r.fold h.is r.is }
   | inr g ↦
       let a = length h.first in
@@ -325,7 +313,7 @@ read_two : (place first q : ℕ) (P : List Chain → Type 0) (Q : ℕ → List C
     → AreOfTwo place P Q cs → A ⊎ B → (C ⊎ D) ⊎ IsOfChain place first cs q (λ n. X n ⊎ ((a : ℕ) × N a × Y a n))
 read_two place first q P Q N X Y A B C D cs count left right h (inl a) = elim (left h.first h.first_are a) [
   | inl c ↦ inl (inl c)
-  | inr r ↦ inr (record { at = r.at; chain = r.chain; is = ap (λ (l : List Chain). slice_get l r.at) h.is ∙ slice_first h.first h.second r.at r.chain r.is; place_is = r.place_is; holds = inl r.holds })
+  | inr r ↦ inr (record { at = r.at; chain = r.chain; is = ap (λ (l : List Chain). slice_get l r.at) h.is ∙ get_first h.first h.second r.at r.chain r.is; place_is = r.place_is; holds = inl r.holds })
 ]
 read_two place first q P Q N X Y A B C D cs count left right h (inr b) =
     let a = length h.first in
@@ -337,7 +325,7 @@ read_two place first q P Q N X Y A B C D cs count left right h (inr b) =
           inr (record {
             at = a + r.at;
             chain = r.chain;
-            is = ap (λ (l : List Chain). slice_get l (a + r.at)) h.is ∙ slice_second h.first h.second r.at ∙ r.is;
+            is = ap (λ (l : List Chain). slice_get l (a + r.at)) h.is ∙ get_second h.first h.second r.at ∙ r.is;
             place_is = omega (arith, k);
             holds = inr (a, count h.first h.first_are, subst (Y a) same r.holds);
           })
@@ -410,7 +398,7 @@ last_two : (place first n : ℕ) (P : List Chain → Type 0) (Q : ℕ → List C
     → AreOfTwo place P Q cs → L ⊎ ((c : ℕ) × N c × R c) → IsOfChain first place cs n (λ q. A q ⊎ B q)
 last_two place first n P Q N L R A B cs long left right h (inl a) =
     let r = left h.first h.first_are a in
-    record { at = r.at; chain = r.chain; is = ap (λ (l : List Chain). slice_get l r.at) h.is ∙ slice_first h.first h.second r.at r.chain r.is; place_is = r.place_is; holds = inl r.holds }
+    record { at = r.at; chain = r.chain; is = ap (λ (l : List Chain). slice_get l r.at) h.is ∙ get_first h.first h.second r.at r.chain r.is; place_is = r.place_is; holds = inl r.holds }
 last_two place first n P Q N L R A B cs long left right h (inr b) =
     let c = length h.first in
     let r = right (place + c) h.second b.0 h.second_are b.2 in
@@ -420,7 +408,7 @@ last_two place first n P Q N L R A B cs long left right h (inr b) =
     record {
       at = c + r.at;
       chain = r.chain;
-      is = ap (λ (l : List Chain). slice_get l (c + r.at)) h.is ∙ slice_second h.first h.second r.at ∙ r.is;
+      is = ap (λ (l : List Chain). slice_get l (c + r.at)) h.is ∙ get_second h.first h.second r.at ∙ r.is;
       place_is = omega (arith, e, k);
       holds = inr (subst B same r.holds);
     }

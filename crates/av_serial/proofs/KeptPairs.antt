@@ -34,12 +34,9 @@ use Rattle.av_serial.proofs.Dropped.{dropped, over_image}
 use Rattle.av_serial.proofs.LastPoints.{point_before}
 use Rattle.av_serial.proofs.Folds.{IsChainOf, chain_of, fold_of, reads_of, still_reads, reads_chain, same_references}
 use Rattle.av_serial.proofs.FoldPieces.{StandsIn, piece_of, variable_of}
-use Rattle.av_serial.proofs.FoldNodes.{at_kept, kept_at, contained, place_in, same_node, given_piece, serial, inside, number_of_variable, number_of_chain, made_of, variable_at, chain_at, node_of_variable, node_of_chain, node_is, made_at, piece_at}
-
-all_at : {X : Type 0} (P : X → Type 0) (xs : List X) (i : ℕ) (x : X) → AllByRecursion P xs → slice_get xs i ≡ Some x → P x
-all_at P [] i x h e = absurd cc
-all_at P (y ∷ xs) zero x h e = let same : y ≡ x = cc in subst P same h.0
-all_at P (y ∷ xs) (suc i) x h e = all_at P xs i x h.1 e
+use Rattle.av_serial.proofs.FoldNodes.{at_kept, kept_at, place_in, same_node, given_piece, serial, inside, number_of_variable, number_of_chain, made_of, variable_at, chain_at, node_of_variable, node_of_chain, node_is, made_at, piece_at}
+use Rattle.av_base.proofs.Among.{among_at}
+use Rattle.av_base.proofs.Lists.{each_at}
 
 -- the variable that a sound tree reads is there
 dimension_some : (vs : List Signature) (place n : ℕ) → dimension_of (slice_get vs place) ≡ Some n → (v : Signature) × (slice_get vs place ≡ Some v)
@@ -96,16 +93,16 @@ module _ (s t : FlatSystem) (wide : 1 ≤ s.width) (kept : IsKept s) (form : IsS
 
   sound_piece : (place k : ℕ) (v : Variable) (p : Piece) → slice_get s.variables place ≡ Some v → slice_get v.pieces k ≡ Some p → IsSound vs p.domain p.tree
   sound_piece place k v p e g =
-      let a = all_at (IsSoundVariable vs s.width) s.variables place v good e in
-      (all_at (IsSoundPiece vs s.width) v.pieces k p a.pieces g).sound
+      let a = each_at (IsSoundVariable vs s.width) s.variables place v good e in
+      (each_at (IsSoundPiece vs s.width) v.pieces k p a.pieces g).sound
 
   sound_chain : (j : ℕ) (c : Chain) → slice_get form.chains j ≡ Some c → IsSoundChain vs c
-  sound_chain j c e = all_at (IsSoundChain vs) form.chains j c (chains_sound s t form good) e
+  sound_chain j c e = each_at (IsSoundChain vs) form.chains j c (chains_sound s t form good) e
 
   -- a variable with a piece is a node
   has_node : (place k : ℕ) (v : Variable) (p : Piece) → slice_get s.variables place ≡ Some v → slice_get v.pieces k ≡ Some p → is_node v ≡ true
   has_node place k v p e g =
-      let a = all_at (IsWellFormedVariable s) s.variables place v (recursion_from_All (IsWellFormedVariable s) s.variables kept.well_formed.each) e in
+      let a = each_at (IsWellFormedVariable s) s.variables place v (recursion_from_All (IsWellFormedVariable s) s.variables kept.well_formed.each) e in
       let computed = not_input v.kind (λ i. let none = ap (λ (l : List Piece). slice_get l k) (a.inputs i) in cc) in
       ap₂ (λ (x y : Bool). x && y) computed (has_some v.pieces k p g)
 
@@ -379,7 +376,7 @@ module _ (s t : FlatSystem) (wide : 1 ≤ s.width) (kept : IsKept s) (form : IsS
         variable = m.variable;
         is = ap (λ (i : ℕ). slice_get (nodes t) i) e ∙ node_of_variable s t form place m.variable m.is_variable node;
         piece = m.made;
-        among = contained m.variable.pieces k m.made m.is_made_piece;
+        among = among_at m.variable.pieces k m.made m.is_made_piece;
         within = ap (λ (d : Set). has d z) m.is_made.domain ∙ here;
         made = subst (λ (u : Tree). IsMadeOf n z start u m.made) (sym is) (made_of_piece n place k start p z here h);
       }

@@ -11,9 +11,9 @@ use Rattle.av_tree.specs.Trees.{Text}
 use Rattle.av_flat.specs.Trees.{Tree, Piece, Variable, reference, constant, binary, choice, reduction, pick}
 use Rattle.av_flat.specs.Signatures.{signature}
 use Rattle.av_serial.specs.SerialForm.{Chain, AreOfTwo, IsSerialTree, AreSerialPieces, AreSerialVariables, chain_name}
-use Rattle.av_serial.proofs.TreeWords.{all_join}
 use Rattle.av_serial.proofs.Pieces.{AreNumbered, numbered_pieces}
 use Rattle.av_serial.proofs.Forwards.{HasOtherName, HaveOtherNames, IsNewName}
+use Rattle.av_base.proofs.Lists.{each_append, each_at}
 
 -- ---- texts without #
 
@@ -57,7 +57,7 @@ named_none names cs e = subst (λ (l : List Chain). AllByRecursion (λ c. c.name
 
 named_two : (names : ℕ → Text) (place : ℕ) (A : List Chain → Type 0) (B : ℕ → List Chain → Type 0) (cs : List Chain) (h : AreOfTwo place A B cs)
     → AllByRecursion (λ c. c.name ≡ names c.place) h.first → AllByRecursion (λ c. c.name ≡ names c.place) h.second → AllByRecursion (λ c. c.name ≡ names c.place) cs
-named_two names place A B cs h p q = subst (λ (l : List Chain). AllByRecursion (λ c. c.name ≡ names c.place) l) (sym h.is) (all_join (λ c. c.name ≡ names c.place) h.first h.second p q)
+named_two names place A B cs h p q = subst (λ (l : List Chain). AllByRecursion (λ c. c.name ≡ names c.place) l) (sym h.is) (each_append (λ c. c.name ≡ names c.place) h.first h.second p q)
 
 named_tree : (names : ℕ → Text) (width place : ℕ) (t t' : Tree) (cs : List Chain) → IsSerialTree names width place t t' cs → AllByRecursion (λ c. c.name ≡ names c.place) cs
 named_tree names width place (reference p m) (reference q n) cs h = named_none names cs h.2
@@ -70,9 +70,9 @@ named_tree names width place (choice l c r x y) (choice b d j v w) cs h =
     let one = h.1 in
     let two = one.second_are in
     let three = two.second_are in
-    subst (λ (k : List Chain). AllByRecursion P k) (sym one.is) (all_join P one.first one.second (named_tree names width place l b one.first one.first_are)
-    (subst (λ (k : List Chain). AllByRecursion P k) (sym two.is) (all_join P two.first two.second (named_tree names width (place + length one.first) r j two.first two.first_are)
-    (subst (λ (k : List Chain). AllByRecursion P k) (sym three.is) (all_join P three.first three.second (named_tree names width (place + length one.first + length two.first) x v three.first three.first_are)
+    subst (λ (k : List Chain). AllByRecursion P k) (sym one.is) (each_append P one.first one.second (named_tree names width place l b one.first one.first_are)
+    (subst (λ (k : List Chain). AllByRecursion P k) (sym two.is) (each_append P two.first two.second (named_tree names width (place + length one.first) r j two.first two.first_are)
+    (subst (λ (k : List Chain). AllByRecursion P k) (sym three.is) (each_append P three.first three.second (named_tree names width (place + length one.first + length two.first) x v three.first three.first_are)
     (named_tree names width (place + length one.first + length two.first + length three.first) y w three.second three.second_are))))))
 named_tree names width place (reduction o m t inner) (pick q choices n) cs h =
     subst (λ (l : List Chain). AllByRecursion (λ c. c.name ≡ names c.place) l) (sym h.are) (refl, named_tree names width (suc place) t h.body h.inner h.body_is)
@@ -137,24 +137,19 @@ abbrev pub Differ : List Variable → Type 0
 Differ [] = Unit {0}
 Differ (v ∷ xs) = AllByRecursion (λ w. v.name ≢ w.name) xs × Differ xs
 
-at_place : {X : Type 0} (P : X → Type 0) (xs : List X) (i : ℕ) (x : X) → AllByRecursion P xs → slice_get xs i ≡ Some x → P x
-at_place P [] i x h e = absurd cc
-at_place P (y ∷ xs) zero x h e = let same : y ≡ x = cc in subst P same h.0
-at_place P (y ∷ xs) (suc i) x h e = at_place P xs i x h.1 e
-
 -- chains of one variable have other names than those of others
 other_variable : (v : Variable) (xs : List Variable) (c : Chain) (n : ℕ) → HasNone v.name → AreWords xs → AllByRecursion (λ w. v.name ≢ w.name) xs → c.name ≡ v.name ++ 35 ∷ decimal n
     → (ds : List Chain) → AllByRecursion (IsNamedFrom xs) ds → AllByRecursion (HasOtherName c.name) ds
 other_variable v xs c n a b d e [] h = tt
 other_variable v xs c n a b d e (f ∷ ds) h = (
-  (λ same. at_place (λ w. v.name ≢ w.name) xs h.0.at h.0.variable d h.0.is
-      (split v.name h.0.variable.name (decimal n) (decimal h.0.number) a (at_place (λ w. HasNone w.name) xs h.0.at h.0.variable b h.0.is) (sym e ∙ same ∙ h.0.name)).0),
+  (λ same. each_at (λ w. v.name ≢ w.name) xs h.0.at h.0.variable d h.0.is
+      (split v.name h.0.variable.name (decimal n) (decimal h.0.number) a (each_at (λ w. HasNone w.name) xs h.0.at h.0.variable b h.0.is) (sym e ∙ same ∙ h.0.name)).0),
   other_variable v xs c n a b d e ds h.1,
 )
 
 join_others : (cs ds : List Chain) → HaveOtherNames cs → HaveOtherNames ds → AllByRecursion (λ c. AllByRecursion (HasOtherName c.name) ds) cs → HaveOtherNames (cs ++ ds)
 join_others [] ds p q r = q
-join_others (c ∷ cs) ds p q r = (all_join (HasOtherName c.name) cs ds p.0 r.0, join_others cs ds p.1 q r.1)
+join_others (c ∷ cs) ds p q r = (each_append (HasOtherName c.name) cs ds p.0 r.0, join_others cs ds p.1 q r.1)
 
 from_first : (v : Variable) (xs : List Variable) (first place : ℕ) (cs : List Chain) → (0 < length cs → v.pieces ≡ [] → ⊥) → place + length cs ≤ first + 1000 → AreNumbered place cs
     → AllByRecursion (λ c. c.name ≡ chain_name v.name first c.place) cs → AllByRecursion (IsNamedFrom (v ∷ xs)) cs
@@ -180,7 +175,7 @@ names_apart place (v ∷ xs) (w ∷ ys) cs h a d few =
     let size : length h.first + length h.second ≡ length cs = sym (length-append h.first h.second) ∙ sym (ap length h.is) in
     let rest = names_apart (place + length h.first) xs ys h.second h.second_are a.1 d.1 (omega (arith, size, few)) in
     let mine = others_of v place a.0 place h.first (omega arith) (omega (arith, size, few)) numbered own in (
-      subst (λ (l : List Chain). AllByRecursion (IsNamedFrom (v ∷ xs)) l) (sym h.is) (all_join (IsNamedFrom (v ∷ xs)) h.first h.second (from_first v xs place place h.first (has_pieces names v.width place v.pieces w.pieces h.first h.first_are.pieces) (omega (arith, size, few)) numbered own) (from_later v xs h.second rest.0)),
+      subst (λ (l : List Chain). AllByRecursion (IsNamedFrom (v ∷ xs)) l) (sym h.is) (each_append (IsNamedFrom (v ∷ xs)) h.first h.second (from_first v xs place place h.first (has_pieces names v.width place v.pieces w.pieces h.first h.first_are.pieces) (omega (arith, size, few)) numbered own) (from_later v xs h.second rest.0)),
       subst (λ (l : List Chain). HaveOtherNames l) (sym h.is) (join_others h.first h.second mine rest.1 (across h.first own rest.0)),
     )
   where

@@ -14,10 +14,10 @@ use Rattle.av_flat.specs.Solutions.{IsSolution}
 use Rattle.av_flat.specs.OneSolution.{AreInputs, HasOneSolution}
 use Rattle.av_serial.specs.SerialForm.{Chain, chain_variable, IsSerialForm}
 use Rattle.av_serial.proofs.Backwards.{restricted, solution_back}
-use Rattle.av_serial.proofs.TreeWords.{all_join}
 use Rattle.av_serial.proofs.Systems.{declared_same, weaker_declared, AreWords, words_of}
 use Rattle.av_serial.proofs.Forwards.{IsNewName, undeclared, solution_forth, shown_forth, extended}
 use Rattle.av_serial.proofs.SameMeaning.{good, fresh, others}
+use Rattle.av_base.proofs.Lists.{each_append}
 
 module _ (s t : FlatSystem) (wide : 1 ≤ s.width) (kept : IsKept s) (form : IsSerialForm s t) (x : Assignment) (p : AreInputs s x) where
   abbrev Words : Variable → Type 0
@@ -38,7 +38,7 @@ module _ (s t : FlatSystem) (wide : 1 ≤ s.width) (kept : IsKept s) (form : IsS
   all_words : AllByRecursion Words t.variables
   all_words =
       subst (λ (l : List Variable). AllByRecursion Words l) (sym form.all)
-      (all_join Words form.variables (map (chain_variable s.width) form.chains)
+      (each_append Words form.variables (map (chain_variable s.width) form.chains)
       ((words_of s t form (good s t wide kept form) x (length s.variables) s.variables form.variables form.chains form.serial).0 (recursion_from_All Words s.variables p.words))
       (none_for form.chains (fresh s t wide kept form)))
 

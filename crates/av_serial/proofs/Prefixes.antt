@@ -5,6 +5,7 @@ use Rattle.std.proofs.lemmas.Int.{ints}
 use Rattle.av_tree.specs.Folds.{IsAscending, IsAmong, ArePaired, IsFolded}
 use Rattle.av_tree.proofs.Fibres.{IsOnce, folded_once}
 use Rattle.av_flat.proofs.Sets.{equal, is_equal, at_most, is_at_most}
+use Rattle.av_flat.proofs.Examples.{both_are}
 
 -- ---- numbers up to k
 
@@ -16,15 +17,11 @@ up_true : (b : Bool) (n : ℕ) → IsTrue b → (if b then n else 0) ≡ n
 up_true true n h = refl
 up_true false n h = absurd cc
 
-up_is : (b : Bool) (n : ℕ) → (if b then n else 0) ≡ 1 → IsTrue b × (n ≡ 1)
-up_is true n h = (refl, h)
-up_is false n h = absurd cc
-
 pub within : (C : ℤ → ℕ) (k j : ℤ) → j ≤ℤ k → C j ≡ 1 → upto C k j ≡ 1
 within C k j h e = up_true (int_le j k) (C j) (is_at_most j k h) ∙ e
 
 pub of_upto : (C : ℤ → ℕ) (k j : ℤ) → upto C k j ≡ 1 → (j ≤ℤ k) × (C j ≡ 1)
-of_upto C k j h = let r = up_is (int_le j k) (C j) h in (at_most j k r.0, r.1)
+of_upto C k j h = let r = both_are (int_le j k) (C j) h in (at_most j k r.0, r.1)
 
 pub is_one : (n : ℕ) → (n ≡ 1) ⊎ (n ≡ 1 → ⊥)
 is_one n = go (nat_eq n 1) refl

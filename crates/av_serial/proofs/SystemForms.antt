@@ -23,13 +23,15 @@ use Rattle.av_serial.specs.SerialForm.{Chain, chain_tree, chain_variable, AreSer
 use Rattle.av_flat.specs.Sets.{HasFewRows, IsBounded}
 use Rattle.av_flat.specs.Chained.{ReadsThere, IsNamed, IsChainedPiece, IsChainedVariable, IsChained}
 use Rattle.av_serial.proofs.Sound.{IsSoundChain}
-use Rattle.av_serial.proofs.TreeWords.{all_join, all_parts}
+use Rattle.av_serial.proofs.TreeWords.{all_parts}
 use Rattle.av_serial.proofs.Pieces.{IsSoundPiece, IsSoundVariable}
 use Rattle.av_serial.proofs.Systems.{prefix, places, chains_sound, signatures_are}
 use Rattle.av_serial.proofs.Names.{IsNamedFrom, names_apart, new_names}
 use Rattle.av_serial.proofs.Forwards.{HasOtherName, HaveOtherNames, IsNewName}
 use Rattle.av_serial.proofs.SameMeaning.{kept_is_sound, are_words, are_apart}
 use Rattle.av_serial.proofs.FineTrees.{IsFineTree, IsGoodTree, IsFineChain, fine_tree, fine_chains}
+use Rattle.av_base.proofs.Among.{among_at}
+use Rattle.av_base.proofs.Lists.{each_append}
 
 -- ---- pairs by recursion
 
@@ -51,7 +53,7 @@ pairs_from R (x ∷ xs) h = (first_from R x xs (λ j d l. h 0 (suc j) d (omega a
 
 pairs_join : {X : Type 0} (R : X → X → Type 0) (xs ys : List X) → Pairs R xs → Pairs R ys → AllByRecursion (λ x. AllByRecursion (R x) ys) xs → Pairs R (xs ++ ys)
 pairs_join R [] ys p q r = q
-pairs_join R (x ∷ xs) ys p q r = (all_join (R x) xs ys p.0 r.0, pairs_join R xs ys p.1 q r.1)
+pairs_join R (x ∷ xs) ys p q r = (each_append (R x) xs ys p.0 r.0, pairs_join R xs ys p.1 q r.1)
 
 abbrev OtherName : Signature → Signature → Type 0
 OtherName a b = a.name ≢ b.name
@@ -129,9 +131,6 @@ computed kind.Output none = refl
 computed kind.Local none = refl
 computed kind.Partial none = refl
 
-is_among : {X : Type 0} (xs : List X) (i : ℕ) (x : X) → slice_get xs i ≡ Some x → Contains xs x
-is_among xs i x e = let P = Contains xs in subst P (get_or_from_slice_get xs i x x e) (Contains-get_or xs i x (slice_get_within xs i x e))
-
 -- the variable of the serial form that stands for one of the given
 counterpart : (place : ℕ) (xs ys : List Variable) (cs : List Chain) → AreSerialVariables place xs ys cs → (i : ℕ) (v : Variable) → slice_get xs i ≡ Some v
     → (w : Variable) × (slice_get ys i ≡ Some w) × (w.name ≡ v.name) × (w.kind ≡ v.kind)
@@ -187,7 +186,7 @@ module _ (s t : FlatSystem) (k : IsKept s) (form : IsSerialForm s t) (wide : 1 �
       let chains = fine_chains (signatures s) (signatures t) s.width (prefix s t form good) wide names place p.tree q.tree two.first p.domain two.first_are g i.0 a.0 in
       let rest = chained_pieces v w d e f names (place + length two.first) ps qs two.second two.second_are wf.1 kp.1 sound.1 i.1 a.1 in (
         (chained_piece v w p q names place two.first d e f h.0 wf.0 kp.0 tree, rest.0),
-        subst (λ (l : List Chain). AllByRecursion F l) (sym two.is) (all_join F two.first two.second chains rest.1),
+        subst (λ (l : List Chain). AllByRecursion F l) (sym two.is) (each_append F two.first two.second chains rest.1),
       )
 
   no_pieces : (names : ℕ → Text) (width place : ℕ) (ps qs : List Piece) (cs : List Chain) → AreSerialPieces names width place ps qs cs → ps ≡ [] → qs ≡ []
@@ -225,7 +224,7 @@ module _ (s t : FlatSystem) (k : IsKept s) (form : IsSerialForm s t) (wide : 1 �
           },
           rest.0,
         ),
-        subst (λ (l : List Chain). AllByRecursion F l) (sym h.is) (all_join F h.first h.second own.1 rest.1),
+        subst (λ (l : List Chain). AllByRecursion F l) (sym h.is) (each_append F h.first h.second own.1 rest.1),
       )
 
   all_chained : AllByRecursion (IsChainedVariable t) form.variables × AllByRecursion (IsFineChain (signatures s) (signatures t) s.width (prefix s t form good) wide) form.chains
@@ -248,7 +247,7 @@ module _ (s t : FlatSystem) (k : IsKept s) (form : IsSerialForm s t) (wide : 1 �
         refl,
         w,
         decimal n.number,
-        subst (λ (l : List Variable). Contains l w) (sym form.all) (Contains-append_left form.variables (map (chain_variable s.width) form.chains) w (is_among form.variables n.at w other.1)),
+        subst (λ (l : List Variable). Contains l w) (sym form.all) (Contains-append_left form.variables (map (chain_variable s.width) form.chains) w (among_at form.variables n.at w other.1)),
         subst (λ (x : Kind). IsTrue (is_shown x)) (sym other.3) own.shown,
         subst (λ (x : Kind). IsTrue (is_computed x)) (sym other.3) (computed n.variable.kind (λ input. n.full (own.inputs input))),
         digits n.number n.few,
@@ -304,5 +303,5 @@ module _ (s t : FlatSystem) (k : IsKept s) (form : IsSerialForm s t) (wide : 1 �
     names = whole OtherName k.well_formed.names (chains_differ s.width form.chains named.1) (each_new s.width (signatures s) form.chains fresh);
     order = whole NotAfter k.well_formed.order (ordered s.width form.chains) (each_after s.width (signatures s) form.chains);
     each = All-from_recursion (IsChainedVariable t) t.variables (subst (λ (l : List Variable). AllByRecursion (IsChainedVariable t) l) (sym form.all)
-        (all_join (IsChainedVariable t) form.variables (map (chain_variable s.width) form.chains) all_chained.0 (chains_are form.chains (chains_sound s t form good) all_chained.1 named.0)));
+        (each_append (IsChainedVariable t) form.variables (map (chain_variable s.width) form.chains) all_chained.0 (chains_are form.chains (chains_sound s t form good) all_chained.1 named.0)));
   }

@@ -50,7 +50,7 @@ affine (x ∷ a) (row ∷ rows) t at = rw (first_apart row t at, affine a rows t
 turned : (s v u : ℤ) → neg_ℤ s *ℤ (v -ℤ u) ≡ s *ℤ u -ℤ s *ℤ v
 turned s v u = simp ring (omega (arith, ints))
 
-straight : (s v u : ℤ) → s *ℤ (u -ℤ v) ≡ s *ℤ u -ℤ s *ℤ v
+pub straight : (s v u : ℤ) → s *ℤ (u -ℤ v) ≡ s *ℤ u -ℤ s *ℤ v
 straight s v u = simp ring (omega (arith, ints))
 
 -- a number between, under a slope

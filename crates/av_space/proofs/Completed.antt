@@ -11,70 +11,9 @@ use Rattle.av_affine.proofs.Inverses.{product_is_identity, one_left}
 use Rattle.av_affine.proofs.Pairs.{IsTurned, is_turned, by_size, two_left}
 use Rattle.av_space.proofs.Between.{Keeps}
 use Rattle.av_space.proofs.Inverse.{square_keeps}
+use Rattle.av_affine.proofs.Completing.{one_rows, one_size, place_within, two_rows, two_turned, unit_square}
 
 -- ---- the rows
-
-one_rows : (v : List ℤ) (p : ℕ) → length v ≤ 4 → p < length v → rows_of (square_of (length v) (one_cell v p)) ≡ v ∷ map (unit_row (length v)) (positions_but (p ∷ []) (length v))
-one_rows [] p h l = absurd (omega arith)
-one_rows (a ∷ []) zero h l = refl
-one_rows (a ∷ []) (suc p) h l = absurd (omega arith)
-one_rows (a ∷ b ∷ []) zero h l = refl
-one_rows (a ∷ b ∷ []) (suc zero) h l = refl
-one_rows (a ∷ b ∷ []) (suc (suc p)) h l = absurd (omega arith)
-one_rows (a ∷ b ∷ c ∷ []) zero h l = refl
-one_rows (a ∷ b ∷ c ∷ []) (suc zero) h l = refl
-one_rows (a ∷ b ∷ c ∷ []) (suc (suc zero)) h l = refl
-one_rows (a ∷ b ∷ c ∷ []) (suc (suc (suc p))) h l = absurd (omega arith)
-one_rows (a ∷ b ∷ c ∷ d ∷ []) zero h l = refl
-one_rows (a ∷ b ∷ c ∷ d ∷ []) (suc zero) h l = refl
-one_rows (a ∷ b ∷ c ∷ d ∷ []) (suc (suc zero)) h l = refl
-one_rows (a ∷ b ∷ c ∷ d ∷ []) (suc (suc (suc zero))) h l = refl
-one_rows (a ∷ b ∷ c ∷ d ∷ []) (suc (suc (suc (suc p)))) h l = absurd (omega arith)
-one_rows (a ∷ b ∷ c ∷ d ∷ e ∷ v) p h l = absurd (omega arith)
-
-two_rows : (v : List ℤ) (p r : ℕ) → length v ≤ 4 → p < length v → suc r < length v
-    → rows_of (square_of (length v) (two_cell v p r)) ≡ v ∷ signs_at p (skip p r) v ∷ map (unit_row (length v)) (positions_but (p ∷ skip p r ∷ []) (length v))
-two_rows [] p r h l m = absurd (omega arith)
-two_rows (a ∷ []) p r h l m = absurd (omega arith)
-two_rows (a ∷ b ∷ []) zero zero h l m = refl
-two_rows (a ∷ b ∷ []) (suc zero) zero h l m = refl
-two_rows (a ∷ b ∷ []) (suc (suc p)) r h l m = absurd (omega arith)
-two_rows (a ∷ b ∷ []) p (suc r) h l m = absurd (omega arith)
-two_rows (a ∷ b ∷ c ∷ []) zero zero h l m = refl
-two_rows (a ∷ b ∷ c ∷ []) zero (suc zero) h l m = refl
-two_rows (a ∷ b ∷ c ∷ []) (suc zero) zero h l m = refl
-two_rows (a ∷ b ∷ c ∷ []) (suc zero) (suc zero) h l m = refl
-two_rows (a ∷ b ∷ c ∷ []) (suc (suc zero)) zero h l m = refl
-two_rows (a ∷ b ∷ c ∷ []) (suc (suc zero)) (suc zero) h l m = refl
-two_rows (a ∷ b ∷ c ∷ []) (suc (suc (suc p))) r h l m = absurd (omega arith)
-two_rows (a ∷ b ∷ c ∷ []) p (suc (suc r)) h l m = absurd (omega arith)
-two_rows (a ∷ b ∷ c ∷ d ∷ []) zero zero h l m = refl
-two_rows (a ∷ b ∷ c ∷ d ∷ []) zero (suc zero) h l m = refl
-two_rows (a ∷ b ∷ c ∷ d ∷ []) zero (suc (suc zero)) h l m = refl
-two_rows (a ∷ b ∷ c ∷ d ∷ []) (suc zero) zero h l m = refl
-two_rows (a ∷ b ∷ c ∷ d ∷ []) (suc zero) (suc zero) h l m = refl
-two_rows (a ∷ b ∷ c ∷ d ∷ []) (suc zero) (suc (suc zero)) h l m = refl
-two_rows (a ∷ b ∷ c ∷ d ∷ []) (suc (suc zero)) zero h l m = refl
-two_rows (a ∷ b ∷ c ∷ d ∷ []) (suc (suc zero)) (suc zero) h l m = refl
-two_rows (a ∷ b ∷ c ∷ d ∷ []) (suc (suc zero)) (suc (suc zero)) h l m = refl
-two_rows (a ∷ b ∷ c ∷ d ∷ []) (suc (suc (suc zero))) zero h l m = refl
-two_rows (a ∷ b ∷ c ∷ d ∷ []) (suc (suc (suc zero))) (suc zero) h l m = refl
-two_rows (a ∷ b ∷ c ∷ d ∷ []) (suc (suc (suc zero))) (suc (suc zero)) h l m = refl
-two_rows (a ∷ b ∷ c ∷ d ∷ []) (suc (suc (suc (suc p)))) r h l m = absurd (omega arith)
-two_rows (a ∷ b ∷ c ∷ d ∷ []) p (suc (suc (suc r))) h l m = absurd (omega arith)
-two_rows (a ∷ b ∷ c ∷ d ∷ e ∷ v) p r h l m = absurd (omega arith)
-
--- the place beside the first is among the others
-place_within : (n p r : ℕ) → p < n → skip p r < n → suc r < n
-place_within n p r l m = elim (below_or_not r p) [
-  | inl e ↦ omega (arith, e, l)
-  | inr e ↦ let s = skip_after p r e in omega (arith, s, m)
-]
-  where
-    below_or_not : (a b : ℕ) → a < b ⊎ b ≤ a
-    below_or_not a zero = inr (omega arith)
-    below_or_not zero (suc b) = inl (omega arith)
-    below_or_not (suc a) (suc b) = elim (below_or_not a b) [ inl h ↦ inl (omega (arith, h)) | inr h ↦ inr (omega (arith, h)) ]
 
 -- each position but p is one of those beside p
 left_beside : (p q : ℕ) → q ≢ p → (r : ℕ) × (skip p r ≡ q)
@@ -84,15 +23,6 @@ left_beside (suc p) zero h = (0, refl)
 left_beside (suc p) (suc q) h = let s = left_beside p q (λ e. h (ap suc e)) in (suc s.0, ap suc s.1)
 
 -- ---- the inverses
-
-unit_square : (a : ℤ) → unsigned_abs a ≡ 1 → a *ℤ a ≡ pos 1
-unit_square a e = elim (by_size a 0 e) [ inl f ↦ rw f refl | inr f ↦ rw f refl ]
-
-one_size : (v : List ℤ) (p : ℕ) → IsLastOf (1 ∷ []) v p → unsigned_abs (entry v p) ≡ 1
-one_size v p s = contains_one (unsigned_abs (entry v p)) 1 s.here
-
-two_turned : (v : List ℤ) (p q : ℕ) → IsLastOf (3 ∷ []) v p → IsLastOf (2 ∷ 4 ∷ []) v q → IsTurned (entry v p) (entry v q)
-two_turned v p q s t = is_turned (entry v p) (entry v q) (contains_one (unsigned_abs (entry v p)) 3 s.here) (contains_two (unsigned_abs (entry v q)) 2 4 t.here)
 
 one_inverts : (v : List ℤ) (n p : ℕ) → n ≤ 4 → p < n → entry v p *ℤ entry v p ≡ pos 1 → product (square_of n (one_inverse v p)) (square_of n (one_cell v p)) ≡ identity n
 one_inverts v zero p h l u = absurd (omega arith)

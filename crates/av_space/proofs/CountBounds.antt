@@ -16,7 +16,6 @@ use Rattle.av_flat.specs.Legal.{IsLegal}
 use Rattle.av_flat.specs.Nodes.{nodes, IsComputation}
 use Rattle.av_flat.specs.Schedules.{cycle}
 use Rattle.av_flat.specs.Signatures.{signatures}
-use Rattle.av_flat.proofs.Solving.{all_at}
 use Rattle.av_space.specs.declared.cells.Cell.{Cell}
 use Rattle.av_space.specs.declared.layout.Layout.{Layout}
 use Rattle.av_space.specs.Coordinates.{Placing, along}
@@ -24,14 +23,14 @@ use Rattle.av_space.specs.Occupancy.{Occupies, Computes}
 use Rattle.av_space.specs.Taps.{places_in, places_from}
 use Rattle.av_space.specs.Quantities.{size, Use, IsUse, IsOperatorCount}
 use Rattle.av_space.specs.Layouts.{IsLayout}
-use Rattle.av_space.proofs.ByPlace.{there_is}
-use Rattle.av_space.proofs.Elements.{some_is, got, mapped}
+use Rattle.av_space.proofs.Elements.{got}
 use Rattle.av_space.proofs.OperatorCounts.{tree_sizes, sizes_more}
 use Rattle.av_space.proofs.OnCells.{chained_node}
+use Rattle.av_base.proofs.Lists.{all_at, get_mapped, some_is, there_is}
 
 -- ---- each piece of a node is on a cell
 
-natural : (x : ℤ) → pos 0 ≤ℤ x → (n : ℕ) × (pos n ≡ x)
+pub natural : (x : ℤ) → pos 0 ≤ℤ x → (n : ℕ) × (pos n ≡ x)
 natural (pos n) h = (n, refl)
 natural (negsuc n) h = absurd (omega (arith, ints, h))
 
@@ -49,7 +48,7 @@ computed_on t l legal layout n z is =
     let times = layout.are_placings.times_are in
     let as_many = sym (length-map l.placements (λ (p : Placing). p.time)) ∙ ap (λ (ts : List Time). length ts) times in
     let p = there_is l.placements n (omega (arith, w, many, as_many)) in
-    let time : slice_get t.times n ≡ Some p.0.time = ap (λ (ts : List Time). slice_get ts n) (sym times) ∙ mapped (λ (q : Placing). q.time) l.placements n p.0 p.1 in
+    let time : slice_get t.times n ≡ Some p.0.time = ap (λ (ts : List Time). slice_get ts n) (sym times) ∙ get_mapped (λ (q : Placing). q.time) l.placements n p.0 p.1 in
     let c = natural (cycle p.0.time z) (legal.schedule.starts n z p.0.time is time) in
     let cell : Cell = record { node = n; «at» = along p.0.rows z } in
     let stands : Occupies s l.placements cell c.0 n z = record { computation = is; placing = p.0; is_placing = p.1; node = refl; «at» = refl; in_cycle = c.1 } in

@@ -8,19 +8,12 @@ use Rattle.av_affine.specs.declared.map.Map.{Map}
 use Rattle.av_affine.specs.Numbers.{AtMost}
 use Rattle.av_tree.specs.Points.{Point}
 use Rattle.av_flat.specs.Broadcasts.{lists_of, is_zero, directions, stays, along, moves, first_moving}
-use Rattle.av_space.proofs.Elements.{both_each, each_at}
+use Rattle.av_space.proofs.Elements.{each_at}
+use Rattle.av_base.proofs.Lists.{each_append, each_filtered}
 
 pub record IsStep (n : ℕ) (w : Point) : Type 0 where
   pub size : length w ≡ n
   pub small : AtMost 4095 w
-
-each_filtered : {X : Type 0} (P : X → Type 0) (p : X → Bool) (xs : List X) → AllByRecursion P xs → AllByRecursion P (filter p xs)
-each_filtered P p [] h = tt
-each_filtered P p (x ∷ xs) h = go (p x) (each_filtered P p xs h.1)
-  where
-    go : (b : Bool) → AllByRecursion P (filter p xs) → AllByRecursion P (if b then x ∷ filter p xs else filter p xs)
-    go true r = (h.0, r)
-    go false r = r
 
 longer : (x : ℤ) (n : ℕ) (ws : List Point) → unsigned_abs x ≤ 4095 → AllByRecursion (IsStep n) ws → AllByRecursion (IsStep (suc n)) (map (λ w. x ∷ w) ws)
 longer x n [] s h = tt
@@ -35,7 +28,7 @@ steps (suc n) = each signs (steps n) (omega arith, (omega arith, (omega arith, t
   where
     each : (xs : List ℤ) → AllByRecursion (IsStep n) (lists_of signs n) → AllByRecursion (λ x. unsigned_abs x ≤ 4095) xs → AllByRecursion (IsStep (suc n)) (flat_map (λ x. map (λ w. x ∷ w) (lists_of signs n)) xs)
     each [] h s = tt
-    each (x ∷ xs) h s = both_each (IsStep (suc n)) (map (λ w. x ∷ w) (lists_of signs n)) (flat_map (λ x. map (λ w. x ∷ w) (lists_of signs n)) xs) (longer x n (lists_of signs n) s.0 h) (each xs h s.1)
+    each (x ∷ xs) h s = each_append (IsStep (suc n)) (map (λ w. x ∷ w) (lists_of signs n)) (flat_map (λ x. map (λ w. x ∷ w) (lists_of signs n)) xs) (longer x n (lists_of signs n) s.0 h) (each xs h s.1)
 
 pub first_step : (linear w : Point) (m : Map) → first_moving linear m ≡ Some w → IsStep m.from w
 first_step linear w m e =

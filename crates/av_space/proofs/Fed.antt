@@ -36,7 +36,8 @@ use Rattle.av_space.specs.Layouts.{IsSlot, AreSlots}
 use Rattle.av_space.specs.inner.Feeding.{direction_of, is_entered, line_of, lines_of, with_port, IsDone, ArePortsTo, IsFirstOf}
 use Rattle.av_space.specs.inner.Feeding.{by_node as node_done, by_piece as piece_done, by_site as site_done, by_cell as cell_done}
 use Rattle.av_space.proofs.ByPlace.{pair_at, place_of, pairs_by_place, from_map as got_from_map}
-use Rattle.av_space.proofs.Elements.{some_is, got}
+use Rattle.av_space.proofs.Elements.{got}
+use Rattle.av_base.proofs.Lists.{some_is}
 
 -- ---- entries
 

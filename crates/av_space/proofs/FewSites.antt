@@ -23,44 +23,15 @@ use Rattle.av_depend.specs.ComputedPlaces.{computed_at}
 use Rattle.av_space.specs.Links.{AreLinks}
 use Rattle.av_space.specs.Quantities.{size, Use, IsUse, IsOperatorCount}
 use Rattle.av_space.specs.Layouts.{IsLayout}
-use Rattle.av_space.proofs.Elements.{some_is, got, at_index, in_range, mapped}
+use Rattle.av_space.proofs.Elements.{got, at_index, in_range}
 use Rattle.av_space.proofs.Nodes.{node_chained}
 use Rattle.av_space.proofs.OneCell.{one_node}
 use Rattle.av_space.proofs.Scheduling.{scheduled}
-use Rattle.av_space.proofs.ByPlace.{there_is}
 use Rattle.av_space.proofs.Timely.{stands}
+use Rattle.av_space.proofs.CountBounds.{few_places_in}
+use Rattle.av_base.proofs.Lists.{get_mapped, some_is, there_is}
 
 -- ---- places and parts
-
-few_places : (k n : ℕ) (t : Tree) → length (places_in k n t) ≤ size t
-few_places k n (reference place m) = omega arith
-few_places k n (constant w) = omega arith
-few_places k n (binary g l r) =
-    let a = few_places k n l in
-    let b = few_places k (n + length (references l)) r in
-    let e = length-append (places_in k n l) (places_in k (n + length (references l)) r) in
-    omega (arith, a, b, e)
-few_places k n (choice l c r x y) =
-    let nr = n + length (references l) in
-    let nx = nr + length (references r) in
-    let ny = nx + length (references x) in
-    let ll = places_in k n l in
-    let rr = places_in k nr r in
-    let xx = places_in k nx x in
-    let yy = places_in k ny y in
-    let a = few_places k n l in
-    let b = few_places k nr r in
-    let d = few_places k nx x in
-    let f = few_places k ny y in
-    let e = length-append (ll ++ rr ++ xx) yy in
-    let g = length-append (ll ++ rr) xx in
-    let h = length-append ll rr in
-    omega (arith, a, b, d, f, e, g, h)
-few_places k n (restriction d t) = omega arith
-few_places k n (cases ts) = omega arith
-few_places k n (dependence m t) = omega arith
-few_places k n (reduction o m t set) = omega arith
-few_places k n (pick place choices w) = omega arith
 
 abbrev sizes : List Piece → List ℕ
 sizes pieces = map (λ (p : Piece). size p.tree) pieces
@@ -68,7 +39,7 @@ sizes pieces = map (λ (p : Piece). size p.tree) pieces
 few_places_of : (k : ℕ) (pieces : List Piece) → length (places_from k pieces) ≤ sum (sizes pieces)
 few_places_of k [] = omega arith
 few_places_of k (p ∷ pieces) =
-    let a = few_places k 0 p.tree in
+    let a = few_places_in k 0 p.tree in
     let b = few_places_of (suc k) pieces in
     let e = length-append (places_in k 0 p.tree) (places_from (suc k) pieces) in
     let f = sum_by-cons (λ x. x) (size p.tree) (sizes pieces) in
@@ -169,8 +140,8 @@ module _ (t : Timed) (l : Layout) (legal : IsLegal t) (layout : IsLayout t l) (m
       let many = length-map count.pieces (λ (x : Piece). size x.tree) in (
         place.0,
         omega (arith, low, pair, many),
-        get_or_from_slice_get (sizes count.pieces) place.0 (size q.0.tree) 0 (mapped (λ (x : Piece). size x.tree) count.pieces place.0 q.0 q.1) ∙ ap (λ (x : Piece). size x.tree) same,
-        get_or_from_slice_get (map (λ (x : Use). x.piece) count.uses) place.0 j 0 (mapped (λ (x : Use). x.piece) count.uses place.0 (record { cell = u.0; piece = j }) place.1) ∙ omega arith,
+        get_or_from_slice_get (sizes count.pieces) place.0 (size q.0.tree) 0 (get_mapped (λ (x : Piece). size x.tree) count.pieces place.0 q.0 q.1) ∙ ap (λ (x : Piece). size x.tree) same,
+        get_or_from_slice_get (map (λ (x : Use). x.piece) count.uses) place.0 j 0 (get_mapped (λ (x : Use). x.piece) count.uses place.0 (record { cell = u.0; piece = j }) place.1) ∙ omega arith,
       )
 
   few_parts : (n : ℕ) (v : Variable) → slice_get (nodes own) n ≡ Some v → sum (sizes v.pieces) ≤ m

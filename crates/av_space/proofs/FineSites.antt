@@ -18,9 +18,10 @@ use Rattle.av_pipe.proofs.Searching.{small_directions}
 use Rattle.av_space.specs.Taps.{Handing, helper_at, Place, places_in, places_from, Way, each, entries, handed, Tap, taps_by, taps_at, is_own, all_taps, taps}
 use Rattle.av_depend.specs.ComputedPlaces.{computed_at}
 use Rattle.av_space.specs.inner.Readings.{IsReadable, IsFineTap}
-use Rattle.av_space.proofs.Elements.{both_each, each_weaker, each_at, at_index, in_range}
+use Rattle.av_space.proofs.Elements.{each_at, at_index, in_range}
 use Rattle.av_space.proofs.Helpers.{found_helper}
-use Rattle.av_space.proofs.Timely.{all_flat, all_filter}
+use Rattle.av_space.proofs.Timely.{all_flat}
+use Rattle.av_base.proofs.Lists.{each_append, each_filtered, each_weaker}
 
 -- ---- places
 
@@ -36,7 +37,7 @@ readable : (vs : List Signature) (n k i : ℕ) (t : Tree) → Fits vs n t → Ea
 readable vs n k i (reference place m) fits small partial = ((refl, (in_signatures vs place (length m.rows) fits.results, fits.from, small)), tt)
 readable vs n k i (constant w) fits small partial = tt
 readable vs n k i (binary g l r) fits small partial =
-    both_each (IsOfPiece k n (length vs)) (places_in k i l) (places_in k (i + length (references l)) r) (readable vs n k i l fits.0 small.1 partial.1) (readable vs n k (i + length (references l)) r fits.1 small.2 partial.2)
+    each_append (IsOfPiece k n (length vs)) (places_in k i l) (places_in k (i + length (references l)) r) (readable vs n k i l fits.0 small.1 partial.1) (readable vs n k (i + length (references l)) r fits.1 small.2 partial.2)
 readable vs n k i (choice l c r x y) fits small partial =
     let P = IsOfPiece k n (length vs) in
     let ir = i + length (references l) in
@@ -45,8 +46,8 @@ readable vs n k i (choice l c r x y) fits small partial =
     let ll = places_in k i l in
     let rr = places_in k ir r in
     let xx = places_in k ix x in
-    both_each P (ll ++ rr ++ xx) (places_in k iy y)
-    (both_each P (ll ++ rr) xx (both_each P ll rr (readable vs n k i l fits.0 small.1 partial.1) (readable vs n k ir r fits.1 small.2 partial.2)) (readable vs n k ix x fits.2 small.3 partial.3))
+    each_append P (ll ++ rr ++ xx) (places_in k iy y)
+    (each_append P (ll ++ rr) xx (each_append P ll rr (readable vs n k i l fits.0 small.1 partial.1) (readable vs n k ir r fits.1 small.2 partial.2)) (readable vs n k ix x fits.2 small.3 partial.3))
     (readable vs n k iy y fits.3 small.4 partial.4)
 readable vs n k i (pick place choices w) fits small partial =
     ((refl, (in_range vs place partial.0 partial.1, λ j d low. let f = fits j d low in (f.0, f.1.from, small j d low))), tt)
@@ -67,7 +68,7 @@ places_are : (vs : List Signature) (v : Variable) (k : ℕ) (pieces : List Piece
 places_are vs v k [] h = tt
 places_are vs v k (q ∷ pieces) h =
     let n = v.domain.dim in
-    both_each (IsOfPieces k (q ∷ pieces) n (length vs)) (places_in k 0 q.tree) (places_from (suc k) pieces)
+    each_append (IsOfPieces k (q ∷ pieces) n (length vs)) (places_in k 0 q.tree) (places_from (suc k) pieces)
     (each_weaker (IsOfPiece k n (length vs)) (IsOfPieces k (q ∷ pieces) n (length vs)) (λ p x. record { number = 0; number_is = x.0 ∙ omega arith; piece = q; is_piece = refl; fine = x.1 }) (places_in k 0 q.tree)
     (readable vs n k 0 q.tree h.0.tree.fits h.0.tree.rows h.0.tree.partial))
     (each_weaker (IsOfPieces (suc k) pieces n (length vs)) (IsOfPieces k (q ∷ pieces) n (length vs))
@@ -143,7 +144,7 @@ module _ (t : Timed) (legal : IsLegal t) where
       let others : Tap → Bool = λ u. not (is_own place u.place.tree) in
       let mine : Tap → Bool = λ u. is_own place u.place.tree in
       let taps_all = all_taps own t.helpers place v in
-      let f = each_at P (taps own t.helpers place v) (both_each P (filter others taps_all) (filter mine taps_all) (all_filter P others taps_all all) (all_filter P mine taps_all all)) j tap at in
+      let f = each_at P (taps own t.helpers place v) (each_append P (filter others taps_all) (filter mine taps_all) (each_filtered P others taps_all all) (each_filtered P mine taps_all all)) j tap at in
       let dim = at_index (IsChainedPiece vs v) v.pieces chained.pieces tap.place.piece f.piece f.is_piece in
       let size : count ≡ length own.variables = length-map own.variables signature in
       record {

@@ -7,7 +7,7 @@ use Rattle.av_space.specs.declared.cells.Cell.{Cell}
 use Rattle.av_space.specs.Occupancy.{IsCellBefore}
 use Rattle.av_space.specs.inner.Feeding.{IsFirstOf}
 use Rattle.av_space.proofs.ByPlace.{pair_at}
-use Rattle.av_space.proofs.Elements.{some_is}
+use Rattle.av_base.proofs.Lists.{some_is}
 
 -- from the first cell of the node on, up to k, each is of the node
 abbrev pub IsOfNode : List Cell → ℕ → ℕ → ℕ → Type 0

@@ -3,13 +3,10 @@ use Rattle.std.proofs.Common.{◌≡◌, ℕ, suc, ◌+◌, List, [], ◌∷◌,
 use Rattle.std.specs.Prelude.{nat_eq, slice_get}
 use Rattle.av_flat.specs.declared.timed.Helper.{Helper}
 use Rattle.av_space.specs.Taps.{Handing, helper_from}
-use Rattle.av_space.proofs.Elements.{some_is}
+use Rattle.av_base.proofs.Truths.{both}
+use Rattle.av_base.proofs.Lists.{some_is}
 
-pub both_of : (a b : Bool) → (a && b) ≡ true → (a ≡ true) × (b ≡ true)
-both_of true b e = (refl, e)
-both_of false b e = absurd cc
-
-equal : (m n : ℕ) → nat_eq m n ≡ true → m ≡ n
+pub equal : (m n : ℕ) → nat_eq m n ≡ true → m ≡ n
 equal m n h = grind arith
 
 -- the helper that is found
@@ -30,8 +27,8 @@ found_helper (x ∷ hs) j place piece site h e = by_test (λ f. found_helper hs 
     by_test : (helper_from (suc j) hs place piece site ≡ Some h → IsFound hs (suc j) place piece site h) → (b : Bool) → (nat_eq x.var place && nat_eq x.piece piece && nat_eq x.site site) ≡ b → (if b then Some (record { number = j; direction = x.direction }) else helper_from (suc j) hs place piece site) ≡ Some h → IsFound (x ∷ hs) j place piece site h
     by_test later true t f =
         let is = some_is (record { number = j; direction = x.direction }) h f in
-        let l = both_of (nat_eq x.var place && nat_eq x.piece piece) (nat_eq x.site site) t in
-        let m = both_of (nat_eq x.var place) (nat_eq x.piece piece) l.0 in
+        let l = both (nat_eq x.var place && nat_eq x.piece piece) (nat_eq x.site site) t in
+        let m = both (nat_eq x.var place) (nat_eq x.piece piece) l.0 in
         record {
           at = 0;
           number_is = sym (ap (λ (y : Handing). y.number) is) ∙ omega arith;

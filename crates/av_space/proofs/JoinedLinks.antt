@@ -100,7 +100,7 @@ none_put T In old none = record { added = []; new_is = sym (append-nil old); are
 
 -- ---- in turn
 
-one_more : (i k : ℕ) → i < k + 1 → (i < k) ⊎ (i ≡ k)
+pub one_more : (i k : ℕ) → i < k + 1 → (i < k) ⊎ (i ≡ k)
 one_more i k l = elim (cases_lt i k) [ inl h ↦ inl h | inr h ↦ inr (omega (arith, l, h)) ]
 
 -- one more site of a cell

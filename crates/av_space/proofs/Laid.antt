@@ -26,12 +26,11 @@ use Rattle.av_space.specs.declared.layout.Layout.{Layout}
 use Rattle.av_space.proofs.OneArray.{one_cells}
 use Rattle.av_flat.specs.Signatures.{signatures, is_computed}
 use Rattle.av_flat.specs.Chained.{IsChainedPiece}
-use Rattle.av_flat.proofs.Solving.{all_at}
 use Rattle.av_flat.proofs.Sets.{both_true}
-use Rattle.av_space.proofs.ByPlace.{there_is}
 use Rattle.av_space.proofs.Grouped.{slots_of, cells_none, cells_more, cells_of_node, filled}
 use Rattle.av_space.proofs.Nodes.{node_chained, computed_point, node_passes}
 use Rattle.av_space.proofs.Orders.{pairs_append}
+use Rattle.av_base.proofs.Lists.{all_at, there_is}
 
 -- ---- cells of several nodes
 

@@ -4,7 +4,6 @@ pub mod CountBounds
 pub mod Elements
 pub mod ByPlace
 pub mod Helpers
-pub mod Falling
 pub mod Fed
 pub mod FirstCells
 pub mod Directions

@@ -20,7 +20,7 @@ use Rattle.av_space.specs.Lengths.{length_in, AreLengths}
 
 -- ---- tests
 
-same_number : (n : ℕ) → nat_eq n n ≡ true
+pub same_number : (n : ℕ) → nat_eq n n ≡ true
 same_number n = grind arith
 
 other_number : (m n : ℕ) → (m ≡ n → ⊥) → nat_eq m n ≡ false

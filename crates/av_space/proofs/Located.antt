@@ -16,10 +16,10 @@ use Rattle.av_space.specs.Occupancy.{Occupies}
 use Rattle.av_space.specs.Layouts.{IsLayout}
 use Rattle.av_space.specs.inner.Laying.{IsTimely}
 use Rattle.av_space.proofs.ByPlace.{pair_at}
-use Rattle.av_space.proofs.Elements.{some_is}
 use Rattle.av_space.proofs.Grouped.{timely_of, timely_cycle}
 use Rattle.av_space.proofs.Laid.{few_cycles, placing_time, placings_number}
 use Rattle.av_space.proofs.Nodes.{computed_within}
+use Rattle.av_base.proofs.Lists.{some_is}
 
 -- ---- the order of points
 

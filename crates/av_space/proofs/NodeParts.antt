@@ -13,7 +13,6 @@ use Rattle.av_flat.specs.Nodes.{nodes}
 use Rattle.av_flat.specs.Legal.{IsLegal}
 use Rattle.av_flat.specs.Signatures.{signatures}
 use Rattle.av_flat.specs.WellFormed.{Fits}
-use Rattle.av_flat.proofs.Solving.{all_at}
 use Rattle.av_space.specs.declared.cells.Cell.{Cell}
 use Rattle.av_space.specs.declared.cells.InPort.{InPort}
 use Rattle.av_space.specs.declared.layout.Layout.{Layout}
@@ -26,12 +25,12 @@ use Rattle.av_space.specs.Taps.{node_of}
 use Rattle.av_space.specs.inner.Feeding.{IsFirstOf}
 use Rattle.av_space.specs.Layouts.{IsLayout}
 use Rattle.av_space.specs.inner.NodePieces.{IsNodePiece, IsPart, IsSmallNode, ArePortsOf, ArePortsAt}
-use Rattle.av_space.proofs.ByPlace.{there_is, read_at}
-use Rattle.av_space.proofs.Elements.{some_is, mapped}
+use Rattle.av_space.proofs.ByPlace.{read_at}
 use Rattle.av_space.proofs.CountBounds.{bounded_node}
 use Rattle.av_space.proofs.Fed.{node_of_port, next_piece}
 use Rattle.av_space.proofs.OnCells.{chained_node}
 use Rattle.av_space.proofs.PieceParts.{whole_part}
+use Rattle.av_base.proofs.Lists.{all_at, get_mapped, some_is, there_is}
 
 -- ---- ports of a node
 
@@ -72,7 +71,7 @@ pub node_piece_is : (at : NodePiece) (v : Var) (items : List PieceMade) → IsLe
     → slice_get (nodes (view_system at.timed.now.flat)) at.node ≡ Some (view_variable v) → items ≡ v.pieces → at.number < length items → at.piece.now ≡ get_or items at.number at.piece.now
     → IsFirstOf at.layout.now.cells at.node at.first → IsFirstOf at.layout.now.cells (at.node + 1) at.last → at.first ≤ at.last → at.last ≤ length at.layout.now.cells → IsNodePiece at
 node_piece_is at v items legal layout small is same lt read first last ordered within =
-    let here = mapped view_piece v.pieces at.number at.piece.now (read_at v.pieces items at.number at.piece.now same lt read) in
+    let here = get_mapped view_piece v.pieces at.number at.piece.now (read_at v.pieces items at.number at.piece.now same lt read) in
     record {
       legal = legal;
       layout = layout;

@@ -3,7 +3,7 @@ use Rattle.std.proofs.Common.{◌≡◌, ℕ, zero, suc, List, [], ◌∷◌, le
 use Rattle.std.specs.Prelude.{slice_get, filter}
 use Rattle.av_flat.specs.Trees.{Variable}
 use Rattle.av_flat.specs.Nodes.{is_node}
-use Rattle.av_space.proofs.Elements.{some_is}
+use Rattle.av_base.proofs.Lists.{some_is}
 
 pub node_at : (vs : List Variable) (place : ℕ) (v : Variable) → slice_get vs place ≡ Some v → is_node v ≡ true → slice_get (filter is_node vs) (length (filter is_node (take place vs))) ≡ Some v
 node_at [] place v is node = absurd cc

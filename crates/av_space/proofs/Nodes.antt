@@ -18,13 +18,13 @@ use Rattle.av_flat.specs.Points.{has}
 use Rattle.av_flat.specs.Nodes.{is_node, nodes, number_at, IsComputation}
 use Rattle.av_flat.specs.Chained.{IsChained, IsChainedVariable}
 use Rattle.av_flat.proofs.Sets.{has_is}
-use Rattle.av_flat.proofs.Solving.{all_at}
 use Rattle.av_depend.specs.AllPoints.{AreAllPoints}
 use Rattle.av_depend.proofs.Adds.{variable_at}
-use Rattle.av_depend.proofs.Small.{small_point}
+use Rattle.av_flat.proofs.Bounded.{small_point}
 use Rattle.av_space.specs.Taps.{place_from, node_place}
 use Rattle.av_space.specs.inner.Laying.{AreNodePoints}
 use Rattle.av_space.specs.Layouts.{places_of}
+use Rattle.av_base.proofs.Lists.{all_at}
 
 -- ---- places
 
@@ -44,11 +44,11 @@ passing test (w ∷ vs) n v e = go (λ m k. passing test vs m v k) (test w) refl
     go rest true t (suc n) e = let r = rest n e in record { place = suc r.place; is = r.is; passes = r.passes; number = rw t (ap suc r.number) }
     go rest false t n e = let r = rest n e in record { place = suc r.place; is = r.is; passes = r.passes; number = rw t r.number }
 
-passed : (a n : ℕ) (w : Variable) (vs : List Variable) → is_node w ≡ false → place_from a n (w ∷ vs) ≡ place_from (suc a) n vs
+pub passed : (a n : ℕ) (w : Variable) (vs : List Variable) → is_node w ≡ false → place_from a n (w ∷ vs) ≡ place_from (suc a) n vs
 passed a zero w vs t = rw t refl
 passed a (suc n) w vs t = rw t refl
 
-place_at : (a : ℕ) (vs : List Variable) (place : ℕ) (v : Variable) → slice_get vs place ≡ Some v → is_node v ≡ true → place_from a (length (filter is_node (take place vs))) vs ≡ a + place
+pub place_at : (a : ℕ) (vs : List Variable) (place : ℕ) (v : Variable) → slice_get vs place ≡ Some v → is_node v ≡ true → place_from a (length (filter is_node (take place vs))) vs ≡ a + place
 place_at a [] place v is node = absurd cc
 place_at a (w ∷ vs) zero v is node =
     let e : w ≡ v = cc in

@@ -13,9 +13,8 @@ use Rattle.av_flat.specs.Signatures.{signatures}
 use Rattle.av_flat.specs.Nodes.{is_node, nodes}
 use Rattle.av_flat.specs.Legal.{IsLegal}
 use Rattle.av_flat.proofs.Sets.{has_is}
-use Rattle.av_flat.proofs.Solving.{all_at}
 use Rattle.av_depend.specs.SetPoints.{IsPointOf}
-use Rattle.av_depend.proofs.Small.{small_point}
+use Rattle.av_flat.proofs.Bounded.{small_point}
 use Rattle.av_space.specs.declared.cells.Cell.{Cell}
 use Rattle.av_space.specs.declared.layout.Slot.{Slot}
 use Rattle.av_space.specs.declared.layout.Layout.{Layout}
@@ -25,7 +24,7 @@ use Rattle.av_space.specs.Taps.{node_place}
 use Rattle.av_space.specs.Quantities.{IsUse}
 use Rattle.av_space.specs.Layouts.{IsSlot, AreSlots, IsLayout, places_of}
 use Rattle.av_space.proofs.ByPlace.{place_of}
-use Rattle.av_space.proofs.Elements.{some_is}
+use Rattle.av_base.proofs.Lists.{all_at, some_is}
 
 -- ---- places
 

@@ -18,8 +18,9 @@ use Rattle.av_space.specs.declared.layout.Slot.{Slot}
 use Rattle.av_space.specs.declared.spots.Spot.{Spot}
 use Rattle.av_space.specs.Layouts.{IsSlot, AreSlots}
 use Rattle.av_space.specs.Spots.{system_of, placings_of, cells_of, ComputesIn, IsSlotIn, AreSlotsIn, IsSpot, AreSpots}
-use Rattle.av_space.proofs.Elements.{some_is, in_range}
+use Rattle.av_space.proofs.Elements.{in_range}
 use Rattle.av_space.proofs.Fed.{from_filter}
+use Rattle.av_base.proofs.Lists.{some_is}
 
 -- ---- the computations of a piece on a cell
 

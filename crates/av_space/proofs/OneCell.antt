@@ -13,7 +13,7 @@ use Rattle.av_space.specs.declared.cells.Cell.{Cell}
 use Rattle.av_flat.specs.Schedules.{cycle}
 use Rattle.av_space.specs.Coordinates.{Placing, along}
 use Rattle.av_space.specs.Occupancy.{Computes}
-use Rattle.av_space.proofs.Between.{Keeps, between_images}
+use Rattle.av_space.proofs.Between.{Keeps, between_images, straight}
 
 some_is : {X : Type 0} (x y : X) (o : Option X) → o ≡ Some x → o ≡ Some y → x ≡ y
 some_is x y o e f = cc
@@ -42,12 +42,9 @@ scaled g (x ∷ v) (y ∷ z) = rw (scaled g v z) (simp ring (omega (arith, ints,
 cycle_is : (placing : Placing) (n : ℕ) (i : Inverts placing n) (c : ℕ) (z : Point) → pos c ≡ cycle placing.time z → pos c ≡ i.gcd *ℤ dot i.vector z +ℤ placing.time.offset
 cycle_is placing n i c z e = e ∙ ap (λ k. k +ℤ placing.time.offset) (ap (λ (l : List ℤ). dot l z) i.divided ∙ scaled i.gcd i.vector z)
 
-pub spread : (g u v : ℤ) → g *ℤ (v -ℤ u) ≡ g *ℤ v -ℤ g *ℤ u
-spread g u v = simp ring (omega (arith, ints))
-
 in_order : (g o t u : ℤ) (a b : ℕ) → pos 0 <ℤ g → pos a ≡ g *ℤ t +ℤ o → pos b ≡ g *ℤ u +ℤ o → a ≤ b → t ≤ℤ u
 in_order g o t u a b positive ea eb le =
-    let s = spread g t u in
+    let s = straight g t u in
     let k : pos 0 ≤ℤ (g *ℤ (u -ℤ t)) = omega (arith, ints, s, ea, eb) in
     let r = nonneg_by g (u -ℤ t) positive k in
     omega (arith, ints, r)

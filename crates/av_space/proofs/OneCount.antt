@@ -8,8 +8,9 @@ use Rattle.av_space.specs.declared.cells.Cell.{Cell}
 use Rattle.av_space.specs.Coordinates.{Placing}
 use Rattle.av_space.specs.Taps.{node_of}
 use Rattle.av_space.specs.Quantities.{Use, IsUse, IsOperatorCount, size}
-use Rattle.av_space.proofs.Elements.{got, get_contained, in_range}
-use Rattle.av_space.proofs.OneOrder.{contains_cases, contains_here, contains_later, contains_none, pairs_first, pairs_rest}
+use Rattle.av_space.proofs.Elements.{got, in_range}
+use Rattle.av_base.proofs.Among.{among_at, among_cases, first_among, more_among, none_among}
+use Rattle.av_base.proofs.Lists.{pairs_first, pairs_rest}
 
 -- ---- totals of lists with the same elements, each once
 
@@ -32,21 +33,21 @@ without (y ∷ ys) (suc k) = y ∷ without ys k
 
 among_without : {X : Type 0} (ys : List X) (k : ℕ) (z : X) → Contains (without ys k) z → Contains ys z
 among_without [] k z c = c
-among_without (y ∷ ys) zero z c = contains_later y z ys c
-among_without (y ∷ ys) (suc k) z c = ⊎_elim (λ e. subst (Contains (y ∷ ys)) e (contains_here y ys)) (λ d. contains_later y z ys (among_without ys k z d)) (contains_cases y z (without ys k) c)
+among_without (y ∷ ys) zero z c = more_among y z ys c
+among_without (y ∷ ys) (suc k) z c = ⊎_elim (λ e. subst (Contains (y ∷ ys)) e (first_among y ys)) (λ d. more_among y z ys (among_without ys k z d)) (among_cases y z (without ys k) c)
 
 still_among : {X : Type 0} (ys : List X) (k : ℕ) (x z : X) → slice_get ys k ≡ Some x → z ≢ x → Contains ys z → Contains (without ys k) z
 still_among [] k x z is other c = c
-still_among (y ∷ ys) zero x z is other c = ⊎_elim (λ e. let f : y ≡ x = cc in absurd (other (sym e ∙ f))) (λ d. d) (contains_cases y z ys c)
-still_among (y ∷ ys) (suc k) x z is other c = ⊎_elim (λ e. subst (Contains (y ∷ without ys k)) e (contains_here y (without ys k))) (λ d. contains_later y z (without ys k) (still_among ys k x z is other d)) (contains_cases y z ys c)
+still_among (y ∷ ys) zero x z is other c = ⊎_elim (λ e. let f : y ≡ x = cc in absurd (other (sym e ∙ f))) (λ d. d) (among_cases y z ys c)
+still_among (y ∷ ys) (suc k) x z is other c = ⊎_elim (λ e. subst (Contains (y ∷ without ys k)) e (first_among y (without ys k))) (λ d. more_among y z (without ys k) (still_among ys k x z is other d)) (among_cases y z ys c)
 
 other_among : {X : Type 0} (ys : List X) (k : ℕ) (x z : X) → AreApart ys → slice_get ys k ≡ Some x → Contains (without ys k) z → z ≢ x
 other_among [] k x z apart is c = absurd cc
 other_among (y ∷ ys) zero x z apart is c = λ e. let f : y ≡ x = cc in apart.0 (subst (Contains ys) (e ∙ sym f) c)
 other_among (y ∷ ys) (suc k) x z apart is c = ⊎_elim
-    (λ e f. apart.0 (subst (Contains ys) (sym (e ∙ f)) (get_contained ys k x is)))
+    (λ e f. apart.0 (subst (Contains ys) (sym (e ∙ f)) (among_at ys k x is)))
     (λ d. other_among ys k x z apart.1 is d)
-    (contains_cases y z (without ys k) c)
+    (among_cases y z (without ys k) c)
 
 apart_without : {X : Type 0} (ys : List X) (k : ℕ) → AreApart ys → AreApart (without ys k)
 apart_without [] k h = tt
@@ -64,12 +65,12 @@ total_without f (y ∷ ys) (suc k) x is =
 
 pub same_totals : {X : Type 0} (f : X → ℕ) (xs ys : List X) → AreApart xs → AreApart ys → ((z : X) → Contains xs z → Contains ys z) → ((z : X) → Contains ys z → Contains xs z) → sum (map f xs) ≡ sum (map f ys)
 same_totals f [] [] h g over back = refl
-same_totals f [] (y ∷ ys) h g over back = absurd (contains_none y (back y (contains_here y ys)))
+same_totals f [] (y ∷ ys) h g over back = absurd (none_among y (back y (first_among y ys)))
 same_totals f (x ∷ xs) ys h g over back =
-    let at = got ys x (over x (contains_here x xs)) in
+    let at = got ys x (over x (first_among x xs)) in
     let rest = same_totals f xs (without ys at.0) h.1 (apart_without ys at.0 g)
-    (λ z c. still_among ys at.0 x z at.1 (λ e. h.0 (subst (Contains xs) e c)) (over z (contains_later x z xs c)))
-    (λ z c. ⊎_elim (λ e. absurd (other_among ys at.0 x z g at.1 c (sym e))) (λ d. d) (contains_cases x z xs (back z (among_without ys at.0 z c)))) in
+    (λ z c. still_among ys at.0 x z at.1 (λ e. h.0 (subst (Contains xs) e c)) (over z (more_among x z xs c)))
+    (λ z c. ⊎_elim (λ e. absurd (other_among ys at.0 x z g at.1 c (sym e))) (λ d. d) (among_cases x z xs (back z (among_without ys at.0 z c)))) in
     sum_cons (f x) (map f xs) ∙ ap (λ n. f x + n) rest ∙ sym (total_without f ys at.0 x at.1)
 
 -- ---- uses

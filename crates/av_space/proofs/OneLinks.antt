@@ -11,7 +11,8 @@ use Rattle.av_space.specs.declared.cells.Link.{Link}
 use Rattle.av_space.specs.Coordinates.{Placing}
 use Rattle.av_space.specs.Taps.{IsTapped}
 use Rattle.av_space.specs.Links.{AreLinks, IsStretch, IsLinkBefore, IsInLink, AreNeighbours}
-use Rattle.av_space.proofs.OneOrder.{one_order, contains_cases, contains_here, contains_later, contains_none}
+use Rattle.av_space.proofs.OneOrder.{one_order}
+use Rattle.av_base.proofs.Among.{among_cases, first_among, more_among, none_among}
 
 -- ---- order
 
@@ -40,33 +41,33 @@ record IsLatest (l : Link) (xs : List Link) (k : Link) : Type 0 where
   latest : (y : Link) → Contains xs y → IsEarlier l y → y.last ≤ k.last
 
 latest_of : (l : Link) (xs : List Link) → ((k : Link) × IsLatest l xs k) ⊎ ((y : Link) → Contains xs y → IsEarlier l y → ⊥)
-latest_of l [] = inr (λ y c e. contains_none y c)
+latest_of l [] = inr (λ y c e. none_among y c)
 latest_of l (x ∷ xs) = elim (is_earlier l x) [
   | inl here ↦ elim (latest_of l xs) [
     | inl (k, is) ↦ elim (cases_lt k.last x.last) [
       | inl less ↦ inl (
         x,
         record {
-          among = contains_here x xs;
+          among = first_among x xs;
           earlier = here;
-          latest = λ y c e. elim (contains_cases x y xs c) [ inl same ↦ let f = ap (λ (z : Link). z.last) same in omega (arith, f) | inr later ↦ let f = is.latest y later e in omega (arith, f, less) ];
+          latest = λ y c e. elim (among_cases x y xs c) [ inl same ↦ let f = ap (λ (z : Link). z.last) same in omega (arith, f) | inr later ↦ let f = is.latest y later e in omega (arith, f, less) ];
         },
       )
       | inr past ↦ inl (
         k,
         record {
-          among = contains_later x k xs is.among;
+          among = more_among x k xs is.among;
           earlier = is.earlier;
-          latest = λ y c e. elim (contains_cases x y xs c) [ inl same ↦ let f = ap (λ (z : Link). z.last) same in omega (arith, f, past) | inr later ↦ is.latest y later e ];
+          latest = λ y c e. elim (among_cases x y xs c) [ inl same ↦ let f = ap (λ (z : Link). z.last) same in omega (arith, f, past) | inr later ↦ is.latest y later e ];
         },
       )
     ]
     | inr none ↦ inl (
       x,
       record {
-        among = contains_here x xs;
+        among = first_among x xs;
         earlier = here;
-        latest = λ y c e. elim (contains_cases x y xs c) [ inl same ↦ let f = ap (λ (z : Link). z.last) same in omega (arith, f) | inr later ↦ absurd (none y later e) ];
+        latest = λ y c e. elim (among_cases x y xs c) [ inl same ↦ let f = ap (λ (z : Link). z.last) same in omega (arith, f) | inr later ↦ absurd (none y later e) ];
       },
     )
   ]
@@ -74,12 +75,12 @@ latest_of l (x ∷ xs) = elim (is_earlier l x) [
     | inl (k, is) ↦ inl (
       k,
       record {
-        among = contains_later x k xs is.among;
+        among = more_among x k xs is.among;
         earlier = is.earlier;
-        latest = λ y c e. elim (contains_cases x y xs c) [ inl same ↦ absurd (not_here (subst (IsEarlier l) (sym same) e)) | inr later ↦ is.latest y later e ];
+        latest = λ y c e. elim (among_cases x y xs c) [ inl same ↦ absurd (not_here (subst (IsEarlier l) (sym same) e)) | inr later ↦ is.latest y later e ];
       },
     )
-    | inr none ↦ inr (λ y c e. elim (contains_cases x y xs c) [ inl same ↦ not_here (subst (IsEarlier l) (sym same) e) | inr later ↦ none y later e ])
+    | inr none ↦ inr (λ y c e. elim (among_cases x y xs c) [ inl same ↦ not_here (subst (IsEarlier l) (sym same) e) | inr later ↦ none y later e ])
   ]
 ]
 

@@ -23,12 +23,13 @@ use Rattle.av_space.specs.Occupancy.{AreCells, IsCellBefore, Computes}
 use Rattle.av_space.specs.Taps.{node_place, Way, each, entries, handed, Tap, taps, IsReadBy, IsTapRead}
 use Rattle.av_space.specs.Layouts.{IsLayout, IsSlot}
 use Rattle.av_space.specs.inner.Readings.{IsSiteOn, IsReadingAt}
-use Rattle.av_space.proofs.Elements.{some_is, at_index}
+use Rattle.av_space.proofs.Elements.{at_index}
 use Rattle.av_space.proofs.Nodes.{passing, own_place, node_chained, computed_small}
 use Rattle.av_space.proofs.OneArray.{cells_in_turn}
 use Rattle.av_space.proofs.Scheduling.{scheduled}
 use Rattle.av_space.proofs.Timely.{earlier}
 use Rattle.av_space.proofs.ByPlace.{pair_at}
+use Rattle.av_base.proofs.Lists.{some_is}
 
 -- ---- one cell and one cycle
 

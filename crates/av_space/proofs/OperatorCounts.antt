@@ -13,8 +13,8 @@ use Rattle.av_space.specs.declared.cells.Cell.{Cell}
 use Rattle.av_space.specs.Coordinates.{Placing}
 use Rattle.av_space.specs.Quantities.{size, Use, IsUse, IsOperatorCount}
 use Rattle.av_space.specs.inner.Counting.{IsCountOf, capped, IsCappedCount, IsOnCell}
-use Rattle.av_space.proofs.ByPlace.{there_is}
-use Rattle.av_space.proofs.Elements.{some_is, got}
+use Rattle.av_space.proofs.Elements.{got}
+use Rattle.av_base.proofs.Lists.{get_second, some_is, there_is}
 
 -- ---- lists side by side
 
@@ -22,10 +22,6 @@ get_left : {X : Type 0} (xs ys : List X) (k : ℕ) → k < length xs → slice_g
 get_left [] ys k l = absurd (omega (arith, l))
 get_left (x ∷ xs) ys zero l = refl
 get_left (x ∷ xs) ys (suc k) l = get_left xs ys k (omega (arith, l))
-
-get_right : {X : Type 0} (xs ys : List X) (k : ℕ) → slice_get (xs ++ ys) (length xs + k) ≡ slice_get ys k
-get_right [] ys k = let e : 0 + k ≡ k = omega arith in ap (λ (n : ℕ). slice_get ys n) e
-get_right (x ∷ xs) ys k = let e : suc (length xs) + k ≡ suc (length xs + k) = omega arith in ap (λ (n : ℕ). slice_get (x ∷ (xs ++ ys)) n) e ∙ get_right xs ys k
 
 abbrev pub tree_sizes : List Piece → ℕ
 tree_sizes ps = sum (map (λ (p : Piece). size p.tree) ps)
@@ -112,8 +108,8 @@ module _ (s : FlatSystem) (placings : List Placing) (cells : List Cell) where
           let j : ℕ = k - length a.uses in
           let is : k ≡ length a.uses + j = omega (arith, l) in
           let other : k ≡ length a.pieces + j = (let x = a.paired in omega (arith, l, x)) in
-          let g = sym (get_right a.uses b.uses j) ∙ ap (λ (n : ℕ). slice_get (a.uses ++ b.uses) n) (sym is) ∙ e in
-          let i = sym (get_right a.pieces b.pieces j) ∙ ap (λ (n : ℕ). slice_get (a.pieces ++ b.pieces) n) (sym other) ∙ f in
+          let g = sym (get_second a.uses b.uses j) ∙ ap (λ (n : ℕ). slice_get (a.uses ++ b.uses) n) (sym is) ∙ e in
+          let i = sym (get_second a.pieces b.pieces j) ∙ ap (λ (n : ℕ). slice_get (a.pieces ++ b.pieces) n) (sym other) ∙ f in
           let h = b.each j u piece g i in
           (right u h.0, h.1)
 

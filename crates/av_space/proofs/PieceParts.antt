@@ -17,7 +17,6 @@ use Rattle.av_flat.specs.Nodes.{nodes}
 use Rattle.av_flat.specs.Legal.{IsMoving}
 use Rattle.av_flat.specs.Signatures.{Signature, signatures, signature, is_input, is_computed}
 use Rattle.av_flat.specs.WellFormed.{EachPart, Fits, HasSmallRows, dimension_of}
-use Rattle.av_flat.proofs.Solving.{all_at}
 use Rattle.av_poly.specs.Points.{Set}
 use Rattle.av_depend.specs.SetPoints.{IsPointOf}
 use Rattle.av_depend.proofs.Adds.{variable_at}
@@ -30,14 +29,14 @@ use Rattle.av_space.specs.Ports.{IsPort}
 use Rattle.av_space.specs.Taps.{node_of, node_place, helper_at, Handing}
 use Rattle.av_space.specs.inner.Feeding.{direction_of, is_entered, with_port, StandAt}
 use Rattle.av_space.specs.inner.NodePieces.{IsNodePiece, IsPart, IsInputSite, ArePortsAt}
-use Rattle.av_space.proofs.ByPlace.{there_is, read_at}
-use Rattle.av_space.proofs.Elements.{some_is}
+use Rattle.av_space.proofs.ByPlace.{read_at}
 use Rattle.av_space.proofs.Directions.{first_step}
 use Rattle.av_space.proofs.Fed.{IsSiteOn, next_cell, node_of_port, same_reference}
 use Rattle.av_space.proofs.FirstCells.{node_between}
 use Rattle.av_space.proofs.Helpers.{found_helper}
 use Rattle.av_space.proofs.Nodes.{node_variable}
 use Rattle.av_space.proofs.OnCells.{IsCellOf, place_of_node, node_in_places, slot_points}
+use Rattle.av_base.proofs.Lists.{all_at, some_is, there_is}
 
 -- ---- parts
 

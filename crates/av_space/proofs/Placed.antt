@@ -10,9 +10,9 @@ use Rattle.av_flat.specs.declared.timed.Time.{Time}
 use Rattle.av_flat.specs.Points.{has}
 use Rattle.av_flat.specs.Schedules.{cycle}
 use Rattle.av_space.specs.Coordinates.{AreSpaceRows, Placing, IsPlacing, point, space, along}
-use Rattle.av_space.proofs.Between.{Keeps, one_image, between_images}
+use Rattle.av_space.proofs.Between.{Keeps, one_image, between_images, straight}
 use Rattle.av_space.proofs.Completed.{has_inverse}
-use Rattle.av_space.proofs.OneCell.{Inverts, scaled, spread}
+use Rattle.av_space.proofs.OneCell.{Inverts, scaled}
 
 -- ---- placings
 
@@ -38,7 +38,7 @@ has_inverse_rows linear rows a few =
 
 pub rises : (g o t u : ℤ) → pos 0 <ℤ g → (g *ℤ t +ℤ o) ≤ℤ (g *ℤ u +ℤ o) → t ≤ℤ u
 rises g o t u positive le =
-    let s = spread g t u in
+    let s = straight g t u in
     let k : pos 0 ≤ℤ (g *ℤ (u -ℤ t)) = omega (arith, ints, s, le) in
     let r = nonneg_by g (u -ℤ t) positive k in
     omega (arith, ints, r)
@@ -60,7 +60,7 @@ one_of_cell p n i y z ly lz at e =
     let same : dot i.vector y ≡ dot i.vector z = omega (arith, ints, low, high) in
     one_image (i.vector ∷ p.rows) i.inverse n i.keeps y z ly lz (ap (λ k. k ∷ along p.rows y) same ∙ ap (λ (w : List ℤ). dot i.vector z ∷ w) at)
 
-empty : (z : Point) → length z ≡ 0 → z ≡ []
+pub empty : (z : Point) → length z ≡ 0 → z ≡ []
 empty [] e = refl
 empty (x ∷ z) e = absurd (omega (arith, e))
 

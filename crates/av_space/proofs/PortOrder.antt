@@ -5,7 +5,7 @@ use Rattle.av_space.specs.declared.cells.Cell.{Cell}
 use Rattle.av_space.specs.declared.cells.InPort.{InPort}
 use Rattle.av_space.specs.Taps.{node_of}
 use Rattle.av_space.specs.Ports.{IsPortBefore, by_node, by_piece, by_site, by_cell}
-use Rattle.av_space.proofs.Elements.{some_is}
+use Rattle.av_base.proofs.Lists.{some_is}
 
 -- no port is before and after another
 pub ports_in_turn : (cells : List Cell) (a b : InPort) → IsPortBefore cells a b → IsPortBefore cells b a → ⊥

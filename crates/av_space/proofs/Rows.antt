@@ -14,6 +14,7 @@ use Rattle.av_flat.proofs.Sets.{is_equal}
 use Rattle.av_base.proofs.Among.{among_cases, none_among}
 use Rattle.av_space.specs.Coordinates.{Placing, IsPlacing, point, space, along}
 use Rattle.av_affine.proofs.Dots.{dot_most}
+use Rattle.av_base.proofs.Lists.{same_tail}
 
 one_or_none : (b : Bool) → unsigned_abs (if b then pos 1 else pos 0) ≤ 1
 one_or_none true = omega arith
@@ -68,9 +69,6 @@ left_fewer n p left l =
 pub record AreSmallRows (rows : List (List ℤ)) : Type 0 where
   pub few : length rows ≤ 4
   pub small : All (AtMost 1) rows
-
-same_tail : {X : Type 0} (x y : X) (xs ys : List X) → x ∷ xs ≡ y ∷ ys → xs ≡ ys
-same_tail x y xs ys e = cc
 
 small_completion : (v : List ℤ) (rows : List (List ℤ)) → length v ≤ 4 → IsCompletion v (v ∷ rows) → AreSmallRows rows
 small_completion v rows few (beside_one p s e) =

@@ -18,9 +18,10 @@ use Rattle.av_space.specs.declared.cells.Cell.{Cell}
 use Rattle.av_space.specs.Coordinates.{Placing, ArePlacings}
 use Rattle.av_space.specs.Occupancy.{AreCells}
 use Rattle.av_space.specs.Taps.{Handing, helper_at}
-use Rattle.av_space.proofs.Elements.{some_is, at_index}
+use Rattle.av_space.proofs.Elements.{at_index}
 use Rattle.av_space.proofs.Helpers.{found_helper}
 use Rattle.av_space.proofs.Timely.{Scheduled}
+use Rattle.av_base.proofs.Lists.{some_is}
 
 module _ (t : Timed) (placings : List Placing) (cells : List Cell) (legal : IsLegal t) (are_placings : ArePlacings t.times placings) (are_cells : AreCells (view_system t.flat) placings cells) where
   abbrev own : FlatSystem

@@ -17,7 +17,7 @@ use Rattle.av_flat.specs.Nodes.{nodes, IsComputation}
 use Rattle.av_flat.specs.Order.{IsBefore}
 use Rattle.av_flat.specs.Signatures.{is_shown}
 use Rattle.av_flat.specs.Trees.{Variable, FlatSystem}
-use Rattle.av_base.proofs.Among.{last_among, among_cases, none_among}
+use Rattle.av_base.proofs.Among.{last_among, among_cases, none_among, among_at}
 use Rattle.av_net.specs.declared.design.Entry.{Entry}
 use Rattle.av_space.specs.declared.cells.Cell.{Cell}
 use Rattle.av_space.specs.Coordinates.{Placing}
@@ -27,8 +27,8 @@ use Rattle.av_space.specs.Occupancy.{AreCells, Computes}
 use Rattle.av_space.specs.inner.Laying.{AreNodePoints}
 use Rattle.av_space.specs.inner.Showing.{AreLinesOf}
 use Rattle.av_space.proofs.ByPlace.{pair_at}
-use Rattle.av_space.proofs.Elements.{some_is, get_contained}
 use Rattle.av_space.proofs.OneReading.{one_place}
+use Rattle.av_base.proofs.Lists.{some_is}
 
 -- ---- output ports
 
@@ -75,8 +75,8 @@ one_port outputs rise i j p a b = ⊎_elim
 
 one_wire : (outputs : List ℕ) → AllPairs (λ a b. a < b) outputs → (p : ℕ) (v w : List ℕ) → IsWireOf outputs p v → IsWireOf outputs p w → v ≡ w
 one_wire outputs rise p v w (output i a) (output j b) = ap output_name (one_port outputs rise i j p a b)
-one_wire outputs rise p v w (output i a) (value none) = absurd (none (get_contained outputs i p a))
-one_wire outputs rise p v w (value none) (output j b) = absurd (none (get_contained outputs j p b))
+one_wire outputs rise p v w (output i a) (value none) = absurd (none (among_at outputs i p a))
+one_wire outputs rise p v w (value none) (output j b) = absurd (none (among_at outputs j p b))
 one_wire outputs rise p v w (value none) (value other) = refl
 
 -- ---- lines

@@ -19,9 +19,10 @@ use Rattle.av_space.specs.Taps.{node_place, Tap, taps, IsTapped}
 use Rattle.av_space.specs.Layouts.{IsLayout}
 use Rattle.av_space.specs.inner.Readings.{IsConsumer, IsSiteOn, IsReadingAt, IsReadingOf, AreReadings}
 use Rattle.av_space.specs.inner.Stretches.{HasLinks, IsAt, IsOnBelow, Told}
-use Rattle.av_space.proofs.Elements.{some_is, in_range}
+use Rattle.av_space.proofs.Elements.{in_range}
 use Rattle.av_space.proofs.JoinedLinks.{retold}
 use Rattle.av_space.proofs.OneReading.{slot_computes}
+use Rattle.av_base.proofs.Lists.{some_is}
 
 module _ (t : Timed) (l : Layout) (legal : IsLegal t) (layout : IsLayout t l) (p j n : ℕ) (tap : Tap) (piece : Piece) (slots : List Slot) (is : IsSiteOn (view_system t.flat) t.helpers l.placements l.cells p j n tap piece slots) where
   abbrev Tapped : ℕ → ℕ → ℕ → ℕ → ℕ → Type 0

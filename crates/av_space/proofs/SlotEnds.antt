@@ -5,12 +5,14 @@ use Rattle.std.proofs.lemmas.Bool.{cases_lt}
 use Rattle.av_space.specs.declared.layout.Slot.{Slot}
 use Rattle.av_space.specs.Spots.{AreEnds}
 use Rattle.av_space.proofs.ByPlace.{pair_at, all_by_place}
-use Rattle.av_space.proofs.Elements.{some_is, in_range, get_contained}
+use Rattle.av_space.proofs.Elements.{in_range}
+use Rattle.av_base.proofs.Among.{among_at}
+use Rattle.av_base.proofs.Lists.{some_is}
 
 pub are_ends : (slots : List Slot) → AllPairs (λ (t u : Slot). t.cycle < u.cycle) slots → (x y : Slot) (last : ℕ) → slice_get slots 0 ≡ Some x → slice_get slots last ≡ Some y → length slots ≤ last + 1 → AreEnds slots (record { first = x.cycle; last = y.cycle })
 are_ends slots order x y last is_x is_y whole = record {
-  first = (x.point, get_contained slots 0 x is_x);
-  last = (y.point, get_contained slots last y is_y);
+  first = (x.point, among_at slots 0 x is_x);
+  last = (y.point, among_at slots last y is_y);
   between = all_by_place (λ (t : Slot). (x.cycle ≤ t.cycle) × (t.cycle ≤ y.cycle)) slots (λ k t is. (low k t is, high k t is));
 }
   where

@@ -12,8 +12,8 @@ use Rattle.av_space.specs.declared.stretch.Reading.{Reading}
 use Rattle.av_space.specs.Coordinates.{Placing}
 use Rattle.av_space.specs.Taps.{Tap}
 use Rattle.av_space.specs.inner.Readings.{IsReadingAt, IsReadingOf, AreReadings}
-use Rattle.av_space.proofs.Elements.{some_is}
 use Rattle.av_space.proofs.Stretching.{earlier_ones}
+use Rattle.av_base.proofs.Lists.{some_is}
 
 abbrev pub listed : Option Reading → List Reading
 listed None = []

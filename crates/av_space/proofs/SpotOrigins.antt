@@ -30,6 +30,7 @@ use Rattle.av_space.specs.inner.SpotTaps.{own_tap}
 use Rattle.av_space.specs.inner.SpotTaps.{IsSpotTap, IsReadThere, IsComputedRead, IsPortSite}
 use Rattle.av_space.proofs.SpotPlaces.{IsPlaceBy, pick_computed}
 use Rattle.av_space.proofs.SpotReadings.{piece, p, known, piece_is, tap_of_place, declared_read, node_read}
+use Rattle.av_pipe.proofs.Piped.{not_computed}
 
 -- ---- the taps of a place
 
@@ -82,13 +83,6 @@ handed_at s hs own q (reduction o m t set) h e = absurd cc
 own_read : (s : FlatSystem) (n : ℕ) (t : Tree) (h : Option Handing) (q : Piece) (z : Point) → IsReadAt h q z → (place : ℕ) (y : Point) → IsReadBy t z place y → IsTapRead s n t (own_way h) q z (number_at s place) y
 own_read s n t None q z entered place y r = (place, r, refl)
 own_read s n t (Some h) q z entered place y r = (entered, (place, r, refl))
-
--- an input or a computed variable
-input_kind : (k : Kind) → is_computed k ≡ false → IsTrue (is_input k)
-input_kind kind.Input e = refl
-input_kind kind.Output e = absurd cc
-input_kind kind.Local e = absurd cc
-input_kind kind.Partial e = absurd cc
 
 -- a place that is neither a reference nor a pick
 pub no_place : (vs : List Signature) (whole : List Reference) (q : Place) (t : TreeMade) → ((place : ℕ) (m : Map) → t ≡ made.Ref place m → ⊥) → ((place : ℕ) (choices : List Choice) (n : _) → t ≡ made.Pick place choices n → ⊥)
@@ -149,7 +143,7 @@ module _ (a : Array) (is : IsArray a) (at : Spot) (spot : IsSpot a at) (mine : S
           tree = tree;
           read = w.variable;
           is_read = w.is;
-          input = input_kind w.variable.kind (subst (λ (o : Option Variable). computed_at o ≡ false) w.is c);
+          input = not_computed w.variable.kind (subst (λ (o : Option Variable). computed_at o ≡ false) w.is c);
           is_reference = among;
         }
 
@@ -157,7 +151,7 @@ module _ (a : Array) (is : IsArray a) (at : Spot) (spot : IsSpot a at) (mine : S
         → IsReferenceOrigin a at slot.cycle mine.place.site place m (own_way mine.handing) (origin.Port n)
     reads_port c n is_port =
         let w = declared_read a is at spot mine placed slot on place (image m.rows slot.point) reads in
-        at_port n w.variable w.is (input_kind w.variable.kind (subst (λ (o : Option Variable). computed_at o ≡ false) w.is c)) among is_port
+        at_port n w.variable w.is (not_computed w.variable.kind (subst (λ (o : Option Variable). computed_at o ≡ false) w.is c)) among is_port
 
     computed_tree : computed_at (slice_get s.variables place) ≡ true → IsComputedRead s q.tree
     computed_tree c = subst (IsComputedRead s) (sym tree) c

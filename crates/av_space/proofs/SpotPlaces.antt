@@ -17,9 +17,11 @@ use Rattle.av_space.specs.Taps.{Place, places_in, places_from, Tap, taps_at, is_
 use Rattle.av_depend.specs.ComputedPlaces.{computed_at}
 use Rattle.av_space.specs.inner.Feeding.{StandAt}
 use Rattle.av_space.specs.inner.SpotTaps.{IsComputedRead}
-use Rattle.av_space.proofs.Elements.{some_is, both_each, each_at, got}
+use Rattle.av_space.proofs.Elements.{each_at, got}
 use Rattle.av_space.proofs.PieceParts.{stand_left, stand_right}
 use Rattle.av_space.proofs.Timely.{IsPlaceIn, places_are}
+use Rattle.av_base.proofs.Lists.{each_append, some_is}
+use Rattle.av_base.proofs.Among.{among_flat_map}
 
 -- ---- what a place is
 
@@ -37,7 +39,7 @@ places_known vs whole k n (reference place m) h partial =
     let e : n + 0 ≡ n = omega arith in (subst (λ (i : ℕ). slice_get whole i ≡ Some (record { place = place; map = m })) e (h 0 (record { place = place; map = m }) refl), tt)
 places_known vs whole k n (constant w) h partial = tt
 places_known vs whole k n (binary g l r) h partial =
-    both_each (IsKnown vs whole) (places_in k n l) (places_in k (n + length (references l)) r)
+    each_append (IsKnown vs whole) (places_in k n l) (places_in k (n + length (references l)) r)
     (places_known vs whole k n l (stand_left n (references l) (references r) whole h) partial.1)
     (places_known vs whole k (n + length (references l)) r (stand_right n (references l) (references r) whole h) partial.2)
 places_known vs whole k n (choice l c r x y) h partial =
@@ -63,7 +65,7 @@ places_known vs whole k n (choice l c r x y) h partial =
     let ra = places_in k nr r in
     let xa = places_in k nx x in
     let ya = places_in k ny y in
-    both_each P (la ++ ra ++ xa) ya (both_each P (la ++ ra) xa (both_each P la ra pl pr) px) py
+    each_append P (la ++ ra ++ xa) ya (each_append P (la ++ ra) xa (each_append P la ra pl pr) px) py
 places_known vs whole k n (pick place choices w) h partial = (partial, tt)
 places_known vs whole k n (restriction d t) h partial = tt
 places_known vs whole k n (cases ts) h partial = tt
@@ -115,11 +117,6 @@ place_among (suc k) j (q ∷ pieces) piece p is c =
     let e : j + suc k ≡ suc j + k = omega arith in
     Contains-append_right (places_in j 0 q.tree) (places_from (suc j) pieces) p (place_among k (suc j) pieces piece p is (subst (λ (i : ℕ). Contains (places_in i 0 piece.tree) p) e c))
 
-in_flat : {X Y : Type 0} (f : X → List Y) (xs : List X) (x : X) (y : Y) → Contains xs x → Contains (f x) y → Contains (flat_map f xs) y
-in_flat f [] x y a b = absurd (omega (arith, a.1))
-in_flat f (w ∷ xs) x y (zero, lt, e) b = Contains-append_left (f w) (flat_map f xs) y (subst (λ (u : _). Contains (f u) y) (sym e) b)
-in_flat f (w ∷ xs) x y (suc k, lt, e) b = Contains-append_right (f w) (flat_map f xs) y (in_flat f xs x y (k, omega arith, e) b)
-
 -- a tap of a place of a piece is a tap site of the variable
 pub tap_site : (s : FlatSystem) (hs : List Helper) (own : ℕ) (v : Variable) (k : ℕ) (piece : Piece) (p : Place) (tap : Tap) → slice_get v.pieces k ≡ Some piece → Contains (places_in k 0 piece.tree) p → Contains (taps_at s hs own p.tree p) tap
     → (number : ℕ) × (slice_get (taps s hs own v) number ≡ Some tap)
@@ -129,7 +126,7 @@ tap_site s hs own v k piece p tap is among at = got (taps s hs own v) tap (by (i
     e = omega arith
 
     all : Contains (all_taps s hs own v) tap
-    all = in_flat (λ (q : Place). taps_at s hs own q.tree q) (places_from 0 v.pieces) p tap (place_among k 0 v.pieces piece p is (subst (λ (i : ℕ). Contains (places_in i 0 piece.tree) p) e among)) at
+    all = among_flat_map (λ (q : Place). taps_at s hs own q.tree q) (places_from 0 v.pieces) p tap (place_among k 0 v.pieces piece p is (subst (λ (i : ℕ). Contains (places_in i 0 piece.tree) p) e among)) at
 
     others : Tap → Bool
     others u = not (is_own own u.place.tree)

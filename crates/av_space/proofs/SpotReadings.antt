@@ -20,8 +20,7 @@ use Rattle.av_space.specs.Sites.{place_of}
 use Rattle.av_space.specs.Spots.{system_of, helpers_of, placings_of, cells_of, IsArray, IsSpot, IsSlotIn, IsSiteOf, handing_by, IsLinkedBy}
 use Rattle.av_space.specs.inner.Readings.{IsFineTap, IsSiteOn, IsSite, IsReadingAt, IsReadingOf}
 use Rattle.av_space.specs.inner.SpotTaps.{IsSpotTap, IsReadThere, IsComputedRead, IsPortSite}
-use Rattle.av_space.proofs.ByPlace.{there_is}
-use Rattle.av_space.proofs.Elements.{some_is, in_range, at_index, get_contained}
+use Rattle.av_space.proofs.Elements.{in_range, at_index}
 use Rattle.av_space.proofs.FineSites.{fine_tap}
 use Rattle.av_space.proofs.Nodes.{node_chained, node_variable}
 use Rattle.av_space.proofs.OneReading.{read_before}
@@ -29,6 +28,8 @@ use Rattle.av_space.proofs.Scheduling.{scheduled}
 use Rattle.av_space.proofs.SiteLinks.{to_tapped}
 use Rattle.av_space.proofs.SpotPlaces.{IsPlaceBy, place_known, place_read, tap_site}
 use Rattle.av_space.proofs.Timely.{IsDeclaredRead, read_declared, IsNodeRead, read_node, computed_there}
+use Rattle.av_base.proofs.Among.{among_at}
+use Rattle.av_base.proofs.Lists.{some_is, there_is}
 
 module _ (a : Array) (is : IsArray a) (at : Spot) (spot : IsSpot a at) where
   abbrev s : FlatSystem
@@ -124,7 +125,7 @@ module _ (a : Array) (is : IsArray a) (at : Spot) (spot : IsSpot a at) where
 
     module _ (slot : Slot) (on : IsSlotIn a at.cell at.node at.piece.now.domain slot) where
       among_variables : Contains s.variables v
-      among_variables = get_contained s.variables (node_place s at.node) v (node_variable s at.node v spot.is_variable)
+      among_variables = among_at s.variables (node_place s at.node) v (node_variable s at.node v spot.is_variable)
 
       -- what it reads is declared, and where it is computed, a node
       pub declared_read : (place : ℕ) (y : Point) → IsReadBy p.tree slot.point place y → IsDeclaredRead s place y

@@ -11,7 +11,7 @@ use Rattle.av_flat.specs.Trees.{Variable, FlatSystem, view_system}
 use Rattle.av_flat.specs.Signatures.{is_input}
 use Rattle.av_flat.specs.Chained.{IsChainedVariable}
 use Rattle.av_flat.specs.OneSolution.{AreInputs}
-use Rattle.av_flat.proofs.Solving.{declared_from}
+use Rattle.av_flat.proofs.Solving.{declared_from, some_of}
 use Rattle.av_net.specs.declared.netlist.Port.{Port}
 use Rattle.av_net.specs.declared.design.Entry.{Entry}
 use Rattle.av_net.specs.declared.design.Listing.{Listing}
@@ -20,15 +20,7 @@ use Rattle.av_net.specs.Presented.{AreApart, HasFittingWord, IsPresentable}
 use Rattle.av_net.proofs.Streams.{are_presentable}
 use Rattle.av_space.specs.declared.cells.Cells.{Cells}
 use Rattle.av_space.specs.Whole.{IsPresented, HasWholeListing}
-
-some_of : (o : Option ℕ) → IsSome o → (w : ℕ) × (o ≡ Some w)
-some_of None h = absurd cc
-some_of (Some w) h = (w, refl)
-
-all_at : {X : Type 0} (P : X → Type 0) (xs : List X) (i : ℕ) (x : X) → AllByRecursion P xs → slice_get xs i ≡ Some x → P x
-all_at P [] i x h e = absurd cc
-all_at P (y ∷ xs) zero x h e = let same : y ≡ x = cc in subst (λ k. P k) same h.0
-all_at P (y ∷ xs) (suc i) x h e = all_at P xs i x h.1 e
+use Rattle.av_base.proofs.Lists.{each_at}
 
 module _ (t : Timed) (a : Cells) (d : Design) (h : HasWholeListing t a d) (x : Assignment) (inputs : AreInputs (view_system t.flat) x) where
   abbrev own : FlatSystem
@@ -37,9 +29,9 @@ module _ (t : Timed) (a : Cells) (d : Design) (h : HasWholeListing t a d) (x : A
   -- a word of a declared input point fits the width of the system
   fits : (v : Variable) (p : ℕ) → slice_get own.variables p ≡ Some v → (z : Point) (w : ℕ) → x v.name z ≡ Some w → IsWord own.width w
   fits v p at z w e =
-      let width : v.width ≡ own.width = (all_at (IsChainedVariable own) own.variables p v (recursion_from_All (IsChainedVariable own) own.variables h.whole.legal.chained.each) at).width in
+      let width : v.width ≡ own.width = (each_at (IsChainedVariable own) own.variables p v (recursion_from_All (IsChainedVariable own) own.variables h.whole.legal.chained.each) at).width in
       subst (λ (n : ℕ). IsWord n w) width
-      (all_at (λ (y : Variable). (k : Point) (m : ℕ) → x y.name k ≡ Some m → IsWord y.width m) own.variables p v
+      (each_at (λ (y : Variable). (k : Point) (m : ℕ) → x y.name k ≡ Some m → IsWord y.width m) own.variables p v
       (recursion_from_All (λ (y : Variable). (k : Point) (m : ℕ) → x y.name k ≡ Some m → IsWord y.width m) own.variables inputs.words) at z w e)
 
   fitting : (line : Entry) → IsPresented own a line → HasFittingWord d.module.inputs x line

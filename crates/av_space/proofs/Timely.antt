@@ -32,9 +32,11 @@ use Rattle.av_flat.specs.Helped.{before}
 use Rattle.av_space.specs.inner.SpotTaps.{IsComputedRead}
 use Rattle.av_space.specs.Taps.{Handing, helper_at, Place, places_in, places_from, Way, each, entries, handed, Tap, taps_by, taps_at, is_own, all_taps, taps, IsReadBy, IsTapRead}
 use Rattle.av_depend.specs.ComputedPlaces.{computed_at}
-use Rattle.av_space.proofs.ByPlace.{there_is}
-use Rattle.av_space.proofs.Elements.{some_is, both_each, each_weaker, each_at, got, get_contained, mapped, in_range}
+use Rattle.av_space.proofs.Elements.{each_at, got, in_range}
 use Rattle.av_space.proofs.NodePlaces.{node_at}
+use Rattle.av_space.proofs.CountBounds.{natural}
+use Rattle.av_base.proofs.Among.{among_at}
+use Rattle.av_base.proofs.Lists.{each_append, each_by_place, each_filtered, each_weaker, get_mapped, some_is, there_is}
 
 -- ---- where taps come from
 
@@ -53,7 +55,7 @@ pub places_are : (k n : ℕ) (tree : Tree) → AllByRecursion (IsPlaceIn k tree)
 places_are k n (reference place m) = (record { piece_is = refl; part = λ z place y r. r }, tt)
 places_are k n (constant w) = tt
 places_are k n (binary g l r) =
-    both_each (IsPlaceIn k (binary g l r)) (places_in k n l) (places_in k (n + length (references l)) r)
+    each_append (IsPlaceIn k (binary g l r)) (places_in k n l) (places_in k (n + length (references l)) r)
     (in_larger k l (binary g l r) (λ z place y h. inl h) (places_in k n l) (places_are k n l))
     (in_larger k r (binary g l r) (λ z place y h. inr h) (places_in k (n + length (references l)) r) (places_are k (n + length (references l)) r))
 places_are k n (choice l c' r x v) =
@@ -75,7 +77,7 @@ places_are k n (choice l c' r x v) =
         → AllByRecursion (IsPlaceIn k (choice l c' r x v)) (a ++ b ++ c ++ d)
     four a b c d pa pb pc pd =
         let P = IsPlaceIn k (choice l c' r x v) in
-        both_each P (a ++ b ++ c) d (both_each P (a ++ b) c (both_each P a b pa pb) pc) pd
+        each_append P (a ++ b ++ c) d (each_append P (a ++ b) c (each_append P a b pa pb) pc) pd
 places_are k n (pick place choices w) = (record { piece_is = refl; part = λ z place y r. r }, tt)
 places_are k n _ = tt
 
@@ -90,7 +92,7 @@ record IsPlaceOf (k : ℕ) (pieces : List Piece) (p : Place) : Type 0 where
 places_of : (k : ℕ) (pieces : List Piece) → AllByRecursion (IsPlaceOf k pieces) (places_from k pieces)
 places_of k [] = tt
 places_of k (q ∷ pieces) =
-    both_each (IsPlaceOf k (q ∷ pieces)) (places_in k 0 q.tree) (places_from (suc k) pieces)
+    each_append (IsPlaceOf k (q ∷ pieces)) (places_in k 0 q.tree) (places_from (suc k) pieces)
     (each_weaker (IsPlaceIn k q.tree) (IsPlaceOf k (q ∷ pieces)) (λ p x. record { number = 0; number_is = x.piece_is ∙ omega arith; piece = q; is_piece = refl; part = x.part }) (places_in k 0 q.tree) (places_are k 0 q.tree))
     (each_weaker (IsPlaceOf (suc k) pieces) (IsPlaceOf k (q ∷ pieces)) (λ p x. record { number = suc x.number; number_is = x.number_is ∙ omega arith; piece = x.piece; is_piece = x.is_piece; part = x.part }) (places_from (suc k) pieces) (places_of (suc k) pieces))
 
@@ -124,22 +126,14 @@ place_taps s hs own v p is _ e = tt
 
 pub all_flat : {X Y : Type 0} (P : X → Type 0) (Q : Y → Type 0) (f : X → List Y) → ((x : X) → P x → AllByRecursion Q (f x)) → (xs : List X) → AllByRecursion P xs → AllByRecursion Q (flat_map f xs)
 all_flat P Q f g [] h = tt
-all_flat P Q f g (x ∷ xs) h = both_each Q (f x) (flat_map f xs) (g x h.0) (all_flat P Q f g xs h.1)
-
-pub all_filter : {X : Type 0} (Q : X → Type 0) (test : X → Bool) (xs : List X) → AllByRecursion Q xs → AllByRecursion Q (filter test xs)
-all_filter Q test [] h = tt
-all_filter Q test (x ∷ xs) h = by_test (test x) (all_filter Q test xs h.1)
-  where
-    by_test : (b : Bool) → AllByRecursion Q (filter test xs) → AllByRecursion Q (if b then x ∷ filter test xs else filter test xs)
-    by_test true rest = (h.0, rest)
-    by_test false rest = rest
+all_flat P Q f g (x ∷ xs) h = each_append Q (f x) (flat_map f xs) (g x h.0) (all_flat P Q f g xs h.1)
 
 taps_are : (s : FlatSystem) (hs : List Helper) (own : ℕ) (v : Variable) → AllByRecursion (IsTapOf s hs own v) (taps s hs own v)
 taps_are s hs own v =
     let all = all_flat (IsPlaceOf 0 v.pieces) (IsTapOf s hs own v) (λ (p : Place). taps_at s hs own p.tree p) (λ p is. place_taps s hs own v p is p.tree refl) (places_from 0 v.pieces) (places_of 0 v.pieces) in
     let others : Tap → Bool = λ t. not (is_own own t.place.tree) in
     let mine : Tap → Bool = λ t. is_own own t.place.tree in
-    both_each (IsTapOf s hs own v) (filter others (all_taps s hs own v)) (filter mine (all_taps s hs own v)) (all_filter (IsTapOf s hs own v) others (all_taps s hs own v) all) (all_filter (IsTapOf s hs own v) mine (all_taps s hs own v) all)
+    each_append (IsTapOf s hs own v) (filter others (all_taps s hs own v)) (filter mine (all_taps s hs own v)) (each_filtered (IsTapOf s hs own v) others (all_taps s hs own v) all) (each_filtered (IsTapOf s hs own v) mine (all_taps s hs own v) all)
 
 -- ---- what is read is declared
 
@@ -211,13 +205,9 @@ declared_reads vs set (cases ts) h none = tt
 declared_reads vs set (dependence m t) h none = tt
 declared_reads vs set (pick place choices n) h none = tt
 
-each_index : {X : Type 0} (P : X → Type 0) (xs : List X) → ((k : ℕ) (x : X) → slice_get xs k ≡ Some x → P x) → AllByRecursion P xs
-each_index P [] h = tt
-each_index P (x ∷ xs) h = (h 0 x refl, each_index P xs (λ k y at. h (suc k) y at))
-
 one_hit : (s : FlatSystem) (hs : List Helper) (placings : List Placing) (cells : List CellMade) → Scheduled s hs placings cells → (v : Variable) (z : Point) → Contains s.variables v → is_computed v.kind ≡ true → has v.domain z ≡ true → hits z v.pieces ≡ 1
 one_hit s hs placings cells g v z among computed declared =
-    let kept : AllByRecursion (IsKept (signatures s)) v.pieces = each_index (IsKept (signatures s)) v.pieces
+    let kept : AllByRecursion (IsKept (signatures s)) v.pieces = each_by_place (IsKept (signatures s)) v.pieces
     (λ k piece at. record { plain = g.plain v k piece among at; reads = declared_reads (signatures s) piece.domain piece.tree (g.reads v k piece among at) (g.no_reduction v k piece among at) }) in
     let P : Variable → Type 0 = λ v. IsTrue (is_computed v.kind) → (z : Point) → IsTrue (has v.domain z) → count (signatures s) (right_side v) z ≡ 1 in
     let is = All-contains P s.variables v g.proper.counted among computed z declared in
@@ -259,7 +249,7 @@ pub read_node : (s : FlatSystem) (hs : List Helper) (placings : List Placing) (c
 read_node s hs placings cells g v among k piece is_piece z inside place y read computed =
     let w = read_declared s hs placings cells g v among k piece is_piece z inside place y read in
     let is_comp : is_computed w.variable.kind ≡ true = subst (λ (o : Option Variable). computed_at o ≡ true) w.is computed in
-    let some = some_piece_of s hs placings cells g w.variable y (get_contained s.variables place w.variable w.is) is_comp w.declared in
+    let some = some_piece_of s hs placings cells g w.variable y (among_at s.variables place w.variable w.is) is_comp w.declared in
     record {
       variable = w.variable;
       is = w.is;
@@ -274,15 +264,11 @@ read_node s hs placings cells g v among k piece is_piece z inside place y read c
     less : (m n : ℕ) → m < n → nat_lt m n ≡ true
     less m n h = grind arith
 
-natural : (x : ℤ) → pos 0 ≤ℤ x → (n : ℕ) × (pos n ≡ x)
-natural (pos n) h = (n, refl)
-natural (negsuc n) h = absurd (omega (arith, ints))
-
 -- a computation stands on a cell
 pub stands : (s : FlatSystem) (hs : List Helper) (placings : List Placing) (cells : List CellMade) → Scheduled s hs placings cells → (k : ℕ) (y : Point) → IsComputation s k y → (pl : Placing) → slice_get placings k ≡ Some pl
     → (q : ℕ) × (b : ℕ) × (pos b ≡ cycle pl.time y) × Computes s placings cells q b k y
 stands s hs placings cells g k y comp pl at =
-    let start = g.schedule.starts k y pl.time comp (mapped (λ (p : Placing). p.time) placings k pl at) in
+    let start = g.schedule.starts k y pl.time comp (get_mapped (λ (p : Placing). p.time) placings k pl at) in
     let b = natural (cycle pl.time y) start in
     let cell : CellMade = record { node = k; at = along pl.rows y } in
     let used : IsUsed s placings cell = (b.0, k, y, record { computation = comp; placing = pl; is_placing = at; node = refl; at = refl; in_cycle = b.1 }) in
@@ -303,7 +289,7 @@ earlier s hs placings cells g p c n z own v is_own node number computes piece j 
     by_way tap.way good.fair reads (part_of good)
   where
     among : Contains s.variables v
-    among = get_contained s.variables own v is_own
+    among = among_at s.variables own v is_own
 
     is_reader : slice_get (nodes s) n ≡ Some v
     is_reader = subst (λ m. slice_get (nodes s) m ≡ Some v) (sym number) (node_at s.variables own v is_own node)
@@ -316,7 +302,7 @@ earlier s hs placings cells g p c n z own v is_own node number computes piece j 
         let pl = there_is placings k (omega (arith, many, in_range (nodes s) k comp.variable comp.is)) in
         let there = stands s hs placings cells g k y comp pl.0 pl.1 in
         let mine = computes.stands in
-        let le = later mine.placing.time pl.0.time (mapped (λ (p : Placing). p.time) placings n mine.placing mine.is_placing) (mapped (λ (p : Placing). p.time) placings k pl.0 pl.1) in
+        let le = later mine.placing.time pl.0.time (get_mapped (λ (p : Placing). p.time) placings n mine.placing mine.is_placing) (get_mapped (λ (p : Placing). p.time) placings k pl.0 pl.1) in
         let d = apart there.1 c (cycle pl.0.time y) (cycle mine.placing.time z) there.2 mine.in_cycle le in
         (there.0, there.1, d.0, d.1, d.2, there.3)
 
@@ -332,7 +318,7 @@ earlier s hs placings cells g p c n z own v is_own node number computes piece j 
           reader = v;
           is_reader = is_reader;
           place = place;
-          reads = record { piece = piece; among = get_contained v.pieces tap.place.piece piece is_piece; within = inside; read = read };
+          reads = record { piece = piece; among = among_at v.pieces tap.place.piece piece is_piece; within = inside; read = read };
           producer = w.variable;
           is_producer = w.is;
           computed = w.computed;

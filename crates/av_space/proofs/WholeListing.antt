@@ -22,7 +22,7 @@ use Rattle.av_flat.specs.Chained.{IsChainedPiece, IsChainedVariable}
 use Rattle.av_flat.specs.Nodes.{is_node, nodes, IsComputation}
 use Rattle.av_flat.specs.Schedules.{cycle}
 use Rattle.av_flat.specs.Legal.{IsLegal, HasAllHelpers}
-use Rattle.av_flat.proofs.Solving.{all_at, declares, read_declared}
+use Rattle.av_flat.proofs.Solving.{declares, read_declared}
 use Rattle.av_flat.proofs.Sets.{has_is}
 use Rattle.av_flat.specs.Reads.{IsRead}
 use Rattle.av_flat.specs.Broadcasts.{Reference, references}
@@ -35,28 +35,22 @@ use Rattle.av_space.specs.Ports.{is_output_cell, output_cells}
 use Rattle.av_space.specs.Listings.{input_name, output_name, value_name, InLine, IsInLine, AtLine, IsAtLine, IsWireOf, output, value}
 use Rattle.av_space.specs.Arrays.{IsArrayOf}
 use Rattle.av_space.specs.Whole.{IsOwnWire, IsListedOnce, IsOnTime, IsPresented, IsWhole}
-use Rattle.av_space.proofs.ByPlace.{from_map, there_is, pair_at, pairs_by_place, all_by_place, place_of}
-use Rattle.av_space.proofs.Elements.{some_is, got, mapped}
+use Rattle.av_space.proofs.ByPlace.{from_map, pair_at, pairs_by_place, all_by_place, place_of}
+use Rattle.av_space.proofs.Elements.{got}
 use Rattle.av_space.proofs.OneCell.{one_node}
 use Rattle.av_space.proofs.Placed.{one_point}
+use Rattle.av_depend.proofs.Generators.{before_itself}
+use Rattle.av_space.proofs.CountBounds.{natural}
+use Rattle.av_base.proofs.Lists.{all_at, get_mapped, some_is, there_is}
 
 -- ---- orders
-
-never_before : (z : Point) → IsBefore z z → ⊥
-never_before [] h = h
-never_before (x ∷ z) (inl l) = absurd (omega (arith, ints, l))
-never_before (x ∷ z) (inr h) = never_before z h.1
-
-natural : (x : ℤ) → pos 0 ≤ℤ x → (n : ℕ) × (pos n ≡ x)
-natural (pos n) h = (n, refl)
-natural (negsuc n) h = absurd (omega (arith, ints, h))
 
 -- ---- names of wires
 
 same_number : (i j : ℕ) → i < 2 ^ 64 → j < 2 ^ 64 → decimal i ≡ decimal j → i ≡ j
 same_number i j small few e = decimal_injective i j small few e
 
-rest_is : (x : ℕ) (a b : List ℕ) → ◌≡◌ {A = List ℕ} (x ∷ a) (x ∷ b) → a ≡ b
+pub rest_is : (x : ℕ) (a b : List ℕ) → ◌≡◌ {A = List ℕ} (x ∷ a) (x ∷ b) → a ≡ b
 rest_is x a b e = cc
 
 input_once : (i j : ℕ) → i < 2 ^ 64 → j < 2 ^ 64 → input_name i ≡ input_name j → i ≡ j
@@ -130,7 +124,7 @@ reads_reference (pick place choices n) z i r e = absurd cc
 
 declared_here : (vs : List Variable) (place : ℕ) (v : Variable) (z : Point) → slice_get vs place ≡ Some v → IsTrue (is_declared_at (map signature vs) place z) → IsTrue (has v.domain z)
 declared_here vs place v z e h =
-    let at : slice_get (map signature vs) place ≡ Some (signature v) = mapped signature vs place v e in
+    let at : slice_get (map signature vs) place ≡ Some (signature v) = get_mapped signature vs place v e in
     subst (λ (o : Option Signature). IsTrue (domain_has o z)) at h
 
 -- ---- the array of a legal system
@@ -157,7 +151,7 @@ module _ (t : Timed) (a : Cells) (legal : IsLegal t) (list : IsArrayOf t a) (few
       let times = list.are_placings.times_are in
       let as_many = sym (length-map pls (λ (p : Placing). p.time)) ∙ ap (λ (ts : List Time). length ts) times in
       let p = there_is pls n (omega (arith, l, many, as_many)) in
-      let time = ap (λ (ts : List Time). slice_get ts n) (sym times) ∙ mapped (λ (q : Placing). q.time) pls n p.0 p.1 in
+      let time = ap (λ (ts : List Time). slice_get ts n) (sym times) ∙ get_mapped (λ (q : Placing). q.time) pls n p.0 p.1 in
       record { placing = p.0; is = p.1; is_time = time; size = (legal.schedule.linear n v p.0.time e time).size; good = all_at IsPlacing pls n p.0 list.are_placings.each p.1 }
 
   variable_there : (n : ℕ) (v : Variable) → slice_get (nodes own) n ≡ Some v → (i : ℕ) × (slice_get own.variables i ≡ Some v) × (length (filter is_node (take i own.variables)) ≡ n)
@@ -288,7 +282,7 @@ module _ (t : Timed) (a : Cells) (legal : IsLegal t) (list : IsArrayOf t a) (few
   never_later : (i j : ℕ) (x y : AtLine) → slice_get list.ats.lines i ≡ Some x → slice_get list.ats.lines j ≡ Some y → x.node ≡ y.node → x.entry.point ≡ y.entry.point → i < j → ⊥
   never_later i j x y ix jy node point lt = elim (pair_at Comes list.ats.lines list.ats.order i j x y ix jy lt) [
     | inl p ↦ omega (arith, p, node)
-    | inr p ↦ never_before y.entry.point (subst (λ (z : Point). IsBefore z y.entry.point) point p.1)
+    | inr p ↦ before_itself y.entry.point (subst (λ (z : Point). IsBefore z y.entry.point) point p.1)
   ]
 
   -- the wire of a line tells its cell
@@ -382,7 +376,7 @@ module _ (t : Timed) (a : Cells) (legal : IsLegal t) (list : IsArrayOf t a) (few
       record {
         number = at.0;
         line = l.entry;
-        is_line = ap (λ (es : List Entry). slice_get es at.0) list.ats.entries ∙ mapped (λ (x : AtLine). x.entry) list.ats.lines at.0 l at.1;
+        is_line = ap (λ (es : List Entry). slice_get es at.0) list.ats.entries ∙ get_mapped (λ (x : AtLine). x.entry) list.ats.lines at.0 l at.1;
         variable_is = refl;
         point_is = refl;
         only = λ k other there named point. only l at.0 at.1 refl k other there named point refl;

@@ -8,10 +8,10 @@ use Rattle.av_tree.proofs.Fibres.{IsOnce, folded_once}
 
 -- ---- a word only where the count is 1
 
-if_true : (b : Bool) (n : ℕ) → IsTrue b → n ≡ 1 → (if b then n else 0) ≡ 1
+pub if_true : (b : Bool) (n : ℕ) → IsTrue b → n ≡ 1 → (if b then n else 0) ≡ 1
 if_true b n h e = grind arith
 
-product_one : (a b : ℕ) → a ≡ 1 → b ≡ 1 → a * b ≡ 1
+pub product_one : (a b : ℕ) → a ≡ 1 → b ≡ 1 → a * b ≡ 1
 product_one a b p q = rw (p, q) refl
 
 pub counted_at : (R : Point → ℕ → Type 0) (f : Point → ℕ) → ((z : Point) (w : ℕ) → R z w → f z ≡ 1) → (o : Option Point) (w : ℕ) → HoldsAt R o w → count_at f o ≡ 1
@@ -40,7 +40,7 @@ branch_counted i u names none z w p = absurd p
 branch_counted i u names (more e es) z w (inl p) = let h = value_counted i u names e z w p in omega arith
 branch_counted i u names (more e es) z w (inr p) = let h = branch_counted i u names es z w p in omega arith
 
-too_many : (m n : ℕ) → m ≡ 1 → 1 ≤ n → m + n ≤ 1 → ⊥
+pub too_many : (m n : ℕ) → m ≡ 1 → 1 ≤ n → m + n ≤ 1 → ⊥
 too_many m n p q r = omega arith
 
 pub combined_once : (R S : ℕ → Type 0) (f : ℕ → ℕ → ℕ) → IsOnce R → IsOnce S → IsOnce (IsCombined R S f)

@@ -1,7 +1,6 @@
 use Rattle.std.proofs.Common.{◌≡◌, ◌∙◌, ◌+◌, ◌++◌, [], ◌∷◌, ℕ, List, length, sym, ap, subst, arith, Some}
 use Rattle.av_space.specs.declared.spots.Site.{Site}
 use Rattle.av_space.specs.Taps.{Handing}
-use Rattle.av_space.proofs.ByPlace.{there_is}
 use Rattle.av_build.specs.declared.blueprint.HelperPlan.{HelperPlan}
 use Rattle.av_build.specs.inner.Programmed.{helper_length}
 use Rattle.av_build.specs.inner.Blueprints.{seen, AreHelpers}
@@ -10,6 +9,7 @@ use Rattle.av_build.proofs.HelperSteps.{no_handing, no_line, with_line}
 use Rattle.av_build.proofs.Pairwise.{element_of}
 use Rattle.av_build.proofs.blueprint.add_helpers.Goals as goal
 use Rattle.av_build.proofs.blueprint.add_helpers.Goals.{then-line_length-gt0+in_ok-push, else-line_length-gt0}
+use Rattle.av_base.proofs.Lists.{there_is}
 
 pub loop-site-preserved-in_default : goal.loop-site-preserved-in_default
 loop-site-preserved-in_default c =

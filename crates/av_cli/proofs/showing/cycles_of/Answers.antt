@@ -1,9 +1,10 @@
 use Rattle.std.proofs.Common.{◌≤◌, arith}
 use Rattle.av_cli.proofs.Watched.{earlier_more, earlier_all}
-use Rattle.av_cli.proofs.Fed.{at_index, all_at}
+use Rattle.av_cli.proofs.Fed.{at_index}
 use Rattle.av_net.specs.declared.design.Entry.{Entry}
 use Rattle.av_cli.proofs.showing.cycles_of.Goals as goal
 use Rattle.av_cli.proofs.showing.cycles_of.Goals.{then-line-cycles, else-line-cycles}
+use Rattle.av_base.proofs.Lists.{all_at}
 
 pub loop-line-preserved : goal.loop-line-preserved
 loop-line-preserved c =

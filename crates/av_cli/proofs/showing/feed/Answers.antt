@@ -6,8 +6,9 @@ use Rattle.av_net.specs.Presented.{HasFittingWord}
 use Rattle.av_data.specs.declared.stimulus.Given.{Given}
 use Rattle.av_cli.specs.inner.Feeding.{IsOfLine, AreOfLines}
 use Rattle.av_cli.proofs.Presenting.{inputs_apart}
-use Rattle.av_cli.proofs.Fed.{all_at, at_index, some_there, given_more}
+use Rattle.av_cli.proofs.Fed.{at_index, some_there, given_more}
 use Rattle.av_cli.proofs.showing.feed.Goals as goal
+use Rattle.av_base.proofs.Lists.{all_at}
 
 pub port_places-requires : goal.port_places-requires
 port_places-requires g c = subst (λ (ps : List Port). AreDistinct (names_of ps)) (sym c.as_slice.ensures) (inputs_apart c.args.design.now.module c.requires.sound.sound)

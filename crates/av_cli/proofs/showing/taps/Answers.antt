@@ -3,9 +3,10 @@ use Rattle.std.specs.Prelude.{Contains}
 use Rattle.std.proofs.lemmas.List.Elements.{All-contains}
 use Rattle.av_net.specs.declared.design.Entry.{Entry}
 use Rattle.av_net.specs.Names.{targets_of, wire_names}
-use Rattle.av_cli.proofs.Fed.{at_index, all_at}
+use Rattle.av_cli.proofs.Fed.{at_index}
 use Rattle.av_cli.proofs.Watched.{taps_more}
 use Rattle.av_cli.proofs.showing.taps.Goals as goal
+use Rattle.av_base.proofs.Lists.{all_at}
 
 pub place_of-requires : goal.place_of-requires
 place_of-requires c =

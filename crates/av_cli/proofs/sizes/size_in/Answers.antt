@@ -1,6 +1,7 @@
 use Rattle.std.proofs.Common.{FitsSigned, to_z-of_z, w64, refl, sym, subst, arith}
 use Rattle.std.proofs.lemmas.Int.{fits_signed_from_abs}
-use Rattle.av_cli.specs.Commands.{IsSize, SpellsWhole}
+use Rattle.av_data.specs.Data.{SpellsWhole}
+use Rattle.av_cli.specs.Commands.{IsSize}
 use Rattle.av_cli.proofs.GivenSizes.{no_parts, size_made, no_value}
 use Rattle.av_cli.proofs.sizes.size_in.Goals as goal
 

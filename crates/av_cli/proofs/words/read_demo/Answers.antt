@@ -1,7 +1,8 @@
 use Rattle.std.proofs.Common.{ℕ, ◌≡◌, ◌<◌, ◌⊎◌, inl, inr, ap, sym, subst, refl, arith}
 use Rattle.av_cli.specs.inner.DemoWords.{IsDemoAt}
-use Rattle.av_cli.proofs.DemoPlaces.{demo_there, placed, before_next}
+use Rattle.av_cli.proofs.DemoPlaces.{demo_there, placed}
 use Rattle.av_cli.proofs.words.read_demo.Goals as goal
+use Rattle.av_space.proofs.JoinedLinks.{one_more}
 
 pub returns-in-Some-clause-read : goal.returns-in-Some-clause-read
 returns-in-Some-clause-read c =
@@ -9,7 +10,7 @@ returns-in-Some-clause-read c =
 
 pub loop-at-preserved : goal.loop-at-preserved
 loop-at-preserved c = λ at bits box k least lt is.
-    elim (before_next at c.loop-at.at lt) [
+    elim (one_more at c.loop-at.at lt) [
       | inl less ↦ c.loop-at.invariant at bits box k least less is
       | inr same ↦ c.in_default.ensures.unread bits box k (subst (λ (n : ℕ). IsDemoAt c.args.words.now n bits box k) same is)
     ]

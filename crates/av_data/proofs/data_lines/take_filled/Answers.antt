@@ -3,7 +3,7 @@ use Rattle.std.specs.Prelude.{slice_get}
 use Rattle.av_flat.specs.declared.flat.Var.{Var}
 use Rattle.av_flat.specs.Sets.{IsBounded}
 use Rattle.av_flat.specs.Trees.{Variable, view_system, view_variable}
-use Rattle.av_depend.proofs.Small.{small_point}
+use Rattle.av_flat.proofs.Bounded.{small_point}
 use Rattle.av_data.proofs.VariableNames.{at_place_all}
 use Rattle.av_data.proofs.Filled.{outside_cause, twice_cause, filled_taken}
 use Rattle.av_data.proofs.data_lines.take_filled.Goals as goal

@@ -3,7 +3,7 @@ use Rattle.std.specs.Prelude.{IfSome}
 use Rattle.av_poly.specs.declared.poly.Bounds.{Bounds}
 use Rattle.av_tree.specs.Points.{Point}
 use Rattle.av_elim.specs.Extents.{IsInside}
-use Rattle.av_depend.proofs.Small.{small_point}
+use Rattle.av_flat.proofs.Bounded.{small_point}
 use Rattle.av_data.proofs.Walked.{left_behind}
 use Rattle.av_data.proofs.Missed.{IsReached, first_reached, next_reached, fewer, word_there}
 use Rattle.av_data.proofs.missing.missing_point.Goals as goal

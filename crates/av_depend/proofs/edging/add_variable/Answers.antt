@@ -11,11 +11,11 @@ use Rattle.av_flat.specs.Chained.{IsChainedPiece}
 use Rattle.av_depend.specs.Sites.{Site, sites_in, sites_of}
 use Rattle.av_elim.specs.Extents.{IsInside}
 use Rattle.av_depend.specs.inner.Adding.{HasAdded}
-use Rattle.av_depend.proofs.Small.{small_point}
-use Rattle.av_depend.proofs.Mirrors.{take_whole}
+use Rattle.av_flat.proofs.Bounded.{small_point}
 use Rattle.av_depend.proofs.Adds.{added_nothing, added_none_of, added_both, flat_take_more, at_mapped}
 use Rattle.av_depend.proofs.Walked.{sites_of_piece, sites_of_pieces, no_pieces, no_sites, piece_inside, piece_fits}
 use Rattle.av_depend.proofs.edging.add_variable.Goals as goal
+use Rattle.av_base.proofs.Lists.{take_whole}
 
 pub box_of-requires-clause-small : goal.box_of-requires-clause-small
 box_of-requires-clause-small c = small_point c.args.var.now.domain c.requires.bounded

@@ -2,8 +2,9 @@ use Rattle.std.proofs.Common.{rules, ◌≡◌, ◌∙◌, ◌<◌, ◌≤◌, �
 use Rattle.std.specs.Prelude.{slice_index_or}
 use Rattle.std.proofs.lemmas.List.Elements.{All-push}
 use Rattle.av_depend.specs.inner.Generating.{mirrored}
-use Rattle.av_depend.proofs.Mirrors.{mirrored_more, mirrored_size, take_whole}
+use Rattle.av_depend.proofs.Mirrors.{mirrored_more, mirrored_size}
 use Rattle.av_depend.proofs.generator.mirror.Goals as goal
+use Rattle.av_base.proofs.Lists.{take_whole}
 
 pub loop-k-preserved : goal.loop-k-preserved
 loop-k-preserved c =

@@ -11,11 +11,11 @@ use Rattle.av_normal.specs.inner.Counted.{HasFew}
 use Rattle.av_normal.specs.Searches.{AreNarrow, IsWide}
 use Rattle.av_normal.specs.inner.Making.{Continues}
 use Rattle.av_normal.specs.inner.AllPieces.{HaveAllPieces}
-use Rattle.av_normal.proofs.Dropping.{next_item, nothing_left}
 use Rattle.av_normal.proofs.Trying.{past, refused, next_stands, narrow_sets, wide_in}
 use Rattle.av_normal.proofs.Making.{all_at, one_made, all_made}
 use Rattle.av_normal.proofs.Parted.{few_at}
 use Rattle.av_normal.proofs.all_pieces.all_pieces.Goals as goal
+use Rattle.av_base.proofs.Lists.{next_item, nothing_left}
 
 pub with_all_pieces-requires-clause-variable : goal.with_all_pieces-requires-clause-variable
 with_all_pieces-requires-clause-variable c =

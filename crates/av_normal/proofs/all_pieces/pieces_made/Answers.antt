@@ -10,11 +10,11 @@ use Rattle.av_flat.specs.Quantities.{Measured}
 use Rattle.av_normal.specs.inner.Numbered.{signatures_of}
 use Rattle.av_normal.specs.Searches.{AreNarrow, IsWide}
 use Rattle.av_normal.specs.inner.Making.{parts_measured, held_parts, StandsFor, AreMade, AreAdded, IsParted, Continues}
-use Rattle.av_normal.proofs.Dropping.{next_item, nothing_left}
 use Rattle.av_normal.proofs.InnerSets.{same_set}
 use Rattle.av_normal.proofs.Trying.{past, refused, next_stands, parts_append}
 use Rattle.av_normal.proofs.Making.{all_at, all_made, more_made}
 use Rattle.av_normal.proofs.all_pieces.pieces_made.Goals as goal
+use Rattle.av_base.proofs.Lists.{next_item, nothing_left}
 
 pub meet-requires : goal.meet-requires
 meet-requires c =

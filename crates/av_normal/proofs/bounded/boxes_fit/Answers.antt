@@ -5,8 +5,8 @@ use Rattle.std.proofs.lemmas.Result.{err_from_is_err_and}
 use Rattle.av_poly.specs.declared.poly.Bounds.{Bounds}
 use Rattle.av_normal.specs.Pairwise.{IsFirstOf}
 use Rattle.av_normal.specs.Domains.{IsSmallExtent, IsLargeExtent}
-use Rattle.av_normal.proofs.Dropping.{next_item}
 use Rattle.av_normal.proofs.bounded.boxes_fit.Goals as goal
+use Rattle.av_base.proofs.Lists.{next_item}
 
 pub returns-in_err-extent_fits-clause-over : goal.returns-in_err-extent_fits-clause-over
 returns-in_err-extent_fits-clause-over c =

@@ -6,10 +6,10 @@ use Rattle.av_flat.specs.Trees.{view_variable}
 use Rattle.av_normal.specs.Pairwise.{Pairwise}
 use Rattle.av_normal.specs.Domains.{HasNarrowDomain, IsDeclaredExtent, IsEndless}
 use Rattle.av_normal.specs.declared.fault.NormalFault.{NormalFault}
-use Rattle.av_normal.proofs.Dropping.{next_item, nothing_left}
 use Rattle.av_normal.proofs.Firsts.{one_along, made_along}
 use Rattle.av_normal.proofs.Ends.{has_end, endless_after}
 use Rattle.av_normal.proofs.bounded.extents.Goals as goal
+use Rattle.av_base.proofs.Lists.{next_item, nothing_left}
 
 pub declared_extent-requires : goal.declared_extent-requires
 declared_extent-requires c =

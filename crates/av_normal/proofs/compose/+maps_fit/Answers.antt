@@ -4,11 +4,11 @@ use Rattle.av_flat.specs.declared.tree.Tree.{Tree as TreeMade}
 use Rattle.av_flat.specs.Trees.{view, cases, trees_of}
 use Rattle.av_flat.specs.Quantities.{of_map, steps_under, composed_maps}
 use Rattle.av_flat.proofs.Views.{view_case}
-use Rattle.av_normal.proofs.Dropping.{nothing_left}
 use Rattle.av_normal.proofs.Outcomes.{on_ok, if_err}
 use Rattle.av_normal.proofs.Searching.{narrow_append, wide_first, wide_second}
 use Rattle.av_normal.proofs.Walks.{Narrow, next_tree, one_tree_more, tree_refused, four_first, four_second, four_third, four_fourth, four_narrow, case_stands}
 use Rattle.av_normal.proofs.compose.+maps_fit.Goals as goal
+use Rattle.av_base.proofs.Lists.{nothing_left}
 
 -- ---- two operands
 

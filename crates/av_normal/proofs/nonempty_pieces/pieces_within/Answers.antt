@@ -4,10 +4,10 @@ use Rattle.av_flat.specs.declared.flat.Piece.{Piece as PieceMade}
 use Rattle.av_flat.specs.Trees.{Piece, view_piece}
 use Rattle.av_normal.specs.Extents.{SaysPoint}
 use Rattle.av_normal.specs.inner.NonemptyPieces.{AreNonemptyPieces, IsInside}
-use Rattle.av_normal.proofs.Dropping.{next_item, nothing_left}
 use Rattle.av_normal.proofs.NonemptyPieces.{one_left_out, one_stays, nonempty_of_all, seen_push}
 use Rattle.av_normal.proofs.nonempty_pieces.pieces_within.Goals as goal
 use Rattle.av_normal.proofs.nonempty_pieces.pieces_within.Goals.{then-branch+in_ok-copy_piece+in_ok-push, else-branch}
+use Rattle.av_base.proofs.Lists.{next_item, nothing_left}
 
 pub loop-piece-preserved : goal.loop-piece-preserved
 loop-piece-preserved c =

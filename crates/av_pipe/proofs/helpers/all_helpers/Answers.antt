@@ -5,8 +5,9 @@ use Rattle.av_flat.specs.Trees.{view_variable, view_system}
 use Rattle.av_flat.specs.Nodes.{is_node}
 use Rattle.av_pipe.specs.inner.Helping.{HasFinePieces}
 use Rattle.av_pipe.specs.Pipelines.{of_variables, pipelines}
-use Rattle.av_pipe.proofs.Numbering.{next_item, few_more, counted_more, made_more}
+use Rattle.av_pipe.proofs.Numbering.{few_more, counted_more, made_more}
 use Rattle.av_pipe.proofs.helpers.all_helpers.Goals as goal
+use Rattle.av_base.proofs.Lists.{next_item}
 
 pub loop-place-preserved : goal.loop-place-preserved
 loop-place-preserved c =

@@ -2,8 +2,8 @@ use Rattle.std.proofs.Common.{rules, refl, ◌≡◌, ◌∙◌, ◌≤◌, ◌<
 use Rattle.av_flat.specs.Trees.{view_system}
 use Rattle.av_sched.specs.Choices.{candidates}
 use Rattle.av_sched.proofs.Counting.{counted, few_more, many_at}
-use Rattle.av_sched.proofs.Steps.{take_whole}
 use Rattle.av_sched.proofs.limit.too_many.Goals as goal
+use Rattle.av_base.proofs.Lists.{take_whole}
 
 pub returns-then-number-gt-MOST_CANDIDATES-clause-some : goal.returns-then-number-gt-MOST_CANDIDATES-clause-some
 returns-then-number-gt-MOST_CANDIDATES-clause-some c =

@@ -2,9 +2,9 @@ use Rattle.std.proofs.Common.{◌<◌, refl, sym, subst, length, get_or, ◌+◌
 use Rattle.av_flat.specs.Trees.{view_system}
 use Rattle.av_flat.specs.Nodes.{nodes}
 use Rattle.av_sched.specs.inner.Walk.{AreAllPartsTo}
-use Rattle.av_sched.proofs.Leading.{same_default}
 use Rattle.av_sched.proofs.Listing.{size_fits, lists_more}
 use Rattle.av_sched.proofs.node.lists_of.Goals as goal
+use Rattle.av_base.proofs.Lists.{same_default}
 
 pub vectors-requires : goal.vectors-requires
 vectors-requires c =

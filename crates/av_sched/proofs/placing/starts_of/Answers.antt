@@ -3,10 +3,10 @@ use Rattle.std.proofs.Math.IntN.{neg_ℤ, neg_ℤ-neg_ℤ}
 use Rattle.av_affine.specs.Numbers.{AtMost}
 use Rattle.av_flat.specs.Trees.{view_variable, view_system}
 use Rattle.av_sched.specs.Offsets.{part}
-use Rattle.av_sched.proofs.Leading.{same_default}
 use Rattle.av_sched.proofs.Started.{IsStarted, started_other, started_node}
 use Rattle.av_sched.proofs.Starting.{at_view, starting_node}
 use Rattle.av_sched.proofs.placing.starts_of.Goals as goal
+use Rattle.av_base.proofs.Lists.{same_default}
 
 pub loop-k-preserved-then-not-is_node : goal.loop-k-preserved-then-not-is_node
 loop-k-preserved-then-not-is_node c =

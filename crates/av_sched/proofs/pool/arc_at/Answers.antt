@@ -3,8 +3,8 @@ use Rattle.std.proofs.lemmas.Int.{ints}
 use Rattle.std.specs.Prelude.{slice_index_or}
 use Rattle.av_affine.specs.Numbers.{dot}
 use Rattle.av_sched.specs.Offsets.{part}
-use Rattle.av_sched.proofs.Leading.{same_default}
 use Rattle.av_sched.proofs.pool.arc_at.Goals as goal
+use Rattle.av_base.proofs.Lists.{same_default}
 
 pub returns : goal.returns
 returns c =

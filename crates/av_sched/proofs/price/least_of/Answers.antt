@@ -1,8 +1,8 @@
 use Rattle.std.proofs.Common.{rules, ◌<◌, ◌≤◌, subst, length, get_or, All, take, arith}
 use Rattle.std.proofs.lemmas.List.Elements.{All-more, All-weaker}
 use Rattle.av_sched.specs.declared.price.Price.{Price}
-use Rattle.av_sched.proofs.Steps.{take_whole}
 use Rattle.av_sched.proofs.price.least_of.Goals as goal
+use Rattle.av_base.proofs.Lists.{take_whole}
 
 pub loop-price-preserved : goal.loop-price-preserved
 loop-price-preserved c =

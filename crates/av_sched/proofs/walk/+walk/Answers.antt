@@ -5,12 +5,12 @@ use Rattle.av_tree.specs.Points.{Point}
 use Rattle.av_sched.specs.declared.place.Place.{Place}
 use Rattle.av_sched.specs.inner.Walk.{known, HasWalked, IsPlace, IsBarred, IsLike}
 use Rattle.av_sched.specs.inner.Prices.{IsRated}
-use Rattle.av_sched.proofs.Steps.{IsWalking, node_at_level, walking_more, walking_barred, walking_done, next_like, same_next, node_within, before_apart, set_valid, parts_at, part_is_valid, take_more, take_whole}
+use Rattle.av_sched.proofs.Steps.{IsWalking, node_at_level, walking_more, walking_barred, walking_done, next_like, same_next, node_within, before_apart, set_valid, parts_at, part_is_valid, take_more}
 use Rattle.av_sched.specs.declared.price.Price.{Price}
-use Rattle.av_sched.proofs.Leading.{same_default}
 use Rattle.av_sched.proofs.Walking.{nothing_there}
 use Rattle.av_sched.proofs.Pricing.{price_there, spent_next}
 use Rattle.av_sched.proofs.walk.+walk.Goals as goal
+use Rattle.av_base.proofs.Lists.{same_default, take_whole}
 
 pub walk-walk_unless_barred-requires : goal.walk-walk_unless_barred-requires
 walk-walk_unless_barred-requires t c =

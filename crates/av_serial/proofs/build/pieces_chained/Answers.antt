@@ -2,11 +2,11 @@ use Rattle.std.proofs.Common.{◌≡◌, ◌<◌, ◌≤◌, ◌+◌, ◌++◌, 
 use Rattle.av_poly.specs.Points.{Set}
 use Rattle.av_flat.specs.declared.flat.Piece.{Piece as PieceMade}
 use Rattle.av_flat.specs.Trees.{view, view_piece}
-use Rattle.av_normal.proofs.Dropping.{next_item, nothing_left}
 use Rattle.av_serial.specs.inner.Premises.{PiecesHavePremises}
 use Rattle.av_serial.proofs.Building.{ArePiecesSoFar, pieces_step, pieces_end, made_grows, map_push}
 use Rattle.av_serial.proofs.Premises.{ready_piece, ready_pieces}
 use Rattle.av_serial.proofs.build.pieces_chained.Goals as goal
+use Rattle.av_base.proofs.Lists.{next_item, nothing_left}
 
 pub loop-piece-preserved : goal.loop-piece-preserved
 loop-piece-preserved c =

@@ -1,11 +1,11 @@
 use Rattle.std.proofs.Common.{◌≡◌, ℕ, ◌<◌, ◌≤◌, ◌+◌, ◌++◌, ◌∷◌, [], List, length, map, drop, rules, ap, subst, ◌∙◌}
 use Rattle.av_flat.specs.declared.flat.Var.{Var}
 use Rattle.av_flat.specs.Trees.{view_variable}
-use Rattle.av_normal.proofs.Dropping.{next_item, nothing_left}
 use Rattle.av_serial.specs.inner.Premises.{VariablesHavePremises}
 use Rattle.av_serial.proofs.Building.{HaveWidth, AreVariablesSoFar, variables_step, variables_end, map_push}
 use Rattle.av_serial.proofs.Premises.{ready_variable, ready_variables}
 use Rattle.av_serial.proofs.build.variables_chained.Goals as goal
+use Rattle.av_base.proofs.Lists.{next_item, nothing_left}
 
 pub loop-var-preserved : goal.loop-var-preserved
 loop-var-preserved c =

@@ -3,12 +3,12 @@ use Rattle.std.proofs.lemmas.Result.{err_from_is_err_and}
 use Rattle.std.specs.List.{flat_map}
 use Rattle.av_flat.specs.declared.flat.Piece.{Piece as PieceMade}
 use Rattle.av_flat.specs.Trees.{Piece, view, view_piece}
-use Rattle.av_normal.proofs.Dropping.{next_item, nothing_left}
 use Rattle.av_serial.specs.SerialFaults.{reductions_in, HasNodes}
 use Rattle.av_serial.specs.inner.Tries.{CanTryPieces}
 use Rattle.av_serial.specs.inner.Counted.{IsCapped}
 use Rattle.av_serial.proofs.Finding.{IsWalk, IsCount, walk_more, walk_bad, capped_more, capped_all}
 use Rattle.av_serial.proofs.walk.pieces_nodes.Goals as goal
+use Rattle.av_base.proofs.Lists.{next_item, nothing_left}
 
 pub returns-in_err-more-clause-bad : goal.returns-in_err-more-clause-bad
 returns-in_err-more-clause-bad c =

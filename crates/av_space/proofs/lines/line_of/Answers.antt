@@ -7,10 +7,11 @@ use Rattle.av_space.specs.declared.cells.Cell.{Cell}
 use Rattle.av_space.specs.declared.cells.Link.{Link}
 use Rattle.av_space.specs.Taps.{Tap, helper_of}
 use Rattle.av_space.specs.inner.Sites.{tap_of}
-use Rattle.av_space.proofs.Elements.{some_is, in_range, mapped}
+use Rattle.av_space.proofs.Elements.{in_range}
 use Rattle.av_space.proofs.NodeTaps.{taps_at_node}
 use Rattle.av_space.proofs.LineLengths.{tapped_helper}
 use Rattle.av_space.proofs.lines.line_of.Goals as goal
+use Rattle.av_base.proofs.Lists.{get_mapped, some_is}
 
 pub taps_of_node-own-requires : goal.taps_of_node-own-requires
 taps_of_node-own-requires c =
@@ -53,6 +54,6 @@ returns c =
     let here : slice_get (map tap_of own) l.site ≡ Some r.tap = ap (λ (ts : List Tap). slice_get ts l.site) (all ∙ t) ∙ r.is_tap in
     let made = c.site_at.result.now in
     let there : slice_get own l.site ≡ Some made = ap (λ (l : Link). slice_get own l.site) (sym c.stretch.view_is) ∙ c.site_at.ensures in
-    let one : tap_of made ≡ r.tap = some_is (tap_of made) r.tap (sym (mapped tap_of own l.site made there) ∙ here) in
+    let one : tap_of made ≡ r.tap = some_is (tap_of made) r.tap (sym (get_mapped tap_of own l.site made there) ∙ here) in
     ap₂ (λ a b. record { cell = a; helper = b }) (ap (λ (l : Link). l.producer) c.stretch.view_is)
     (c.helper.ensures ∙ ap (λ (u : Tap). helper_of u.way) one ∙ sym (tapped_helper s hs c.args.layout.now.placements c.args.layout.now.cells l.consumer l.site l.first l.producer l.delay r))

@@ -3,8 +3,8 @@ use Rattle.std.specs.Prelude.{slice_get}
 use Rattle.std.proofs.lemmas.Option.{slice_get-get_or}
 use Rattle.av_flat.specs.declared.flat.Piece.{Piece}
 use Rattle.av_flat.specs.Trees.{view_piece}
-use Rattle.av_space.proofs.Elements.{mapped}
 use Rattle.av_space.proofs.linking.piece_at.Goals as goal
+use Rattle.av_base.proofs.Lists.{get_mapped}
 
 pub returns : goal.returns
 returns c =
@@ -12,4 +12,4 @@ returns c =
     let x = c.index-as_slice-number.result in
     let within : c.args.number < length pieces = subst (λ (l : List Piece). c.args.number < length l) (sym c.as_slice.ensures) c.requires in
     let at : slice_get pieces c.args.number ≡ Some x = slice_get-get_or pieces c.args.number x within ∙ ap Some (sym c.index-as_slice-number.is) in
-    mapped view_piece c.args.var.now.pieces c.args.number x (subst (λ (l : List Piece). slice_get l c.args.number ≡ Some x) c.as_slice.ensures at)
+    get_mapped view_piece c.args.var.now.pieces c.args.number x (subst (λ (l : List Piece). slice_get l c.args.number ≡ Some x) c.as_slice.ensures at)

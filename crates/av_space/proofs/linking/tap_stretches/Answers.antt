@@ -8,11 +8,12 @@ use Rattle.av_space.specs.Taps.{node_place}
 use Rattle.av_space.specs.inner.Sites.{tap_of}
 use Rattle.av_space.specs.inner.Stretches.{HasLinks, IsAt, Told, AreByCycle}
 use Rattle.av_space.specs.inner.Readings.{IsFineTap}
-use Rattle.av_space.proofs.Elements.{some_is, in_range}
+use Rattle.av_space.proofs.Elements.{in_range}
 use Rattle.av_space.proofs.FineSites.{fine_tap}
 use Rattle.av_space.proofs.Nodes.{node_chained}
 use Rattle.av_space.proofs.SiteLinks.{site_on, site_links}
 use Rattle.av_space.proofs.linking.tap_stretches.Goals as goal
+use Rattle.av_base.proofs.Lists.{some_is}
 
 pub piece_at-piece-requires : goal.piece_at-piece-requires
 piece_at-piece-requires c =

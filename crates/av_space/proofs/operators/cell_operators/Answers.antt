@@ -17,11 +17,11 @@ use Rattle.av_depend.specs.SetPoints.{IsPointOf}
 use Rattle.av_space.specs.Quantities.{size, Use, IsUse}
 use Rattle.av_space.specs.inner.Counting.{capped, IsCappedCount}
 use Rattle.av_space.proofs.ByPlace.{read_at}
-use Rattle.av_space.proofs.Elements.{some_is, mapped}
 use Rattle.av_space.proofs.OperatorCounts.{capped_none, one_more, not_more, whole_cell}
 use Rattle.av_space.proofs.OnCells.{node_in_places, IsCellOf, node_within, cell_of, slot_points, use_of, slot_of_use}
 use Rattle.av_space.proofs.operators.cell_operators.Goals as goal
 use Rattle.av_space.proofs.operators.cell_operators.Goals.{then-is_used, else-is_used}
+use Rattle.av_base.proofs.Lists.{get_mapped, some_is}
 
 here : (t : Timed) (l : Layout) (p : ℕ) (x : Cell) (v : Var) (slots : List Slot) (cells : List Cell) (rows : List (List Slot)) → IsLayout t l → p < length l.cells → cells ≡ l.cells → x ≡ get_or cells p x
     → slice_get (nodes (view_system t.flat)) (get_or cells p x).node ≡ Some (view_variable v) → rows ≡ l.slots → slots ≡ get_or rows p slots → IsCellOf (view_system t.flat) l.placements l.cells p (view_variable v) slots
@@ -68,7 +68,7 @@ is_used-requires c =
     let slots = c.index-as_slice-cell-2.result in
     let on = here t l c.args.cell x v slots c.as_slice.result.now c.as_slice-3.result.now c.requires.layout c.requires.cell c.as_slice.ensures c.index-as_slice-cell.is c.variable_of-var.ensures c.as_slice-3.ensures c.index-as_slice-cell-2.is in
     let lp : c.loop-piece.piece-index < length c.as_slice-piece-items.result.now = search rules in
-    let is = mapped view_piece v.pieces c.loop-piece.piece-index piece (read_at v.pieces c.as_slice-piece-items.result.now c.loop-piece.piece-index piece c.as_slice-piece-items.ensures lp c.piece-item.is) in
+    let is = get_mapped view_piece v.pieces c.loop-piece.piece-index piece (read_at v.pieces c.as_slice-piece-items.result.now c.loop-piece.piece-index piece c.as_slice-piece-items.ensures lp c.piece-item.is) in
     subst (λ (ts : List Slot). All (λ (t : Slot). IsPointOf piece.domain t.point) ts) (sym c.as_slice-slots.ensures)
     (slot_points t l c.args.cell (view_variable v) slots c.requires.legal on c.loop-piece.piece-index (view_piece piece) is)
 
@@ -85,7 +85,7 @@ loop-piece-preserved c =
     let j = c.loop-piece.piece-index in
     let on = here t l p x v slots c.as_slice.result.now c.as_slice-3.result.now c.requires.layout c.requires.cell c.as_slice.ensures c.index-as_slice-cell.is c.variable_of-var.ensures c.as_slice-3.ensures c.index-as_slice-cell-2.is in
     let lp : j < length c.as_slice-piece-items.result.now = search rules in
-    let is = mapped view_piece v.pieces j piece (read_at v.pieces c.as_slice-piece-items.result.now j piece c.as_slice-piece-items.ensures lp c.piece-item.is) in
+    let is = get_mapped view_piece v.pieces j piece (read_at v.pieces c.as_slice-piece-items.result.now j piece c.as_slice-piece-items.ensures lp c.piece-item.is) in
     let used : IsTrue c.is_used.result ↔ Any (λ (t : Slot). IsTrue (has piece.domain t.point)) slots = subst (λ (ts : List Slot). IsTrue c.is_used.result ↔ Any (λ (t : Slot). IsTrue (has piece.domain t.point)) ts) c.as_slice-slots.ensures c.is_used.ensures in
     elim c.if-is_used.branch [
       | then-is_used w ↦

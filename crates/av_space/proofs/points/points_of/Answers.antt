@@ -4,7 +4,7 @@ use Rattle.av_poly.specs.declared.poly.Bounds.{Bounds}
 use Rattle.av_poly.specs.Points.{Has}
 use Rattle.av_tree.specs.Points.{Point}
 use Rattle.av_depend.specs.AllPoints.{AreAllPoints}
-use Rattle.av_depend.proofs.Small.{small_point}
+use Rattle.av_flat.proofs.Bounded.{small_point}
 use Rattle.av_space.proofs.Nodes.{no_points}
 use Rattle.av_space.proofs.points.points_of.Goals as goal
 

@@ -3,7 +3,7 @@ use Rattle.av_flat.specs.declared.tree.Tree.{Tree as TreeMade}
 use Rattle.av_flat.specs.Broadcasts.{references}
 use Rattle.av_flat.specs.Trees.{view, binary, choice}
 use Rattle.av_space.specs.inner.NodePieces.{IsPart}
-use Rattle.av_space.proofs.Falling.{left_falls, right_falls, first_falls, second_falls, third_falls, fourth_falls}
+use Rattle.av_flat.proofs.Falling.{left_falls, right_falls, first_falls, second_falls, third_falls, fourth_falls}
 use Rattle.av_space.proofs.PieceParts.{part_left, part_right, parts_of_choice, part_is}
 use Rattle.av_space.proofs.ports.+add_tree.Goals as goal
 

@@ -2,11 +2,7 @@ use Rattle.std.proofs.Common.{◌≡◌, Bool, true, false, sym}
 use Rattle.av_flat.specs.Points.{has}
 use Rattle.av_flat.proofs.Sets.{has_is}
 use Rattle.av_space.proofs.reading.is_in.Goals as goal
-
-same_truth : (a b : Bool) → (a ≡ true → b ≡ true) → (b ≡ true → a ≡ true) → a ≡ b
-same_truth true b f g = let t : true ≡ true = cc in sym (f t)
-same_truth false true f g = let t : true ≡ true = cc in g t
-same_truth false false f g = cc
+use Rattle.av_base.proofs.Truths.{same_truth}
 
 pub returns : goal.returns
 returns c =

@@ -4,7 +4,6 @@ use Rattle.std.proofs.lemmas.List.{map-append}
 use Rattle.av_space.specs.declared.layout.Slot.{Slot}
 use Rattle.av_space.specs.declared.spots.Spot.{Spot}
 use Rattle.av_space.specs.Spots.{AreEnds}
-use Rattle.av_space.proofs.ByPlace.{there_is}
 use Rattle.av_build.specs.inner.Blueprints.{lanes_of, IsSpotAt}
 use Rattle.av_build.specs.inner.Programs.{Shift}
 use Rattle.av_build.specs.inner.Works.{IsBuiltBy}
@@ -14,6 +13,7 @@ use Rattle.av_build.proofs.CellSpots as cell
 use Rattle.av_build.proofs.CellUses.{some_slot}
 use Rattle.av_build.proofs.ValueLanes.{AreStays}
 use Rattle.av_build.proofs.blueprint.Blueprint.value.Goals as goal
+use Rattle.av_base.proofs.Lists.{there_is}
 
 pub ends_of-own-requires-clause-some : goal.ends_of-own-requires-clause-some
 ends_of-own-requires-clause-some c = some_slot c.args.self.now.array c.requires.blueprint.array c.args.cell c.requires.cell c.slots.result.now c.slots.ensures

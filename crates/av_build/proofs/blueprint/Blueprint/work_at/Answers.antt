@@ -3,12 +3,13 @@ use Rattle.std.proofs.lemmas.Result.{IfOk-weaker}
 use Rattle.av_space.specs.declared.spots.Site.{Site}
 use Rattle.av_space.specs.declared.spots.Spot.{Spot}
 use Rattle.av_space.specs.Spots.{AreSites}
-use Rattle.av_space.proofs.Elements.{some_is, in_range}
+use Rattle.av_space.proofs.Elements.{in_range}
 use Rattle.av_build.specs.inner.Blueprints.{seen, spot_of, lanes_of}
 use Rattle.av_build.specs.inner.Works.{IsWorkFor}
 use Rattle.av_build.specs.inner.Written.{work_of}
 use Rattle.av_build.proofs.CellPieces.{plan_at, spot_at, own_at, piece_at, piece_within}
 use Rattle.av_build.proofs.blueprint.Blueprint.work_at.Goals as goal
+use Rattle.av_base.proofs.Lists.{some_is}
 
 pub work-requires-clause-places : goal.work-requires-clause-places
 work-requires-clause-places c =

@@ -2,9 +2,10 @@ use Rattle.std.proofs.Common.{◌≡◌, ℤ, List, sym, ap, subst, arith, ◌�
 use Rattle.av_affine.specs.Numbers.{AtMost}
 use Rattle.av_poly.specs.Points.{Set, Has}
 use Rattle.av_flat.proofs.Sets.{has_is}
-use Rattle.av_data.proofs.Entered.{far_outside, long_outside, no_point}
+use Rattle.av_data.proofs.Entered.{far_outside, long_outside}
 use Rattle.av_data.proofs.entries.Entries.point_of.Goals as goal
 use Rattle.av_data.proofs.entries.Entries.point_of.Goals.{then-self-via-then-self, then-self-via-else-self+then-len-domain}
+use Rattle.av_depend.proofs.Listed.{has_false}
 
 pub returns-then-self-clause-none : goal.returns-then-self-clause-none
 returns-then-self-clause-none c = λ y k.
@@ -32,4 +33,4 @@ returns-else-contains-clause-none c = λ y k.
     let near = k.near c.if-self.false in
     let set = c.args.domain.now in
     let same : y ≡ c.from_slice-point.result = near.0 ∙ sym (c.from_slice-point.ensures ∙ c.as_slice.ensures.value) in
-    no_point set y (λ h. let t = c.contains.ensures.1 (subst (λ (z : List ℤ). Has set z) same h) in let f = c.if-contains.false in cc)
+    has_false set y (λ h. let t = c.contains.ensures.1 (subst (λ (z : List ℤ). Has set z) same h) in let f = c.if-contains.false in cc)

@@ -8,8 +8,9 @@ use Rattle.av_space.specs.declared.spots.Site.{Site}
 use Rattle.av_space.specs.Taps.{Place, places_in}
 use Rattle.av_space.specs.Sites.{PlaceMade, place_of}
 use Rattle.av_space.specs.Spots.{handing_by}
-use Rattle.av_space.proofs.Elements.{mapped, get_contained}
 use Rattle.av_space.proofs.array.Array.sites.Goals as goal
+use Rattle.av_base.proofs.Among.{among_at}
+use Rattle.av_base.proofs.Lists.{get_mapped}
 
 pub returns : goal.returns
 returns c =
@@ -24,7 +25,7 @@ returns c =
       each = λ k d l. record {
         is_place = (let x = get_or sites k d in
             subst (λ (ps : List Place). Contains ps (place_of x.place)) places
-            (get_contained (map (λ (site : Site). place_of site.place) sites) k (place_of x.place) (mapped (λ (site : Site). place_of site.place) sites k x (slice_get-get_or sites k d l))));
+            (among_at (map (λ (site : Site). place_of site.place) sites) k (place_of x.place) (get_mapped (λ (site : Site). place_of site.place) sites k x (slice_get-get_or sites k d l))));
         handing = subst (λ (hs : List Helper). (get_or sites k d).handing ≡ handing_by hs at.place (place_of (get_or sites k d).place) (view (get_or sites k d).place.tree)) c.as_slice-helpers.ensures (c.loop-place.invariant.handings k d l);
       };
     }

@@ -7,13 +7,13 @@ use Rattle.av_flat.specs.Trees.{view_piece, view_variable}
 use Rattle.av_space.specs.declared.cells.Cell.{Cell}
 use Rattle.av_space.specs.declared.layout.Slot.{Slot}
 use Rattle.av_space.specs.Spots.{system_of, placings_of, cells_of, AreSlotsIn}
-use Rattle.av_space.proofs.Elements.{some_is}
 use Rattle.av_space.proofs.Nodes.{places_number}
 use Rattle.av_space.proofs.NodeTaps.{place_is}
 use Rattle.av_space.proofs.OnCells.{slot_points}
 use Rattle.av_space.proofs.OnSpots.{some_slots}
 use Rattle.av_space.proofs.SiteLinks.{cell_node}
 use Rattle.av_space.proofs.array.Array.spot.Goals as goal
+use Rattle.av_base.proofs.Lists.{some_is}
 
 pub bounds-as_slice-node : goal.bounds-as_slice-node
 bounds-as_slice-node c =
