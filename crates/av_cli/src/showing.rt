@@ -18,8 +18,9 @@ ghost use Rattle.av_cli.specs.inner.Watching.{bits_of, AreTaps, noted, watched};
 use crate::simulation::{place_of, present, targets, zeros};
 use av_base::{List, Memory, Name, Point, Word};
 use av_clock::Clock;
-use av_data::{Given, Inputs, Places, Stimulus, Timeline};
+use av_data::{Given, Inputs, Stimulus, Timeline};
 use av_net::{Design, Entry, Module, Port};
+use av_table::NameSet;
 use std::alloc::Global;
 
 /// Words of the points of inputs.
@@ -96,19 +97,19 @@ pub(crate) fn feed<D: Data>(
 }
 
 // The names of ports, each found by its bytes.
-fn port_places(alloc: Global, ports: &[Port]) -> Result<Places<'_>, Memory>
+fn port_places(alloc: Global, ports: &[Port]) -> Result<NameSet<'_>, Memory>
     requires { AreDistinct (names_of ports.now) }
     ensures { IfOk result (λ places. places ≡ names_of ports.now) }
 {
-    let mut places = Places::new(alloc);
+    let mut places = NameSet::new(alloc);
     for port in ports {
-        places.push(&port.name)?;
+        places.insert(port.name.as_str().as_bytes())?;
     }
     Ok(places)
 }
 
 // What a line presents.
-fn given_of<D: Data>(ports: &Places, values: &D, line: &Entry) -> Result<Given, Memory>
+fn given_of<D: Data>(ports: &NameSet, values: &D, line: &Entry) -> Result<Given, Memory>
     requires port { Contains ports.now line.now.wire }
     requires small { AreSmall line.now.point }
     requires some { IfNone (D.words values.now line.now.variable line.now.point) ⊥ }

@@ -13,8 +13,9 @@ ghost use Rattle.av_cli.specs.inner.Clocking.{word_next, rest_next, AreLeft, Are
 
 use av_base::{List, Memory, Name, Sink, WriteFault};
 use av_clock::Clock;
-use av_data::{Given, Places, Stimulus, write_cycle};
+use av_data::{Given, Stimulus, write_cycle};
 use av_net::{Drive, Module, Port};
+use av_table::NameSet;
 use std::alloc::Global;
 
 /// A clocked module, and all that is needed to write its cycles: its ports in the order of the header, the
@@ -50,19 +51,19 @@ fn header_ports(alloc: Global, of: &Module) -> Result<List<Port>, Memory>
 }
 
 /// The targets of the drives, in order.
-pub(crate) fn targets(alloc: Global, drives: &[Drive]) -> Result<Places<'_>, Memory>
+pub(crate) fn targets(alloc: Global, drives: &[Drive]) -> Result<NameSet<'_>, Memory>
     requires { AreDistinct (targets_of drives.now) }
     ensures { IfOk result (λ targets. targets ≡ targets_of drives.now) }
 {
-    let mut targets = Places::new(alloc);
+    let mut targets = NameSet::new(alloc);
     for drive in drives {
-        targets.push(&drive.target)?;
+        targets.insert(drive.target.as_str().as_bytes())?;
     }
     Ok(targets)
 }
 
 /// The place of a name, as a number of 32 bits. With so many names that it is greater the answer is out of memory.
-pub(crate) fn place_of(targets: &Places, name: &Name) -> Result<u32, Memory>
+pub(crate) fn place_of(targets: &NameSet, name: &Name) -> Result<u32, Memory>
     requires { Contains targets.now name.now }
     ensures { IfOk result (λ place. slice_get targets.now place ≡ Some name.now) }
 {

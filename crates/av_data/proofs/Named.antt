@@ -1,4 +1,4 @@
--- Names that are kept in a table, in their order.
+-- Names that are taken one by one, in their order.
 use Rattle.std.proofs.Common.{◌≡◌, ℕ, suc, ◌+◌, ◌<◌, Bool, true, false, cond, not, List, [], ◌∷◌, ◌++◌, map, length, take, drop, get_or, refl, sym, ap, subst, ◌∙◌, arith, add-one, take-suc}
 use Rattle.std.specs.Prelude.{◌||◌, if◌then◌else◌, Contains}
 use Rattle.std.specs.List.{list_any, position, position_or_len}
@@ -11,28 +11,11 @@ use Rattle.av_net.specs.Names.{names_of, AreDistinct}
 use Rattle.av_net.specs.Rows.{is_in}
 use Rattle.av_net.proofs.Distinct.{apart, front_distinct}
 
-module _ {K : Type 0} (f : K → List ℕ) where
-  any_shown : (q : List ℕ) (keys : List K) → list_any (λ k. bytes_eq q (f k)) keys ≡ is_in (map f keys) q
-  any_shown q [] = refl
-  any_shown q (k ∷ keys) = ap (λ b. bytes_eq q (f k) || b) (any_shown q keys)
-
-  -- a name that is new goes behind the others
-  pub entered : (keys keys' : List K) (key : K) (name : List ℕ) → keys' ≡ (if list_any (λ k. bytes_eq (f key) (f k)) keys then keys else (keys ++ key ∷ [])) → f key ≡ name
-      → is_in (map f keys) name ≡ false → map f keys' ≡ map f keys ++ name ∷ []
-  entered keys keys' key name e is none =
-      let new : list_any (λ k. bytes_eq (f key) (f k)) keys ≡ false = any_shown (f key) keys ∙ ap (is_in (map f keys)) is ∙ none in
-      rw (e, new) (map_push f keys key ∙ ap (λ n. map f keys ++ n ∷ []) is)
-
-  first_shown : (q : List ℕ) (keys : List K) → position_or_len (λ k. bytes_eq q (f k)) keys ≡ position_or_len (bytes_eq q) (map f keys)
-  first_shown q [] = refl
-  first_shown q (k ∷ keys) = ap (λ n. cond (not (bytes_eq q (f k))) (1 + n) 0) (first_shown q keys)
-
-  -- a name is found at its place
-  pub place_found : (keys : List K) (names : List (List ℕ)) (name : List ℕ) → map f keys ≡ names → position (λ k. bytes_eq name (f k)) keys ≡ position (bytes_eq name) names
-  place_found keys names name is =
-      let first : position_or_len (λ k. bytes_eq name (f k)) keys ≡ position_or_len (bytes_eq name) names = first_shown name keys ∙ ap (position_or_len (bytes_eq name)) is in
-      let size : length keys ≡ length names = sym (length-map keys f) ∙ ap length is in
-      rw (first, size) refl
+-- a set of names with a new one
+pub added : (old new : List (List ℕ)) (key name : List ℕ) → new ≡ (if list_any (bytes_eq key) old then old else (old ++ key ∷ [])) → key ≡ name → is_in old name ≡ false → new ≡ old ++ name ∷ []
+added old new key name e is none =
+    let other : list_any (bytes_eq key) old ≡ false = ap (is_in old) is ∙ none in
+    rw (e, other) (ap (λ k. old ++ k ∷ []) is)
 
 -- a later name of different ones is new
 pub is_new : (names : List (List ℕ)) (i : ℕ) (name : List ℕ) → i < length names → name ≡ get_or names i name → AreDistinct names → is_in (take i names) name ≡ false

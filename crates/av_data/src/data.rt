@@ -13,36 +13,35 @@ ghost use Rattle.av_data.specs.inner.ReadData.{IsReadable, IsOutcome, TellsMissi
 
 use crate::data_lines::{take_lines, variable_at};
 use crate::missing::first_missing;
-use crate::name_table::NameTable;
-use crate::places::Places;
 use crate::word_map::WordMap;
 use crate::{DataFault, Inputs};
-use av_base::{Memory, Name, Point};
+use av_base::{List, Memory, Name, Point};
 use av_flat::Flat;
+use av_table::NameSet;
 use std::alloc::Global;
 
 // The names of all variables, in order.
-fn all_names(alloc: Global, flat: &Flat) -> Result<Places<'_>, Memory>
+fn all_names(alloc: Global, flat: &Flat) -> Result<NameSet<'_>, Memory>
     requires { IsReadable (view_system flat.now) }
     ensures { IfOk result (λ names. names ≡ names_in (view_system flat.now)) }
 {
     let vars = flat.vars.as_slice();
-    let mut names = Places::new(alloc);
+    let mut names = NameSet::new(alloc);
     for var in vars {
-        names.push(&var.name)?;
+        names.insert(var.name.as_str().as_bytes())?;
     }
     Ok(names)
 }
 
 // The same in memory of their own.
-fn kept_names(alloc: Global, flat: &Flat) -> Result<NameTable, Memory>
+fn kept_names(alloc: Global, flat: &Flat) -> Result<List<Name>, Memory>
     requires { IsReadable (view_system flat.now) }
     ensures { IfOk result (λ names. names ≡ names_in (view_system flat.now)) }
 {
     let vars = flat.vars.as_slice();
-    let mut names = NameTable::new(alloc);
+    let mut names = List::new(alloc);
     for var in vars {
-        names.push(alloc, &var.name)?;
+        names.push(Name::new(alloc, var.name.as_str())?)?;
     }
     Ok(names)
 }

@@ -8,10 +8,10 @@ ghost use Rattle.av_data.specs.inner.ReadData.{IsReadable, names_in, IsInputAt, 
 
 use crate::DataFault;
 use crate::lines::{first_line, from, is_empty, uncommented};
-use crate::places::Places;
 use crate::saying::saying_in;
 use crate::word_map::WordMap;
 use av_flat::{Flat, Var};
+use av_table::NameSet;
 
 fn is_filled(line: &[u8]) -> bool
     ensures { result ≡ is_filled_by (parts_of line.now) }
@@ -28,7 +28,7 @@ pub(crate) fn variable_at(vars: &[Var], place: usize) -> &Var
 }
 
 // The place of the input with this name.
-fn input_place(flat: &Flat, names: &Places<'_>, name: &[u8]) -> Option<usize>
+fn input_place(flat: &Flat, names: &NameSet<'_>, name: &[u8]) -> Option<usize>
     requires names { names.now ≡ names_in (view_system flat.now) }
     requires readable { IsReadable (view_system flat.now) }
     ensures some { IfSome result (λ place. (v : Variable) × IsInputAt (view_system flat.now) name.now place v) }
@@ -46,7 +46,7 @@ fn input_place(flat: &Flat, names: &Places<'_>, name: &[u8]) -> Option<usize>
 // Takes a line that is neither blank nor a comment: gives the point that it tells its word.
 fn take_filled(
     flat: &Flat,
-    names: &Places<'_>,
+    names: &NameSet<'_>,
     words: &mut WordMap,
     line: u32,
     text: &[u8],
@@ -79,7 +79,7 @@ fn take_filled(
 // Takes a line.
 fn take_line(
     flat: &Flat,
-    names: &Places<'_>,
+    names: &NameSet<'_>,
     words: &mut WordMap,
     line: u32,
     text: &[u8],
@@ -99,7 +99,7 @@ fn take_line(
 /// Takes line by line, of which the first has this number.
 pub(crate) fn take_lines(
     flat: &Flat,
-    names: &Places<'_>,
+    names: &NameSet<'_>,
     words: &mut WordMap,
     first: u32,
     bytes: &[u8],

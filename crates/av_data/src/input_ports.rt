@@ -4,9 +4,9 @@ ghost use Rattle.std.specs.Prelude.{◌≡◌, ◌<◌, length, IfOk, IfSome};
 ghost use Rattle.av_net.specs.Names.{AreDistinct, names_of};
 ghost use Rattle.av_data.specs.Reading.{place_of, width_at};
 
-use crate::places::Places;
 use av_base::{Memory, Width};
 use av_net::Port;
+use av_table::NameSet;
 use std::alloc::Global;
 use std::marker::Model;
 
@@ -14,7 +14,7 @@ use std::marker::Model;
 #[derive(Drop)]
 pub(crate) struct InputPorts<'a> {
     ports: &'a [Port],
-    names: Places<'a>,
+    names: NameSet<'a>,
 }
 
 impl<'a> Model for InputPorts<'a> {
@@ -36,9 +36,9 @@ impl<'a> InputPorts<'a> {
         requires { AreDistinct (names_of ports.now) }
         ensures { IfOk result (λ inputs. inputs ≡ ports.now) }
     {
-        let mut names = Places::new(alloc);
+        let mut names = NameSet::new(alloc);
         for port in ports {
-            names.push(&port.name)?;
+            names.insert(port.name.as_str().as_bytes())?;
         }
         Ok(InputPorts { ports, names })
     }

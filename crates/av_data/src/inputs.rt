@@ -1,18 +1,28 @@
 //! The words that inputs are given.
 
 ghost use Rattle.std.specs.Prelude.{◌≡◌, Some, None, IfSome, IfNone};
+ghost use Rattle.std.specs.List.{position};
+ghost use Rattle.std.specs.Str.{bytes_eq};
 ghost use Rattle.av_data.specs.Inputs.{words_of};
 
-use crate::name_table::NameTable;
 use crate::word_map::WordMap;
-use av_base::{Name, Point, Word};
+use av_base::{List, Name, Point, Word};
 use std::marker::Model;
+
+// The first place of a name.
+fn place_of(names: &[Name], name: &Name) -> Option<usize>
+    ensures { result ≡ position (bytes_eq name.now) names.now }
+{
+    names
+        .iter()
+        .position(|known| name.as_str() == known.as_str())
+}
 
 /// The words of the points of a system's inputs, which contracts see as a finite map from points to words.
 #[derive(Drop)]
 pub struct Inputs {
     /// The names of the system's variables, in order.
-    pub(crate) names: NameTable,
+    pub(crate) names: List<Name>,
     /// The words of points, by the places of their variables.
     pub(crate) words: WordMap,
 }
@@ -31,7 +41,7 @@ impl Inputs {
         ensures some { IfSome result (λ word. words_of self.now variable.now point.now ≡ Some word.bits) }
         ensures none { IfNone result (words_of self.now variable.now point.now ≡ None) }
     {
-        let place = self.names.find(variable)?;
+        let place = place_of(self.names.as_slice(), variable)?;
         self.words.word(place, point)
     }
 }

@@ -7,11 +7,11 @@ ghost use Rattle.av_vread.specs.inner.Entries.{numeral_of, below_zero, index_of,
 use crate::lexer::ascii;
 use crate::line::cut;
 use crate::literal::are_digits;
-use crate::names::Names;
 use arrayvec::ArrayVec;
 use av_base::limits::MOST_COORDINATE;
 use av_base::{Memory, Name, Point, are_word_bytes, decimal_value, is_name};
 use av_net::Entry;
+use av_table::NameSet;
 use std::alloc::Global;
 
 // The greatest number of an index and of a cycle.
@@ -102,10 +102,10 @@ fn point_of(text: &[u8]) -> Option<Point>
 // ---- names
 
 // Whether the text is one of these names.
-fn is_wire(wires: &Names, text: &[u8]) -> bool
+fn is_wire(wires: &NameSet, text: &[u8]) -> bool
     ensures { result ≡ is_wire (is_in wires.now) text.now }
 {
-    are_word_bytes(text) && wires.contains(ascii(text))
+    are_word_bytes(text) && wires.contains(text)
 }
 
 // ---- lines
@@ -133,7 +133,7 @@ fn parts_of(text: &[u8]) -> Option<Parts<'_>>
     })
 }
 
-fn entry_of(alloc: Global, wires: &Names, parts: Parts) -> Result<Option<Entry>, Memory>
+fn entry_of(alloc: Global, wires: &NameSet, parts: Parts) -> Result<Option<Entry>, Memory>
     ensures { IfOk result (λ entry. entry ≡ entry_of (is_in wires.now) (parts_view parts.entry)) }
 {
     if !is_name(parts.variable) || !is_wire(wires, parts.wire) {
@@ -151,7 +151,7 @@ fn entry_of(alloc: Global, wires: &Names, parts: Parts) -> Result<Option<Entry>,
 }
 
 /// The entry that a line of the listing has behind its first word, at one of these wires.
-pub(crate) fn entry_at(alloc: Global, wires: &Names, text: &[u8]) -> Result<Option<Entry>, Memory>
+pub(crate) fn entry_at(alloc: Global, wires: &NameSet, text: &[u8]) -> Result<Option<Entry>, Memory>
     ensures { IfOk result (λ entry. entry ≡ entry_at (is_in wires.now) text.now) }
 {
     match parts_of(text) {

@@ -8,11 +8,11 @@ ghost use Rattle.av_vread.specs.inner.Listings.{begins_with, with_in_line, with_
 
 use crate::entry::entry_at;
 use crate::line::line_at;
-use crate::names::Names;
 use crate::parsed::Text;
 use crate::{VFault, scope};
 use av_base::List;
 use av_net::Listing;
+use av_table::NameSet;
 use std::alloc::Global;
 
 // Whether a text begins with these six bytes.
@@ -25,7 +25,7 @@ fn begins_with(text: &[u8], word: &[u8]) -> bool
 // Puts the entry of an input's line, from its name on, into the listing.
 fn push_in(
     alloc: Global,
-    ports: &Names,
+    ports: &NameSet,
     listing: &mut Listing,
     number: u32,
     text: &[u8],
@@ -47,7 +47,7 @@ fn push_in(
 // Puts the entry of a line of what is shown, from its name on, into the listing.
 fn push_at(
     alloc: Global,
-    wires: &Names,
+    wires: &NameSet,
     listing: &mut Listing,
     number: u32,
     text: &[u8],
@@ -66,8 +66,8 @@ fn push_at(
 // Puts what a line lists into the listing.
 fn push_line(
     alloc: Global,
-    ports: &Names,
-    wires: &Names,
+    ports: &NameSet,
+    wires: &NameSet,
     listing: &mut Listing,
     number: u32,
     text: &[u8],
@@ -86,8 +86,8 @@ fn push_line(
 // The listing in the lines before this one, at these ports and wires.
 fn read_lines(
     alloc: Global,
-    ports: &Names,
-    wires: &Names,
+    ports: &NameSet,
+    wires: &NameSet,
     bytes: &[u8],
     first: u32,
 ) -> Result<Listing, VFault>

@@ -9,22 +9,23 @@ ghost use Rattle.av_net.specs.Rows.{is_in, first_repeated, declared_twice, drive
 ghost use Rattle.av_vread.specs.inner.Reading.{said_item, said};
 ghost use Rattle.av_vread.specs.inner.Scoped.{texts};
 
-use crate::names::Names;
+use crate::names::set_of;
 use crate::parsed::{Item, Text};
 use crate::scope;
 use crate::widths::Widths;
 use av_base::{Memory, Name};
 use av_net::{Operand, Operation, Symbol};
+use av_table::NameSet;
 use std::alloc::Global;
 
 // ---- a name that is declared or driven twice
 
 // The first of the names that was seen or stands again.
-fn first_repeated<'a>(seen: &mut Names<'a>, names: &[&'a str]) -> Result<Option<&'a str>, Memory>
+fn first_repeated<'a>(seen: &mut NameSet<'a>, names: &[&'a str]) -> Result<Option<&'a str>, Memory>
     ensures { IfOk result (λ r. option_map (λ name. name.now) r ≡ first_repeated seen.old (texts names.now)) }
 {
     for name in names {
-        if !seen.insert(name)? {
+        if !seen.insert(name.as_bytes())? {
             return Ok(Some(name));
         }
     }
@@ -35,9 +36,9 @@ fn first_repeated<'a>(seen: &mut Names<'a>, names: &[&'a str]) -> Result<Option<
 pub(crate) fn declared_twice<'a>(alloc: Global, text: &'a Text) -> Result<Option<&'a str>, Memory>
     ensures { IfOk result (λ r. option_map (λ name. name.now) r ≡ declared_twice (said text.now)) }
 {
-    let mut seen = Names::new(alloc);
-    seen.insert("clk")?;
-    seen.insert("rst")?;
+    let mut seen = NameSet::new(alloc);
+    seen.insert(b"clk")?;
+    seen.insert(b"rst")?;
     let names = scope::declared(alloc, text)?;
     first_repeated(&mut seen, names.as_slice())
 }
@@ -46,23 +47,23 @@ pub(crate) fn declared_twice<'a>(alloc: Global, text: &'a Text) -> Result<Option
 pub(crate) fn driven_twice<'a>(alloc: Global, text: &'a Text) -> Result<Option<&'a str>, Memory>
     ensures { IfOk result (λ r. option_map (λ name. name.now) r ≡ driven_twice (said text.now)) }
 {
-    let mut seen = Names::new(alloc);
+    let mut seen = NameSet::new(alloc);
     let names = scope::driven(alloc, text.items.as_slice())?;
     first_repeated(&mut seen, names.as_slice())
 }
 
 // ---- a name that may not stand where it stands
 
-fn wrong_operand<'a>(all: &Names, operand: &'a Operand) -> Option<&'a Name>
+fn wrong_operand<'a>(all: &NameSet, operand: &'a Operand) -> Option<&'a Name>
     ensures { option_map (λ name. name.now) result ≡ wrong_operand (is_in all.now) operand.now }
 {
     match operand {
-        Operand::Name(name) if !all.contains(name.as_str()) => Some(name),
+        Operand::Name(name) if !all.contains(name.as_str().as_bytes()) => Some(name),
         _ => None,
     }
 }
 
-fn wrong_pair<'a>(all: &Names, left: &'a Operand, right: &'a Operand) -> Option<&'a Name>
+fn wrong_pair<'a>(all: &NameSet, left: &'a Operand, right: &'a Operand) -> Option<&'a Name>
     ensures { option_map (λ name. name.now) result ≡ first_some (wrong_operand (is_in all.now)) (left.now ∷ right.now ∷ []) }
 {
     match wrong_operand(all, left) {
@@ -71,7 +72,7 @@ fn wrong_pair<'a>(all: &Names, left: &'a Operand, right: &'a Operand) -> Option<
     }
 }
 
-fn wrong_operation<'a>(all: &Names, operation: &'a Operation) -> Option<&'a Name>
+fn wrong_operation<'a>(all: &NameSet, operation: &'a Operation) -> Option<&'a Name>
     ensures { option_map (λ name. name.now) result ≡ first_some (wrong_operand (is_in all.now)) (operands_of operation.now) }
 {
     match operation {
@@ -86,19 +87,19 @@ fn wrong_operation<'a>(all: &Names, operation: &'a Operation) -> Option<&'a Name
     }
 }
 
-fn wrong_item<'a>(wires: &Names, registers: &Names, all: &Names, item: &'a Item) -> Option<&'a Name>
+fn wrong_item<'a>(wires: &NameSet, registers: &NameSet, all: &NameSet, item: &'a Item) -> Option<&'a Name>
     ensures { option_map (λ name. name.now) result ≡ wrong_in (is_in wires.now) (is_in registers.now) (is_in all.now) (said_item item.now) }
 {
     match item {
         Item::Drive(drive) => {
-            if wires.contains(drive.target.as_str()) {
+            if wires.contains(drive.target.as_str().as_bytes()) {
                 wrong_operation(all, &drive.operation)
             } else {
                 Some(&drive.target)
             }
         }
         Item::Step(_, step) => {
-            if registers.contains(step.register.as_str()) {
+            if registers.contains(step.register.as_str().as_bytes()) {
                 wrong_operand(all, &step.next)
             } else {
                 Some(&step.register)
@@ -108,9 +109,9 @@ fn wrong_item<'a>(wires: &Names, registers: &Names, all: &Names, item: &'a Item)
 }
 
 fn first_wrong<'a>(
-    wires: &Names,
-    registers: &Names,
-    all: &Names,
+    wires: &NameSet,
+    registers: &NameSet,
+    all: &NameSet,
     items: &'a [Item],
 ) -> Option<&'a Name>
     ensures { option_map (λ name. name.now) result ≡ first_some (wrong_in (is_in wires.now) (is_in registers.now) (is_in all.now)) (map said_item items.now) }
@@ -136,11 +137,11 @@ pub(crate) fn wrong_name<'a>(alloc: Global, text: &'a Text) -> Result<Option<&'a
 // ---- a name that nothing drives
 
 // The first of the names that is not among others.
-fn first_missing<'a>(among: &Names, names: &[&'a str]) -> Option<&'a str>
+fn first_missing<'a>(among: &NameSet, names: &[&'a str]) -> Option<&'a str>
     ensures { option_map (λ name. name.now) result ≡ find (λ name. not (is_in among.now name)) (texts names.now) }
 {
     for name in names {
-        if !among.contains(name) {
+        if !among.contains(name.as_bytes()) {
             return Some(name);
         }
     }
@@ -152,23 +153,23 @@ pub(crate) fn undriven_name<'a>(alloc: Global, text: &'a Text) -> Result<Option<
     ensures { IfOk result (λ r. option_map (λ name. name.now) r ≡ undriven_name (said text.now)) }
 {
     let targets = scope::driven(alloc, text.items.as_slice())?;
-    let driven = Names::of(alloc, targets.as_slice())?;
+    let driven = set_of(alloc, targets.as_slice())?;
     let names = scope::drivable(alloc, text)?;
     Ok(first_missing(&driven, names.as_slice()))
 }
 
 // ---- a drive that reads what is not driven before it
 
-fn is_early(wires: &Names, earlier: &Names, operand: &Operand) -> bool
+fn is_early(wires: &NameSet, earlier: &NameSet, operand: &Operand) -> bool
     ensures { result ≡ is_early (is_in wires.now) (is_in earlier.now) operand.now }
 {
     match operand {
-        Operand::Name(name) => { wires.contains(name.as_str()) && !earlier.contains(name.as_str()) }
+        Operand::Name(name) => { wires.contains(name.as_str().as_bytes()) && !earlier.contains(name.as_str().as_bytes()) }
         Operand::Literal { .. } => false,
     }
 }
 
-fn operation_early(wires: &Names, earlier: &Names, operation: &Operation) -> bool
+fn operation_early(wires: &NameSet, earlier: &NameSet, operation: &Operation) -> bool
     ensures { result ≡ list_any (is_early (is_in wires.now) (is_in earlier.now)) (operands_of operation.now) }
 {
     match operation {
@@ -184,7 +185,7 @@ fn operation_early(wires: &Names, earlier: &Names, operation: &Operation) -> boo
     }
 }
 
-fn reads_early(wires: &Names, earlier: &Names, item: &Item) -> bool
+fn reads_early(wires: &NameSet, earlier: &NameSet, item: &Item) -> bool
     ensures { result ≡ reads_early (is_in wires.now) (is_in earlier.now) (said_item item.now) }
 {
     match item {
@@ -195,17 +196,17 @@ fn reads_early(wires: &Names, earlier: &Names, item: &Item) -> bool
 
 fn first_early<'a>(
     alloc: Global,
-    wires: &Names,
+    wires: &NameSet,
     items: &'a [Item],
 ) -> Result<Option<&'a Name>, Memory>
     ensures { IfOk result (λ r. option_map (λ name. name.now) r ≡ first_early (is_in wires.now) [] (map said_item items.now)) }
 {
-    let mut earlier = Names::new(alloc);
+    let mut earlier = NameSet::new(alloc);
     for item in items {
         if reads_early(wires, &earlier, item) {
             return Ok(Some(item.target()));
         }
-        earlier.insert(item.target().as_str())?;
+        earlier.insert(item.target().as_str().as_bytes())?;
     }
     Ok(None)
 }

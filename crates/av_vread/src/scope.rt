@@ -6,11 +6,12 @@ ghost use Rattle.av_net.specs.Rows.{is_in, declared_names, wires_of, registers_i
 ghost use Rattle.av_vread.specs.inner.Reading.{said_declaration, said_item, said};
 ghost use Rattle.av_vread.specs.inner.Scoped.{texts, Bytes, width_found};
 
-use crate::names::Names;
+use crate::names::set_of;
 use crate::parsed::{Declaration, Item, Text};
 use crate::widths::Widths;
 use av_base::Memory;
 use av_net::Port;
+use av_table::NameSet;
 use std::alloc::Global;
 
 fn push_ports<'a>(names: &mut Vec<&'a str>, ports: &'a [Port]) -> Result<(), Memory>
@@ -112,35 +113,35 @@ pub(crate) fn driven<'a>(alloc: Global, items: &'a [Item]) -> Result<Vec<&'a str
 }
 
 /// The input ports.
-pub(crate) fn inputs<'a>(alloc: Global, text: &'a Text) -> Result<Names<'a>, Memory>
+pub(crate) fn inputs<'a>(alloc: Global, text: &'a Text) -> Result<NameSet<'a>, Memory>
     ensures { IfOk result (λ set. (q : Bytes) → is_in set q ≡ is_in (names_of text.now.inputs) q) }
 {
     let mut names = Vec::new(alloc);
     push_ports(&mut names, text.inputs.as_slice())?;
-    Names::of(alloc, names.as_slice())
+    set_of(alloc, names.as_slice())
 }
 
 /// The names that an `assign` may drive.
-pub(crate) fn wires<'a>(alloc: Global, text: &'a Text) -> Result<Names<'a>, Memory>
+pub(crate) fn wires<'a>(alloc: Global, text: &'a Text) -> Result<NameSet<'a>, Memory>
     ensures { IfOk result (λ set. (q : Bytes) → is_in set q ≡ is_in (wire_names (module_of (said text.now))) q) }
 {
     let mut names = Vec::new(alloc);
     push_ports(&mut names, text.outputs.as_slice())?;
     push_wires(&mut names, text.declarations.as_slice())?;
-    Names::of(alloc, names.as_slice())
+    set_of(alloc, names.as_slice())
 }
 
 /// The names that an `always` may drive.
-pub(crate) fn registers<'a>(alloc: Global, text: &'a Text) -> Result<Names<'a>, Memory>
+pub(crate) fn registers<'a>(alloc: Global, text: &'a Text) -> Result<NameSet<'a>, Memory>
     ensures { IfOk result (λ set. (q : Bytes) → is_in set q ≡ is_in (names_of (module_of (said text.now)).registers) q) }
 {
     let mut names = Vec::new(alloc);
     push_registers(&mut names, text.declarations.as_slice())?;
-    Names::of(alloc, names.as_slice())
+    set_of(alloc, names.as_slice())
 }
 
 /// The names that an operand may be.
-pub(crate) fn readable<'a>(alloc: Global, text: &'a Text) -> Result<Names<'a>, Memory>
+pub(crate) fn readable<'a>(alloc: Global, text: &'a Text) -> Result<NameSet<'a>, Memory>
     ensures { IfOk result (λ set. (q : Bytes) → is_in set q ≡ is_in (all_names (module_of (said text.now))) q) }
 {
     let mut names = Vec::new(alloc);
@@ -148,7 +149,7 @@ pub(crate) fn readable<'a>(alloc: Global, text: &'a Text) -> Result<Names<'a>, M
     push_registers(&mut names, text.declarations.as_slice())?;
     push_ports(&mut names, text.outputs.as_slice())?;
     push_wires(&mut names, text.declarations.as_slice())?;
-    Names::of(alloc, names.as_slice())
+    set_of(alloc, names.as_slice())
 }
 
 fn insert_ports<'a>(widths: &mut Widths<'a>, ports: &'a [Port]) -> Result<(), Memory>

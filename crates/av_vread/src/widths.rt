@@ -6,14 +6,14 @@ ghost use Rattle.av_net.specs.Rows.{is_in};
 
 use av_base::{Memory, Width};
 use av_net::Port;
-use indexmap::IndexMap;
+use av_table::NameMap;
 use std::alloc::Global;
 use std::marker::Model;
 
 /// Declared names with their widths, each name once.
 #[derive(Drop)]
 pub(crate) struct Widths<'a> {
-    table: IndexMap<&'a str, Width>,
+    table: NameMap<'a, Width>,
 }
 
 impl<'a> Model for Widths<'a> {
@@ -22,7 +22,7 @@ impl<'a> Model for Widths<'a> {
 
     ghost Value = { Items Declared };
 
-    ghost view = { λ widths. map (λ entry. record { name = entry.0.now; width = entry.1 }) widths.table.entries };
+    ghost view = { λ widths. map (λ entry. record { name = entry.0; width = entry.1 }) widths.table };
 }
 
 impl<'a> Widths<'a> {
@@ -31,7 +31,7 @@ impl<'a> Widths<'a> {
         ensures { result ≡ [] }
     {
         Widths {
-            table: IndexMap::new(alloc),
+            table: NameMap::new(alloc),
         }
     }
 
@@ -39,21 +39,15 @@ impl<'a> Widths<'a> {
     pub(crate) fn insert(&mut self, port: &'a Port) -> Result<(), Memory>
         ensures { OnOk result (self.new ≡ (if is_in (names_of self.old) port.now.name then self.old else self.old ++ port.now ∷ [])) }
     {
-        let name = port.name.as_str();
-        if self.table.contains_key(name) {
-            return Ok(());
-        }
-        match self.table.insert(name, port.width) {
-            Ok(_) => Ok(()),
-            Err(_) => Err(Memory),
-        }
+        self.table
+            .insert(port.name.as_str().as_bytes(), port.width)
     }
 
     /// The width of a name, or one bit where it has none.
     pub(crate) fn bits(&self, name: &str) -> u32
         ensures { result ≡ width_in self.now name.now }
     {
-        match self.table.get(name) {
+        match self.table.get(name.as_bytes()) {
             Some(width) => width.bits,
             None => 1,
         }

@@ -1,5 +1,5 @@
 use Rattle.av_vread.proofs.RowWalks.{set_more}
-use Rattle.av_vread.proofs.names.Names.of.Goals as goal
+use Rattle.av_vread.proofs.names.set_of.Goals as goal
 
 pub loop-name-preserved : goal.loop-name-preserved
 loop-name-preserved c =
