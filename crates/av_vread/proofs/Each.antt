@@ -19,6 +19,10 @@ module _ {X : Type 0} (P : X → Type 0) where
   all_map f [] h = tt
   all_map f (y ∷ ys) h = (h.0, all_map f ys h.1)
 
+  pub all_unmap : {Y : Type 0} (f : Y → X) (ys : List Y) → AllByRecursion P (map f ys) → AllByRecursion (λ y. P (f y)) ys
+  all_unmap f [] h = tt
+  all_unmap f (y ∷ ys) h = (h.0, all_unmap f ys h.1)
+
   pub all_weaker : (Q : X → Type 0) → ((x : X) → P x → Q x) → (xs : List X) → AllByRecursion P xs → AllByRecursion Q xs
   all_weaker Q f [] h = tt
   all_weaker Q f (x ∷ xs) h = (f x h.0, all_weaker Q f xs h.1)

@@ -118,6 +118,18 @@ module _ (bytes : List ℕ) (x : Text) (line : ℕ) (s : Says bytes x line) wher
 
 -- ---- what an answer of checking tells
 
+-- the bytes say one text, whose module begins on one line
+pub one_said : (bytes : List ℕ) (x y : Text) (m n : ℕ) → Says bytes x m → Says bytes y n → (x ≡ y) × (m ≡ n)
+one_said bytes x y m n s t =
+    let tokens : s.tokens ≡ t.tokens = ok_tokens s.tokens t.tokens (sym (read_complete s.lexed (length bytes) (omega arith)) ∙ read_complete t.lexed (length bytes) (omega arith)) in
+    (ok_text x y (sym (text_gives s.tokens x s.parsed) ∙ ap text_at tokens ∙ text_gives t.tokens y t.parsed), sym s.begins ∙ ap first_line tokens ∙ t.begins)
+  where
+    ok_tokens : (a b : List Token) → ◌≡◌ {A = Lexed} (Ok a) (Ok b) → a ≡ b
+    ok_tokens a b e = cc
+
+    ok_text : (a b : Text) → ◌≡◌ {A = Result Text Place} (Ok a) (Ok b) → a ≡ b
+    ok_text a b e = cc
+
 says_by : (bytes : List ℕ) (tokens : List Token) (x : Text) → lexed_of (length bytes) start bytes ≡ Ok tokens → text_at tokens ≡ Ok x → Says bytes x (first_line tokens)
 says_by bytes tokens x e f = record { tokens = tokens; lexed = read_sound (length bytes) start bytes tokens e; parsed = text_took tokens x f; begins = refl }
 

@@ -32,7 +32,9 @@ pub mod WrittenBytes
 pub mod WrittenGrammar
 pub mod NoRows
 pub mod WrittenListing
+pub mod SpelledParts
 pub mod RoundTrip
+pub mod SoundOrFault
 pub mod Verdicts
 pub mod BeginningParts
 pub mod BeginningTexts

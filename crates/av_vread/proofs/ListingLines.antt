@@ -242,6 +242,9 @@ module _ (ports wires : List (List ℕ)) where
     listing_read lines listing h =
         ins_read listing.ins listing.ats lines no_lines refl h.spelled (recursion_from_All (MayBeListed ports) listing.ins h.ins) (recursion_from_All (MayBeListed wires) listing.ats h.ats)
 
+    pub one_listing : (lines : List Line) (a b : Listing) → IsListing ports wires lines a → IsListing ports wires lines b → a ≡ b
+    one_listing lines a b h k = ok_is a b (sym (listing_read lines a h) ∙ listing_read lines b k)
+
     -- ---- the first bad line
 
     number_in : (n m : ℕ) (s : Listing) (r : Option Entry) → with_in n s r ≡ Err m → n ≡ m

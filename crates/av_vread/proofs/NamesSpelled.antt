@@ -98,7 +98,7 @@ text_named {x = x} t n =
     }
 
 -- a name is a word
-name_word : (text : List ℕ) → IsName text → list_all is_word_byte text ≡ true
+pub name_word : (text : List ℕ) → IsName text → list_all is_word_byte text ≡ true
 name_word [] h = absurd h.0
 name_word (b ∷ text) h = word_all (b ∷ text) (first b h.0.0, recursion_from_All (λ x. is_word_byte x ≡ true) text h.0.1)
   where

@@ -19,7 +19,7 @@ use Rattle.av_net.specs.Rows.{wires_of, registers_in, drives_of, steps_of, modul
 use Rattle.av_net.specs.Designs.{HasNoRow}
 use Rattle.av_net.proofs.Distinct.{apart, front_distinct, rest_distinct, append_distinct}
 use Rattle.av_net.proofs.Declared.{width_here, register_declared, declared_width}
-use Rattle.av_vread.proofs.Each.{all_append, all_front, all_back, all_map, all_weaker, both_all}
+use Rattle.av_vread.proofs.Each.{all_append, all_front, all_back, all_map, all_unmap, all_weaker, both_all}
 use Rattle.av_base.proofs.Tables.{and_true, is_found, is_there}
 use Rattle.av_vread.proofs.WrittenGrammar.{reset_width, reset_bits, step_item, said}
 
@@ -149,24 +149,16 @@ right_operation names (operation.Choose c x y) h = nothing (wrong_operand (is_in
 abbrev wrong_of : Module → Item → Option (List ℕ)
 wrong_of m item = wrong_in (is_in (wire_names m)) (is_in (names_of m.registers)) (is_in (all_names m)) item
 
-pub targets_all : (P : List ℕ → Type 0) (ds : List Drive) → AllByRecursion P (targets_of ds) → AllByRecursion (λ d. P d.target) ds
-targets_all P [] h = tt
-targets_all P (d ∷ ds) h = (h.0, targets_all P ds h.1)
-
-pub registers_all : (P : List ℕ → Type 0) (ss : List Step) → AllByRecursion P (registers_of ss) → AllByRecursion (λ s. P s.register) ss
-registers_all P [] h = tt
-registers_all P (s ∷ ss) h = (h.0, registers_all P ss h.1)
-
 named_right : (m : Module) → IsSound m → first_some (wrong_of m) (said m).items ≡ None
 named_right m s =
     nothing (wrong_of m) (said m).items (items_all (λ item. wrong_of m item ≡ None) m
     (both_all (λ d. Contains (wire_names m) d.target) (λ d. EachOperand (IsAmong (all_names m)) d.operation) (λ d. wrong_of m (drive d) ≡ None)
     (λ d t o. rw (is_found d.target (wire_names m) t) (right_operation (all_names m) d.operation o)) m.drives
-    (targets_all (Contains (wire_names m)) m.drives (recursion_from_All (Contains (wire_names m)) (targets_of m.drives) s.drives_wires))
+    (all_unmap (Contains (wire_names m)) (λ d. d.target) m.drives (recursion_from_All (Contains (wire_names m)) (targets_of m.drives) s.drives_wires))
     (recursion_from_All (λ d. EachOperand (IsAmong (all_names m)) d.operation) m.drives s.drives_read))
     (both_all (λ t. Contains (names_of m.registers) t.register) (λ t. IsAmong (all_names m) t.next) (λ t. wrong_of m (step_item m.registers t) ≡ None)
     (λ t r o. rw (is_found t.register (names_of m.registers) r) (right_operand (all_names m) t.next o)) m.steps
-    (registers_all (Contains (names_of m.registers)) m.steps (recursion_from_All (Contains (names_of m.registers)) (registers_of m.steps) s.steps_registers))
+    (all_unmap (Contains (names_of m.registers)) (λ t. t.register) m.steps (recursion_from_All (Contains (names_of m.registers)) (registers_of m.steps) s.steps_registers))
     (recursion_from_All (λ t. IsAmong (all_names m) t.next) m.steps s.steps_read)))
 
 -- ---- names that are driven
@@ -279,7 +271,7 @@ suited m s =
     (λ t r h. ap not (and_true (nat_eq (reset_width m.registers t.register).bits (width_of m t.register)) _
     (equal (reset_width m.registers t.register).bits (width_of m t.register) (reset_bits m.registers t.register ∙ register_width m s t.register r))
     (equal (operand_width (width_of m) t.next) (width_of m t.register) h))) m.steps
-    (registers_all (Contains (names_of m.registers)) m.steps (recursion_from_All (Contains (names_of m.registers)) (registers_of m.steps) s.steps_registers))
+    (all_unmap (Contains (names_of m.registers)) (λ t. t.register) m.steps (recursion_from_All (Contains (names_of m.registers)) (registers_of m.steps) s.steps_registers))
     (recursion_from_All (λ t. operand_width (width_of m) t.next ≡ width_of m t.register) m.steps s.step_widths)))
 
 -- ---- all rows

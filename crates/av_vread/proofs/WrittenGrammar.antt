@@ -4,6 +4,7 @@ use Rattle.std.specs.Prelude.{codes, decimal}
 use Rattle.std.specs.List.{AllByRecursion}
 use Rattle.std.specs.Str.{bytes_eq}
 use Rattle.std.proofs.Math.Nat.{pow-le-pow_right}
+use Rattle.std.proofs.lemmas.List.Elements.{recursion_from_All}
 use Rattle.av_base.specs.declared.place.Place.{Place}
 use Rattle.av_base.specs.declared.width.Width.{Width}
 use Rattle.av_base.specs.Words.{IsWord}
@@ -18,9 +19,10 @@ use Rattle.av_net.specs.declared.netlist.Step.{Step}
 use Rattle.av_net.specs.declared.netlist.Module.{Module}
 use Rattle.av_net.specs.Meaning.{EachOperand}
 use Rattle.av_net.specs.Names.{clk, rst, width_in}
-use Rattle.av_net.specs.Sound.{IsFitting, ComparesByOrder}
+use Rattle.av_net.specs.Sound.{ComparesByOrder}
 use Rattle.av_net.specs.Lexemes.{Token}
 use Rattle.av_net.specs.Grammar.{Text, wire, register, Item, drive, step, AreWords, no_word, next_word, IsNameAt, name, number, IsLiteral, literal, end, IsRange, range, IsPort, IsDeclaration, wire_declaration, register_declaration, IsOperand, named, constant, spelling, IsSigned, IsOperation, plain, binary, signed, choice, IsDrive, IsEdge, IsItem, assignment, at_an_edge, AreMany, no_more, one_more, IsClocked, IsText}
+use Rattle.av_vread.specs.SpelledParts.{IsOperandSpelled, IsDriveSpelled, IsStepSpelled, IsModuleSpelled}
 use Rattle.av_vread.proofs.Numerals.{number_digits, number_value}
 use Rattle.av_vread.proofs.Spaced.{Written, past, passed, tokens_from}
 use Rattle.av_vread.proofs.WrittenParts as part
@@ -111,11 +113,11 @@ literal_is width value h =
       fits = h;
     }
 
-operand_is : (p : Place) (x : Operand) (after : List ℕ) (ws : List Written) → IsFitting x → IsOperand (tokens_from p (operand_part x after ∷ ws)) (tokens_from (past p (operand_part x after)) ws) x
+operand_is : (p : Place) (x : Operand) (after : List ℕ) (ws : List Written) → IsOperandSpelled x → IsOperand (tokens_from p (operand_part x after ∷ ws)) (tokens_from (past p (operand_part x after)) ws) x
 operand_is p (operand.Name n) after ws h = named (name refl refl)
-operand_is p (operand.Literal width value) after ws h = constant (literal refl (literal_is width value h))
+operand_is p (operand.Literal width value) after ws h = constant (literal refl (literal_is width value h.2))
 
-signed_is : (p : Place) (x : Operand) (after : List ℕ) (ws : List Written) → IsFitting x → IsSigned (tokens_from p (signed_parts x after ++ ws)) (tokens_from (passed p (signed_parts x after)) ws) x
+signed_is : (p : Place) (x : Operand) (after : List ℕ) (ws : List Written) → IsOperandSpelled x → IsSigned (tokens_from p (signed_parts x after ++ ws)) (tokens_from (passed p (signed_parts x after)) ws) x
 signed_is p x after ws h =
     let q = past (past p part.system) (part.symbol (codes "(") []) in
     record {
@@ -126,7 +128,7 @@ signed_is p x after ws h =
       closes = next_word no_symbol refl no_word;
     }
 
-operation_is : (p : Place) (o : Operation) (ws : List Written) → EachOperand IsFitting o → ComparesByOrder o → IsOperation (tokens_from p (operation_parts o ++ ws)) (tokens_from (passed p (operation_parts o)) ws) o
+operation_is : (p : Place) (o : Operation) (ws : List Written) → EachOperand IsOperandSpelled o → ComparesByOrder o → IsOperation (tokens_from p (operation_parts o ++ ws)) (tokens_from (passed p (operation_parts o)) ws) o
 operation_is p (operation.Plain x) ws h k = plain (operand_is p x [] ws h)
 operation_is p (operation.Binary x s y) ws h k =
     binary (operand_is p x (codes " ") (part.symbol (spelling s) (codes " ") ∷ operand_part y [] ∷ ws) h.0) (next_word no_symbol refl no_word)
@@ -143,12 +145,7 @@ operation_is p (operation.Choose c x y) ws h k =
 
 -- ---- items
 
--- a drive whose numbers fit, and which compares signed words by orders alone
-pub record IsDriveRight (d : Drive) : Type 0 where
-  pub fits : EachOperand IsFitting d.operation
-  pub orders : ComparesByOrder d.operation
-
-drive_is : (p : Place) (d : Drive) (ws : List Written) → IsDriveRight d → Then (λ ts rest. IsDrive ts rest d) (tokens_from p (drive_onto d ws)) ws
+drive_is : (p : Place) (d : Drive) (ws : List Written) → IsDriveSpelled d → Then (λ ts rest. IsDrive ts rest d) (tokens_from p (drive_onto d ws)) ws
 drive_is p d ws h =
     let q = past (past (past p (part.indented (codes "assign"))) (part.named d.target (codes " "))) (part.symbol (codes "=") (codes " ")) in
     let r = passed q (operation_parts d.operation) in
@@ -162,12 +159,12 @@ drive_is p d ws h =
         assigns = next_word no_reserved refl no_word;
         target = name refl refl;
         equals = next_word no_symbol refl no_word;
-        operation = operation_is q d.operation (end_of_line ∷ ws) h.fits h.orders;
+        operation = operation_is q d.operation (end_of_line ∷ ws) h.operands h.order;
         ends = next_word no_symbol refl no_word;
       };
     }
 
-drives_are : (p : Place) (drives : List Drive) (ws : List Written) → AllByRecursion IsDriveRight drives → Then (λ ts rest. AreMany IsItem ts rest (map drive drives)) (tokens_from p (drives_onto drives ws)) ws
+drives_are : (p : Place) (drives : List Drive) (ws : List Written) → AllByRecursion IsDriveSpelled drives → Then (λ ts rest. AreMany IsItem ts rest (map drive drives)) (tokens_from p (drives_onto drives ws)) ws
 drives_are p [] ws h = record { place = p; is = no_more }
 drives_are p (d ∷ drives) ws h =
     let one = drive_is p d (drives_onto drives ws) h.0 in
@@ -201,11 +198,6 @@ reset_bits (port ∷ ports) n = go (bytes_eq port.name n) (reset_bits ports n)
     go true e = refl
     go false e = e
 
--- a step whose numbers fit
-pub record IsStepRight (registers : List Port) (s : Step) : Type 0 where
-  pub reset : IsWord (width_in registers s.register) s.reset
-  pub next : IsFitting s.next
-
 reset_is : (registers : List Port) (s : Step) → IsWord (width_in registers s.register) s.reset
     → IsLiteral (decimal (width_in registers s.register) ++ (39 ∷ 100 ∷ decimal s.reset)) (reset_width registers s.register) s.reset
 reset_is registers s h =
@@ -216,7 +208,7 @@ reset_is registers s h =
 abbrev pub step_item : List Port → Step → Item
 step_item registers s = step (reset_width registers s.register) s
 
-step_is : (p : Place) (registers : List Port) (s : Step) (ws : List Written) → IsStepRight registers s
+step_is : (p : Place) (registers : List Port) (s : Step) (ws : List Written) → IsStepSpelled registers s
     → Then (λ ts rest. IsItem ts rest (step_item registers s)) (tokens_from p (step_onto (width_in registers s.register) s ws)) ws
 step_is p registers s ws h =
     let bits = width_in registers s.register in
@@ -247,7 +239,7 @@ step_is p registers s ws h =
       });
     }
 
-steps_are : (p : Place) (registers : List Port) (steps : List Step) (ws : List Written) → AllByRecursion (IsStepRight registers) steps
+steps_are : (p : Place) (registers : List Port) (steps : List Step) (ws : List Written) → AllByRecursion (IsStepSpelled registers) steps
     → Then (λ ts rest. AreMany IsItem ts rest (map (step_item registers) steps)) (tokens_from p (steps_onto registers steps ws)) ws
 steps_are p registers [] ws h = record { place = p; is = no_more }
 steps_are p registers (s ∷ steps) ws h =
@@ -267,10 +259,6 @@ said m = record {
   items = map drive m.drives ++ map (step_item m.registers) m.steps;
 }
 
-pub record IsModuleRight (m : Module) : Type 0 where
-  pub drives : AllByRecursion IsDriveRight m.drives
-  pub steps : AllByRecursion (IsStepRight m.registers) m.steps
-
 clocked_is : (p : Place) (ws : List Written) → IsClocked (tokens_from p (part.symbol (codes "(") [] ∷ part.word (codes "input") (codes " ") ∷ part.named clk [] ∷ part.symbol (codes ",") (codes " ")
     ∷ part.word (codes "input") (codes " ") ∷ part.named rst [] ∷ ws))
     (tokens_from (passed p (part.symbol (codes "(") [] ∷ part.word (codes "input") (codes " ") ∷ part.named clk [] ∷ part.symbol (codes ",") (codes " ") ∷ part.word (codes "input") (codes " ") ∷ part.named rst [] ∷ [])) ws)
@@ -284,7 +272,7 @@ clocked_is p ws = record {
   reset = name refl refl;
 }
 
-pub module_is : (p : Place) (m : Module) → IsModuleRight m → IsText (tokens_from p (module_parts m)) (said m)
+pub module_is : (p : Place) (m : Module) → IsModuleSpelled m → IsText (tokens_from p (module_parts m)) (said m)
 module_is p m h =
     let n = past (past p (part.word (codes "module") (codes " "))) (part.named m.name []) in
     let rest = ports_onto (codes "input") m.inputs (ports_onto (codes "output") m.outputs (closed_onto m)) in
@@ -293,8 +281,8 @@ module_is p m h =
     let q = past (past outs.place (part.symbol (codes ")") [])) end_of_line in
     let wires = wires_are q m.wires (declarations_onto (codes "reg") m.registers (items_onto m)) in
     let registers = registers_are wires.place m.registers (items_onto m) in
-    let drives = drives_are registers.place m.drives (steps_onto m.registers m.steps (part.word (codes "endmodule") (codes "\n") ∷ [])) h.drives in
-    let steps = steps_are drives.place m.registers m.steps (part.word (codes "endmodule") (codes "\n") ∷ []) h.steps in
+    let drives = drives_are registers.place m.drives (steps_onto m.registers m.steps (part.word (codes "endmodule") (codes "\n") ∷ [])) (recursion_from_All IsDriveSpelled m.drives h.drives) in
+    let steps = steps_are drives.place m.registers m.steps (part.word (codes "endmodule") (codes "\n") ∷ []) (recursion_from_All (IsStepSpelled m.registers) m.steps h.steps) in
     record {
       a = _;
       b = _;

@@ -11,6 +11,7 @@ use Rattle.av_net.specs.declared.design.Listing.{Listing}
 use Rattle.av_net.specs.Lexemes.{Token, AreTokens, blank, comment}
 use Rattle.av_net.specs.Texts.{entry_line, listing_text, point_text, entries_text}
 use Rattle.av_net.specs.Listed.{longer, lines_of, numbered, is_listed, line_text}
+use Rattle.av_vread.specs.SpelledParts.{IsEntrySpelled}
 use Rattle.av_vread.specs.inner.Lines.{is_not}
 use Rattle.av_vread.proofs.Each.{all_append, all_map, all_weaker}
 use Rattle.av_base.proofs.Tables.{both}
@@ -19,7 +20,8 @@ use Rattle.av_vread.proofs.Cuts.{Without}
 use Rattle.av_vread.proofs.Numerals.{decimal_digits}
 use Rattle.av_vread.proofs.Indices.{digits_without, indices_without, without_append}
 use Rattle.av_base.proofs.Spelled.{name_gives}
-use Rattle.av_vread.proofs.EntryLines.{body, variable_word, MayBeRead}
+use Rattle.av_vread.proofs.EntryLines.{body, variable_word}
+use Rattle.av_vread.proofs.NamesSpelled.{name_word}
 use Rattle.av_vread.proofs.ListingLines.{texts_of}
 
 -- ---- lines, one after another
@@ -92,18 +94,18 @@ module _ (c : ℕ) (out : EndsLines c) where
       digit_word : (b : ℕ) → is_ascii_digit b ≡ true → is_word_byte b ≡ true
       digit_word b h = grind arith
 
-  body_out : (wires : List (List ℕ)) (e : Entry) → MayBeRead wires e → Without c (body e)
-  body_out wires e h =
-      let variable = words_out e.variable (variable_word e.variable (name_gives e.variable h.listed.variable)) in
-      let indices : Without c (entries_text e.point) = indices_without c (digits_out, minus) comma e.point (recursion_from_All (λ i. nat_abs i ≤ 4095) e.point h.listed.index) in
+  body_out : (e : Entry) → IsEntrySpelled e → Without c (body e)
+  body_out e h =
+      let variable = words_out e.variable (variable_word e.variable (name_gives e.variable h.variable)) in
+      let indices : Without c (entries_text e.point) = indices_without c (digits_out, minus) comma e.point (recursion_from_All (λ i. nat_abs i ≤ 4095) e.point h.index) in
       let point : Without c (point_text e.point) = (opening, without_append c (entries_text e.point) (codes ")") indices (closing, tt)) in
-      let cycle : Without c (decimal e.cycle) = digits_without c digits_out (decimal e.cycle) (decimal_digits e.cycle h.listed.cycle) in
+      let cycle : Without c (decimal e.cycle) = digits_without c digits_out (decimal e.cycle) (decimal_digits e.cycle h.cycle) in
       let blank : Without c (codes " ") = (space, tt) in
       without_append c (e.variable ++ codes " " ++ point_text e.point ++ codes " " ++ e.wire ++ codes " ") (decimal e.cycle)
       (without_append c (e.variable ++ codes " " ++ point_text e.point ++ codes " " ++ e.wire) (codes " ")
       (without_append c (e.variable ++ codes " " ++ point_text e.point ++ codes " ") e.wire
       (without_append c (e.variable ++ codes " " ++ point_text e.point) (codes " ")
-      (without_append c (e.variable ++ codes " ") (point_text e.point) (without_append c e.variable (codes " ") variable blank) point) blank) (words_out e.wire h.worded)) blank) cycle
+      (without_append c (e.variable ++ codes " ") (point_text e.point) (without_append c e.variable (codes " ") variable blank) point) blank) (words_out e.wire (name_word e.wire h.wire))) blank) cycle
 
 -- ---- comment lines
 
@@ -114,20 +116,20 @@ pub record IsCommentLine (line : List ℕ) : Type 0 where
   pub no_feed : Without 10 line
   pub no_return : Without 13 line
 
-in_line : (wires : List (List ℕ)) (e : Entry) → MayBeRead wires e → IsCommentLine (line_text (codes "in") e)
-in_line wires e h = record {
+in_line : (e : Entry) → IsEntrySpelled e → IsCommentLine (line_text (codes "in") e)
+in_line e h = record {
   more = codes " in " ++ body e;
   slashes = refl;
-  no_feed = (refl, (refl, (refl, (refl, (refl, (refl, body_out 10 feed_ends wires e h))))));
-  no_return = (refl, (refl, (refl, (refl, (refl, (refl, body_out 13 return_ends wires e h))))));
+  no_feed = (refl, (refl, (refl, (refl, (refl, (refl, body_out 10 feed_ends e h))))));
+  no_return = (refl, (refl, (refl, (refl, (refl, (refl, body_out 13 return_ends e h))))));
 }
 
-at_line : (wires : List (List ℕ)) (e : Entry) → MayBeRead wires e → IsCommentLine (line_text (codes "at") e)
-at_line wires e h = record {
+at_line : (e : Entry) → IsEntrySpelled e → IsCommentLine (line_text (codes "at") e)
+at_line e h = record {
   more = codes " at " ++ body e;
   slashes = refl;
-  no_feed = (refl, (refl, (refl, (refl, (refl, (refl, body_out 10 feed_ends wires e h))))));
-  no_return = (refl, (refl, (refl, (refl, (refl, (refl, body_out 13 return_ends wires e h))))));
+  no_feed = (refl, (refl, (refl, (refl, (refl, (refl, body_out 10 feed_ends e h))))));
+  no_return = (refl, (refl, (refl, (refl, (refl, (refl, body_out 13 return_ends e h))))));
 }
 
 pub version_comment : IsCommentLine (codes "// alphav 1")
@@ -138,10 +140,11 @@ version_comment = record {
   no_return = (refl, (refl, (refl, (refl, (refl, (refl, (refl, (refl, (refl, (refl, (refl, tt)))))))))));
 }
 
-pub entry_comments : (ports wires : List (List ℕ)) (listing : Listing) → AllByRecursion (MayBeRead ports) listing.ins → AllByRecursion (MayBeRead wires) listing.ats → AllByRecursion IsCommentLine (entry_lines listing)
-entry_comments ports wires listing h k =
+pub entry_comments : (listing : Listing) → AllByRecursion IsEntrySpelled listing.ins → AllByRecursion IsEntrySpelled listing.ats → AllByRecursion IsCommentLine (entry_lines listing)
+entry_comments listing h k =
     all_append IsCommentLine (map (line_text (codes "in")) listing.ins) (map (line_text (codes "at")) listing.ats)
-    (all_map IsCommentLine (line_text (codes "in")) listing.ins (all_weaker (MayBeRead ports) (λ e. IsCommentLine (line_text (codes "in") e)) (in_line ports) listing.ins h)) (all_map IsCommentLine (line_text (codes "at")) listing.ats (all_weaker (MayBeRead wires) (λ e. IsCommentLine (line_text (codes "at") e)) (at_line wires) listing.ats k))
+    (all_map IsCommentLine (line_text (codes "in")) listing.ins (all_weaker IsEntrySpelled (λ e. IsCommentLine (line_text (codes "in") e)) in_line listing.ins h))
+    (all_map IsCommentLine (line_text (codes "at")) listing.ats (all_weaker IsEntrySpelled (λ e. IsCommentLine (line_text (codes "at") e)) at_line listing.ats k))
 
 -- ---- what is read behind them
 

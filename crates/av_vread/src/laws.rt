@@ -6,6 +6,7 @@ ghost use Rattle.av_net.specs.Texts.{text};
 ghost use Rattle.av_net.specs.Designs.{Spells, IsSoundDesign};
 ghost use Rattle.av_vread.specs.declared.fault.VFault.{VFault as Fault};
 ghost use Rattle.av_vread.specs.Faults.{IsFault};
+ghost use Rattle.av_vread.specs.SpelledParts.{HasSpelledParts};
 
 /// A law: a text spells at most one design.
 pub fn one_design()
@@ -33,4 +34,13 @@ pub fn read_back()
 pub fn one_text()
     ensures { (some other : Spelled) → IsSoundDesign some → IsSoundDesign other → text some ≡ text other
         → some ≡ other }
+{}
+
+/// A law: a design whose parts the grammar can spell is sound, or its own text has a first fault, and never both. The
+/// parts of each sound design are such.
+pub fn sound_or_fault()
+    ensures either { (design : Spelled) → HasSpelledParts design
+        → IsSoundDesign design ⊎ ((f : Fault) × IsFault (text design) f) }
+    ensures spelled { (design : Spelled) → IsSoundDesign design → HasSpelledParts design }
+    ensures not_both { (design : Spelled) (f : Fault) → IsSoundDesign design → IsFault (text design) f → ⊥ }
 {}

@@ -22,4 +22,6 @@ mod widths;
 
 pub use design::read_design;
 pub use fault::VFault;
-pub use laws::{design_or_fault, one_design, one_text, read_back, spelled_is_sound};
+pub use laws::{
+    design_or_fault, one_design, one_text, read_back, sound_or_fault, spelled_is_sound,
+};

@@ -1,0 +1,92 @@
+-- A design whose parts are spelled is sound, or its own text has a first fault.
+use Rattle.std.proofs.Common.{◌≡◌, ℕ, List, ◌++◌, map, ap, subst, ◌∙◌, inl, inr, ◌⊎◌}
+use Rattle.std.specs.Prelude.{All, Contains}
+use Rattle.std.proofs.lemmas.List.Elements.{All-from_recursion, recursion_from_All, All-contains_itself, All-weaker, All-append, All-map, Contains-append_left, Contains-append_right}
+use Rattle.av_net.specs.declared.netlist.Module.{Module}
+use Rattle.av_net.specs.declared.design.Entry.{Entry}
+use Rattle.av_net.specs.declared.design.Listing.{Listing}
+use Rattle.av_net.specs.declared.design.Design.{Design}
+use Rattle.av_net.specs.Names.{names_of, wire_names}
+use Rattle.av_net.specs.Lexemes.{IsName}
+use Rattle.av_net.specs.Listed.{Line, listing_lines, MayBeListed, IsListing}
+use Rattle.av_net.specs.Rows.{module_of}
+use Rattle.av_net.specs.Texts.{text}
+use Rattle.av_net.specs.Designs.{Spells, IsSoundDesign}
+use Rattle.av_vread.specs.declared.fault.VFault.{VFault}
+use Rattle.av_vread.specs.Faults.{IsFault}
+use Rattle.av_vread.specs.SpelledParts.{IsEntrySpelled, HasSpelledParts}
+use Rattle.av_vread.proofs.Each.{all_unmap, both_all}
+use Rattle.av_vread.proofs.NamesSpelled.{tokens_named, text_named, are_words}
+use Rattle.av_vread.proofs.ListingLines.{texts_of, one_listing}
+use Rattle.av_vread.proofs.Faulted.{one_said, either, not_both}
+use Rattle.av_vread.proofs.SoundDesigns.{spelled_sound}
+use Rattle.av_vread.proofs.WrittenGrammar.{said}
+use Rattle.av_vread.proofs.WrittenListing.{entry_lines}
+use Rattle.av_vread.proofs.NoRows.{module_said}
+use Rattle.av_vread.proofs.RoundTrip.{module_line, says, lines_told, read_back}
+
+-- ---- entries, at the wires that they name
+
+abbrev own_wires : List Entry → List (List ℕ)
+own_wires entries = map (λ e. e.wire) entries
+
+own_named : (entries : List Entry) → All IsEntrySpelled entries → All IsName (own_wires entries)
+own_named entries h = All-map IsName (λ e. e.wire) entries (All-weaker IsEntrySpelled (λ e. IsName e.wire) (λ e s. s.wire) entries h)
+
+-- they may be listed at their own wires, whatever others there are
+at_own : (others : List (List ℕ)) (entries : List Entry) → All IsEntrySpelled entries → All (MayBeListed (others ++ own_wires entries)) entries
+at_own others entries h =
+    let wires = own_wires entries in
+    All-from_recursion (MayBeListed (others ++ wires)) entries
+    (both_all IsEntrySpelled (λ e. Contains wires e.wire) (MayBeListed (others ++ wires))
+    (λ e s c. record { variable = s.variable; indices = s.indices; index = s.index; wire = Contains-append_right others wires e.wire c; cycle = s.cycle }) entries
+    (recursion_from_All IsEntrySpelled entries h) (all_unmap (Contains wires) (λ e. e.wire) entries (recursion_from_All (Contains wires) wires (All-contains_itself wires))))
+
+-- and where they may be listed, with more wires too
+at_more : (wires more : List (List ℕ)) (entries : List Entry) → All (MayBeListed wires) entries → All (MayBeListed (wires ++ more)) entries
+at_more wires more entries h =
+    All-weaker (MayBeListed wires) (MayBeListed (wires ++ more))
+    (λ e s. record { variable = s.variable; indices = s.indices; index = s.index; wire = Contains-append_left wires more e.wire s.wire; cycle = s.cycle }) entries h
+
+-- the lines of a listing tell no other
+same_listing : (ports wires : List (List ℕ)) (lines : List Line) (a b : Listing) → All IsName ports → All IsName wires → IsListing ports wires lines a
+    → texts_of lines ≡ entry_lines b → All IsEntrySpelled b.ins → All IsEntrySpelled b.ats → a ≡ b
+same_listing ports wires lines a b p w h e ins ats =
+    let more_ports = ports ++ own_wires b.ins in
+    let more_wires = wires ++ own_wires b.ats in
+    one_listing more_ports more_wires (are_words more_ports (All-append IsName ports (own_wires b.ins) p (own_named b.ins ins)))
+    (are_words more_wires (All-append IsName wires (own_wires b.ats) w (own_named b.ats ats))) lines a b
+    (record { spelled = h.spelled; ins = at_more ports (own_wires b.ins) a.ins h.ins; ats = at_more wires (own_wires b.ats) a.ats h.ats })
+    (record { spelled = e; ins = at_own ports b.ins ins; ats = at_own wires b.ats ats })
+
+-- ---- what the text of a design spells is that design
+
+module _ (d other : Design) (spelled : HasSpelledParts d) (s : Spells (text d) other) where
+  same : (s.said ≡ said d.«module») × (s.line ≡ module_line d spelled)
+  same = one_said (text d) s.said (said d.«module») s.line (module_line d spelled) s.says (says d spelled)
+
+  modules : other.«module» ≡ d.«module»
+  modules = s.is_module ∙ ap module_of same.0 ∙ module_said d.«module»
+
+  listings : other.listing ≡ d.listing
+  listings =
+      let named = text_named s.says.parsed (tokens_named s.says.lexed) in
+      same_listing (names_of s.said.inputs) (wire_names (module_of s.said)) (listing_lines (text d) s.line) other.listing d.listing named.inputs named.wires s.lists
+      (ap (λ n. texts_of (listing_lines (text d) n)) same.1 ∙ lines_told d spelled) spelled.ins spelled.ats
+
+  abbrev designed : Listing → Module → Design
+  designed listing m = record { listing = listing; «module» = m }
+
+  itself : other ≡ d
+  itself = ap (λ l. designed l other.«module») listings ∙ ap (designed d.listing) modules
+
+-- ---- the clauses
+
+pub sound_or_fault : (d : Design) → HasSpelledParts d → IsSoundDesign d ⊎ ((f : VFault) × IsFault (text d) f)
+sound_or_fault d spelled = elim (either (text d)) [
+  | inl read ↦ inl (subst IsSoundDesign (itself d read.0 spelled read.1) (spelled_sound (text d) read.0 read.1))
+  | inr fault ↦ inr fault
+]
+
+pub no_fault : (d : Design) (f : VFault) → IsSoundDesign d → IsFault (text d) f → ⊥
+no_fault d f sound fault = not_both (text d) d f (read_back d sound) fault
