@@ -1,5 +1,5 @@
 -- The walks of the rows of faults.
-use Rattle.std.proofs.Common.{◌≡◌, ℕ, suc, ◌+◌, ◌<◌, false, cond, not, List, [], ◌∷◌, ◌++◌, length, drop, get_or, map, Option, Some, refl, sym, ap, ◌∙◌, arith, append_assoc, drop-cons}
+use Rattle.std.proofs.Common.{◌≡◌, ℕ, suc, ◌+◌, ◌<◌, false, cond, not, List, [], ◌∷◌, ◌++◌, length, drop, get_or, map, Option, Some, refl, sym, ap, subst, ◌∙◌, arith, append_assoc, drop-cons}
 use Rattle.std.specs.Prelude.{◌||◌, OnOk, Result, Ok, Err, find, if◌then◌else◌}
 use Rattle.std.proofs.Math.Path.{fun_ext}
 use Rattle.std.proofs.lemmas.List.{append-nil}
@@ -18,6 +18,10 @@ use denote.Ref.{Bor}
 -- two lists with the same names are the same test
 pub same_test : (a b : List (List ℕ)) → ((q : List ℕ) → is_in a q ≡ is_in b q) → is_in a ≡ is_in b
 same_test a b h = fun_ext h
+
+-- a set with a name more, where the name is known by another term
+pub set_as : (set set' : List Bytes) (key name : Bytes) → set' ≡ (if is_in set key then set else (set ++ key ∷ [])) → key ≡ name → set' ≡ (if is_in set name then set else (set ++ name ∷ []))
+set_as set set' key name e is = subst (λ (n : Bytes). set' ≡ (if is_in set n then set else (set ++ n ∷ []))) is e
 
 pub set_more : (names : List (Bor Bytes)) (i : ℕ) (d : Bor Bytes) (set set' : List Bytes) (q : Bytes) → i < length names
     → set' ≡ (if is_in set (get_or names i d).now then set else (set ++ (get_or names i d).now ∷ []))

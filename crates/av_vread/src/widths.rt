@@ -40,7 +40,8 @@ impl<'a> Widths<'a> {
         ensures { OnOk result (self.new ≡ (if is_in (names_of self.old) port.now.name then self.old else self.old ++ port.now ∷ [])) }
     {
         self.table
-            .insert(port.name.as_str().as_bytes(), port.width)
+            .insert(port.name.as_str().as_bytes(), port.width)?;
+        Ok(())
     }
 
     /// The width of a name, or one bit where it has none.
