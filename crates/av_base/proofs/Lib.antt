@@ -6,3 +6,7 @@ pub mod Tables
 pub mod Runs
 pub mod Spelled
 pub mod Longest
+pub mod Pieces
+pub mod Turns
+pub mod Readings
+pub mod Symbols
