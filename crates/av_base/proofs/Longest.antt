@@ -1,13 +1,17 @@
 -- The token that is found at the front of a text is the longest one, whatever the language is.
-use Rattle.std.proofs.Common.{◌≡◌, ℕ, ◌<◌, ◌≤◌, Bool, true, false, cond, List, [], ◌∷◌, ◌++◌, length, take, drop, refl, sym, ap, subst, ◌∙◌, arith}
+use Rattle.std.proofs.Common.{◌≡◌, ℕ, suc, ◌+◌, ◌<◌, ◌≤◌, Bool, true, false, cond, List, [], ◌∷◌, ◌++◌, length, take, drop, refl, sym, ap, subst, ◌∙◌, arith}
+use Rattle.std.specs.Prelude.{All}
 use Rattle.std.specs.List.{prefix_len, AllByRecursion}
+use Rattle.std.proofs.Math.Numerals.{one-add}
 use Rattle.std.proofs.Math.Seq.{take-append_seam}
 use Rattle.std.proofs.lemmas.List.{length-take, take-append-drop}
+use Rattle.std.proofs.lemmas.List.Elements.{All-from_recursion, recursion_from_All}
+use Rattle.std.proofs.lemmas.List.Sums.{prefix_len-le-length}
 use Rattle.av_base.specs.declared.piece.Piece.{Piece}
 use Rattle.av_base.specs.declared.piece.Piece.TheVariants as piece
 use Rattle.av_base.specs.Lexicon.{Lexicon, IsLongest, BeginsNone, is_blank}
 use Rattle.av_base.specs.inner.Reading.{Scanner}
-use Rattle.av_base.proofs.Runs.{run_covers}
+use Rattle.av_base.proofs.Runs.{run_covers, run_all}
 
 -- ---- what a scanner shows of its lexicon
 
@@ -44,7 +48,7 @@ pub record Finds {Kind Fault : Type 0} (lexicon : Lexicon Kind) (scanner : Scann
 -- ---- what its parts show
 
 -- a run of bytes is covered by the token of all bytes that go on so
-pub run_covered : {Kind : Type 0} (kind_of : List ℕ → Kind) (p : ℕ → Bool) (k : Kind) (front back : List ℕ) (found : Piece Kind)
+run_covered : {Kind : Type 0} (kind_of : List ℕ → Kind) (p : ℕ → Bool) (k : Kind) (front back : List ℕ) (found : Piece Kind)
     → AllByRecursion (λ x. p x ≡ true) front → kind_of front ≡ k → found ≡ piece.Token (kind_of (take (prefix_len p (front ++ back)) (front ++ back))) (prefix_len p (front ++ back)) → Covers k (length front) found
 run_covered kind_of p k front back found all w e = record {
   kind = kind_of (take (prefix_len p (front ++ back)) (front ++ back));
@@ -53,6 +57,27 @@ run_covered kind_of p k front back found all w e = record {
   no_less = run_covers p front back all;
   same = λ h. sym (ap kind_of (ap (λ z. take z (front ++ back)) (sym h) ∙ take-append_seam front back) ∙ w);
 }
+
+-- the same of a run that is told by its first byte
+pub run_token_covers : {Kind : Type 0} (kind_of : List ℕ → Kind) (is_first p : ℕ → Bool) (token_of : ℕ → List ℕ → Piece Kind) → ((b : ℕ) → is_first b ≡ true → p b ≡ true)
+    → ((b : ℕ) (text : List ℕ) → is_first b ≡ true → token_of b text ≡ piece.Token (kind_of (take (prefix_len p text) text)) (prefix_len p text))
+    → (k : Kind) (x : ℕ) (front back : List ℕ) → is_first x ≡ true → All (λ x. p x ≡ true) front → kind_of (x ∷ front) ≡ k → (b : ℕ) (bytes : List ℕ) → x ∷ front ++ back ≡ b ∷ bytes
+    → Covers k (length (x ∷ front)) (token_of b (x ∷ front ++ back))
+run_token_covers kind_of is_first p token_of goes_on at_first k x front back first all w b bytes e =
+    let head : x ≡ b = cc in
+    let run : AllByRecursion (λ x. p x ≡ true) (x ∷ front) = (goes_on x first, recursion_from_All (λ x. p x ≡ true) front all) in
+    subst (λ z. Covers k (length (x ∷ front)) (token_of z (x ∷ front ++ back))) head
+    (run_covered kind_of p k (x ∷ front) back (token_of x (x ∷ front ++ back)) run w (at_first x (x ∷ front ++ back) first))
+
+-- the run that is found is a token where all runs from its first byte are
+pub run_fits : {Kind : Type 0} (lexicon : Lexicon Kind) (kind_of : List ℕ → Kind) (p : ℕ → Bool) (b : ℕ) (bytes : List ℕ) → p b ≡ true
+    → ((run : List ℕ) → All (λ x. p x ≡ true) run → lexicon.IsSpelled (kind_of (b ∷ run)) (b ∷ run))
+    → Fits lexicon (kind_of (take (prefix_len p (b ∷ bytes)) (b ∷ bytes))) (prefix_len p (b ∷ bytes)) (b ∷ bytes)
+run_fits lexicon kind_of p b bytes first spelled =
+    let len : prefix_len p (b ∷ bytes) ≡ suc (prefix_len p bytes) = rw first (one-add _) in
+    let within = prefix_len-le-length p (b ∷ bytes) in
+    let run : List ℕ = take (prefix_len p bytes) bytes in
+    rw len (record { spelled = spelled run (All-from_recursion (λ x. p x ≡ true) run (run_all p bytes)); some = omega arith; within = omega (arith, len) })
 
 pub fits_as : {Kind : Type 0} (lexicon : Lexicon Kind) (k l : Kind) (m n : ℕ) (bytes : List ℕ) → piece.Token l m ≡ piece.Token k n → Fits lexicon l m bytes → Fits lexicon k n bytes
 fits_as lexicon k l m n bytes e f =

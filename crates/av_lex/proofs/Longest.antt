@@ -14,7 +14,7 @@ use Rattle.av_base.specs.Spelling.{is_reserved}
 use Rattle.av_base.specs.Tokens.{reserved_words, is_word_byte, is_blank, IsWord, IsDigits, IsSpelled, IsInRange, program_texts}
 use Rattle.av_lex.specs.inner.Reading.{scanner}
 use Rattle.av_lex.specs.inner.Scan.{is_single, is_pair, begins_pair, word_kind, symbol_of, token_of, is_in_range}
-use Rattle.av_base.proofs.Longest.{Covers, run_covered, Fits, fits_as, IsNoGap, no_gap_either, Finds}
+use Rattle.av_base.proofs.Longest.{Covers, run_token_covers, run_fits, Fits, fits_as, IsNoGap, no_gap_either, Finds}
 use Rattle.av_base.proofs.Runs.{chosen, run_all, blank_or}
 use Rattle.av_base.proofs.Symbols.{symbol_covers, symbol_fits}
 use Rattle.av_base.proofs.Tables.{is_found, is_there, not_there, none_there, none_short}
@@ -34,14 +34,13 @@ name_kind text h = rw (not_there text reserved_words h) refl
 reserved_kind : (text : List ℕ) → Contains reserved_words text → word_kind text ≡ kind.Reserved
 reserved_kind text h = rw (is_found text reserved_words h) refl
 
-word_covers : (k : TokenKind) (front back : List ℕ) → IsWord front → word_kind front ≡ k → (b : ℕ) (bytes : List ℕ) → front ++ back ≡ b ∷ bytes → Covers k (length front) (token_of b (front ++ back))
+at_letter : (b : ℕ) (text : List ℕ) → is_ascii_alphabetic b ≡ true → token_of b text ≡ piece.Token (word_kind (take (prefix_len is_word_byte text) text)) (prefix_len is_word_byte text)
 unfolding token_of
+at_letter b text h = rw h refl
+
+word_covers : (k : TokenKind) (front back : List ℕ) → IsWord front → word_kind front ≡ k → (b : ℕ) (bytes : List ℕ) → front ++ back ≡ b ∷ bytes → Covers k (length front) (token_of b (front ++ back))
 word_covers k [] back s w b bytes e = absurd s
-word_covers k (x ∷ front) back s w b bytes e =
-    let head : x ≡ b = cc in
-    let letter : is_ascii_alphabetic b ≡ true = subst (λ z. is_ascii_alphabetic z ≡ true) head s.0 in
-    let all : AllByRecursion (λ x. is_word_byte x ≡ true) (x ∷ front) = (alphabetic_word x s.0, recursion_from_All (λ x. is_word_byte x ≡ true) front s.1) in
-    run_covered word_kind is_word_byte k (x ∷ front) back (token_of b (x ∷ front ++ back)) all w (rw letter refl)
+word_covers k (x ∷ front) back s w b bytes e = run_token_covers word_kind is_ascii_alphabetic is_word_byte token_of alphabetic_word at_letter k x front back s.0 s.1 w b bytes e
 
 other_symbol : (b : ℕ) (text : List ℕ) → is_other b ≡ true → token_of b text ≡ symbol_of b text
 unfolding token_of
@@ -52,16 +51,17 @@ other_symbol b text h = go (is_ascii_alphabetic b) (is_ascii_digit b) refl refl 
     go false true e f k = absurd cc
     go false false e f k = rw (e, f) refl
 
+at_digit : (b : ℕ) (text : List ℕ) → is_ascii_digit b ≡ true → token_of b text ≡ piece.Token kind.Number (prefix_len is_ascii_digit text)
+unfolding token_of
+at_digit b text h = rw (digit_not_letter b h, h) refl
+
 covers : (k : TokenKind) (front back : List ℕ) → IsSpelled k front → (b : ℕ) (bytes : List ℕ) → front ++ back ≡ b ∷ bytes → Covers k (length front) (token_of b (front ++ back))
 unfolding token_of symbol_of
 covers kind.Name front back s b bytes e = word_covers kind.Name front back s.0 (name_kind front s.1) b bytes e
 covers kind.Reserved front back s b bytes e = word_covers kind.Reserved front back (reserved_word front s) (reserved_kind front s) b bytes e
 covers kind.Number [] back s b bytes e = absurd s
 covers kind.Number (x ∷ front) back s b bytes e =
-    let head : x ≡ b = cc in
-    let digit : is_ascii_digit b ≡ true = subst (λ z. is_ascii_digit z ≡ true) head s.0 in
-    run_covered (λ text. kind.Number) is_ascii_digit kind.Number (x ∷ front) back (token_of b (x ∷ front ++ back))
-    (s.0, recursion_from_All (λ x. is_ascii_digit x ≡ true) front s.1) refl (rw (digit_not_letter b digit, digit) refl)
+    run_token_covers (λ text. kind.Number) is_ascii_digit is_ascii_digit token_of (λ x h. h) at_digit kind.Number x front back s.0 s.1 refl b bytes e
 covers kind.Symbol front back s b bytes e = symbol_covers kind.Symbol is_other is_single is_pair token_of (λ x more. other_symbol x (x ∷ more)) front back (symbol_is front s) b bytes e
 covers kind.End front back s b bytes e = absurd s
 
@@ -79,16 +79,12 @@ unfolding token_of symbol_of
 token_fits b bytes k n e =
     elim (chosen (is_ascii_alphabetic b) (piece.Token (word_kind (take (prefix_len is_word_byte (b ∷ bytes)) (b ∷ bytes))) (prefix_len is_word_byte (b ∷ bytes))) (cond (is_ascii_digit b) (piece.Token kind.Number (prefix_len is_ascii_digit (b ∷ bytes))) (symbol_of b (b ∷ bytes))) (piece.Token k n) e) [
       | inl p ↦
-          let m : ℕ = prefix_len is_word_byte (b ∷ bytes) in
-          let at_word : prefix_len is_word_byte (b ∷ bytes) ≡ suc (prefix_len is_word_byte bytes) = rw (alphabetic_word b p.0) (one-add _) in
-          let word : IsWord (take m (b ∷ bytes)) = rw at_word (p.0, All-from_recursion (λ x. is_word_byte x ≡ true) (take (prefix_len is_word_byte bytes) bytes) (run_all is_word_byte bytes)) in
-          fits_as program_texts k (word_kind (take m (b ∷ bytes))) m n (b ∷ bytes) p.1 (record { spelled = word_spelled (take m (b ∷ bytes)) word; some = omega (arith, at_word); within = prefix_len-le-length is_word_byte (b ∷ bytes) })
+          fits_as program_texts k (word_kind (take (prefix_len is_word_byte (b ∷ bytes)) (b ∷ bytes))) (prefix_len is_word_byte (b ∷ bytes)) n (b ∷ bytes) p.1
+          (run_fits program_texts word_kind is_word_byte b bytes (alphabetic_word b p.0) (λ run all. word_spelled (b ∷ run) (p.0, all)))
       | inr p ↦ elim (chosen (is_ascii_digit b) (piece.Token kind.Number (prefix_len is_ascii_digit (b ∷ bytes))) (symbol_of b (b ∷ bytes)) (piece.Token k n) p.1) [
         | inl q ↦
-            let m : ℕ = prefix_len is_ascii_digit (b ∷ bytes) in
-            let at_digit : prefix_len is_ascii_digit (b ∷ bytes) ≡ suc (prefix_len is_ascii_digit bytes) = rw q.0 (one-add _) in
-            let digits : IsDigits (take m (b ∷ bytes)) = rw at_digit (q.0, All-from_recursion (λ x. is_ascii_digit x ≡ true) (take (prefix_len is_ascii_digit bytes) bytes) (run_all is_ascii_digit bytes)) in
-            fits_as program_texts k kind.Number m n (b ∷ bytes) q.1 (record { spelled = digits; some = omega (arith, at_digit); within = prefix_len-le-length is_ascii_digit (b ∷ bytes) })
+            fits_as program_texts k kind.Number (prefix_len is_ascii_digit (b ∷ bytes)) n (b ∷ bytes) q.1
+            (run_fits program_texts (λ text. kind.Number) is_ascii_digit b bytes q.0 (λ run all. (q.0, all)))
         | inr q ↦ symbol_fits program_texts kind.Symbol is_single is_pair single_symbol pair_symbol b bytes k n q.1
       ]
     ]

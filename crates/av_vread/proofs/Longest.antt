@@ -22,7 +22,7 @@ use Rattle.av_vread.specs.inner.Lexing.{scanner}
 use Rattle.av_vread.specs.inner.Scan.{is_single, is_pair, begins_pair, is_signed, based_len, tail_len, number_by, number_of, word_kind, symbol_of, token_of}
 use Rattle.av_base.proofs.Tables.{both, is_found, is_there, not_there, none_there, none_short}
 use Rattle.av_base.proofs.Runs.{chosen, run_all, run_covers, blank_or}
-use Rattle.av_base.proofs.Longest.{Covers, run_covered, Fits, fits_as, IsNoGap, no_gap_either, Finds}
+use Rattle.av_base.proofs.Longest.{Covers, run_token_covers, run_fits, Fits, fits_as, IsNoGap, no_gap_either, Finds}
 use Rattle.av_base.proofs.Symbols.{symbol_covers, symbol_fits}
 use Rattle.av_vread.proofs.Tables.{reserved_word, is_other, symbol_is, single_symbol, pair_symbol}
 
@@ -40,14 +40,13 @@ name_kind text h = rw (not_there text reserved_words h) refl
 pub reserved_kind : (text : List ℕ) → Contains reserved_words text → word_kind text ≡ kind.Reserved
 reserved_kind text h = rw (is_found text reserved_words h) refl
 
-word_covers : (k : TokenKind) (front back : List ℕ) → IsIdentifier front → word_kind front ≡ k → (b : ℕ) (bytes : List ℕ) → front ++ back ≡ b ∷ bytes → Covers k (length front) (token_of b (front ++ back))
+at_letter : (b : ℕ) (text : List ℕ) → begins_name b ≡ true → token_of b text ≡ piece.Token (word_kind (take (prefix_len is_word_byte text) text)) (prefix_len is_word_byte text)
 unfolding token_of
+at_letter b text h = rw h refl
+
+word_covers : (k : TokenKind) (front back : List ℕ) → IsIdentifier front → word_kind front ≡ k → (b : ℕ) (bytes : List ℕ) → front ++ back ≡ b ∷ bytes → Covers k (length front) (token_of b (front ++ back))
 word_covers k [] back s w b bytes e = absurd s
-word_covers k (x ∷ front) back s w b bytes e =
-    let head : x ≡ b = cc in
-    let letter : begins_name b ≡ true = subst (λ z. begins_name z ≡ true) head s.0 in
-    let all : AllByRecursion (λ x. is_word_byte x ≡ true) (x ∷ front) = (alphabetic_word x s.0, recursion_from_All (λ x. is_word_byte x ≡ true) front s.1) in
-    run_covered word_kind is_word_byte k (x ∷ front) back (token_of b (x ∷ front ++ back)) all w (rw letter refl)
+word_covers k (x ∷ front) back s w b bytes e = run_token_covers word_kind begins_name is_word_byte token_of alphabetic_word at_letter k x front back s.0 s.1 w b bytes e
 
 -- what begins with $signed begins with that byte
 signed_first : (b : ℕ) (bytes : List ℕ) → is_signed (b ∷ bytes) ≡ true → nat_eq b 36 ≡ true
@@ -282,10 +281,8 @@ unfolding token_of symbol_of
 token_fits b bytes k n e =
     elim (chosen (begins_name b) (piece.Token (word_kind (take (prefix_len is_word_byte (b ∷ bytes)) (b ∷ bytes))) (prefix_len is_word_byte (b ∷ bytes))) (cond (is_ascii_digit b) (number_of (b ∷ bytes)) (cond (is_signed (b ∷ bytes)) (piece.Token kind.System 7) (symbol_of b (b ∷ bytes)))) (piece.Token k n) e) [
       | inl p ↦
-          let m : ℕ = prefix_len is_word_byte (b ∷ bytes) in
-          let at_word : prefix_len is_word_byte (b ∷ bytes) ≡ suc (prefix_len is_word_byte bytes) = rw (alphabetic_word b p.0) (one-add _) in
-          let word : IsIdentifier (take m (b ∷ bytes)) = rw at_word (p.0, All-from_recursion (λ x. is_word_byte x ≡ true) (take (prefix_len is_word_byte bytes) bytes) (run_all is_word_byte bytes)) in
-          fits_as design_texts k (word_kind (take m (b ∷ bytes))) m n (b ∷ bytes) p.1 (record { spelled = word_spelled (take m (b ∷ bytes)) word; some = omega (arith, at_word); within = prefix_len-le-length is_word_byte (b ∷ bytes) })
+          fits_as design_texts k (word_kind (take (prefix_len is_word_byte (b ∷ bytes)) (b ∷ bytes))) (prefix_len is_word_byte (b ∷ bytes)) n (b ∷ bytes) p.1
+          (run_fits design_texts word_kind is_word_byte b bytes (alphabetic_word b p.0) (λ run all. word_spelled (b ∷ run) (p.0, all)))
       | inr p ↦ elim (chosen (is_ascii_digit b) (number_of (b ∷ bytes)) (cond (is_signed (b ∷ bytes)) (piece.Token kind.System 7) (symbol_of b (b ∷ bytes))) (piece.Token k n) p.1) [
         | inl q ↦ number_fits b bytes k n q.0 q.1
         | inr q ↦ elim (chosen (is_signed (b ∷ bytes)) (piece.Token kind.System 7) (symbol_of b (b ∷ bytes)) (piece.Token k n) q.1) [
