@@ -1,21 +1,18 @@
 -- The scanner of program texts finds their tokens.
-use Rattle.std.proofs.Common.{◌≡◌, ℕ, suc, ◌+◌, ◌^◌, ◌<◌, ◌≤◌, Bool, true, false, cond, not, ◌&&◌, List, [], ◌∷◌, ◌++◌, length, take, drop, refl, sym, subst, ◌∙◌, arith, inl, inr}
+use Rattle.std.proofs.Common.{◌≡◌, ℕ, Bool, true, false, cond, not, ◌&&◌, List, [], ◌∷◌, ◌++◌, length, take, refl, arith, inl, inr}
 use Rattle.std.specs.Prelude.{Contains}
-use Rattle.std.specs.List.{prefix_len, AllByRecursion}
+use Rattle.std.specs.List.{prefix_len}
 use Rattle.std.specs.Char.{is_ascii_alphabetic, is_ascii_digit}
-use Rattle.std.proofs.Math.Numerals.{one-add}
-use Rattle.std.proofs.lemmas.List.Elements.{All-from_recursion, recursion_from_All}
-use Rattle.std.proofs.lemmas.List.Sums.{prefix_len-le-length}
 use borrow.Author.Tests.{ltb-true}
 use Rattle.av_base.specs.declared.token_kind.TokenKind.{TokenKind}
 use Rattle.av_base.specs.declared.token_kind.TokenKind.TheVariants as kind
 use Rattle.av_base.specs.declared.piece.Piece.TheVariants as piece
 use Rattle.av_base.specs.Spelling.{is_reserved}
-use Rattle.av_base.specs.Tokens.{reserved_words, is_word_byte, is_blank, IsWord, IsDigits, IsSpelled, IsInRange, program_texts}
+use Rattle.av_base.specs.Tokens.{reserved_words, is_word_byte, is_blank, IsWord, IsSpelled, IsInRange, program_texts}
 use Rattle.av_lex.specs.inner.Reading.{scanner}
 use Rattle.av_lex.specs.inner.Scan.{is_single, is_pair, begins_pair, word_kind, symbol_of, token_of, is_in_range}
 use Rattle.av_base.proofs.Longest.{Covers, run_token_covers, run_fits, Fits, fits_as, IsNoGap, no_gap_either, Finds}
-use Rattle.av_base.proofs.Runs.{chosen, run_all, blank_or}
+use Rattle.av_base.proofs.Runs.{chosen, blank_or}
 use Rattle.av_base.proofs.Symbols.{symbol_covers, symbol_fits}
 use Rattle.av_base.proofs.Tables.{is_found, is_there, not_there, none_there, none_short}
 use Rattle.av_lex.proofs.Tables.{reserved_word, is_other, symbol_is, single_symbol, pair_symbol}

@@ -1,14 +1,13 @@
 -- The tables of reserved words and symbols, and the tests by which they are found.
 use Rattle.std.proofs.Common.{◌≡◌, ℕ, Bool, true, false, cond, not, ◌&&◌, ◌||◌, List, [], ◌∷◌, refl}
 use Rattle.std.specs.Prelude.{codes, nat_eq, Contains}
-use Rattle.std.specs.List.{list_all, list_any}
+use Rattle.std.specs.List.{list_any}
 use Rattle.std.specs.Char.{is_ascii_alphabetic, is_ascii_digit}
 use Rattle.std.specs.Str.{bytes_eq}
 use Rattle.std.proofs.lemmas.Bool.{eqb-true}
-use Rattle.std.proofs.lemmas.List.Sums.{AllPass-from_list_all}
-use Rattle.av_base.specs.Tokens.{reserved_words, symbols, is_word_byte, IsWord}
+use Rattle.av_base.specs.Tokens.{reserved_words, symbols, IsWord}
 use Rattle.av_lex.specs.inner.Scan.{is_single, is_pair}
-use Rattle.av_base.proofs.Tables.{both, is_there, words_are, IsShort, short_is, single_there}
+use Rattle.av_base.proofs.Tables.{is_there, words_are, IsShort, short_is, single_there}
 
 -- ---- words
 

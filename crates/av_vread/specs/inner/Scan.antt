@@ -1,10 +1,9 @@
 -- What stands at the front of a text, found byte by byte.
-use Rattle.std.specs.Prelude.{ℕ, ◌+◌, ◌<◌, ◌≤◌, Bool, false, ◌&&◌, if◌then◌else◌, nat_eq, nat_le, List, ◌∷◌, take, drop, length, codes}
+use Rattle.std.specs.Prelude.{ℕ, ◌+◌, Bool, ◌&&◌, if◌then◌else◌, nat_eq, nat_le, List, ◌∷◌, take, drop, length, codes}
 use Rattle.std.specs.List.{prefix_len, list_any}
 use Rattle.std.specs.Char.{is_ascii_digit}
 use Rattle.std.specs.Str.{bytes_eq}
-use Rattle.av_base.specs.Tokens.{is_word_byte, is_blank}
-use Rattle.av_base.specs.Spelling.{is_not_feed}
+use Rattle.av_base.specs.Tokens.{is_word_byte}
 use Rattle.av_net.specs.declared.token_kind.TokenKind.{TokenKind}
 use Rattle.av_net.specs.declared.token_kind.TokenKind.TheVariants as kind
 use Rattle.av_net.specs.Lexemes.{begins_name}
