@@ -10,3 +10,7 @@ pub mod Tables
 pub mod Runs
 pub mod Spelled
 pub mod Longest
+pub mod Pieces
+pub mod Turns
+pub mod Readings
+pub mod Symbols

@@ -1,6 +1,6 @@
 -- Tables of words and symbols, and the tests by which their texts are found.
 use Rattle.std.proofs.Common.{◌≡◌, ℕ, Bool, true, false, ◌&&◌, List, [], ◌∷◌, refl, sym, ◌∙◌, true≢false}
-use Rattle.std.specs.Prelude.{nat_eq, Contains}
+use Rattle.std.specs.Prelude.{nat_eq, All, Contains}
 use Rattle.std.specs.List.{list_all, list_any}
 use Rattle.std.specs.Str.{bytes_eq}
 use Rattle.std.proofs.lemmas.Bool.{eqb-true}
@@ -9,6 +9,7 @@ use Rattle.std.proofs.lemmas.List.Elements.{All-contains}
 use Rattle.std.proofs.lemmas.List.Sums.{AllPass-from_list_all}
 use Rattle.std.proofs.lemmas.Map.Views.{list_any-from_Contains, Contains-from_any}
 use Rattle.std.proofs.lemmas.Slice.Eq.{bytes_eq-Decides}
+use Rattle.av_base.specs.Tokens.{is_word_byte}
 
 pub both : (a b : Bool) → (a && b) ≡ true → (a ≡ true) × (b ≡ true)
 both true true e = (refl, refl)
@@ -38,6 +39,21 @@ none_there text table e h = true≢false (sym (is_found text table h) ∙ e)
 -- what a test of each text of a table tells of one
 pub tells : (test : List ℕ → Bool) (table : List (List ℕ)) → list_all test table ≡ true → (text : List ℕ) → Contains table text → test text ≡ true
 tells test table h text c = All-contains (λ x. test x ≡ true) table text (AllPass-from_list_all test table h) c
+
+-- ---- words, by a test of the first byte
+
+abbrev pub is_word_by : (ℕ → Bool) → List ℕ → Bool
+is_word_by is_first [] = false
+is_word_by is_first (b ∷ bytes) = is_first b && list_all is_word_byte bytes
+
+-- what holds of each word holds of each text of a table of words
+pub words_are : (is_first : ℕ → Bool) (table : List (List ℕ)) → list_all (is_word_by is_first) table ≡ true → (P : List ℕ → Type 0)
+    → ((b : ℕ) (bytes : List ℕ) → is_first b ≡ true → All (λ x. is_word_byte x ≡ true) bytes → P (b ∷ bytes)) → (text : List ℕ) → Contains table text → P text
+words_are is_first table all P holds text c = go text (tells (is_word_by is_first) table all text c)
+  where
+    go : (text : List ℕ) → is_word_by is_first text ≡ true → P text
+    go [] h = absurd cc
+    go (b ∷ bytes) h = let z = both (is_first b) (list_all is_word_byte bytes) h in holds b bytes z.0 (AllPass-from_list_all is_word_byte bytes z.1)
 
 -- ---- texts of one byte or two, by tests of the first byte, of a byte alone and of a pair
 

@@ -1,27 +1,18 @@
 -- The tables of reserved words and symbols, and the tests by which they are found.
 use Rattle.std.proofs.Common.{◌≡◌, ℕ, Bool, true, false, cond, not, ◌&&◌, ◌||◌, List, [], ◌∷◌, refl}
 use Rattle.std.specs.Prelude.{codes, nat_eq, Contains}
-use Rattle.std.specs.List.{list_all, list_any}
+use Rattle.std.specs.List.{list_any}
 use Rattle.std.specs.Char.{is_ascii_alphabetic, is_ascii_digit}
 use Rattle.std.specs.Str.{bytes_eq}
 use Rattle.std.proofs.lemmas.Bool.{eqb-true}
-use Rattle.std.proofs.lemmas.List.Sums.{AllPass-from_list_all}
-use Rattle.av_base.specs.Tokens.{reserved_words, symbols, is_word_byte, IsWord}
+use Rattle.av_base.specs.Tokens.{reserved_words, symbols, IsWord}
 use Rattle.av_lex.specs.inner.Scan.{is_single, is_pair}
-use Rattle.av_base.proofs.Tables.{both, is_there, tells, IsShort, short_is, single_there}
+use Rattle.av_base.proofs.Tables.{is_there, words_are, IsShort, short_is, single_there}
 
 -- ---- words
 
-abbrev is_word : List ℕ → Bool
-is_word [] = false
-is_word (b ∷ bytes) = is_ascii_alphabetic b && list_all is_word_byte bytes
-
 pub reserved_word : (text : List ℕ) → Contains reserved_words text → IsWord text
-reserved_word text c = go text (tells is_word reserved_words refl text c)
-  where
-    go : (text : List ℕ) → is_word text ≡ true → IsWord text
-    go [] h = absurd cc
-    go (b ∷ bytes) h = let z = both (is_ascii_alphabetic b) (list_all is_word_byte bytes) h in (z.0, AllPass-from_list_all is_word_byte bytes z.1)
+reserved_word text c = words_are is_ascii_alphabetic reserved_words refl IsWord (λ b bytes h all. (h, all)) text c
 
 -- ---- symbols
 

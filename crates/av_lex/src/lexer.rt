@@ -7,9 +7,9 @@ ghost use Rattle.av_lex.specs.inner.Reading.{read_of};
 ghost use Rattle.av_lex.specs.declared.fault.LexFault.{LexFault};
 
 use crate::number::is_in_range;
-use crate::scan::{Piece, piece_at};
+use crate::scan::piece_at;
 use crate::{LexFault, Token, TokenKind};
-use av_base::{List, Place, moved, part};
+use av_base::{List, Piece, Place, moved, part};
 use std::alloc::Global;
 
 fn tokens<'a>(alloc: Global, bytes: &'a [u8]) -> Result<List<Token<'a>>, LexFault>

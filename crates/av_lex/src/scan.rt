@@ -1,29 +1,12 @@
 //! What stands at the front of a text.
 
 ghost use Rattle.std.specs.Prelude.{◌≡◌, ◌<◌, ◌-◌, length, drop, slice_index};
-ghost use Rattle.av_lex.specs.inner.Scan.{is_dashed, is_single, is_pair, begins_pair, symbol_of, word_kind, token_of, piece_of, FitsIn};
+ghost use Rattle.av_base.specs.Pieces.{FitsIn};
+ghost use Rattle.av_lex.specs.inner.Scan.{is_single, is_pair, begins_pair, symbol_of, word_kind, token_of, piece_of};
 
-use av_base::{TokenKind, digits_len, is_blank, is_reserved_word, line_len, word_len};
-
-/// What stands at the front of a text.
-#[derive(Clone, Copy, Debug)]
-pub(crate) enum Piece {
-    /// So many bytes that are no token.
-    Gap(usize),
-    /// A token of so many bytes.
-    Token(TokenKind, usize),
-    /// A byte that begins no token.
-    Bad,
-}
-
-fn is_dashed(text: &[u8]) -> bool
-    ensures { result ≡ is_dashed text.now }
-{
-    match text {
-        [first, second, ..] => *first == b'-' && *second == b'-',
-        _ => false,
-    }
-}
+use av_base::{
+    Piece, TokenKind, begins_comment, digits_len, is_blank, is_reserved_word, line_len, word_len,
+};
 
 fn word_kind(text: &[u8]) -> TokenKind
     ensures { result ≡ word_kind text.now }
@@ -80,7 +63,7 @@ fn begins_pair(text: &[u8]) -> bool
 }
 
 #[tactic(auto, unfolding(crate::specs::inner::Scan::symbol_of))]
-fn symbol_of(first: u8, text: &[u8]) -> Piece
+fn symbol_of(first: u8, text: &[u8]) -> Piece<TokenKind>
     ensures { result ≡ symbol_of first text.now }
 {
     if begins_pair(text) {
@@ -93,7 +76,7 @@ fn symbol_of(first: u8, text: &[u8]) -> Piece
 }
 
 #[tactic(auto, unfolding(crate::specs::inner::Scan::token_of))]
-fn token_of(first: u8, text: &[u8]) -> Piece
+fn token_of(first: u8, text: &[u8]) -> Piece<TokenKind>
     ensures { result ≡ token_of first text.now }
 {
     if first.is_ascii_alphabetic() {
@@ -106,13 +89,13 @@ fn token_of(first: u8, text: &[u8]) -> Piece
     }
 }
 
-#[tactic(auto, unfolding(crate::specs::inner::Scan::piece_of))]
-fn piece_of(first: u8, text: &[u8]) -> Piece
+#[tactic(auto, unfolding(av_base::specs::Pieces::piece_by))]
+fn piece_of(first: u8, text: &[u8]) -> Piece<TokenKind>
     ensures { result ≡ piece_of first text.now }
 {
     if is_blank(first) {
         Piece::Gap(1)
-    } else if is_dashed(text) {
+    } else if begins_comment(text, b'-') {
         Piece::Gap(line_len(text))
     } else {
         token_of(first, text)
@@ -120,7 +103,7 @@ fn piece_of(first: u8, text: &[u8]) -> Piece
 }
 
 /// What stands at an index of a text.
-pub(crate) fn piece_at(text: &[u8], at: usize) -> Piece
+pub(crate) fn piece_at(text: &[u8], at: usize) -> Piece<TokenKind>
     requires { at < length text.now }
     ensures piece { result ≡ piece_of (slice_index text.now at) (drop at text.now) }
     ensures fits { FitsIn result (length text.now - at) }

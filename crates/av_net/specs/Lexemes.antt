@@ -1,18 +1,13 @@
--- The tokens of a design text: which bytes spell which token, and where the tokens stand (IEEE 1364-2005, 3.1
--- to 3.3, 3.5.1 and 3.7; 17.7 for `$signed`; the longest match is the textbook's). Only the words of this
--- subset's own grammar are reserved.
-use Rattle.std.specs.Prelude.{◌≡◌, ◌≢◌, ℕ, ◌≤◌, Bool, false, ◌||◌, IsTrue, nat_eq, List, [], ◌∷◌, ◌++◌, length, codes, All, Contains}
+-- The tokens of a design text: which bytes spell which token (IEEE 1364-2005, 3.1 to 3.3, 3.5.1 and 3.7; 17.7 for
+-- `$signed`). Only the words of this subset's own grammar are reserved.
+use Rattle.std.specs.Prelude.{◌≡◌, ℕ, Bool, ◌||◌, IsTrue, nat_eq, List, [], ◌∷◌, ◌++◌, codes, All, Contains}
 use Rattle.std.specs.Char.{is_ascii_alphabetic}
 use Rattle.av_base.specs.declared.place.Place.{Place}
-use Rattle.av_base.specs.Tokens.{moved, next_place, is_word_byte, is_blank, IsDigits, IsLineEnd}
+use Rattle.av_base.specs.Lexicon as lexing
+pub use Rattle.av_base.specs.Lexicon.{end, blank, comment, token}
+use Rattle.av_base.specs.Tokens.{is_word_byte, IsDigits}
 use Rattle.av_net.specs.declared.token_kind.TokenKind.{TokenKind}
 use Rattle.av_net.specs.declared.token_kind.TokenKind.TheVariants as kind
-
--- a token, with its bytes
-pub record Token : Type 0 where
-  pub kind : TokenKind
-  pub text : List ℕ
-  pub place : Place
 
 -- ---- the table of tokens
 
@@ -60,44 +55,29 @@ IsSpelled kind.Literal text = IsSized text
 IsSpelled kind.Symbol text = Contains symbols text
 IsSpelled kind.End text = ⊥
 
--- text has the shape of a token of this kind, and text ++ rest begins with no longer token
-pub record IsLongest (k : TokenKind) (text rest : List ℕ) : Type 0 where
-  pub spelled : IsSpelled k text
-  pub longest : (other : TokenKind) (front back : List ℕ) → text ++ rest ≡ front ++ back → IsSpelled other front → length front ≤ length text
+-- how a design text spells its tokens; its comments begin with //, and no number of it is too great
+abbrev pub design_texts : lexing.Lexicon TokenKind
+design_texts = record { last = kind.End; IsSpelled = IsSpelled; IsInRange = λ k text. Unit {0}; mark = 47 }
 
--- ---- what stands between tokens
+-- ---- whole texts
+
+-- a token, with its bytes
+abbrev pub Token : Type 0
+Token = lexing.Token TokenKind
+
+-- text has the shape of a token of this kind, and text ++ rest begins with no longer token
+abbrev pub IsLongest : TokenKind → List ℕ → List ℕ → Type 0
+IsLongest = lexing.IsLongest design_texts
 
 -- the bytes begin with a comment
 abbrev pub IsCommented : List ℕ → Type 0
-IsCommented bytes = (more : List ℕ) × (bytes ≡ codes "//" ++ more)
-
--- text is a comment, which goes up to the line feed or the end
-pub record IsComment (text rest : List ℕ) : Type 0 where
-  pub more : List ℕ
-  pub slashes : text ≡ codes "//" ++ more
-  pub one_line : All (λ b. b ≢ 10) more
-  pub stops : IsLineEnd rest
+IsCommented = lexing.IsCommented 47
 
 -- `AreTokens p bytes tokens`: the bytes, which stand from the place p on, spell the tokens
-pub data AreTokens : Place → List ℕ → List Token → Type 0 where
-  end : {p : Place} → AreTokens p [] (record { kind = kind.End; text = []; place = p } ∷ [])
-  blank : {p : Place} {b : ℕ} {bytes : List ℕ} {tokens : List Token} → IsTrue (is_blank b) → AreTokens (next_place p b) bytes tokens → AreTokens p (b ∷ bytes) tokens
-  comment : {p : Place} {bytes text rest : List ℕ} {tokens : List Token} → bytes ≡ text ++ rest → IsComment text rest → AreTokens (moved p text) rest tokens
-      → AreTokens p bytes tokens
-  token : {p : Place} {k : TokenKind} {bytes text rest : List ℕ} {tokens : List Token} → bytes ≡ text ++ rest → (IsCommented bytes → ⊥) → IsLongest k text rest
-      → AreTokens (moved p text) rest tokens → AreTokens p bytes (record { kind = k; text = text; place = p } ∷ tokens)
-
--- ---- the first byte that begins no token
-
--- the bytes begin with no token
-abbrev pub BeginsNone : List ℕ → Type 0
-BeginsNone bytes = (k : TokenKind) (front back : List ℕ) → bytes ≡ front ++ back → IsSpelled k front → ⊥
+abbrev pub AreTokens : Place → List ℕ → List Token → Type 0
+AreTokens = lexing.IsText design_texts
 
 -- `HasBadByte p bytes q`: of the bytes, which stand from the place p on, the one at q is the first that
 -- is neither blank nor of a comment nor of a token
-pub data HasBadByte : Place → List ℕ → Place → Type 0 where
-  bad_byte : {p : Place} {b : ℕ} {bytes : List ℕ} → is_blank b ≡ false → (IsCommented (b ∷ bytes) → ⊥) → BeginsNone (b ∷ bytes) → HasBadByte p (b ∷ bytes) p
-  past_blank : {p q : Place} {b : ℕ} {bytes : List ℕ} → IsTrue (is_blank b) → HasBadByte (next_place p b) bytes q → HasBadByte p (b ∷ bytes) q
-  past_comment : {p q : Place} {bytes text rest : List ℕ} → bytes ≡ text ++ rest → IsComment text rest → HasBadByte (moved p text) rest q → HasBadByte p bytes q
-  past_token : {p q : Place} {k : TokenKind} {bytes text rest : List ℕ} → bytes ≡ text ++ rest → (IsCommented bytes → ⊥) → IsLongest k text rest
-      → HasBadByte (moved p text) rest q → HasBadByte p bytes q
+abbrev pub HasBadByte : Place → List ℕ → Place → Type 0
+HasBadByte = lexing.IsFault design_texts (λ p. p) (λ p. p)

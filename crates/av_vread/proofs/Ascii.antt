@@ -11,13 +11,15 @@ use Rattle.std.proofs.lemmas.Str.Ascii.{IsAscii-from_all}
 use Rattle.av_base.specs.Tokens.{is_word_byte, IsDigits}
 use Rattle.av_net.specs.declared.token_kind.TokenKind.{TokenKind}
 use Rattle.av_net.specs.declared.token_kind.TokenKind.TheVariants as kind
-use Rattle.av_net.specs.Lexemes.{symbols, begins_name, IsIdentifier, IsSpelled}
-use Rattle.av_vread.specs.declared.scan.Piece.{Piece}
-use Rattle.av_vread.specs.declared.scan.Piece.TheVariants as piece
+use Rattle.av_net.specs.Lexemes.{symbols, begins_name, IsIdentifier, IsSpelled, design_texts}
+use Rattle.av_base.specs.declared.piece.Piece.{Piece}
+use Rattle.av_base.specs.declared.piece.Piece.TheVariants as piece
+use Rattle.av_vread.specs.inner.Lexing.{scanner}
 use Rattle.av_vread.specs.inner.Scan.{piece_of}
 use Rattle.av_base.proofs.Tables.{tells}
 use Rattle.av_vread.proofs.Tables.{reserved_word}
-use Rattle.av_vread.proofs.Pieces.{IsPiece, a_blank, a_comment, a_token, no_piece, is_piece}
+use Rattle.av_base.proofs.Pieces.{IsPiece, a_blank, a_comment, a_token, no_piece, is_piece}
+use Rattle.av_vread.proofs.Longest.{finds}
 
 abbrev is_low : List ℕ → Bool
 is_low text = list_all (λ b. nat_lt b 128) text
@@ -57,11 +59,11 @@ spelled_ascii kind.Literal text s =
 spelled_ascii kind.Symbol text s = low text (tells is_low symbols refl text s)
 spelled_ascii kind.End text s = absurd s
 
-abbrev HasAscii : List ℕ → Piece → Type 0
+abbrev HasAscii : List ℕ → Piece TokenKind → Type 0
 HasAscii bytes (piece.Token k n) = IsAscii (take n bytes)
 HasAscii bytes _ = Unit {0}
 
-has_ascii : {bytes : List ℕ} {found : Piece} → IsPiece bytes found → HasAscii bytes found
+has_ascii : {bytes : List ℕ} {found : Piece TokenKind} → IsPiece design_texts bytes found → HasAscii bytes found
 has_ascii (a_blank h) = tt
 has_ascii (a_comment s w c) = tt
 has_ascii (a_token {bytes = bytes} {k = k} {n = n} h f) = spelled_ascii k (take n bytes) f.longest.spelled
@@ -73,4 +75,4 @@ token_ascii bytes at k n lt e =
     let b : ℕ = get_or bytes at 0 in
     let here : drop at bytes ≡ b ∷ drop (at + 1) bytes = drop-cons bytes at 0 lt ∙ ap (λ m. b ∷ drop m bytes) (let e : suc at ≡ at + 1 = omega arith in e) in
     let is : piece_of b (b ∷ drop (at + 1) bytes) ≡ piece.Token k n = sym (e ∙ ap (piece_of b) here) in
-    subst (λ (z : List ℕ). IsAscii (take n z)) (sym here) (has_ascii (is_piece b (drop (at + 1) bytes) (piece.Token k n) is))
+    subst (λ (z : List ℕ). IsAscii (take n z)) (sym here) (has_ascii (is_piece design_texts scanner finds b (drop (at + 1) bytes) (piece.Token k n) is))

@@ -589,4 +589,4 @@ pub lexed_ends : {p : Place} {bytes : List ℕ} {tokens : List Token} → AreTok
 lexed_ends (end_of_bytes) = last refl refl
 lexed_ends (blank b more) = lexed_ends more
 lexed_ends (comment e c more) = lexed_ends more
-lexed_ends (token {k = k} {text = text} e c l more) = before (λ h. absurd (subst (λ z. IsSpelled z text) h l.spelled)) (lexed_ends more)
+lexed_ends (token {k = k} {text = text} e c l r more) = before (λ h. absurd (subst (λ z. IsSpelled z text) h l.spelled)) (lexed_ends more)

@@ -6,20 +6,21 @@ use Rattle.av_net.specs.declared.netlist.Module.{Module}
 use Rattle.av_net.specs.declared.design.Design.{Design}
 use Rattle.av_net.specs.declared.design.Listing.{Listing}
 use Rattle.av_net.specs.Names.{names_of, wire_names}
-use Rattle.av_net.specs.Lexemes.{Token}
+use Rattle.av_net.specs.Lexemes.{Token, design_texts}
 use Rattle.av_net.specs.Grammar.{Text}
 use Rattle.av_net.specs.Listed.{Line, lines_of, numbered, listing_lines, IsListing, IsBadLine}
 use Rattle.av_net.specs.Rows.{is_in, module_of, declared_twice, driven_twice, wrong_name, undriven_name, early_name, unsuited_name}
 use Rattle.av_net.specs.Designs.{Says, HasNoRow, Spells, IsSoundDesign, first_line}
 use Rattle.av_vread.specs.declared.fault.VFault.{VFault}
 use Rattle.av_vread.specs.declared.fault.VFault.TheVariants.{VByte, VSyntax, VListing, VTwice, VName, VUnassigned, VOrder, VWidth, Memory}
-use Rattle.av_vread.specs.inner.Lexing.{Lexed, lexed_of}
+use Rattle.av_vread.specs.inner.Lexing.{Lexed, scanner, lexed_of}
 use Rattle.av_vread.specs.inner.Reading.{text_at}
 use Rattle.av_vread.specs.inner.Listings.{Listed, no_lines, listing_at}
 use Rattle.av_vread.specs.Beginnings.{BreaksOff}
 use Rattle.av_vread.specs.Faults.{or_row, first_row, ListsBadly, HasRow, IsFault, GivesDesign, GivesFault}
 use Rattle.av_vread.specs.inner.Checked.{Checked, checked_row, checked_listing, checked_text, checked_tokens, checked_of, FaultIs}
-use Rattle.av_vread.proofs.Readings.{read_sound, read_fault, read_complete, fault_complete}
+use Rattle.av_base.proofs.Readings.{read_sound, read_fault, read_complete, fault_complete}
+use Rattle.av_vread.proofs.Longest.{finds}
 use Rattle.av_vread.proofs.Sound.{text_took}
 use Rattle.av_vread.proofs.Complete.{text_gives}
 use Rattle.av_vread.proofs.BeginningTexts.{stops_there, one_stop, stops_say_none, lexed_ends}
@@ -113,7 +114,7 @@ module _ (bytes : List ℕ) (x : Text) (line : ℕ) (s : Says bytes x line) wher
   -- what is said is checked
   checked_said : checked_of bytes ≡ checked_listing x (listing_of bytes x line)
   checked_said =
-      ap (checked_tokens bytes) (read_complete s.lexed (length bytes) (omega arith)) ∙ ap (λ n. checked_text bytes n (text_at s.tokens)) s.begins
+      ap (checked_tokens bytes) (read_complete design_texts scanner finds s.lexed (length bytes) (omega arith)) ∙ ap (λ n. checked_text bytes n (text_at s.tokens)) s.begins
       ∙ ap (checked_text bytes line) (text_gives s.tokens x s.parsed)
 
 -- ---- what an answer of checking tells
@@ -131,7 +132,7 @@ one_said bytes x y m n s t =
     ok_text a b e = cc
 
 says_by : (bytes : List ℕ) (tokens : List Token) (x : Text) → lexed_of (length bytes) start bytes ≡ Ok tokens → text_at tokens ≡ Ok x → Says bytes x (first_line tokens)
-says_by bytes tokens x e f = record { tokens = tokens; lexed = read_sound (length bytes) start bytes tokens e; parsed = text_took tokens x f; begins = refl }
+says_by bytes tokens x e f = record { tokens = tokens; lexed = read_sound design_texts scanner finds (length bytes) start bytes tokens e; parsed = text_took tokens x f; begins = refl }
 
 ok_read : (a b : Text × Listing) → ◌≡◌ {A = Checked} (Ok a) (Ok b) → a ≡ b
 ok_read a b e = cc
@@ -193,7 +194,7 @@ module _ (bytes : List ℕ) where
     where
       broken : (tokens : List Token) (p : Place) → lexed_of (length bytes) start bytes ≡ Ok tokens → text_at tokens ≡ Err p → BreaksOff bytes p
       broken tokens p e g =
-          let lexed = read_sound (length bytes) start bytes tokens e in
+          let lexed = read_sound design_texts scanner finds (length bytes) start bytes tokens e in
           record { tokens = tokens; lexed = lexed; stops = stops_there tokens p (lexed_ends lexed) g }
 
       by_text : (tokens : List Token) → lexed_of (length bytes) start bytes ≡ Ok tokens → (r : Result Text Place) → text_at tokens ≡ r → checked_text bytes (first_line tokens) r ≡ Err f → IsFault bytes f
@@ -202,13 +203,13 @@ module _ (bytes : List ℕ) where
 
       by_tokens : (r : Lexed) → lexed_of (length bytes) start bytes ≡ r → checked_tokens bytes r ≡ Err f → IsFault bytes f
       by_tokens (Ok tokens) e c = by_text tokens e (text_at tokens) refl c
-      by_tokens (Err p) e c = subst (IsFault bytes) (err_fault (VByte p) f c) (read_fault (length bytes) start bytes p (omega arith) e)
+      by_tokens (Err p) e c = subst (IsFault bytes) (err_fault (VByte p) f c) (read_fault design_texts scanner finds (length bytes) start bytes p (omega arith) e)
 
   break_answer : (p : Place) → BreaksOff bytes p → checked_of bytes ≡ Err (VSyntax p)
   break_answer p s = ap (checked_tokens bytes) lexed ∙ ap (checked_text bytes (first_line s.tokens)) (go (text_at s.tokens) refl)
     where
       lexed : lexed_of (length bytes) start bytes ≡ Ok s.tokens
-      lexed = read_complete s.lexed (length bytes) (omega arith)
+      lexed = read_complete design_texts scanner finds s.lexed (length bytes) (omega arith)
 
       go : (r : Result Text Place) → text_at s.tokens ≡ r → text_at s.tokens ≡ Err p
       go (Ok x) e = absurd (stops_say_none s.tokens p x s.stops (text_took s.tokens x e))
@@ -271,7 +272,7 @@ module _ (bytes : List ℕ) where
 
   -- what checking answers where a fault is the first
   answered : (f : VFault) → IsFault bytes f → checked_of bytes ≡ Err f
-  answered (VByte p) h = ap (checked_tokens bytes) (fault_complete h (length bytes) (omega arith))
+  answered (VByte p) h = ap (checked_tokens bytes) (fault_complete design_texts scanner finds h (length bytes) (omega arith))
   answered (VSyntax p) h = break_answer p h
   answered (VListing n) h = bad_answer n h
   answered (VTwice n) h = row_answer (VTwice n) h

@@ -4,8 +4,6 @@ pub mod Faulted
 pub mod Longest
 pub mod Many
 pub mod NamesSeen
-pub mod Pieces
-pub mod Readings
 pub mod Complete
 pub mod Ends
 pub mod RowWalks
@@ -13,7 +11,6 @@ pub mod Sound
 pub mod Steps
 pub mod Table
 pub mod Tables
-pub mod Turns
 pub mod Walks
 pub mod BitsOf
 pub mod Cuts

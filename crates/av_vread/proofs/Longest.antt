@@ -1,4 +1,4 @@
--- The token that is found at the front is the longest one.
+-- The scanner of design texts finds their tokens.
 use Rattle.std.proofs.Common.{◌≡◌, ℕ, suc, ◌+◌, ◌<◌, ◌≤◌, Bool, true, false, cond, not, ◌&&◌, List, [], ◌∷◌, ◌++◌, length, take, drop, refl, sym, ap, subst, ◌∙◌, arith, inl, inr, true≢false, append_assoc, take-add}
 use Rattle.std.specs.Prelude.{Contains, codes, nat_eq, nat_le}
 use Rattle.std.specs.List.{prefix_len, AllByRecursion}
@@ -11,23 +11,22 @@ use Rattle.std.proofs.lemmas.List.Elements.{All-from_recursion, recursion_from_A
 use Rattle.std.proofs.lemmas.List.Sums.{prefix_len-le-length}
 use Rattle.std.proofs.lemmas.Slice.Eq.{bytes_eq-Decides}
 use Rattle.std.proofs.lemmas.Bool.{eqb-true}
-use Rattle.av_base.specs.Tokens.{is_word_byte, IsDigits}
+use Rattle.av_base.specs.declared.piece.Piece.{Piece}
+use Rattle.av_base.specs.declared.piece.Piece.TheVariants as piece
+use Rattle.av_base.specs.Tokens.{is_word_byte, is_blank, IsDigits}
 use Rattle.av_net.specs.declared.token_kind.TokenKind.{TokenKind}
 use Rattle.av_net.specs.declared.token_kind.TokenKind.TheVariants as kind
-use Rattle.av_net.specs.Lexemes.{reserved_words, begins_name, IsIdentifier, IsSpelled, IsLongest, BeginsNone}
-use Rattle.av_vread.specs.declared.scan.Piece.{Piece}
-use Rattle.av_vread.specs.declared.scan.Piece.TheVariants as piece
+use Rattle.av_net.specs.Lexemes.{reserved_words, begins_name, IsIdentifier, IsSized, IsSpelled, design_texts}
 use Rattle.av_net.specs.Spelling.{is_reserved}
-use Rattle.av_vread.specs.inner.Scan.{is_single, begins_pair, is_signed, based_len, tail_len, number_by, number_of, word_kind, symbol_of, token_of}
-use Rattle.av_base.proofs.Tables.{both, is_found, is_there, not_there, none_there, one, two}
-use Rattle.av_base.proofs.Runs.{chosen, run_all, run_covers}
-use Rattle.av_base.proofs.Longest.{CoversBy, run_covered, FitsBy, found_longest, longest_found, none_begins, none_found}
-use Rattle.av_vread.proofs.Tables.{reserved_word, is_other, IsSymbol, symbol_is, single_symbol, pair_symbol}
+use Rattle.av_vread.specs.inner.Lexing.{scanner}
+use Rattle.av_vread.specs.inner.Scan.{is_single, is_pair, begins_pair, is_signed, based_len, tail_len, number_by, number_of, word_kind, symbol_of, token_of}
+use Rattle.av_base.proofs.Tables.{both, is_found, is_there, not_there, none_there, none_short}
+use Rattle.av_base.proofs.Runs.{chosen, run_all, run_covers, blank_or}
+use Rattle.av_base.proofs.Longest.{Covers, run_token_covers, run_fits, Fits, fits_as, IsNoGap, no_gap_either, Finds}
+use Rattle.av_base.proofs.Symbols.{symbol_covers, symbol_fits}
+use Rattle.av_vread.proofs.Tables.{reserved_word, is_other, symbol_is, single_symbol, pair_symbol}
 
 -- ---- what is spelled is covered by the token that is found
-
-abbrev pub Covers : TokenKind → ℕ → Piece → Type 0
-Covers k len found = CoversBy piece.Token k len found
 
 alphabetic_word : (b : ℕ) → begins_name b ≡ true → is_word_byte b ≡ true
 alphabetic_word b h = grind arith
@@ -41,18 +40,13 @@ name_kind text h = rw (not_there text reserved_words h) refl
 pub reserved_kind : (text : List ℕ) → Contains reserved_words text → word_kind text ≡ kind.Reserved
 reserved_kind text h = rw (is_found text reserved_words h) refl
 
-word_covers : (k : TokenKind) (front back : List ℕ) → IsIdentifier front → word_kind front ≡ k → (b : ℕ) (bytes : List ℕ) → front ++ back ≡ b ∷ bytes → Covers k (length front) (token_of b (front ++ back))
+at_letter : (b : ℕ) (text : List ℕ) → begins_name b ≡ true → token_of b text ≡ piece.Token (word_kind (take (prefix_len is_word_byte text) text)) (prefix_len is_word_byte text)
 unfolding token_of
-word_covers k [] back s w b bytes e = absurd s
-word_covers k (x ∷ front) back s w b bytes e =
-    let head : x ≡ b = cc in
-    let letter : begins_name b ≡ true = subst (λ z. begins_name z ≡ true) head s.0 in
-    let all : AllByRecursion (λ x. is_word_byte x ≡ true) (x ∷ front) = (alphabetic_word x s.0, recursion_from_All (λ x. is_word_byte x ≡ true) front s.1) in
-    run_covered piece.Token word_kind is_word_byte k (x ∷ front) back (token_of b (x ∷ front ++ back)) all w (rw letter refl)
+at_letter b text h = rw h refl
 
-pub one_or_two : (t : Bool) (found : Piece) → found ≡ cond t (piece.Token kind.Symbol 2) (piece.Token kind.Symbol 1) → Covers kind.Symbol 1 found
-one_or_two true found h = record { kind = kind.Symbol; len' = 2; is = h; no_less = omega arith; same = λ e. absurd (omega arith) }
-one_or_two false found h = record { kind = kind.Symbol; len' = 1; is = h; no_less = omega arith; same = λ e. refl }
+word_covers : (k : TokenKind) (front back : List ℕ) → IsIdentifier front → word_kind front ≡ k → (b : ℕ) (bytes : List ℕ) → front ++ back ≡ b ∷ bytes → Covers k (length front) (token_of b (front ++ back))
+word_covers k [] back s w b bytes e = absurd s
+word_covers k (x ∷ front) back s w b bytes e = run_token_covers word_kind begins_name is_word_byte token_of alphabetic_word at_letter k x front back s.0 s.1 w b bytes e
 
 -- what begins with $signed begins with that byte
 signed_first : (b : ℕ) (bytes : List ℕ) → is_signed (b ∷ bytes) ≡ true → nat_eq b 36 ≡ true
@@ -77,16 +71,6 @@ other_symbol b bytes h = go (begins_name b) (is_ascii_digit b) (is_signed (b ∷
     go false false true e f g k = let q = signed_first b bytes g in let w : not (nat_eq b 36) ≡ true = k in absurd (true≢false (sym w ∙ ap not q))
     go false false false e f g k = rw (e, f, g) refl
 
-symbol_covers : (front back : List ℕ) → IsSymbol front → (b : ℕ) (bytes : List ℕ) → front ++ back ≡ b ∷ bytes → Covers kind.Symbol (length front) (token_of b (front ++ back))
-unfolding symbol_of
-symbol_covers front back (one {b = x} o s) b bytes e =
-    let head : x ≡ b = cc in
-    subst (λ z. Covers kind.Symbol 1 (token_of z (x ∷ back))) head (one_or_two (begins_pair (x ∷ back)) (token_of x (x ∷ back)) (other_symbol x back o ∙ rw s refl))
-symbol_covers front back (two {b = x} {c = y} o s) b bytes e =
-    let head : x ≡ b = cc in
-    subst (λ z. Covers kind.Symbol 2 (token_of z (x ∷ y ∷ back))) head
-    (record { kind = kind.Symbol; len' = 2; is = other_symbol x (y ∷ back) o ∙ rw s refl; no_less = omega arith; same = λ h. refl })
-
 system_covers : (back : List ℕ) (b : ℕ) (bytes : List ℕ) → codes "$signed" ++ back ≡ b ∷ bytes → Covers kind.System 7 (token_of b (codes "$signed" ++ back))
 unfolding token_of
 system_covers back b bytes e =
@@ -108,7 +92,7 @@ by_tail n tail = go (nat_eq tail 0) refl
         record { kind = kind.Literal; len' = n + tail; is = refl; no_less = omega arith; same = λ h. absurd (omega arith) }
 
 -- a token that covers more covers less, where the kind is told by the greater length
-less_covers : (m n : ℕ) (found : Piece) → m ≤ n → Covers kind.Number n found → Covers kind.Number m found
+less_covers : (m n : ℕ) (found : Piece TokenKind) → m ≤ n → Covers kind.Number n found → Covers kind.Number m found
 less_covers m n found le c = record {
   kind = c.kind;
   len' = c.len';
@@ -180,8 +164,8 @@ number_covers (x ∷ front) back s b bytes e =
     let n : ℕ = prefix_len is_ascii_digit text in
     rw (at_digit b text digit) (less_covers (length (x ∷ front)) n (number_of text) (run_covers is_ascii_digit (x ∷ front) back (digits_all (x ∷ front) s)) (by_tail n (tail_len (drop n text))))
 
-pub covers : (k : TokenKind) (front back : List ℕ) → IsSpelled k front → (b : ℕ) (bytes : List ℕ) → front ++ back ≡ b ∷ bytes → Covers k (length front) (token_of b (front ++ back))
-unfolding token_of
+covers : (k : TokenKind) (front back : List ℕ) → IsSpelled k front → (b : ℕ) (bytes : List ℕ) → front ++ back ≡ b ∷ bytes → Covers k (length front) (token_of b (front ++ back))
+unfolding token_of symbol_of
 covers kind.Name front back s b bytes e = word_covers kind.Name front back s.0 (name_kind front s.1) b bytes e
 covers kind.Reserved front back s b bytes e = word_covers kind.Reserved front back (reserved_word front s) (reserved_kind front s) b bytes e
 covers kind.System front back s b bytes e =
@@ -192,34 +176,10 @@ covers kind.Literal front back s b bytes e =
     let len : length front ≡ length s.size + (2 + length s.digits) = ap length s.spelled ∙ sized_length s.size s.digits in
     subst (λ n. Covers kind.Literal n (token_of b (front ++ back))) (sym len)
     (subst (λ (z : List ℕ). Covers kind.Literal (length s.size + (2 + length s.digits)) (token_of b z)) (sym whole) (literal_covers s.size s.digits back s.sized s.valued b bytes (sym whole ∙ e)))
-covers kind.Symbol front back s b bytes e = symbol_covers front back (symbol_is front s) b bytes e
+covers kind.Symbol front back s b bytes e = symbol_covers kind.Symbol is_other is_single is_pair token_of other_symbol front back (symbol_is front s) b bytes e
 covers kind.End front back s b bytes e = absurd s
 
 -- ---- the token that is found is spelled
-
-abbrev pub Fits : TokenKind → ℕ → List ℕ → Type 0
-Fits k n bytes = FitsBy IsSpelled k n bytes
-
-fits_as : (k l : TokenKind) (m n : ℕ) (bytes : List ℕ) → piece.Token l m ≡ piece.Token k n → Fits l m bytes → Fits k n bytes
-fits_as k l m n bytes e f =
-    let ek : l ≡ k = cc in
-    let en : m ≡ n = cc in
-    subst (λ z. Fits z n bytes) ek (subst (λ z. Fits l z bytes) en f)
-
-pair_fits : (b : ℕ) (bytes : List ℕ) → begins_pair (b ∷ bytes) ≡ true → Fits kind.Symbol 2 (b ∷ bytes)
-pair_fits b [] h = absurd cc
-pair_fits b (c ∷ bytes) h = record { spelled = pair_symbol b c h; some = omega arith; within = omega arith }
-
-symbol_fits : (b : ℕ) (bytes : List ℕ) (k : TokenKind) (n : ℕ) → symbol_of b (b ∷ bytes) ≡ piece.Token k n → Fits k n (b ∷ bytes)
-unfolding symbol_of
-symbol_fits b bytes k n e =
-    elim (chosen (begins_pair (b ∷ bytes)) (piece.Token kind.Symbol 2) (cond (is_single b) (piece.Token kind.Symbol 1) piece.Bad) (piece.Token k n) e) [
-      | inl p ↦ fits_as k kind.Symbol 2 n (b ∷ bytes) p.1 (pair_fits b bytes p.0)
-      | inr p ↦ elim (chosen (is_single b) (piece.Token kind.Symbol 1) piece.Bad (piece.Token k n) p.1) [
-        | inl q ↦ fits_as k kind.Symbol 1 n (b ∷ bytes) q.1 (record { spelled = single_symbol b q.0; some = omega arith; within = omega arith })
-        | inr q ↦ absurd cc
-      ]
-    ]
 
 word_spelled : (text : List ℕ) → IsIdentifier text → IsSpelled (word_kind text) text
 word_spelled text w = go (is_reserved text) refl
@@ -281,15 +241,15 @@ tail_is (b ∷ c ∷ text) h = go (nat_eq b 39) (nat_eq c 100) refl refl h
 take_both : (n m : ℕ) (text : List ℕ) → n ≤ length text → take (n + m) text ≡ take n text ++ take m (drop n text)
 take_both n m text h = take-add n m text
 
-number_fits : (b : ℕ) (bytes : List ℕ) (k : TokenKind) (n : ℕ) → is_ascii_digit b ≡ true → number_of (b ∷ bytes) ≡ piece.Token k n → Fits k n (b ∷ bytes)
+number_fits : (b : ℕ) (bytes : List ℕ) (k : TokenKind) (n : ℕ) → is_ascii_digit b ≡ true → number_of (b ∷ bytes) ≡ piece.Token k n → Fits design_texts k n (b ∷ bytes)
 unfolding number_of
 number_fits b bytes k n h e =
     elim (chosen (nat_eq tail 0) (piece.Token kind.Number m) (piece.Token kind.Literal (m + tail)) (piece.Token k n) e) [
-      | inl p ↦ fits_as k kind.Number m n text p.1 (record { spelled = r.1; some = r.0; within = within })
+      | inl p ↦ fits_as design_texts k kind.Number m n text p.1 (record { spelled = r.1; some = r.0; within = within })
       | inr p ↦
           let some : 0 < tail = let q = p.0 in grind arith in
           let t = tail_is (drop m text) some in
-          fits_as k kind.Literal (m + tail) n text p.1 (record {
+          fits_as design_texts k kind.Literal (m + tail) n text p.1 (record {
             spelled = record { size = take m text; digits = t.digits; spelled = take_both m tail text within ∙ ap (λ z. take m text ++ z) t.is; sized = r.1; valued = t.valued };
             some = omega arith;
             within = let w = t.within in let l = length-drop m text in omega (arith, within);
@@ -311,68 +271,61 @@ number_fits b bytes k n h e =
     within : prefix_len is_ascii_digit (b ∷ bytes) ≤ length (b ∷ bytes)
     within = prefix_len-le-length is_ascii_digit (b ∷ bytes)
 
-signed_fits : (b : ℕ) (bytes : List ℕ) → is_signed (b ∷ bytes) ≡ true → Fits kind.System 7 (b ∷ bytes)
+signed_fits : (b : ℕ) (bytes : List ℕ) → is_signed (b ∷ bytes) ≡ true → Fits design_texts kind.System 7 (b ∷ bytes)
 signed_fits b bytes h =
     let z = both (nat_le 7 (length (b ∷ bytes))) (bytes_eq (take 7 (b ∷ bytes)) (codes "$signed")) h in
     record { spelled = (bytes_eq-Decides (take 7 (b ∷ bytes)) (codes "$signed")).0 z.1; some = omega arith; within = let q = z.0 in grind arith }
 
-token_fits : (b : ℕ) (bytes : List ℕ) (k : TokenKind) (n : ℕ) → token_of b (b ∷ bytes) ≡ piece.Token k n → Fits k n (b ∷ bytes)
-unfolding token_of
+token_fits : (b : ℕ) (bytes : List ℕ) (k : TokenKind) (n : ℕ) → token_of b (b ∷ bytes) ≡ piece.Token k n → Fits design_texts k n (b ∷ bytes)
+unfolding token_of symbol_of
 token_fits b bytes k n e =
     elim (chosen (begins_name b) (piece.Token (word_kind (take (prefix_len is_word_byte (b ∷ bytes)) (b ∷ bytes))) (prefix_len is_word_byte (b ∷ bytes))) (cond (is_ascii_digit b) (number_of (b ∷ bytes)) (cond (is_signed (b ∷ bytes)) (piece.Token kind.System 7) (symbol_of b (b ∷ bytes)))) (piece.Token k n) e) [
       | inl p ↦
-          let m : ℕ = prefix_len is_word_byte (b ∷ bytes) in
-          let at_word : prefix_len is_word_byte (b ∷ bytes) ≡ suc (prefix_len is_word_byte bytes) = rw (alphabetic_word b p.0) (one-add _) in
-          let word : IsIdentifier (take m (b ∷ bytes)) = rw at_word (p.0, All-from_recursion (λ x. is_word_byte x ≡ true) (take (prefix_len is_word_byte bytes) bytes) (run_all is_word_byte bytes)) in
-          fits_as k (word_kind (take m (b ∷ bytes))) m n (b ∷ bytes) p.1 (record { spelled = word_spelled (take m (b ∷ bytes)) word; some = omega (arith, at_word); within = prefix_len-le-length is_word_byte (b ∷ bytes) })
+          fits_as design_texts k (word_kind (take (prefix_len is_word_byte (b ∷ bytes)) (b ∷ bytes))) (prefix_len is_word_byte (b ∷ bytes)) n (b ∷ bytes) p.1
+          (run_fits design_texts word_kind is_word_byte b bytes (alphabetic_word b p.0) (λ run all. word_spelled (b ∷ run) (p.0, all)))
       | inr p ↦ elim (chosen (is_ascii_digit b) (number_of (b ∷ bytes)) (cond (is_signed (b ∷ bytes)) (piece.Token kind.System 7) (symbol_of b (b ∷ bytes))) (piece.Token k n) p.1) [
         | inl q ↦ number_fits b bytes k n q.0 q.1
         | inr q ↦ elim (chosen (is_signed (b ∷ bytes)) (piece.Token kind.System 7) (symbol_of b (b ∷ bytes)) (piece.Token k n) q.1) [
-          | inl r ↦ fits_as k kind.System 7 n (b ∷ bytes) r.1 (signed_fits b bytes r.0)
-          | inr r ↦ symbol_fits b bytes k n r.1
+          | inl r ↦ fits_as design_texts k kind.System 7 n (b ∷ bytes) r.1 (signed_fits b bytes r.0)
+          | inr r ↦ symbol_fits design_texts kind.Symbol is_single is_pair single_symbol pair_symbol b bytes k n r.1
         ]
       ]
     ]
 
-pub record Found (k : TokenKind) (n : ℕ) (bytes : List ℕ) : Type 0 where
-  pub longest : IsLongest k (take n bytes) (drop n bytes)
-  pub some : 0 < n
-  pub within : n ≤ length bytes
-
-same_len : (k l : TokenKind) (m n : ℕ) → piece.Token k m ≡ piece.Token l n → m ≡ n
-same_len k l m n e = cc
-
-pub token_found : (b : ℕ) (bytes : List ℕ) (k : TokenKind) (n : ℕ) → token_of b (b ∷ bytes) ≡ piece.Token k n → Found k n (b ∷ bytes)
-token_found b bytes k n e =
-    let f = token_fits b bytes k n e in
-    record { longest = record { spelled = f.spelled; longest = found_longest piece.Token same_len IsSpelled token_of covers token_fits b bytes k n e }; some = f.some; within = f.within }
-
-pub token_none : (b : ℕ) (bytes : List ℕ) → token_of b (b ∷ bytes) ≡ piece.Bad → BeginsNone (b ∷ bytes)
-token_none b bytes e = none_begins piece.Token same_len IsSpelled token_of covers token_fits b bytes (λ k n h. let here : piece.Bad ≡ piece.Token k n = sym e ∙ h in cc)
-
--- the longest token is the one that is found
-pub token_is : (k : TokenKind) (b : ℕ) (bytes text rest : List ℕ) → b ∷ bytes ≡ text ++ rest → IsLongest k text rest → token_of b (b ∷ bytes) ≡ piece.Token k (length text)
-token_is k b bytes text rest whole l = longest_found piece.Token same_len IsSpelled token_of covers token_fits k b bytes text rest whole l.spelled l.longest
-
-abbrev pub IsNoGap : Piece → Type 0
-IsNoGap (piece.Gap n) = ⊥
-IsNoGap _ = Unit {0}
-
-either : (t : Bool) (x y : Piece) → IsNoGap x → IsNoGap y → IsNoGap (cond t x y)
-either true x y h k = h
-either false x y h k = k
+-- ---- what else is known of it
 
 number_no_gap : (text : List ℕ) → IsNoGap (number_of text)
 unfolding number_of
-number_no_gap text = either (nat_eq (tail_len (drop (prefix_len is_ascii_digit text) text)) 0) _ _ tt tt
+number_no_gap text = no_gap_either (nat_eq (tail_len (drop (prefix_len is_ascii_digit text) text)) 0) _ _ tt tt
 
-pub token_no_gap : (b : ℕ) (text : List ℕ) → IsNoGap (token_of b text)
+token_no_gap : (b : ℕ) (text : List ℕ) → IsNoGap (token_of b text)
 unfolding token_of symbol_of
 token_no_gap b text =
-    either (begins_name b) _ _ tt (either (is_ascii_digit b) _ _ (number_no_gap text) (either (is_signed text) _ _ tt (either (begins_pair text) _ _ tt (either (is_single b) _ _ tt tt))))
+    no_gap_either (begins_name b) _ _ tt
+    (no_gap_either (is_ascii_digit b) _ _ (number_no_gap text) (no_gap_either (is_signed text) _ _ tt (no_gap_either (begins_pair text) _ _ tt (no_gap_either (is_single b) _ _ tt tt))))
 
--- where no token begins, none is found
-pub none_is : (b : ℕ) (bytes : List ℕ) → BeginsNone (b ∷ bytes) → (found : Piece) → token_of b (b ∷ bytes) ≡ found → IsNoGap found → found ≡ piece.Bad
-none_is b bytes h piece.Bad e g = refl
-none_is b bytes h (piece.Token k n) e g = absurd (none_found piece.Token same_len IsSpelled token_of covers token_fits b bytes h k n e)
-none_is b bytes h (piece.Gap n) e g = absurd g
+no_sized : IsSized [] → ⊥
+no_sized s = go s.size s.spelled
+  where
+    go : (size : List ℕ) → [] ≡ size ++ (39 ∷ 100 ∷ s.digits) → ⊥
+    go [] e = cc
+    go (b ∷ size) e = cc
+
+spelled_some : (k : TokenKind) → IsSpelled k [] → ⊥
+spelled_some kind.Name s = s.0
+spelled_some kind.Reserved s = reserved_word [] s
+spelled_some kind.System s = absurd cc
+spelled_some kind.Number s = s
+spelled_some kind.Literal s = no_sized s
+spelled_some kind.Symbol s = none_short is_other is_single is_pair (symbol_is [] s)
+spelled_some kind.End s = s
+
+blank_bad : (b : ℕ) (bytes : List ℕ) → is_blank b ≡ true → token_of b (b ∷ bytes) ≡ piece.Bad
+unfolding token_of symbol_of
+blank_bad b [] h = blank_or b (λ z. token_of z (z ∷ []) ≡ piece.Bad) h refl refl refl refl
+blank_bad b (c ∷ bytes) h =
+    blank_or b (λ z. token_of z (z ∷ c ∷ bytes) ≡ piece.Bad) h (rw (not_signed 32 (c ∷ bytes) refl) refl) (rw (not_signed 9 (c ∷ bytes) refl) refl)
+    (rw (not_signed 13 (c ∷ bytes) refl) refl) (rw (not_signed 10 (c ∷ bytes) refl) refl)
+
+pub finds : Finds design_texts scanner
+finds = record { covers = covers; fits = token_fits; no_gap = token_no_gap; some = spelled_some; ranged = λ k text h. tt; in_range = λ k text h. refl; at_blank = blank_bad; no_blank = refl }

@@ -22,7 +22,7 @@ pub tokens_named : {p : Place} {bytes : List ℕ} {ts : List Token} → AreToken
 tokens_named end = ((λ e. absurd cc), tt)
 tokens_named (blank h t) = tokens_named t
 tokens_named (comment e c t) = tokens_named t
-tokens_named (token {text = text} e h x t) = ((λ k. subst (λ k. IsSpelled k text) k x.spelled), tokens_named t)
+tokens_named (token {text = text} e h x r t) = ((λ k. subst (λ k. IsSpelled k text) k x.spelled), tokens_named t)
 
 words_named : {texts : List (List ℕ)} {ts rest : List Token} → AreWords texts ts rest → AreNamed ts → AreNamed rest
 words_named no_word n = n

@@ -10,8 +10,8 @@ use Rattle.av_base.specs.Tokens.{is_word_byte, IsDigits}
 use Rattle.av_net.specs.declared.token_kind.TokenKind.{TokenKind}
 use Rattle.av_net.specs.declared.token_kind.TokenKind.TheVariants as kind
 use Rattle.av_net.specs.Lexemes.{reserved_words, begins_name, IsIdentifier, IsName}
-use Rattle.av_vread.specs.declared.scan.Piece.{Piece}
-use Rattle.av_vread.specs.declared.scan.Piece.TheVariants as piece
+use Rattle.av_base.specs.declared.piece.Piece.{Piece}
+use Rattle.av_base.specs.declared.piece.Piece.TheVariants as piece
 use Rattle.av_vread.specs.inner.Scan.{is_single, is_pair, begins_pair, tail_len, number_of, word_kind, symbol_of, token_of}
 use Rattle.av_base.proofs.Tables.{both}
 use Rattle.av_vread.proofs.Tables.{and_false, not_true, is_other, reserved_word}
@@ -40,7 +40,7 @@ no_word (b ∷ rest) c = go (is_word_byte b) refl (both (not (is_word_byte b)) _
 no_slash : (b : ℕ) → begins_name b ≡ true → nat_eq b 47 ≡ false
 no_slash b h = grind arith
 
-abbrev word_piece : List ℕ → ℕ → Piece
+abbrev word_piece : List ℕ → ℕ → Piece TokenKind
 word_piece bytes n = piece.Token (word_kind (take n bytes)) n
 
 word_found : (b : ℕ) (bytes : List ℕ) → begins_name b ≡ true → token_of b bytes ≡ word_piece bytes (prefix_len is_word_byte bytes)

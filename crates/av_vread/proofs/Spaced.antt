@@ -7,10 +7,12 @@ use Rattle.av_base.specs.declared.place.Place.{Place}
 use Rattle.av_base.specs.Tokens.{next_place, moved, is_blank}
 use Rattle.av_net.specs.declared.token_kind.TokenKind.{TokenKind}
 use Rattle.av_net.specs.declared.token_kind.TokenKind.TheVariants as kind
-use Rattle.av_net.specs.Lexemes.{Token, IsLongest, IsCommented, AreTokens, end, blank, token}
-use Rattle.av_vread.specs.declared.scan.Piece.TheVariants as piece
+use Rattle.av_net.specs.Lexemes.{Token, IsLongest, IsCommented, AreTokens, design_texts, end, blank, token}
+use Rattle.av_base.specs.declared.piece.Piece.TheVariants as piece
+use Rattle.av_vread.specs.inner.Lexing.{scanner}
 use Rattle.av_vread.specs.inner.Scan.{token_of}
-use Rattle.av_vread.proofs.Longest.{token_found}
+use Rattle.av_base.proofs.Longest.{token_found}
+use Rattle.av_vread.proofs.Longest.{finds}
 
 -- a token with the blanks before and after it
 pub record Written : Type 0 where
@@ -62,7 +64,7 @@ no_comment b bytes h c = let head : b ≡ 47 = heads b bytes c.0 c.1 in let z : 
 
 longest_next : (k : TokenKind) (b : ℕ) (later rest : List ℕ) → token_of b (b ∷ later ++ rest) ≡ piece.Token k (length (b ∷ later)) → IsLongest k (b ∷ later) rest
 longest_next k b later rest e =
-    let f = token_found b (later ++ rest) k (length (b ∷ later)) e in
+    let f = token_found design_texts scanner finds b (later ++ rest) k (length (b ∷ later)) e in
     subst (λ (z : List ℕ). IsLongest k z rest) (take-append_seam (b ∷ later) rest)
     (subst (λ (z : List ℕ). IsLongest k (take (length (b ∷ later)) (b ∷ later ++ rest)) z) (drop-append_seam (b ∷ later) rest) f.longest)
 
@@ -72,7 +74,7 @@ token_before p k text rest ts n t = by n.first n.later n.is n.no_slash n.found
   where
     by : (b : ℕ) (later : List ℕ) → text ≡ b ∷ later → nat_eq b 47 ≡ false → token_of b (b ∷ later ++ rest) ≡ piece.Token k (length (b ∷ later)) → AreTokens p (text ++ rest) (record { kind = k; text = text; place = p } ∷ ts)
     by b later e h f =
-        token refl (λ c. no_comment b (later ++ rest) h (subst (λ (z : List ℕ). IsCommented (z ++ rest)) e c)) (subst (λ (z : List ℕ). IsLongest k z rest) (sym e) (longest_next k b later rest f)) t
+        token refl (λ c. no_comment b (later ++ rest) h (subst (λ (z : List ℕ). IsCommented (z ++ rest)) e c)) (subst (λ (z : List ℕ). IsLongest k z rest) (sym e) (longest_next k b later rest f)) tt t
 
 pub spaced_tokens : (p : Place) (ws : List Written) → AreSpaced ws → AreTokens p (bytes_of ws) (tokens_from p ws)
 spaced_tokens p [] s = end

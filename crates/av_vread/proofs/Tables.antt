@@ -1,18 +1,16 @@
 -- The tables of reserved words and symbols, and the tests by which they are found.
 use Rattle.std.proofs.Common.{◌≡◌, ℕ, Bool, true, false, not, ◌&&◌, List, [], ◌∷◌, refl}
 use Rattle.std.specs.Prelude.{codes, nat_eq, Contains}
-use Rattle.std.specs.List.{list_all, list_any}
+use Rattle.std.specs.List.{list_any}
 use Rattle.std.specs.Char.{is_ascii_digit}
 use Rattle.std.specs.Str.{bytes_eq}
 use Rattle.std.proofs.lemmas.Bool.{eqb-true}
 use Rattle.std.proofs.lemmas.List.Elements.{All-contains}
 use Rattle.std.proofs.lemmas.List.Sums.{AllPass-from_list_all}
 use Rattle.std.proofs.lemmas.Map.Views.{Contains-from_any}
-use Rattle.av_base.specs.Tokens.{is_word_byte}
 use Rattle.av_net.specs.Lexemes.{reserved_words, symbols, begins_name, IsIdentifier}
-use Rattle.av_net.specs.Spelling.{is_identifier}
 use Rattle.av_vread.specs.inner.Scan.{is_single, is_pair}
-use Rattle.av_base.proofs.Tables.{both, is_there, tells, IsShort, short_is, single_there}
+use Rattle.av_base.proofs.Tables.{both, is_there, words_are, IsShort, short_is, single_there}
 
 pub and_false : (a b : Bool) → b ≡ false → (a && b) ≡ false
 and_false true b e = e
@@ -25,11 +23,7 @@ not_true false e = refl
 -- ---- words
 
 pub reserved_word : (text : List ℕ) → Contains reserved_words text → IsIdentifier text
-reserved_word text c = go text (tells is_identifier reserved_words refl text c)
-  where
-    go : (text : List ℕ) → is_identifier text ≡ true → IsIdentifier text
-    go [] h = absurd cc
-    go (b ∷ bytes) h = let z = both (begins_name b) (list_all is_word_byte bytes) h in (z.0, AllPass-from_list_all is_word_byte bytes z.1)
+reserved_word text c = words_are begins_name reserved_words refl IsIdentifier (λ b bytes h all. (h, all)) text c
 
 -- ---- symbols
 

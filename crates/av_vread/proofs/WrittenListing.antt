@@ -160,7 +160,7 @@ comment_before : (p : Place) (line rest : List ℕ) (ts : List Token) → IsComm
 comment_before p line rest ts c t =
     let more : Without 10 c.more = (subst (Without 10) c.slashes c.no_feed).1.1 in
     comment {text = line} {rest = 10 ∷ rest} refl
-    (record { more = c.more; slashes = c.slashes; one_line = All-from_recursion (λ b. b ≢ 10) c.more (no_feeds c.more more); stops = refl }) (blank refl t)
+    (record { more = c.more; marked = c.slashes; one_line = All-from_recursion (λ b. b ≢ 10) c.more (no_feeds c.more more); stops = refl }) (blank refl t)
 
 pub comments_before : (p : Place) (lines : List (List ℕ)) (rest : List ℕ) (ts : List Token) → AllByRecursion IsCommentLine lines → AreTokens (after_lines p lines) rest ts → AreTokens p (joined lines rest) ts
 comments_before p [] rest ts h t = t

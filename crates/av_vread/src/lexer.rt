@@ -6,9 +6,9 @@ ghost use Rattle.av_base.specs.Tokens.{start};
 ghost use Rattle.av_vread.specs.inner.Lexing.{views, GivesTokens, lexed_of};
 
 use crate::VFault;
-use crate::scan::{Piece, piece_at};
+use crate::scan::piece_at;
 use crate::token::Token;
-use av_base::{List, Place, moved, part};
+use av_base::{List, Piece, Place, moved, part};
 use av_net::TokenKind;
 use std::alloc::Global;
 use std::str;

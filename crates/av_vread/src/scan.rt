@@ -1,30 +1,11 @@
 //! What stands at the front of a text.
 
 ghost use Rattle.std.specs.Prelude.{◌≡◌, ◌<◌, ◌≤◌, ◌-◌, length, drop, slice_index};
-ghost use Rattle.av_vread.specs.inner.Scan.{is_slashed, is_single, is_pair, begins_pair, is_signed, tail_len, number_of, symbol_of, word_kind, token_of, piece_of, FitsIn};
+ghost use Rattle.av_base.specs.Pieces.{FitsIn};
+ghost use Rattle.av_vread.specs.inner.Scan.{is_single, is_pair, begins_pair, is_signed, tail_len, number_of, symbol_of, word_kind, token_of, piece_of};
 
-use av_base::{digits_len, is_blank, line_len, word_len};
+use av_base::{Piece, begins_comment, digits_len, is_blank, line_len, word_len};
 use av_net::{TokenKind, begins_name, is_keyword};
-
-/// What stands at the front of a text.
-#[derive(Clone, Copy, Debug)]
-pub(crate) enum Piece {
-    /// So many bytes that are no token.
-    Gap(usize),
-    /// A token of so many bytes.
-    Token(TokenKind, usize),
-    /// A byte that begins no token.
-    Bad,
-}
-
-fn is_slashed(text: &[u8]) -> bool
-    ensures { result ≡ is_slashed text.now }
-{
-    match text {
-        [first, second, ..] => *first == b'/' && *second == b'/',
-        _ => false,
-    }
-}
 
 fn word_kind(text: &[u8]) -> TokenKind
     ensures { result ≡ word_kind text.now }
@@ -77,7 +58,7 @@ fn begins_pair(text: &[u8]) -> bool
 }
 
 #[tactic(auto, unfolding(crate::specs::inner::Scan::symbol_of))]
-fn symbol_of(first: u8, text: &[u8]) -> Piece
+fn symbol_of(first: u8, text: &[u8]) -> Piece<TokenKind>
     ensures { result ≡ symbol_of first text.now }
 {
     if begins_pair(text) {
@@ -110,7 +91,7 @@ fn tail_len(text: &[u8]) -> usize
 }
 
 #[tactic(auto, unfolding(crate::specs::inner::Scan::number_of))]
-fn number_of(text: &[u8]) -> Piece
+fn number_of(text: &[u8]) -> Piece<TokenKind>
     ensures { result ≡ number_of text.now }
 {
     let len = digits_len(text);
@@ -123,7 +104,7 @@ fn number_of(text: &[u8]) -> Piece
 }
 
 #[tactic(auto, unfolding(crate::specs::inner::Scan::token_of))]
-fn token_of(first: u8, text: &[u8]) -> Piece
+fn token_of(first: u8, text: &[u8]) -> Piece<TokenKind>
     ensures { result ≡ token_of first text.now }
 {
     if begins_name(first) {
@@ -138,13 +119,13 @@ fn token_of(first: u8, text: &[u8]) -> Piece
     }
 }
 
-#[tactic(auto, unfolding(crate::specs::inner::Scan::piece_of))]
-fn piece_of(first: u8, text: &[u8]) -> Piece
+#[tactic(auto, unfolding(av_base::specs::Pieces::piece_by))]
+fn piece_of(first: u8, text: &[u8]) -> Piece<TokenKind>
     ensures { result ≡ piece_of first text.now }
 {
     if is_blank(first) {
         Piece::Gap(1)
-    } else if is_slashed(text) {
+    } else if begins_comment(text, b'/') {
         Piece::Gap(line_len(text))
     } else {
         token_of(first, text)
@@ -152,7 +133,7 @@ fn piece_of(first: u8, text: &[u8]) -> Piece
 }
 
 /// What stands at an index of a text.
-pub(crate) fn piece_at(text: &[u8], at: usize) -> Piece
+pub(crate) fn piece_at(text: &[u8], at: usize) -> Piece<TokenKind>
     requires { at < length text.now }
     ensures piece { result ≡ piece_of (slice_index text.now at) (drop at text.now) }
     ensures fits { FitsIn result (length text.now - at) }

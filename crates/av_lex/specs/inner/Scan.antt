@@ -1,18 +1,14 @@
 -- What stands at the front of a text, found byte by byte.
-use Rattle.std.specs.Prelude.{ℕ, ◌^◌, ◌<◌, ◌≤◌, Bool, true, false, ◌&&◌, ◌||◌, if◌then◌else◌, nat_eq, nat_lt, List, ◌∷◌, take, codes}
+use Rattle.std.specs.Prelude.{ℕ, ◌^◌, Bool, true, false, ◌||◌, if◌then◌else◌, nat_eq, nat_lt, List, take, codes}
 use Rattle.std.specs.List.{prefix_len, list_any}
 use Rattle.std.specs.Char.{is_ascii_digit, is_ascii_alphabetic}
 use Rattle.av_base.specs.declared.token_kind.TokenKind.{TokenKind}
 use Rattle.av_base.specs.declared.token_kind.TokenKind.TheVariants as kind
-use Rattle.av_base.specs.Tokens.{is_word_byte, is_blank, number_of}
-use Rattle.av_base.specs.Spelling.{is_not_feed, is_reserved}
-use Rattle.av_lex.specs.declared.scan.Piece.{Piece}
-use Rattle.av_lex.specs.declared.scan.Piece.TheVariants as piece
-
--- the text begins with --
-abbrev pub is_dashed : List ℕ → Bool
-is_dashed (b ∷ c ∷ bytes) = nat_eq b 45 && nat_eq c 45
-is_dashed _ = false
+use Rattle.av_base.specs.Tokens.{is_word_byte, number_of}
+use Rattle.av_base.specs.Spelling.{is_reserved}
+use Rattle.av_base.specs.declared.piece.Piece.{Piece}
+use Rattle.av_base.specs.declared.piece.Piece.TheVariants as piece
+use Rattle.av_base.specs.Pieces.{piece_by, symbol_by, begins_pair as begins_pair_by}
 
 -- a symbol of one byte
 abbrev pub is_single : ℕ → Bool
@@ -26,36 +22,25 @@ is_pair b c =
 
 -- the text begins with a symbol of two bytes
 abbrev pub begins_pair : List ℕ → Bool
-begins_pair (b ∷ c ∷ bytes) = is_pair b c
-begins_pair _ = false
+begins_pair = begins_pair_by is_pair
 
 -- the symbol at the front
-unfoldable pub symbol_of : ℕ → List ℕ → Piece
-symbol_of first text =
-    if begins_pair text then piece.Token kind.Symbol 2
-    else (if is_single first then piece.Token kind.Symbol 1 else piece.Bad)
+unfoldable pub symbol_of : ℕ → List ℕ → Piece TokenKind
+symbol_of first text = symbol_by kind.Symbol is_single is_pair first text
 
 -- what a word is
 abbrev pub word_kind : List ℕ → TokenKind
 word_kind text = if is_reserved text then kind.Reserved else kind.Name
 
 -- the token at the front, where no blank and no comment stands there
-unfoldable pub token_of : ℕ → List ℕ → Piece
+unfoldable pub token_of : ℕ → List ℕ → Piece TokenKind
 token_of first text =
     if is_ascii_alphabetic first then piece.Token (word_kind (take (prefix_len is_word_byte text) text)) (prefix_len is_word_byte text)
     else (if is_ascii_digit first then piece.Token kind.Number (prefix_len is_ascii_digit text) else symbol_of first text)
 
--- what stands at the front
-unfoldable pub piece_of : ℕ → List ℕ → Piece
-piece_of first text =
-    if is_blank first then piece.Gap 1
-    else (if is_dashed text then piece.Gap (prefix_len is_not_feed text) else token_of first text)
-
--- the piece has bytes, and no more than there are
-abbrev pub FitsIn : Piece → ℕ → Type 0
-FitsIn (piece.Gap n) room = (0 < n) × (n ≤ room)
-FitsIn (piece.Token k n) room = (0 < n) × (n ≤ room)
-FitsIn piece.Bad room = Unit {0}
+-- what stands at the front; a comment begins with --
+abbrev pub piece_of : ℕ → List ℕ → Piece TokenKind
+piece_of first text = piece_by 45 token_of first text
 
 -- a number's value fits 64 bits
 abbrev pub is_in_range : TokenKind → List ℕ → Bool

@@ -1,21 +1,16 @@
 -- What stands at the front of a text, found byte by byte.
-use Rattle.std.specs.Prelude.{ℕ, ◌+◌, ◌<◌, ◌≤◌, Bool, false, ◌&&◌, if◌then◌else◌, nat_eq, nat_le, List, ◌∷◌, take, drop, length, codes}
+use Rattle.std.specs.Prelude.{ℕ, ◌+◌, Bool, ◌&&◌, if◌then◌else◌, nat_eq, nat_le, List, ◌∷◌, take, drop, length, codes}
 use Rattle.std.specs.List.{prefix_len, list_any}
 use Rattle.std.specs.Char.{is_ascii_digit}
 use Rattle.std.specs.Str.{bytes_eq}
-use Rattle.av_base.specs.Tokens.{is_word_byte, is_blank}
-use Rattle.av_base.specs.Spelling.{is_not_feed}
+use Rattle.av_base.specs.Tokens.{is_word_byte}
 use Rattle.av_net.specs.declared.token_kind.TokenKind.{TokenKind}
 use Rattle.av_net.specs.declared.token_kind.TokenKind.TheVariants as kind
 use Rattle.av_net.specs.Lexemes.{begins_name}
 use Rattle.av_net.specs.Spelling.{is_reserved}
-use Rattle.av_vread.specs.declared.scan.Piece.{Piece}
-use Rattle.av_vread.specs.declared.scan.Piece.TheVariants as piece
-
--- the text begins with //
-abbrev pub is_slashed : List ℕ → Bool
-is_slashed (b ∷ c ∷ bytes) = nat_eq b 47 && nat_eq c 47
-is_slashed _ = false
+use Rattle.av_base.specs.declared.piece.Piece.{Piece}
+use Rattle.av_base.specs.declared.piece.Piece.TheVariants as piece
+use Rattle.av_base.specs.Pieces.{piece_by, symbol_by, begins_pair as begins_pair_by}
 
 -- a symbol of one byte
 abbrev pub is_single : ℕ → Bool
@@ -27,14 +22,11 @@ is_pair b c = list_any (nat_eq b) (codes "<>=!") && nat_eq c 61
 
 -- the text begins with a symbol of two bytes
 abbrev pub begins_pair : List ℕ → Bool
-begins_pair (b ∷ c ∷ bytes) = is_pair b c
-begins_pair _ = false
+begins_pair = begins_pair_by is_pair
 
 -- the symbol at the front
-unfoldable pub symbol_of : ℕ → List ℕ → Piece
-symbol_of first text =
-    if begins_pair text then piece.Token kind.Symbol 2
-    else (if is_single first then piece.Token kind.Symbol 1 else piece.Bad)
+unfoldable pub symbol_of : ℕ → List ℕ → Piece TokenKind
+symbol_of first text = symbol_by kind.Symbol is_single is_pair first text
 
 -- what a word is
 abbrev pub word_kind : List ℕ → TokenKind
@@ -54,27 +46,19 @@ tail_len (b ∷ c ∷ bytes) = if nat_eq b 39 && nat_eq c 100 then based_len (pr
 tail_len _ = 0
 
 -- n digits, and then a tail
-abbrev pub number_by : ℕ → ℕ → Piece
+abbrev pub number_by : ℕ → ℕ → Piece TokenKind
 number_by n tail = if nat_eq tail 0 then piece.Token kind.Number n else piece.Token kind.Literal (n + tail)
 
 -- the number at the front, with or without its width
-unfoldable pub number_of : List ℕ → Piece
+unfoldable pub number_of : List ℕ → Piece TokenKind
 number_of text = number_by (prefix_len is_ascii_digit text) (tail_len (drop (prefix_len is_ascii_digit text) text))
 
 -- the token at the front, where no blank and no comment stands there
-unfoldable pub token_of : ℕ → List ℕ → Piece
+unfoldable pub token_of : ℕ → List ℕ → Piece TokenKind
 token_of first text =
     if begins_name first then piece.Token (word_kind (take (prefix_len is_word_byte text) text)) (prefix_len is_word_byte text)
     else (if is_ascii_digit first then number_of text else (if is_signed text then piece.Token kind.System 7 else symbol_of first text))
 
--- what stands at the front
-unfoldable pub piece_of : ℕ → List ℕ → Piece
-piece_of first text =
-    if is_blank first then piece.Gap 1
-    else (if is_slashed text then piece.Gap (prefix_len is_not_feed text) else token_of first text)
-
--- the piece has bytes, and no more than there are
-abbrev pub FitsIn : Piece → ℕ → Type 0
-FitsIn (piece.Gap n) room = (0 < n) × (n ≤ room)
-FitsIn (piece.Token k n) room = (0 < n) × (n ≤ room)
-FitsIn piece.Bad room = Unit {0}
+-- what stands at the front; a comment begins with //
+abbrev pub piece_of : ℕ → List ℕ → Piece TokenKind
+piece_of first text = piece_by 47 token_of first text

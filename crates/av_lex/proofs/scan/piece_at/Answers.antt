@@ -1,10 +1,14 @@
 use Rattle.std.proofs.Common.{subst, sym, ap, ◌∙◌, length, get_or, ◌-◌}
 use Rattle.std.proofs.lemmas.List.{take_rest}
-use Rattle.av_lex.specs.inner.Scan.{FitsIn, piece_of}
-use Rattle.av_lex.proofs.Turns.{piece_fits}
+use Rattle.av_base.specs.Pieces.{FitsIn}
+use Rattle.av_base.specs.Tokens.{program_texts}
+use Rattle.av_lex.specs.inner.Reading.{scanner}
+use Rattle.av_lex.specs.inner.Scan.{piece_of}
+use Rattle.av_base.proofs.Pieces.{piece_fits}
+use Rattle.av_lex.proofs.Longest.{finds}
 use Rattle.av_lex.proofs.scan.piece_at.Goals as goal
 
 pub returns-clause-fits : goal.returns-clause-fits
 returns-clause-fits c =
     let is = c.piece_of.ensures ∙ ap (piece_of (get_or c.args.text.now c.args.at 0)) (take_rest c.args.text.now c.args.at) in
-    subst (λ z. FitsIn z (length c.args.text.now - c.args.at)) (sym is) (piece_fits c.args.text.now c.args.at c.requires)
+    subst (λ z. FitsIn z (length c.args.text.now - c.args.at)) (sym is) (piece_fits program_texts scanner finds c.args.text.now c.args.at c.requires)

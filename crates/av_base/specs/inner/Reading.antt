@@ -1,0 +1,40 @@
+-- Reading a text piece by piece, from a place on, whatever the language is.
+use Rattle.std.specs.Prelude.{ℕ, zero, suc, Bool, if◌then◌else◌, List, [], ◌∷◌, take, drop, Result, Ok, Err}
+use Rattle.av_base.specs.declared.place.Place.{Place}
+use Rattle.av_base.specs.declared.piece.Piece.{Piece}
+use Rattle.av_base.specs.declared.piece.Piece.TheVariants as piece
+use Rattle.av_base.specs.Lexicon.{moved, Token, Lexicon}
+use Rattle.av_base.specs.Pieces.{piece_by}
+
+-- the tests by which tokens are found, and the faults where there are none
+pub record Scanner (Kind Fault : Type 0) : Type 0 where
+  -- the token at the front, where no blank and no comment stands there
+  pub token_of : ℕ → List ℕ → Piece Kind
+  -- what is found so is no number that is too great
+  pub in_range : Kind → List ℕ → Bool
+  pub bad : Place → Fault
+  pub great : Place → Fault
+
+-- the tokens of a text, or its first fault
+abbrev pub Reading : Type 0 → Type 0 → Type 0
+Reading Kind Fault = Result (List (Token Kind)) Fault
+
+-- a token, and what is read after it
+abbrev pub with_token : {Kind Fault : Type 0} → Token Kind → Reading Kind Fault → Reading Kind Fault
+with_token t (Ok tokens) = Ok (t ∷ tokens)
+with_token t (Err fault) = Err fault
+
+-- a piece, and what go reads from the place after it
+unfoldable pub read_by : {Kind Fault : Type 0} → Scanner Kind Fault → (Place → List ℕ → Reading Kind Fault) → Place → List ℕ → Piece Kind → Reading Kind Fault
+read_by scanner go p bytes (piece.Gap n) = go (moved p (take n bytes)) (drop n bytes)
+read_by scanner go p bytes (piece.Token k n) =
+    if scanner.in_range k (take n bytes) then with_token (record { kind = k; text = take n bytes; place = p }) (go (moved p (take n bytes)) (drop n bytes))
+    else Err (scanner.great p)
+read_by scanner go p bytes piece.Bad = Err (scanner.bad p)
+
+-- what at most n pieces give; as many as there are bytes are enough
+unfoldable pub read_of : {Kind Fault : Type 0} → Lexicon Kind → Scanner Kind Fault → ℕ → Place → List ℕ → Reading Kind Fault
+read_of lexicon scanner n p [] = Ok (record { kind = lexicon.last; text = []; place = p } ∷ [])
+read_of lexicon scanner zero p (b ∷ bytes) = Err (scanner.bad p)
+read_of lexicon scanner (suc n) p (b ∷ bytes) =
+    read_by scanner (λ q rest. read_of lexicon scanner n q rest) p (b ∷ bytes) (piece_by lexicon.mark scanner.token_of b (b ∷ bytes))
