@@ -10,7 +10,7 @@ use Rattle.std.proofs.lemmas.List.Sums.{prefix_len-le-length}
 use Rattle.av_base.specs.declared.piece.Piece.{Piece}
 use Rattle.av_base.specs.declared.piece.Piece.TheVariants as piece
 use Rattle.av_base.specs.Lexicon.{Lexicon, IsLongest, BeginsNone, is_blank}
-use Rattle.av_base.specs.inner.Reading.{Scanner}
+use Rattle.av_base.specs.Reading.{Scanner}
 use Rattle.av_base.proofs.Runs.{run_covers, run_all}
 
 -- ---- what a scanner shows of its lexicon

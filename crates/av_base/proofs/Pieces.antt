@@ -10,7 +10,7 @@ use Rattle.av_base.specs.declared.piece.Piece.TheVariants as piece
 use Rattle.av_base.specs.Lexicon.{Lexicon, IsLongest, BeginsNone, is_blank, IsCommented, IsLineEnd, IsComment}
 use Rattle.av_base.specs.Pieces.{begins_comment, piece_by, FitsIn}
 use Rattle.av_base.specs.Spelling.{is_not_feed}
-use Rattle.av_base.specs.inner.Reading.{Scanner}
+use Rattle.av_base.specs.Reading.{Scanner}
 use Rattle.av_base.proofs.Tables.{both}
 use Rattle.av_base.proofs.Runs.{feeds, stops_at, run_exact, chosen, run_all, at_index}
 use Rattle.av_base.proofs.Longest.{Finds, Found, IsNoGap, token_found, token_none, token_is, none_is}

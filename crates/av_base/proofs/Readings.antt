@@ -7,7 +7,7 @@ use Rattle.av_base.specs.declared.piece.Piece.{Piece}
 use Rattle.av_base.specs.declared.piece.Piece.TheVariants as piece
 use Rattle.av_base.specs.Lexicon.{Token, Lexicon, next_place, moved, IsLongest, BeginsNone, is_blank, IsCommented, IsComment, IsText, end, blank, comment, token, IsFault, bad_byte, number, past_blank, past_comment, past_token}
 use Rattle.av_base.specs.Pieces.{piece_by}
-use Rattle.av_base.specs.inner.Reading.{Scanner, Reading, with_token, read_by, read_of}
+use Rattle.av_base.specs.Reading.{Scanner, Reading, with_token, read_by, read_of}
 use Rattle.av_base.proofs.Runs.{chosen}
 use Rattle.av_base.proofs.Longest.{Finds}
 use Rattle.av_base.proofs.Pieces.{IsPiece, a_blank, a_comment, a_token, no_piece, is_piece, piece_blank, piece_comment, piece_token, piece_none}

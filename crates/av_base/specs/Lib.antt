@@ -1,9 +1,9 @@
 pub mod Lexicon
 pub mod Outside
 pub mod Pieces
+pub mod Reading
 pub mod Spelling
 pub mod Streams
 pub mod Tokens
 pub mod Words
 pub mod formers
-pub mod inner

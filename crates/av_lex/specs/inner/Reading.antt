@@ -3,7 +3,7 @@ use Rattle.std.specs.Prelude.{ℕ, List}
 use Rattle.av_base.specs.declared.place.Place.{Place}
 use Rattle.av_base.specs.declared.token_kind.TokenKind.{TokenKind}
 use Rattle.av_base.specs.Tokens.{program_texts}
-use Rattle.av_base.specs.inner.Reading as reading
+use Rattle.av_base.specs.Reading as reading
 use Rattle.av_lex.specs.declared.fault.LexFault.{LexFault}
 use Rattle.av_lex.specs.declared.fault.LexFault.TheVariants.{BadByte, Number}
 use Rattle.av_lex.specs.inner.Scan.{token_of, is_in_range}

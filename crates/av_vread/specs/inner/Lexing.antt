@@ -1,7 +1,7 @@
 -- Reading a design text piece by piece, from a place on.
 use Rattle.std.specs.Prelude.{◌≡◌, ℕ, true, List, map, Result, Ok, Err}
 use Rattle.av_base.specs.declared.place.Place.{Place}
-use Rattle.av_base.specs.inner.Reading as reading
+use Rattle.av_base.specs.Reading as reading
 use Rattle.av_net.specs.declared.token_kind.TokenKind.{TokenKind}
 use Rattle.av_net.specs.Lexemes.{Token, design_texts}
 use Rattle.av_vread.specs.declared.token.Token.{Token as Found}
