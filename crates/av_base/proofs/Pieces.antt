@@ -11,9 +11,9 @@ use Rattle.av_base.specs.Lexicon.{Lexicon, IsLongest, BeginsNone, is_blank, IsCo
 use Rattle.av_base.specs.Pieces.{begins_comment, piece_by, FitsIn}
 use Rattle.av_base.specs.Spelling.{is_not_feed}
 use Rattle.av_base.specs.Reading.{Scanner}
-use Rattle.av_base.proofs.Tables.{both}
 use Rattle.av_base.proofs.Runs.{feeds, stops_at, run_exact, chosen, run_all, at_index}
 use Rattle.av_base.proofs.Longest.{Finds, Found, IsNoGap, token_found, token_none, token_is, none_is}
+use Rattle.av_base.proofs.Truths.{both}
 
 -- ---- what a piece says of the text
 
@@ -25,7 +25,7 @@ pub data IsPiece {Kind : Type 0} (lexicon : Lexicon Kind) : List ℕ → Piece K
 
 -- ---- comments
 
-same_eq : (b : ℕ) → nat_eq b b ≡ true
+pub same_eq : (b : ℕ) → nat_eq b b ≡ true
 same_eq b = eq-eqb b b refl
 
 -- the byte of a comment ends no line

@@ -7,7 +7,8 @@ use Rattle.std.proofs.lemmas.List.Elements.{All-from_recursion, recursion_from_A
 use Rattle.av_base.specs.declared.token_kind.TokenKind.TheVariants as kind
 use Rattle.av_base.specs.Tokens.{reserved_words, is_word_byte, IsSpelled}
 use Rattle.av_base.specs.Spelling.{is_reserved, is_name}
-use Rattle.av_base.proofs.Tables.{both, and_true, is_found, not_there}
+use Rattle.av_base.proofs.Tables.{is_found, not_there}
+use Rattle.av_base.proofs.Truths.{and_true, both}
 
 pub all_word : (text : List ℕ) → list_all is_word_byte text ≡ true → AllByRecursion (λ x. IsTrue (is_word_byte x)) text
 all_word [] e = tt

@@ -10,14 +10,7 @@ use Rattle.std.proofs.lemmas.List.Sums.{AllPass-from_list_all}
 use Rattle.std.proofs.lemmas.Map.Views.{list_any-from_Contains, Contains-from_any}
 use Rattle.std.proofs.lemmas.Slice.Eq.{bytes_eq-Decides}
 use Rattle.av_base.specs.Tokens.{is_word_byte}
-
-pub both : (a b : Bool) → (a && b) ≡ true → (a ≡ true) × (b ≡ true)
-both true true e = (refl, refl)
-both true false e = absurd cc
-both false b e = absurd cc
-
-pub and_true : (a b : Bool) → a ≡ true → b ≡ true → (a && b) ≡ true
-and_true a b e f = rw (e, f) refl
+use Rattle.av_base.proofs.Truths.{and_true, both}
 
 -- a list's text is found, and what is found is a text of the list
 pub is_found : (text : List ℕ) (table : List (List ℕ)) → Contains table text → list_any (bytes_eq text) table ≡ true

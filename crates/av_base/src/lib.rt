@@ -36,7 +36,7 @@ pub use spelling::{
     are_word_bytes, digits_len, is_blank, is_name, is_one_of, is_reserved_word, is_word_byte,
     line_len, word_len,
 };
-pub use stream::{MemSink, MemSource};
+pub use stream::{MemSink, MemSource, next_count};
 pub use token_kind::TokenKind;
 pub use width::Width;
 pub use word::{Op, Word};

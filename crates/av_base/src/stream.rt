@@ -68,9 +68,9 @@ impl Source for MemSource {
         ensures fault { OnErr result (self.new.faults ≡ next_count self.old.faults) }
     {
         let call = self.calls;
-        self.calls = next(call);
+        self.calls = next_count(call);
         if self.failing.as_slice().contains(&call) {
-            self.faults = next(self.faults);
+            self.faults = next_count(self.faults);
             return Err(Failed);
         }
         let rest = &self.bytes.as_slice()[self.taken..];
@@ -81,8 +81,8 @@ impl Source for MemSource {
     }
 }
 
-// The next count, or the last one.
-fn next(count: u64) -> u64
+/// One more, or the last count: a count that rises stands still at its type's end.
+pub fn next_count(count: u64) -> u64
     ensures { result ≡ next_count count }
 {
     count.saturating_add(1)
@@ -161,10 +161,10 @@ impl Sink for MemSink {
         ensures closed { OnErr result (self.new.room ≡ self.old.room) }
     {
         let call = self.calls;
-        self.calls = next(call);
+        self.calls = next_count(call);
         let free = self.room.len() - self.used;
         if free == 0 || self.failing.as_slice().contains(&call) {
-            self.faults = next(self.faults);
+            self.faults = next_count(self.faults);
             return Err(Failed);
         }
         let n = free.min(self.per_call).min(piece.len());

@@ -4,14 +4,14 @@ use Rattle.std.specs.Prelude.{slice_get, nat_eq}
 use Rattle.av_space.specs.Links.{is_same}
 use Rattle.av_build.specs.declared.blueprint.LanePlan.{LanePlan}
 use Rattle.av_build.specs.inner.Blueprints.{number_in, is_lane, lane_at}
-use Rattle.av_space.proofs.LineLengths.{same_number}
 use Rattle.av_base.proofs.Truths.{and_true, both}
 use Rattle.av_space.proofs.Helpers.{equal}
 use Rattle.av_base.proofs.Lists.{some_is}
+use Rattle.av_base.proofs.Pieces.{same_eq}
 
 pub same_itself : (h : Option ℕ) → is_same h h ≡ true
 same_itself None = refl
-same_itself (Some n) = same_number n
+same_itself (Some n) = same_eq n
 
 pub same_is : (h k : Option ℕ) → is_same h k ≡ true → h ≡ k
 same_is None None e = refl
@@ -24,7 +24,7 @@ lane_is p h lane e = let b = both (nat_eq lane.cell p) (is_same (number_in lane.
 
 pub is_that : (p : ℕ) (h : Option ℕ) (lane : LanePlan) → lane.cell ≡ p → number_in lane.helper ≡ h → is_lane p h lane ≡ true
 is_that p h lane e f =
-    and_true (nat_eq lane.cell p) (is_same (number_in lane.helper) h) (ap (λ n. nat_eq n p) e ∙ same_number p) (ap (λ (k : Option ℕ). is_same k h) f ∙ same_itself h)
+    and_true (nat_eq lane.cell p) (is_same (number_in lane.helper) h) (ap (λ n. nat_eq n p) e ∙ same_eq p) (ap (λ (k : Option ℕ). is_same k h) f ∙ same_itself h)
 
 there : (p : ℕ) (h : Option ℕ) (lanes : List LanePlan) (q : ℕ) (lane : LanePlan) → slice_get lanes q ≡ Some lane → is_lane p h lane ≡ true → (x : LanePlan) × (slice_get lanes (lane_at p h lanes) ≡ Some x) × (is_lane p h x ≡ true)
 there p h [] q lane e t = absurd cc

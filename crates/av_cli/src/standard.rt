@@ -1,7 +1,6 @@
 ghost use Rattle.std.specs.Prelude.{◌≡◌, ◌<◌, ◌≤◌, None, length, IfSome};
-ghost use Rattle.av_base.specs.Streams.{next_count};
 
-use av_base::{Failed, Sink, Source};
+use av_base::{Failed, Sink, Source, next_count};
 use std::io::{Error, ErrorKind, Read, Write};
 
 // How often an interrupted call is made again. If it is interrupted then too, that is a fault.
@@ -32,7 +31,7 @@ impl<R: Read> Source for StdSource<R> {
         match read_some(&mut self.reader, into) {
             Some(n) => Ok(n),
             None => {
-                self.faults = next(self.faults);
+                self.faults = next_count(self.faults);
                 Err(Failed)
             }
         }
@@ -63,7 +62,7 @@ impl<W: Write> Sink for StdSink<W> {
         match write_some(&mut self.writer, piece) {
             Some(n) if n > 0 && is_flushed(&mut self.writer) => Ok(n),
             _ => {
-                self.faults = next(self.faults);
+                self.faults = next_count(self.faults);
                 Err(Failed)
             }
         }
@@ -110,11 +109,4 @@ fn is_flushed<W: Write>(writer: &mut W) -> bool {
 
 fn is_interrupted(error: &Error) -> bool {
     error.kind() == ErrorKind::Interrupted
-}
-
-// The next count, or the last one.
-fn next(count: u64) -> u64
-    ensures { result ≡ next_count count }
-{
-    count.saturating_add(1)
 }

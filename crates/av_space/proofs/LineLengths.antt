@@ -17,11 +17,9 @@ use Rattle.av_space.specs.Taps.{taps_of, taps_on, node_of, helper_of, helper_in,
 use Rattle.av_space.specs.Links.{is_same, reads_line, line_length, cell_length, delay_count}
 use Rattle.av_space.specs.inner.Lengths.{is_line, line_of}
 use Rattle.av_space.specs.Lengths.{length_in, AreLengths}
+use Rattle.av_base.proofs.Pieces.{same_eq}
 
 -- ---- tests
-
-pub same_number : (n : ℕ) → nat_eq n n ≡ true
-same_number n = grind arith
 
 other_number : (m n : ℕ) → (m ≡ n → ⊥) → nat_eq m n ≡ false
 other_number m n ne = by (nat_eq m n) refl
@@ -108,16 +106,16 @@ module _ (s : FlatSystem) (hs : List Helper) (cells : List Cell) (links : List L
   cell_more : (line : Option ℕ) → helper_read s hs cells l.consumer l.site ≡ line → IfSome line (λ h. h < length hs) → cell_length s hs cells (links ++ l ∷ []) l.producer ≡ cell_length s hs cells links l.producer + growth
   cell_more None e low =
       let p = l.producer in
-      let one = own_line (record { cell = p; helper = None }) (ap₂ (λ a b. a && b) (same_number p) (ap (λ o. is_same o None) e)) (ap (λ o. record { cell = p; helper = o }) (sym e)) in
+      let one = own_line (record { cell = p; helper = None }) (ap₂ (λ a b. a && b) (same_eq p) (ap (λ o. is_same o None) e)) (ap (λ o. record { cell = p; helper = o }) (sym e)) in
       let rest = same_sum (λ h. line_length s hs cells links p (Some h)) (λ h. line_length s hs cells (links ++ l ∷ []) p (Some h)) 0 (length hs)
-      (λ k b. other_line (record { cell = p; helper = Some k }) (ap₂ (λ a b. a && b) (same_number p) (ap (λ o. is_same o (Some k)) e))) in
+      (λ k b. other_line (record { cell = p; helper = Some k }) (ap₂ (λ a b. a && b) (same_eq p) (ap (λ o. is_same o (Some k)) e))) in
       omega (arith, one, rest)
   cell_more (Some a) e low =
       let p = l.producer in
-      let one = other_line (record { cell = p; helper = None }) (ap₂ (λ a b. a && b) (same_number p) (ap (λ o. is_same o None) e)) in
+      let one = other_line (record { cell = p; helper = None }) (ap₂ (λ a b. a && b) (same_eq p) (ap (λ o. is_same o None) e)) in
       let rest = more_at (λ h. line_length s hs cells links p (Some h)) (λ h. line_length s hs cells (links ++ l ∷ []) p (Some h)) a growth 0 (length hs) (omega arith) (omega (arith, low))
-      (own_line (record { cell = p; helper = Some a }) (ap₂ (λ a b. a && b) (same_number p) (ap (λ o. is_same o (Some a)) e ∙ same_number a)) (ap (λ o. record { cell = p; helper = o }) (sym e)))
-      (λ k ne. other_line (record { cell = p; helper = Some k }) (ap₂ (λ a b. a && b) (same_number p) (ap (λ o. is_same o (Some k)) e ∙ other_number a k ne))) in
+      (own_line (record { cell = p; helper = Some a }) (ap₂ (λ a b. a && b) (same_eq p) (ap (λ o. is_same o (Some a)) e ∙ same_eq a)) (ap (λ o. record { cell = p; helper = o }) (sym e)))
+      (λ k ne. other_line (record { cell = p; helper = Some k }) (ap₂ (λ a b. a && b) (same_eq p) (ap (λ o. is_same o (Some k)) e ∙ other_number a k ne))) in
       omega (arith, one, rest)
 
   pub count_more : l.producer < length cells → IfSome (helper_read s hs cells l.consumer l.site) (λ h. h < length hs) → delay_count s hs cells (links ++ l ∷ []) ≡ delay_count s hs cells links + growth

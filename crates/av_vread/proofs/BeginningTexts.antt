@@ -12,17 +12,17 @@ use Rattle.av_net.specs.Lexemes.{Token, IsSpelled, AreTokens, end as end_of_byte
 use Rattle.av_net.specs.Grammar.{Text, Declaration, Item, AreWords, no_word, next_word, IsWordAt, IsNameAt, name, IsEnd, end, no_range, IsPort, IsDeclaration, IsItem, AreMany, no_more, one_more, IsClocked, IsText}
 use Rattle.av_vread.specs.Beginnings.{Begins, StopsAt}
 use Rattle.av_vread.specs.inner.Reading.{◌>>=◌, Read, same, is_word, is_at, are_at, words_at, end_at, width_for, directed_at, begins_declaration, declaration_at, begins_item, item_at, many_at, all_at, ports_at, declarations_at, items_at, Header, closed_at, clocked_at, header_at, text_at}
-use Rattle.av_base.proofs.Tables.{both}
 use Rattle.av_vread.proofs.Steps.{same_is, same_self, at_word, other_there}
 use Rattle.av_vread.proofs.Sound.{width_bits}
 use Rattle.av_vread.proofs.Complete.{directed_gives, two_there, declaration_begins, item_begins, text_gives}
 use Rattle.av_vread.proofs.Ends.{port_end, declaration_end, item_end}
 use Rattle.av_vread.proofs.Verdicts.{Ends, last, before, ends_some, left_ends, Puts, puts_none, puts_one, puts_both, Alike, alike_put, Looks, looks_alike, looks_same, Completes, Verdict, past, stops, Reads, pair, alone, Follows, follows, then_reads, reads_as}
 use Rattle.av_vread.proofs.BeginningParts.{word_token, name_token, Word, Words, Name, ThisName, word_reads, name_reads, this_name_reads, words_read, alike_test, alike_word, word_left, directed_reads, declaration_reads, item_reads}
+use Rattle.av_base.proofs.Truths.{both}
 
 -- ---- lists
 
-many_append : {A : Type 0} {Is : List Token → List Token → A → Type 0} {ts mid rest : List Token} {xs ys : List A} → AreMany Is ts mid xs → AreMany Is mid rest ys → AreMany Is ts rest (xs ++ ys)
+pub many_append : {A : Type 0} {Is : List Token → List Token → A → Type 0} {ts mid rest : List Token} {xs ys : List A} → AreMany Is ts mid xs → AreMany Is mid rest ys → AreMany Is ts rest (xs ++ ys)
 many_append (no_more) more = more
 many_append (one_more is many) more = one_more is (many_append many more)
 

@@ -14,11 +14,12 @@ use Rattle.av_net.specs.Listed.{MayBeListed}
 use Rattle.av_net.specs.Rows.{is_in}
 use Rattle.av_vread.specs.inner.Lines.{is_not, cut}
 use Rattle.av_vread.specs.inner.Entries.{point_of, numeral_of, is_wire, Parts, first_part, second_part, third_part, entry_by, entry_of, entry_in, entry_at}
-use Rattle.av_base.proofs.Tables.{both, and_true, is_found, is_there}
+use Rattle.av_base.proofs.Tables.{is_found, is_there}
 use Rattle.av_base.proofs.Spelled.{word_all, name_is, name_gives}
 use Rattle.av_vread.proofs.Cuts.{Without, cut_gives, cut_is}
 use Rattle.av_vread.proofs.Numerals.{numeral_is, numeral_gives}
 use Rattle.av_vread.proofs.Indices.{AreSmall, point_gives, point_is, point_without}
+use Rattle.av_base.proofs.Truths.{and_true, both}
 
 -- ---- words
 

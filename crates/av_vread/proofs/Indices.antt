@@ -11,9 +11,9 @@ use Rattle.std.proofs.lemmas.List.{append-nil}
 use Rattle.av_net.specs.Texts.{entries_text, point_text}
 use Rattle.av_vread.specs.inner.Lines.{is_not, cut}
 use Rattle.av_vread.specs.inner.Entries.{index_of, with_index, indices_by, indices_of, inside_of, closed_by, point_of}
-use Rattle.av_base.proofs.Tables.{both}
 use Rattle.av_vread.proofs.Cuts.{Without, cut_gives, cut_none, cut_is}
 use Rattle.av_vread.proofs.Numerals.{decimal_digits, IsIndex, index_is, index_gives}
+use Rattle.av_base.proofs.Truths.{both}
 
 -- indices that may be listed
 abbrev pub AreSmall : List ℤ → Type 0

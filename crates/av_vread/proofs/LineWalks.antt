@@ -11,8 +11,8 @@ use Rattle.av_vread.specs.declared.fault.VFault.{VFault}
 use Rattle.av_vread.specs.declared.fault.VFault.TheVariants.{VByte, VSyntax, VListing, VTwice, VName, VUnassigned, VOrder, VWidth, Memory}
 use Rattle.av_vread.specs.inner.Lines.{trimmed, line_len, first_line_of}
 use Rattle.av_vread.proofs.Cuts.{less_suc}
-use Rattle.av_base.proofs.Tables.{both}
 use Rattle.av_vread.specs.inner.Listings.{Listed, with_line, and_then, with_lines, no_lines, listing_at, IsListingFault}
+use Rattle.av_base.proofs.Truths.{both}
 
 -- the lines from an index on; none begins behind the end
 abbrev pub lines_from : ℕ → List ℕ → List (List ℕ)

@@ -20,11 +20,12 @@ use Rattle.av_net.specs.Lexemes.{reserved_words, begins_name, IsIdentifier, IsSi
 use Rattle.av_net.specs.Spelling.{is_reserved}
 use Rattle.av_vread.specs.inner.Lexing.{scanner}
 use Rattle.av_vread.specs.inner.Scan.{is_single, is_pair, begins_pair, is_signed, based_len, tail_len, number_by, number_of, word_kind, symbol_of, token_of}
-use Rattle.av_base.proofs.Tables.{both, is_found, is_there, not_there, none_there, none_short}
+use Rattle.av_base.proofs.Tables.{is_found, is_there, not_there, none_there, none_short}
 use Rattle.av_base.proofs.Runs.{chosen, run_all, run_covers, blank_or}
 use Rattle.av_base.proofs.Longest.{Covers, run_token_covers, run_fits, Fits, fits_as, IsNoGap, no_gap_either, Finds}
 use Rattle.av_base.proofs.Symbols.{symbol_covers, symbol_fits}
 use Rattle.av_vread.proofs.Tables.{reserved_word, is_other, symbol_is, single_symbol, pair_symbol}
+use Rattle.av_base.proofs.Truths.{both}
 
 -- ---- what is spelled is covered by the token that is found
 

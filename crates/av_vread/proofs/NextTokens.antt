@@ -13,10 +13,10 @@ use Rattle.av_net.specs.Lexemes.{reserved_words, begins_name, IsIdentifier, IsNa
 use Rattle.av_base.specs.declared.piece.Piece.{Piece}
 use Rattle.av_base.specs.declared.piece.Piece.TheVariants as piece
 use Rattle.av_vread.specs.inner.Scan.{is_single, is_pair, begins_pair, tail_len, number_of, word_kind, symbol_of, token_of}
-use Rattle.av_base.proofs.Tables.{both}
-use Rattle.av_vread.proofs.Tables.{and_false, not_true, is_other, reserved_word}
+use Rattle.av_vread.proofs.Tables.{and_false, is_other, reserved_word}
 use Rattle.av_vread.proofs.Longest.{name_kind, reserved_kind, other_symbol, digits_all, at_digit, literal_number, sized_length}
 use Rattle.av_vread.proofs.Spaced.{IsNext}
+use Rattle.av_base.proofs.Truths.{both, not_true}
 
 -- the first byte belongs to no word, no literal and no operator that began before it
 abbrev pub is_clear : List ℕ → Bool

@@ -20,8 +20,9 @@ use Rattle.av_net.specs.Designs.{HasNoRow}
 use Rattle.av_net.proofs.Distinct.{apart, front_distinct, rest_distinct, append_distinct}
 use Rattle.av_net.proofs.Declared.{width_here, register_declared, declared_width}
 use Rattle.av_vread.proofs.Each.{all_append, all_front, all_back, all_map, all_unmap, all_weaker, both_all}
-use Rattle.av_base.proofs.Tables.{and_true, is_found, is_there}
+use Rattle.av_base.proofs.Tables.{is_found, is_there}
 use Rattle.av_vread.proofs.WrittenGrammar.{reset_width, reset_bits, step_item, said}
+use Rattle.av_base.proofs.Truths.{and_true}
 
 -- ---- the module that is said
 

@@ -14,8 +14,8 @@ use Rattle.av_base.specs.Tokens.{number_of, number_from, IsDigits}
 use Rattle.av_vread.specs.inner.Reading.{are_digits}
 use Rattle.av_vread.specs.inner.Entries.{is_numeral, numeral_of, below_zero, not_below, index_of}
 use Rattle.av_vread.specs.inner.Lines.{is_not}
-use Rattle.av_base.proofs.Tables.{both, and_true}
 use Rattle.av_vread.proofs.Cuts.{Without}
+use Rattle.av_base.proofs.Truths.{and_true, both}
 
 own : IsNumeralModel (λ ds. all_ascii_digits ds ≡ true) number_of
 own = numerals_by_fold _ tells_all_ascii_digits number_from (search rules)

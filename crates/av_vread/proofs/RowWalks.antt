@@ -12,8 +12,9 @@ use Rattle.av_vread.specs.declared.parsed.Item.{Item as FoundItem}
 use Rattle.av_vread.specs.declared.parsed.Declaration.{Declaration as FoundDeclaration}
 use Rattle.av_vread.specs.declared.parsed.Declaration.TheVariants as declaration
 use Rattle.av_vread.specs.inner.Reading.{said_declaration, said_item}
-use Rattle.av_vread.proofs.Walks.{rest_is, put_in, any_or_of, found_more, or_one, width_or_one}
+use Rattle.av_vread.proofs.Walks.{put_in, any_or_of, found_more, or_one, width_or_one}
 use denote.Ref.{Bor}
+use Rattle.av_base.proofs.Lists.{next_item}
 
 -- two lists with the same names are the same test
 pub same_test : (a b : List (List ℕ)) → ((q : List ℕ) → is_in a q ≡ is_in b q) → is_in a ≡ is_in b
@@ -52,7 +53,7 @@ early_more w items i x earlier earlier' total so lt at late e =
     let rest : List Item = map said_item (drop (i + 1) items) in
     let same : (q : List ℕ) → is_in earlier' q ≡ is_in (earlier ++ t ∷ []) q = λ q. ap (λ z. is_in z q) (sym (append-nil earlier')) ∙ put_in earlier earlier' [] t q e in
     let one : first_early w earlier (said_item x ∷ rest) ≡ first_early w (earlier ++ t ∷ []) rest = rw late refl in
-    early_same w earlier' (earlier ++ t ∷ []) rest same ∙ sym one ∙ ap (λ z. first_early w earlier (map said_item z)) (sym (rest_is items i x lt at)) ∙ so
+    early_same w earlier' (earlier ++ t ∷ []) rest same ∙ sym one ∙ ap (λ z. first_early w earlier (map said_item z)) (sym (next_item items i x lt at)) ∙ so
 
 pub missing_same : (a b : List (List ℕ)) (names : List (List ℕ)) → ((q : List ℕ) → is_in a q ≡ is_in b q) → find (λ name. not (is_in a name)) names ≡ find (λ name. not (is_in b name)) names
 missing_same a b names h = ap (λ (t : Among). find (λ name. not (t name)) names) (same_test a b h)
@@ -68,7 +69,7 @@ module _ {X : Type 0} (F : List X → List Port) (each : (x : X) (xs : List X) �
   widths_more made made' total xs i x so lt at e q =
       let rest : List X = drop (i + 1) xs in
       found_more made' (made ++ F (x ∷ [])) (F rest) q (e q) ∙ ap (λ z. width_found z q) (append_assoc made (F (x ∷ [])) (F rest) ∙ ap (λ z. made ++ z) (sym (each x rest)))
-      ∙ ap (λ z. width_found (made ++ F z) q) (sym (rest_is xs i x lt at)) ∙ so q
+      ∙ ap (λ z. width_found (made ++ F z) q) (sym (next_item xs i x lt at)) ∙ so q
 
 -- what holds where a call was right
 pub on_ok : {A E : Type 0} {P Q : Type 0} (r : Result A E) → (P → Q) → OnOk r P → OnOk r Q

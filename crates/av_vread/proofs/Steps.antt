@@ -17,9 +17,9 @@ use Rattle.av_net.specs.Lexemes.{Token, IsSized}
 use Rattle.av_net.specs.Grammar.{AreWords, no_word, next_word, IsWordAt, IsNameAt, name, IsNumberAt, number, IsLiteral, IsLiteralAt, literal, IsEnd, end}
 use Rattle.av_vread.specs.inner.Bits.{is_width, width_of}
 use Rattle.av_vread.specs.inner.Reading.{◌>>=◌, code, same, after, is_word, is_at, word_at, words_at, name_at, number_at, size_digits, value_digits, begins_base, are_digits, is_sized, fits_in, is_literal, Sized, sized_in, literal_in, literal_by, literal_at, end_at, this_name_at}
-use Rattle.av_base.proofs.Tables.{both}
 use Rattle.av_vread.proofs.Longest.{run_stops, digits_all, digits_some, first_digits}
 use Rattle.av_vread.proofs.BitsOf.{bits_of, is_width_of, fits_width}
+use Rattle.av_base.proofs.Truths.{both}
 
 -- ---- steps
 

@@ -9,16 +9,9 @@ use Rattle.av_net.specs.declared.netlist.Port.{Port}
 use Rattle.av_net.specs.Names.{names_of, width_in}
 use Rattle.av_net.specs.Rows.{is_in, first_from}
 use Rattle.av_vread.specs.inner.Scoped.{width_found}
+use Rattle.av_base.proofs.Lists.{next_item, nothing_left}
 
 -- ---- where a walk stands
-
-pub rest_is : {X : Type 0} (xs : List X) (i : ℕ) (x : X) → i < length xs → x ≡ get_or xs i x → drop i xs ≡ x ∷ drop (i + 1) xs
-rest_is xs i x lt at =
-    let next : suc i ≡ i + 1 = omega arith in
-    drop-cons xs i x lt ∙ ap (λ y. y ∷ drop (suc i) xs) (sym at) ∙ ap (λ n. x ∷ drop n xs) next
-
-pub none_left : {X : Type 0} (xs : List X) (i : ℕ) → length xs ≤ i → drop i xs ≡ []
-none_left xs i h = nil_from_length (drop i xs) (simp length-drop (omega arith))
 
 -- ---- a list that is made item by item
 
@@ -27,23 +20,23 @@ module _ {X Y : Type 0} (F : List X → List Y) (each : (x : X) (xs : List X) �
       → made' ++ F (drop (i + 1) xs) ≡ total
   made_more made made' total xs i x so lt at e =
       let rest : List X = drop (i + 1) xs in
-      ap (λ z. z ++ F rest) e ∙ append_assoc made (F (x ∷ [])) (F rest) ∙ ap (λ z. made ++ z) (sym (each x rest)) ∙ ap (λ z. made ++ F z) (sym (rest_is xs i x lt at)) ∙ so
+      ap (λ z. z ++ F rest) e ∙ append_assoc made (F (x ∷ [])) (F rest) ∙ ap (λ z. made ++ z) (sym (each x rest)) ∙ ap (λ z. made ++ F z) (sym (next_item xs i x lt at)) ∙ so
 
   pub made_all : (made total : List Y) (xs : List X) (i : ℕ) → F [] ≡ [] → made ++ F (drop i xs) ≡ total → length xs ≤ i → made ≡ total
   made_all made total xs i none so h =
-      sym (append-nil made) ∙ ap (λ z. made ++ z) (sym none) ∙ ap (λ z. made ++ F z) (sym (none_left xs i h)) ∙ so
+      sym (append-nil made) ∙ ap (λ z. made ++ z) (sym none) ∙ ap (λ z. made ++ F z) (sym (nothing_left xs i h)) ∙ so
 
 -- ---- the first answer of a list
 
 module _ {X Y : Type 0} (F : List X → Option Y) where
   pub here : (total : Option Y) (xs : List X) (i : ℕ) (x : X) (y : Y) → F (drop i xs) ≡ total → i < length xs → x ≡ get_or xs i x → F (x ∷ drop (i + 1) xs) ≡ Some y → Some y ≡ total
-  here total xs i x y so lt at e = sym e ∙ ap F (sym (rest_is xs i x lt at)) ∙ so
+  here total xs i x y so lt at e = sym e ∙ ap F (sym (next_item xs i x lt at)) ∙ so
 
   pub later : (total : Option Y) (xs : List X) (i : ℕ) (x : X) → F (drop i xs) ≡ total → i < length xs → x ≡ get_or xs i x → F (x ∷ drop (i + 1) xs) ≡ F (drop (i + 1) xs) → F (drop (i + 1) xs) ≡ total
-  later total xs i x so lt at e = sym e ∙ ap F (sym (rest_is xs i x lt at)) ∙ so
+  later total xs i x so lt at e = sym e ∙ ap F (sym (next_item xs i x lt at)) ∙ so
 
   pub nowhere : (total : Option Y) (xs : List X) (i : ℕ) → F (drop i xs) ≡ total → length xs ≤ i → F [] ≡ None → None ≡ total
-  nowhere total xs i so h e = sym e ∙ ap F (sym (none_left xs i h)) ∙ so
+  nowhere total xs i so h e = sym e ∙ ap F (sym (nothing_left xs i h)) ∙ so
 
 -- ---- names of a list
 

@@ -27,6 +27,7 @@ use Rattle.av_vread.proofs.Numerals.{number_digits, number_value}
 use Rattle.av_vread.proofs.Spaced.{Written, past, passed, tokens_from}
 use Rattle.av_vread.proofs.WrittenParts as part
 use Rattle.av_vread.proofs.WrittenParts.{operand_part, range_parts, port_parts, ports_onto, end_of_line, declaration_parts, declarations_onto, signed_parts, operation_parts, drive_onto, drives_onto, edge_parts, otherwise_onto, becomes_onto, step_onto, steps_onto, clocked_parts, items_onto, body_onto, closed_onto, module_parts}
+use Rattle.av_vread.proofs.BeginningTexts.{many_append}
 
 -- ---- tokens that are no names
 
@@ -91,10 +92,6 @@ registers_are p (port ∷ ports) ws =
     record { place = more.place; is = one_more (register_declaration (kind_port p (codes "reg") port (declarations_onto (codes "reg") ports ws)) (next_word no_symbol refl no_word)) more.is }
 
 -- ---- many and many more
-
-many_more : {A : Type 0} {Is : List Token → List Token → A → Type 0} {ts a rest : List Token} {xs ys : List A} → AreMany Is ts a xs → AreMany Is a rest ys → AreMany Is ts rest (xs ++ ys)
-many_more no_more n = n
-many_more (one_more x m) n = one_more x (many_more m n)
 
 -- ---- operands
 
@@ -299,8 +296,8 @@ module_is p m h =
       inputs = ins.is;
       outputs = outs.is;
       closes = next_word no_symbol refl (next_word no_symbol refl no_word);
-      declarations = many_more wires.is registers.is;
-      items = many_more drives.is steps.is;
+      declarations = many_append wires.is registers.is;
+      items = many_append drives.is steps.is;
       stops = next_word no_reserved refl no_word;
       ends = end refl;
     }

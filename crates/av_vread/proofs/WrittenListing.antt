@@ -14,8 +14,6 @@ use Rattle.av_net.specs.Listed.{longer, lines_of, numbered, is_listed, line_text
 use Rattle.av_vread.specs.SpelledParts.{IsEntrySpelled}
 use Rattle.av_vread.specs.inner.Lines.{is_not}
 use Rattle.av_vread.proofs.Each.{all_append, all_map, all_weaker}
-use Rattle.av_base.proofs.Tables.{both}
-use Rattle.av_vread.proofs.Tables.{not_true}
 use Rattle.av_vread.proofs.Cuts.{Without}
 use Rattle.av_vread.proofs.Numerals.{decimal_digits}
 use Rattle.av_vread.proofs.Indices.{digits_without, indices_without, without_append}
@@ -23,6 +21,7 @@ use Rattle.av_base.proofs.Spelled.{name_gives}
 use Rattle.av_vread.proofs.EntryLines.{body, variable_word}
 use Rattle.av_vread.proofs.NamesSpelled.{name_word}
 use Rattle.av_vread.proofs.ListingLines.{texts_of}
+use Rattle.av_base.proofs.Truths.{both, not_true}
 
 -- ---- lines, one after another
 

@@ -6,63 +6,45 @@ ghost use Rattle.av_vread.specs.inner.Reading.{said_declaration, said_item, said
 
 use crate::parsed::{Declaration, Item, Text};
 use av_base::{List, Memory, Name};
-use av_net::{Drive, Module, Operand, Operation, Port, Step};
+use av_net::{Drive, Module, Operation, Port, Step};
 use std::alloc::Global;
-
-fn copy_name(alloc: Global, name: &Name) -> Result<Name, Memory>
-    ensures { IfOk result (λ copy. copy ≡ name.now) }
-{
-    Name::new(alloc, name.as_str())
-}
 
 fn copy_port(alloc: Global, port: &Port) -> Result<Port, Memory>
     ensures { IfOk result (λ copy. copy ≡ port.now) }
 {
     Ok(Port {
-        name: copy_name(alloc, &port.name)?,
+        name: Name::new(alloc, port.name.as_str())?,
         width: port.width,
     })
-}
-
-fn copy_operand(alloc: Global, operand: &Operand) -> Result<Operand, Memory>
-    ensures { IfOk result (λ copy. copy ≡ operand.now) }
-{
-    match operand {
-        Operand::Name(name) => Ok(Operand::Name(copy_name(alloc, name)?)),
-        Operand::Literal { width, value } => Ok(Operand::Literal {
-            width: *width,
-            value: *value,
-        }),
-    }
 }
 
 fn copy_operation(alloc: Global, operation: &Operation) -> Result<Operation, Memory>
     ensures { IfOk result (λ copy. copy ≡ operation.now) }
 {
     match operation {
-        Operation::Plain(operand) => Ok(Operation::Plain(copy_operand(alloc, operand)?)),
+        Operation::Plain(operand) => Ok(Operation::Plain(operand.copied(alloc)?)),
         Operation::Binary {
             left,
             symbol,
             right,
         } => Ok(Operation::Binary {
-            left: copy_operand(alloc, left)?,
+            left: left.copied(alloc)?,
             symbol: *symbol,
-            right: copy_operand(alloc, right)?,
+            right: right.copied(alloc)?,
         }),
         Operation::Signed {
             left,
             symbol,
             right,
         } => Ok(Operation::Signed {
-            left: copy_operand(alloc, left)?,
+            left: left.copied(alloc)?,
             symbol: *symbol,
-            right: copy_operand(alloc, right)?,
+            right: right.copied(alloc)?,
         }),
         Operation::Choose { condition, yes, no } => Ok(Operation::Choose {
-            condition: copy_operand(alloc, condition)?,
-            yes: copy_operand(alloc, yes)?,
-            no: copy_operand(alloc, no)?,
+            condition: condition.copied(alloc)?,
+            yes: yes.copied(alloc)?,
+            no: no.copied(alloc)?,
         }),
     }
 }
@@ -71,7 +53,7 @@ fn copy_drive(alloc: Global, drive: &Drive) -> Result<Drive, Memory>
     ensures { IfOk result (λ copy. copy ≡ drive.now) }
 {
     Ok(Drive {
-        target: copy_name(alloc, &drive.target)?,
+        target: Name::new(alloc, drive.target.as_str())?,
         operation: copy_operation(alloc, &drive.operation)?,
     })
 }
@@ -80,9 +62,9 @@ fn copy_step(alloc: Global, step: &Step) -> Result<Step, Memory>
     ensures { IfOk result (λ copy. copy ≡ step.now) }
 {
     Ok(Step {
-        register: copy_name(alloc, &step.register)?,
+        register: Name::new(alloc, step.register.as_str())?,
         reset: step.reset,
-        next: copy_operand(alloc, &step.next)?,
+        next: step.next.copied(alloc)?,
     })
 }
 
