@@ -37,6 +37,6 @@ pub mod Resolved
 pub mod Fitted
 pub mod Summed
 pub mod Branches
-pub mod Earlier
+pub mod Entered
 pub mod Built
 pub mod FlatSystem

@@ -1,8 +1,7 @@
 -- Variables that are looked up by name, and the parts of all equations.
-use Rattle.std.proofs.Common.{◌≡◌, ℕ, ◌+◌, ◌<◌, ◌≤◌, List, [], ◌∷◌, ◌++◌, map, length, get_or, take, drop, take-suc, add-one, append-nil, Option, Some, Bool, true, false, if◌then◌else◌, option_map, refl, ap, sym, ◌∙◌, Bor, take_all}
+use Rattle.std.proofs.Common.{◌≡◌, ℕ, ◌+◌, ◌<◌, ◌≤◌, List, [], ◌∷◌, ◌++◌, map, length, get_or, take, take-suc, add-one, append-nil, Option, Some, Bool, true, false, refl, ap, sym, ◌∙◌, Bor, take_all}
 use Rattle.std.specs.Prelude.{find, bytes_eq, cond}
 use Rattle.std.specs.List.{flat_map}
-use Rattle.std.specs.Map.{update}
 use Rattle.std.proofs.lemmas.List.{map-append}
 use Rattle.std.proofs.lemmas.Grind.{flat_map-append}
 use Rattle.av_tree.specs.declared.system.Declaration.{Declaration}
@@ -17,24 +16,8 @@ use Rattle.av_names.specs.Forms.{over}
 use Rattle.av_names.specs.Found.{sooner, first_place}
 use Rattle.av_names.specs.Parts.{Part, parts, parts_of, equation_parts, arity_of}
 use Rattle.av_names.specs.inner.Seen.{part, equations_seen, names_at}
-use Rattle.av_names.proofs.Repeats.{step}
 use Rattle.av_names.proofs.Lists.{equations_are}
 use Rattle.av_names.proofs.Sooner.{first_map}
-
--- what is found by name after one more variable, from behind
-pub one_earlier : (old new : Text → Option (Bor Declaration)) (vs : List (Bor Declaration)) (i j : ℕ) (x : Bor Declaration) (text : Text) → i < length vs → j ≡ i + 1 → x ≡ get_or vs i x
-    → text ≡ x.now.name → ((name : Text) → new name ≡ update bytes_eq old text (Some x) name)
-    → ((name : Text) → option_map (λ d. d.now) (old name) ≡ find (λ d. bytes_eq d.name name) (map (λ d. d.now) (drop j vs)))
-    → (name : Text) → option_map (λ d. d.now) (new name) ≡ find (λ d. bytes_eq d.name name) (map (λ d. d.now) (drop i vs))
-one_earlier old new vs i j x text lt next at same updated so_far name =
-    ap (option_map (λ d. d.now)) (updated name) ∙ by (bytes_eq text name)
-    ∙ ap (λ t. cond (bytes_eq t name) (Some x.now) (find (λ d. bytes_eq d.name name) (map (λ d. d.now) (drop j vs)))) same
-    ∙ ap (λ k. find (λ d. bytes_eq d.name name) (x.now ∷ map (λ d. d.now) (drop k vs))) next
-    ∙ ap (λ (ds : List (Bor Declaration)). find (λ d. bytes_eq d.name name) (map (λ d. d.now) ds)) (sym (step vs i x lt at))
-  where
-    by : (t : Bool) → option_map (λ d. d.now) (if t then Some x else old name) ≡ cond t (Some x.now) (find (λ d. bytes_eq d.name name) (map (λ d. d.now) (drop j vs)))
-    by true = refl
-    by false = so_far name
 
 pub declared_at : (ds : List Declaration) (name : Text) → names_at (find (λ d. bytes_eq d.name name) ds) ≡ declared_names ds name
 declared_at [] name = refl

@@ -2,7 +2,6 @@
 use Rattle.std.proofs.Common.{◌≡◌, ℕ, zero, suc, ◌+◌, ◌^◌, ◌<◌, ◌≤◌, ℤ, ◌-ℤ◌, List, [], ◌∷◌, ◌++◌, map, length, get_or, take, take_all, drop, append-nil, max, option_map, Option, Some, None, Bool, true, false, if◌then◌else◌, refl, ap, sym, subst, ◌∙◌, arith, Bor, All}
 use Rattle.std.specs.Prelude.{bytes_eq, unsigned_abs, IfSome}
 use Rattle.std.specs.List.{flat_map, range_with_len}
-use Rattle.std.specs.Map.{update}
 use Rattle.std.proofs.lemmas.Int.{ints}
 use Rattle.std.proofs.lemmas.List.{map-append}
 use Rattle.std.proofs.lemmas.List.Elements.{All-head, All-tail}
@@ -40,20 +39,6 @@ use Rattle.av_names.proofs.Sooner.{first_append, first_map}
 use Rattle.av_names.proofs.Repeats.{step}
 
 -- ---- sizes
-
-pub one_size_earlier : (old new : Text → Option ℤ) (ws : List Size) (i j : ℕ) (w : Size) (text : Text) (v : ℤ) → i < length ws → j ≡ i + 1 → w ≡ get_or ws i w → text ≡ w.name → v ≡ w.value
-    → ((name : Text) → new name ≡ update bytes_eq old text (Some v) name) → ((name : Text) → old name ≡ sizes_of (drop j ws) name)
-    → (name : Text) → new name ≡ sizes_of (drop i ws) name
-one_size_earlier old new ws i j w text v lt next at same value updated so_far name =
-    updated name ∙ by (bytes_eq text name)
-    ∙ ap (λ t. if bytes_eq t name then Some v else sizes_of (drop j ws) name) same
-    ∙ ap (λ k. if bytes_eq w.name name then Some k else sizes_of (drop j ws) name) value
-    ∙ ap (λ k. sizes_of (w ∷ drop k ws) name) next
-    ∙ ap (λ (vs : List Size). sizes_of vs name) (sym (step ws i w lt at))
-  where
-    by : (t : Bool) → (if t then Some v else old name) ≡ (if t then Some v else sizes_of (drop j ws) name)
-    by true = refl
-    by false = so_far name
 
 -- the sizes of words that are small are small
 pub small_values : (words : List Size) → All (λ w. unsigned_abs w.value ≤ 1048576) words → (name : Text) → unsigned_abs (rows.or_zero (sizes_of words name)) ≤ 1048576

@@ -16,8 +16,8 @@ use crate::sums::{coefficient, coefficient_between, constant, constant_between};
 use av_affine::{Form, Map, Rows};
 use av_base::{List, Memory, Name};
 use av_poly::Poly;
+use av_table::NameMap;
 use av_tree::{Access, Constraint, IndexExpr, MapText, Relation, Term};
-use indexmap::IndexMap;
 use std::alloc::Global;
 
 /// A number within the limits, in fewer bits.
@@ -54,7 +54,7 @@ fn entry_between(names: &[Name], left: &[Term], right: &[Term], place: usize) ->
 }
 
 /// The form of an index expression over these names.
-fn form(sizes: &IndexMap<&str, i64>, names: &[Name], index: &IndexExpr) -> Form
+fn form(sizes: &NameMap<'_, i64>, names: &[Name], index: &IndexExpr) -> Form
     requires fits { FitsForm (sizes_in sizes.now) names.now index.now }
     requires sizes { HasSmallValues (sizes_in sizes.now) }
     ensures { result ≡ form_of (sizes_in sizes.now) names.now index.now }
@@ -86,7 +86,7 @@ fn coefficients_between(names: &[Name], left: &[Term], right: &[Term]) -> [i64; 
 
 /// The constant of one side without the other and the gap.
 fn small_between(
-    sizes: &IndexMap<&str, i64>,
+    sizes: &NameMap<'_, i64>,
     names: &[Name],
     left: &[Term],
     right: &[Term],
@@ -104,7 +104,7 @@ fn small_between(
 
 /// The row which says that the left side is at least the right one and the gap.
 fn row(
-    sizes: &IndexMap<&str, i64>,
+    sizes: &NameMap<'_, i64>,
     names: &[Name],
     left: &IndexExpr,
     right: &IndexExpr,
@@ -126,12 +126,7 @@ fn row(
 }
 
 /// The row which says that the left side is greater than the right one.
-fn strict_row(
-    sizes: &IndexMap<&str, i64>,
-    names: &[Name],
-    left: &IndexExpr,
-    right: &IndexExpr,
-) -> Form
+fn strict_row(sizes: &NameMap<'_, i64>, names: &[Name], left: &IndexExpr, right: &IndexExpr) -> Form
     requires left { HasShortTerms left.now }
     requires right { HasShortTerms right.now }
     requires fits { IsWithinLimits (form_of_row (rows.at_least (sizes_in sizes.now) names.now left.now right.now (pos 1))) }
@@ -144,7 +139,7 @@ fn strict_row(
 /// Puts the rows of a comparison behind the others.
 fn push_rows(
     to: &mut List<Form>,
-    sizes: &IndexMap<&str, i64>,
+    sizes: &NameMap<'_, i64>,
     names: &[Name],
     constraint: &Constraint,
 ) -> Result<(), Memory>
@@ -170,7 +165,7 @@ fn push_rows(
 /// The points, over this many indices, at which the comparisons hold.
 pub(crate) fn set(
     alloc: Global,
-    sizes: &IndexMap<&str, i64>,
+    sizes: &NameMap<'_, i64>,
     indices: u8,
     names: &[Name],
     constraints: &[Constraint],
@@ -189,7 +184,7 @@ pub(crate) fn set(
 /// The forms of the index expressions, in order.
 fn forms_over(
     alloc: Global,
-    sizes: &IndexMap<&str, i64>,
+    sizes: &NameMap<'_, i64>,
     names: &[Name],
     entries: &[IndexExpr],
 ) -> Result<Rows, Memory>
@@ -208,7 +203,7 @@ fn forms_over(
 /// The map as forms over its own names.
 pub(crate) fn affine_map(
     alloc: Global,
-    sizes: &IndexMap<&str, i64>,
+    sizes: &NameMap<'_, i64>,
     map: &MapText,
 ) -> Result<Map, Memory>
     requires fits { FitsMap (sizes_in sizes.now) map.now }
@@ -268,7 +263,7 @@ fn identity(indices: usize) -> Map
 /// The map by which a reference reads.
 pub(crate) fn read_map(
     alloc: Global,
-    sizes: &IndexMap<&str, i64>,
+    sizes: &NameMap<'_, i64>,
     context: Context<'_>,
     at: &Access,
 ) -> Result<Map, Memory>

@@ -1,7 +1,7 @@
 //! Where another number of indices stands than must stand there.
 
 ghost use Rattle.std.specs.Prelude.{◌≡◌, map, length, bytes_eq, IfOk, option_map};
-ghost use Rattle.indexmap.specs.IndexMap.{get_by};
+ghost use Rattle.std.specs.Map.{lookup};
 ghost use Rattle.av_tree.specs.Domains as domains;
 ghost use Rattle.av_tree.specs.Trees.{view, view_system};
 ghost use Rattle.av_names.specs.Arities as rules;
@@ -14,8 +14,8 @@ use crate::found::sooner_place;
 use crate::index::{by_name, names_of};
 use crate::part::{Context, Part};
 use av_base::{Memory, Name, Place};
+use av_table::NameMap;
 use av_tree::{Access, Declaration, Equation, Expr, System};
-use indexmap::IndexMap;
 use std::alloc::Global;
 
 fn place_where(test: bool, place: Place) -> Option<Place>
@@ -61,11 +61,11 @@ fn restriction_arity(context: Context<'_>, names: &[Name], place: Place) -> Opti
 }
 
 fn expression_arity(
-    table: &IndexMap<&str, &Declaration>,
+    table: &NameMap<'_, &Declaration>,
     context: Context<'_>,
     expr: &Expr,
 ) -> Option<Place>
-    ensures { result ≡ rules.expression_arity (λ name. length (names_at (option_map (λ d. d.now) (get_by (λ k. bytes_eq name k.now) table.now)))) (seen context.entry) (view expr.now) }
+    ensures { result ≡ rules.expression_arity (λ name. length (names_at (option_map (λ d. d.now) (lookup (bytes_eq name) table.now)))) (seen context.entry) (view expr.now) }
 {
     match expr {
         Expr::Ref { name, at, place } => {
@@ -87,8 +87,8 @@ fn expression_arity(
     }
 }
 
-fn equation_arity(table: &IndexMap<&str, &Declaration>, equation: &Equation) -> Option<Place>
-    ensures { result ≡ rules.listed_arity equation.now.place (length (names_at (option_map (λ d. d.now) (get_by (λ k. bytes_eq equation.now.name k.now) table.now)))) equation.now.indices }
+fn equation_arity(table: &NameMap<'_, &Declaration>, equation: &Equation) -> Option<Place>
+    ensures { result ≡ rules.listed_arity equation.now.place (length (names_at (option_map (λ d. d.now) (lookup (bytes_eq equation.now.name) table.now)))) equation.now.indices }
 {
     match &equation.indices {
         None => None,
@@ -100,8 +100,8 @@ fn equation_arity(table: &IndexMap<&str, &Declaration>, equation: &Equation) -> 
 }
 
 /// The first part with another number of indices than must stand there.
-pub(crate) fn parts_arity(table: &IndexMap<&str, &Declaration>, parts: &[Part<'_>]) -> Option<Place>
-    ensures { result ≡ first_place (λ p. rules.expression_arity (λ name. length (names_at (option_map (λ d. d.now) (get_by (λ k. bytes_eq name k.now) table.now)))) (part p).context (part p).expression) parts.now }
+pub(crate) fn parts_arity(table: &NameMap<'_, &Declaration>, parts: &[Part<'_>]) -> Option<Place>
+    ensures { result ≡ first_place (λ p. rules.expression_arity (λ name. length (names_at (option_map (λ d. d.now) (lookup (bytes_eq name) table.now)))) (part p).context (part p).expression) parts.now }
 {
     let mut first = None;
     for part in parts {
@@ -113,10 +113,10 @@ pub(crate) fn parts_arity(table: &IndexMap<&str, &Declaration>, parts: &[Part<'_
 
 /// The first equation with another number of indices than its variable has.
 pub(crate) fn equations_arity(
-    table: &IndexMap<&str, &Declaration>,
+    table: &NameMap<'_, &Declaration>,
     equations: &[Equation],
 ) -> Option<Place>
-    ensures { result ≡ first_place (λ e. rules.listed_arity e.place (length (names_at (option_map (λ d. d.now) (get_by (λ k. bytes_eq e.name k.now) table.now)))) e.indices) equations.now }
+    ensures { result ≡ first_place (λ e. rules.listed_arity e.place (length (names_at (option_map (λ d. d.now) (lookup (bytes_eq e.name) table.now)))) e.indices) equations.now }
 {
     let mut first = None;
     for equation in equations {

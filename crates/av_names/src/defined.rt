@@ -8,9 +8,10 @@ ghost use Rattle.av_names.specs.Equations as rules;
 ghost use Rattle.av_names.specs.inner.Seen.{found, SameNames, equations_seen};
 
 use crate::found::Found;
-use crate::name_set::NameSet;
+use crate::name_sets::{is_among, put_name};
 use crate::tables::computed_variables;
 use av_base::Memory;
+use av_table::NameSet;
 use av_tree::{Declaration, Equation, System};
 use std::alloc::Global;
 
@@ -19,7 +20,7 @@ pub(crate) fn defines_one_of<'a>(set: &NameSet<'_>, equations: &'a [Equation]) -
     ensures { option_map found result ≡ option_map rules.equation_found (find (λ e. is_index set.now e.name) (equations_seen equations.now)) }
 {
     for equation in equations {
-        if set.contains(&equation.name) {
+        if is_among(set, &equation.name) {
             return Some(Found {
                 name: &equation.name,
                 place: equation.place,
@@ -37,7 +38,7 @@ pub(crate) fn without_equation<'a>(
     ensures { option_map found result ≡ option_map rules.declaration_found (find (λ d. not (is_index set.now d.name)) (map (λ d. d.now) variables.now)) }
 {
     for variable in variables {
-        if !set.contains(&variable.name) {
+        if !is_among(set, &variable.name) {
             return Some(Found {
                 name: &variable.name,
                 place: variable.place,
@@ -87,7 +88,7 @@ fn declared<'a>(alloc: Global, declarations: &'a [Declaration]) -> Result<NameSe
 {
     let mut set = NameSet::new(alloc);
     for declaration in declarations {
-        set.insert(&declaration.name)?;
+        put_name(&mut set, &declaration.name)?;
     }
     Ok(set)
 }
@@ -98,7 +99,7 @@ fn defined<'a>(alloc: Global, equations: &'a [Equation]) -> Result<NameSet<'a>, 
 {
     let mut set = NameSet::new(alloc);
     for equation in equations {
-        set.insert(&equation.name)?;
+        put_name(&mut set, &equation.name)?;
     }
     Ok(set)
 }
@@ -122,7 +123,7 @@ fn equation_again<'a>(
     ensures { IfOk result (λ first. option_map found first ≡ rules.second_equation before.old (equations_seen equations.now)) }
 {
     for equation in equations {
-        if !before.insert(&equation.name)? {
+        if !put_name(before, &equation.name)? {
             return Ok(Some(Found {
                 name: &equation.name,
                 place: equation.place,

@@ -26,16 +26,16 @@ use crate::tables::all_variables;
 use av_base::{List, Memory, Name, Width};
 use av_flat::{Flat, Kind, Piece, Var};
 use av_poly::Poly;
+use av_table::NameMap;
 use av_tree::{Declaration, Equation, Expr, System};
-use indexmap::IndexMap;
 use std::alloc::Global;
 
 /// What the names of a system stand for, equations among them.
 #[derive(Drop)]
 pub(crate) struct Names<'a> {
     pub(crate) tables: Tables<'a>,
-    pub(crate) declared: IndexMap<&'a str, &'a Declaration>,
-    pub(crate) equations: IndexMap<&'a str, &'a Equation>,
+    pub(crate) declared: NameMap<'a, &'a Declaration>,
+    pub(crate) equations: NameMap<'a, &'a Equation>,
 }
 
 /// The declared points of a variable.
@@ -87,7 +87,7 @@ fn pieces(alloc: Global, names: &Names<'_>, variable: &Declaration) -> Result<Li
     requires domain { FitsDomain (sizes_in names.now.tables.sizes) variable.now.domain }
     ensures { IfOk result (λ to. map flat.view_piece to ≡ rules.pieces_of (instance_in names.now.tables) variable.now (rules.equation_of (text.view_system names.now.tables.system.now).equations variable.now.name)) }
 {
-    match names.equations.get(variable.name.as_str()) {
+    match names.equations.get(variable.name.as_str().as_bytes()) {
         None => Ok(List::new(alloc)),
         Some(equation) => {
             let indices = context(&names.declared, equation);

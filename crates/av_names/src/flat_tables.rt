@@ -1,30 +1,29 @@
 //! The names of a system's variables and equations, for the building of its flat system.
 
 ghost use Rattle.std.specs.Prelude.{◌≡◌, ◌≤◌, map, length, option_map, bytes_eq, IfOk};
-ghost use Rattle.indexmap.specs.IndexMap.{get_by};
+ghost use Rattle.std.specs.Map.{lookup};
 ghost use Rattle.av_tree.specs.Trees.{Text, view_equation, view_equations};
 ghost use Rattle.av_names.specs.inner.Building.{place_or};
 ghost use Rattle.av_names.specs.Flattened.{equation_of, place_of};
 
 use av_base::Memory;
+use av_table::NameMap;
 use av_tree::{Declaration, Equation};
-use indexmap::IndexMap;
 use std::alloc::Global;
 
 /// The place of each variable, that of the first one of its name.
 pub(crate) fn place_table<'a>(
     alloc: Global,
     variables: &[&'a Declaration],
-) -> Result<IndexMap<&'a str, u32>, Memory>
+) -> Result<NameMap<'a, u32>, Memory>
     requires { length variables.now ≤ 32 }
     ensures { IfOk result (λ table. (name : Text) → place_or (length variables.now) table name ≡ place_of (map (λ d. d.now) variables.now) name) }
 {
-    let mut table = IndexMap::new(alloc);
-    let mut rest = variables.len();
-    while rest > 0 {
-        rest -= 1;
-        let variable = variables[rest];
-        table.insert(variable.name.as_str(), rest as u32)?;
+    let mut table = NameMap::new(alloc);
+    let mut place = 0;
+    for variable in variables {
+        table.insert(variable.name.as_str().as_bytes(), place)?;
+        place += 1;
     }
     Ok(table)
 }
@@ -33,15 +32,12 @@ pub(crate) fn place_table<'a>(
 pub(crate) fn equation_table<'a>(
     alloc: Global,
     equations: &'a [Equation],
-) -> Result<IndexMap<&'a str, &'a Equation>, Memory>
-    ensures { IfOk result (λ table. (name : Text) → option_map (λ e. view_equation e.now) (get_by (λ k. bytes_eq name k.now) table) ≡ equation_of (view_equations equations.now) name) }
+) -> Result<NameMap<'a, &'a Equation>, Memory>
+    ensures { IfOk result (λ table. (name : Text) → option_map (λ e. view_equation e.now) (lookup (bytes_eq name) table) ≡ equation_of (view_equations equations.now) name) }
 {
-    let mut table = IndexMap::new(alloc);
-    let mut rest = equations.len();
-    while rest > 0 {
-        rest -= 1;
-        let equation = &equations[rest];
-        table.insert(equation.name.as_str(), equation)?;
+    let mut table = NameMap::new(alloc);
+    for equation in equations {
+        table.insert(equation.name.as_str().as_bytes(), equation)?;
     }
     Ok(table)
 }

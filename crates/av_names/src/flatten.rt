@@ -19,8 +19,8 @@ use crate::written::given_names;
 use av_base::{List, Memory, Name, Op, Width, Word};
 use av_flat::Tree;
 use av_poly::Poly;
+use av_table::NameMap;
 use av_tree::{Access, DomainText, Expr, MapText, System};
-use indexmap::IndexMap;
 use std::alloc::Global;
 
 /// What the names of a system stand for.
@@ -28,10 +28,10 @@ use std::alloc::Global;
 pub(crate) struct Tables<'a> {
     pub(crate) system: &'a System,
     /// The place of each variable in the order inputs, outputs, locals.
-    pub(crate) places: IndexMap<&'a str, u32>,
+    pub(crate) places: NameMap<'a, u32>,
     /// The number of variables.
     pub(crate) count: u32,
-    pub(crate) sizes: IndexMap<&'a str, i64>,
+    pub(crate) sizes: NameMap<'a, i64>,
     pub(crate) width: Width,
 }
 
@@ -40,8 +40,8 @@ fn place(tables: &Tables<'_>, name: &Name) -> u32
     requires { AreTables tables.now }
     ensures { result ≡ place_of (variables (text.view_system tables.now.system.now)) name.now }
 {
-    match tables.places.get(name.as_str()) {
-        Some(place) => *place,
+    match tables.places.get(name.as_str().as_bytes()) {
+        Some(place) => place,
         None => tables.count,
     }
 }

@@ -11,8 +11,9 @@ ghost use Rattle.av_names.specs.Unknowns as rules;
 ghost use Rattle.av_names.specs.Written.{behind, written_at};
 
 use crate::found::{Found, sooner};
-use crate::name_set::NameSet;
+use crate::name_sets::{is_among, set_of};
 use av_base::{Memory, Name, Place};
+use av_table::NameSet;
 use av_tree::{Access, Constraint, DomainText, Expr, IndexExpr, MapText, Term};
 use std::alloc::Global;
 
@@ -33,7 +34,7 @@ fn unknown_term<'a>(sizes: &NameSet<'_>, names: &NameSet<'_>, term: &'a Term) ->
     match &term.name {
         None => None,
         Some(name) => {
-            let unknown = !names.contains(name) && !sizes.contains(name);
+            let unknown = !is_among(names, name) && !is_among(sizes, name);
             found_where(unknown, name, term.place)
         }
     }
@@ -105,7 +106,7 @@ fn unknown_in_map<'a>(
 ) -> Result<Option<Found<'a>>, Memory>
     ensures { IfOk result (λ first. option_map found first ≡ first_found (rules.unknown_index sizes.now map.now.names) map.now.results) }
 {
-    let names = NameSet::of(alloc, map.names.as_slice())?;
+    let names = set_of(alloc, map.names.as_slice())?;
     Ok(unknown_in_indices(sizes, &names, map.results.as_slice()))
 }
 
@@ -117,7 +118,7 @@ pub(crate) fn unknown_in_domain<'a>(
 ) -> Result<Option<Found<'a>>, Memory>
     ensures { IfOk result (λ first. option_map found first ≡ first_found (rules.unknown_side sizes.now domain.now.names) domain.now.constraints) }
 {
-    let names = NameSet::of(alloc, domain.names.as_slice())?;
+    let names = set_of(alloc, domain.names.as_slice())?;
     let constraints = domain.constraints.as_slice();
     Ok(unknown_in_constraints(sizes, &names, constraints))
 }
@@ -221,7 +222,7 @@ pub(crate) fn unknown_inside<'a>(
             Ok(sooner(head, body))
         }
         Expr::Reduce { map, body, .. } => {
-            let names = NameSet::of(alloc, map.names.as_slice())?;
+            let names = set_of(alloc, map.names.as_slice())?;
             let body = unknown_inside(alloc, sizes, &names, body)?;
             Ok(sooner(head, body))
         }

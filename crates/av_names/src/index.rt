@@ -1,7 +1,7 @@
 //! Variables by name, and all parts of a system.
 
 ghost use Rattle.std.specs.Prelude.{◌≡◌, find, map, bytes_eq, IfOk, option_map};
-ghost use Rattle.indexmap.specs.IndexMap.{get_by};
+ghost use Rattle.std.specs.Map.{lookup};
 ghost use Rattle.av_tree.specs.Trees.{Text, view_system};
 ghost use Rattle.av_tree.specs.Domains as domains;
 ghost use Rattle.av_names.specs.Parts as list;
@@ -9,32 +9,29 @@ ghost use Rattle.av_names.specs.inner.Seen.{part, names_at};
 
 use crate::part::{Context, Part, gather};
 use av_base::{Memory, Name};
+use av_table::NameMap;
 use av_tree::{Declaration, Equation, System};
-use indexmap::IndexMap;
 use std::alloc::Global;
 
 /// The first variable of each name.
 pub(crate) fn by_name<'a>(
     alloc: Global,
     variables: &[&'a Declaration],
-) -> Result<IndexMap<&'a str, &'a Declaration>, Memory>
-    ensures { IfOk result (λ table. (name : Text) → option_map (λ d. d.now) (get_by (λ k. bytes_eq name k.now) table) ≡ find (λ d. bytes_eq d.name name) (map (λ d. d.now) variables.now)) }
+) -> Result<NameMap<'a, &'a Declaration>, Memory>
+    ensures { IfOk result (λ table. (name : Text) → option_map (λ d. d.now) (lookup (bytes_eq name) table) ≡ find (λ d. bytes_eq d.name name) (map (λ d. d.now) variables.now)) }
 {
-    let mut table = IndexMap::new(alloc);
-    let mut rest = variables.len();
-    while rest > 0 {
-        rest -= 1;
-        let variable = variables[rest];
-        table.insert(variable.name.as_str(), variable)?;
+    let mut table = NameMap::new(alloc);
+    for variable in variables {
+        table.insert(variable.name.as_str().as_bytes(), *variable)?;
     }
     Ok(table)
 }
 
 /// The index names of the variable of this name.
-pub(crate) fn names_of<'a>(table: &IndexMap<&'a str, &'a Declaration>, name: &Name) -> &'a [Name]
-    ensures { result.now ≡ names_at (option_map (λ d. d.now) (get_by (λ k. bytes_eq name.now k.now) table.now)) }
+pub(crate) fn names_of<'a>(table: &NameMap<'a, &'a Declaration>, name: &Name) -> &'a [Name]
+    ensures { result.now ≡ names_at (option_map (λ d. d.now) (lookup (bytes_eq name.now) table.now)) }
 {
-    match table.get(name.as_str()) {
+    match table.get(name.as_str().as_bytes()) {
         Some(variable) => variable.domain.names.as_slice(),
         None => &[],
     }
@@ -42,10 +39,10 @@ pub(crate) fn names_of<'a>(table: &IndexMap<&'a str, &'a Declaration>, name: &Na
 
 /// The index names over which an equation's right side stands.
 pub(crate) fn context<'a>(
-    table: &IndexMap<&'a str, &'a Declaration>,
+    table: &NameMap<'a, &'a Declaration>,
     equation: &'a Equation,
 ) -> &'a [Name]
-    ensures { result.now ≡ domains.given_or (names_at (option_map (λ d. d.now) (get_by (λ k. bytes_eq equation.now.name k.now) table.now))) equation.now.indices }
+    ensures { result.now ≡ domains.given_or (names_at (option_map (λ d. d.now) (lookup (bytes_eq equation.now.name) table.now))) equation.now.indices }
 {
     match &equation.indices {
         Some(names) => names.as_slice(),

@@ -14,7 +14,7 @@ mod in_reach;
 mod index;
 mod laws;
 mod measure;
-mod name_set;
+mod name_sets;
 mod outside;
 mod part;
 mod projection;

@@ -25,8 +25,8 @@ use crate::sums::{coefficient, coefficient_between, constant, constant_between};
 use crate::written::{Written, written_all};
 use av_base::limits::{MOST_COEFFICIENT, MOST_CONSTANT};
 use av_base::{Memory, Name, Place};
+use av_table::NameMap;
 use av_tree::{Constraint, Declaration, IndexExpr, Relation, System, Term};
-use indexmap::IndexMap;
 use std::alloc::Global;
 
 /// Which numbers of rows and results of maps are measured.
@@ -120,7 +120,7 @@ fn row_coefficient(names: &[Name], constraint: &Constraint) -> u128
 }
 
 /// The greatest constant of the rows of a comparison.
-fn row_constant(sizes: &IndexMap<&str, i64>, names: &[Name], constraint: &Constraint) -> u128
+fn row_constant(sizes: &NameMap<'_, i64>, names: &[Name], constraint: &Constraint) -> u128
     requires short { HasShortSides constraint.now }
     requires sizes { HasSmallValues (sizes_in sizes.now) }
     ensures { result ≡ (rules.row_constant (sizes_in sizes.now) names.now constraint.now).number }
@@ -139,7 +139,7 @@ fn row_constant(sizes: &IndexMap<&str, i64>, names: &[Name], constraint: &Constr
 
 fn index_number(
     measure: Measure,
-    sizes: &IndexMap<&str, i64>,
+    sizes: &NameMap<'_, i64>,
     names: &[Name],
     entry: &IndexExpr,
 ) -> u128
@@ -156,7 +156,7 @@ fn index_number(
 
 fn row_number(
     measure: Measure,
-    sizes: &IndexMap<&str, i64>,
+    sizes: &NameMap<'_, i64>,
     names: &[Name],
     constraint: &Constraint,
 ) -> u128
@@ -173,7 +173,7 @@ fn row_number(
 /// The first of the index expressions whose number is above the limit.
 fn great_index(
     measure: Measure,
-    sizes: &IndexMap<&str, i64>,
+    sizes: &NameMap<'_, i64>,
     names: &[Name],
     entries: &[IndexExpr],
 ) -> Option<Counted>
@@ -193,7 +193,7 @@ fn great_index(
 /// The first of the comparisons with a row whose number is above the limit.
 fn great_row(
     measure: Measure,
-    sizes: &IndexMap<&str, i64>,
+    sizes: &NameMap<'_, i64>,
     names: &[Name],
     constraints: &[Constraint],
 ) -> Option<Counted>
@@ -212,7 +212,7 @@ fn great_row(
 
 fn great_written(
     measure: Measure,
-    sizes: &IndexMap<&str, i64>,
+    sizes: &NameMap<'_, i64>,
     written: Written<'_>,
 ) -> Option<Counted>
     requires short { IsShortWritten (seen.written written) }
@@ -225,7 +225,7 @@ fn great_written(
 }
 
 /// The greatest number of the first object of the text that is above the limit.
-fn great(measure: Measure, sizes: &IndexMap<&str, i64>, all: &[Written<'_>]) -> Option<u128>
+fn great(measure: Measure, sizes: &NameMap<'_, i64>, all: &[Written<'_>]) -> Option<u128>
     requires short { All (λ w. IsShortWritten (seen.written w)) all.now }
     requires sizes { HasSmallValues (sizes_in sizes.now) }
     ensures { (s : Spelled) → map seen.written all.now ≡ all_written s → result ≡ seen.great measure s (sizes_in sizes.now) }

@@ -13,11 +13,11 @@ use crate::Size;
 use crate::size_table::{size_at, size_table};
 use crate::sums::product;
 use av_base::{Memory, Name};
+use av_table::NameMap;
 use av_tree::{Constraint, Relation, System, Term};
-use indexmap::IndexMap;
 use std::alloc::Global;
 
-fn small_size(sizes: &IndexMap<&str, i64>, name: &Name) -> Option<i64>
+fn small_size(sizes: &NameMap<'_, i64>, name: &Name) -> Option<i64>
     requires { HasSmallValues (sizes_in sizes.now) }
     ensures value { result ≡ sizes_in sizes.now name.now }
     ensures small { IfSome result (λ k. unsigned_abs k ≤ 1048576) }
@@ -38,7 +38,7 @@ fn times(factor: i128, value: Option<i64>) -> Option<i128>
 }
 
 /// The number of a term, or none where its name is no size.
-fn term_at(sizes: &IndexMap<&str, i64>, term: &Term) -> Option<i128>
+fn term_at(sizes: &NameMap<'_, i64>, term: &Term) -> Option<i128>
     requires factor { unsigned_abs term.now.factor < 2 ^ 64 }
     requires sizes { HasSmallValues (sizes_in sizes.now) }
     ensures value { result ≡ points.times term.now.factor (points.unit_at (sizes_in sizes.now) term.now.name) }
@@ -51,7 +51,7 @@ fn term_at(sizes: &IndexMap<&str, i64>, term: &Term) -> Option<i128>
 }
 
 /// The sum of the terms, or none where a name is no size.
-fn sum_at(sizes: &IndexMap<&str, i64>, terms: &[Term]) -> Option<i128>
+fn sum_at(sizes: &NameMap<'_, i64>, terms: &[Term]) -> Option<i128>
     requires terms { AreShort terms.now }
     requires sizes { HasSmallValues (sizes_in sizes.now) }
     ensures { result ≡ points.sum_at (sizes_in sizes.now) terms.now }
@@ -79,7 +79,7 @@ fn compares(relation: Relation, left: i128, right: i128) -> bool
     }
 }
 
-fn holds(sizes: &IndexMap<&str, i64>, constraint: &Constraint) -> bool
+fn holds(sizes: &NameMap<'_, i64>, constraint: &Constraint) -> bool
     requires short { HasShortSides constraint.now }
     requires sizes { HasSmallValues (sizes_in sizes.now) }
     ensures { result ≡ domains.both_compare constraint.now.relation (points.index_at (sizes_in sizes.now) constraint.now.left) (points.index_at (sizes_in sizes.now) constraint.now.right) }
@@ -92,7 +92,7 @@ fn holds(sizes: &IndexMap<&str, i64>, constraint: &Constraint) -> bool
     }
 }
 
-fn all_hold(sizes: &IndexMap<&str, i64>, constraints: &[Constraint]) -> bool
+fn all_hold(sizes: &NameMap<'_, i64>, constraints: &[Constraint]) -> bool
     requires short { All HasShortSides constraints.now }
     requires sizes { HasSmallValues (sizes_in sizes.now) }
     ensures { result ≡ domains.all_hold (sizes_in sizes.now) constraints.now }

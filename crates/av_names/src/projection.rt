@@ -7,9 +7,10 @@ ghost use Rattle.av_names.specs.Reductions as rules;
 ghost use Rattle.av_names.specs.inner.Seen.{part};
 
 use crate::found::sooner_place;
-use crate::name_set::NameSet;
+use crate::name_sets::{is_among, put_name, set_of};
 use crate::part::Part;
 use av_base::{Memory, Name, Place};
+use av_table::NameSet;
 use av_tree::{Expr, IndexExpr, MapText, Term};
 use std::alloc::Global;
 
@@ -54,7 +55,7 @@ fn is_projection(alloc: Global, map: &MapText) -> Result<bool, Memory>
 fn gives_names(alloc: Global, names: &[Name], results: &[IndexExpr]) -> Result<bool, Memory>
     ensures { IfOk result (λ yes. yes ≡ rules.gives_names names.now [] results.now) }
 {
-    let own = NameSet::of(alloc, names)?;
+    let own = set_of(alloc, names)?;
     let mut before = NameSet::new(alloc);
     gives_each(&own, &mut before, results)
 }
@@ -71,10 +72,10 @@ fn gives_each<'a>(
         match plain_name(entry.terms.as_slice()) {
             None => return Ok(false),
             Some(name) => {
-                if !own.contains(name) {
+                if !is_among(own, name) {
                     return Ok(false);
                 }
-                if !before.insert(name)? {
+                if !put_name(before, name)? {
                     return Ok(false);
                 }
             }

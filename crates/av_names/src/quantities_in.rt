@@ -2,7 +2,7 @@
 
 ghost use Rattle.std.specs.Prelude.{◌≡◌, Some, false, map, length, bytes_eq, option_map, IfOk};
 ghost use Rattle.std.specs.List.{flat_map};
-ghost use Rattle.indexmap.specs.IndexMap.{get_by};
+ghost use Rattle.std.specs.Map.{lookup};
 ghost use Rattle.av_tree.specs.Domains as domains;
 ghost use Rattle.av_tree.specs.Trees.{view, view_equation, view_system};
 ghost use Rattle.av_names.specs.Forms.{over};
@@ -18,8 +18,8 @@ use crate::measure::{Counted, number_of, sooner};
 use crate::part::{Context, Part, gather};
 use av_base::limits::{MOST_INDICES, MOST_NODES};
 use av_base::{Memory, Place};
+use av_table::NameMap;
 use av_tree::{Access, Declaration, Equation, Expr, MapText, System};
-use indexmap::IndexMap;
 use std::alloc::Global;
 
 /// The number of variables, where it is above the limit of 32.
@@ -143,10 +143,10 @@ pub(crate) fn too_many_indices(
 /// The nodes of an equation, which are the parts of its right side.
 fn nodes_of(
     alloc: Global,
-    table: &IndexMap<&str, &Declaration>,
+    table: &NameMap<'_, &Declaration>,
     equation: &Equation,
 ) -> Result<usize, Memory>
-    ensures { IfOk result (λ nodes. nodes ≡ length (list.parts_of false (over (domains.given_or (names_at (option_map (λ d. d.now) (get_by (λ k. bytes_eq equation.now.name k.now) table.now))) equation.now.indices)) (view equation.now.right))) }
+    ensures { IfOk result (λ nodes. nodes ≡ length (list.parts_of false (over (domains.given_or (names_at (option_map (λ d. d.now) (lookup (bytes_eq equation.now.name) table.now))) equation.now.indices)) (view equation.now.right))) }
 {
     let mut parts = Vec::new(alloc);
     let names = context(table, equation);
@@ -157,10 +157,10 @@ fn nodes_of(
 /// The first equation with too many nodes.
 fn nodes_of_equations(
     alloc: Global,
-    table: &IndexMap<&str, &Declaration>,
+    table: &NameMap<'_, &Declaration>,
     equations: &[Equation],
 ) -> Result<Option<Counted>, Memory>
-    ensures { IfOk result (λ first. option_map counted first ≡ first_of (λ c. c.place) (λ e. rules.exceeds 4096 (record { number = length (list.parts_of false (over (domains.given_or (names_at (option_map (λ d. d.now) (get_by (λ k. bytes_eq e.name k.now) table.now))) e.indices)) (view e.right)); place = e.place })) equations.now) }
+    ensures { IfOk result (λ first. option_map counted first ≡ first_of (λ c. c.place) (λ e. rules.exceeds 4096 (record { number = length (list.parts_of false (over (domains.given_or (names_at (option_map (λ d. d.now) (lookup (bytes_eq e.name) table.now))) e.indices)) (view e.right)); place = e.place })) equations.now) }
 {
     let mut first = None;
     for equation in equations {

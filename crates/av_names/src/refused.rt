@@ -15,7 +15,7 @@ ghost use Rattle.av_names.specs.Texts.{IsOfText, AreSmall};
 use crate::arity::arity;
 use crate::defined::{defines_input, no_equation, second_equation};
 use crate::measure::{great_coefficient, great_constant};
-use crate::name_set::NameSet;
+use crate::name_sets::set_of;
 use crate::outside::is_outside;
 use crate::part::Part;
 use crate::projection::projection;
@@ -54,7 +54,7 @@ fn size_not_named(
 ) -> Result<Option<NameFault>, Memory>
     ensures { IfOk result (λ fault. fault ≡ option_map kinds.SizeUnknown (words.size_unknown (view_system system.now) sizes.now)) }
 {
-    let named = NameSet::of(alloc, system.sizes.names.as_slice())?;
+    let named = set_of(alloc, system.sizes.names.as_slice())?;
     match size_unknown(&named, sizes) {
         Some(name) => Ok(Some(NameFault::SizeUnknown(copied(alloc, name)?))),
         None => Ok(None),

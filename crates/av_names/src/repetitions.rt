@@ -12,9 +12,10 @@ ghost use Rattle.av_names.specs.Repetitions as repeats;
 ghost use Rattle.av_names.specs.inner.Seen.{found, part, SameNames};
 
 use crate::found::{Found, sooner};
-use crate::name_set::NameSet;
+use crate::name_sets::{is_among, put_name, set_of};
 use crate::part::Part;
 use av_base::{Memory, Name, Place};
+use av_table::NameSet;
 use av_tree::{Access, Declaration, DomainText, Equation, Expr, System};
 use std::alloc::Global;
 
@@ -24,7 +25,7 @@ pub(crate) fn second<'a>(alloc: Global, names: &'a [Name]) -> Result<Option<&'a 
 {
     let mut before = NameSet::new(alloc);
     for name in names {
-        if !before.insert(name)? {
+        if !put_name(&mut before, name)? {
             return Ok(Some(name));
         }
     }
@@ -40,8 +41,8 @@ fn is_repeated<'a>(
     ensures repeated { IfOk result (λ yes. yes ≡ (is_index behind.old name.now || is_index sizes.now name.now)) }
     ensures names { OnOk result (SameNames behind.new (name.now ∷ behind.old)) }
 {
-    let added = behind.insert(name)?;
-    Ok(!added || sizes.contains(name))
+    let added = put_name(behind, name)?;
+    Ok(!added || is_among(sizes, name))
 }
 
 /// The first name that stands once more behind it, or is a size.
@@ -88,9 +89,9 @@ pub(crate) fn repeated_variable<'a>(
 ) -> Result<Option<Found<'a>>, Memory>
     ensures { IfOk result (λ first. option_map found first ≡ repeats.repeated_variable sizes.now (map (λ d. d.now) variables.now)) }
 {
-    let mut before = NameSet::of(alloc, sizes)?;
+    let mut before = set_of(alloc, sizes)?;
     for variable in variables {
-        if !before.insert(&variable.name)? {
+        if !put_name(&mut before, &variable.name)? {
             return Ok(Some(Found {
                 name: &variable.name,
                 place: variable.place,
@@ -232,7 +233,7 @@ pub(crate) fn repeated<'a>(
     let names = system.sizes.names.as_slice();
     let size = repeated_size(alloc, &system.sizes)?;
     let variable = repeated_variable(alloc, names, variables)?;
-    let sizes = NameSet::of(alloc, names)?;
+    let sizes = set_of(alloc, names)?;
     let index = in_lists(alloc, &sizes, system.equations.as_slice(), variables, parts)?;
     Ok(sooner(size, sooner(variable, index)))
 }

@@ -8,42 +8,33 @@ ghost use Rattle.av_names.specs.inner.Sums.{sizes_in};
 
 use crate::Size;
 use av_base::{Memory, Name};
-use indexmap::IndexMap;
+use av_table::NameMap;
 use std::alloc::Global;
 
 /// The value of each size that is given, the first one of each name.
-pub(crate) fn size_table<'a>(
-    alloc: Global,
-    sizes: &'a [Size],
-) -> Result<IndexMap<&'a str, i64>, Memory>
+pub(crate) fn size_table<'a>(alloc: Global, sizes: &'a [Size]) -> Result<NameMap<'a, i64>, Memory>
     ensures { IfOk result (λ table. (name : Text) → sizes_in table name ≡ sizes_of sizes.now name) }
 {
-    let mut table = IndexMap::new(alloc);
-    let mut rest = sizes.len();
-    while rest > 0 {
-        rest -= 1;
-        let size = &sizes[rest];
-        table.insert(size.name.as_str(), size.value)?;
+    let mut table = NameMap::new(alloc);
+    for size in sizes {
+        table.insert(size.name.as_str().as_bytes(), size.value)?;
     }
     Ok(table)
 }
 
 /// The value of the size of this name.
-pub(crate) fn size_at(table: &IndexMap<&str, i64>, name: &Name) -> Option<i64>
+pub(crate) fn size_at(table: &NameMap<'_, i64>, name: &Name) -> Option<i64>
     ensures { result ≡ sizes_in table.now name.now }
 {
-    match table.get(name.as_str()) {
-        Some(value) => Some(*value),
-        None => None,
-    }
+    table.get(name.as_str().as_bytes())
 }
 
 /// The value of the size of this name, and 0 where there is none.
-pub(crate) fn value_of(table: &IndexMap<&str, i64>, name: &Name) -> i64
+pub(crate) fn value_of(table: &NameMap<'_, i64>, name: &Name) -> i64
     ensures { result ≡ or_zero (sizes_in table.now name.now) }
 {
-    match table.get(name.as_str()) {
-        Some(value) => *value,
+    match size_at(table, name) {
+        Some(value) => value,
         None => 0,
     }
 }

@@ -6,8 +6,9 @@ ghost use Rattle.av_names.specs.inner.Seen.{SameNames};
 ghost use Rattle.av_names.specs.SizeWords as words;
 
 use crate::Size;
-use crate::name_set::NameSet;
+use crate::name_sets::{is_among, put_name};
 use av_base::{Memory, Name};
+use av_table::NameSet;
 use std::alloc::Global;
 
 /// The first size whose name an earlier one has.
@@ -16,7 +17,7 @@ pub(crate) fn size_twice<'a>(alloc: Global, sizes: &'a [Size]) -> Result<Option<
 {
     let mut before = NameSet::new(alloc);
     for size in sizes {
-        if !before.insert(&size.name)? {
+        if !put_name(&mut before, &size.name)? {
             return Ok(Some(&size.name));
         }
     }
@@ -29,7 +30,7 @@ pub(crate) fn given<'a>(alloc: Global, sizes: &'a [Size]) -> Result<NameSet<'a>,
 {
     let mut set = NameSet::new(alloc);
     for size in sizes {
-        set.insert(&size.name)?;
+        put_name(&mut set, &size.name)?;
     }
     Ok(set)
 }
@@ -39,7 +40,7 @@ pub(crate) fn size_unknown<'a>(named: &NameSet<'_>, sizes: &'a [Size]) -> Option
     ensures { option_map (λ n. n.now) result ≡ find (λ n. not (is_index named.now n)) (words.names_of sizes.now) }
 {
     for size in sizes {
-        if !named.contains(&size.name) {
+        if !is_among(named, &size.name) {
             return Some(&size.name);
         }
     }
@@ -51,7 +52,7 @@ pub(crate) fn first_outside<'a>(set: &NameSet<'_>, names: &'a [Name]) -> Option<
     ensures { option_map (λ n. n.now) result ≡ find (λ n. not (is_index set.now n)) names.now }
 {
     for name in names {
-        if !set.contains(name) {
+        if !is_among(set, name) {
             return Some(name);
         }
     }

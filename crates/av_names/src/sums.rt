@@ -11,8 +11,8 @@ ghost use Rattle.av_names.specs.inner.ShortSums.{AreShort};
 
 use crate::size_table::value_of;
 use av_base::Name;
+use av_table::NameMap;
 use av_tree::Term;
-use indexmap::IndexMap;
 
 fn is_named(name: &Name, other: &Option<Name>) -> bool
     ensures { result ≡ points.is_named name.now other.now }
@@ -71,7 +71,7 @@ pub(crate) fn product(factor: i128, value: i64) -> i128
 }
 
 /// What the term adds to the constant.
-fn fixed(sizes: &IndexMap<&str, i64>, names: &[Name], term: &Term) -> i128
+fn fixed(sizes: &NameMap<'_, i64>, names: &[Name], term: &Term) -> i128
     requires factor { unsigned_abs term.now.factor < 2 ^ 64 }
     requires sizes { HasSmallValues (sizes_in sizes.now) }
     ensures value { result ≡ rows.fixed (sizes_in sizes.now) names.now term.now.factor term.now.name }
@@ -90,7 +90,7 @@ fn fixed(sizes: &IndexMap<&str, i64>, names: &[Name], term: &Term) -> i128
 }
 
 /// What the terms without an index come to.
-pub(crate) fn constant(sizes: &IndexMap<&str, i64>, names: &[Name], terms: &[Term]) -> i128
+pub(crate) fn constant(sizes: &NameMap<'_, i64>, names: &[Name], terms: &[Term]) -> i128
     requires terms { AreShort terms.now }
     requires sizes { HasSmallValues (sizes_in sizes.now) }
     ensures value { result ≡ rows.constant (sizes_in sizes.now) names.now terms.now }
@@ -116,7 +116,7 @@ pub(crate) fn coefficient_between(left: &[Term], right: &[Term], name: &Name) ->
 
 /// The constant of one side without the other, and without the gap that is to be between them.
 pub(crate) fn constant_between(
-    sizes: &IndexMap<&str, i64>,
+    sizes: &NameMap<'_, i64>,
     names: &[Name],
     left: &[Term],
     right: &[Term],

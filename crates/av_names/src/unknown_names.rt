@@ -1,7 +1,7 @@
 //! Names that nothing declares.
 
 ghost use Rattle.std.specs.Prelude.{◌≡◌, false, map, not, bytes_eq, option_map, IfOk};
-ghost use Rattle.indexmap.specs.IndexMap.{get_by};
+ghost use Rattle.std.specs.Map.{lookup};
 ghost use Rattle.av_tree.specs.Domains as domains;
 ghost use Rattle.av_tree.specs.Rows.{is_index};
 ghost use Rattle.av_tree.specs.Trees.{view, view_system};
@@ -16,11 +16,11 @@ ghost use Rattle.av_names.specs.Written.{written_at, all_written};
 use crate::found::{Found, sooner};
 use crate::in_reach::{found_where, unknown_in_constraints, unknown_in_domain, unknown_inside};
 use crate::index::{by_name, context};
-use crate::name_set::NameSet;
+use crate::name_sets::{is_among, put_name, set_of};
 use crate::part::Part;
 use av_base::Memory;
+use av_table::{NameMap, NameSet};
 use av_tree::{Declaration, Equation, Expr, System};
-use indexmap::IndexMap;
 use std::alloc::Global;
 
 /// The names of the variables.
@@ -29,7 +29,7 @@ fn variable_names<'a>(alloc: Global, variables: &[&'a Declaration]) -> Result<Na
 {
     let mut set = NameSet::new(alloc);
     for variable in variables {
-        set.insert(&variable.name)?;
+        put_name(&mut set, &variable.name)?;
     }
     Ok(set)
 }
@@ -40,7 +40,7 @@ fn unknown_in_equations<'a>(variables: &NameSet<'_>, equations: &'a [Equation]) 
 {
     let mut first = None;
     for equation in equations {
-        let unknown = !variables.contains(&equation.name);
+        let unknown = !is_among(variables, &equation.name);
         let next = found_where(unknown, &equation.name, equation.place);
         first = sooner(first, next);
     }
@@ -51,7 +51,7 @@ fn unknown_reference<'a>(variables: &NameSet<'_>, expr: &'a Expr) -> Option<Foun
     ensures { option_map found result ≡ rules.unknown_variable variables.now (view expr.now) }
 {
     match expr {
-        Expr::Ref { name, place, .. } => found_where(!variables.contains(name), name, *place),
+        Expr::Ref { name, place, .. } => found_where(!is_among(variables, name), name, *place),
         _ => None,
     }
 }
@@ -88,12 +88,12 @@ fn unknown_in_declarations<'a>(
 fn unknown_in_right<'a>(
     alloc: Global,
     sizes: &NameSet<'_>,
-    table: &IndexMap<&str, &Declaration>,
+    table: &NameMap<'_, &Declaration>,
     equation: &'a Equation,
 ) -> Result<Option<Found<'a>>, Memory>
-    ensures { IfOk result (λ first. option_map found first ≡ first_found (λ p. rules.unknown_written sizes.now (written_at p)) (list.parts_of false (over (domains.given_or (names_at (option_map (λ d. d.now) (get_by (λ k. bytes_eq equation.now.name k.now) table.now))) equation.now.indices)) (view equation.now.right))) }
+    ensures { IfOk result (λ first. option_map found first ≡ first_found (λ p. rules.unknown_written sizes.now (written_at p)) (list.parts_of false (over (domains.given_or (names_at (option_map (λ d. d.now) (lookup (bytes_eq equation.now.name) table.now))) equation.now.indices)) (view equation.now.right))) }
 {
-    let names = NameSet::of(alloc, context(table, equation))?;
+    let names = set_of(alloc, context(table, equation))?;
     unknown_inside(alloc, sizes, &names, &equation.right)
 }
 
@@ -101,10 +101,10 @@ fn unknown_in_right<'a>(
 fn unknown_in_rights<'a>(
     alloc: Global,
     sizes: &NameSet<'_>,
-    table: &IndexMap<&str, &Declaration>,
+    table: &NameMap<'_, &Declaration>,
     equations: &'a [Equation],
 ) -> Result<Option<Found<'a>>, Memory>
-    ensures { IfOk result (λ first. option_map found first ≡ first_found (λ e. first_found (λ p. rules.unknown_written sizes.now (written_at p)) (list.parts_of false (over (domains.given_or (names_at (option_map (λ d. d.now) (get_by (λ k. bytes_eq e.name k.now) table.now))) e.indices)) (view e.right))) equations.now) }
+    ensures { IfOk result (λ first. option_map found first ≡ first_found (λ e. first_found (λ p. rules.unknown_written sizes.now (written_at p)) (list.parts_of false (over (domains.given_or (names_at (option_map (λ d. d.now) (lookup (bytes_eq e.name) table.now))) e.indices)) (view e.right))) equations.now) }
 {
     let mut first = None;
     for equation in equations {
@@ -123,7 +123,7 @@ fn unknown_index<'a>(
     requires { map (λ d. d.now) variables.now ≡ domains.variables (view_system system.now) }
     ensures { IfOk result (λ first. option_map found first ≡ first_found (rules.unknown_written system.now.sizes.names) (all_written (view_system system.now))) }
 {
-    let sizes = NameSet::of(alloc, system.sizes.names.as_slice())?;
+    let sizes = set_of(alloc, system.sizes.names.as_slice())?;
     let table = by_name(alloc, variables)?;
     let nothing = NameSet::new(alloc);
     let outer = unknown_in_constraints(&sizes, &nothing, system.sizes.constraints.as_slice());

@@ -1,7 +1,6 @@
 -- What the building of a flat system sees of its tables.
-use Rattle.std.specs.Prelude.{◌≡◌, ◌≤◌, ℕ, length, find, option_map, bytes_eq, Option, Some, None, All}
-use Rattle.std.specs.HashMap.{HashMap, get_by}
-use denote.Ref.{Bor}
+use Rattle.std.specs.Prelude.{◌≡◌, ◌≤◌, ℕ, List, length, find, option_map, bytes_eq, Some, None, All}
+use Rattle.std.specs.Map.{lookup}
 use Rattle.av_tree.specs.declared.domain.DomainText.{DomainText}
 use Rattle.av_tree.specs.Trees.{Text, Equation, System, view_equation, view_system}
 use Rattle.av_tree.specs.Points.{Sizes}
@@ -15,8 +14,8 @@ use Rattle.av_names.specs.Forms.{over}
 use Rattle.av_names.specs.inner.Sums.{sizes_in, HasSmallValues}
 
 -- the place that a table has for a name, or else this one
-abbrev pub place_or : {S : Type 0} → ℕ → HashMap (Bor Text) ℕ S → Text → ℕ
-place_or other table name = elim (get_by (λ k. bytes_eq name k.now) table) [ None ↦ other | Some place ↦ place ]
+abbrev pub place_or : ℕ → List (Text × ℕ) → Text → ℕ
+place_or other table name = elim (lookup (bytes_eq name) table) [ None ↦ other | Some place ↦ place ]
 
 -- the system with the sizes and the width of the tables
 abbrev pub instance_in : Tables → Instance
@@ -38,6 +37,6 @@ FitsRight sizes s e = FitsIn sizes (over (context s e)) e.right
 -- variables and equations by name, and what fits
 pub record AreNames (n : Names) : Type 0 where
   pub tables : AreTables n.tables
-  pub declared : (name : Text) → option_map (λ d. d.now) (get_by (λ k. bytes_eq name k.now) n.declared) ≡ find (λ d. bytes_eq d.name name) (variables (view_system n.tables.system.now))
-  pub equations : (name : Text) → option_map (λ e. view_equation e.now) (get_by (λ k. bytes_eq name k.now) n.equations) ≡ equation_of (view_system n.tables.system.now).equations name
+  pub declared : (name : Text) → option_map (λ d. d.now) (lookup (bytes_eq name) n.declared) ≡ find (λ d. bytes_eq d.name name) (variables (view_system n.tables.system.now))
+  pub equations : (name : Text) → option_map (λ e. view_equation e.now) (lookup (bytes_eq name) n.equations) ≡ equation_of (view_system n.tables.system.now).equations name
   pub rights : All (FitsRight (sizes_in n.tables.sizes) (view_system n.tables.system.now)) (view_system n.tables.system.now).equations

@@ -1,7 +1,6 @@
 -- The numbers that rows and results of maps have, by a table of the sizes.
-use Rattle.std.specs.Prelude.{ℕ, ℤ, pos, ◌≤◌, unsigned_abs, List, ◌++◌, map, Option, bytes_eq}
-use Rattle.std.specs.HashMap.{HashMap, get_by}
-use denote.Ref.{Bor}
+use Rattle.std.specs.Prelude.{ℕ, ℤ, ◌≤◌, unsigned_abs, List, ◌++◌, map, Option, bytes_eq}
+use Rattle.std.specs.Map.{lookup}
 use Rattle.av_tree.specs.declared.domain.Constraint.{Constraint}
 use Rattle.av_tree.specs.declared.domain.IndexExpr.{IndexExpr}
 use Rattle.av_tree.specs.Trees.{Text, System}
@@ -15,8 +14,8 @@ use Rattle.av_names.specs.Quantities.{Counted, index_coefficient, index_constant
 use Rattle.av_names.specs.Written.{Written}
 
 -- the sizes of a table
-abbrev pub sizes_in : {S : Type 0} → HashMap (Bor Text) ℤ S → Sizes
-sizes_in table name = get_by (λ k. bytes_eq name k.now) table
+abbrev pub sizes_in : List (Text × ℤ) → Sizes
+sizes_in table name = lookup (bytes_eq name) table
 
 abbrev pub HasSmallValues : Sizes → Type 0
 HasSmallValues sizes = (name : Text) → unsigned_abs (or_zero (sizes name)) ≤ 1048576

@@ -5,5 +5,5 @@ use Rattle.av_names.proofs.defined.equation_again.Goals as goal
 
 pub loop-equation-preserved : goal.loop-equation-preserved
 loop-equation-preserved c =
-    equation_more c.args.before.now c.loop-equation.before c.insert.new.self c.args.equations.now c.loop-equation.equation-index c.equation-item.result c.loop-equation-test.true c.equation-item.is
-    c.in_ok-insert.ensures.names (was_new c.in_ok-insert.field-0 (is_index c.loop-equation.before c.equation-item.result.name) c.in_ok-insert.ensures.added c.if-not-branch.false) c.loop-equation.invariant
+    equation_more c.args.before.now c.loop-equation.before c.put_name.new.set c.args.equations.now c.loop-equation.equation-index c.equation-item.result c.loop-equation-test.true c.equation-item.is
+    c.in_ok-put_name.ensures.names (was_new c.in_ok-put_name.field-0 (is_index c.loop-equation.before c.equation-item.result.name) c.in_ok-put_name.ensures.added c.if-not-branch.false) c.loop-equation.invariant

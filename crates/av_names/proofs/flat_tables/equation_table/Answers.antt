@@ -1,18 +1,20 @@
-use Rattle.std.proofs.Common.{◌-◌, arith, Option, Bor}
-use Rattle.std.specs.Prelude.{bytes_eq}
-use Rattle.std.proofs.lemmas.Map.Text.{hash_map_updates_str}
-use Rattle.indexmap.specs.IndexMap.{get_by}
-use Rattle.av_tree.specs.declared.system.Equation.{Equation}
-use Rattle.av_tree.specs.Trees.{Text}
-use Rattle.av_names.proofs.Earlier.{one_equation_earlier}
+use Rattle.std.proofs.Common.{List, Option, Bor, refl, sym, ap, ◌∙◌, drop, ◌+◌, Some}
+use Rattle.std.specs.Prelude.{bytes_eq, if◌then◌else◌}
+use Rattle.av_tree.specs.declared.system.Equation.{Equation as EquationMade}
+use Rattle.av_tree.specs.Trees.{Text, Equation, view_equation, view_equations}
+use Rattle.av_names.specs.Flattened.{equation_of}
+use Rattle.av_names.proofs.Entered.{one_later, all_found}
 use Rattle.av_names.proofs.flat_tables.equation_table.Goals as goal
 
-pub loop-rest-preserved : goal.loop-rest-preserved
-loop-rest-preserved c =
-    let old : Text → Option (Bor Equation) = λ name. get_by (λ k. bytes_eq name k.now) c.loop-rest.table in
-    let new : Text → Option (Bor Equation) = λ name. get_by (λ k. bytes_eq name k.now) c.insert.new.self in (
-      omega (arith, c.loop-rest.invariant.0),
-      one_equation_earlier old new c.args.equations.now (c.loop-rest.rest - 1) c.loop-rest.rest _ c.as_str.result.now
-          (omega (arith, c.loop-rest.invariant.0, c.loop-rest-test.true)) (omega (arith, c.loop-rest-test.true)) c.index-equations-rest.is c.as_str.ensures
-          (hash_map_updates_str c.as_str.result.now c.loop-rest.table c.insert.new.self _ c.in_ok-insert.ensures.updates) c.loop-rest.invariant.1,
-    )
+abbrev rule : Text → List EquationMade → Option Equation
+rule name es = equation_of (view_equations es) name
+
+pub loop-equation-preserved : goal.loop-equation-preserved
+loop-equation-preserved c name =
+    let x = c.equation-item.result in
+    let rest = drop (c.loop-equation.equation-index + 1) c.args.equations.now in
+    one_later (λ (e : Bor EquationMade). view_equation e.now) (rule name) c.args.equations.now c.loop-equation.table c.insert.new.self c.loop-equation.equation-index x c.as_bytes.result.now _ name c.loop-equation-test.true
+    c.equation-item.is (ap (λ t. if bytes_eq t name then Some (view_equation x) else rule name rest) (sym (c.as_bytes.ensures.value ∙ c.as_str.ensures))) c.in_ok-insert.ensures.all (c.loop-equation.invariant name)
+
+pub returns : goal.returns
+returns c name = all_found (λ (e : Bor EquationMade). view_equation e.now) (rule name) c.args.equations.now c.loop-equation.table c.loop-equation.equation-index name c.loop-equation-test.false refl (c.loop-equation.invariant name)

@@ -4,10 +4,7 @@ use Rattle.av_names.specs.inner.Building.{place_or}
 use Rattle.av_names.specs.Flattened.{place_of}
 use Rattle.av_names.proofs.flat_tables.place_table.Given as goal
 
-abbrev pub invariant-loop-rest : goal.invariant-loop-rest
-invariant-loop-rest l =
-    (l.rest ≤ length l.variables)
-    × ((name : Text) → place_or (length l.variables) l.table name ≡ l.rest + place_of (map (λ d. d.now) (drop l.rest l.variables)) name)
-
-abbrev pub decreases-loop-rest : goal.decreases-loop-rest
-decreases-loop-rest l = l.rest
+abbrev pub invariant-loop-variable : goal.invariant-loop-variable
+invariant-loop-variable l =
+    (l.place ≡ l.variable-index) × (l.variable-index ≤ length l.variables)
+    × ((name : Text) → place_or (l.variable-index + place_of (map (λ d. d.now) (drop l.variable-index l.variables)) name) l.table name ≡ place_of (map (λ d. d.now) l.variables) name)

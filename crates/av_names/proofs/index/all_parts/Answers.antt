@@ -1,6 +1,6 @@
 use Rattle.std.proofs.Common.{refl, ap, ◌∙◌, ◌++◌, map, option_map, false}
 use Rattle.std.specs.Prelude.{bytes_eq}
-use Rattle.indexmap.specs.IndexMap.{get_by}
+use Rattle.std.specs.Map.{lookup}
 use Rattle.av_tree.specs.Trees.{view, view_system}
 use Rattle.av_names.specs.Parts.{parts_of}
 use Rattle.av_names.specs.inner.Seen.{part}
@@ -11,7 +11,7 @@ pub loop-equation-preserved : goal.loop-equation-preserved
 loop-equation-preserved c =
     let s = view_system c.args.system.now in
     let e = c.equation-item.result in
-    let found = option_map (λ d. d.now) (get_by (λ k. bytes_eq e.name k.now) c.in_ok-table.table) in
+    let found = option_map (λ d. d.now) (lookup (bytes_eq e.name) c.in_ok-table.table) in
     parts_more s c.args.system.now.equations c.loop-equation.parts.items c.gather.new.parts.items c.loop-equation.equation-index e c.context-names.result.now
     (rw c.as_slice-equation-items.ensures at c.loop-equation-test.true) (rw c.as_slice-equation-items.ensures at c.equation-item.is)
     (context_is s c.args.variables.now e found c.context-names.result.now c.requires (c.in_ok-table.ensures e.name) c.context-names.ensures)

@@ -1,18 +1,19 @@
-use Rattle.std.proofs.Common.{◌-◌, arith, Option, Bor}
-use Rattle.std.specs.Prelude.{bytes_eq}
-use Rattle.std.proofs.lemmas.Map.Text.{hash_map_updates_str}
-use Rattle.indexmap.specs.IndexMap.{get_by}
+use Rattle.std.proofs.Common.{List, Option, Bor, map, refl, sym, ap, ◌∙◌, drop, ◌+◌, Some}
+use Rattle.std.specs.Prelude.{find, bytes_eq, if◌then◌else◌}
 use Rattle.av_tree.specs.declared.system.Declaration.{Declaration}
 use Rattle.av_tree.specs.Trees.{Text}
-use Rattle.av_names.proofs.Lookups.{one_earlier}
+use Rattle.av_names.proofs.Entered.{one_later, all_found}
 use Rattle.av_names.proofs.index.by_name.Goals as goal
 
-pub loop-rest-preserved : goal.loop-rest-preserved
-loop-rest-preserved c =
-    let old : Text → Option (Bor Declaration) = λ name. get_by (λ k. bytes_eq name k.now) c.loop-rest.table in
-    let new : Text → Option (Bor Declaration) = λ name. get_by (λ k. bytes_eq name k.now) c.insert.new.self in (
-      omega (arith, c.loop-rest.invariant.0),
-      one_earlier old new c.args.variables.now (c.loop-rest.rest - 1) c.loop-rest.rest c.index-variables-rest.result c.as_str.result.now
-          (omega (arith, c.loop-rest.invariant.0, c.loop-rest-test.true)) (omega (arith, c.loop-rest-test.true)) c.index-variables-rest.is c.as_str.ensures
-          (hash_map_updates_str c.as_str.result.now c.loop-rest.table c.insert.new.self _ c.in_ok-insert.ensures.updates) c.loop-rest.invariant.1,
-    )
+abbrev rule : Text → List (Bor Declaration) → Option Declaration
+rule name ds = find (λ d. bytes_eq d.name name) (map (λ d. d.now) ds)
+
+pub loop-variable-preserved : goal.loop-variable-preserved
+loop-variable-preserved c name =
+    let x = c.variable-item.result in
+    let rest = drop (c.loop-variable.variable-index + 1) c.args.variables.now in
+    one_later (λ (d : Bor Declaration). d.now) (rule name) c.args.variables.now c.loop-variable.table c.insert.new.self c.loop-variable.variable-index x c.as_bytes.result.now x name c.loop-variable-test.true c.variable-item.is
+    (ap (λ t. if bytes_eq t name then Some x.now else rule name rest) (sym (c.as_bytes.ensures.value ∙ c.as_str.ensures))) c.in_ok-insert.ensures.all (c.loop-variable.invariant name)
+
+pub returns : goal.returns
+returns c name = all_found (λ (d : Bor Declaration). d.now) (rule name) c.args.variables.now c.loop-variable.table c.loop-variable.variable-index name c.loop-variable-test.false refl (c.loop-variable.invariant name)

@@ -1,6 +1,6 @@
 use Rattle.std.proofs.Common.{refl, ◌∙◌}
 use Rattle.std.specs.Prelude.{option_map, bytes_eq}
-use Rattle.indexmap.specs.IndexMap.{get_by}
+use Rattle.std.specs.Map.{lookup}
 use Rattle.av_tree.specs.Trees.{view_system}
 use Rattle.av_names.specs.inner.Sums.{counted}
 use Rattle.av_names.proofs.Unknown.{nodes_are}
@@ -10,5 +10,5 @@ pub returns : goal.returns
 returns c =
     c.number_of.ensures
     ∙ nodes_are (view_system c.args.system.now) c.args.variables.now c.args.system.now.equations c.requires refl
-    (λ name. option_map (λ d. d.now) (get_by (λ k. bytes_eq name k.now) c.in_ok-table.table)) c.in_ok-table.ensures (option_map counted c.in_ok-first.first)
+    (λ name. option_map (λ d. d.now) (lookup (bytes_eq name) c.in_ok-table.table)) c.in_ok-table.ensures (option_map counted c.in_ok-first.first)
     (rw c.as_slice.ensures at c.in_ok-first.ensures)

@@ -8,5 +8,5 @@ loop-variable-init c = variable_same c.args.sizes.now c.in_ok-before.before (map
 
 pub loop-variable-preserved : goal.loop-variable-preserved
 loop-variable-preserved c =
-    variable_more c.args.sizes.now c.loop-variable.before c.insert.new.self c.args.variables.now c.loop-variable.variable-index c.variable-item.result c.loop-variable-test.true c.variable-item.is
-    c.in_ok-insert.ensures.names (was_new c.in_ok-insert.field-0 (is_index c.loop-variable.before c.variable-item.result.now.name) c.in_ok-insert.ensures.added c.if-not-branch.false) c.loop-variable.invariant
+    variable_more c.args.sizes.now c.loop-variable.before c.put_name.new.set c.args.variables.now c.loop-variable.variable-index c.variable-item.result c.loop-variable-test.true c.variable-item.is
+    c.in_ok-put_name.ensures.names (was_new c.in_ok-put_name.field-0 (is_index c.loop-variable.before c.variable-item.result.now.name) c.in_ok-put_name.ensures.added c.if-not-branch.false) c.loop-variable.invariant

@@ -13,4 +13,4 @@ loop-equation-preserved c =
     let best = option_map found c.loop-equation.first in
     first_more (λ f. f.place) (λ e. finds.found_where (not (is_index c.args.variables.now e.name)) e.name e.place) c.args.equations.now c.loop-equation.equation-index c.equation-item.result
     best (option_map found c.sooner-first.result) c.loop-equation-test.true c.equation-item.is c.loop-equation.invariant
-    (c.sooner-first.ensures ∙ ap (sooner (λ f. f.place) best) (c.found_where-next.ensures ∙ ap (λ t. finds.found_where (not t) c.equation-item.result.name c.equation-item.result.place) c.contains-unknown.ensures))
+    (c.sooner-first.ensures ∙ ap (sooner (λ f. f.place) best) (c.found_where-next.ensures ∙ ap (λ t. finds.found_where (not t) c.equation-item.result.name c.equation-item.result.place) c.is_among-unknown.ensures))

@@ -1,6 +1,6 @@
 use Rattle.std.proofs.Common.{◌≡◌, take, false}
 use Rattle.std.specs.Prelude.{option_map, bytes_eq}
-use Rattle.indexmap.specs.IndexMap.{get_by}
+use Rattle.std.specs.Map.{lookup}
 use Rattle.av_tree.specs.Domains as domains
 use Rattle.av_tree.specs.Trees.{view}
 use Rattle.av_names.specs.Forms.{over}
@@ -15,5 +15,5 @@ abbrev pub invariant-loop-equation : goal.invariant-loop-equation
 invariant-loop-equation l =
     option_map found l.first
     ≡ first_found (λ e. first_found (λ p. rules.unknown_written l.sizes (written_at p))
-    (list.parts_of false (over (domains.given_or (names_at (option_map (λ d. d.now) (get_by (λ k. bytes_eq e.name k.now) l.table))) e.indices)) (view e.right)))
+    (list.parts_of false (over (domains.given_or (names_at (option_map (λ d. d.now) (lookup (bytes_eq e.name) l.table))) e.indices)) (view e.right)))
     (take l.equation-index l.equations)

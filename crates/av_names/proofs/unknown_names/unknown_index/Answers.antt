@@ -1,6 +1,6 @@
 use Rattle.std.proofs.Common.{refl, ap, ◌∙◌}
 use Rattle.std.specs.Prelude.{option_map, bytes_eq}
-use Rattle.indexmap.specs.IndexMap.{get_by}
+use Rattle.std.specs.Map.{lookup}
 use Rattle.av_tree.specs.Trees.{view_system}
 use Rattle.av_names.specs.Found.{sooner}
 use Rattle.av_names.specs.inner.Seen.{found}
@@ -14,6 +14,6 @@ returns c =
     let right = option_map found c.in_ok-right.right in
     c.sooner-2.ensures ∙ ap (sooner (λ f. f.place) outer) c.sooner.ensures
     ∙ index_is (view_system c.args.system.now) c.args.variables.now c.args.system.now.equations c.requires refl
-    (λ name. option_map (λ d. d.now) (get_by (λ k. bytes_eq name k.now) c.in_ok-table.table)) c.in_ok-table.ensures c.in_ok-sizes.sizes outer domain right
+    (λ name. option_map (λ d. d.now) (lookup (bytes_eq name) c.in_ok-table.table)) c.in_ok-table.ensures c.in_ok-sizes.sizes outer domain right
     (rw c.as_slice.ensures at c.in_ok-sizes.ensures) (rw (c.new-nothing.ensures, c.as_slice-2.ensures) at c.unknown_in_constraints-outer.ensures) c.in_ok-domain.ensures
     (rw c.as_slice-3.ensures at c.in_ok-right.ensures)
