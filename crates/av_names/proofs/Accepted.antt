@@ -24,6 +24,7 @@ use Rattle.av_names.proofs.Names.{equal_names, same_names, apart_names}
 use Rattle.av_names.proofs.Among.{Among, all_from}
 use Rattle.av_names.proofs.Places.{HasOwnName}
 use Rattle.av_names.proofs.Equations.{DefinesOther}
+use Rattle.av_base.proofs.Truths.{not_false}
 
 -- ---- rules that find nothing
 
@@ -65,10 +66,6 @@ none_passes test (y ∷ ys) x h m = go (test y) refl (λ k n. none_passes test y
     go true e rest n = absurd (let p : Some y ≡ None = rw e at h in cc)
     go false e rest (inl p) = ap test (sym p) ∙ e
     go false e rest (inr n) = rest (rw e at h) n
-
-pub is_so : (t : Bool) → not t ≡ false → t ≡ true
-is_so true h = refl
-is_so false h = absurd cc
 
 -- ---- names in lists
 

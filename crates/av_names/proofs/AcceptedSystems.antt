@@ -31,11 +31,12 @@ use Rattle.av_names.specs.Repetitions.{NameList, repeated, repeated_size, repeat
 use Rattle.av_names.specs.SizeWords.{size_missing, names_of, sizes_of}
 use Rattle.av_names.specs.Unknowns.{unknown, unknown_equation, unknown_reference, unknown_written, unknown_side, unknown_index, is_variable, declared_as}
 use Rattle.av_names.specs.Written.{Written, written_at, written_declaration, all_written}
-use Rattle.av_names.proofs.Accepted.{rule_first, nothing_mapped, neither, at_none, not_found, none_passes, is_so, named_among, among_named, distinct_names, distinct_variables, distinct_equations, AreGiven, word_given, comparisons_known}
+use Rattle.av_names.proofs.Accepted.{rule_first, nothing_mapped, neither, at_none, not_found, none_passes, named_among, among_named, distinct_names, distinct_variables, distinct_equations, AreGiven, word_given, comparisons_known}
 use Rattle.av_names.proofs.Accepting.{IsSound, same_number, within, regular_part}
 use Rattle.av_names.proofs.Among.{Among, all_at, all_from, any_from, among_parts, among_first, among_second, among_image, among_source}
 use Rattle.av_names.proofs.Projected.{projection_is}
 use Rattle.av_names.proofs.Places.{HasDomain}
+use Rattle.av_base.proofs.Truths.{not_false}
 
 -- ---- lists
 
@@ -103,7 +104,7 @@ module _ (s : System) (words : List Size) (width : ℕ) (plain : HasNoInequality
   }
 
   given : AreGiven sizes (sizes_of words)
-  given name h = word_given words name (is_so (is_index (names_of words) name) (none_passes (λ n. not (is_index (names_of words) n)) sizes name none_holds.missing (named_among sizes name h)))
+  given name h = word_given words name (not_false (is_index (names_of words) name) (none_passes (λ n. not (is_index (names_of words) n)) sizes name none_holds.missing (named_among sizes name h)))
 
   abbrev of_found : Found → Place
   of_found f = f.place
@@ -180,7 +181,7 @@ module _ (s : System) (words : List Size) (width : ℕ) (plain : HasNoInequality
 
   computes : (e : Equation) → Among e s.equations → Any (λ d. d.name ≡ e.name) (computed s)
   computes e m =
-      let known = is_so (is_variable (variables s) e.name) (not_found (not (is_variable (variables s) e.name)) e.name e.place (at_none of_found (unknown_equation s) s.equations e unknowns.0 m)) in
+      let known = not_false (is_variable (variables s) e.name) (not_found (not (is_variable (variables s) e.name)) e.name e.place (at_none of_found (unknown_equation s) s.equations e unknowns.0 m)) in
       let r = named_one (variables s) e.name known in
       let other = none_passes (λ f. is_variable s.inputs f.name) s.equations e (nothing_mapped equation_found (find (λ e. is_variable s.inputs e.name) s.equations) none_holds.defines) m in
       elim (among_parts s.inputs (computed s) r.0 r.1) [
@@ -205,7 +206,7 @@ module _ (s : System) (words : List Size) (width : ℕ) (plain : HasNoInequality
     names = (distinct_variables sizes (variables s) repeats.0).1;
     domains = all_from (HasDomain (sizes_of words)) (variables s) domain_is;
     defined = all_from (λ d. Any (λ e. e.name ≡ d.name) s.equations) (computed s) (λ d m.
-        let there = is_so (is_index (defined s) d.name) (none_passes (λ d. not (is_index (defined s) d.name)) (computed s) d (nothing_mapped declaration_found (find (λ d. not (is_index (defined s) d.name)) (computed s)) none_holds.lacks) m) in
+        let there = not_false (is_index (defined s) d.name) (none_passes (λ d. not (is_index (defined s) d.name)) (computed s) d (nothing_mapped declaration_found (find (λ d. not (is_index (defined s) d.name)) (computed s)) none_holds.lacks) m) in
         let r = among_source (λ e. e.name) s.equations d.name (named_among (defined s) d.name there) in
         any_from (λ e. e.name ≡ d.name) s.equations r.0 r.1 r.2);
     once = (distinct_equations [] s.equations none_holds.second).1;

@@ -26,7 +26,8 @@ use Rattle.av_names.specs.Quantities as quantity
 use Rattle.av_names.specs.Unknowns.{unknown_reference, unknown_written, unknown_index, unknown_side, is_variable, declared_as}
 use Rattle.av_names.specs.Regular.{IsRegularIn, AreRegularIn, IsMap, Projects, Reads, Restricts, indices_of, AreDistinct}
 use Rattle.av_names.proofs.Among.{Among, among_first, among_second, among_source, any_from}
-use Rattle.av_names.proofs.Accepted.{nothing_mapped, neither, not_found, no_place, is_so, named_among, neither_is, distinct_names, AreGiven, indices_known, comparisons_known}
+use Rattle.av_names.proofs.Accepted.{nothing_mapped, neither, not_found, no_place, named_among, neither_is, distinct_names, AreGiven, indices_known, comparisons_known}
+use Rattle.av_base.proofs.Truths.{not_false}
 
 -- what no rule refuses at one part
 pub record IsSound (i : Instance) (p : Part) : Type 0 where
@@ -39,12 +40,12 @@ pub record IsSound (i : Instance) (p : Part) : Type 0 where
   pub related : (c : Constraint) → Among c (written_at p).constraints → c.relation ≢ relation.Unequal
 
 pub same_number : (m n : ℕ) (place : Place) → place_where (not (nat_eq m n)) place ≡ None → m ≡ n
-same_number m n place h = equal m n (is_so (nat_eq m n) (no_place (not (nat_eq m n)) place h))
+same_number m n place h = equal m n (not_false (nat_eq m n) (no_place (not (nat_eq m n)) place h))
 
 both_numbers : (a b m n : ℕ) (place : Place) → place_where (not (nat_eq a b) || not (nat_eq m n)) place ≡ None → (a ≡ b) × (m ≡ n)
 both_numbers a b m n place h =
     let r = neither_is (not (nat_eq a b)) (not (nat_eq m n)) (no_place (not (nat_eq a b) || not (nat_eq m n)) place h) in
-    (equal a b (is_so (nat_eq a b) r.0), equal m n (is_so (nat_eq m n) r.1))
+    (equal a b (not_false (nat_eq a b) r.0), equal m n (not_false (nat_eq m n) r.1))
 
 pub within : (limit : ℕ) (c : Counted) → exceeds limit c ≡ None → c.number ≤ limit
 within limit c h = go (nat_lt limit c.number) refl
@@ -77,7 +78,7 @@ module _ (i : Instance) (given : AreGiven i.system.sizes.names i.sizes) (project
 
   declared : (reduced : Bool) (c : Context) (name : Text) (at : Access) (place : Place) → Sound reduced c (reference name at place) → Any (λ d. d.name ≡ name) (variables i.system)
   declared reduced c name at place h =
-      let known = is_so (is_variable (variables i.system) name) (not_found (not (is_variable (variables i.system) name)) name place h.variable) in
+      let known = not_false (is_variable (variables i.system) name) (not_found (not (is_variable (variables i.system) name)) name place h.variable) in
       let r = among_source (λ d. d.name) (variables i.system) name (named_among (declared_as (variables i.system)) name known) in
       any_from (λ d. d.name ≡ name) (variables i.system) r.0 r.1 r.2
 
@@ -145,7 +146,7 @@ module _ (i : Instance) (given : AreGiven i.system.sizes.names i.sizes) (project
           same_number (length m.results) c.indices m.place p.arity,
           within 4 _ (p.few _ (inl refl)),
           is,
-          projects m is.distinct (is_so (is_projection m) (no_place (not (is_projection m)) m.place p.projection)),
+          projects m is.distinct (not_false (is_projection m) (no_place (not (is_projection m)) m.place p.projection)),
           regular_part true (over m.names) e (λ q n. h q (inr n)),
         )
 

@@ -22,9 +22,10 @@ use Rattle.av_tree.specs.Rows.{Row}
 use Rattle.av_flat.specs.Sets as flat
 use Rattle.av_names.specs.Forms.{filled, form_of_row}
 use Rattle.av_names.proofs.Terms.{dot_filled}
-use Rattle.av_names.proofs.Names.{first_pairs, rest_pairs}
+use Rattle.av_names.proofs.Names.{first_pairs}
 use Rattle.av_names.proofs.Among.{Among, all_at, all_from, all_parts, any_at, any_from, among_image, among_source}
 use Rattle.av_names.proofs.Normal.{normal_exists}
+use Rattle.av_base.proofs.Lists.{pairs_rest}
 
 -- ---- lists filled up
 
@@ -214,7 +215,7 @@ module _ (dim : ℕ) (h : dim ≤ 4) (rows : List Row) (sized : All (Sized dim) 
   same_coef (f ∷ new) a b d (inl p) (inl q) e = sym p ∙ q
   same_coef (f ∷ new) a b d (inl p) (inr n) e = absurd (all_at (λ c. f.coef ≢ c.coef) new b (first_pairs (λ c d. c.coef ≢ d.coef) f new d) n (ap (λ c. c.coef) p ∙ e))
   same_coef (f ∷ new) a b d (inr m) (inl q) e = absurd (all_at (λ c. f.coef ≢ c.coef) new a (first_pairs (λ c d. c.coef ≢ d.coef) f new d) m (ap (λ c. c.coef) q ∙ sym e))
-  same_coef (f ∷ new) a b d (inr m) (inr n) e = same_coef new a b (rest_pairs (λ c d. c.coef ≢ d.coef) f new d) m n e
+  same_coef (f ∷ new) a b d (inr m) (inr n) e = same_coef new a b (pairs_rest (λ c d. c.coef ≢ d.coef) f new d) m n e
 
   -- each of the tightest forms is that of a normalised row
   normal_row : (new : List Form) (f : Form) → All Possible forms → poly.AreTightest dim forms new → Among f new

@@ -22,13 +22,9 @@ use Rattle.av_flat.proofs.Sets.{at_most, is_at_most, equal, is_equal}
 use Rattle.av_names.specs.Forms.{Context, form_of, form_of_row, rows_over, set_of, restriction_set}
 use Rattle.av_names.specs.Regular.{AreDistinct, IsComparison, IsDomain, Restricts}
 use Rattle.av_names.proofs.Terms.{Names, few_mapped, dot_filled, dot_difference, index_value}
+use Rattle.av_base.proofs.Truths.{same_truth}
 
 -- ---- tests
-
-pub same_tests : (s t : Bool) → (s ≡ true → t ≡ true) → (t ≡ true → s ≡ true) → s ≡ t
-same_tests true t h k = sym (h refl)
-same_tests false true h k = k refl
-same_tests false false h k = refl
 
 is_below : (j k : ℤ) → j <ℤ k → IsTrue (int_lt j k)
 is_below j k h = go (int_lt j k) refl
@@ -42,12 +38,12 @@ below j k h = omega (arith, ints, h)
 
 -- one row each
 row_less : (j k v : ℤ) → v ≡ k -ℤ j -ℤ pos 1 → int_lt j k ≡ int_le (pos 0) v
-row_less j k v e = same_tests (int_lt j k) (int_le (pos 0) v)
+row_less j k v e = same_truth (int_lt j k) (int_le (pos 0) v)
     (λ h. is_at_most (pos 0) v (let p = below j k h in omega (arith, ints, p, e)))
     (λ h. is_below j k (let p = at_most (pos 0) v h in omega (arith, ints, p, e)))
 
 row_most : (j k v : ℤ) → v ≡ k -ℤ j -ℤ pos 0 → int_le j k ≡ int_le (pos 0) v
-row_most j k v e = same_tests (int_le j k) (int_le (pos 0) v)
+row_most j k v e = same_truth (int_le j k) (int_le (pos 0) v)
     (λ h. is_at_most (pos 0) v (let p = at_most j k h in omega (arith, ints, p, e)))
     (λ h. is_at_most j k (let p = at_most (pos 0) v h in omega (arith, ints, p, e)))
 
@@ -117,7 +113,7 @@ all_rows sizes names z (c ∷ constraints) n h =
 -- ---- sets
 
 turned_equal : (m n : ℕ) → nat_eq m n ≡ nat_eq n m
-turned_equal m n = same_tests (nat_eq m n) (nat_eq n m) (λ h. is_equal n m (sym (equal m n h))) (λ h. is_equal m n (sym (equal n m h)))
+turned_equal m n = same_truth (nat_eq m n) (nat_eq n m) (λ h. is_equal n m (sym (equal m n h))) (λ h. is_equal m n (sym (equal n m h)))
 
 own_names : (names : List Text) (z : Point) → AreDistinct names → length names ≤ 4 → length names ≡ length z → Names names z
 own_names names z d f e = record { distinct = d; few = f; suits = inr e }

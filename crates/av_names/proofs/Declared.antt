@@ -16,10 +16,11 @@ use Rattle.av_flat.proofs.Sets.{both_true}
 use Rattle.av_names.specs.Flattened.{flat_of, input_of, computed_of}
 use Rattle.av_names.specs.Forms.{set_of}
 use Rattle.av_names.specs.Regular.{IsRegular}
-use Rattle.av_names.proofs.Names.{equal_names, same_names, other_names, first_pairs, rest_pairs}
+use Rattle.av_names.proofs.Names.{equal_names, same_names, other_names, first_pairs}
 use Rattle.av_names.proofs.Comparisons.{and_false, set_has}
 use Rattle.av_names.proofs.Places.{or_false, HasDomain, HasOwnName}
 use Rattle.av_names.proofs.Among.{Among, all_at, all_parts}
+use Rattle.av_base.proofs.Lists.{pairs_rest}
 
 -- ---- a declared point and its declaration
 
@@ -134,4 +135,4 @@ declared_own (e ∷ ds) d h (inl p) =
     rw (q, declared_names) (ap (λ a. a.domain.names) p)
 declared_own (e ∷ ds) d h (inr m) =
     let apart = all_at (HasOwnName e) ds d (first_pairs HasOwnName e ds h) m in
-    rw (other_names e.name d.name apart, declared_names) (declared_own ds d (rest_pairs HasOwnName e ds h) m)
+    rw (other_names e.name d.name apart, declared_names) (declared_own ds d (pairs_rest HasOwnName e ds h) m)

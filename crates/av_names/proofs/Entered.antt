@@ -8,8 +8,8 @@ use Rattle.av_table.proofs.Entered.{lookup_entered}
 use Rattle.av_tree.specs.declared.system.Declaration.{Declaration}
 use Rattle.av_tree.specs.Trees.{Text}
 use Rattle.av_names.specs.Flattened.{place_of}
-use Rattle.av_names.proofs.Repeats.{step}
 use Rattle.av_names.proofs.Sets.{same_text}
+use Rattle.av_base.proofs.Lists.{next_item}
 
 -- a table after one more name
 abbrev pub entered : {V : Type 0} → List (Text × V) → Text → V → List (Text × V)
@@ -28,7 +28,7 @@ module _ {X V W : Type 0} (seen : V → W) (rule : List X → Option W) (xs : Li
       → found_or name old (drop i xs) ≡ rule xs → found_or name new (drop (i + 1) xs) ≡ rule xs
   one_later old new i x text value name lt at first put so_far =
       ap (λ table. found_or name table (drop (i + 1) xs)) put ∙ ap (λ o. option_or (option_map seen o) (rule (drop (i + 1) xs))) (looked_up old text value name)
-      ∙ by (lookup (bytes_eq name) old) (bytes_eq text name) ∙ ap (option_or (option_map seen (lookup (bytes_eq name) old))) (sym first ∙ ap rule (sym (step xs i x lt at))) ∙ so_far
+      ∙ by (lookup (bytes_eq name) old) (bytes_eq text name) ∙ ap (option_or (option_map seen (lookup (bytes_eq name) old))) (sym first ∙ ap rule (sym (next_item xs i x lt at))) ∙ so_far
     where
       by : (o : Option V) (t : Bool)
           → option_or (option_map seen (option_or o (if t then Some value else None))) (rule (drop (i + 1) xs)) ≡ option_or (option_map seen o) (if t then Some (seen value) else rule (drop (i + 1) xs))
@@ -54,7 +54,7 @@ one_place_later vs old new i place x text name lt at same value put so_far =
     ap (λ table. or_other (i + 1 + rest) (lookup (bytes_eq name) table)) put ∙ ap (or_other (i + 1 + rest)) (looked_up old text place name)
     ∙ by (lookup (bytes_eq name) old) (bytes_eq text name)
     ∙ ap (λ t. or_other (i + (if bytes_eq t name then 0 else suc rest)) (lookup (bytes_eq name) old)) same
-    ∙ ap (λ (ds : List (Bor Declaration)). or_other (i + place_of (map (λ d. d.now) ds) name) (lookup (bytes_eq name) old)) (sym (step vs i x lt at)) ∙ so_far
+    ∙ ap (λ (ds : List (Bor Declaration)). or_other (i + place_of (map (λ d. d.now) ds) name) (lookup (bytes_eq name) old)) (sym (next_item vs i x lt at)) ∙ so_far
   where
     rest : ℕ
     rest = place_of (map (λ d. d.now) (drop (i + 1) vs)) name

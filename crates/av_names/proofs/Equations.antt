@@ -23,7 +23,7 @@ use Rattle.av_flat.proofs.Words as flat_word
 use Rattle.av_names.specs.Forms.{over, set_of}
 use Rattle.av_names.specs.Flattened.{flat_of, flat_tree, input_of, computed_of, equation_of, pieces_of}
 use Rattle.av_names.specs.Regular.{AreDistinct, HasIndices, IsRegular, IsRegularEquation, IsDomain, indices_of}
-use Rattle.av_names.proofs.Names.{equal_names, same_names, other_names, first_pairs, rest_pairs}
+use Rattle.av_names.proofs.Names.{equal_names, same_names, other_names, first_pairs}
 use Rattle.av_names.proofs.Comparisons.{set_has}
 use Rattle.av_names.proofs.Maps.{Stands}
 use Rattle.av_names.proofs.Places.{HasDomain}
@@ -31,6 +31,7 @@ use Rattle.av_names.proofs.Counts.{stands_over, count_same}
 use Rattle.av_names.proofs.Values.{scene_of, value_same}
 use Rattle.av_names.proofs.Among.{Among, all_at, all_from, any_at, among_parts, among_first, among_second, among_image, among_source}
 use Rattle.av_names.proofs.Declared.{declarer, declares, declared_own}
+use Rattle.av_base.proofs.Lists.{pairs_rest}
 
 -- ---- the equation of a variable
 
@@ -67,7 +68,7 @@ pub is_found : (es : List Equation) (e : Equation) → AllPairs DefinesOther es 
 is_found [] e h m = absurd m
 is_found (f ∷ es) e h (inl p) = rw (same_names f.name e.name (ap (λ a. a.name) p)) (ap Some p)
 is_found (f ∷ es) e h (inr m) =
-    rw (other_names f.name e.name (all_at (DefinesOther f) es e (first_pairs DefinesOther f es h) m)) (is_found es e (rest_pairs DefinesOther f es h) m)
+    rw (other_names f.name e.name (all_at (DefinesOther f) es e (first_pairs DefinesOther f es h) m)) (is_found es e (pairs_rest DefinesOther f es h) m)
 
 -- ---- variables and declarations
 

@@ -6,7 +6,7 @@ use Rattle.av_tree.specs.Trees.{Text}
 use Rattle.av_tree.specs.Rows.{is_index}
 use Rattle.av_names.specs.Reductions.{plain_name, gives_next, gives_names}
 use Rattle.av_names.specs.inner.Seen.{SameNames}
-use Rattle.av_names.proofs.Repeats.{step}
+use Rattle.av_base.proofs.Lists.{next_item}
 
 and_false : (b : Bool) → (b && false) ≡ false
 and_false true = refl
@@ -26,7 +26,7 @@ gives_same names a b (e ∷ es) same = next_same names a b (plain_name e.terms) 
 opened : (names before : List Text) (es : List IndexExpr) (i : ℕ) (e : IndexExpr) (n : Text) → i < length es → e ≡ get_or es i e → plain_name e.terms ≡ Some n
     → gives_names names before (drop i es) ≡ (is_index names n && (not (is_index before n) && gives_names names (n ∷ before) (drop (i + 1) es)))
 opened names before es i e n lt at plain =
-    ap (gives_names names before) (step es i e lt at) ∙ ap (λ p. gives_next names before p (λ given. gives_names names given (drop (i + 1) es))) plain
+    ap (gives_names names before) (next_item es i e lt at) ∙ ap (λ p. gives_next names before p (λ given. gives_names names given (drop (i + 1) es))) plain
 
 own_next : (names names' before : List Text) (n : Option Text) (rest rest' : List Text → Bool) → SameNames names names'
     → ((given : List Text) → rest given ≡ rest' given) → gives_next names before n rest ≡ gives_next names' before n rest'

@@ -15,7 +15,8 @@ use Rattle.av_names.specs.Parts.{parts}
 use Rattle.av_names.specs.Repetitions.{NameList, repeated, repeated_size, repeated_variable, repeated_index, of_declaration, of_equation, of_part}
 use Rattle.av_names.specs.inner.Seen.{part, SameNames, equations_seen}
 use Rattle.av_names.proofs.Sooner.{first_append, first_map, first_filter_map}
-use Rattle.av_names.proofs.Repeats.{again_same, step}
+use Rattle.av_names.proofs.Repeats.{again_same}
+use Rattle.av_base.proofs.Lists.{next_item}
 
 pub equations_are : (es : List EquationMade) → view_equations es ≡ equations_seen es
 equations_are [] = refl
@@ -95,6 +96,6 @@ pub equation_more : (start set set' : List Text) (xs : List EquationMade) (i : �
     → second_equation start (equations_seen xs) ≡ second_equation set' (equations_seen (drop (i + 1) xs))
 equation_more start set set' xs i x lt at more other so_far =
     let rest : List Equation = equations_seen (drop (i + 1) xs) in
-    so_far ∙ ap (λ es. second_equation set (equations_seen es)) (step xs i x lt at)
+    so_far ∙ ap (λ es. second_equation set (equations_seen es)) (next_item xs i x lt at)
     ∙ ap (λ t. if t then Some (equation_found (view_equation x)) else second_equation (x.name ∷ set) rest) other
     ∙ equation_same (x.name ∷ set) set' rest (λ name. sym (more name))

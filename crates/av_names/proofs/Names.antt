@@ -3,6 +3,7 @@ use Rattle.std.proofs.Common.{◌≡◌, ◌≢◌, suc, Bool, true, false, List
 use Rattle.std.specs.Prelude.{bytes_eq}
 use Rattle.std.proofs.lemmas.Slice.Eq.{bytes_eq-Decides}
 use Rattle.av_tree.specs.Trees.{Text}
+use Rattle.av_base.proofs.Lists.{pairs_rest}
 
 pub equal_names : (a b : Text) → bytes_eq a b ≡ true → a ≡ b
 equal_names a b h = (bytes_eq-Decides a b).0 h
@@ -31,6 +32,3 @@ turned_true a b h = same_names b a (sym (equal_names a b h))
 
 pub first_pairs : {X : Type 0} (R : X → X → Type 0) (x : X) (xs : List X) → AllPairs R (x ∷ xs) → All (R x) xs
 first_pairs R x xs p k d h = p 0 (suc k) d (omega arith) (omega (arith, h))
-
-pub rest_pairs : {X : Type 0} (R : X → X → Type 0) (x : X) (xs : List X) → AllPairs R (x ∷ xs) → AllPairs R xs
-rest_pairs R x xs p i j d h k = p (suc i) (suc j) d (omega (arith, h)) (omega (arith, k))

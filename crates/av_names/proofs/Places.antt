@@ -17,8 +17,9 @@ use Rattle.av_flat.specs.Values.{word_of}
 use Rattle.av_names.specs.Forms.{set_of}
 use Rattle.av_names.specs.Flattened.{place_of, flat_of, input_of, computed_of}
 use Rattle.av_names.specs.Regular.{IsDomain}
-use Rattle.av_names.proofs.Names.{equal_names, other_names, first_pairs, rest_pairs}
+use Rattle.av_names.proofs.Names.{equal_names, other_names, first_pairs}
 use Rattle.av_names.proofs.Comparisons.{set_has}
+use Rattle.av_base.proofs.Lists.{pairs_rest}
 
 -- ---- variables of declarations
 
@@ -74,7 +75,7 @@ declared_there sizes [] [] name z p q h = refl
 declared_there sizes [] (d ∷ ds) name z p q h = absurd p
 declared_there sizes (v ∷ vs) [] name z p q h = absurd p
 declared_there sizes (v ∷ vs) (d ∷ ds) name z p q h =
-    go (declared_there sizes vs ds name z p.2 (rest_pairs HasOwnName d ds q) (All-tail (HasDomain sizes) d ds h)) (bytes_eq d.name name) refl
+    go (declared_there sizes vs ds name z p.2 (pairs_rest HasOwnName d ds q) (All-tail (HasDomain sizes) d ds h)) (bytes_eq d.name name) refl
   where
     here : has v.domain z ≡ is_point sizes d.domain z
     here = ap (λ s. has s z) p.1 ∙ set_has sizes d.domain z (All-head (HasDomain sizes) d ds h)

@@ -19,16 +19,17 @@ use Rattle.av_flat.specs.WellFormed.{IsIndex, IsProjection}
 use Rattle.av_flat.proofs.Sets.{both_true, at_most, equal, is_equal}
 use Rattle.av_names.specs.Forms.{filled, form_of, map_of}
 use Rattle.av_names.specs.Regular.{AreDistinct, IsMap, Projects}
-use Rattle.av_names.proofs.Names.{equal_names, same_names, first_pairs, rest_pairs}
-use Rattle.av_names.proofs.Comparisons.{same_tests}
+use Rattle.av_names.proofs.Names.{equal_names, same_names, first_pairs}
 use Rattle.av_names.proofs.Declared.{or_true}
 use Rattle.av_names.proofs.Bounded.{take_filled}
+use Rattle.av_base.proofs.Truths.{same_truth}
+use Rattle.av_base.proofs.Lists.{pairs_rest}
 
 -- ---- pairs
 
 pub pairs_map : {X Y : Type 0} (R : Y → Y → Type 0) (f : X → Y) (xs : List X) → AllPairs (λ a b. R (f a) (f b)) xs → AllPairs R (map f xs)
 pairs_map R f [] h = λ i j d l m. absurd (omega (arith, m))
-pairs_map R f (x ∷ xs) h = AllPairs-cons R (f x) (map f xs) (All-map (R (f x)) f xs (first_pairs (λ a b. R (f a) (f b)) x xs h)) (pairs_map R f xs (rest_pairs (λ a b. R (f a) (f b)) x xs h))
+pairs_map R f (x ∷ xs) h = AllPairs-cons R (f x) (map f xs) (All-map (R (f x)) f xs (first_pairs (λ a b. R (f a) (f b)) x xs h)) (pairs_map R f xs (pairs_rest (λ a b. R (f a) (f b)) x xs h))
 
 -- ---- one index
 
@@ -76,7 +77,7 @@ units f (n ∷ names) start k h =
 -- names at two places are the same where the places are
 same_place : (names : List Text) (j k : ℕ) (d x : Text) → AreDistinct names → j < length names → k < length names → get_or names k x ≡ x
     → bytes_eq x (get_or names j d) ≡ nat_eq j k
-same_place names j k d x h l m e = same_tests (bytes_eq x (get_or names j d)) (nat_eq j k)
+same_place names j k d x h l m e = same_truth (bytes_eq x (get_or names j d)) (nat_eq j k)
     (λ p. is_equal j k (cases (equal_names x (get_or names j d) p)))
     (λ p. same_names x (get_or names j d) (sym e ∙ ap (λ i. get_or names i x) (sym (equal j k p)) ∙ get_or_default names j x d l))
   where

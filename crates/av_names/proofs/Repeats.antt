@@ -8,6 +8,7 @@ use Rattle.av_tree.specs.Rows.{is_index}
 use Rattle.av_names.specs.inner.Seen.{SameNames}
 use Rattle.av_names.specs.Repetitions.{again, second, repeated_variable}
 use Rattle.av_names.proofs.Sets.{one_more}
+use Rattle.av_base.proofs.Lists.{next_item}
 
 pub second_same : (a b names : List Text) → SameNames a b → second a names ≡ second b names
 second_same a b [] same = refl
@@ -21,32 +22,29 @@ again_same a b (n ∷ names) same =
     ap (λ t. if is_index names n || t then Some n else again a names) (same n)
     ∙ ap (λ r. if is_index names n || is_index b n then Some n else r) (again_same a b names same)
 
-pub step : {A : Type 0} (names : List A) (i : ℕ) (item : A) → i < length names → item ≡ get_or names i item → drop i names ≡ item ∷ drop (i + 1) names
-step names i item lt at = rw add-one (drop-cons names i item lt ∙ ap (λ n. n ∷ drop (suc i) names) (sym at))
-
 -- a name that is none of those before it
 pub second_more : (names set set' : List Text) (i : ℕ) (item : Text) → i < length names → item ≡ get_or names i item → SameNames set' (item ∷ set) → is_index set item ≡ false
     → second [] names ≡ second set (drop i names) → second [] names ≡ second set' (drop (i + 1) names)
 second_more names set set' i item lt at more other so_far =
-    so_far ∙ ap (second set) (step names i item lt at) ∙ ap (λ t. if t then Some item else second (item ∷ set) (drop (i + 1) names)) other
+    so_far ∙ ap (second set) (next_item names i item lt at) ∙ ap (λ t. if t then Some item else second (item ∷ set) (drop (i + 1) names)) other
     ∙ second_same (item ∷ set) set' (drop (i + 1) names) (λ name. sym (more name))
 
 pub second_found : (names set : List Text) (i : ℕ) (item : Text) → i < length names → item ≡ get_or names i item → is_index set item ≡ true
     → second [] names ≡ second set (drop i names) → Some item ≡ second [] names
 second_found names set i item lt at there so_far =
-    sym (so_far ∙ ap (second set) (step names i item lt at) ∙ ap (λ t. if t then Some item else second (item ∷ set) (drop (i + 1) names)) there)
+    sym (so_far ∙ ap (second set) (next_item names i item lt at) ∙ ap (λ t. if t then Some item else second (item ∷ set) (drop (i + 1) names)) there)
 
 -- one more name, from behind
 pub again_more : (sizes names : List Text) (i : ℕ) (item : Text) (set : List Text) (repeats : Bool) → i < length names → item ≡ get_or names i item → SameNames set (drop (i + 1) names)
     → (is_index set item || is_index sizes item) ≡ repeats → again sizes (drop i names) ≡ (if repeats then Some item else again sizes (drop (i + 1) names))
 again_more sizes names i item set repeats lt at same test =
-    ap (again sizes) (step names i item lt at)
+    ap (again sizes) (next_item names i item lt at)
     ∙ ap (λ t. if t then Some item else again sizes (drop (i + 1) names)) (ap (λ t. t || is_index sizes item) (sym (same item)) ∙ test)
 
 pub behind_more : (names : List Text) (i : ℕ) (item : Text) (set set' : List Text) → i < length names → item ≡ get_or names i item → SameNames set' (item ∷ set) → SameNames set (drop (i + 1) names)
     → SameNames set' (drop i names)
 behind_more names i item set set' lt at more same name =
-    more name ∙ ap (λ t. bytes_eq item name || t) (same name) ∙ ap (λ ns. is_index ns name) (sym (step names i item lt at))
+    more name ∙ ap (λ t. bytes_eq item name || t) (same name) ∙ ap (λ ns. is_index ns name) (sym (next_item names i item lt at))
 
 -- whether a name was there, by what the set says of putting it in
 pub was_there : (added there : Bool) → added ≡ not there → added ≡ false → there ≡ true
@@ -93,6 +91,6 @@ pub variable_more : (sizes set set' : List Text) (xs : List (Bor Declaration)) (
     → repeated_variable sizes (map (λ d. d.now) xs) ≡ repeated_variable set' (map (λ d. d.now) (drop (i + 1) xs))
 variable_more sizes set set' xs i x lt at more other so_far =
     let rest : List Declaration = map (λ d. d.now) (drop (i + 1) xs) in
-    so_far ∙ ap (λ (ds : List (Bor Declaration)). repeated_variable set (map (λ d. d.now) ds)) (step xs i x lt at)
+    so_far ∙ ap (λ (ds : List (Bor Declaration)). repeated_variable set (map (λ d. d.now) ds)) (next_item xs i x lt at)
     ∙ ap (λ t. if t then Some (record { name = x.now.name; place = x.now.place }) else repeated_variable (x.now.name ∷ set) rest) other
     ∙ variable_same (x.now.name ∷ set) set' rest (λ name. sym (more name))

@@ -7,15 +7,10 @@ use Rattle.av_tree.specs.Trees.{Text}
 use Rattle.av_tree.specs.Rows.{is_index}
 use Rattle.av_names.specs.inner.Seen.{SameNames}
 use Rattle.std.proofs.lemmas.Slice.Eq.{bytes_eq-Decides}
-
-agree : (x y : Bool) → (x ≡ true → y ≡ true) → (y ≡ true → x ≡ true) → x ≡ y
-agree true true f g = refl
-agree true false f g = sym (f refl)
-agree false true f g = g refl
-agree false false f g = refl
+use Rattle.av_base.proofs.Truths.{same_truth}
 
 pub same_text : (a b : Text) → bytes_eq a b ≡ bytes_eq b a
-same_text a b = agree (bytes_eq a b) (bytes_eq b a)
+same_text a b = same_truth (bytes_eq a b) (bytes_eq b a)
     (λ e. (bytes_eq-Decides b a).1 (sym ((bytes_eq-Decides a b).0 e)))
     (λ e. (bytes_eq-Decides a b).1 (sym ((bytes_eq-Decides b a).0 e)))
 

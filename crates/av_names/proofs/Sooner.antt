@@ -7,6 +7,7 @@ use Rattle.std.proofs.lemmas.Bool.Decides.{eqb_tells}
 use Rattle.av_base.specs.declared.place.Place.{Place}
 use Rattle.av_names.specs.Found.{is_before, sooner, first_of}
 use Rattle.av_names.specs.inner.AtOption.{at_option}
+use Rattle.av_base.proofs.Truths.{either}
 
 -- ---- places
 
@@ -19,16 +20,12 @@ before a b c d = nat_lt a b || (nat_eq a b && nat_lt c d)
 differ : true ≡ false → ⊥
 differ e = cc
 
-or_cases : (x y : Bool) → (x || y) ≡ true → (x ≡ true) ⊎ (y ≡ true)
-or_cases true y e = inl refl
-or_cases false y e = inr e
-
 and_cases : (x y : Bool) → (x && y) ≡ true → (x ≡ true) × (y ≡ true)
 and_cases true y e = (refl, e)
 and_cases false y e = absurd (differ (sym e))
 
 is_less : (a b c d : ℕ) → before a b c d ≡ true → Before a b c d
-is_less a b c d e = elim (or_cases (nat_lt a b) (nat_eq a b && nat_lt c d) e) [
+is_less a b c d e = elim (either (nat_lt a b) (nat_eq a b && nat_lt c d) e) [
   | inl f ↦ inl (ltb-true a b f)
   | inr f ↦
       let both = and_cases (nat_eq a b) (nat_lt c d) f in

@@ -36,7 +36,7 @@ use Rattle.av_tree.specs.Domains.{variables}
 use Rattle.av_names.proofs.Among.{Among, all_at, all_from, all_parts, among_source, among_image}
 use Rattle.av_names.proofs.Limited.{among_flat_source}
 use Rattle.av_names.proofs.Sooner.{first_append, first_map}
-use Rattle.av_names.proofs.Repeats.{step}
+use Rattle.av_base.proofs.Lists.{next_item}
 
 -- ---- sizes
 
@@ -125,7 +125,7 @@ rows_more sizes names cs i c made new lt at so_far pushed =
     let here = map form_of_row (compared sizes names c.left c.relation c.right) in
     let rest = rows_over sizes names (drop (i + 1) cs) in
     let split : rows_over sizes names (drop i cs) ≡ here ++ rest =
-    ap (rows_over sizes names) (step cs i c lt at)
+    ap (rows_over sizes names) (next_item cs i c lt at)
     ∙ map-append form_of_row (compared sizes names c.left c.relation c.right) (flat_map (λ d. compared sizes names d.left d.relation d.right) (drop (i + 1) cs)) in
     ap (λ front. front ++ rest) pushed ∙ append_again made here rest ∙ ap (λ back. made ++ back) (sym split) ∙ so_far
   where

@@ -14,7 +14,8 @@ use Rattle.av_tree.specs.Points.{Point, Sizes, entry_at, in_reach, unit_at, sum_
 use Rattle.av_tree.specs.Rows.{coefficient, constant, fixed, is_index, or_zero}
 use Rattle.av_names.specs.Forms.{filled, form_of}
 use Rattle.av_names.specs.Regular.{AreDistinct, IsKnown, AreKnown}
-use Rattle.av_names.proofs.Names.{equal_names, other_names, turned_false, turned_true, first_pairs, rest_pairs}
+use Rattle.av_names.proofs.Names.{equal_names, other_names, turned_false, turned_true, first_pairs}
+use Rattle.av_base.proofs.Lists.{pairs_rest}
 
 -- ---- sums of products
 
@@ -69,7 +70,7 @@ HasEntry names z name k = (v : ℤ) × (entry_at names z name ≡ Some v) × (do
 entry_of : (names : List Text) (z : Point) (name : Text) (k : ℤ) → AreDistinct names → length names ≡ length z → is_index names name ≡ true → HasEntry names z name k
 entry_of [] z name k d e h = absurd cc
 entry_of (n ∷ names) [] name k d e h = absurd (omega (arith, e))
-entry_of (n ∷ names) (x ∷ z) name k d e h = go (λ i. entry_of names z name k (rest_pairs (λ a b. a ≢ b) n names d) (omega (arith, e)) i) (bytes_eq n name) refl
+entry_of (n ∷ names) (x ∷ z) name k d e h = go (λ i. entry_of names z name k (pairs_rest (λ a b. a ≢ b) n names d) (omega (arith, e)) i) (bytes_eq n name) refl
   where
     go : (is_index names name ≡ true → HasEntry names z name k) → (t : Bool) → bytes_eq n name ≡ t → HasEntry (n ∷ names) (x ∷ z) name k
     go rest true p =

@@ -30,12 +30,13 @@ use Rattle.av_names.specs.Forms.{Context, over, nameless, form_of, index_form, s
 use Rattle.av_names.specs.Flattened.{place_of, flat_of, flat_tree, flat_trees, input_of, computed_of, equation_of, pieces_of}
 use Rattle.av_names.specs.Regular.{IsRegular, IsRegularEquation, IsRegularIn, AreRegularIn, Reads, indices_of}
 use Rattle.av_names.specs.Limits.{IsLimited, IsLimitedIn, AreLimitedIn, HasSmallAccess, HaveSmallRows, HasNo, HaveNo, is_case, is_reduction}
-use Rattle.av_names.proofs.Names.{same_names, first_pairs, rest_pairs}
+use Rattle.av_names.proofs.Names.{same_names, first_pairs}
 use Rattle.av_names.proofs.Among.{Among, all_at, all_from, any_at, among_parts, among_first, among_second, among_source}
 use Rattle.av_names.proofs.Places.{AreOf, are_of, HasDomain, HasOwnName}
 use Rattle.av_names.proofs.Declared.{declared_own}
 use Rattle.av_names.proofs.Equations.{source, found, context_fits}
 use Rattle.av_names.proofs.Projections.{projects}
+use Rattle.av_base.proofs.Lists.{pairs_rest}
 
 -- ---- forms
 
@@ -228,14 +229,14 @@ pairs_both R (x ∷ xs) ys p q h =
     AllPairs-cons R x (xs ++ ys) (all_from (R x) (xs ++ ys) (λ b n. elim (among_parts xs ys b n) [
       | inl m ↦ all_at (R x) xs b (first_pairs R x xs p) m
       | inr m ↦ h x b (inl refl) m
-    ])) (pairs_both R xs ys (rest_pairs R x xs p) q (λ a b m n. h a b (inr m) n))
+    ])) (pairs_both R xs ys (pairs_rest R x xs p) q (λ a b m n. h a b (inr m) n))
 
 names_apart : (sizes : Sizes) (us : List Variable) (ds : List Declaration) → AreOf sizes us ds → AllPairs HasOwnName ds → AllPairs (λ a b. a.name ≢ b.name) us
 names_apart sizes [] [] p h = λ i j d l m. absurd (omega (arith, m))
 names_apart sizes [] (d ∷ ds) p h = absurd p
 names_apart sizes (v ∷ us) [] p h = absurd p
 names_apart sizes (v ∷ us) (d ∷ ds) p h =
-    AllPairs-cons (λ a b. a.name ≢ b.name) v us (others us ds p.2 (first_pairs HasOwnName d ds h)) (names_apart sizes us ds p.2 (rest_pairs HasOwnName d ds h))
+    AllPairs-cons (λ a b. a.name ≢ b.name) v us (others us ds p.2 (first_pairs HasOwnName d ds h)) (names_apart sizes us ds p.2 (pairs_rest HasOwnName d ds h))
   where
     others : (ws : List Variable) (es : List Declaration) → AreOf sizes ws es → All (HasOwnName d) es → All (λ b. v.name ≢ b.name) ws
     others [] es q k = All-nil (λ b. v.name ≢ b.name)
