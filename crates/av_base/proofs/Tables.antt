@@ -10,7 +10,7 @@ use Rattle.std.proofs.lemmas.List.Sums.{AllPass-from_list_all}
 use Rattle.std.proofs.lemmas.Map.Views.{list_any-from_Contains, Contains-from_any}
 use Rattle.std.proofs.lemmas.Slice.Eq.{bytes_eq-Decides}
 use Rattle.av_base.specs.Tokens.{is_word_byte}
-use Rattle.av_base.proofs.Truths.{and_true, both}
+use Rattle.av_base.proofs.Truths.{both}
 
 -- a list's text is found, and what is found is a text of the list
 pub is_found : (text : List ℕ) (table : List (List ℕ)) → Contains table text → list_any (bytes_eq text) table ≡ true

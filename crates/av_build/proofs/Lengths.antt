@@ -1,6 +1,6 @@
 -- The lines of lanes are as long as the links that read them want.
-use Rattle.std.proofs.Common.{◌≡◌, ℕ, zero, suc, ◌<◌, ◌≤◌, List, [], ◌∷◌, map, refl, sym, subst, arith, ap, Bool, true, false, ◌&&◌, if◌then◌else◌, Option, Some, None}
-use Rattle.std.specs.Prelude.{IsTrue, Contains, slice_get, filter, fold, max, nat_eq, nat_le}
+use Rattle.std.proofs.Common.{◌≡◌, ℕ, zero, suc, ◌<◌, ◌≤◌, List, [], ◌∷◌, map, refl, sym, subst, arith, ap, Bool, true, false, if◌then◌else◌, Some}
+use Rattle.std.specs.Prelude.{IsTrue, Contains, slice_get, filter, fold, max, nat_eq}
 use Rattle.av_tree.specs.Points.{Point}
 use Rattle.av_flat.specs.Trees.{Tree}
 use Rattle.av_flat.specs.Nodes.{nodes}
@@ -13,8 +13,8 @@ use Rattle.av_space.proofs.Elements.{got}
 use Rattle.av_build.proofs.LanePlans.{same_itself}
 use Rattle.av_base.proofs.Truths.{and_true}
 use Rattle.av_build.proofs.HelperSteps.{at_most}
-use Rattle.av_base.proofs.Among.{among_at, among_map}
-use Rattle.av_base.proofs.Lists.{get_mapped, some_is}
+use Rattle.av_base.proofs.Among.{among_map}
+use Rattle.av_base.proofs.Lists.{some_is}
 
 most_from : (a : ℕ) (xs : List ℕ) → a ≤ fold max a xs
 most_from a [] = omega arith

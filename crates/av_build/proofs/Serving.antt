@@ -1,19 +1,19 @@
 -- The program of a scheduled system with helpers serves it.
-use Rattle.std.proofs.Common.{◌≡◌, ◌≢◌, ℕ, zero, suc, ◌+◌, ◌<◌, ◌≤◌, List, [], ◌∷◌, length, take, map, get_or, refl, sym, subst, arith, ◌∙◌, ap, Bool, true, false, if◌then◌else◌, Option, Some, None, inl, inr}
-use Rattle.std.specs.Prelude.{Contains, slice_get, filter}
+use Rattle.std.proofs.Common.{◌≡◌, ◌≢◌, ℕ, zero, suc, ◌+◌, ◌<◌, ◌≤◌, List, [], ◌∷◌, map, get_or, refl, sym, subst, arith, ◌∙◌, ap, Bool, true, false, Option, Some, None, inl, inr}
+use Rattle.std.specs.Prelude.{Contains, slice_get}
 use Rattle.std.proofs.lemmas.List.Elements.{All-contains}
 use Rattle.av_affine.specs.declared.map.Map.{Map}
 use Rattle.av_affine.specs.Maps.{image}
 use Rattle.av_tree.specs.Points.{Point}
 use Rattle.av_net.specs.declared.design.Entry.{Entry}
 use Rattle.av_flat.specs.declared.tree.Choice.{Choice}
-use Rattle.av_flat.specs.Trees.{Tree, Piece, Variable, FlatSystem, reference, pick}
+use Rattle.av_flat.specs.Trees.{Tree, Piece, Variable, reference, pick}
 use Rattle.av_flat.specs.Points.{has}
 use Rattle.av_flat.specs.Signatures.{signature, is_computed}
 use Rattle.av_flat.specs.Values.{picked}
 use Rattle.av_flat.specs.declared.timed.Helper.{Helper}
 use Rattle.av_flat.specs.Nodes.{is_node, nodes, number_at}
-use Rattle.av_space.specs.Taps.{place_from, node_place, Handing, helper_at, IsReadAt, Way, each, entries, handed, Tap, taps, IsTapRead, IsTapped}
+use Rattle.av_space.specs.Taps.{node_place, Handing, helper_at, IsReadAt, Way, each, entries, handed, Tap, taps, IsTapRead, IsTapped}
 use Rattle.av_space.specs.Occupancy.{Computes}
 use Rattle.av_flat.specs.Broadcasts.{Reference, references}
 use Rattle.av_flat.specs.Helped.{before, IsEntry}
@@ -30,7 +30,7 @@ use Rattle.av_build.proofs.Selections.{run_taken, stay_taken, IsElsewhere}
 use Rattle.av_build.proofs.Shown.{signature_at}
 use Rattle.av_space.proofs.NodePlaces.{node_at}
 use Rattle.av_space.proofs.Helpers.{found_helper}
-use Rattle.av_space.proofs.Nodes.{own_place, passed, place_at}
+use Rattle.av_space.proofs.Nodes.{own_place}
 use Rattle.av_base.proofs.Truths.{both}
 use Rattle.av_base.proofs.Among.{among_at, among_map}
 use Rattle.av_base.proofs.Lists.{some_is}

@@ -19,7 +19,6 @@ use Rattle.av_net.specs.declared.design.Listing.{Listing}
 use Rattle.av_net.specs.declared.design.Design.{Design}
 use Rattle.av_net.specs.declared.netlist.Port.{Port}
 use Rattle.av_net.specs.Meaning as meaning
-use Rattle.av_net.specs.Meaning.{Words}
 use Rattle.av_net.specs.Names.{names_of}
 use Rattle.av_net.specs.Clocked.{Stream, Run, IsRun}
 use Rattle.av_net.specs.Shown.{Presents}

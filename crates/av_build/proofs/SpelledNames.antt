@@ -1,7 +1,7 @@
 -- The names of the module of a program are names of the subset: a letter, a number, and with it `_` and a second number or not; or
 -- one of the names of the counter.
 use Rattle.std.proofs.Common.{◌≡◌, ℕ, suc, ◌+◌, ◌^◌, ◌<◌, ◌≤◌, List, [], ◌∷◌, ◌++◌, length, map, refl, sym, subst, arith, ◌∙◌, Bool, true, false, if◌then◌else◌}
-use Rattle.std.specs.Prelude.{All, Contains, decimal, nat_eq, codes, ◌&&◌, ◌||◌}
+use Rattle.std.specs.Prelude.{All, Contains, decimal, nat_eq, codes, ◌||◌}
 use Rattle.std.specs.List.{AllByRecursion, range_with_len, list_all}
 use Rattle.std.specs.Char.{is_ascii_digit, is_ascii_alphabetic}
 use Rattle.std.specs.Str.{all_ascii_digits}

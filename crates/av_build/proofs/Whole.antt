@@ -1,5 +1,5 @@
 -- The module of the program of an array: sound, in array form and linked, and it shows every solution.
-use Rattle.std.proofs.Common.{◌≡◌, ℕ, zero, suc, ◌+◌, ◌^◌, ◌<◌, ◌≤◌, List, [], ◌∷◌, length, map, refl, sym, subst, arith, ◌∙◌, ap, Bool, true, false, if◌then◌else◌, Some}
+use Rattle.std.proofs.Common.{◌≡◌, ℕ, zero, suc, ◌+◌, ◌^◌, ◌<◌, ◌≤◌, [], ◌∷◌, length, map, sym, subst, arith, ◌∙◌, ap, Bool, true, false, if◌then◌else◌, Some}
 use Rattle.std.specs.Prelude.{All, slice_get, filter}
 use Rattle.std.specs.List.{AllByRecursion, range_with_len}
 use Rattle.av_base.specs.declared.width.Width.{Width}

@@ -1,14 +1,8 @@
 -- Well formed systems and their normal forms are ready to be tried.
-use Rattle.std.proofs.Common.{◌≡◌, ℕ, ◌+◌, ◌*◌, ◌<◌, ◌≤◌, ℤ, pos, ◌≤ℤ◌, inl, inr, Bool, true≢false, IsTrue, List, [], ◌∷◌, map, refl, sym, ap, ap₂, subst, ◌∙◌, arith, All}
+use Rattle.std.proofs.Common.{◌≡◌, ℕ, ◌+◌, ◌*◌, inl, Bool, true≢false, IsTrue, List, [], ◌∷◌, map, refl, sym, ap, ap₂, subst, ◌∙◌, All}
 use Rattle.std.specs.Prelude.{if◌then◌else◌}
-use Rattle.std.specs.Int.RustNames.{unsigned_abs}
-use Rattle.std.proofs.lemmas.Int.{ints}
-use Rattle.std.proofs.lemmas.List.{get_or_default}
 use Rattle.std.proofs.lemmas.List.Elements.{All-head, All-tail, All-weaker}
-use Rattle.av_affine.specs.Numbers.{AtMost}
-use Rattle.av_poly.specs.Points.{Set, Has}
-use Rattle.av_poly.specs.Rational.{entry_of}
-use Rattle.av_poly.proofs.Rationals.{point_within_bounds}
+use Rattle.av_poly.specs.Points.{Set}
 use Rattle.av_tree.specs.Points.{Point}
 use Rattle.av_flat.specs.declared.quantity.Quantity.{Quantity}
 use Rattle.av_flat.specs.Trees.{Tree, Piece, Variable, FlatSystem, reference, constant, binary, choice, restriction, cases, dependence, reduction, pick, trees_of, right_side}
@@ -21,11 +15,11 @@ use Rattle.av_flat.specs.Kept.{IsPlain, ReadsDeclared, IsKeptPiece, IsKeptVariab
 use Rattle.av_flat.specs.Quantities.{HasWideSets}
 use Rattle.av_flat.proofs.Sets.{has_is}
 use Rattle.av_flat.proofs.Bounded.{small_point}
-use Rattle.av_normal.specs.NormalForm.{IsNormalised, IsNormalVariable, AreNormalVariables, IsNormalForm}
+use Rattle.av_normal.specs.NormalForm.{IsNormalVariable, AreNormalVariables, IsNormalForm}
 use Rattle.av_normal.specs.declared.fault.NormalFault.{NormalFault}
 use Rattle.av_normal.specs.declared.fault.NormalFault.TheVariants as normal_fault
 use Rattle.av_normal.specs.NormalFaults.{HasFewPieces, HasNarrowSets, HasEnds, IsFault}
-use Rattle.av_normal.proofs.PieceWords.{has_normal, cond_same}
+use Rattle.av_normal.proofs.PieceWords.{cond_same}
 use Rattle.av_normal.proofs.RightSides.{right_count}
 use Rattle.av_normal.proofs.Systems.{both_all, signatures_are}
 use Rattle.av_normal.proofs.Limits.{AllFit, each_fits}

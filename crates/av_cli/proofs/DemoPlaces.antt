@@ -1,13 +1,11 @@
 -- The words of a demo, and the place of its size among them.
-use Rattle.std.proofs.Common.{◌≡◌, ◌≢◌, ◌⊎◌, inl, inr, ℕ, zero, suc, ◌+◌, ◌-◌, ◌<◌, ◌≤◌, true, false, List, [], ◌∷◌, ◌++◌, take, drop, get_or, length, length-append, refl, sym, ap, subst, ◌∙◌, arith}
+use Rattle.std.proofs.Common.{◌≡◌, ℕ, zero, suc, ◌+◌, ◌-◌, ◌<◌, ◌≤◌, List, [], ◌∷◌, ◌++◌, take, drop, get_or, length, length-append, refl, sym, ap, subst, ◌∙◌, arith}
 use Rattle.std.specs.Prelude.{codes, slice_index_or, Contains, All}
-use Rattle.std.proofs.lemmas.List.Elements.{All-nil, All-cons, All-head, All-tail}
+use Rattle.std.proofs.lemmas.List.Elements.{All-cons, All-head, All-tail}
 use Rattle.std.proofs.lemmas.List.{take_all}
-use Rattle.av_names.specs.declared.size.Size.{Size}
-use Rattle.av_cli.specs.Commands.{Options, Say, IsSize, SpellsUpTo, GiveSizes, no_more, given, passed, IsDemo, AskDemo, no_options, given_or, default_width, default_box}
+use Rattle.av_cli.specs.Commands.{Options, Say, IsSize, SpellsUpTo, GiveSizes, no_more, passed, IsDemo, no_options}
 use Rattle.av_cli.specs.inner.DemoWords.{IsDemoAt}
 use Rattle.av_cli.proofs.OptionWords.{one_said}
-use Rattle.av_space.proofs.JoinedLinks.{one_more}
 
 -- ---- no sizes
 

@@ -1,8 +1,7 @@
 -- How the answer of `demo` follows from what its steps did.
-use Rattle.std.proofs.Common.{◌≡◌, ℕ, ◌<◌, ◌≤◌, Bool, true, false, List, [], ◌∷◌, length, get_or, map, pos, Option, Some, None, slice_get, refl, sym, ap, ◌∙◌, subst, arith, IsTrue, true≢false}
-use Rattle.std.specs.Prelude.{◌↔◌, ◌^◌, if◌then◌else◌, codes, All, IsSome}
+use Rattle.std.proofs.Common.{◌≡◌, ℕ, ◌<◌, Bool, true, false, List, [], ◌∷◌, length, get_or, pos, Option, Some, None, refl, sym, ap, ◌∙◌, subst, arith, IsTrue, true≢false}
+use Rattle.std.specs.Prelude.{◌↔◌, if◌then◌else◌, codes, All, IsSome}
 use Rattle.std.proofs.lemmas.List.Elements.{All-weaker}
-use Rattle.std.proofs.lemmas.Option.{slice_get-get_or}
 use Rattle.av_base.specs.Words.{IsWord, residue}
 use Rattle.av_tree.specs.Trees.{Text}
 use Rattle.av_tree.specs.Points.{Point}
@@ -16,13 +15,11 @@ use Rattle.av_names.specs.Accepted.{instance_of}
 use Rattle.av_net.specs.declared.netlist.Port.{Port}
 use Rattle.av_net.specs.declared.design.Entry.{Entry}
 use Rattle.av_net.specs.declared.design.Design.{Design}
-use Rattle.av_net.specs.Presented.{HasFittingWord, HaveFittingWords}
+use Rattle.av_net.specs.Presented.{HaveFittingWords}
 use Rattle.av_space.specs.declared.cells.Cells.{Cells}
 use Rattle.av_compile.specs.Headline.{Headline}
-use Rattle.av_cli.specs.Shown.{IsFed, IsFedRun, AreShown}
+use Rattle.av_cli.specs.Shown.{AreShown}
 use Rattle.av_cli.specs.Demos.{product_text, product_sizes, AreEntries, GivesDemo}
-use Rattle.av_cli.specs.declared.status.Status.{Status}
-use Rattle.av_cli.specs.inner.Tellings.{IsTold, told, untold}
 use Rattle.av_cli.specs.inner.DemoData.{entry, entries, IsEntered, IsSummed}
 use Rattle.av_cli.proofs.Fed.{shows_words}
 use Rattle.av_cli.proofs.Reporting.{clockable, port_widths, presented_inputs}

@@ -8,11 +8,10 @@ use Rattle.std.proofs.lemmas.Option.{slice_get-get_or, slice_get-map, slice_get_
 use Rattle.std.proofs.lemmas.List.Elements.{All-nil, All-cons, All-head, All-tail}
 use Rattle.av_base.specs.Words.{IsWord}
 use Rattle.av_net.specs.declared.netlist.Port.{Port}
-use Rattle.av_net.specs.declared.netlist.Module.{Module}
 use Rattle.av_net.specs.declared.design.Entry.{Entry}
 use Rattle.av_net.specs.declared.design.Design.{Design}
 use Rattle.av_net.specs.Names.{names_of}
-use Rattle.av_net.specs.Clocked.{Stream, FitPorts}
+use Rattle.av_net.specs.Clocked.{Stream}
 use Rattle.av_net.specs.Presented.{AreApart, HasFittingWord, HaveFittingWords}
 use Rattle.av_net.specs.Meaning.{Words}
 use Rattle.av_net.specs.Shown.{Values, HasListed, Presents, Shows}
@@ -20,7 +19,7 @@ use Rattle.av_data.specs.declared.stimulus.Given.{Given}
 use Rattle.av_data.specs.declared.stimulus.Stimulus.{Stimulus}
 use Rattle.av_data.specs.Stimuli.{IsBefore, IsSame}
 use Rattle.av_data.specs.Kept.{is_given, placed}
-use Rattle.av_data.proofs.Sorting.{Sorts, contains_here, contains_later, contains_cases, none_given, all_of, sorts_more, placed_has, placed_keeps, placed_only}
+use Rattle.av_data.proofs.Sorting.{contains_here, contains_later, contains_cases, none_given, all_of, sorts_more, placed_has, placed_keeps, placed_only}
 use Rattle.av_cli.specs.Simulated.{given_word, IsStimulated}
 use Rattle.av_cli.specs.inner.Clocking.{IsFrom, IsForPort, AreLeft}
 use Rattle.av_cli.specs.Shown.{IsIdle, IsFed, word_on, AreShown}

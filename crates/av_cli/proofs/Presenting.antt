@@ -1,6 +1,6 @@
 -- Words of ports: what is set, noted and shown.
 use Rattle.std.proofs.Common.{◌≡◌, ◌≢◌, ℕ, zero, suc, ◌+◌, ◌<◌, ◌≤◌, List, [], ◌∷◌, ◌++◌, length, get_or, take, map, Option, Some, None, slice_get, option_map, refl, sym, ap, ◌∙◌, subst, arith, inl, inr, add-one, append_assoc, take-suc, length-append, Bool, true, false, true≢false}
-use Rattle.std.specs.Prelude.{slice_index, slice_set, Contains, IfSome}
+use Rattle.std.specs.Prelude.{slice_index, slice_set, IfSome}
 use Rattle.std.specs.Option.{ForSome}
 use Rattle.std.proofs.lemmas.Bool.{cases_lt}
 use Rattle.std.proofs.lemmas.List.{get_or-set_same, get_or-set_other, length-map, map-append, take_all, take_more_set}
@@ -18,7 +18,6 @@ use Rattle.av_data.specs.declared.stimulus.Given.{Given}
 use Rattle.av_cli.specs.Simulated.{given_word, port_words}
 use Rattle.av_cli.specs.inner.Clocking.{ArePresented, AreWires}
 use Rattle.av_data.proofs.Lined.{name_there}
-use Rattle.av_data.proofs.Named.{port_name}
 
 abbrev name_in : Port → List ℕ
 name_in port = port.name

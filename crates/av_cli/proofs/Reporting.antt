@@ -1,18 +1,16 @@
 -- How the answers of `run` and `trace` follow from what their steps did.
-use Rattle.std.proofs.Common.{◌≡◌, ℕ, zero, suc, ◌+◌, ◌<◌, ◌≤◌, Bool, true, false, not, ◌||◌, ◌&&◌, nat_eq, cond, List, [], ◌∷◌, ◌++◌, length, get_or, map, Option, Some, None, slice_get, refl, sym, ap, ◌∙◌, subst, arith, inl, inr, IsTrue, true≢false}
-use Rattle.std.specs.Prelude.{◌⊎◌, ◌↔◌, ◌≢◌, if◌then◌else◌, codes, bytes_eq, All, AllPairs, IsSome}
+use Rattle.std.proofs.Common.{◌≡◌, ℕ, zero, suc, ◌+◌, ◌<◌, Bool, true, false, ◌||◌, ◌&&◌, List, [], ◌∷◌, ◌++◌, length, Option, Some, None, slice_get, refl, sym, ap, ◌∙◌, subst, arith, inl, inr, IsTrue, true≢false}
+use Rattle.std.specs.Prelude.{◌≢◌, if◌then◌else◌, codes, bytes_eq, All, AllPairs, IsSome}
 use Rattle.std.specs.List.{list_any}
 use Rattle.std.proofs.lemmas.Bool.{cases_lt}
 use Rattle.std.proofs.lemmas.Slice.Eq.{bytes_eq-Decides}
-use Rattle.std.proofs.lemmas.Option.{slice_get-get_or}
-use Rattle.std.proofs.lemmas.List.Elements.{All-nil, All-cons, All-head, All-tail, All-weaker}
+use Rattle.std.proofs.lemmas.List.Elements.{All-head, All-tail, All-weaker}
 use Rattle.av_base.specs.Outside.{SinkState}
 use Rattle.av_base.specs.Words.{IsWord}
-use Rattle.av_tree.specs.Trees.{System, Text}
-use Rattle.av_tree.specs.Grammar.{IsProgramText}
+use Rattle.av_tree.specs.Trees.{Text}
 use Rattle.av_tree.specs.Points.{Point}
 use Rattle.av_tree.specs.Values.{Assignment}
-use Rattle.av_tree.specs.Domains.{IsDeclared, is_declared}
+use Rattle.av_tree.specs.Domains.{is_declared}
 use Rattle.av_tree.specs.Solutions as tree
 use Rattle.av_flat.specs.declared.flat.Kind.{Kind}
 use Rattle.av_flat.specs.declared.flat.Kind.TheVariants as kind
@@ -39,35 +37,33 @@ use Rattle.av_space.specs.Whole.{IsPresented}
 use Rattle.av_space.proofs.ByPlace.{from_map, pair_at, all_by_place, place_of}
 use Rattle.av_data.proofs.Outcome.{readable}
 use Rattle.av_data.proofs.OneData.{not_both}
-use Rattle.av_data.specs.declared.fault.DataFault.{DataFault}
 use Rattle.av_data.specs.declared.fault.DataFault.TheVariants as data_fault
-use Rattle.av_data.specs.Divisions.{IsDivided, HasNoMark}
+use Rattle.av_data.specs.Divisions.{IsDivided}
 use Rattle.av_data.specs.Results.{result_line}
-use Rattle.av_data.specs.Data.{SpellsInputs, IsInputFault}
+use Rattle.av_data.specs.Data.{SpellsInputs}
 use Rattle.av_data.specs.Inputs.{AreInputsOf}
 use Rattle.av_compile.specs.declared.refusal.Refusal.{Refusal}
 use Rattle.av_compile.specs.declared.refusal.Refusal.TheVariants as refusal
 use Rattle.av_compile.specs.Mapped.{IsMapped, IsUnmapped}
 use Rattle.av_compile.specs.Headline.{Headline}
 use Rattle.av_cli.specs.declared.status.Status.{Status}
-use Rattle.av_cli.specs.declared.status.Status.TheVariants.{Done, Refused, Memory}
+use Rattle.av_cli.specs.declared.status.Status.TheVariants.{Refused, Memory}
 use Rattle.av_cli.specs.declared.runs.Report.{Report}
 use Rattle.av_cli.specs.declared.runs.Report.TheVariants.{Results, Trace}
 use Rattle.av_cli.specs.Commands.{GiveSizes, IsRun, IsTrace}
 use Rattle.av_cli.proofs.GivenSizes.{with_sizes}
-use Rattle.av_cli.specs.Refusals.{refusal_line, data_reason}
+use Rattle.av_cli.specs.Refusals.{refusal_line}
 use Rattle.av_cli.specs.AlphaRefusals.{alpha_reason}
-use Rattle.av_cli.specs.Tables.{RefusesTable}
-use Rattle.av_cli.specs.Runs.{RefusesRun, no_mark, bad_system, bad_data, HasData, results, is_result, AreSolved, GivesResults, GivesTrace}
+use Rattle.av_cli.specs.Runs.{RefusesRun, no_mark, bad_system, bad_data, HasData, results, is_result, GivesResults, GivesTrace}
 use Rattle.av_cli.specs.inner.Written.{IsPut, IsAnswered, refused, given, no_memory}
-use Rattle.av_cli.specs.inner.Reported.{GivesReport, RefusesRunWith, GivesReportWith, IsClockable, names_output, is_output_named, RefusesLines, AreResultsOf, IsTraceOf, IsReport, GivesReported}
-use Rattle.av_cli.specs.inner.Tellings.{IsTold, told, untold}
+use Rattle.av_cli.specs.inner.Reported.{GivesReport, RefusesRunWith, GivesReportWith, IsClockable, names_output, is_output_named, RefusesLines, AreResultsOf, IsTraceOf, GivesReported}
+use Rattle.av_cli.specs.inner.Tellings.{told}
 use Rattle.av_compile.proofs.Meant.{meaning}
 use Rattle.av_compile.proofs.OneRefusal.{memory_or_not}
 use Rattle.av_cli.proofs.Tabling.{not_unmapped}
 use Rattle.av_cli.proofs.Fed.{shows_words}
 use Rattle.av_compile.proofs.OneChain.{one_chained}
-use Rattle.av_base.proofs.Truths.{and_true, either, same_truth}
+use Rattle.av_base.proofs.Truths.{and_true, same_truth}
 use Rattle.av_base.proofs.Lists.{all_at, some_is}
 
 -- ---- a design of a text can be clocked

@@ -1,5 +1,5 @@
 -- How the answers of `schedule` follow from what its steps did.
-use Rattle.std.proofs.Common.{◌≡◌, ◌≢◌, ℕ, List, Option, refl, ap, subst, ◌∙◌, inl, inr}
+use Rattle.std.proofs.Common.{◌≡◌, ◌≢◌, ℕ, List, refl, ap, subst, ◌∙◌, inl, inr}
 use Rattle.std.specs.Prelude.{codes}
 use Rattle.av_base.specs.Outside.{SinkState}
 use Rattle.av_flat.specs.declared.timed.Timed.{Timed}
@@ -14,7 +14,7 @@ use Rattle.av_data.specs.Schedules.{schedule_text}
 use Rattle.av_compile.specs.declared.refusal.Refusal.{Refusal}
 use Rattle.av_compile.specs.declared.refusal.Refusal.TheVariants as refusal
 use Rattle.av_compile.specs.Refusals.{of_serial, of_sched}
-use Rattle.av_compile.specs.Scheduled.{Normalises, Serialises, HasFirstSchedule, IsScheduled, HasOneSolutionEach, IsUnscheduled, in_text, in_reductions, in_search}
+use Rattle.av_compile.specs.Scheduled.{Serialises, HasFirstSchedule, IsScheduled, HasOneSolutionEach, IsUnscheduled, in_text, in_reductions, in_search}
 use Rattle.av_cli.specs.declared.status.Status.{Status}
 use Rattle.av_cli.specs.declared.status.Status.TheVariants.{Done, Refused, Memory}
 use Rattle.av_cli.specs.Commands.{GiveSizes, IsSchedule}
@@ -23,7 +23,7 @@ use Rattle.av_cli.specs.AlphaRefusals.{alpha_reason}
 use Rattle.av_cli.specs.Schedules.{RefusesSchedule, GivesSchedule}
 use Rattle.av_cli.specs.inner.WithWords.{RefusesScheduleWith, GivesScheduleWith}
 use Rattle.av_cli.specs.inner.Written.{IsPut, IsAnswered, refused, given, no_memory}
-use Rattle.av_compile.proofs.OneChain.{one_flat, one_chained, one_normalised}
+use Rattle.av_compile.proofs.OneChain.{one_chained, one_normalised}
 use Rattle.av_compile.proofs.OneRefusal.{memory_or_not, not_checked}
 use Rattle.av_cli.proofs.GivenSizes.{with_sizes}
 

@@ -16,7 +16,7 @@ use Rattle.av_flat.specs.declared.quantity.Quantity.TheVariants as quantity
 use Rattle.av_flat.specs.Trees.{Variable, FlatSystem, right_side, view_system}
 use Rattle.av_flat.specs.Sets.{IsBox, box_size}
 use Rattle.av_flat.specs.Proper.{IsProper}
-use Rattle.av_flat.specs.Quantities.{IsFirst, piece_count, Measured, of_set, of_map, IsOverNumbers, IsOverRows, IsOver, HasWideSets, IsOverBox, HasLargeBox}
+use Rattle.av_flat.specs.Quantities.{piece_count, Measured, of_set, of_map, IsOverNumbers, IsOverRows, IsOver, HasWideSets, IsOverBox, HasLargeBox}
 use Rattle.av_lex.specs.declared.fault.LexFault.{LexFault}
 use Rattle.av_lex.specs.Faults as lexed
 use Rattle.av_lex.proofs.Readings as lexing

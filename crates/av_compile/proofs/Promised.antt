@@ -16,7 +16,7 @@ use Rattle.av_flat.specs.declared.timed.Timed.{Timed}
 use Rattle.av_flat.specs.Trees.{Variable, FlatSystem, view_system}
 use Rattle.av_flat.specs.Points.{has}
 use Rattle.av_flat.specs.Signatures as flat
-use Rattle.av_flat.specs.Signatures.{rank, is_kind, is_shown, is_computed, signature, signatures}
+use Rattle.av_flat.specs.Signatures.{rank, is_kind, is_shown, is_computed, signatures}
 use Rattle.av_flat.specs.Shown.{SameMeaning}
 use Rattle.av_flat.specs.Solutions.{shows_of, declares_of, Shows as ShowsFlat}
 use Rattle.av_flat.specs.Nodes.{is_node, number_at}

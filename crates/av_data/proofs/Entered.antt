@@ -12,7 +12,6 @@ use Rattle.av_affine.specs.Numbers.{AtMost}
 use Rattle.av_poly.specs.Points.{Set, Has}
 use Rattle.av_tree.specs.Points.{Point}
 use Rattle.av_flat.specs.Points.{has}
-use Rattle.av_flat.proofs.Sets.{has_is}
 use Rattle.av_data.specs.Lines.{separated}
 use Rattle.av_data.specs.Reading.{first_part, is_empty}
 use Rattle.av_data.specs.Data.{IsInRange, word_of, is_filled_by}

@@ -13,7 +13,7 @@ use Rattle.av_flat.specs.Signatures.{is_input}
 use Rattle.av_flat.specs.Kept.{IsKept}
 use Rattle.av_flat.specs.Chained.{IsChained}
 use Rattle.av_flat.proofs.Sets.{has_is}
-use Rattle.av_flat.proofs.Solving.{declared_from, is_some, some_of}
+use Rattle.av_flat.proofs.Solving.{declared_from, some_of}
 use Rattle.av_data.specs.declared.fault.DataFault.{DataFault}
 use Rattle.av_data.specs.declared.fault.DataFault.TheVariants.{DataSyntax, DataUnknown, DataOutside, DataTwice, DataMissing, Memory}
 use Rattle.av_data.specs.Lines.{data_lines}

@@ -15,7 +15,6 @@ use Rattle.av_poly.specs.Points.{Set}
 use Rattle.av_tree.specs.Points.{Point}
 use Rattle.av_flat.specs.declared.flat.Var.{Var}
 use Rattle.av_flat.specs.Trees.{Variable, FlatSystem, view_variable}
-use Rattle.av_flat.specs.Signatures.{is_computed}
 use Rattle.av_flat.proofs.Sets.{has_is}
 use Rattle.av_flat.specs.Points.{has}
 use Rattle.av_depend.specs.declared.edge.Edge.{Edge}

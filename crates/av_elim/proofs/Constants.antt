@@ -4,7 +4,6 @@ use Rattle.std.proofs.lemmas.Int.{ints}
 use Rattle.std.specs.List.{All, AllByRecursion}
 use Rattle.std.proofs.lemmas.List.Elements.{All-from_recursion, recursion_from_All}
 use Rattle.av_affine.specs.declared.form.Form.{Form}
-use Rattle.av_affine.specs.Numbers.{dot}
 use Rattle.av_affine.proofs.Order.{nonneg_by}
 use Rattle.av_poly.specs.Points.{Set, Has}
 use Rattle.av_poly.specs.Search.{IsBetween}

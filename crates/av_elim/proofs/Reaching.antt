@@ -1,5 +1,5 @@
 -- The loop over the indices.
-use Rattle.std.proofs.Common.{◌≡◌, ℕ, zero, suc, ◌+◌, ◌<◌, ◌≤◌, arith, ℤ, pos, ◌≤ℤ◌, ◌<ℤ◌, List, [], ◌∷◌, length, refl, sym, ◌∙◌, Bool, true, false, not, Some, true≢false, length-set, get_or-set_same, get_or-set_other, below_more}
+use Rattle.std.proofs.Common.{◌≡◌, ℕ, zero, suc, ◌+◌, ◌<◌, ◌≤◌, arith, ℤ, pos, ◌≤ℤ◌, ◌<ℤ◌, List, [], ◌∷◌, length, refl, ◌∙◌, Bool, true, false, Some, true≢false, length-set, get_or-set_same, get_or-set_other, below_more}
 use Rattle.std.proofs.Math.ListN.{set}
 use Rattle.av_affine.specs.declared.form.Form.{Form}
 use Rattle.av_poly.specs.Rational.{homogeneous, IsWithinBounds, IsBounded, Spans, AreBounds, HasGap}
@@ -7,7 +7,6 @@ use Rattle.av_elim.specs.declared.span.Span.{Span}
 use Rattle.av_elim.specs.inner.Span.{Tells}
 use Rattle.av_elim.specs.inner.Rows.{factor}
 use Rattle.av_elim.proofs.Answering.{bounded, spans, no_whole}
-use Rattle.av_base.proofs.Truths.{not_false, not_true}
 
 -- what stands after some indices
 pub record Reached (dim : ℕ) (rows : List (List ℤ)) (i : ℕ) (void : Bool) (low high : List ℤ) : Type 0 where

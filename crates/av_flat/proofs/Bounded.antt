@@ -1,5 +1,5 @@
 -- The points of bounded domains are small.
-use Rattle.std.proofs.Common.{◌≡◌, ℕ, ◌<◌, ◌≤◌, ℤ, pos, ◌≤ℤ◌, inl, inr, refl, subst, arith}
+use Rattle.std.proofs.Common.{◌<◌, ◌≤◌, ℤ, pos, ◌≤ℤ◌, inl, inr, refl, subst, arith}
 use Rattle.std.specs.Int.RustNames.{unsigned_abs}
 use Rattle.std.proofs.lemmas.Int.{ints}
 use Rattle.av_base.proofs.Lists.{same_default}

@@ -13,7 +13,7 @@ use Rattle.av_base.specs.declared.word.Op.TheVariants as op
 use Rattle.av_tree.specs.declared.relation.Relation.{Relation}
 use Rattle.av_tree.specs.declared.sign.Sign.{Sign}
 use Rattle.av_tree.specs.Points.{Point}
-use Rattle.av_tree.specs.Folds.{IsAmong, ArePaired, IsFolded, folded}
+use Rattle.av_tree.specs.Folds.{IsFolded, folded}
 use Rattle.av_tree.specs.Values.{combined, words_compare, IsCombined, IsChosen}
 use Rattle.av_tree.proofs.SameParts.{folded_too}
 use Rattle.av_flat.specs.Trees.{Tree, Trees, reference, constant, binary, choice, restriction, cases, dependence, reduction, pick, none, more}

@@ -1,20 +1,17 @@
 -- Without helpers a timed system has the solutions of its flat system.
-use Rattle.std.proofs.Common.{◌≡◌, ◌↔◌, ◌≤◌, ℕ, zero, suc, ◌+◌, false, IsTrue, if◌then◌else◌, ◌&&◌, nat_eq, ◌⊎◌, inl, inr, Option, Some, None, List, [], ◌∷◌, map, length, slice_get, refl, subst, All}
-use Rattle.std.specs.List.{AllByRecursion}
+use Rattle.std.proofs.Common.{◌↔◌, ℕ, suc, ◌+◌, IsTrue, inl, inr, None, List, [], ◌∷◌, map, length, refl}
 use Rattle.std.proofs.lemmas.List.Elements.{All-from_recursion, recursion_from_All}
-use Rattle.av_affine.specs.declared.map.Map.{Map}
-use Rattle.av_affine.specs.Maps.{image}
 use Rattle.av_tree.specs.Points.{Point}
-use Rattle.av_tree.specs.Values.{Assignment, IsCombined, IsChosen}
+use Rattle.av_tree.specs.Values.{Assignment}
 use Rattle.av_tree.proofs.SameParts.{combined_same, chosen_same}
-use Rattle.av_flat.specs.Trees.{Tree, Piece, Variable, FlatSystem, reference, constant, binary, choice, restriction, cases, dependence, reduction, pick, right_side, trees_of}
+use Rattle.av_flat.specs.Trees.{Tree, Piece, Variable, FlatSystem, reference, constant, binary, choice, restriction, cases, dependence, reduction, pick, trees_of}
 use Rattle.av_flat.specs.Points.{has}
 use Rattle.av_flat.specs.Signatures.{is_computed}
-use Rattle.av_flat.specs.Values.{Scene, HasValue, IsOfBranch, IsWordAt}
+use Rattle.av_flat.specs.Values.{Scene, HasValue, IsOfBranch}
 use Rattle.av_flat.specs.Shown.{SameMeaning}
 use Rattle.av_flat.specs.Solutions.{scene, Satisfies, IsSolution, shows_of, declares_of}
 use Rattle.av_flat.specs.Broadcasts.{references}
-use Rattle.av_flat.specs.Helped.{PointWords, HelperWords, HasRead, HasHelped, IsOfPiece, helped_at, HelpedSatisfies, IsHelpedSolution, helped_shows_of}
+use Rattle.av_flat.specs.Helped.{HelperWords, HasHelped, IsOfPiece, helped_at, HelpedSatisfies, IsHelpedSolution, helped_shows_of}
 use Rattle.av_base.proofs.Lists.{each_at, each_by_place}
 
 unhelped_tree : (s : Scene) (n : ℕ) (t : Tree) (z : Point) (w : ℕ) → HasValue s t z w ↔ HasHelped s (λ i. None) n t z w

@@ -1,5 +1,5 @@
 -- A tree has one word at a point, and only where its count is 1.
-use Rattle.std.proofs.Common.{◌≡◌, ℕ, ◌+◌, ◌*◌, ◌≤◌, Bool, IsTrue, if◌then◌else◌, Option, Some, None, inl, inr, refl, sym, arith, ◌∙◌}
+use Rattle.std.proofs.Common.{◌≡◌, ℕ, ◌≤◌, Option, Some, None, inl, inr, refl, sym, arith, ◌∙◌}
 use Rattle.av_affine.specs.Maps.{image}
 use Rattle.av_tree.specs.Points.{Point}
 use Rattle.av_tree.proofs.Fibres.{IsOnce, folded_once}

@@ -24,7 +24,6 @@ use Rattle.av_names.proofs.Names.{equal_names, same_names, apart_names}
 use Rattle.av_names.proofs.Among.{Among, all_from}
 use Rattle.av_names.proofs.Places.{HasOwnName}
 use Rattle.av_names.proofs.Equations.{DefinesOther}
-use Rattle.av_base.proofs.Truths.{not_false}
 
 -- ---- rules that find nothing
 

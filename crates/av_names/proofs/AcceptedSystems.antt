@@ -27,7 +27,7 @@ use Rattle.av_names.specs.Reductions.{part_projection, projection}
 use Rattle.av_names.specs.Refusals.{rules, first_rule, IsAccepted}
 use Rattle.av_names.specs.Regular.{IsRegular, IsRegularEquation, IsDomain, HasIndices}
 use Rattle.av_names.specs.Repetitions as repetition
-use Rattle.av_names.specs.Repetitions.{NameList, repeated, repeated_size, repeated_variable, repeated_index, name_lists}
+use Rattle.av_names.specs.Repetitions.{NameList, repeated, repeated_variable, repeated_index, name_lists}
 use Rattle.av_names.specs.SizeWords.{size_missing, names_of, sizes_of}
 use Rattle.av_names.specs.Unknowns.{unknown, unknown_equation, unknown_reference, unknown_written, unknown_side, unknown_index, is_variable, declared_as}
 use Rattle.av_names.specs.Written.{Written, written_at, written_declaration, all_written}

@@ -17,7 +17,7 @@ use Rattle.av_names.specs.Found.{first_found, place_where}
 use Rattle.av_names.specs.inner.AtOption.{at_option}
 use Rattle.av_names.specs.Parts.{Part, parts_of, parts_of_all}
 use Rattle.av_names.specs.Written.{Written, written_at}
-use Rattle.av_names.specs.Repetitions.{repeated_index, again, of_map}
+use Rattle.av_names.specs.Repetitions.{repeated_index, of_map}
 use Rattle.av_names.specs.Repetitions as repetition
 use Rattle.av_names.specs.Arities.{part_arity}
 use Rattle.av_names.specs.Reductions.{part_projection, is_projection}

@@ -3,7 +3,6 @@ use Rattle.std.proofs.Common.{◌≡◌, ◌≢◌, suc, Bool, true, false, List
 use Rattle.std.specs.Prelude.{bytes_eq}
 use Rattle.std.proofs.lemmas.Slice.Eq.{bytes_eq-Decides}
 use Rattle.av_tree.specs.Trees.{Text}
-use Rattle.av_base.proofs.Lists.{pairs_rest}
 
 pub equal_names : (a b : Text) → bytes_eq a b ≡ true → a ≡ b
 equal_names a b h = (bytes_eq-Decides a b).0 h

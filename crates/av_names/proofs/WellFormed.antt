@@ -25,7 +25,7 @@ use Rattle.av_flat.specs.declared.flat.Kind.TheVariants as kind
 use Rattle.av_flat.specs.Trees.{Tree, Variable}
 use Rattle.av_flat.specs.Signatures.{Signature, signature, signatures, rank, is_computed, is_input, is_shown}
 use Rattle.av_flat.specs.WellFormed as form
-use Rattle.av_flat.specs.WellFormed.{EachPart, EachPartOfAll, Fits, FitAll, Leads, HasSmallRows, HasWords, IsInPlace, IsWellFormedTree, IsWellFormedPiece, IsWellFormedVariable, IsWellFormed, dimension_of}
+use Rattle.av_flat.specs.WellFormed.{EachPart, EachPartOfAll, Fits, FitAll, HasSmallRows, HasWords, IsInPlace, IsWellFormedTree, IsWellFormedPiece, IsWellFormedVariable, IsWellFormed, dimension_of}
 use Rattle.av_names.specs.Forms.{Context, over, nameless, form_of, index_form, set_of, read_of}
 use Rattle.av_names.specs.Flattened.{place_of, flat_of, flat_tree, flat_trees, input_of, computed_of, equation_of, pieces_of}
 use Rattle.av_names.specs.Regular.{IsRegular, IsRegularEquation, IsRegularIn, AreRegularIn, Reads, indices_of}

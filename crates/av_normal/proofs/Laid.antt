@@ -1,5 +1,5 @@
 -- What holds of the trees of parts: no case, restriction, dependence or pick, and each reference reads a declared point where the rows hold.
-use Rattle.std.proofs.Common.{◌≡◌, ℕ, ◌*◌, ◌<◌, ◌≤◌, Bool, false, IsTrue, if◌then◌else◌, pos, List, [], ◌∷◌, ◌++◌, length, map, Some, slice_get, refl, sym, ap, subst, ◌∙◌, arith, All}
+use Rattle.std.proofs.Common.{◌≡◌, ℕ, ◌<◌, ◌≤◌, false, IsTrue, pos, List, [], ◌∷◌, ◌++◌, length, map, Some, slice_get, refl, sym, ap, subst, ◌∙◌, arith, All}
 use Rattle.std.specs.List.{flat_map, list_all}
 use Rattle.std.proofs.lemmas.List.{length-map}
 use Rattle.std.proofs.lemmas.List.Folds.{list_all-append}
@@ -15,8 +15,8 @@ use Rattle.av_flat.specs.Trees.{Tree, Trees, reference, constant, binary, choice
 use Rattle.av_flat.specs.Points.{holds, point_over}
 use Rattle.av_flat.specs.Signatures.{Signature, is_declared_at}
 use Rattle.av_flat.specs.Counts.{count}
-use Rattle.av_flat.specs.WellFormed.{Fits, FitAll, Leads, EachPart, EachPartOfAll, IsInPlace, IsProjection, is_case, is_reduction, is_pick}
-use Rattle.av_flat.specs.Quantities.{piece_count, steps, steps_under, composed_maps, composed_maps_of_all}
+use Rattle.av_flat.specs.WellFormed.{Fits, FitAll, Leads, EachPart, EachPartOfAll, IsInPlace, IsProjection, is_reduction, is_pick}
+use Rattle.av_flat.specs.Quantities.{steps, steps_under, composed_maps, composed_maps_of_all}
 use Rattle.av_flat.specs.Pieces.{Part, part, rows_of, composed, rows_under, first_part, parts, parts_of_all}
 use Rattle.av_flat.proofs.Sets.{both_true, both_hold}
 use Rattle.av_flat.proofs.Parts.{reach, Chain, composed_image, declared_where, length_parts, composed_from}

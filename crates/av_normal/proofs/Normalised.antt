@@ -1,7 +1,7 @@
 -- Rows that were normalised among others: dividing twice is dividing once, and a false row stays false.
 use Rattle.std.proofs.Common.{◌≡◌, ℕ, zero, suc, ◌<◌, ◌⊎◌, inl, inr, Bool, false, IsTrue, arith, ℤ, pos, ◌≤ℤ◌, List, [], ◌∷◌, ◌++◌, length, map, take, get_or, refl, sym, ap, ap₂, subst, ◌∙◌, All, AllPairs, Any, div-one}
 use Rattle.std.proofs.Math.IntN.{negsuc}
-use Rattle.std.proofs.Math.Nat.{zero-div, eq-one_of_dvd-one}
+use Rattle.std.proofs.Math.Nat.{eq-one_of_dvd-one}
 use Rattle.std.specs.List.{AllByRecursion}
 use Rattle.std.specs.Bool.{Decides}
 use Rattle.std.specs.Cmp.Lexicographic.{pointwise, pointwise_decides}
@@ -12,7 +12,7 @@ use Rattle.std.proofs.lemmas.Bool.{cases_Bool, cases_lt}
 use Rattle.std.proofs.lemmas.Bool.Decides.{Decides-int_eq}
 use Rattle.std.proofs.lemmas.Int.{ints}
 use Rattle.std.proofs.lemmas.List.{get_or_default, get_or-take, length-take}
-use Rattle.std.proofs.lemmas.List.Elements.{All-weaker, All-append, All-from_recursion, recursion_from_All, Contains-append_left, Contains-append_right, Contains-append_cases}
+use Rattle.std.proofs.lemmas.List.Elements.{All-weaker, All-append, All-from_recursion, recursion_from_All, Contains-append_right, Contains-append_cases}
 use Prim.Native.Nat.{◌∣◌}
 use Rattle.av_affine.specs.declared.form.Form.{Form}
 use Rattle.av_affine.specs.Numbers.{IsGcdOf}

@@ -1,5 +1,5 @@
 -- A kept piece has the words of the part that it stands for: filled and normalised sets have the same points over a point of the piece.
-use Rattle.std.proofs.Common.{◌≡◌, ◌↔◌, ℕ, ◌≤◌, inl, inr, Bool, true, false, ◌&&◌, IsTrue, if◌then◌else◌, ℤ, List, [], ◌∷◌, ◌++◌, length, refl, sym, ap, ◌∙◌, arith, All}
+use Rattle.std.proofs.Common.{◌≡◌, ◌↔◌, ℕ, ◌≤◌, Bool, true, false, ◌&&◌, IsTrue, if◌then◌else◌, ℤ, List, [], ◌++◌, length, refl, sym, ap, ◌∙◌, arith, All}
 use Rattle.std.specs.List.{list_all}
 use Rattle.std.proofs.lemmas.List.Folds.{list_all-append}
 use Rattle.std.proofs.lemmas.List.Elements.{All-head, All-tail}
@@ -9,8 +9,7 @@ use Rattle.av_poly.specs.Points.{Set}
 use Rattle.av_poly.specs.Preimages.{rows_before}
 use Rattle.av_poly.proofs.Normalising.{normal_set}
 use Rattle.av_tree.specs.Points.{Point}
-use Rattle.av_tree.specs.Folds.{IsAmong, ArePaired, IsFolded, folded}
-use Rattle.av_tree.specs.Values.{IsCombined, IsChosen}
+use Rattle.av_tree.specs.Folds.{folded}
 use Rattle.av_tree.proofs.SameParts.{combined_same, chosen_same, folded_same}
 use Rattle.av_flat.specs.Trees.{Tree, reference, constant, binary, choice, reduction}
 use Rattle.av_flat.specs.Points.{has, holds, point_over}

@@ -1,9 +1,7 @@
 -- Maps under dependences, and the variables that references read.
-use Rattle.std.proofs.Common.{◌≡◌, ℕ, zero, suc, ◌<◌, List, [], ◌∷◌, length, get_or, Some, refl, sym, ap, ◌∙◌, arith}
+use Rattle.std.proofs.Common.{◌≡◌, ℕ, zero, suc, ◌<◌, List, [], ◌∷◌, length, get_or, Some, sym, ap, ◌∙◌, arith}
 use Rattle.std.specs.Prelude.{slice_get}
-use Rattle.std.proofs.lemmas.List.{length-map}
 use Rattle.av_affine.specs.declared.map.Map.{Map}
-use Rattle.av_affine.specs.Maps.{composition, through}
 use Rattle.av_poly.specs.Points.{Set}
 use Rattle.av_flat.specs.declared.flat.Var.{Var}
 use Rattle.av_flat.specs.Trees.{view_variable}

@@ -1,7 +1,7 @@
 -- What was read of an expression before a fault is a front of it; for a fault of depth it is one with the token
 -- there, which has the level l. A reader with k levels reads what begins on the level n where n + k = l.
-use Rattle.std.proofs.Common.{◌≡◌, ℕ, zero, suc, ◌+◌, Bool, true, false, List, [], ◌∷◌, length, Option, Some, None, Ok, Err, refl, sym, subst, arith, inl, inr, ◌⊎◌}
-use Rattle.std.specs.Prelude.{codes, ◌||◌, ◌&&◌}
+use Rattle.std.proofs.Common.{◌≡◌, ℕ, zero, suc, ◌+◌, Bool, true, false, List, [], ◌∷◌, length, Option, Some, None, Ok, Err, refl, sym, subst, arith, inl, inr}
+use Rattle.std.specs.Prelude.{codes, ◌&&◌}
 use Rattle.std.specs.Str.{bytes_eq}
 use Rattle.av_base.specs.declared.place.Place.{Place}
 use Rattle.av_base.specs.declared.token_kind.TokenKind.{TokenKind}

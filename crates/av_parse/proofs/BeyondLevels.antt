@@ -15,7 +15,7 @@ use Rattle.av_tree.specs.FrontsExpression.{FrontPostfixTail}
 use Rattle.av_parse.specs.inner.Reader.{begins_symbol, too_deep, deep_fault, expect_symbol}
 use Rattle.av_parse.specs.inner.ExpressionReader.{begins_unary, begins_expr, begins_domain_rest, readers}
 use Rattle.av_parse.proofs.Follow.{known, symbol_yes, symbol_gives}
-use Rattle.av_parse.proofs.WithinIndex.{Within, left, stops, deep, if_within, le_same, symbol_within}
+use Rattle.av_parse.proofs.WithinIndex.{left, deep, if_within, le_same, symbol_within}
 use Rattle.av_parse.proofs.WithinExpression.{all_within, too_deep_within}
 use Rattle.av_parse.proofs.Takes.{map_takes}
 use Rattle.av_parse.proofs.FrontsTake.{front_map_takes, front_postfix_tail_takes}

@@ -1,13 +1,13 @@
 -- How fronts of expressions begin, where a token of them came.
-use Rattle.std.proofs.Common.{◌≡◌, ℕ, Bool, true, false, List, ◌∷◌, refl, inl, inr, ◌⊎◌}
-use Rattle.std.specs.Prelude.{codes, ◌||◌}
+use Rattle.std.proofs.Common.{◌≡◌, ℕ, true, false, List, ◌∷◌, refl, inl, inr, ◌⊎◌}
+use Rattle.std.specs.Prelude.{codes}
 use Rattle.av_base.specs.Tokens.{Token}
 use Rattle.av_tree.specs.declared.domain.DomainText.{DomainText}
 use Rattle.av_tree.specs.Trees.{Expression}
 use Rattle.av_tree.specs.Parts.{IsName, IsNumber, IsSymbol, IsReserved}
 use Rattle.av_tree.specs.IndexGrammar.{domain, IsDomain}
 use Rattle.av_tree.specs.ExpressionGrammar as whole
-use Rattle.av_tree.specs.ExpressionGrammar.{IsExpr, IsProduct, IsUnary, IsPostfix, IsPrimary}
+use Rattle.av_tree.specs.ExpressionGrammar.{IsProduct, IsUnary, IsPostfix, IsPrimary}
 use Rattle.av_tree.specs.FrontsParts as parts
 use Rattle.av_tree.specs.FrontsParts.{Meant, MayWait, FrontToken, IsSign, plus_sign, minus_sign, IsExtreme, least_word, greatest_word}
 use Rattle.av_tree.specs.FrontsExpression as fronts

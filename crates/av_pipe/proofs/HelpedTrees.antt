@@ -1,10 +1,9 @@
 -- Where the helpers have the words of their references, trees have the words that they have without helpers.
-use Rattle.std.proofs.Common.{◌≡◌, ◌↔◌, ℕ, zero, suc, ◌+◌, Bool, true, false, ◌&&◌, if◌then◌else◌, IsTrue, nat_eq, ◌⊎◌, inl, inr, Option, Some, None, List, [], ◌∷◌, ◌++◌, length, slice_get, refl, ap, subst, ◌∙◌, arith, length-append}
+use Rattle.std.proofs.Common.{◌≡◌, ◌↔◌, ℕ, zero, suc, ◌+◌, Bool, true, false, ◌&&◌, if◌then◌else◌, IsTrue, nat_eq, inl, inr, Option, Some, None, List, [], ◌∷◌, ◌++◌, length, slice_get, refl, ap, subst, ◌∙◌, arith, length-append}
 use Rattle.av_affine.specs.declared.map.Map.{Map}
 use Rattle.av_affine.specs.Maps.{image}
 use Rattle.av_poly.specs.Points.{Set}
 use Rattle.av_tree.specs.Points.{Point}
-use Rattle.av_tree.specs.Values.{IsCombined, IsChosen}
 use Rattle.av_tree.proofs.SameParts.{combined_same, chosen_same}
 use Rattle.av_flat.specs.Trees.{Tree, reference, constant, binary, choice, restriction, cases, dependence, reduction, pick}
 use Rattle.av_flat.specs.Points.{has}

@@ -1,6 +1,6 @@
 -- The helpers of a scheduled system name moved references, each with the first direction that moves it, and each moved reference
 -- has one.
-use Rattle.std.proofs.Common.{◌≡◌, ℕ, suc, ◌+◌, Option, Some, None, List, [], ◌∷◌, ◌++◌, slice_get, refl, subst, arith}
+use Rattle.std.proofs.Common.{◌≡◌, ℕ, suc, ◌+◌, Option, Some, None, List, [], ◌∷◌, slice_get, refl, subst, arith}
 use Rattle.std.specs.List.{AllByRecursion}
 use Rattle.av_tree.specs.Points.{Point}
 use Rattle.av_flat.specs.Trees.{Piece, Variable, FlatSystem}

@@ -1,6 +1,5 @@
 -- The numbers of nodes, variable after variable, and what legal systems grant the code.
-use Rattle.std.proofs.Common.{◌≡◌, ℕ, zero, suc, pos, negsuc, ◌+◌, ◌≤◌, ◌<◌, Bool, true, false, if◌then◌else◌, Some, List, [], ◌∷◌, ◌++◌, length, filter, map, take, drop, get_or, slice_get, refl, sym, ap, subst, ◌∙◌, arith, add-one, append_assoc, All}
-use Rattle.std.proofs.Math.Seq.{drop-cons}
+use Rattle.std.proofs.Common.{◌≡◌, ℕ, zero, suc, pos, negsuc, ◌+◌, ◌≤◌, Bool, true, false, if◌then◌else◌, Some, List, [], ◌∷◌, ◌++◌, length, filter, map, take, drop, slice_get, refl, sym, ap, subst, ◌∙◌, arith, add-one, append_assoc, All}
 use Rattle.std.specs.List.{AllByRecursion}
 use Rattle.std.proofs.lemmas.List.Elements.{All-from_recursion, recursion_from_All}
 use Rattle.av_affine.specs.Numbers.{AtMost}
@@ -17,7 +16,6 @@ use Rattle.av_flat.specs.Nodes.{is_node, nodes, number_at}
 use Rattle.av_flat.specs.Chained.{IsChained, IsChainedVariable, IsChainedPiece}
 use Rattle.av_flat.specs.Schedules.{IsSchedule, IsLinearPart}
 use Rattle.av_pipe.specs.inner.Helping.{HasFineMaps, HasFinePieces}
-use Rattle.av_base.proofs.Lists.{next_item}
 
 -- ---- one more variable
 

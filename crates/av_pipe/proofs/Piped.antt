@@ -1,10 +1,9 @@
 -- The words that helpers hand on are those of their references, so what a system shows it shows with helpers.
-use Rattle.std.proofs.Common.{◌≡◌, ◌↔◌, ℕ, zero, suc, ◌+◌, ◌≤◌, ℤ, pos, ◌+ℤ◌, ◌≤ℤ◌, ◌<ℤ◌, Bool, true, false, ◌&&◌, ◌||◌, if◌then◌else◌, IsTrue, inl, inr, Option, Some, None, List, [], ◌∷◌, length, take, slice_get, unsigned_abs, refl, sym, ap, subst, ◌∙◌, arith, All}
-use Rattle.std.specs.Prelude.{IsSome, is_some, bytes_eq, nat_lt, cond, filter}
+use Rattle.std.proofs.Common.{◌≡◌, ◌↔◌, ℕ, zero, suc, ◌+◌, ◌≤◌, ℤ, pos, ◌+ℤ◌, ◌≤ℤ◌, ◌<ℤ◌, Bool, true, false, ◌&&◌, if◌then◌else◌, IsTrue, inl, inr, Option, Some, None, List, [], ◌∷◌, length, take, slice_get, unsigned_abs, refl, sym, ap, subst, ◌∙◌, arith, All}
+use Rattle.std.specs.Prelude.{IsSome, is_some, nat_lt, cond, filter}
 use Rattle.std.specs.List.{AllByRecursion}
 use Rattle.std.proofs.lemmas.Int.{ints}
 use Rattle.std.proofs.lemmas.List.Elements.{recursion_from_All}
-use Rattle.std.proofs.lemmas.Slice.Eq.{bytes_eq-Decides}
 use Rattle.av_affine.specs.Maps.{image}
 use Rattle.av_tree.specs.Points.{Point}
 use Rattle.av_tree.specs.Values.{Assignment}
@@ -12,7 +11,7 @@ use Rattle.av_flat.specs.declared.flat.Kind.{Kind}
 use Rattle.av_flat.specs.declared.flat.Kind.TheVariants as kind
 use Rattle.av_flat.specs.Trees.{Piece, Variable, FlatSystem}
 use Rattle.av_flat.specs.Points.{has}
-use Rattle.av_flat.specs.Signatures.{Signature, signatures, is_any, is_input, is_computed, is_declared, is_declared_at, domain_has}
+use Rattle.av_flat.specs.Signatures.{Signature, signatures, is_any, is_input, is_computed, is_declared_at, domain_has}
 use Rattle.av_flat.specs.Values.{Scene, IsWordAt, word_of}
 use Rattle.av_flat.specs.Shown.{SameMeaning}
 use Rattle.av_flat.specs.Solutions.{scene, declares_of}

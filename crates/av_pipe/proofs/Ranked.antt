@@ -1,9 +1,7 @@
 -- What is computed stands behind what it is computed from: in a later cycle, or in the same at a higher rank.
-use Rattle.std.proofs.Common.{◌≡◌, ℕ, zero, suc, ℤ, pos, ◌+ℤ◌, ◌≤ℤ◌, ◌<◌, ◌⊎◌, inl, inr, IsTrue, Option, Some, List, [], ◌∷◌, ◌++◌, slice_get, refl, sym, ap, subst, ◌∙◌, arith, All}
+use Rattle.std.proofs.Common.{◌≡◌, ℕ, zero, suc, ℤ, pos, ◌+ℤ◌, ◌≤ℤ◌, ◌<◌, ◌⊎◌, inl, inr, IsTrue, Some, [], ◌++◌, slice_get, refl, sym, ap, subst, ◌∙◌, arith}
 use Rattle.std.proofs.lemmas.Int.{ints}
-use Rattle.std.specs.Prelude.{Contains}
 use Rattle.std.proofs.lemmas.List.Elements.{recursion_from_All}
-use Rattle.std.proofs.lemmas.Option.{slice_get_within, get_or_from_slice_get}
 use Rattle.av_affine.specs.Maps.{image}
 use Rattle.av_tree.specs.Points.{Point}
 use Rattle.av_flat.specs.declared.timed.Time.{Time}
@@ -11,8 +9,8 @@ use Rattle.av_flat.specs.declared.timed.Helper.{Helper}
 use Rattle.av_flat.specs.declared.timed.Timed.{Timed}
 use Rattle.av_flat.specs.Trees.{Tree, Piece, Variable, FlatSystem, view_system, reference, constant, binary, choice, restriction, cases, dependence, reduction, pick}
 use Rattle.av_flat.specs.Points.{has}
-use Rattle.av_flat.specs.Nodes.{is_node, nodes, number_at}
-use Rattle.av_flat.specs.Reads.{IsRead, Reads, IsPair}
+use Rattle.av_flat.specs.Nodes.{is_node, number_at}
+use Rattle.av_flat.specs.Reads.{IsRead, IsPair}
 use Rattle.av_flat.specs.Schedules.{cycle}
 use Rattle.av_flat.specs.Broadcasts.{Reference, references}
 use Rattle.av_flat.specs.Helped.{before}

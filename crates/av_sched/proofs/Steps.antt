@@ -1,5 +1,5 @@
 -- One level of the walk: the parts of one node are tried in turn, and the walk goes on behind each that is not barred.
-use Rattle.std.proofs.Common.{◌≡◌, ◌≢◌, ℕ, zero, suc, ◌<◌, ◌≤◌, ⊎_elim, Option, Some, None, List, [], ◌∷◌, ◌++◌, length, refl, sym, ap, subst, ◌∙◌, arith, All, get_or-set_same, get_or-set_other, length-set, get_or, take, add-one, ◌+◌}
+use Rattle.std.proofs.Common.{◌≡◌, ◌≢◌, ℕ, zero, suc, ◌<◌, ⊎_elim, Option, Some, None, List, [], ◌∷◌, ◌++◌, length, refl, sym, ap, subst, ◌∙◌, arith, All, get_or-set_same, get_or-set_other, length-set, get_or, take, add-one, ◌+◌}
 use Rattle.std.proofs.lemmas.List.{set-get_or}
 use Rattle.std.specs.Prelude.{Contains, AllPairs, slice_get, slice_set, slice_index_or}
 use Rattle.std.proofs.lemmas.Bool.{cases_eq}
@@ -15,7 +15,7 @@ use Rattle.av_sched.specs.Choices.{AreLinearParts}
 use Rattle.av_sched.specs.inner.Walk.{Agrees, IsSound, HasWalked, HasTried, AreParts, AreAllParts, IsPlace, IsBarred, IsLike}
 use Rattle.av_sched.proofs.Walking.{nothing_there}
 use Rattle.av_sched.proofs.Tries.{tried_none, tried_more, tried_all, leads_on}
-use Rattle.av_base.proofs.Lists.{same_default, take_whole, there_is}
+use Rattle.av_base.proofs.Lists.{same_default, there_is}
 
 pub set_set : {X : Type 0} (xs : List X) (n : ℕ) (a b : X) → slice_set (slice_set xs n a) n b ≡ slice_set xs n b
 set_set [] n a b = refl

@@ -1,5 +1,5 @@
 -- Directions: their sizes and entries, and those along which small references read one point.
-use Rattle.std.proofs.Common.{◌≡◌, ℕ, zero, suc, ◌<◌, ◌≤◌, ℤ, pos, List, [], ◌∷◌, ◌++◌, map, length, get_or, refl, sym, ap, subst, ◌∙◌, arith, All, unsigned_abs, Box, Global}
+use Rattle.std.proofs.Common.{◌≡◌, ℕ, zero, suc, ◌<◌, ◌≤◌, ℤ, pos, List, [], ◌∷◌, ◌++◌, map, length, get_or, refl, sym, ap, subst, ◌∙◌, arith, All, unsigned_abs}
 use Rattle.std.specs.Prelude.{negsuc, not, filter, Contains, slice_get, Some, Option}
 use Rattle.std.specs.List.{flat_map}
 use Rattle.std.proofs.lemmas.Int.{ints}
@@ -9,12 +9,7 @@ use Rattle.av_affine.specs.declared.map.Map.{Map}
 use Rattle.av_tree.specs.Points.{Point}
 use Rattle.av_flat.specs.declared.flat.Piece.{Piece as PieceMade}
 use Rattle.av_flat.specs.declared.flat.Var.{Var}
-use Rattle.av_tree.specs.declared.sign.Sign.{Sign}
-use Rattle.av_tree.specs.declared.relation.Relation.{Relation}
-use Rattle.av_flat.specs.declared.tree.Tree.{Tree as TreeMade}
 use Rattle.av_flat.specs.declared.tree.Tree.TheVariants as made
-use Rattle.av_flat.specs.declared.tree.Tree.TheViews.{sized-Binary, sized-Choose}
-use Rattle.av_flat.proofs.tree.Tree.TheLaws.{the_size}
 use Rattle.av_base.proofs.Among.{among_map}
 use Rattle.av_flat.specs.Trees.{view, view_piece, view_variable, Tree, Piece, Variable, FlatSystem, reference, constant, binary, choice, restriction, cases, dependence, reduction, pick}
 use Rattle.av_flat.specs.Signatures.{Signature, signatures}

@@ -4,7 +4,7 @@ use Rattle.std.specs.Prelude.{Contains}
 use Rattle.std.proofs.lemmas.List.{length-append, length-map, take-append-le, take-map, length-take-le}
 use Rattle.std.proofs.Math.Seq.{take-append-add}
 use Rattle.std.proofs.lemmas.List.Elements.{filter-append}
-use Rattle.std.proofs.lemmas.Option.{slice_get_within, slice_get_read, get_or_from_slice_get}
+use Rattle.std.proofs.lemmas.Option.{slice_get_read}
 use Rattle.av_tree.specs.Trees.{Text}
 use Rattle.av_flat.specs.Trees.{Piece, Variable, FlatSystem}
 use Rattle.av_flat.specs.Signatures.{is_computed}
@@ -13,7 +13,6 @@ use Rattle.av_serial.specs.SerialForm.{Chain, chain_variable, AreSerialPieces, I
 use Rattle.av_serial.specs.SerialFaults.{HaveNodes, HasNodesIn}
 use Rattle.av_serial.specs.Dependences.{IsPieceAt}
 use Rattle.av_serial.proofs.FoldPieces.{StandsIn, IsMade, made_piece, count_pieces, IsMadeVariable, made_variable, count_variables}
-use Rattle.av_base.proofs.Among.{among_at}
 use Rattle.av_base.proofs.Lists.{get_cases, get_first, get_mapped, get_second}
 
 -- ---- filtered lists

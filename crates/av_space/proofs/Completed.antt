@@ -1,14 +1,13 @@
 -- The rows of a completion are those of a matrix with a whole inverse. The matrices are av_affine's, cell by cell.
-use Rattle.std.proofs.Common.{◌≡◌, ◌≢◌, ℕ, zero, suc, ◌<◌, ◌≤◌, refl, arith, List, [], ◌∷◌, length, map, ℤ, pos, ◌*ℤ◌, ◌⊎◌, inl, inr, sym, ap, subst, ◌∙◌}
+use Rattle.std.proofs.Common.{◌≡◌, ◌≢◌, ℕ, zero, suc, ◌<◌, ◌≤◌, refl, arith, List, [], ◌∷◌, length, map, ℤ, pos, ◌*ℤ◌, inl, inr, sym, ap, subst, ◌∙◌}
 use Rattle.std.specs.Prelude.{unsigned_abs}
 use Rattle.av_affine.specs.Squares.{square_of, product, identity}
 use Rattle.av_affine.specs.Completion.{rows_of, entry, unit_row, positions_but, signs_at, IsLastOf, IsCompletion}
 use Rattle.av_affine.specs.Completion.IsCompletion.{beside_one, beside_two}
 use Rattle.av_affine.specs.Cells.{skip, one_cell, one_inverse, two_cell, two_inverse}
-use Rattle.av_affine.proofs.Sums.{skip_after}
 use Rattle.av_affine.proofs.Pivots.{contains_one, contains_two}
 use Rattle.av_affine.proofs.Inverses.{product_is_identity, one_left}
-use Rattle.av_affine.proofs.Pairs.{IsTurned, is_turned, by_size, two_left}
+use Rattle.av_affine.proofs.Pairs.{IsTurned, two_left}
 use Rattle.av_space.proofs.Between.{Keeps}
 use Rattle.av_space.proofs.Inverse.{square_keeps}
 use Rattle.av_affine.proofs.Completing.{one_rows, one_size, place_within, two_rows, two_turned, unit_square}

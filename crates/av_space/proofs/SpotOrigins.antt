@@ -4,7 +4,6 @@ use Rattle.std.specs.Prelude.{slice_get, Contains, MatchOption}
 use Rattle.av_affine.specs.declared.map.Map.{Map}
 use Rattle.av_affine.specs.Maps.{image}
 use Rattle.av_tree.specs.Points.{Point}
-use Rattle.av_flat.specs.declared.flat.Kind.{Kind}
 use Rattle.av_flat.specs.declared.flat.Kind.TheVariants as kind
 use Rattle.av_flat.specs.declared.timed.Helper.{Helper}
 use Rattle.av_flat.specs.declared.tree.Choice.{Choice}
@@ -15,7 +14,7 @@ use Rattle.av_flat.specs.Points.{has}
 use Rattle.av_flat.specs.Broadcasts.{Reference, references}
 use Rattle.av_flat.specs.Helped.{before}
 use Rattle.av_flat.specs.Nodes.{number_at}
-use Rattle.av_flat.specs.Signatures.{Signature, signatures, is_computed, is_input}
+use Rattle.av_flat.specs.Signatures.{Signature, signatures}
 use Rattle.av_flat.specs.Values.{picked}
 use Rattle.av_space.specs.declared.array.Array.{Array}
 use Rattle.av_space.specs.declared.layout.Slot.{Slot}

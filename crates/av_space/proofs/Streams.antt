@@ -1,8 +1,7 @@
 -- A whole listing can be presented: no port has two words in one cycle, and each word fits its port.
-use Rattle.std.proofs.Common.{◌≡◌, ℕ, zero, suc, Some, List, [], ◌∷◌, refl, sym, ap, subst, ◌∙◌, All}
-use Rattle.std.specs.Prelude.{slice_get, Option, None, IsSome}
+use Rattle.std.proofs.Common.{◌≡◌, ℕ, Some, [], sym, ap, subst, ◌∙◌, All}
+use Rattle.std.specs.Prelude.{slice_get}
 use Rattle.std.proofs.lemmas.List.Elements.{All-weaker, recursion_from_All}
-use Rattle.std.specs.List.{AllByRecursion}
 use Rattle.av_base.specs.Words.{IsWord}
 use Rattle.av_tree.specs.Points.{Point}
 use Rattle.av_tree.specs.Values.{Assignment}

@@ -122,7 +122,7 @@ module _ (bytes : List ℕ) (x : Text) (line : ℕ) (s : Says bytes x line) wher
 -- the bytes say one text, whose module begins on one line
 pub one_said : (bytes : List ℕ) (x y : Text) (m n : ℕ) → Says bytes x m → Says bytes y n → (x ≡ y) × (m ≡ n)
 one_said bytes x y m n s t =
-    let tokens : s.tokens ≡ t.tokens = ok_tokens s.tokens t.tokens (sym (read_complete s.lexed (length bytes) (omega arith)) ∙ read_complete t.lexed (length bytes) (omega arith)) in
+    let tokens : s.tokens ≡ t.tokens = ok_tokens s.tokens t.tokens (sym (read_complete design_texts scanner finds s.lexed (length bytes) (omega arith)) ∙ read_complete design_texts scanner finds t.lexed (length bytes) (omega arith)) in
     (ok_text x y (sym (text_gives s.tokens x s.parsed) ∙ ap text_at tokens ∙ text_gives t.tokens y t.parsed), sym s.begins ∙ ap first_line tokens ∙ t.begins)
   where
     ok_tokens : (a b : List Token) → ◌≡◌ {A = Lexed} (Ok a) (Ok b) → a ≡ b

@@ -11,7 +11,7 @@ use Rattle.std.proofs.lemmas.Map.Views.{Contains-from_any}
 use Rattle.av_net.specs.Lexemes.{reserved_words, symbols, begins_name, IsIdentifier}
 use Rattle.av_vread.specs.inner.Scan.{is_single, is_pair}
 use Rattle.av_base.proofs.Tables.{is_there, words_are, IsShort, short_is, single_there}
-use Rattle.av_base.proofs.Truths.{both, not_true}
+use Rattle.av_base.proofs.Truths.{both}
 
 pub and_false : (a b : Bool) → b ≡ false → (a && b) ≡ false
 and_false true b e = e

@@ -87,7 +87,12 @@ fn wrong_operation<'a>(all: &NameSet, operation: &'a Operation) -> Option<&'a Na
     }
 }
 
-fn wrong_item<'a>(wires: &NameSet, registers: &NameSet, all: &NameSet, item: &'a Item) -> Option<&'a Name>
+fn wrong_item<'a>(
+    wires: &NameSet,
+    registers: &NameSet,
+    all: &NameSet,
+    item: &'a Item,
+) -> Option<&'a Name>
     ensures { option_map (λ name. name.now) result ≡ wrong_in (is_in wires.now) (is_in registers.now) (is_in all.now) (said_item item.now) }
 {
     match item {
@@ -164,7 +169,9 @@ fn is_early(wires: &NameSet, earlier: &NameSet, operand: &Operand) -> bool
     ensures { result ≡ is_early (is_in wires.now) (is_in earlier.now) operand.now }
 {
     match operand {
-        Operand::Name(name) => { wires.contains(name.as_str().as_bytes()) && !earlier.contains(name.as_str().as_bytes()) }
+        Operand::Name(name) => {
+            wires.contains(name.as_str().as_bytes()) && !earlier.contains(name.as_str().as_bytes())
+        }
         Operand::Literal { .. } => false,
     }
 }

@@ -3,7 +3,6 @@ use Rattle.av_net.specs.declared.netlist.Port.{Port}
 use Rattle.av_net.specs.declared.design.Entry.{Entry}
 use Rattle.av_net.specs.Names.{names_of, AreDistinct}
 use Rattle.av_net.specs.Presented.{HasFittingWord}
-use Rattle.av_data.specs.declared.stimulus.Given.{Given}
 use Rattle.av_cli.specs.inner.Feeding.{IsOfLine, AreOfLines}
 use Rattle.av_cli.proofs.Presenting.{inputs_apart}
 use Rattle.av_cli.proofs.Fed.{at_index, some_there, given_more}

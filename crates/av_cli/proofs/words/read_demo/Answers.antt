@@ -1,4 +1,4 @@
-use Rattle.std.proofs.Common.{ℕ, ◌≡◌, ◌<◌, ◌⊎◌, inl, inr, ap, sym, subst, refl, arith}
+use Rattle.std.proofs.Common.{ℕ, inl, inr, subst, refl, arith}
 use Rattle.av_cli.specs.inner.DemoWords.{IsDemoAt}
 use Rattle.av_cli.proofs.DemoPlaces.{demo_there, placed}
 use Rattle.av_cli.proofs.words.read_demo.Goals as goal

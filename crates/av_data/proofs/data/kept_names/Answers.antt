@@ -1,8 +1,8 @@
-use Rattle.std.proofs.Common.{◌++◌, ◌∷◌, [], List, map, sym, ap, subst, ◌∙◌}
+use Rattle.std.proofs.Common.{◌++◌, ◌∷◌, [], List, map, sym, ap, ◌∙◌}
 use Rattle.av_flat.specs.declared.flat.Var.{Var}
-use Rattle.av_flat.specs.Trees.{Variable, view_system, view_variable}
+use Rattle.av_flat.specs.Trees.{Variable, view_variable}
 use Rattle.av_data.proofs.Named.{one_named}
-use Rattle.av_data.proofs.VariableNames.{var_names, names_are, distinct, var_name, all_taken}
+use Rattle.av_data.proofs.VariableNames.{var_names, var_name, all_taken}
 use Rattle.av_data.proofs.data.kept_names.Goals as goal
 
 pub loop-var-preserved : goal.loop-var-preserved

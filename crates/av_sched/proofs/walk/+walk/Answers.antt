@@ -1,11 +1,9 @@
 use Rattle.std.proofs.Common.{rules, ◌≡◌, ◌<◌, ◌≤◌, ◌∙◌, sym, ap, subst, length, suc, add-one, take, ◌++◌, ◌∷◌, [], arith, All, get_or}
-use Rattle.std.specs.Prelude.{List, slice_set, slice_index_or, Option, ℕ}
+use Rattle.std.specs.Prelude.{List, slice_set, slice_index_or, ℕ}
 use Rattle.av_flat.specs.Trees.{view_system}
 use Rattle.av_tree.specs.Points.{Point}
-use Rattle.av_sched.specs.declared.place.Place.{Place}
-use Rattle.av_sched.specs.inner.Walk.{known, HasWalked, IsPlace, IsBarred, IsLike}
-use Rattle.av_sched.specs.inner.Prices.{IsRated}
-use Rattle.av_sched.proofs.Steps.{IsWalking, node_at_level, walking_more, walking_barred, walking_done, next_like, same_next, node_within, before_apart, set_valid, parts_at, part_is_valid, take_more}
+use Rattle.av_sched.specs.inner.Walk.{known, HasWalked, IsPlace}
+use Rattle.av_sched.proofs.Steps.{IsWalking, node_at_level, walking_more, walking_done, next_like, same_next, node_within, before_apart, set_valid, parts_at, part_is_valid, take_more}
 use Rattle.av_sched.specs.declared.price.Price.{Price}
 use Rattle.av_sched.proofs.Walking.{nothing_there}
 use Rattle.av_sched.proofs.Pricing.{price_there, spent_next}

@@ -1,4 +1,3 @@
-use Rattle.std.proofs.Common.{◌∙◌}
 use Rattle.av_vread.proofs.Table.{bits_some, bits_none}
 use Rattle.av_vread.proofs.widths.Widths.bits.Goals as goal
 
