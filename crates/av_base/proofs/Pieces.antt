@@ -8,9 +8,9 @@ use Rattle.std.proofs.lemmas.List.Sums.{prefix_len-le-length}
 use Rattle.av_base.specs.declared.piece.Piece.{Piece}
 use Rattle.av_base.specs.declared.piece.Piece.TheVariants as piece
 use Rattle.av_base.specs.Lexicon.{Lexicon, IsLongest, BeginsNone, is_blank, IsCommented, IsLineEnd, IsComment}
-use Rattle.av_base.specs.Pieces.{begins_comment, piece_by, FitsIn}
+use Rattle.av_base.specs.Reading.{piece_by, FitsIn, Scanner}
+use Rattle.av_base.specs.Spelling.{begins_comment}
 use Rattle.av_base.specs.Spelling.{is_not_feed}
-use Rattle.av_base.specs.Reading.{Scanner}
 use Rattle.av_base.proofs.Runs.{feeds, stops_at, run_exact, chosen, run_all, at_index}
 use Rattle.av_base.proofs.Longest.{Finds, Found, IsNoGap, token_found, token_none, token_is, none_is}
 use Rattle.av_base.proofs.Truths.{both}

@@ -6,7 +6,7 @@ use Rattle.av_base.specs.declared.place.Place.{Place}
 use Rattle.av_base.specs.declared.piece.Piece.{Piece}
 use Rattle.av_base.specs.declared.piece.Piece.TheVariants as piece
 use Rattle.av_base.specs.Lexicon.{Token, Lexicon, next_place, moved, IsLongest, BeginsNone, is_blank, IsCommented, IsComment, IsText, end, blank, comment, token, IsFault, bad_byte, number, past_blank, past_comment, past_token}
-use Rattle.av_base.specs.Pieces.{piece_by}
+use Rattle.av_base.specs.Reading.{piece_by, Scanner, Reading, with_token, read_by, read_of}
 use Rattle.av_base.specs.Reading.{Scanner, Reading, with_token, read_by, read_of}
 use Rattle.av_base.proofs.Runs.{chosen}
 use Rattle.av_base.proofs.Longest.{Finds}

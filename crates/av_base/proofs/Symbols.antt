@@ -3,7 +3,7 @@ use Rattle.std.proofs.Common.{◌≡◌, ℕ, Bool, true, false, cond, List, [],
 use Rattle.av_base.specs.declared.piece.Piece.{Piece}
 use Rattle.av_base.specs.declared.piece.Piece.TheVariants as piece
 use Rattle.av_base.specs.Lexicon.{Lexicon}
-use Rattle.av_base.specs.Pieces.{begins_pair, symbol_by}
+use Rattle.av_base.specs.Reading.{begins_pair, symbol_by}
 use Rattle.av_base.proofs.Longest.{Covers, Fits, fits_as}
 use Rattle.av_base.proofs.Runs.{chosen}
 use Rattle.av_base.proofs.Tables.{IsShort, one, two}

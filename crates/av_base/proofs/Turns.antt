@@ -5,7 +5,7 @@ use Rattle.av_base.specs.declared.place.Place.{Place}
 use Rattle.av_base.specs.declared.piece.Piece.{Piece}
 use Rattle.av_base.specs.declared.piece.Piece.TheVariants as piece
 use Rattle.av_base.specs.Lexicon.{Token, Lexicon, start, moved}
-use Rattle.av_base.specs.Pieces.{piece_by, FitsIn}
+use Rattle.av_base.specs.Reading.{piece_by, FitsIn, Scanner, Reading, with_token, read_by, read_of}
 use Rattle.av_base.specs.Reading.{Scanner, Reading, with_token, read_by, read_of}
 use Rattle.av_base.proofs.Passing.{line_after, column_after}
 

@@ -1,6 +1,5 @@
 pub mod Lexicon
 pub mod Outside
-pub mod Pieces
 pub mod Reading
 pub mod Spelling
 pub mod Streams

@@ -17,3 +17,8 @@ is_reserved text = list_any (bytes_eq text) reserved_words
 abbrev pub is_name : List ℕ → Bool
 is_name [] = false
 is_name (b ∷ text) = is_ascii_alphabetic b && (list_all is_word_byte text && not (is_reserved (b ∷ text)))
+
+-- the text begins with this byte twice
+abbrev pub begins_comment : ℕ → List ℕ → Bool
+begins_comment mark (b ∷ c ∷ bytes) = nat_eq b mark && nat_eq c mark
+begins_comment mark _ = false

@@ -10,7 +10,7 @@ pub const MOST_LEVEL: u32 = 256;
 /// The most bits of a word.
 pub const MOST_BITS: u32 = 64;
 
-/// The greatest box, for which a program is looked at with all sizes up to it.
+/// The greatest box: how far the entries of a schedule's linear parts may go from 0.
 pub const MOST_BOX: u32 = 4;
 
 /// The greatest absolute value of a size.

@@ -1,7 +1,7 @@
 //! What stands at the front of a text.
 
 ghost use Rattle.std.specs.Prelude.{◌≡◌};
-ghost use Rattle.av_base.specs.Pieces.{begins_comment};
+ghost use Rattle.av_base.specs.Spelling.{begins_comment};
 
 /// What stands at the front of a text.
 #[derive(Clone, Copy, Debug)]

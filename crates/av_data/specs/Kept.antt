@@ -1,12 +1,7 @@
 -- What tables keep.
-use Rattle.std.specs.Prelude.{ℕ, Bool, ◌&&◌, ◌||◌, if◌then◌else◌, nat_eq, nat_lt, List, [], ◌∷◌, map}
+use Rattle.std.specs.Prelude.{ℕ, Bool, ◌&&◌, ◌||◌, if◌then◌else◌, nat_eq, nat_lt, List, [], ◌∷◌}
 use Rattle.std.specs.List.{list_any}
 use Rattle.av_data.specs.declared.stimulus.Given.{Given}
-use denote.Ref.{Bor}
-
--- the bytes of borrowed names
-abbrev pub shown : List (Bor (List ℕ)) → List (List ℕ)
-shown names = map (λ name. name.now) names
 
 -- an entry of a table as a value in a cycle
 abbrev pub entry_given : (ℕ × ℕ) × ℕ → Given

@@ -1,6 +1,7 @@
 -- The lines of data, and the parts of a line.
 use Rattle.std.specs.Prelude.{ℕ, Bool, false, not, ◌&&◌, ◌||◌, if◌then◌else◌, nat_eq, List, [], ◌∷◌}
 use Rattle.av_net.specs.Listed.{longer, begins_feed}
+use Rattle.av_base.specs.Spelling.{begins_comment}
 
 -- the lines: a line feed ends one, with a carriage return directly before it or without, and bytes after the
 -- last line feed are one too
@@ -10,15 +11,10 @@ data_lines (b ∷ bytes) =
     if nat_eq b 10 then [] ∷ data_lines bytes
     else (if nat_eq b 13 && begins_feed bytes then data_lines bytes else longer b (data_lines bytes))
 
--- a comment begins here
-abbrev pub is_commented : List ℕ → Bool
-is_commented (b ∷ c ∷ bytes) = nat_eq b 45 && nat_eq c 45
-is_commented _ = false
-
--- what stands on a line before its comment
+-- what stands on a line before its comment, which begins with --
 abbrev pub uncommented : List ℕ → List ℕ
 uncommented [] = []
-uncommented (b ∷ bytes) = if is_commented (b ∷ bytes) then [] else b ∷ uncommented bytes
+uncommented (b ∷ bytes) = if begins_comment 45 (b ∷ bytes) then [] else b ∷ uncommented bytes
 
 -- a blank or a tab
 abbrev pub is_gap : ℕ → Bool

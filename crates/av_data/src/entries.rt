@@ -9,6 +9,7 @@ ghost use Rattle.av_data.specs.inner.Sayings.{Keeps, signed_value};
 use crate::whole::Whole;
 use arrayvec::ArrayVec;
 use av_base::Point;
+use av_base::limits::MOST_INDICES;
 use av_poly::Poly;
 
 /// The entries of a point. Where there are more than four or one is above 4,095 in absolute value, the point is far:
@@ -35,7 +36,7 @@ impl Entries {
         ensures { (z : Items ℤ) → Keeps self.old.kept.items self.old.far z → Keeps self.new.kept.items self.new.far (z ++ signed_value entry.now.negative entry.now.digits.now ∷ []) }
     {
         match entry.coordinate() {
-            Some(number) if self.kept.len() < 4 => self.kept.push(number),
+            Some(number) if self.kept.len() < MOST_INDICES => self.kept.push(number),
             Some(_) => self.far = true,
             None => self.far = true,
         }

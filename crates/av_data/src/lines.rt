@@ -3,8 +3,10 @@
 ghost use Rattle.std.specs.Prelude.{◌≡◌, ◌≤◌, length, drop};
 ghost use Rattle.std.specs.List.{prefix_len};
 ghost use Rattle.av_net.specs.Listed.{begins_feed};
-ghost use Rattle.av_data.specs.Lines.{is_commented, uncommented, is_gap};
+ghost use Rattle.av_data.specs.Lines.{uncommented, is_gap};
 ghost use Rattle.av_data.specs.Reading.{is_part_byte, begins_return, first_line, line_size, first_part, after_part, is_empty};
+
+use av_base::begins_comment;
 
 /// The bytes from an index on.
 pub(crate) fn from(text: &[u8], at: usize) -> &[u8]
@@ -49,21 +51,12 @@ pub(crate) fn first_line(bytes: &[u8]) -> (&[u8], usize)
     (bytes, bytes.len())
 }
 
-fn is_commented(text: &[u8]) -> bool
-    ensures { result ≡ is_commented text.now }
-{
-    match text {
-        [first, second, ..] => *first == b'-' && *second == b'-',
-        _ => false,
-    }
-}
-
 /// What stands on a line before its comment.
 pub(crate) fn uncommented(line: &[u8]) -> &[u8]
     ensures { result.now ≡ uncommented line.now }
 {
     for i in 0..line.len() {
-        if is_commented(from(line, i)) {
+        if begins_comment(from(line, i), b'-') {
             return &line[..i];
         }
     }

@@ -2,6 +2,7 @@ ghost use Rattle.std.specs.Prelude.{◌≡◌, ◌≤◌, ◌<◌, ◌⊎◌, If
 
 use crate::flat::Flat;
 use crate::pass::Meant;
+use av_base::limits::MOST_BOX;
 use av_base::{List, Point};
 
 /// When the points of a node are computed: at its linear part times the point, and the offset.
@@ -53,7 +54,7 @@ impl Reach {
         ensures some { IfSome result (λ reach. reach.size ≡ size) }
         ensures none { IfNone result ((size ≡ 0) ⊎ (4 < size)) }
     {
-        if size == 0 || size > 4 {
+        if size == 0 || size > MOST_BOX {
             None
         } else {
             Some(Reach { size })

@@ -1,7 +1,7 @@
 //! What stands at the front of a text.
 
 ghost use Rattle.std.specs.Prelude.{◌≡◌, ◌<◌, ◌-◌, length, drop, slice_index};
-ghost use Rattle.av_base.specs.Pieces.{FitsIn};
+ghost use Rattle.av_base.specs.Reading.{FitsIn};
 ghost use Rattle.av_lex.specs.inner.Scan.{is_single, is_pair, begins_pair, symbol_of, word_kind, token_of, piece_of};
 
 use av_base::{
@@ -89,7 +89,7 @@ fn token_of(first: u8, text: &[u8]) -> Piece<TokenKind>
     }
 }
 
-#[tactic(auto, unfolding(av_base::specs::Pieces::piece_by))]
+#[tactic(auto, unfolding(av_base::specs::Reading::piece_by))]
 fn piece_of(first: u8, text: &[u8]) -> Piece<TokenKind>
     ensures { result ≡ piece_of first text.now }
 {

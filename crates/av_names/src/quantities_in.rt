@@ -16,7 +16,7 @@ ghost use Rattle.av_names.specs.inner.Sums.{counted};
 use crate::index::{by_name, context};
 use crate::measure::{Counted, number_of, sooner};
 use crate::part::{Context, Part, gather};
-use av_base::limits::{MOST_INDICES, MOST_NODES};
+use av_base::limits::{MOST_INDICES, MOST_NODES, MOST_VARIABLES};
 use av_base::{Memory, Place};
 use av_table::NameMap;
 use av_tree::{Access, Declaration, Equation, Expr, MapText, System};
@@ -27,7 +27,7 @@ pub(crate) fn too_many_variables(variables: &[&Declaration]) -> Option<u128>
     ensures { result ≡ rules.above 32 (length variables.now) }
 {
     let count = variables.len();
-    if count > 32 {
+    if count > MOST_VARIABLES {
         Some(count as u128)
     } else {
         None

@@ -8,7 +8,7 @@ use crate::lexer::ascii;
 use crate::line::cut;
 use crate::literal::are_digits;
 use arrayvec::ArrayVec;
-use av_base::limits::MOST_COORDINATE;
+use av_base::limits::{MOST_COORDINATE, MOST_INDICES};
 use av_base::{Memory, Name, Point, are_word_bytes, decimal_value, is_name};
 use av_net::Entry;
 use av_table::NameSet;
@@ -16,6 +16,8 @@ use std::alloc::Global;
 
 // The greatest number of an index and of a cycle.
 const MOST_NUMERAL: u64 = MOST_COORDINATE as u64;
+
+const MOST_ENTRIES: u32 = MOST_INDICES as u32;
 
 // ---- numbers
 
@@ -81,7 +83,7 @@ fn inside_of(text: &[u8]) -> Option<Point>
 {
     let mut entries = ArrayVec::new();
     if !text.is_empty() {
-        push_indices(&mut entries, text, 4)?;
+        push_indices(&mut entries, text, MOST_ENTRIES)?;
     }
     Some(Point::from_slice(entries.as_slice()))
 }

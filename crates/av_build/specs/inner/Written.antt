@@ -63,10 +63,6 @@ lane_of lane = record { home = lane.home; rank = lane.rank; shifts = map shift_o
 abbrev pub program_of : ProgramMade → Program
 program_of program = record { inputs = program.inputs; lanes = map lane_of program.lanes; outputs = program.outputs; stride = program.stride }
 
--- a piece with one place, whose source is always the same
-abbrev pub one_place : SourceMade → TreeMade → WorkMade
-one_place source tree = record { sites = record { links = []; otherwise = source } ∷ []; tree = tree }
-
 -- ---- what the writer of a module asks of them
 
 -- among as many lanes there is the one that the source names

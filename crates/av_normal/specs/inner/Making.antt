@@ -28,10 +28,6 @@ abbrev pub bodies_measured : List Part → List Measured
 bodies_measured [] = []
 bodies_measured (p ∷ ps) = map of_set (body_sets (filled p.rows p.tree)) ++ bodies_measured ps
 
-abbrev pub all_measured : List Signature → List Variable → List Measured
-all_measured vs [] = []
-all_measured vs (v ∷ variables) = measured vs v ++ all_measured vs variables
-
 -- what is still to be tried stands for all
 pub record StandsFor (rest all : List Measured) : Type 0 where
   pub narrow : AreNarrow rest → AreNarrow all

@@ -10,7 +10,7 @@ use Rattle.av_net.specs.Lexemes.{begins_name}
 use Rattle.av_net.specs.Spelling.{is_reserved}
 use Rattle.av_base.specs.declared.piece.Piece.{Piece}
 use Rattle.av_base.specs.declared.piece.Piece.TheVariants as piece
-use Rattle.av_base.specs.Pieces.{piece_by, symbol_by, begins_pair as begins_pair_by}
+use Rattle.av_base.specs.Reading.{piece_by, symbol_by, begins_pair as begins_pair_by}
 
 -- a symbol of one byte
 abbrev pub is_single : ℕ → Bool

@@ -1,6 +1,6 @@
 use Rattle.std.proofs.Common.{subst, sym, ap, ◌∙◌, length, get_or, ◌-◌}
 use Rattle.std.proofs.lemmas.List.{take_rest}
-use Rattle.av_base.specs.Pieces.{FitsIn}
+use Rattle.av_base.specs.Reading.{FitsIn}
 use Rattle.av_base.specs.Tokens.{program_texts}
 use Rattle.av_lex.specs.inner.Reading.{scanner}
 use Rattle.av_lex.specs.inner.Scan.{piece_of}

@@ -1,6 +1,6 @@
 use Rattle.std.proofs.Common.{subst, sym, ap, ◌∙◌, length, get_or, ◌-◌}
 use Rattle.std.proofs.lemmas.List.{take_rest}
-use Rattle.av_base.specs.Pieces.{FitsIn}
+use Rattle.av_base.specs.Reading.{FitsIn}
 use Rattle.av_net.specs.Lexemes.{design_texts}
 use Rattle.av_vread.specs.inner.Lexing.{scanner}
 use Rattle.av_vread.specs.inner.Scan.{piece_of}
