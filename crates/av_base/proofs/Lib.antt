@@ -14,3 +14,5 @@ pub mod Pieces
 pub mod Turns
 pub mod Readings
 pub mod Symbols
+pub mod Widths
+pub mod Digits

@@ -1,9 +1,11 @@
 -- Lists: their elements by place, what holds of each element, and how they are gone through.
-use Rattle.std.proofs.Common.{◌≡◌, ℕ, zero, suc, ◌+◌, ◌<◌, ◌≤◌, Bool, true, false, if◌then◌else◌, ◌⊎◌, inl, inr, Option, Some, None, List, [], ◌∷◌, ◌++◌, map, length, take, drop, get_or, add-one, refl, sym, ap, subst, ◌∙◌, arith, All}
+use Rattle.std.proofs.Common.{◌≡◌, ℕ, zero, suc, ◌+◌, ◌<◌, ◌≤◌, Bool, true, false, if◌then◌else◌, ◌⊎◌, inl, inr, Option, Some, None, List, [], ◌∷◌, ◌++◌, map, length, take, drop, get_or, add-one, refl, sym, ap, subst, ◌∙◌, arith, All, take-suc}
 use Rattle.std.specs.Prelude.{slice_get, Contains, AllPairs, filter}
 use Rattle.std.specs.List.{AllByRecursion}
 use Rattle.std.proofs.Math.Seq.{drop-cons}
-use Rattle.std.proofs.lemmas.Option.{slice_get_within, get_or_from_slice_get}
+use Rattle.std.proofs.lemmas.List.Elements.{All-nil, All-cons, All-head, All-tail, All-map}
+use Rattle.std.proofs.lemmas.List.Kept.{AllPairs-cons}
+use Rattle.std.proofs.lemmas.Option.{slice_get_within, get_or_from_slice_get, slice_get_read}
 
 pub some_is : {X : Type 0} (x y : X) → Some x ≡ Some y → x ≡ y
 some_is {X} x y e = ap (unwrap x) e
@@ -24,6 +26,9 @@ pub there_is : {X : Type 0} (xs : List X) (k : ℕ) → k < length xs → (x : X
 there_is [] k lt = absurd (omega (arith, lt))
 there_is (x ∷ xs) zero lt = (x, refl)
 there_is (x ∷ xs) (suc k) lt = there_is xs k (omega (arith, lt))
+
+pub place_in : {X : Type 0} (xs : List X) (x : X) → Contains xs x → (k : ℕ) × (slice_get xs k ≡ Some x)
+place_in xs x c = (c.0, slice_get_read xs (length xs) c.0 x refl c.1 (sym c.2))
 
 pub same_default : {X : Type 0} (xs : List X) (k : ℕ) (d e : X) → k < length xs → get_or xs k d ≡ get_or xs k e
 same_default [] k d e h = absurd (omega (arith, h))
@@ -57,6 +62,10 @@ get_cases (y ∷ xs) ys (suc i) x e = elim (get_cases xs ys i x e) [
 
 pub all_at : {X : Type 0} (P : X → Type 0) (xs : List X) (k : ℕ) (x : X) → All P xs → slice_get xs k ≡ Some x → P x
 all_at P xs k x h e = subst P (get_or_from_slice_get xs k x x e) (h k x (slice_get_within xs k x e))
+
+pub all_parts : {X : Type 0} (P : X → Type 0) (xs ys : List X) → All P (xs ++ ys) → All P xs × All P ys
+all_parts P [] ys h = (All-nil P, h)
+all_parts P (x ∷ xs) ys h = let r = all_parts P xs ys (All-tail P x (xs ++ ys) h) in (All-cons P x xs (All-head P x (xs ++ ys) h) r.0, r.1)
 
 pub each_at : {X : Type 0} (P : X → Type 0) (xs : List X) (i : ℕ) (x : X) → AllByRecursion P xs → slice_get xs i ≡ Some x → P x
 each_at P [] i x h e = absurd cc
@@ -97,6 +106,11 @@ pairs_first R x y xs h (k, l, e) = subst (R x) e (h 0 (suc k) y (omega arith) (o
 pub pairs_rest : {X : Type 0} (R : X → X → Type 0) (x : X) (xs : List X) → AllPairs R (x ∷ xs) → AllPairs R xs
 pairs_rest R x xs h = λ i j d l m. h (suc i) (suc j) d (omega (arith, l)) (omega (arith, m))
 
+pub pairs_map : {X Y : Type 0} (R : Y → Y → Type 0) (f : X → Y) (xs : List X) → AllPairs (λ a b. R (f a) (f b)) xs → AllPairs R (map f xs)
+pairs_map R f [] h = λ i j d l m. absurd (omega (arith, m))
+pairs_map R f (x ∷ xs) h =
+    AllPairs-cons R (f x) (map f xs) (All-map (R (f x)) f xs (λ k d l. h 0 (suc k) d (omega arith) (omega (arith, l)))) (pairs_map R f xs (pairs_rest (λ a b. R (f a) (f b)) x xs h))
+
 -- ---- lists that are gone through
 
 pub next_item : {X : Type 0} (xs : List X) (i : ℕ) (x : X) → i < length xs → x ≡ get_or xs i x → drop i xs ≡ x ∷ drop (i + 1) xs
@@ -113,3 +127,8 @@ take_whole [] zero l = refl
 take_whole [] (suc i) l = refl
 take_whole (x ∷ xs) zero l = absurd (omega (arith, l))
 take_whole (x ∷ xs) (suc i) l = ap (λ ys. x ∷ ys) (take_whole xs i (omega (arith, l)))
+
+pub next_taken : {X : Type 0} (xs : List X) (i : ℕ) (x : X) → i < length xs → x ≡ get_or xs i x → take (i + 1) xs ≡ take i xs ++ x ∷ []
+next_taken {X = X} xs i x l e =
+    let one : i + 1 ≡ suc i = omega arith in
+    rw one (take-suc xs i x l ∙ ap (λ (z : X). take i xs ++ z ∷ []) (sym e))

@@ -1,8 +1,8 @@
 -- The test of a name tells that the text is spelled as one.
-use Rattle.std.proofs.Common.{◌≡◌, ℕ, true, not, List, [], ◌∷◌, refl, sym, ap, ◌∙◌, true≢false}
-use Rattle.std.specs.Prelude.{IsTrue}
+use Rattle.std.proofs.Common.{◌≡◌, ℕ, Bool, true, false, not, ◌||◌, List, [], ◌∷◌, refl, sym, ap, ◌∙◌, true≢false}
+use Rattle.std.specs.Prelude.{IsTrue, nat_eq}
 use Rattle.std.specs.List.{list_all, AllByRecursion}
-use Rattle.std.specs.Char.{is_ascii_alphabetic}
+use Rattle.std.specs.Char.{is_ascii_alphabetic, is_ascii_digit}
 use Rattle.std.proofs.lemmas.List.Elements.{All-from_recursion, recursion_from_All}
 use Rattle.av_base.specs.declared.token_kind.TokenKind.TheVariants as kind
 use Rattle.av_base.specs.Tokens.{reserved_words, is_word_byte, IsSpelled}
@@ -29,3 +29,11 @@ pub name_gives : (text : List ℕ) → IsSpelled kind.Name text → is_name text
 name_gives [] s = absurd s.0
 name_gives (b ∷ text) s =
     and_true (is_ascii_alphabetic b) _ s.0.0 (and_true (list_all is_word_byte text) _ (word_all text (recursion_from_All (λ x. IsTrue (is_word_byte x)) text s.0.1)) (ap not (not_there (b ∷ text) reserved_words s.1)))
+
+-- a digit may stand in a name
+pub digit_word : (b : ℕ) → is_ascii_digit b ≡ true → is_word_byte b ≡ true
+digit_word b h = by (is_ascii_alphabetic b)
+  where
+    by : (t : Bool) → ((t || is_ascii_digit b) || nat_eq b 95) ≡ true
+    by true = refl
+    by false = rw h refl

@@ -5,13 +5,13 @@ use Rattle.std.proofs.lemmas.Bool.{cases_lt}
 use Rattle.std.proofs.lemmas.List.{length-map, take_all}
 use Rattle.av_space.specs.declared.array.Array.{Array as ArrayMade}
 use Rattle.av_space.proofs.ByPlace.{pair_at, from_map}
-use Rattle.av_space.proofs.Elements.{at_index, got, in_range}
+use Rattle.av_space.proofs.Elements.{at_index, in_range}
 use Rattle.av_build.proofs.Appended.{get_right}
 use Rattle.av_build.specs.declared.blueprint.CellPlan.{CellPlan}
 use Rattle.av_build.specs.declared.blueprint.HelperPlan.{HelperPlan}
 use Rattle.av_build.specs.declared.blueprint.LanePlan.{LanePlan}
 use Rattle.av_build.specs.inner.Blueprints.{number_in, ArePieces, IsHelperOn, IsBeforeAt, AreHelpers, AreLanes}
-use Rattle.av_base.proofs.Lists.{get_cases, get_first, get_mapped, some_is}
+use Rattle.av_base.proofs.Lists.{get_cases, get_first, get_mapped, some_is, place_in}
 
 -- ---- the lanes of a cell
 
@@ -146,7 +146,7 @@ module _ (w : ArrayMade) (cells : List CellPlan) (lanes : List LanePlan) (are : 
       helper_lane : (h : HelperPlan) → IsHelperOn w plan.pieces p h → (q : ℕ) × (slice_get (lanes ++ mine) q ≡ Some (of_helper p h))
       helper_lane h on =
           let low = in_range plan.pieces.sites h.piece on.on.own on.on.is_own in
-          let i = got helpers h (own.all h on (inl low)) in
+          let i = place_in helpers h (own.all h on (inl low)) in
           let there = get_first (map (of_helper p) helpers) (record { cell = p; helper = None } ∷ []) i.0 (of_helper p h) (get_mapped (of_helper p) helpers i.0 h i.1) in
           (length lanes + i.0, get_right lanes mine i.0 (of_helper p h) there)
 

@@ -12,13 +12,13 @@ use Rattle.av_space.specs.Layouts.{AreSlots}
 use Rattle.av_space.specs.Spots.{system_of, helpers_of, placings_of, cells_of, ComputesIn, IsArray, AreSpots}
 use Rattle.av_space.specs.Occupancy.{IsUsed}
 use Rattle.av_space.proofs.ByPlace.{from_map}
-use Rattle.av_space.proofs.Elements.{at_index, got, in_range}
+use Rattle.av_space.proofs.Elements.{at_index, in_range}
 use Rattle.av_space.proofs.Nodes.{passing}
 use Rattle.av_space.proofs.Scheduling.{scheduled}
 use Rattle.av_space.proofs.Timely.{some_piece_of}
 use Rattle.av_build.proofs.Serving.{computed_node}
 use Rattle.av_base.proofs.Among.{among_at}
-use Rattle.av_base.proofs.Lists.{there_is}
+use Rattle.av_base.proofs.Lists.{there_is, place_in}
 
 -- a computation on the cell p
 pub record IsBusy (w : ArrayMade) (p : ℕ) : Type 0 where
@@ -46,7 +46,7 @@ busy w is p low =
     }
 
 some_element : {X : Type 0} (xs : List X) (x : X) → Contains xs x → 0 < length xs
-some_element xs x at = let i = got xs x at in let l = in_range xs i.0 x i.1 in omega (arith, l)
+some_element xs x at = let i = place_in xs x at in let l = in_range xs i.0 x i.1 in omega (arith, l)
 
 pub some_slot : (w : ArrayMade) → IsArray w → (p : ℕ) → p < length (cells_of w) → (slots : List Slot) → AreSlots (system_of w) (placings_of w) (cells_of w) p slots → 0 < length slots
 some_slot w is p low slots are =
@@ -63,7 +63,7 @@ some_spot w is p low spots are =
     let g = scheduled w.timed.now (placings_of w) (cells_of w) is.whole.legal is.layout.are_placings is.layout.are_cells in
     let piece = some_piece_of s (helpers_of w) (placings_of w) (cells_of w) g v b.point (among_at s.variables r.place v r.is) (computed_node v r.passes) computation.declared in
     let among = are.all b.cycle b.cell.node b.point v piece.0 piece.1 b.computes computation.is piece.2 piece.3 in
-    let i = got (map (λ (at : SpotMade). at.number) spots) piece.0 among in
+    let i = place_in (map (λ (at : SpotMade). at.number) spots) piece.0 among in
     let at = from_map (λ (at : SpotMade). at.number) spots i.0 piece.0 i.1 in
     let l = in_range spots i.0 at.0 at.1 in
     omega (arith, l)

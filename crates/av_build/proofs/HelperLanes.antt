@@ -18,7 +18,7 @@ use Rattle.av_space.specs.Sites.{place_of}
 use Rattle.av_space.specs.Spots.{system_of, helpers_of, ComputesIn, IsArray, IsSpot, IsSiteOf, handing_by}
 use Rattle.av_space.specs.Taps.{Handing, helper_at, node_place, Place, places_in}
 use Rattle.av_space.proofs.ByPlace.{from_map}
-use Rattle.av_space.proofs.Elements.{at_index, in_range, got}
+use Rattle.av_space.proofs.Elements.{at_index, in_range}
 use Rattle.av_space.proofs.Helpers.{found_helper}
 use Rattle.av_space.proofs.Nodes.{own_place}
 use Rattle.av_space.proofs.NodePlaces.{node_at}
@@ -33,7 +33,7 @@ use Rattle.av_build.specs.inner.Moments.{IsHandBy}
 use Rattle.av_build.proofs.Appended.{get_right}
 use Rattle.av_build.proofs.HelperPlans.{by_tree}
 use Rattle.av_build.proofs.SpotNodes.{node_of}
-use Rattle.av_base.proofs.Lists.{get_cases, get_first, some_is, there_is}
+use Rattle.av_base.proofs.Lists.{get_cases, get_first, some_is, there_is, place_in}
 
 -- ---- the place of a reference
 
@@ -191,7 +191,7 @@ module _ (w : ArrayMade) (is : IsArray w) (p : ℕ) (pieces : Pieces) (are : Are
       → (plan : HelperPlan) × (plan.number ≡ j) × IsHelperOn w pieces p plan
   helper_there j h v piece r it c z computes inside late =
       let node : slice_get (nodes s) (number_at s h.var) ≡ Some v = node_at s.variables h.var v it.is_variable it.is_node in
-      let k = got (map (λ (at : SpotMade). at.number) pieces.spots) h.piece (are.spots.all c (number_at s h.var) z v h.piece piece computes node it.is_piece inside) in
+      let k = place_in (map (λ (at : SpotMade). at.number) pieces.spots) h.piece (are.spots.all c (number_at s h.var) z v h.piece piece computes node it.is_piece inside) in
       let at = from_map (λ (at : SpotMade). at.number) pieces.spots k.0 h.piece k.1 in
       let spot = spot_at k.0 at.0 at.1 in
       let low = in_range pieces.spots k.0 at.0 at.1 in

@@ -9,12 +9,11 @@ use Rattle.av_space.specs.Taps.{Way, handed, node_of, helper_of, helper_read}
 use Rattle.av_space.specs.Occupancy.{Computes}
 use Rattle.av_space.specs.Links.{reads_line, is_same, line_length}
 use Rattle.av_build.specs.inner.Programmed.{Array, Spot, IsLinked, later}
-use Rattle.av_space.proofs.Elements.{got}
 use Rattle.av_build.proofs.LanePlans.{same_itself}
 use Rattle.av_base.proofs.Truths.{and_true}
 use Rattle.av_build.proofs.HelperSteps.{at_most}
 use Rattle.av_base.proofs.Among.{among_map}
-use Rattle.av_base.proofs.Lists.{some_is}
+use Rattle.av_base.proofs.Lists.{some_is, place_in}
 
 most_from : (a : ℕ) (xs : List ℕ) → a ≤ fold max a xs
 most_from a [] = omega arith
@@ -54,7 +53,7 @@ long_enough a at c z computes is_variable site tree way producer delay l =
     let test : LinkMade → Bool = reads_line a.system a.helpers a.cells producer (helper_of way) in
     let passes : test l.link ≡ true = and_true (nat_eq l.link.producer producer) (is_same (helper_read a.system a.helpers a.cells l.link.consumer l.link.site) (helper_of way))
     (is_equal l.link.producer producer (sym l.producer_is)) (rw (line_read a at c z computes is_variable site tree way producer delay l) (same_itself (helper_of way))) in
-    let at' = got a.links l.link l.is_link in
+    let at' = place_in a.links l.link l.is_link in
     let among = among_map (λ (l : LinkMade). l.delay) (filter test a.links) l.link (kept test a.links at'.0 l.link at'.1 passes) in
     omega (arith, l.delay_is, most 0 (map (λ (l : LinkMade). l.delay) (filter test a.links)) l.link.delay among)
 

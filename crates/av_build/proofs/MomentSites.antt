@@ -8,7 +8,7 @@ use Rattle.av_space.specs.declared.layout.Slot.{Slot}
 use Rattle.av_space.specs.declared.spots.Spot.{Spot as SpotMade}
 use Rattle.av_space.specs.Spots.{ComputesIn, IsSlotIn, AreSlotsIn}
 use Rattle.av_space.proofs.ByPlace.{from_map, pair_at}
-use Rattle.av_space.proofs.Elements.{at_index, got, in_range}
+use Rattle.av_space.proofs.Elements.{at_index, in_range}
 use Rattle.av_build.specs.declared.moments.Moment.{Moment as MomentMade}
 use Rattle.av_build.specs.inner.Programs.{Source, Site}
 use Rattle.av_build.specs.inner.Selections.{Moment, runs_of, site_by}
@@ -17,7 +17,7 @@ use Rattle.av_build.specs.inner.Blueprints.{seen, spot_of}
 use Rattle.av_build.specs.inner.Moments.{moment_of, AreMoments}
 use Rattle.av_build.proofs.Runs.{AreAscending}
 use Rattle.av_build.proofs.Sites.{IsMoment, site_from}
-use Rattle.av_base.proofs.Lists.{each_by_place, get_mapped, there_is}
+use Rattle.av_base.proofs.Lists.{each_by_place, get_mapped, there_is, place_in}
 
 ascending : (moments : List Moment) → ((i j : ℕ) (t u : Moment) → i < j → slice_get moments i ≡ Some t → slice_get moments j ≡ Some u → t.cycle < u.cycle) → AreAscending moments
 ascending [] h = tt
@@ -61,7 +61,7 @@ module _ (w : ArrayMade) (at : SpotMade) (P : Point → ℕ → Source → Type 
 
   every : (c : ℕ) (z : Point) → ComputesIn w at.cell c at.node z → IsTrue (has at.piece.now.domain z) → (k : ℕ) × (t : Moment) × (slice_get (map moment_of moments) k ≡ Some t) × (t.cycle ≡ c) × P z c t.source
   every c z computes inside =
-      let i = got at.slots (record { cycle = c; point = z }) (slots.all c z computes inside) in
+      let i = place_in at.slots (record { cycle = c; point = z }) (slots.all c z computes inside) in
       let low = in_range at.slots i.0 (record { cycle = c; point = z }) i.1 in
       let size = are.one_each in
       let m = there_is moments i.0 (omega (arith, low, size)) in

@@ -1,9 +1,9 @@
 -- The names of the module of a program are names of the subset: a letter, a number, and with it `_` and a second number or not; or
 -- one of the names of the counter.
 use Rattle.std.proofs.Common.{◌≡◌, ℕ, suc, ◌+◌, ◌^◌, ◌<◌, ◌≤◌, List, [], ◌∷◌, ◌++◌, length, map, refl, sym, subst, arith, ◌∙◌, Bool, true, false, if◌then◌else◌}
-use Rattle.std.specs.Prelude.{All, Contains, decimal, nat_eq, codes, ◌||◌}
+use Rattle.std.specs.Prelude.{All, Contains, decimal, nat_eq, codes}
 use Rattle.std.specs.List.{AllByRecursion, range_with_len, list_all}
-use Rattle.std.specs.Char.{is_ascii_digit, is_ascii_alphabetic}
+use Rattle.std.specs.Char.{is_ascii_digit}
 use Rattle.std.specs.Str.{all_ascii_digits}
 use Rattle.std.proofs.lemmas.List.{append-nil}
 use Rattle.std.proofs.lemmas.List.Elements.{All-contains, All-from_recursion}
@@ -22,6 +22,7 @@ use Rattle.av_build.proofs.NameParts.{decimal_some, digits_of, each_of_range}
 use Rattle.av_build.proofs.Declared.{Each, later_each, IsSmallLane, AreSmall, own_wires, own_registers, below, below_line, same_wires, same_registers, moved, wires_of, registers_in, wire_list, register_list, inputs_are, outputs_are, wires_are, registers_are}
 use Rattle.av_base.proofs.Truths.{both}
 use Rattle.av_base.proofs.Lists.{each_append}
+use Rattle.av_base.proofs.Spelled.{digit_word}
 
 -- ---- one name
 
@@ -39,14 +40,6 @@ no_reserved name e at =
     let f : second_digit name ≡ false = All-contains (λ w. second_digit w ≡ false) reserved_words name lettered at in
     let both : true ≡ false = sym e ∙ f in
     cc
-
-digit_word : (x : ℕ) → is_ascii_digit x ≡ true → is_word_byte x ≡ true
-digit_word x e = go (is_ascii_alphabetic x) (is_ascii_digit x) (nat_eq x 95) e
-  where
-    go : (a b c : Bool) → b ≡ true → (a || b || c) ≡ true
-    go true b c e = refl
-    go false true c e = refl
-    go false false c e = absurd cc
 
 words_more : (digits more : List ℕ) → all_ascii_digits digits ≡ true → list_all is_word_byte more ≡ true → list_all is_word_byte (digits ++ more) ≡ true
 words_more [] more d m = m

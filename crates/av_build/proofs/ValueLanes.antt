@@ -17,14 +17,14 @@ use Rattle.av_space.specs.Layouts.{AreSlots}
 use Rattle.av_space.specs.Links.{line_length}
 use Rattle.av_space.specs.Spots.{system_of, helpers_of, placings_of, cells_of, ComputesIn, IsSpot, AreSpots, AreEnds}
 use Rattle.av_space.proofs.ByPlace.{from_map, pair_at}
-use Rattle.av_space.proofs.Elements.{at_index, got, in_range}
+use Rattle.av_space.proofs.Elements.{at_index, in_range}
 use Rattle.av_build.specs.inner.Programs.{Work, Shift, Lane}
 use Rattle.av_build.specs.inner.Selections.{Stay, shifts_by, last_work}
 use Rattle.av_build.specs.inner.Programmed.{Lanes, Spot, IsStayFor, IsValueLane}
 use Rattle.av_build.specs.inner.Blueprints.{seen, spot_of}
 use Rattle.av_build.specs.inner.Works.{shift_in}
 use Rattle.av_build.proofs.PieceWorks.{shifts_are as all_shifts, last_is}
-use Rattle.av_base.proofs.Lists.{get_cases, get_mapped, some_is, there_is}
+use Rattle.av_base.proofs.Lists.{get_cases, get_mapped, some_is, there_is, place_in}
 
 module _ (w : ArrayMade) (lanes : Lanes) (p : ℕ) (cell : Cell) (v : Variable) (is_cell : slice_get (cells_of w) p ≡ Some cell) (is_variable : slice_get (nodes (system_of w)) cell.node ≡ Some v) (spots : List SpotMade) (are : AreSpots w p spots) where
   abbrev spot : ℕ → Piece → Spot
@@ -64,7 +64,7 @@ module _ (w : ArrayMade) (lanes : Lanes) (p : ℕ) (cell : Cell) (v : Variable) 
     every k piece e c n z computes inside =
         let node : n ≡ cell.node = sym computes.stands.node ∙ ap (λ (x : Cell). x.node) (some_is computes.cell cell (sym computes.is_cell ∙ is_cell)) in
         let here = are.all c n z v k piece computes (ap (λ (m : ℕ). slice_get (nodes (system_of w)) m) node ∙ is_variable) e inside in
-        let i = got (map (λ (at : SpotMade). at.number) spots) k here in
+        let i = place_in (map (λ (at : SpotMade). at.number) spots) k here in
         let at = from_map (λ (at : SpotMade). at.number) spots i.0 k i.1 in
         let low = in_range spots i.0 at.0 at.1 in
         let t = there_is stays i.0 (omega (arith, low, many)) in

@@ -1,7 +1,7 @@
 -- How many sets have a point, one set after the other.
 use Rattle.std.proofs.Common.{◌≡◌, ◌↔◌, ℕ, zero, suc, ◌+◌, ◌<◌, ◌⊎◌, inl, inr, Bool, true, false, true≢false, List, [], ◌∷◌, ◌++◌, length, take, get_or, Option, refl, sym, ap, subst, ◌∙◌, arith, All}
 use Rattle.std.specs.Prelude.{if◌then◌else◌}
-use Rattle.std.proofs.lemmas.List.{take_more, get_or_default}
+use Rattle.std.proofs.lemmas.List.{get_or_default}
 use Rattle.std.proofs.lemmas.List.Elements.{All-push}
 use Rattle.av_poly.specs.declared.poly.Bounds.{Bounds}
 use Rattle.av_poly.specs.Points.{Set, Has}
@@ -14,9 +14,7 @@ use Rattle.av_check.specs.inner.Least.{IsLeast, first_of}
 use Rattle.av_elim.specs.Extents.{IsInside}
 use Rattle.av_check.specs.inner.Coverage.{one_in, coverage, IsOff, IsShared, IsSharedBy, IsInAny}
 use Rattle.av_check.proofs.Lexicographic.{least_of_two}
-
-pub taken : {X : Type 0} (xs : List X) (i : ℕ) (x : X) → i < length xs → x ≡ get_or xs i x → take (i + 1) xs ≡ take i xs ++ x ∷ []
-taken xs i x l e = take_more xs i x l ∙ ap (λ y. take i xs ++ y ∷ []) (sym e)
+use Rattle.av_base.proofs.Lists.{next_taken}
 
 pub one_cases : (z : Point) (set : Set) → (Has set z × (one_in z set ≡ 1)) ⊎ ((Has set z → ⊥) × (one_in z set ≡ 0))
 one_cases z set = go (has set z) refl
@@ -64,7 +62,7 @@ pub least_shared_by : (domain set : Set) (others : List Set) (i : ℕ) (other : 
     → IsLeast (IsSharedBy domain set (take (i + 1) others)) o
 least_shared_by domain set others i other least next o l e p q f =
     let P : List Set → Type 0 = λ (sets : List Set). IsLeast (IsSharedBy domain set sets) o in
-    subst P (sym (taken others i other l e))
+    subst P (sym (next_taken others i other l e))
     (least_of_two (IsSharedBy domain set (take i others)) (λ z. Has domain z × Has set z × Has other z) (IsSharedBy domain set (take i others ++ other ∷ []))
     least next o f (shared_by_more domain set (take i others) other) p q)
 
@@ -73,7 +71,7 @@ pub least_shared : (domain : Set) (sets : List Set) (i : ℕ) (set : Set) (least
     → IsLeast (IsShared domain (take (i + 1) sets)) o
 least_shared domain sets i set least next o l e p q f =
     let P : List Set → Type 0 = λ (ss : List Set). IsLeast (IsShared domain ss) o in
-    subst P (sym (taken sets i set l e))
+    subst P (sym (next_taken sets i set l e))
     (least_of_two (IsShared domain (take i sets)) (IsSharedBy domain set (take i sets)) (IsShared domain (take i sets ++ set ∷ []))
     least next o f (shared_more domain (take i sets) set) p q)
 
@@ -127,7 +125,7 @@ pub least_parts : (parts : List Set) (i : ℕ) (part : Set) (least next o : Opti
     → IsLeast (IsInAny (take i parts)) least → IsLeast (Has part) next → o ≡ first_of least next → IsLeast (IsInAny (take (i + 1) parts)) o
 least_parts parts i part least next o l e p q f =
     let P : List Set → Type 0 = λ (ps : List Set). IsLeast (IsInAny ps) o in
-    subst P (sym (taken parts i part l e))
+    subst P (sym (next_taken parts i part l e))
     (least_of_two (IsInAny (take i parts)) (Has part) (IsInAny (take i parts ++ part ∷ [])) least next o f (in_any_push (take i parts) part) p q)
 
 -- a part more, which has a point
@@ -136,7 +134,7 @@ pub parts_more : (old to parts : List Set) (i : ℕ) (part own : Set) → i < le
 parts_more old to parts i part own l e same h z =
     let P : List Set → Type 0 = λ (ps : List Set). IsInAny (to ++ own ∷ []) z ↔ (IsInAny old z ⊎ IsInAny ps z) in
     let more = in_any_push (take i parts) part z in
-    subst P (sym (taken parts i part l e)) (
+    subst P (sym (next_taken parts i part l e)) (
       (λ w. elim ((in_any_push to own z).1 w) [
         | inl v ↦ elim ((h z).0 v) [ inl u ↦ inl u | inr u ↦ inr (more.0 (inl u)) ]
         | inr v ↦ inr (more.0 (inr ((same z).0 v)))
@@ -153,7 +151,7 @@ pub parts_same : (old to parts : List Set) (i : ℕ) (part : Set) → i < length
 parts_same old to parts i part l e none h z =
     let P : List Set → Type 0 = λ (ps : List Set). IsInAny to z ↔ (IsInAny old z ⊎ IsInAny ps z) in
     let more = in_any_push (take i parts) part z in
-    subst P (sym (taken parts i part l e)) (
+    subst P (sym (next_taken parts i part l e)) (
       (λ w. elim ((h z).0 w) [ inl u ↦ inl u | inr u ↦ inr (more.0 (inl u)) ]),
       (λ w. elim w [
         | inl v ↦ (h z).1 (inl v)
@@ -168,7 +166,7 @@ pub outside_more : (set : Set) (parts left outside new : List Set) (i : ℕ) (pa
 outside_more set parts left outside new i part l e own more h z =
     let P : List Set → Type 0 = λ (ps : List Set). IsInAny new z ↔ (IsInAny ps z × (Has set z → ⊥)) in
     let push = in_any_push (take i parts) part z in
-    subst P (sym (taken parts i part l e)) (
+    subst P (sym (next_taken parts i part l e)) (
       (λ w. elim ((more z).0 w) [
         | inl v ↦ let u = (h z).0 v in (push.0 (inl u.0), u.1)
         | inr v ↦ let u = (own z).0 v in (push.0 (inr u.0), u.1)
@@ -186,7 +184,7 @@ pub left_more : (domain : Set) (sets left new : List Set) (i : ℕ) (set : Set) 
 left_more domain sets left new i set l e more h z =
     let P : List Set → Type 0 = λ (ss : List Set). IsInAny new z ↔ (Has domain z × (coverage z ss ≡ 0)) in
     let push = having_push z (take i sets) set in
-    subst P (sym (taken sets i set l e)) (
+    subst P (sym (next_taken sets i set l e)) (
       (λ w. let v = (more z).0 w in let u = (h z).0 v.0 in elim (one_cases z set) [
         | inl o ↦ absurd (v.1 o.0)
         | inr o ↦ let a = u.1 in let b = o.1 in (u.0, omega (arith, push, a, b))

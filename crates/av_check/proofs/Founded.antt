@@ -9,8 +9,8 @@ use Rattle.av_flat.specs.Trees.{Tree, Trees, Piece, reference, constant, binary,
 use Rattle.av_flat.specs.Signatures.{Signature}
 use Rattle.av_flat.specs.WellFormed.{Fits, FitAll, EachPart, EachPartOfAll, HasSmallRows}
 use Rattle.av_flat.specs.Quantities.{steps_under, composed_maps, composed_maps_of_all}
-use Rattle.av_normal.proofs.Laid.{all_parts}
 use Rattle.av_check.specs.inner.Reachable.{reach, HasSmallForms, IsChain, IsReached, IsReachable, AreReachable, IsReachableInside}
+use Rattle.av_base.proofs.Lists.{all_parts}
 
 reached : (ds : List Map) (z : Point) → IsChain ds z → All HasSmallForms ds → All HasSmallForms (steps_under ds) → IsReached ds z
 reached [] z h u c = h

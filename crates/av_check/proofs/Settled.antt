@@ -14,7 +14,6 @@ use Rattle.av_flat.specs.Sets.{IsUnbounded}
 use Rattle.av_flat.specs.Proper.{IsProper}
 use Rattle.av_flat.specs.Quantities.{HasUnbounded}
 use Rattle.av_flat.proofs.Sets.{has_is}
-use Rattle.av_normal.proofs.Laid.{all_parts}
 use Rattle.av_normal.proofs.Limits.{none_first}
 use Rattle.av_check.specs.declared.fault.CheckFault.{CheckFault}
 use Rattle.av_check.specs.declared.fault.CheckFault.TheVariants as fault
@@ -27,7 +26,7 @@ use Rattle.av_check.specs.Blame.{Blamed, blamed, named}
 use Rattle.av_check.specs.CheckFaults.{IsFaultOf, IsFault}
 use Rattle.av_check.specs.inner.Premises.{HasPremises, HavePremises, HasNoneMiscovered}
 use Rattle.av_check.proofs.Lexicographic.{least_same, same_point}
-use Rattle.av_base.proofs.Lists.{same_head, same_tail}
+use Rattle.av_base.proofs.Lists.{same_head, same_tail, all_parts}
 
 -- ---- one variable
 

@@ -1,6 +1,6 @@
 -- What a line of data says is what is read of its parts.
 use Rattle.std.proofs.Common.{◌≡◌, ℕ, ◌-◌, ◌^◌, ℤ, pos, Bool, true, false, ◌&&◌, List, [], ◌∷◌, ◌++◌, Option, Some, None, refl, sym, ap, ◌∙◌, subst, arith, inl, inr, true≢false}
-use Rattle.std.specs.Prelude.{◌||◌, ◌<ℤ◌, neg_ℤ, int_le, int_lt, nat_eq, All, IsTrue, codes, if◌then◌else◌}
+use Rattle.std.specs.Prelude.{◌<ℤ◌, neg_ℤ, int_le, int_lt, nat_eq, All, IsTrue, codes, if◌then◌else◌}
 use Rattle.std.specs.Str.{bytes_eq}
 use Rattle.std.specs.Char.{is_ascii_alphabetic, is_ascii_digit}
 use Rattle.std.proofs.lemmas.Bool.{eqb-true}
@@ -18,7 +18,7 @@ use Rattle.av_data.specs.Data.{IsSpread, SpellsWhole, SpellEach, behind_commas, 
 use Rattle.av_data.specs.inner.Parts.{is_joined, pieces_of}
 use Rattle.av_data.specs.inner.Sayings.{signed_value, digits_in, whole_in, is_in_range, in_front, entries_behind, entries_in, Saying, said_value, said_behind, said_of, said_in, SaysOnly}
 use Rattle.av_base.specs.Spelling.{is_name}
-use Rattle.av_base.proofs.Spelled.{name_is, name_gives}
+use Rattle.av_base.proofs.Spelled.{name_is, name_gives, digit_word}
 use Rattle.av_data.proofs.Spelled.{digits_from, digits_to}
 use Rattle.av_data.proofs.Pieced.{IsRun, Stops, AreApart, spread_pieces, spread_are}
 use Rattle.av_base.proofs.Truths.{and_true, both}
@@ -31,13 +31,6 @@ word_joined b h = rw h refl
 
 letter_joined : (b : ℕ) → is_ascii_alphabetic b ≡ true → is_joined b ≡ true
 letter_joined b h = rw h refl
-
-digit_word : (b : ℕ) → is_ascii_digit b ≡ true → is_word_byte b ≡ true
-digit_word b h = by (is_ascii_alphabetic b)
-  where
-    by : (t : Bool) → ((t || is_ascii_digit b) || nat_eq b 95) ≡ true
-    by true = refl
-    by false = rw h refl
 
 digit_joined : (b : ℕ) → is_ascii_digit b ≡ true → is_joined b ≡ true
 digit_joined b h = word_joined b (digit_word b h)

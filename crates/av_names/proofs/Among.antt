@@ -50,9 +50,3 @@ pub among_source : {X Y : Type 0} (f : X → Y) (xs : List X) (y : Y) → Among 
 among_source f [] y m = absurd m
 among_source f (z ∷ xs) y (inl e) = (z, inl refl, e)
 among_source f (z ∷ xs) y (inr m) = let r = among_source f xs y m in (r.0, inr r.1, r.2)
-
-pub all_parts : {X : Type 0} (P : X → Type 0) (xs ys : List X) → All P (xs ++ ys) → All P xs × All P ys
-all_parts P xs ys h = (
-  all_from P xs (λ x m. all_at P (xs ++ ys) x h (among_first xs ys x m)),
-  all_from P ys (λ x m. all_at P (xs ++ ys) x h (among_second xs ys x m)),
-)

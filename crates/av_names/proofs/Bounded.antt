@@ -23,9 +23,9 @@ use Rattle.av_flat.specs.Sets as flat
 use Rattle.av_names.specs.Forms.{filled, form_of_row}
 use Rattle.av_names.proofs.Terms.{dot_filled}
 use Rattle.av_names.proofs.Names.{first_pairs}
-use Rattle.av_names.proofs.Among.{Among, all_at, all_from, all_parts, any_at, any_from, among_image, among_source}
+use Rattle.av_names.proofs.Among.{Among, all_at, all_from, any_at, any_from, among_image, among_source}
 use Rattle.av_names.proofs.Normal.{normal_exists}
-use Rattle.av_base.proofs.Lists.{pairs_rest}
+use Rattle.av_base.proofs.Lists.{pairs_rest, all_parts}
 
 -- ---- lists filled up
 

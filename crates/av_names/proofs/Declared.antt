@@ -19,8 +19,8 @@ use Rattle.av_names.specs.Regular.{IsRegular}
 use Rattle.av_names.proofs.Names.{equal_names, same_names, other_names, first_pairs}
 use Rattle.av_names.proofs.Comparisons.{and_false, set_has}
 use Rattle.av_names.proofs.Places.{or_false, HasDomain, HasOwnName}
-use Rattle.av_names.proofs.Among.{Among, all_at, all_parts}
-use Rattle.av_base.proofs.Lists.{pairs_rest}
+use Rattle.av_names.proofs.Among.{Among, all_at}
+use Rattle.av_base.proofs.Lists.{pairs_rest, all_parts}
 
 -- ---- a declared point and its declaration
 

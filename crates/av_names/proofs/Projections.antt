@@ -1,5 +1,5 @@
 -- The map of a reduction is a projection: each of its forms is one index.
-use Rattle.std.proofs.Common.{◌≡◌, ◌≢◌, ℕ, zero, suc, ◌+◌, ◌<◌, ◌≤◌, inl, inr, Bool, true, false, ◌&&◌, IsTrue, List, [], ◌∷◌, length, map, take, get_or, Option, Some, None, refl, sym, ap, ap₂, subst, ◌∙◌, arith, AllPairs, ℤ, pos, ◌+ℤ◌, nat_eq, if◌then◌else◌}
+use Rattle.std.proofs.Common.{◌≡◌, ◌≢◌, ℕ, zero, suc, ◌+◌, ◌<◌, ◌≤◌, inl, inr, Bool, true, false, ◌&&◌, IsTrue, List, [], ◌∷◌, length, map, take, get_or, Option, Some, None, refl, sym, ap, ap₂, subst, ◌∙◌, arith, ℤ, pos, ◌+ℤ◌, nat_eq, if◌then◌else◌}
 use Rattle.std.specs.Prelude.{bytes_eq, int_le}
 use Rattle.std.specs.List.{range_with_len}
 use Rattle.std.proofs.lemmas.Int.{ints}
@@ -7,7 +7,6 @@ use Rattle.std.proofs.lemmas.Bool.{cases_lt}
 use Rattle.std.proofs.lemmas.List.{length-map, get_or_default}
 use Rattle.std.proofs.lemmas.List.FromFn.{get_or-map-range_with_len}
 use Rattle.std.proofs.lemmas.List.Elements.{All-map}
-use Rattle.std.proofs.lemmas.List.Kept.{AllPairs-cons}
 use Rattle.av_affine.specs.Completion.{unit_row}
 use Rattle.av_tree.specs.declared.domain.Term.{Term}
 use Rattle.av_tree.specs.declared.domain.IndexExpr.{IndexExpr}
@@ -19,17 +18,13 @@ use Rattle.av_flat.specs.WellFormed.{IsIndex, IsProjection}
 use Rattle.av_flat.proofs.Sets.{both_true, at_most, equal, is_equal}
 use Rattle.av_names.specs.Forms.{filled, form_of, map_of}
 use Rattle.av_names.specs.Regular.{AreDistinct, IsMap, Projects}
-use Rattle.av_names.proofs.Names.{equal_names, same_names, first_pairs}
+use Rattle.av_names.proofs.Names.{equal_names, same_names}
 use Rattle.av_names.proofs.Declared.{or_true}
 use Rattle.av_names.proofs.Bounded.{take_filled}
 use Rattle.av_base.proofs.Truths.{same_truth}
-use Rattle.av_base.proofs.Lists.{pairs_rest}
+use Rattle.av_base.proofs.Lists.{pairs_map}
 
 -- ---- pairs
-
-pub pairs_map : {X Y : Type 0} (R : Y → Y → Type 0) (f : X → Y) (xs : List X) → AllPairs (λ a b. R (f a) (f b)) xs → AllPairs R (map f xs)
-pairs_map R f [] h = λ i j d l m. absurd (omega (arith, m))
-pairs_map R f (x ∷ xs) h = AllPairs-cons R (f x) (map f xs) (All-map (R (f x)) f xs (first_pairs (λ a b. R (f a) (f b)) x xs h)) (pairs_map R f xs (pairs_rest (λ a b. R (f a) (f b)) x xs h))
 
 -- ---- one index
 

@@ -33,10 +33,10 @@ use Rattle.av_names.specs.inner.ShortSums.{IsShortWritten, HasShortSums}
 use Rattle.av_names.specs.Written.{Written, all_written, written_at, written_sizes, written_declaration}
 use Rattle.av_tree.specs.declared.system.Declaration.{Declaration}
 use Rattle.av_tree.specs.Domains.{variables}
-use Rattle.av_names.proofs.Among.{Among, all_at, all_from, all_parts, among_source, among_image}
+use Rattle.av_names.proofs.Among.{Among, all_at, all_from, among_source, among_image}
 use Rattle.av_names.proofs.Limited.{among_flat_source}
 use Rattle.av_names.proofs.Sooner.{first_append, first_map}
-use Rattle.av_base.proofs.Lists.{next_item}
+use Rattle.av_base.proofs.Lists.{next_item, all_parts}
 
 -- ---- sizes
 

@@ -1,8 +1,7 @@
 -- The normal form of a system is well formed and kept where no set of the system is above a limit and its domains are bounded.
-use Rattle.std.proofs.Common.{◌≡◌, ◌≢◌, ℕ, suc, ◌≤◌, List, [], ◌∷◌, map, get_or, refl, sym, ap, subst, ◌∙◌, arith, All, AllPairs}
+use Rattle.std.proofs.Common.{◌≡◌, ◌≢◌, ℕ, ◌≤◌, List, [], ◌∷◌, map, get_or, refl, sym, ap, subst, ◌∙◌, arith, All, AllPairs}
 use Rattle.std.proofs.lemmas.List.{length-map, get_or-map}
-use Rattle.std.proofs.lemmas.List.Elements.{All-map, All-weaker}
-use Rattle.std.proofs.lemmas.List.Kept.{AllPairs-cons}
+use Rattle.std.proofs.lemmas.List.Elements.{All-weaker}
 use Rattle.av_base.specs.declared.token_kind.TokenKind.TheVariants as token
 use Rattle.av_base.specs.Tokens.{IsSpelled}
 use Rattle.av_affine.specs.Forms.{IsWithinLimits}
@@ -20,13 +19,9 @@ use Rattle.av_normal.proofs.RightSides.{Keep, keep_is, made, branches}
 use Rattle.av_normal.proofs.Systems.{along, both_all, signatures_are}
 use Rattle.av_normal.proofs.Limits.{AllFit, each_fits}
 use Rattle.av_normal.proofs.KeptPieces.{IsFine, fine_variable, fine_well_formed, fine_kept}
+use Rattle.av_base.proofs.Lists.{pairs_map}
 
 -- ---- pairs
-
-pairs_map : {X Y : Type 0} (R : Y → Y → Type 0) (f : X → Y) (xs : List X) → AllPairs (λ a b. R (f a) (f b)) xs → AllPairs R (map f xs)
-pairs_map R f [] h = λ i j d l m. absurd (omega (arith, m))
-pairs_map R f (x ∷ xs) h =
-    AllPairs-cons R (f x) (map f xs) (All-map (R (f x)) f xs (λ k d l. h 0 (suc k) d (omega arith) (omega (arith, l)))) (pairs_map R f xs (λ i j d l m. h (suc i) (suc j) d (omega (arith, l)) (omega (arith, m))))
 
 pairs_of : {X Y : Type 0} (R : Y → Y → Type 0) (f : X → Y) (xs : List X) → AllPairs R (map f xs) → AllPairs (λ a b. R (f a) (f b)) xs
 pairs_of R f xs h i j d l m =

@@ -22,6 +22,7 @@ use Rattle.av_flat.proofs.Sets.{both_true, both_hold}
 use Rattle.av_flat.proofs.Parts.{reach, Chain, composed_image, declared_where, length_parts, composed_from}
 use Rattle.av_flat.proofs.PieceValues.{caseless, if_here, over_length}
 use Rattle.av_tree.proofs.Words.{product_one}
+use Rattle.av_base.proofs.Lists.{all_parts}
 
 -- ---- rows that hold
 
@@ -88,10 +89,6 @@ count_one vs M W S n rows (reduction o m t set) z a e h = refl
 count_one vs M W S n rows t z a e h = absurd a
 
 -- ---- dependences
-
-pub all_parts : {X : Type 0} (P : X → Type 0) (xs ys : List X) → All P (xs ++ ys) → All P xs × All P ys
-all_parts P [] ys h = (All-nil P, h)
-all_parts P (x ∷ xs) ys h = let r = all_parts P xs ys (All-tail P x (xs ++ ys) h) in (All-cons P x xs (All-head P x (xs ++ ys) h) r.0, r.1)
 
 composed_of : (M : Map → Type 0) (m : Map) (ds : List Map) → M m → All M (steps m ds) → M (composed m ds)
 composed_of M m [] p h = p

@@ -18,8 +18,8 @@ use Rattle.av_flat.specs.Sets.{HasFewRows}
 use Rattle.av_flat.specs.Pieces.{Part, pieces_of}
 use Rattle.av_flat.specs.Quantities.{IsFirst, Measured, of_set, of_map, measured, composed_maps, body_sets, IsOverNumbers, IsOver, HasWideSets}
 use Rattle.av_normal.specs.NormalForm.{IsNormalised, set_of}
-use Rattle.av_normal.proofs.Laid.{all_parts}
 use Rattle.av_normal.proofs.Normalised.{normalised_again}
+use Rattle.av_base.proofs.Lists.{all_parts}
 
 -- ---- where there is no first, there is none
 

@@ -11,9 +11,8 @@ use Rattle.av_flat.proofs.Parts.{length_parts}
 use Rattle.av_normal.specs.inner.Numbered.{part_at}
 use Rattle.av_normal.specs.inner.ReductionSets.{IsFillable}
 use Rattle.av_normal.specs.inner.Making.{held, held_parts, IsMade, AreMade, AreAdded, IsHolder, Continues}
-use Rattle.av_normal.proofs.Laid.{all_parts}
 use Rattle.av_normal.proofs.Limits.{all_sources}
-use Rattle.av_base.proofs.Lists.{nothing_left}
+use Rattle.av_base.proofs.Lists.{nothing_left, all_parts}
 
 -- ---- lists that are gone through
 

@@ -19,11 +19,11 @@ use Rattle.av_affine.specs.Numbers.{IsGcdOf}
 use Rattle.av_affine.proofs.Exact.{divided, divided_primitive}
 use Rattle.av_poly.specs.Normal.{counted, IsConstant, IsNever, IsDivided, Tightens, HasDirection, IsMetBefore, AreTightest, AreNormalised, IsPrimitive, impossible}
 use Rattle.av_poly.proofs.Dividing.{not_constant, divided_once}
-use Rattle.av_normal.proofs.Laid.{all_parts}
 use Rattle.av_normal.proofs.Meeting.{MeetsFirst, asymmetric, in_first, some_met, met_in_front, met_behind, met_either, met_too, first_of, met_of}
 use Rattle.av_poly.proofs.Tightening.{same_form}
 use Rattle.av_poly.proofs.Normalising.{counted_divided}
 use Rattle.av_base.proofs.Anys.{any_first}
+use Rattle.av_base.proofs.Lists.{all_parts}
 
 -- ---- some element
 

@@ -23,8 +23,9 @@ use Rattle.av_flat.proofs.Sets.{has_is}
 use Rattle.av_flat.proofs.Parts.{fitting, rows_reach}
 use Rattle.av_normal.specs.NormalForm.{IsNormalised, HasNormalSets}
 use Rattle.av_normal.proofs.Projecting.{image_over}
-use Rattle.av_normal.proofs.Laid.{Hold, both_of, hold_both, IsReduced, IsLaid, Anything, looser, count_one, all_parts}
+use Rattle.av_normal.proofs.Laid.{Hold, both_of, hold_both, IsReduced, IsLaid, Anything, looser, count_one}
 use Rattle.av_flat.proofs.PieceValues.{over_length}
+use Rattle.av_base.proofs.Lists.{all_parts}
 
 -- ---- points of normalised sets
 

@@ -1,10 +1,11 @@
 -- Comparisons of lists, one member after the other.
-use Rattle.std.proofs.Common.{◌≡◌, ℕ, suc, ◌+◌, ◌<◌, List, [], ◌∷◌, ◌++◌, length, take, get_or, ap, refl, sym, ◌∙◌, append_assoc, take-suc, arith}
+use Rattle.std.proofs.Common.{◌≡◌, ℕ, ◌+◌, ◌<◌, List, [], ◌∷◌, ◌++◌, length, take, get_or, ap, refl, ◌∙◌, append_assoc}
 use Rattle.std.proofs.lemmas.List.{append-nil}
 use Rattle.av_tree.specs.declared.domain.IndexExpr.{IndexExpr}
 use Rattle.av_tree.specs.declared.domain.Constraint.{Constraint}
 use Rattle.av_tree.specs.declared.relation.Relation.{Relation}
 use Rattle.av_tree.specs.IndexGrammar.{with_each, compared}
+use Rattle.av_base.proofs.Lists.{next_taken}
 
 with_each_push : (l : IndexExpr) (r : Relation) (es : List IndexExpr) (e : IndexExpr)
     → with_each l r (es ++ e ∷ []) ≡ with_each l r es ++ record { left = l; relation = r; right = e } ∷ []
@@ -17,11 +18,6 @@ compared_push [] l r rights = append-nil (with_each l r rights)
 compared_push (x ∷ lefts) l r rights = ap (λ (z : List Constraint). with_each x r rights ++ z) (compared_push lefts l r rights) ∙ simp append_assoc
 
 -- one more member, as a loop over them goes on
-
-next_taken : {A : Type 0} (xs : List A) (i : ℕ) (x : A) → i < length xs → x ≡ get_or xs i x → take (i + 1) xs ≡ take i xs ++ x ∷ []
-next_taken {A = A} xs i x h at =
-    let one : i + 1 ≡ suc i = omega arith in
-    rw one (take-suc xs i x h ∙ ap (λ (z : A). take i xs ++ z ∷ []) (sym at))
 
 pub with_each_step : (front found new : List Constraint) (l : IndexExpr) (r : Relation) (rights : List IndexExpr) (i : ℕ) (e : IndexExpr) → i < length rights → e ≡ get_or rights i e
     → found ≡ front ++ with_each l r (take i rights) → new ≡ found ++ record { left = l; relation = r; right = e } ∷ [] → new ≡ front ++ with_each l r (take (i + 1) rights)

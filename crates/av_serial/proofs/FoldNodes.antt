@@ -1,10 +1,8 @@
 -- The nodes of a kept system and those of its serial form: variables with pieces stay, and behind them the chains stand.
 use Rattle.std.proofs.Common.{◌≡◌, ℕ, zero, suc, ◌+◌, ◌≤◌, Bool, true, false, ◌&&◌, nat_lt, if◌then◌else◌, ◌⊎◌, inl, inr, List, [], ◌∷◌, ◌++◌, length, take, map, filter, slice_get, Some, refl, sym, ap, ap₂, subst, ◌∙◌, arith}
-use Rattle.std.specs.Prelude.{Contains}
 use Rattle.std.proofs.lemmas.List.{length-append, length-map, take-append-le, take-map, length-take-le}
 use Rattle.std.proofs.Math.Seq.{take-append-add}
 use Rattle.std.proofs.lemmas.List.Elements.{filter-append}
-use Rattle.std.proofs.lemmas.Option.{slice_get_read}
 use Rattle.av_tree.specs.Trees.{Text}
 use Rattle.av_flat.specs.Trees.{Piece, Variable, FlatSystem}
 use Rattle.av_flat.specs.Signatures.{is_computed}
@@ -49,9 +47,6 @@ at_kept p (y ∷ xs) (suc i) x e h = go (p y) (at_kept p xs i x e h)
         → slice_get (if b then y ∷ filter p xs else filter p xs) (length (if b then y ∷ filter p (take i xs) else filter p (take i xs))) ≡ Some x
     go true h = h
     go false h = h
-
-pub place_in : {X : Type 0} (xs : List X) (x : X) → Contains xs x → (i : ℕ) × (slice_get xs i ≡ Some x)
-place_in xs x c = (c.0, slice_get_read xs (length xs) c.0 x refl c.1 (sym c.2))
 
 -- ---- variables and what is made of them
 

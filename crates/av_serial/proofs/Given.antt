@@ -7,10 +7,10 @@ use Rattle.av_serial.specs.declared.fault.SerialFault.TheVariants as fault
 use Rattle.av_flat.specs.Chained.{IsChained}
 use Rattle.av_serial.specs.SerialForm.{IsSerialForm}
 use Rattle.av_serial.specs.SerialFaults.{IsFault, IsGiven}
-use Rattle.av_serial.proofs.Digits.{number_digits}
 use Rattle.av_serial.proofs.SameMeaning.{same_meaning}
 use Rattle.av_serial.proofs.Proper.{proper}
 use Rattle.av_serial.proofs.SystemForms.{chained}
+use Rattle.av_base.proofs.Digits.{number_digits}
 
 pub serial_chained : (s t : FlatSystem) → 1 ≤ s.width → IsKept s → IsSerialForm s t → IsChained t
 serial_chained s t wide k form = chained s t k form wide number_digits

@@ -34,9 +34,9 @@ use Rattle.av_serial.proofs.Dropped.{dropped, over_image}
 use Rattle.av_serial.proofs.LastPoints.{point_before}
 use Rattle.av_serial.proofs.Folds.{IsChainOf, chain_of, fold_of, reads_of, still_reads, reads_chain, same_references}
 use Rattle.av_serial.proofs.FoldPieces.{StandsIn, piece_of, variable_of}
-use Rattle.av_serial.proofs.FoldNodes.{at_kept, kept_at, place_in, same_node, given_piece, serial, inside, number_of_variable, number_of_chain, made_of, variable_at, chain_at, node_of_variable, node_of_chain, node_is, made_at, piece_at}
+use Rattle.av_serial.proofs.FoldNodes.{at_kept, kept_at, same_node, given_piece, serial, inside, number_of_variable, number_of_chain, made_of, variable_at, chain_at, node_of_variable, node_of_chain, node_is, made_at, piece_at}
 use Rattle.av_base.proofs.Among.{among_at}
-use Rattle.av_base.proofs.Lists.{each_at}
+use Rattle.av_base.proofs.Lists.{each_at, place_in}
 
 -- the variable that a sound tree reads is there
 dimension_some : (vs : List Signature) (place n : ℕ) → dimension_of (slice_get vs place) ≡ Some n → (v : Signature) × (slice_get vs place ≡ Some v)

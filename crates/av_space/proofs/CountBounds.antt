@@ -23,10 +23,9 @@ use Rattle.av_space.specs.Occupancy.{Occupies, Computes}
 use Rattle.av_space.specs.Taps.{places_in, places_from}
 use Rattle.av_space.specs.Quantities.{size, Use, IsUse, IsOperatorCount}
 use Rattle.av_space.specs.Layouts.{IsLayout}
-use Rattle.av_space.proofs.Elements.{got}
 use Rattle.av_space.proofs.OperatorCounts.{tree_sizes, sizes_more}
 use Rattle.av_space.proofs.OnCells.{chained_node}
-use Rattle.av_base.proofs.Lists.{all_at, get_mapped, some_is, there_is}
+use Rattle.av_base.proofs.Lists.{all_at, get_mapped, some_is, there_is, place_in}
 
 -- ---- each piece of a node is on a cell
 
@@ -52,7 +51,7 @@ computed_on t l legal layout n z is =
     let c = natural (cycle p.0.time z) (legal.schedule.starts n z p.0.time is time) in
     let cell : Cell = record { node = n; «at» = along p.0.rows z } in
     let stands : Occupies s l.placements cell c.0 n z = record { computation = is; placing = p.0; is_placing = p.1; node = refl; «at» = refl; in_cycle = c.1 } in
-    let there = got l.cells cell (layout.are_cells.all cell (c.0, n, z, stands)) in
+    let there = place_in l.cells cell (layout.are_cells.all cell (c.0, n, z, stands)) in
     record { cell = there.0; cycle = c.0; computes = record { cell = cell; is_cell = there.1; stands = stands } }
 
 -- ---- sums of the sizes of those pieces whose numbers are not below one
@@ -144,7 +143,7 @@ node_sizes t l m n v legal layout h is =
     found : (k : ℕ) (p : Piece) → slice_get v.pieces k ≡ Some p → (i : ℕ) × (u : Use) × (slice_get h.uses i ≡ Some u) × (slice_get h.pieces i ≡ Some p) × (u.piece ≡ 0 + k)
     found k p e =
         let u = used k p e in
-        let i = got h.uses u.0 (h.all u.0 p u.1) in
+        let i = place_in h.uses u.0 (h.all u.0 p u.1) in
         let w = slice_get_within h.uses i.0 u.0 i.1 in
         let q = there_is h.pieces i.0 (let f = h.paired in omega (arith, f, w)) in
         let same : q.0 ≡ p = one_use (view_system t.flat) l.placements l.cells u.0 q.0 p (h.each i.0 u.0 q.0 i.1 q.1) u.1 in

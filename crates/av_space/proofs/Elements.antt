@@ -1,6 +1,6 @@
 -- Elements of lists by their places.
-use Rattle.std.proofs.Common.{◌≡◌, ℕ, zero, suc, ◌<◌, List, [], ◌∷◌, length, subst, ap, arith, Some}
-use Rattle.std.specs.Prelude.{All, Contains, slice_get}
+use Rattle.std.proofs.Common.{◌≡◌, ℕ, zero, suc, ◌<◌, List, [], ◌∷◌, length, subst, arith, Some}
+use Rattle.std.specs.Prelude.{All, slice_get}
 use Rattle.std.specs.List.{AllByRecursion}
 use Rattle.std.proofs.lemmas.List.Elements.{All-contains}
 use Rattle.av_base.proofs.Among.{among_at}
@@ -11,11 +11,6 @@ pub each_at : {X : Type 0} (P : X → Type 0) (xs : List X) → AllByRecursion P
 each_at P [] h k x is = absurd cc
 each_at P (y ∷ xs) h zero x is = subst P (some_is y x is) h.0
 each_at P (y ∷ xs) h (suc k) x is = each_at P xs h.1 k x is
-
-pub got : {X : Type 0} (xs : List X) (x : X) → Contains xs x → (k : ℕ) × (slice_get xs k ≡ Some x)
-got [] x at = absurd (omega (arith, at.1))
-got (y ∷ xs) x (zero, lt, is) = (0, ap Some is)
-got (y ∷ xs) x (suc k, lt, is) = let r = got xs x (k, omega arith, is) in (suc r.0, r.1)
 
 pub in_range : {X : Type 0} (xs : List X) (k : ℕ) (x : X) → slice_get xs k ≡ Some x → k < length xs
 in_range [] k x is = absurd cc

@@ -36,8 +36,7 @@ use Rattle.av_space.specs.Layouts.{IsSlot, AreSlots}
 use Rattle.av_space.specs.inner.Feeding.{direction_of, is_entered, line_of, lines_of, with_port, IsDone, ArePortsTo, IsFirstOf}
 use Rattle.av_space.specs.inner.Feeding.{by_node as node_done, by_piece as piece_done, by_site as site_done, by_cell as cell_done}
 use Rattle.av_space.proofs.ByPlace.{pair_at, place_of, pairs_by_place, from_map as got_from_map}
-use Rattle.av_space.proofs.Elements.{got}
-use Rattle.av_base.proofs.Lists.{some_is}
+use Rattle.av_base.proofs.Lists.{some_is, place_in}
 
 -- ---- entries
 
@@ -84,7 +83,7 @@ get_cases (z ∷ xs) y x (suc k) e = ⊎_elim (λ f. inl f) (λ f. inr (ap suc f
 
 pub from_filter : {X : Type 0} (p : X → Bool) (xs : List X) (x : X) → Contains (filter p xs) x → Contains xs x × IsTrue (p x)
 from_filter p xs x c =
-    let i = got (filter p xs) x c in
+    let i = place_in (filter p xs) x c in
     let j = place_of p xs i.0 x i.1 in
     (among_at xs j.0 x j.1, All-contains (λ y. IsTrue (p y)) (filter p xs) x (filter_passes p xs) c)
 

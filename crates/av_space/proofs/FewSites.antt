@@ -22,13 +22,13 @@ use Rattle.av_depend.specs.ComputedPlaces.{computed_at}
 use Rattle.av_space.specs.Links.{AreLinks}
 use Rattle.av_space.specs.Quantities.{size, Use, IsUse, IsOperatorCount}
 use Rattle.av_space.specs.Layouts.{IsLayout}
-use Rattle.av_space.proofs.Elements.{got, at_index, in_range}
+use Rattle.av_space.proofs.Elements.{at_index, in_range}
 use Rattle.av_space.proofs.Nodes.{node_chained}
 use Rattle.av_space.proofs.OneCell.{one_node}
 use Rattle.av_space.proofs.Scheduling.{scheduled}
 use Rattle.av_space.proofs.Timely.{stands}
 use Rattle.av_space.proofs.CountBounds.{few_places_in}
-use Rattle.av_base.proofs.Lists.{get_mapped, some_is, there_is}
+use Rattle.av_base.proofs.Lists.{get_mapped, some_is, there_is, place_in}
 
 -- ---- places and parts
 
@@ -128,7 +128,7 @@ module _ (t : Timed) (l : Layout) (legal : IsLegal t) (layout : IsLayout t l) (m
   unfolding used
   counted n v is j p at =
       let u = used n v is j p at in
-      let place = got count.uses (record { cell = u.0; piece = j }) (count.all (record { cell = u.0; piece = j }) p u.1) in
+      let place = place_in count.uses (record { cell = u.0; piece = j }) (count.all (record { cell = u.0; piece = j }) p u.1) in
       let low = in_range count.uses place.0 (record { cell = u.0; piece = j }) place.1 in
       let pair = count.paired in
       let q = there_is count.pieces place.0 (omega (arith, low, pair)) in

@@ -8,9 +8,9 @@ use Rattle.av_space.specs.declared.cells.Cell.{Cell}
 use Rattle.av_space.specs.Coordinates.{Placing}
 use Rattle.av_space.specs.Taps.{node_of}
 use Rattle.av_space.specs.Quantities.{Use, IsUse, IsOperatorCount, size}
-use Rattle.av_space.proofs.Elements.{got, in_range}
+use Rattle.av_space.proofs.Elements.{in_range}
 use Rattle.av_base.proofs.Among.{among_at, among_cases, first_among, more_among, none_among}
-use Rattle.av_base.proofs.Lists.{pairs_first, pairs_rest}
+use Rattle.av_base.proofs.Lists.{pairs_first, pairs_rest, place_in}
 
 -- ---- totals of lists with the same elements, each once
 
@@ -67,7 +67,7 @@ pub same_totals : {X : Type 0} (f : X → ℕ) (xs ys : List X) → AreApart xs 
 same_totals f [] [] h g over back = refl
 same_totals f [] (y ∷ ys) h g over back = absurd (none_among y (back y (first_among y ys)))
 same_totals f (x ∷ xs) ys h g over back =
-    let at = got ys x (over x (first_among x xs)) in
+    let at = place_in ys x (over x (first_among x xs)) in
     let rest = same_totals f xs (without ys at.0) h.1 (apart_without ys at.0 g)
     (λ z c. still_among ys at.0 x z at.1 (λ e. h.0 (subst (Contains xs) e c)) (over z (more_among x z xs c)))
     (λ z c. ⊎_elim (λ e. absurd (other_among ys at.0 x z g at.1 c (sym e))) (λ d. d) (among_cases x z xs (back z (among_without ys at.0 z c)))) in
@@ -117,7 +117,7 @@ module _ (s : FlatSystem) (placings : List Placing) (cells : List Cell) where
     where
       over : (m n : ℕ) (h : IsOperatorCount s placings cells m) (k : IsOperatorCount s placings cells n) (u : Use) → Contains h.uses u → Contains k.uses u
       over m n h k u c =
-          let at = got h.uses u c in
+          let at = place_in h.uses u c in
           let there = place_of h.pieces at.0 (subst (λ l. at.0 < l) (sym h.paired) (in_range h.uses at.0 u at.1)) in
           k.all u there.0 (h.each at.0 u there.0 at.1 there.1)
         where

@@ -13,8 +13,7 @@ use Rattle.av_space.specs.declared.cells.Cell.{Cell}
 use Rattle.av_space.specs.Coordinates.{Placing}
 use Rattle.av_space.specs.Quantities.{size, Use, IsUse, IsOperatorCount}
 use Rattle.av_space.specs.inner.Counting.{IsCountOf, capped, IsCappedCount, IsOnCell}
-use Rattle.av_space.proofs.Elements.{got}
-use Rattle.av_base.proofs.Lists.{get_second, some_is, there_is}
+use Rattle.av_base.proofs.Lists.{get_second, some_is, there_is, place_in}
 
 -- ---- lists side by side
 
@@ -82,14 +81,14 @@ module _ (s : FlatSystem) (placings : List Placing) (cells : List Cell) where
     where
       of_left : (u : Use) → Contains a.uses u → P u
       of_left u c =
-          let i = got a.uses u c in
+          let i = place_in a.uses u c in
           let l = slice_get_within a.uses i.0 u i.1 in
           let q = there_is a.pieces i.0 (let e = a.paired in omega (arith, e, l)) in
           (a.each i.0 u q.0 i.1 q.1).0
 
       of_right : (u : Use) → Contains b.uses u → Q u
       of_right u c =
-          let i = got b.uses u c in
+          let i = place_in b.uses u c in
           let l = slice_get_within b.uses i.0 u i.1 in
           let q = there_is b.pieces i.0 (let e = b.paired in omega (arith, e, l)) in
           (b.each i.0 u q.0 i.1 q.1).0

@@ -17,10 +17,10 @@ use Rattle.av_space.specs.Taps.{Place, places_in, places_from, Tap, taps_at, is_
 use Rattle.av_depend.specs.ComputedPlaces.{computed_at}
 use Rattle.av_space.specs.inner.Feeding.{StandAt}
 use Rattle.av_space.specs.inner.SpotTaps.{IsComputedRead}
-use Rattle.av_space.proofs.Elements.{each_at, got}
+use Rattle.av_space.proofs.Elements.{each_at}
 use Rattle.av_space.proofs.PieceParts.{stand_left, stand_right}
 use Rattle.av_space.proofs.Timely.{IsPlaceIn, places_are}
-use Rattle.av_base.proofs.Lists.{each_append, some_is}
+use Rattle.av_base.proofs.Lists.{each_append, some_is, place_in}
 use Rattle.av_base.proofs.Among.{among_flat_map}
 
 -- ---- what a place is
@@ -75,12 +75,12 @@ places_known vs whole k n (reduction o m t set) h partial = tt
 -- of a place of the whole tree
 pub place_known : (vs : List Signature) (k : ℕ) (t : Tree) → EachPart (IsOfPartial vs) t → (p : Place) → Contains (places_in k 0 t) p → IsPlaceBy vs (references t) p p.tree
 place_known vs k t partial p among =
-    let i = got (places_in k 0 t) p among in
+    let i = place_in (places_in k 0 t) p among in
     let whole : StandAt 0 (references t) (references t) = λ j x e. (let a : j ≡ 0 + j = omega arith in subst (λ (m : ℕ). slice_get (references t) m ≡ Some x) a e) in
     each_at (IsKnown vs (references t)) (places_in k 0 t) (places_known vs (references t) k 0 t whole partial) i.0 p i.1
 
 pub place_read : (k : ℕ) (t : Tree) (p : Place) → Contains (places_in k 0 t) p → IsPlaceIn k t p
-place_read k t p among = let i = got (places_in k 0 t) p among in each_at (IsPlaceIn k t) (places_in k 0 t) (places_are k 0 t) i.0 p i.1
+place_read k t p among = let i = place_in (places_in k 0 t) p among in each_at (IsPlaceIn k t) (places_in k 0 t) (places_are k 0 t) i.0 p i.1
 
 -- what a pick reads is computed
 partial_computed : (k : Kind) → IsTrue (is_kind k kind.Partial) → is_computed k ≡ true
@@ -120,7 +120,7 @@ place_among (suc k) j (q ∷ pieces) piece p is c =
 -- a tap of a place of a piece is a tap site of the variable
 pub tap_site : (s : FlatSystem) (hs : List Helper) (own : ℕ) (v : Variable) (k : ℕ) (piece : Piece) (p : Place) (tap : Tap) → slice_get v.pieces k ≡ Some piece → Contains (places_in k 0 piece.tree) p → Contains (taps_at s hs own p.tree p) tap
     → (number : ℕ) × (slice_get (taps s hs own v) number ≡ Some tap)
-tap_site s hs own v k piece p tap is among at = got (taps s hs own v) tap (by (is_own own tap.place.tree) refl)
+tap_site s hs own v k piece p tap is among at = place_in (taps s hs own v) tap (by (is_own own tap.place.tree) refl)
   where
     e : k ≡ 0 + k
     e = omega arith

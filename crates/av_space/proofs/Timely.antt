@@ -32,11 +32,11 @@ use Rattle.av_flat.specs.Helped.{before}
 use Rattle.av_space.specs.inner.SpotTaps.{IsComputedRead}
 use Rattle.av_space.specs.Taps.{Handing, helper_at, Place, places_in, places_from, Way, each, entries, handed, Tap, taps_by, taps_at, is_own, all_taps, taps, IsReadBy, IsTapRead}
 use Rattle.av_depend.specs.ComputedPlaces.{computed_at}
-use Rattle.av_space.proofs.Elements.{each_at, got, in_range}
+use Rattle.av_space.proofs.Elements.{each_at, in_range}
 use Rattle.av_space.proofs.NodePlaces.{node_at}
 use Rattle.av_space.proofs.CountBounds.{natural}
 use Rattle.av_base.proofs.Among.{among_at}
-use Rattle.av_base.proofs.Lists.{each_append, each_by_place, each_filtered, each_weaker, get_mapped, some_is, there_is}
+use Rattle.av_base.proofs.Lists.{each_append, each_by_place, each_filtered, each_weaker, get_mapped, some_is, there_is, place_in}
 
 -- ---- where taps come from
 
@@ -272,7 +272,7 @@ stands s hs placings cells g k y comp pl at =
     let b = natural (cycle pl.time y) start in
     let cell : CellMade = record { node = k; at = along pl.rows y } in
     let used : IsUsed s placings cell = (b.0, k, y, record { computation = comp; placing = pl; is_placing = at; node = refl; at = refl; in_cycle = b.1 }) in
-    let place = got cells cell (g.are_cells.all cell used) in
+    let place = place_in cells cell (g.are_cells.all cell used) in
     (place.0, b.0, b.1, record { cell = cell; is_cell = place.1; stands = used.3 })
 
 -- and where its reader is a cycle later, so many cycles before it

@@ -35,12 +35,11 @@ use Rattle.av_space.specs.Listings.{input_name, output_name, value_name, InLine,
 use Rattle.av_space.specs.Arrays.{IsArrayOf}
 use Rattle.av_space.specs.Whole.{IsOwnWire, IsListedOnce, IsOnTime, IsPresented, IsWhole}
 use Rattle.av_space.proofs.ByPlace.{from_map, pair_at, pairs_by_place, all_by_place, place_of}
-use Rattle.av_space.proofs.Elements.{got}
 use Rattle.av_space.proofs.OneCell.{one_node}
 use Rattle.av_space.proofs.Placed.{one_point}
 use Rattle.av_depend.proofs.Generators.{before_itself}
 use Rattle.av_space.proofs.CountBounds.{natural}
-use Rattle.av_base.proofs.Lists.{all_at, get_mapped, some_is, there_is}
+use Rattle.av_base.proofs.Lists.{all_at, get_mapped, some_is, there_is, place_in}
 
 -- ---- orders
 
@@ -217,7 +216,7 @@ module _ (t : Timed) (a : Cells) (legal : IsLegal t) (list : IsArrayOf t a) (few
       let c = natural (cycle pl.placing.time z) (legal.schedule.starts n z pl.placing.time computation pl.is_time) in
       let cell : Cell = record { node = n; at = along pl.placing.rows z } in
       let used : Occupies own pls cell c.0 n z = record { computation = computation; placing = pl.placing; is_placing = pl.is; node = refl; at = refl; in_cycle = c.1 } in
-      let p = got a.cells cell (list.cells.all cell (c.0, n, z, used)) in
+      let p = place_in a.cells cell (list.cells.all cell (c.0, n, z, used)) in
       (p.0, c.0, record { cell = cell; is_cell = p.1; stands = used })
 
   -- ---- lines of inputs
@@ -358,7 +357,7 @@ module _ (t : Timed) (a : Cells) (legal : IsLegal t) (list : IsArrayOf t a) (few
       go kind.Local computed shown test = (
         value_name p,
         value (λ among.
-            let i = got a.outputs p among in
+            let i = place_in a.outputs p among in
             let yes = passed (is_output_cell own a.cells) (range_with_len 0 (length a.cells)) p i.0 (ap (λ (ps : List ℕ). slice_get ps i.0) (sym outputs) ∙ i.1) in
             (let no : true ≡ false = sym yes ∙ test in absurd cc)),
         inr (refl, refl),
@@ -371,7 +370,7 @@ module _ (t : Timed) (a : Cells) (legal : IsLegal t) (list : IsArrayOf t a) (few
       let w = wire_of n s.0 s.1 v z e shown s.2 in
       let l : AtLine = record { node = n; entry = record { variable = v.name; point = z; wire = w.0; cycle = s.1 } } in
       let is : IsAtLine own pls a.cells a.outputs l = record { cell = s.0; computes = s.2; variable = v; is_variable = e; shown = shown; variable_is = refl; wire_is = w.1 } in
-      let at = got list.ats.lines l (list.ats.all l is) in
+      let at = place_in list.ats.lines l (list.ats.all l is) in
       record {
         number = at.0;
         line = l.entry;

@@ -1,16 +1,15 @@
 -- Numbers are read from their decimal digits.
 use Rattle.std.proofs.Common.{◌≡◌, ℕ, zero, suc, ◌+◌, ◌^◌, ◌<◌, ◌≤◌, Bool, true, false, cond, not, List, [], ◌∷◌, length, get_or, Option, Some, None, refl, sym, ap, subst, ◌∙◌, arith, rules, true≢false}
-use Rattle.std.specs.Prelude.{◌&&◌, ◌||◌, nat_eq, nat_lt, nat_le, ℤ, pos, negsuc, nat_abs, decimal, IsTrue}
+use Rattle.std.specs.Prelude.{◌&&◌, ◌||◌, nat_eq, nat_lt, nat_le, ℤ, pos, negsuc, nat_abs, decimal}
 use Rattle.std.specs.Fmt.{signed_decimal}
 use Rattle.std.specs.Char.{is_ascii_digit}
-use Rattle.std.specs.List.{prefix_len, AllByRecursion}
+use Rattle.std.specs.List.{prefix_len}
 use Rattle.std.specs.Str.{all_ascii_digits}
 use Rattle.std.proofs.Math.Numerals.{one-add}
 use Rattle.std.proofs.lemmas.Bool.{ltb-true, leb-true, eqb-true}
 use Rattle.std.proofs.lemmas.Fmt.{digits_decimal, digits_value-decimal, decimal-digits_value, decimal_digit, first_decimal, decimal_nonempty}
 use Rattle.std.proofs.lemmas.Str.Parse.{IsNumeralModel, numerals_by_fold, tells_all_ascii_digits}
-use Rattle.std.proofs.lemmas.List.Elements.{All-from_recursion}
-use Rattle.av_base.specs.Tokens.{number_of, number_from, IsDigits}
+use Rattle.av_base.specs.Tokens.{number_of, number_from}
 use Rattle.av_vread.specs.inner.Reading.{are_digits}
 use Rattle.av_vread.specs.inner.Entries.{is_numeral, numeral_of, below_zero, not_below, index_of}
 use Rattle.av_vread.specs.inner.Lines.{is_not}
@@ -157,17 +156,6 @@ index_gives (pos n) most = above_gives (decimal n) n (first_digit (decimal n) (d
 index_gives (negsuc n) most = ap below_zero (numeral_gives (suc n) most) ∙ below_suc n
 
 -- ---- numbers of 64 bits
-
-pub number_digits : (n : ℕ) → n < 2 ^ 64 → IsDigits (decimal n)
-number_digits n small = go (decimal n) (digits_decimal own n small) (decimal_nonempty n small)
-  where
-    all : (text : List ℕ) → all_ascii_digits text ≡ true → AllByRecursion (λ x. IsTrue (is_ascii_digit x)) text
-    all [] e = tt
-    all (b ∷ text) e = let z = both (is_ascii_digit b) (all_ascii_digits text) e in (z.0, all text z.1)
-
-    go : (text : List ℕ) → all_ascii_digits text ≡ true → 0 < length text → IsDigits text
-    go [] e lt = absurd (omega arith)
-    go (b ∷ text) e lt = let z = both (is_ascii_digit b) (all_ascii_digits text) e in (z.0, All-from_recursion (λ x. IsTrue (is_ascii_digit x)) text (all text z.1))
 
 pub number_value : (n : ℕ) → n < 2 ^ 64 → number_of (decimal n) ≡ n
 number_value n small = digits_value-decimal own n small

@@ -23,11 +23,12 @@ use Rattle.av_net.specs.Sound.{ComparesByOrder}
 use Rattle.av_net.specs.Lexemes.{Token}
 use Rattle.av_net.specs.Grammar.{Text, wire, register, Item, drive, step, AreWords, no_word, next_word, IsNameAt, name, number, IsLiteral, literal, end, IsRange, range, IsPort, IsDeclaration, wire_declaration, register_declaration, IsOperand, named, constant, spelling, IsSigned, IsOperation, plain, binary, signed, choice, IsDrive, IsEdge, IsItem, assignment, at_an_edge, AreMany, no_more, one_more, IsClocked, IsText}
 use Rattle.av_vread.specs.SpelledParts.{IsOperandSpelled, IsDriveSpelled, IsStepSpelled, IsModuleSpelled}
-use Rattle.av_vread.proofs.Numerals.{number_digits, number_value}
+use Rattle.av_vread.proofs.Numerals.{number_value}
 use Rattle.av_vread.proofs.Spaced.{Written, past, passed, tokens_from}
 use Rattle.av_vread.proofs.WrittenParts as part
 use Rattle.av_vread.proofs.WrittenParts.{operand_part, range_parts, port_parts, ports_onto, end_of_line, declaration_parts, declarations_onto, signed_parts, operation_parts, drive_onto, drives_onto, edge_parts, otherwise_onto, becomes_onto, step_onto, steps_onto, clocked_parts, items_onto, body_onto, closed_onto, module_parts}
 use Rattle.av_vread.proofs.BeginningTexts.{many_append}
+use Rattle.av_base.proofs.Digits.{number_digits}
 
 -- ---- tokens that are no names
 

@@ -25,11 +25,11 @@ use Rattle.av_net.specs.Spelling.{is_reserved}
 use Rattle.av_vread.specs.SpelledParts.{IsOperandSpelled, IsPortSpelled, IsDriveSpelled, IsStepSpelled, IsModuleSpelled}
 use Rattle.av_base.proofs.Tables.{is_there, none_there}
 use Rattle.av_vread.proofs.Each.{all_front, all_back}
-use Rattle.av_vread.proofs.Numerals.{number_digits}
 use Rattle.av_vread.proofs.Spaced.{Written, bytes_of, IsNext, AreBlank, AreSpaced}
 use Rattle.av_vread.proofs.NextTokens.{is_clear, name_next, reserved_next, plain_next, single_next, pair_next, signed_next, number_next, literal_next}
 use Rattle.av_vread.proofs.WrittenParts.{word, named, symbol, literal, operand_part, range_parts, port_parts, ports_onto, end_of_line, declaration_parts, declarations_onto, signed_parts, operation_parts, drive_onto, drives_onto, edge_parts, otherwise_onto, becomes_onto, step_onto, steps_onto, closed_onto, module_parts}
 use Rattle.av_vread.proofs.WrittenGrammar.{word_small, reset_width, reset_bits}
+use Rattle.av_base.proofs.Digits.{number_digits}
 
 abbrev pub ArePortsSpelled : List Port → Type 0
 ArePortsSpelled ports = AllByRecursion IsPortSpelled ports
