@@ -21,4 +21,4 @@ pub mod Reporting
 pub mod Entering
 mod ResultLines
 mod Totals
-mod Telling
+mod Outputs

@@ -57,7 +57,6 @@ use Rattle.av_cli.specs.AlphaRefusals.{alpha_reason}
 use Rattle.av_cli.specs.Runs.{RefusesRun, no_mark, bad_system, bad_data, HasData, results, is_result, GivesResults, GivesTrace}
 use Rattle.av_cli.specs.inner.Written.{IsPut, IsAnswered, refused, given, no_memory}
 use Rattle.av_cli.specs.inner.Reported.{GivesReport, RefusesRunWith, GivesReportWith, IsClockable, names_output, is_output_named, RefusesLines, AreResultsOf, IsTraceOf, GivesReported}
-use Rattle.av_cli.specs.inner.Tellings.{told}
 use Rattle.av_compile.proofs.Meant.{meaning}
 use Rattle.av_compile.proofs.OneRefusal.{memory_or_not}
 use Rattle.av_cli.proofs.Tabling.{not_unmapped}
@@ -235,7 +234,7 @@ module _ (bytes : List ℕ) (sizes : List Size) (bits box : ℕ) (t : Timed) (a 
           let from = declared_from own.variables (is_kind kind.Output) line.variable line.point declared in
           output_named own.variables line.variable from.place from.variable from.at (output_kind from.variable.kind ∙ from.kind) from.named
 
-  -- ---- what is told of the run
+  -- ---- what is reported of the run
 
   pub results_given : (x : Assignment) (out : List ℕ) (rest whole : List ℕ) (first : ℕ) → IsDivided whole bytes rest first → SpellsInputs own rest x → AreInputsOf own x → AreResultsOf t d x out → GivesResults sizes bits box whole out
   results_given x out rest whole first divided spelled inputs shows =
@@ -274,7 +273,7 @@ module _ (bytes : List ℕ) (sizes : List Size) (bits box : ℕ) (t : Timed) (a 
   report_given Results out rest whole first divided g = results_given g.inputs out rest whole first divided g.spelled g.are g.reports
   report_given Trace out rest whole first divided g = trace_given g.inputs out rest whole first divided g.spelled g.are g.reports
 
-  -- the answer to the lines of data, told of the whole input
+  -- the answer to the lines of data, as one to the whole input
   pub report_answered : (words : List (List ℕ)) (report : Report) (rest whole : List ℕ) (first : ℕ) {sink sink' : SinkState} {status : Status} → IsDivided whole bytes rest first → GiveSizes words sizes
       → IsAnswered (RefusesLines t first rest) (GivesReported report t a d rest) sink sink' status
       → IsAnswered (RefusesRunWith words bits box whole) (GivesReportWith report words bits box whole) sink sink' status

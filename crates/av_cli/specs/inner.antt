@@ -2,7 +2,7 @@ pub mod Watching
 pub mod Feeding
 pub mod DemoData
 pub mod Reported
-pub mod Tellings
+pub mod Outputs
 pub mod DemoWords
 pub mod Clocking
 pub mod Asked

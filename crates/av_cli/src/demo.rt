@@ -8,7 +8,7 @@ ghost use Rattle.av_data.specs.Tables.{totals_line};
 ghost use Rattle.av_cli.specs.Demos.{product_sizes, GivesDemo};
 ghost use Rattle.av_cli.specs.inner.DemoData.{entry, entries, IsEntered, IsSummed};
 ghost use Rattle.av_cli.specs.inner.Feeding.{AreSmall};
-ghost use Rattle.av_cli.specs.inner.Tellings.{IsTold};
+ghost use Rattle.av_cli.specs.inner.Outputs.{PutsOneOf};
 ghost use Rattle.av_cli.specs.inner.Watching.{bits_of};
 
 use crate::showing::{Data, shown_of};
@@ -80,7 +80,7 @@ pub(crate) fn demo<K: Sink>(
     sink: &mut K,
 ) -> Status
     requires { size ≤ 16 }
-    ensures { IsTold (GivesDemo size width.bits reach.size) (K.state sink.old) (K.state sink.new) result }
+    ensures { PutsOneOf (GivesDemo size width.bits reach.size) (K.state sink.old) (K.state sink.new) result }
 {
     let Ok(sizes) = product_sizes(alloc, size) else {
         return Status::Memory;
@@ -94,7 +94,7 @@ pub(crate) fn demo<K: Sink>(
 // Clocks the design on the entries, and adds the two lines.
 fn multiply<K: Sink>(alloc: Global, compiled: &Compiled, width: Width, sink: &mut K) -> Status
     requires { IsEntered compiled.now.design width.bits }
-    ensures { IsTold (IsSummed compiled.now.cells compiled.now.design width.bits) (K.state sink.old) (K.state sink.new) result }
+    ensures { PutsOneOf (IsSummed compiled.now.cells compiled.now.design width.bits) (K.state sink.old) (K.state sink.new) result }
 {
     match shown_of(alloc, &compiled.design, &Entries { width }) {
         Err(Memory) => Status::Memory,

@@ -11,7 +11,7 @@ ghost use Rattle.av_cli.specs.Runs.{results};
 ghost use Rattle.av_cli.specs.Simulated.{IsStimulated, run_lines};
 ghost use Rattle.av_cli.specs.inner.Written.{IsAnswered};
 ghost use Rattle.av_cli.specs.inner.Reported.{RefusesRunWith, GivesReportWith, IsClockable, is_output_named, names_output, RefusesLines, IsReport, GivesReported};
-ghost use Rattle.av_cli.specs.inner.Tellings.{IsTold};
+ghost use Rattle.av_cli.specs.inner.Outputs.{PutsOneOf};
 ghost use Rattle.av_cli.specs.inner.Watching.{bits_of};
 ghost use Rattle.av_cli.specs.declared.runs.Report.TheVariants as report;
 
@@ -32,7 +32,7 @@ const NO_MARK: &str = "refused: no mark\n";
 
 const MARK: &str = "%%\n";
 
-/// What is told of a run: the words of the outputs, or the design and each cycle.
+/// What is reported of a run: the words of the outputs, or the design and each cycle.
 #[derive(Clone, Copy, Debug)]
 pub(crate) enum Report {
     Results,
@@ -91,7 +91,7 @@ fn report_on<K: Sink>(
 fn put_results<K: Sink>(alloc: Global, compiled: &Compiled, inputs: &Inputs, sink: &mut K) -> Status
     requires clockable { IsClockable compiled.now.timed compiled.now.design }
     requires inputs { AreInputsOf (view_system compiled.now.timed.flat) (words_of inputs.now) }
-    ensures { IsTold (IsReport report.Results compiled.now.timed compiled.now.cells compiled.now.design (words_of inputs.now)) (K.state sink.old) (K.state sink.new) result }
+    ensures { PutsOneOf (IsReport report.Results compiled.now.timed compiled.now.cells compiled.now.design (words_of inputs.now)) (K.state sink.old) (K.state sink.new) result }
 {
     match shown(alloc, &compiled.design, inputs) {
         Err(Memory) => Status::Memory,
@@ -150,7 +150,7 @@ fn write_results<K: Sink>(
 fn put_trace<K: Sink>(alloc: Global, compiled: &Compiled, inputs: &Inputs, sink: &mut K) -> Status
     requires clockable { IsClockable compiled.now.timed compiled.now.design }
     requires inputs { AreInputsOf (view_system compiled.now.timed.flat) (words_of inputs.now) }
-    ensures { IsTold (IsReport report.Trace compiled.now.timed compiled.now.cells compiled.now.design (words_of inputs.now)) (K.state sink.old) (K.state sink.new) result }
+    ensures { PutsOneOf (IsReport report.Trace compiled.now.timed compiled.now.cells compiled.now.design (words_of inputs.now)) (K.state sink.old) (K.state sink.new) result }
 {
     let design = &compiled.design;
     match feed(alloc, design, inputs, compiled.cells.cycles) {

@@ -61,7 +61,7 @@ pub enum Refusal {
     /// rational ray.
     Unbounded(Name),
     /// No branch has a word at the least such point of the variable. The reference that is blamed, where one is, is
-    /// told by the variable that it reads and the point which that does not have.
+    /// identified by the variable that it reads and the point which that does not have.
     Uncovered {
         variable: Name,
         point: Point,

@@ -2,5 +2,5 @@ pub mod Parts
 pub mod Sayings
 pub mod ReadData
 pub mod Walks
-pub mod Said
+pub mod Settings
 pub mod Named

@@ -2,7 +2,7 @@
 
 ghost use Rattle.std.specs.Prelude.{◌≡◌, Some, None, IfSome, IfNone};
 ghost use Rattle.av_data.specs.Reading.{is_empty, cycles_digits, setting_by, setting_behind, setting_in};
-ghost use Rattle.av_data.specs.inner.Said.{said};
+ghost use Rattle.av_data.specs.inner.Settings.{view_setting};
 
 use crate::lines::first_part;
 use crate::spelling::are_digits;
@@ -33,7 +33,7 @@ pub(crate) fn cycles_digits(text: &[u8]) -> Option<&[u8]>
 }
 
 fn checked<'a>(word: &[u8], setting: Setting<'a>, extra: &[u8]) -> Option<Setting<'a>>
-    ensures some { IfSome result (λ s. setting_by word.now setting.entry.cycle.now setting.entry.port.now setting.entry.value.now extra.now ≡ Some (said s)) }
+    ensures some { IfSome result (λ s. setting_by word.now setting.entry.cycle.now setting.entry.port.now setting.entry.value.now extra.now ≡ Some (view_setting s)) }
     ensures none { IfNone result (setting_by word.now setting.entry.cycle.now setting.entry.port.now setting.entry.value.now extra.now ≡ None) }
 {
     if word == b"at".as_slice()
@@ -49,7 +49,7 @@ fn checked<'a>(word: &[u8], setting: Setting<'a>, extra: &[u8]) -> Option<Settin
 }
 
 fn setting_behind<'a>(word: &[u8], text: &'a [u8]) -> Option<Setting<'a>>
-    ensures some { IfSome result (λ s. setting_behind word.now text.now ≡ Some (said s)) }
+    ensures some { IfSome result (λ s. setting_behind word.now text.now ≡ Some (view_setting s)) }
     ensures none { IfNone result (setting_behind word.now text.now ≡ None) }
 {
     let (cycle, rest) = first_part(text);
@@ -62,7 +62,7 @@ fn setting_behind<'a>(word: &[u8], text: &'a [u8]) -> Option<Setting<'a>>
 /// What stands behind `at`, where that is a cycle, a name, a value and nothing else.
 #[tactic(auto, unfolding(crate::specs::Reading::setting_in))]
 pub(crate) fn setting_in(text: &[u8]) -> Option<Setting<'_>>
-    ensures some { IfSome result (λ s. setting_in text.now ≡ Some (said s)) }
+    ensures some { IfSome result (λ s. setting_in text.now ≡ Some (view_setting s)) }
     ensures none { IfNone result (setting_in text.now ≡ None) }
 {
     let (word, rest) = first_part(text);

@@ -3,7 +3,7 @@
 ghost use Rattle.std.specs.Prelude.{◌≡◌, ◌<◌, ◌+◌, ◌≤◌, length, drop, Ok, Err, Some, [], OnOk, IfErr, IfOk};
 ghost use Rattle.av_net.specs.Names.{AreDistinct, names_of};
 ghost use Rattle.av_data.specs.Reading.{cycles_digits, cycles_at, cycles_by, value_at, given_at, place_of, stimulus_of, FaultIs, Answers};
-ghost use Rattle.av_data.specs.inner.Said.{said};
+ghost use Rattle.av_data.specs.inner.Settings.{view_setting};
 
 use crate::DataFault;
 use crate::forms::{Setting, cycles_digits, setting_in};
@@ -51,8 +51,8 @@ fn give(
     line: u32,
     setting: &Setting,
 ) -> Result<(), DataFault>
-    ensures ok { OnOk result (given_at inputs.now cycles line values.old (said setting.now) (place_of inputs.now setting.now.port.now) ≡ Ok values.new) }
-    ensures err { IfErr result (λ fault. FaultIs fault (given_at inputs.now cycles line values.old (said setting.now) (place_of inputs.now setting.now.port.now))) }
+    ensures ok { OnOk result (given_at inputs.now cycles line values.old (view_setting setting.now) (place_of inputs.now setting.now.port.now) ≡ Ok values.new) }
+    ensures err { IfErr result (λ fault. FaultIs fault (given_at inputs.now cycles line values.old (view_setting setting.now) (place_of inputs.now setting.now.port.now))) }
 {
     let Some(port) = inputs.place(setting.port)? else {
         return Err(DataFault::DataUnknown(line));

@@ -8,7 +8,7 @@ use std::alloc::Global;
 use std::collections::BTreeMap;
 use std::marker::Model;
 
-/// The words of points, each told by the place of its variable and by its entries.
+/// The words of points, each identified by the position of its variable and its entries.
 #[derive(Drop)]
 pub(crate) struct WordMap {
     words: BTreeMap<(usize, ArrayVec<i64, 4>), u64>,

@@ -10,7 +10,7 @@ use Rattle.av_sched.specs.Offsets.{part}
 use Rattle.av_sched.specs.First.{IsFirstChoice}
 use Rattle.av_sched.specs.Order.{cost, IsLess}
 use Rattle.av_sched.specs.inner.Walk.{HasWalked, IsLike}
-use Rattle.av_sched.specs.inner.FirstChoices.{HasNone, IsBestChoice, AreFirstChoices, IsStuck}
+use Rattle.av_sched.specs.inner.FirstChoices.{HasNone, IsBestChoice, AreFirstChoices, IsFirstInfeasible}
 use Rattle.av_sched.proofs.Tries.{SameIn, same_cost, same_feasible, first_of_all, none_of_all}
 use Rattle.std.proofs.lemmas.Option.{slice_get-get_or}
 use Rattle.av_sched.proofs.Steps.{take_more}
@@ -77,7 +77,7 @@ chosen_more s c components k linear best are l h new = record {
         among xs j e r = Contains-get_or xs j e r
 
 -- the first without a feasible choice
-pub stuck_at : (s : FlatSystem) (c : ℕ) (components : List (List ℕ)) (k : ℕ) (linear : List Point) → k < length components → AreFirstChoices s c (take k components) linear → HasNone s c (get_or components k []) → IsStuck s c components k
+pub stuck_at : (s : FlatSystem) (c : ℕ) (components : List (List ℕ)) (k : ℕ) (linear : List Point) → k < length components → AreFirstChoices s c (take k components) linear → HasNone s c (get_or components k []) → IsFirstInfeasible s c components k
 stuck_at s c components k linear l h none = record {
   component = get_or components k [];
   is = slice_get-get_or components k [] l;

@@ -18,7 +18,7 @@ use Rattle.av_sched.specs.Offsets.{AreLeastOffsets}
 use Rattle.av_sched.specs.Choices.{AreLinearParts, HasSchedule, candidates}
 use Rattle.av_sched.specs.First.{IsFirstChoice, IsFirstSchedule}
 use Rattle.av_sched.specs.SchedFaults.{HasManyCandidates, HasNoSchedule, IsFault}
-use Rattle.av_sched.specs.inner.FirstChoices.{AreFirstChoices, IsStuck}
+use Rattle.av_sched.specs.inner.FirstChoices.{AreFirstChoices, IsFirstInfeasible}
 use Rattle.av_sched.proofs.Shifted.{feasible_of_schedule, schedule_of_feasible}
 
 -- linear parts that are first choices for all components, with least offsets
@@ -59,7 +59,7 @@ split_at (y ∷ xs) zero x e = let same : y ≡ x = cc in ap (λ (z : _). z ∷ 
 split_at (y ∷ xs) (suc k) x e = ap (λ ys. y ∷ ys) (split_at xs k x e)
 
 pub stuck_fault : (s : FlatSystem) (c : ℕ) (components : List (List ℕ)) (k : ℕ) (v : Variable) → IsChained s → c ≤ 4 → AreComponents (length (nodes s)) (ReadsNode s) components → All (λ d. candidates s c d ≤ 4194304) components
-    → (h : IsStuck s c components k) → slice_get (nodes s) (first_node h.component) ≡ Some v → HasNoSchedule s c v.name
+    → (h : IsFirstInfeasible s c components k) → slice_get (nodes s) (first_node h.component) ≡ Some v → HasNoSchedule s c v.name
 stuck_fault s c components k v chained wide are few h e = record {
   components = components;
   are_components = are;

@@ -11,7 +11,7 @@ ghost use Rattle.av_depend.specs.Components.{ReadsNode, AreComponents};
 ghost use Rattle.av_sched.specs.Choices.{AreLinearParts, IsFeasible};
 ghost use Rattle.av_sched.specs.inner.Walk.{AreAllParts};
 ghost use Rattle.av_sched.specs.inner.Prices.{ArePricesTo, AreFloorsTo};
-ghost use Rattle.av_sched.specs.inner.FirstChoices.{IsBestChoice, IsChosen, HasNone};
+ghost use Rattle.av_sched.specs.inner.FirstChoices.{IsBestChoice, IsSearchOutcome, HasNone};
 
 use crate::cost::{floors_of, prices_of};
 use crate::node::lists_of;
@@ -25,11 +25,11 @@ use std::alloc::Global;
 
 // What the search over all components comes to.
 #[derive(Debug, Drop)]
-pub(crate) enum Chosen {
+pub(crate) enum SearchOutcome {
     // linear parts that are the first choice for each
-    All(Vec<Point>),
+    Found(Vec<Point>),
     // the number of the first component without a feasible choice
-    Stuck(usize),
+    Infeasible(usize),
 }
 
 // What the walk through the choices of a component needs to know before.
@@ -111,22 +111,22 @@ pub(crate) fn choose_all(
     reach: Reach,
     components: &[List<u32>],
     start: Vec<Point>,
-) -> Result<Chosen, Memory>
+) -> Result<SearchOutcome, Memory>
     requires chained { IsChained (view_system flat.now) }
     requires proper { IsProper (view_system flat.now) }
     requires edges { AreEdgesOf (view_system flat.now) edges.now }
     requires components { AreComponents (length (nodes (view_system flat.now))) (ReadsNode (view_system flat.now)) components.now }
     requires start { AreLinearParts (view_system flat.now) reach.size start.items }
-    ensures { IfOk result (IsChosen (view_system flat.now) reach.size components.now) }
+    ensures { IfOk result (IsSearchOutcome (view_system flat.now) reach.size components.now) }
 {
     let mut linear = start;
     for k in 0..components.len() {
         match choose_one(alloc, flat, edges, reach, components[k].as_slice(), linear)? {
-            None => return Ok(Chosen::Stuck(k)),
+            None => return Ok(SearchOutcome::Infeasible(k)),
             Some(best) => {
                 linear = best;
             }
         }
     }
-    Ok(Chosen::All(linear))
+    Ok(SearchOutcome::Found(linear))
 }

@@ -8,12 +8,12 @@ ghost use Rattle.av_sched.specs.First.{IsFirstSchedule};
 ghost use Rattle.av_flat.specs.Nodes.{nodes};
 ghost use Rattle.av_depend.specs.Components.{ReadsNode, AreComponents};
 ghost use Rattle.av_sched.specs.Choices.{AreLinearParts, candidates};
-ghost use Rattle.av_sched.specs.inner.FirstChoices.{IsStuck, AreFirstChoices};
+ghost use Rattle.av_sched.specs.inner.FirstChoices.{IsFirstInfeasible, AreFirstChoices};
 ghost use Rattle.av_sched.specs.SchedFaults.{IsFault, HasManyCandidates, HasNoSchedule};
 ghost use Rattle.av_sched.specs.declared.fault.SchedFault.{SchedFault as FaultSeen};
 ghost use Rattle.av_sched.specs.declared.fault.SchedFault.TheVariants as fault;
 
-use crate::choose::{Chosen, choose_all};
+use crate::choose::{SearchOutcome, choose_all};
 use crate::fault::SchedFault;
 use crate::limit::too_many;
 use crate::node::place_of;
@@ -56,7 +56,7 @@ fn stuck_at(
     requires chained { IsChained (view_system flat.now) }
     requires components { AreComponents (length (nodes (view_system flat.now))) (ReadsNode (view_system flat.now)) components.now }
     requires few { All (λ d. candidates (view_system flat.now) _reach.size d ≤ 4194304) components.now }
-    requires stuck { IsStuck (view_system flat.now) _reach.size components.now k }
+    requires stuck { IsFirstInfeasible (view_system flat.now) _reach.size components.now k }
     ensures { IfOk result (λ name. HasNoSchedule (view_system flat.now) _reach.size name) }
 {
     let node = components[k].as_slice()[0] as usize;
@@ -110,11 +110,11 @@ pub fn search(alloc: Global, flat: &Flat, edges: &[Edge], reach: Reach) -> Resul
         Some(number) => Err(SchedFault::Candidates(number)),
         None => {
             match choose_all(alloc, flat, edges, reach, components.as_slice(), start)? {
-                Chosen::Stuck(k) => {
+                SearchOutcome::Infeasible(k) => {
                     let name = stuck_at(alloc, flat, reach, components.as_slice(), k)?;
                     Err(SchedFault::NoSchedule(name))
                 }
-                Chosen::All(linear) => match offsets(alloc, flat, edges, &linear)? {
+                SearchOutcome::Found(linear) => match offsets(alloc, flat, edges, &linear)? {
                     Some(found) => Ok(timed_of(alloc, flat, &linear, found.as_slice())?),
                     None => unreachable!(),
                 },

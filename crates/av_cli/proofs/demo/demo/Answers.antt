@@ -3,7 +3,7 @@ use Rattle.av_names.specs.declared.size.Size.{Size}
 use Rattle.av_compile.specs.Headline.{Headline}
 use Rattle.av_cli.specs.Demos.{product_text, product_sizes}
 use Rattle.av_cli.proofs.Entering.{entered, demo_given, product_short}
-use Rattle.av_cli.proofs.Telling.{told_more}
+use Rattle.av_cli.proofs.Outputs.{puts_more}
 use Rattle.av_cli.proofs.demo.demo.Goals as goal
 
 pub multiply-requires : goal.multiply-requires
@@ -24,4 +24,4 @@ returns g c =
     let headline : Headline product_text (product_sizes c.args.size) bits box made.timed made.cells made.design =
     subst (λ (text : List ℕ). Headline text (product_sizes c.args.size) bits box made.timed made.cells made.design) c.as_bytes.ensures.value
     (subst (λ (sizes : List Size). Headline c.as_bytes.result.now sizes bits box made.timed made.cells made.design) (c.as_slice.ensures ∙ c.in-Ok.ensures) c.in-Ok-compile.ensures.headline) in
-    told_more (demo_given c.args.size bits box made.timed made.cells made.design headline product_short) c.multiply.ensures
+    puts_more (demo_given c.args.size bits box made.timed made.cells made.design headline product_short) c.multiply.ensures

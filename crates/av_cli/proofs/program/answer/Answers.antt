@@ -8,7 +8,7 @@ use Rattle.av_cli.proofs.Scheduling.{schedule_answered}
 use Rattle.av_cli.proofs.Tabling.{table_answered}
 use Rattle.av_cli.proofs.Emitting.{emit_answered}
 use Rattle.av_cli.proofs.Reporting.{run_words, trace_words}
-use Rattle.av_cli.proofs.Telling.{told_given}
+use Rattle.av_cli.proofs.Outputs.{puts_given}
 use Rattle.av_cli.proofs.program.answer.Goals as goal
 
 pub returns-in-Check : goal.returns-in-Check
@@ -67,4 +67,4 @@ returns-in-Trace g c =
     (trace_words words width.bits reach.size bytes (subst (λ (x : Command). Are x words) c.in-Trace.is c.requires.read) c.answer_run-in-Trace.ensures)
 
 pub returns-in-Demo : goal.returns-in-Demo
-returns-in-Demo g c = by_command c.args.command (Demo c.in-Demo.width c.in-Demo.reach c.in-Demo.size) c.args.words.now c.args.bytes.now c.in-Demo.is (told_given (λ out given. given) c.demo.ensures)
+returns-in-Demo g c = by_command c.args.command (Demo c.in-Demo.width c.in-Demo.reach c.in-Demo.size) c.args.words.now c.args.bytes.now c.in-Demo.is (puts_given (λ out given. given) c.demo.ensures)

@@ -1,6 +1,6 @@
 use Rattle.std.proofs.Common.{◌∙◌, length, refl, sym, ap}
 use Rattle.av_data.specs.Inputs.{words_of}
-use Rattle.av_cli.proofs.Telling.{shown_long, results_told, results_failed}
+use Rattle.av_cli.proofs.Outputs.{shown_long, results_put, results_failed}
 use Rattle.av_cli.proofs.runs.put_results.Goals as goal
 
 pub shown-requires-clause-words : goal.shown-requires-clause-words
@@ -13,7 +13,7 @@ write_results-requires g c =
 pub returns-in-Ok-write_results : goal.returns-in-Ok-write_results
 returns-in-Ok-write_results g c =
     let compiled = c.args.compiled.now in
-    results_told compiled.timed compiled.cells compiled.design (words_of c.args.inputs.now) c.in-Ok.words c.as_slice.result.now c.as_slice-lines.result.now c.as_slice-lines.ensures c.as_slice.ensures c.in-Ok.ensures c.in-Ok-write_results.ensures.added
+    results_put compiled.timed compiled.cells compiled.design (words_of c.args.inputs.now) c.in-Ok.words c.as_slice.result.now c.as_slice-lines.result.now c.as_slice-lines.ensures c.as_slice.ensures c.in-Ok.ensures c.in-Ok-write_results.ensures.added
 
 pub returns : goal.returns
 returns g c =

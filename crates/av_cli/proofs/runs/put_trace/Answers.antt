@@ -1,7 +1,7 @@
 use Rattle.std.proofs.Common.{refl}
 use Rattle.av_data.specs.Inputs.{words_of}
 use Rattle.av_cli.proofs.Fed.{left}
-use Rattle.av_cli.proofs.Telling.{trace_told, trace_failed}
+use Rattle.av_cli.proofs.Outputs.{trace_put, trace_failed}
 use Rattle.av_cli.proofs.runs.put_trace.Goals as goal
 
 pub feed-requires-clause-words : goal.feed-requires-clause-words
@@ -15,7 +15,7 @@ write_trace-requires-clause-left g c =
 pub returns-in-Ok-write_trace : goal.returns-in-Ok-write_trace
 returns-in-Ok-write_trace g c =
     let compiled = c.args.compiled.now in
-    trace_told compiled.timed compiled.cells compiled.design (words_of c.args.inputs.now) c.in-Ok.stimulus c.requires.clockable.sound.sound c.in-Ok.ensures.values c.in-Ok.ensures.cycles c.in-Ok-write_trace.ensures.added
+    trace_put compiled.timed compiled.cells compiled.design (words_of c.args.inputs.now) c.in-Ok.stimulus c.requires.clockable.sound.sound c.in-Ok.ensures.values c.in-Ok.ensures.cycles c.in-Ok-write_trace.ensures.added
 
 pub returns : goal.returns
 returns g c =

@@ -2,7 +2,7 @@ use Rattle.std.proofs.Common.{List, ℕ, refl, sym, subst}
 use Rattle.av_data.specs.Inputs.{words_of}
 use Rattle.av_cli.specs.declared.runs.Report.{Report}
 use Rattle.av_cli.specs.inner.Reported.{GivesReported, IsReport}
-use Rattle.av_cli.proofs.Telling.{data_refused, told_given}
+use Rattle.av_cli.proofs.Outputs.{data_refused, puts_given}
 use Rattle.av_cli.proofs.runs.report_on.Goals as goal
 
 pub returns-in-Err : goal.returns-in-Err
@@ -15,7 +15,7 @@ pub returns-in-Results : goal.returns-in-Results
 returns-in-Results g c =
     let compiled = c.args.compiled.now in
     let x = words_of c.in-Ok.inputs in
-    told_given (λ (out : List ℕ) told. record {
+    puts_given (λ (out : List ℕ) told. record {
       inputs = x;
       spelled = c.in-Ok.ensures.found;
       are = c.in-Ok.ensures.inputs;
@@ -26,7 +26,7 @@ pub returns : goal.returns
 returns g c =
     let compiled = c.args.compiled.now in
     let x = words_of c.in-Ok.inputs in
-    told_given (λ (out : List ℕ) told. record {
+    puts_given (λ (out : List ℕ) told. record {
       inputs = x;
       spelled = c.in-Ok.ensures.found;
       are = c.in-Ok.ensures.inputs;

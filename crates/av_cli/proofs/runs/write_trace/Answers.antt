@@ -6,7 +6,7 @@ use Rattle.av_net.specs.declared.netlist.Module.{Module}
 use Rattle.av_net.specs.Clocked.{Stream, Run, IsRun}
 use Rattle.av_net.specs.Texts.{text}
 use Rattle.av_cli.specs.Simulated.{IsStimulated, run_lines}
-use Rattle.av_cli.proofs.Telling.{front_more, front_after, on_ok_from, on_err_from}
+use Rattle.av_cli.proofs.Outputs.{front_more, front_after, on_ok_from, on_err_from}
 use Rattle.av_cli.proofs.runs.write_trace.Goals as goal
 
 pub returns-in_err-write_design-clause-front : goal.returns-in_err-write_design-clause-front

@@ -25,42 +25,42 @@ returns-in-Some-clause-refused c = λ f is other.
     let e = wide_only s c.args.reach.size c.in-Some.number h f is other in
     inl cc
 
-pub returns-in-Stuck-clause-refused : goal.returns-in-Stuck-clause-refused
-returns-in-Stuck-clause-refused c = λ f is other.
+pub returns-in-Infeasible-clause-refused : goal.returns-in-Infeasible-clause-refused
+returns-in-Infeasible-clause-refused c = λ f is other.
     let s = view_system c.args.flat.now in
     let cs = c.in_ok-components.components in
     let are : AreComponents (length (nodes s)) (ReadsNode s) cs = search rules in
     let few : All (λ d. candidates s c.args.reach.size d ≤ 4194304) cs = search rules in
-    let h : HasNoSchedule s c.args.reach.size c.in_ok-name-in-Stuck.name = search rules in
-    let e = stuck_only s c.args.reach.size cs c.in_ok-name-in-Stuck.name are few h f is other in
+    let h : HasNoSchedule s c.args.reach.size c.in_ok-name-in-Infeasible.name = search rules in
+    let e = stuck_only s c.args.reach.size cs c.in_ok-name-in-Infeasible.name are few h f is other in
     inl cc
 
 pub offsets-requires-clause-linear : goal.offsets-requires-clause-linear
 offsets-requires-clause-linear c =
     let s = view_system c.args.flat.now in
     let cs = c.in_ok-components.components in
-    let chosen : AreFirstChoices s c.args.reach.size cs c.in-All.linear.items = search rules in
-    subst (AreVectors s 4) (sym c.deref-in-All.ensures.value) (vectors_of s c.args.reach.size c.in-All.linear.items c.args.reach.most chosen.are)
+    let chosen : AreFirstChoices s c.args.reach.size cs c.in-Found.linear.items = search rules in
+    subst (AreVectors s 4) (sym c.deref-in-Found.ensures.value) (vectors_of s c.args.reach.size c.in-Found.linear.items c.args.reach.most chosen.are)
 
 -- the components are feasible, so offsets exist
 pub unreachable-requires : goal.unreachable-requires
 unreachable-requires c =
     let s = view_system c.args.flat.now in
     let cs = c.in_ok-components.components in
-    let linear = c.in-All.linear.items in
+    let linear = c.in-Found.linear.items in
     let are : AreComponents (length (nodes s)) (ReadsNode s) cs = search rules in
     let chosen : AreFirstChoices s c.args.reach.size cs linear = search rules in
     let vectors = vectors_of s c.args.reach.size linear c.args.reach.most chosen.are in
     let feasible = All-weaker (λ d. IsFirstChoice s c.args.reach.size d linear) (λ d. IsFeasible s d linear) (λ d h. h.feasible) cs chosen.first in
-    let none = subst (λ (o : Option (List ℤ)). IfNone o ((x : List ℤ) → AreOffsets s c.deref-in-All.result.now x → ⊥)) c.in-None-2.is c.in_ok-found-in-All.ensures.none in
+    let none = subst (λ (o : Option (List ℤ)). IfNone o ((x : List ℤ) → AreOffsets s c.deref-in-Found.result.now x → ⊥)) c.in-None-2.is c.in_ok-found-in-Found.ensures.none in
     not_none s c.args.edges.now linear c.requires.chained c.requires.proper c.requires.edges vectors cs are feasible
-    (λ x h. none x (subst (λ (ps : List Point). AreOffsets s ps x) (sym c.deref-in-All.ensures.value) h))
+    (λ x h. none x (subst (λ (ps : List Point). AreOffsets s ps x) (sym c.deref-in-Found.ensures.value) h))
 
 pub returns-in-Some-2-clause-first : goal.returns-in-Some-2-clause-first
 returns-in-Some-2-clause-first c =
     let s = view_system c.args.flat.now in
     let cs = c.in_ok-components.components in
-    let linear = c.in-All.linear.items in
+    let linear = c.in-Found.linear.items in
     let times = c.in_ok-timed_of-in-Some-2.field-0.times in
     let are : AreComponents (length (nodes s)) (ReadsNode s) cs = search rules in
     let chosen : AreFirstChoices s c.args.reach.size cs linear = search rules in
@@ -88,5 +88,5 @@ returns-in-Some-2-clause-refused c = λ f is other.
     let cs = c.in_ok-components.components in
     let are : AreComponents (length (nodes s)) (ReadsNode s) cs = search rules in
     let few : All (λ d. candidates s c.args.reach.size d ≤ 4194304) cs = search rules in
-    let chosen : AreFirstChoices s c.args.reach.size cs c.in-All.linear.items = search rules in
-    absurd (no_fault s c.args.reach.size cs c.in-All.linear.items c.requires.chained c.args.reach.most are few chosen f is other)
+    let chosen : AreFirstChoices s c.args.reach.size cs c.in-Found.linear.items = search rules in
+    absurd (no_fault s c.args.reach.size cs c.in-Found.linear.items c.requires.chained c.args.reach.most are few chosen f is other)

@@ -33,11 +33,11 @@ use Rattle.av_cli.specs.inner.Written.{IsPut, IsAnswered, refused, given, no_mem
 use Rattle.av_cli.specs.inner.DemoData.{entries, IsSummed}
 use Rattle.av_cli.specs.inner.Feeding.{AreOfLines}
 use Rattle.av_cli.specs.inner.Reported.{RefusesLines, names_output, IsReport}
-use Rattle.av_cli.specs.inner.Tellings.{IsTold, told, untold}
+use Rattle.av_cli.specs.inner.Outputs.{PutsOneOf, puts, nothing_put}
 use Rattle.av_cli.specs.inner.Watching.{bits_of}
 use Rattle.av_cli.proofs.Watching.{has_run}
 
--- ---- refusals, and what is told
+-- ---- refusals, and outputs that were put
 
 pub data_refused : (t : Timed) (first : ℕ) (bytes : List ℕ) (Given : List ℕ → Type 0) (f : DataFault) {sink sink' : SinkState} {status : Status}
     → (f ≡ data_fault.Memory) ⊎ IsInputFault (view_system t.flat) first bytes f → (f ≡ data_fault.Memory → (status ≡ Memory) × (sink'.held ≡ sink.held))
@@ -48,17 +48,17 @@ data_refused t first bytes Given f (inr is) none put = refused (record { fault =
     not_memory : IsInputFault (view_system t.flat) first bytes data_fault.Memory → ⊥
     not_memory is = is.faulty
 
--- what was told is given
-pub told_given : {Refuses Gives Told : List ℕ → Type 0} {sink sink' : SinkState} {status : Status} → ((out : List ℕ) → Told out → Gives out) → IsTold Told sink sink' status
+-- where outputs were put, they were given
+pub puts_given : {Refuses Gives Put : List ℕ → Type 0} {sink sink' : SinkState} {status : Status} → ((out : List ℕ) → Put out → Gives out) → PutsOneOf Put sink sink' status
     → IsAnswered Refuses Gives sink sink' status
-told_given f (told {out} g put) = given (f out g) put
-told_given f (untold a b) = no_memory a b
+puts_given f (puts {out} g put) = given (f out g) put
+puts_given f (nothing_put a b) = no_memory a b
 
--- what was told is told of more
-pub told_more : {Told More : List ℕ → Type 0} {sink sink' : SinkState} {status : Status} → ((out : List ℕ) → Told out → More out) → IsTold Told sink sink' status
-    → IsTold More sink sink' status
-told_more f (told {out} g put) = told (f out g) put
-told_more f (untold a b) = untold a b
+-- the same of more outputs
+pub puts_more : {Put More : List ℕ → Type 0} {sink sink' : SinkState} {status : Status} → ((out : List ℕ) → Put out → More out) → PutsOneOf Put sink sink' status
+    → PutsOneOf More sink sink' status
+puts_more f (puts {out} g put) = puts (f out g) put
+puts_more f (nothing_put a b) = nothing_put a b
 
 -- ---- fronts of texts
 
@@ -96,11 +96,11 @@ module _ (t : Timed) (cells : Cells) (d : Design) (x : Values) (words ws : List 
   lines_are : results test ls (bits_of ws) ≡ results test d.listing.ats (bits_of words)
   lines_are = ap (λ (l : List Entry). results test l (bits_of ws)) list ∙ ap (λ (w : List Word). results test d.listing.ats (bits_of w)) same
 
-  pub results_told : {sink sink' : SinkState} → Adds sink.held sink'.held (results test ls (bits_of ws)) → IsTold (IsReport Results t cells d x) sink sink' Done
-  results_told adds = told (record { words = bits_of words; shown = shown; lines = lines_are }) (record { ends = inl (refl, adds) })
+  pub results_put : {sink sink' : SinkState} → Adds sink.held sink'.held (results test ls (bits_of ws)) → PutsOneOf (IsReport Results t cells d x) sink sink' Done
+  results_put adds = puts (record { words = bits_of words; shown = shown; lines = lines_are }) (record { ends = inl (refl, adds) })
 
-  pub results_failed : {sink sink' : SinkState} → HasRisen sink.faults sink'.faults → AddsPrefix sink.held sink'.held (results test ls (bits_of ws)) → IsTold (IsReport Results t cells d x) sink sink' WriteFault
-  results_failed risen adds = told (record { words = bits_of words; shown = shown; lines = lines_are }) (record { ends = inr (refl, risen, adds) })
+  pub results_failed : {sink sink' : SinkState} → HasRisen sink.faults sink'.faults → AddsPrefix sink.held sink'.held (results test ls (bits_of ws)) → PutsOneOf (IsReport Results t cells d x) sink sink' WriteFault
+  results_failed risen adds = puts (record { words = bits_of words; shown = shown; lines = lines_are }) (record { ends = inr (refl, risen, adds) })
 
 -- ---- a trace
 
@@ -108,16 +108,16 @@ module _ (t : Timed) (cells : Cells) (d : Design) (x : Values) (s : Stimulus) (s
   abbrev trace_of : Run → ℕ → List ℕ
   trace_of run n = text d ++ codes "%%\n" ++ run_lines d.module run.in_cycle n
 
-  pub trace_told : {sink sink' : SinkState} → ((stream : Stream) (run : Run) → IsStimulated d.module s stream → IsRun d.module s.cycles stream run → Adds sink.held sink'.held (trace_of run s.cycles)) → IsTold (IsReport Trace t cells d x) sink sink' Done
-  trace_told adds =
+  pub trace_put : {sink sink' : SinkState} → ((stream : Stream) (run : Run) → IsStimulated d.module s stream → IsRun d.module s.cycles stream run → Adds sink.held sink'.held (trace_of run s.cycles)) → PutsOneOf (IsReport Trace t cells d x) sink sink' Done
+  trace_put adds =
       let has = has_run d x s sound so in
-      told (record { run = has.run; clocked = subst (λ n. IsFedRun d x n has.run) cycles has.clocked; lines = ap (trace_of has.run) cycles }) (record { ends = inl (refl, adds has.stream has.run has.stimulated has.is) })
+      puts (record { run = has.run; clocked = subst (λ n. IsFedRun d x n has.run) cycles has.clocked; lines = ap (trace_of has.run) cycles }) (record { ends = inl (refl, adds has.stream has.run has.stimulated has.is) })
 
   pub trace_failed : {sink sink' : SinkState} → HasRisen sink.faults sink'.faults → ((stream : Stream) (run : Run) → IsStimulated d.module s stream → IsRun d.module s.cycles stream run → AddsPrefix sink.held sink'.held (trace_of run s.cycles))
-      → IsTold (IsReport Trace t cells d x) sink sink' WriteFault
+      → PutsOneOf (IsReport Trace t cells d x) sink sink' WriteFault
   trace_failed risen adds =
       let has = has_run d x s sound so in
-      told (record { run = has.run; clocked = subst (λ n. IsFedRun d x n has.run) cycles has.clocked; lines = ap (trace_of has.run) cycles }) (record { ends = inr (refl, risen, adds has.stream has.run has.stimulated has.is) })
+      puts (record { run = has.run; clocked = subst (λ n. IsFedRun d x n has.run) cycles has.clocked; lines = ap (trace_of has.run) cycles }) (record { ends = inr (refl, risen, adds has.stream has.run has.stimulated has.is) })
 
 -- ---- a demo
 
@@ -128,8 +128,8 @@ module _ (cells : Cells) (d : Design) (bits : ℕ) (words ws : List Word) (n : �
   lines_same : lines_of n ≡ lines_of (residue bits (sum (bits_of words)))
   lines_same = ap lines_of (total ∙ ap (λ (w : List Word). residue bits (sum (bits_of w))) same)
 
-  pub summed_told : {sink sink' : SinkState} → Adds sink.held sink'.held (lines_of n) → IsTold (IsSummed cells d bits) sink sink' Done
-  summed_told adds = told (record { words = bits_of words; shown = shown; lines = lines_same }) (record { ends = inl (refl, adds) })
+  pub summed_put : {sink sink' : SinkState} → Adds sink.held sink'.held (lines_of n) → PutsOneOf (IsSummed cells d bits) sink sink' Done
+  summed_put adds = puts (record { words = bits_of words; shown = shown; lines = lines_same }) (record { ends = inl (refl, adds) })
 
-  pub summed_failed : {sink sink' : SinkState} → HasRisen sink.faults sink'.faults → AddsPrefix sink.held sink'.held (lines_of n) → IsTold (IsSummed cells d bits) sink sink' WriteFault
-  summed_failed risen adds = told (record { words = bits_of words; shown = shown; lines = lines_same }) (record { ends = inr (refl, risen, adds) })
+  pub summed_failed : {sink sink' : SinkState} → HasRisen sink.faults sink'.faults → AddsPrefix sink.held sink'.held (lines_of n) → PutsOneOf (IsSummed cells d bits) sink sink' WriteFault
+  summed_failed risen adds = puts (record { words = bits_of words; shown = shown; lines = lines_same }) (record { ends = inr (refl, risen, adds) })
