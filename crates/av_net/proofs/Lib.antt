@@ -8,6 +8,20 @@ pub mod Streams
 pub mod Lines
 pub mod Fits
 pub mod Declared
-pub mod Rowless
 pub mod RunFits
+pub mod Made
+pub mod InParts
+pub mod FlatTargets
+pub mod FlatSound
+pub mod FlatDesigns
+pub mod FlatTexts
+pub mod Mentions
+pub mod Counts
+pub mod Linked
+pub mod Said
+pub mod FlatWalks
+pub mod Parts
+pub mod RowTests
+pub mod Rowless
+pub mod SoundTexts
 mod Examples

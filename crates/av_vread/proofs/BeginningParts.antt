@@ -1,6 +1,6 @@
 -- How each reader of a part of a text ends.
-use Rattle.std.proofs.Common.{◌≡◌, ℕ, ◌≤◌, Bool, true, false, cond, true≢false, List, [], ◌∷◌, Option, Some, None, Ok, Err, refl, sym, ap, ◌∙◌, arith}
-use Rattle.std.specs.Prelude.{◌&&◌, nat_le, is_some, codes}
+use Rattle.std.proofs.Common.{◌≡◌, ℕ, ◌+◌, ◌≤◌, Bool, true, false, cond, true≢false, List, [], ◌∷◌, Option, Some, None, Ok, Err, refl, sym, ap, subst, ◌∙◌, arith}
+use Rattle.std.specs.Prelude.{◌&&◌, is_some, codes}
 use Rattle.std.specs.Str.{bytes_eq}
 use Rattle.av_base.specs.Tokens.{number_of, start}
 use Rattle.av_base.specs.declared.width.Width.{Width}
@@ -12,14 +12,13 @@ use Rattle.av_net.specs.declared.operation.Operand.TheVariants as operand
 use Rattle.av_net.specs.declared.operation.Operation.{Operation}
 use Rattle.av_net.specs.declared.operation.Operation.TheVariants as operation
 use Rattle.av_net.specs.declared.netlist.Port.{Port}
-use Rattle.av_net.specs.declared.netlist.Drive.{Drive}
 use Rattle.av_net.specs.Names.{clk, rst}
 use Rattle.av_net.specs.Sound.{IsOrder}
 use Rattle.av_net.specs.Lexemes.{Token}
-use Rattle.av_net.specs.Grammar.{Declaration, wire, register, Item, drive, step as step_item, AreWords, no_word, next_word, IsWordAt, IsNameAt, name, IsNumberAt, number, IsLiteralAt, IsRange, no_range, range, IsPort, IsDeclaration, wire_declaration, register_declaration, IsOperand, named, constant, spelling, IsSigned, IsOperation, plain, binary, signed, choice, IsDrive, IsEdge, IsItem, assignment, at_an_edge}
-use Rattle.av_vread.specs.inner.Reading.{◌>>=◌, Read, same, after, is_word, is_at, word_at, words_at, name_at, this_name_at, number_at, Sized, is_literal, sized_in, literal_by, literal_at, width_for, range_at, port_at, directed_at, declared_at, declaration_at, begins_literal, operand_at, order_of, symbol_at, order_by, order_at, signed_at, comparison_at, choice_at, binary_by, operation_by, operation_at, drive_at, edge_at, reset_at, step_at, item_at}
+use Rattle.av_net.specs.Grammar.{Declaration, wire, register, Item, drive, widening, step as step_item, AreWords, no_word, next_word, IsWordAt, IsNameAt, name, IsNumberAt, number, IsLiteralAt, IsRange, no_range, range, IsPort, IsDeclaration, wire_declaration, register_declaration, IsOperand, named, constant, spelling, IsSigned, IsOperation, plain, binary, signed, choice, selection, IsEdge, IsItem, at_an_edge, IsKindItem, kind_assignment, kind_wide_assignment}
+use Rattle.av_vread.specs.inner.Reading.{◌>>=◌, Read, same, after, is_word, is_at, word_at, words_at, name_at, this_name_at, is_between, number_at, Sized, is_literal, sized_in, literal_by, literal_at, width_for, range_at, port_at, directed_at, declared_at, declaration_at, begins_literal, operand_at, order_of, symbol_at, order_by, order_at, signed_at, comparison_at, choice_at, selection_at, selected_bit_at, widening_at, alone_by, binary_by, operation_by, operation_at, given_at, assigned_at, edge_at, reset_at, step_at}
 use Rattle.av_vread.proofs.Steps.{word_took, name_took, this_name_took, number_took, literal_took, at_word}
-use Rattle.av_vread.proofs.Sound.{width_bits, symbol_took, order_took, Reset}
+use Rattle.av_vread.proofs.Sound.{width_bits, symbol_took, order_took, Selected, part_is, Widened, name_of, Reset}
 use Rattle.av_vread.proofs.Verdicts.{Ends, ends_some, left_ends, puts_none, Alike, Verdict, past, Reads, pair, alone, one_token, Follows, follows, then_reads, Mapped, mapped, unmap, map_reads, verdict_as, reads_as, opened, when_true, when_false, behind}
 
 -- ---- tokens to complete with
@@ -30,8 +29,9 @@ word_token text = record { kind = kind.Symbol; text = text; place = start }
 unfoldable pub name_token : List ℕ → Token
 name_token text = record { kind = kind.Name; text = text; place = start }
 
-number_token : Token
-number_token = record { kind = kind.Number; text = codes "0"; place = start }
+-- a token whose value is this number
+number_token : ℕ → Token
+number_token n = record { kind = kind.Number; text = n + 48 ∷ []; place = start }
 
 -- 1'd0
 literal_token : Token
@@ -51,8 +51,8 @@ Name ts rest x = IsNameAt ts rest x
 abbrev pub ThisName : List ℕ → List Token → List Token → Unit {0} → Type 0
 ThisName text ts rest x = IsNameAt ts rest text
 
-abbrev pub Number : List Token → List Token → ℕ → Type 0
-Number ts rest n = IsNumberAt ts rest n × (n ≤ 63)
+abbrev pub Number : ℕ → ℕ → List Token → List Token → ℕ → Type 0
+Number least most ts rest n = IsNumberAt ts rest n × (least ≤ n) × (n ≤ most)
 
 abbrev pub LiteralIs : List Token → List Token → Sized → Type 0
 LiteralIs ts rest x = IsLiteralAt ts rest x.width x.value
@@ -90,14 +90,17 @@ this_name_reads text =
     yes : (t : Token) (k : List Token) → (same t.kind kind.Name && bytes_eq t.text text) ≡ true → this_name_at text (t ∷ k) ≡ Ok k
     yes t k h = rw h refl
 
-number_reads : Reads true pair Number number_at
-unfolding number_at number_token
-number_reads =
-    one_token (λ t. same t.kind kind.Number && nat_le (number_of t.text) 63) (λ t. number_of t.text) (λ t k e. rw k refl) yes (λ t k h. rw h refl)
-    (λ t k h. number_took (t ∷ k) (number_of t.text, k) (yes t k h))
-    (record { back = λ k. number_token ∷ k; value = 0; spells = λ k. (number refl refl, omega arith) })
+fits_number : ℕ → ℕ → Token → Bool
+fits_number least most t = same t.kind kind.Number && is_between least most (number_of t.text)
+
+number_reads : (least most : ℕ) → least ≤ most → Reads true pair (Number least most) (number_at least most)
+unfolding number_at number_token fits_number
+number_reads least most le =
+    one_token (fits_number least most) (λ t. number_of t.text) (λ t k e. rw k refl) yes (λ t k h. rw h refl)
+    (λ t k h. number_took least most (t ∷ k) (number_of t.text, k) (yes t k h))
+    (record { back = λ k. number_token least ∷ k; value = least; spells = λ k. (number refl (omega arith), omega arith, le) })
   where
-    yes : (t : Token) (k : List Token) → (same t.kind kind.Number && nat_le (number_of t.text) 63) ≡ true → number_at (t ∷ k) ≡ Ok (number_of t.text, k)
+    yes : (t : Token) (k : List Token) → (same t.kind kind.Number && is_between least most (number_of t.text)) ≡ true → number_at least most (t ∷ k) ≡ Ok (number_of t.text, k)
     yes t k h = rw h refl
 
 fits_literal : Token → Bool
@@ -170,21 +173,21 @@ word_left text some t ts e h = left_ends t ts e (λ k f. absurd (true≢false (s
 
 -- what stands behind the bracket
 range_in : Read Width
-range_in ts = number_at ts >>= λ n. words_at (codes ":" ∷ codes "0" ∷ codes "]" ∷ []) n.1 >>= λ rest. Ok (width_for n.0, rest)
+range_in ts = number_at 0 63 ts >>= λ n. words_at (codes ":" ∷ codes "0" ∷ codes "]" ∷ []) n.1 >>= λ rest. Ok (width_for n.0, rest)
 
 abbrev InRange : List Token → List Token → Width → Type 0
-InRange = Follows Number (λ n. Mapped (Words (codes ":" ∷ codes "0" ∷ codes "]" ∷ [])) (λ x. width_for n))
+InRange = Follows (Number 0 63) (λ n. Mapped (Words (codes ":" ∷ codes "0" ∷ codes "]" ∷ [])) (λ x. width_for n))
 
 range_in_reads : Reads true pair InRange range_in
 unfolding range_in
-range_in_reads = then_reads _ number_reads (λ n. map_reads _ (λ x. width_for n) (λ x k. refl) (words_read (codes ":") (codes "0" ∷ codes "]" ∷ []) (refl, (refl, (refl, tt)))))
+range_in_reads = then_reads _ (number_reads 0 63 (omega arith)) (λ n. map_reads _ (λ x. width_for n) (λ x k. refl) (words_read (codes ":") (codes "0" ∷ codes "]" ∷ []) (refl, (refl, (refl, tt)))))
 
 range_reads : Reads false pair IsRange range_at
 unfolding range_at range_in
 range_reads = record { judged = judge; some = record { back = λ k. k; value = width_for 0; spells = λ k. no_range (width_bits 0 (omega arith)) } }
   where
     within : (t : Token) → is_word (codes "[") t ≡ true → (ts rest : List Token) (x : Width) → InRange ts rest x → IsRange (t ∷ ts) rest x
-    within t h ts rest x (follows {x = n} i m) = unmap (IsRange (t ∷ ts) rest) m (λ y w. range (at_word (codes "[") (t ∷ ts) h) i.0 i.1 w (width_bits n i.1))
+    within t h ts rest x (follows {x = n} i m) = unmap (IsRange (t ∷ ts) rest) m (λ y w. range (at_word (codes "[") (t ∷ ts) h) i.0 i.2 w (width_bits n i.2))
 
     judge : (ts : List Token) → Ends ts → Verdict false pair IsRange range_at ts
     judge [] e = absurd (omega (arith, ends_some e))
@@ -196,24 +199,24 @@ range_reads = record { judged = judge; some = record { back = λ k. k; value = w
             when_false (λ ts. range_in (after ts)) (λ ts. Ok (width_for 0, ts)) (is_at (codes "[")) (alike_word (codes "[")) h
             (past (λ k. k) (t ∷ ts) (width_for 0) puts_none refl e (λ a b l. l) (λ k l. refl) (λ k. no_range (width_bits 0 (omega arith))))
 
-abbrev PortIs : List Token → List Token → Port → Type 0
+abbrev pub PortIs : List Token → List Token → Port → Type 0
 PortIs = Follows IsRange (λ width. Mapped Name (λ n. record { name = n; width = width }))
 
-port_reads : Reads true pair PortIs port_at
+pub port_reads : Reads true pair PortIs port_at
 unfolding port_at
 port_reads = then_reads _ range_reads (λ width. map_reads _ (λ n. record { name = n; width = width }) (λ x k. refl) name_reads)
 
-as_port : (words : List (List ℕ)) (ts rest : List Token) (port : Port) → Follows (Words words) (λ x. PortIs) ts rest port → IsPort words ts rest port
+pub as_port : (words : List (List ℕ)) (ts rest : List Token) (port : Port) → Follows (Words words) (λ x. PortIs) ts rest port → IsPort words ts rest port
 as_port words ts rest port (follows {mid = a} w (follows {mid = b} r m)) = unmap (IsPort words ts rest) m (λ n is. record { a = a; b = b; words_first = w; range = r; name = is })
 
 pub directed_reads : (direction : List ℕ) → bytes_eq [] direction ≡ false → Reads true pair (IsPort (codes "," ∷ direction ∷ [])) (directed_at direction)
 unfolding directed_at
 directed_reads direction some = reads_as (as_port (codes "," ∷ direction ∷ [])) (then_reads _ (words_read (codes ",") (direction ∷ []) (refl, (some, tt))) (λ x. port_reads))
 
-abbrev Declared : List Token → List Token → Port → Type 0
+abbrev pub Declared : List Token → List Token → Port → Type 0
 Declared = Follows PortIs (λ port. Mapped (Word (codes ";")) (λ x. port))
 
-declared_reads : Reads true pair Declared declared_at
+pub declared_reads : Reads true pair Declared declared_at
 unfolding declared_at
 declared_reads = then_reads _ port_reads (λ port. map_reads _ (λ x. port) (λ x k. refl) (word_reads (codes ";") refl))
 
@@ -224,6 +227,10 @@ register_reads : Reads true pair (Follows (Word (codes "reg")) (λ x. Mapped Dec
 register_reads = then_reads _ (word_reads (codes "reg") refl) (λ x. map_reads _ register (λ x k. refl) declared_reads)
 
 -- a word and what is declared behind it
+pub declared_in : (Wanted : Port → Type 0) (word : List ℕ) (ts a rest : List Token) (port : Port) → IsWordAt word ts a → Declared a rest port
+    → ({port : Port} (b : List Token) → IsPort (word ∷ []) ts b port → IsWordAt (codes ";") b rest → Wanted port) → Wanted port
+declared_in Wanted word ts a rest port w (follows {mid = d} {x = inner} p m) make = unmap Wanted m (λ x s. make d (as_port (word ∷ []) ts d inner (follows w p)) s)
+
 declared_is : (word : List ℕ) (made : Port → Declaration) (ts a rest : List Token) (port : Port)
     → ((b : List Token) (port : Port) → IsPort (word ∷ []) ts b port → IsWordAt (codes ";") b rest → IsDeclaration ts rest (made port)) → IsWordAt word ts a → Declared a rest port → IsDeclaration ts rest (made port)
 declared_is word made ts a rest port make w (follows {mid = d} {x = inner} p m) =
@@ -263,7 +270,7 @@ as_literal ts rest x m = unmap (IsOperand ts rest) m (λ l is. constant is)
 as_name : (ts rest : List Token) (x : Operand) → Mapped Name operand.Name ts rest x → IsOperand ts rest x
 as_name ts rest x m = unmap (IsOperand ts rest) m (λ n is. named is)
 
-operand_reads : Reads true pair IsOperand operand_at
+pub operand_reads : Reads true pair IsOperand operand_at
 unfolding operand_at
 operand_reads = record { judged = judge; some = (reads_as as_name name_operand).some }
   where
@@ -355,6 +362,64 @@ choice_reads x = then_reads _ operand_reads (λ y. then_reads _ (word_reads (cod
 second_reads : (x : Operand) (s : Symbol) → Reads true pair (Mapped IsOperand (λ y. operation.Binary x s y)) (λ ts. operand_at ts >>= λ y. Ok (operation.Binary x s y.0, y.1))
 second_reads x s = map_reads _ (λ y. operation.Binary x s y) (λ y k. refl) operand_reads
 
+-- what stands behind the bracket of a part select
+selection_in : Read (ℕ × ℕ)
+selection_in ts = number_at 0 63 ts >>= λ high. word_at (codes ":") high.1 >>= λ b. number_at 0 high.0 b >>= λ low. word_at (codes "]") low.1 >>= λ rest. Ok ((high.0, low.0), rest)
+
+abbrev SelectedIn : List Token → List Token → ℕ × ℕ → Type 0
+SelectedIn = Follows (Number 0 63) (λ high. Follows (Word (codes ":")) (λ b. Follows (Number 0 high) (λ low. Mapped (Word (codes "]")) (λ c. (high, low)))))
+
+selection_in_reads : Reads true pair SelectedIn selection_in
+unfolding selection_in
+selection_in_reads =
+    then_reads _ (number_reads 0 63 (omega arith)) (λ high. then_reads _ (word_reads (codes ":") refl) (λ b. then_reads _ (number_reads 0 high (omega arith))
+    (λ low. map_reads _ (λ c. (high, low)) (λ c k. refl) (word_reads (codes "]") refl))))
+
+-- a bracket, and what stands behind it
+selected : (ts a rest : List Token) (x : ℕ × ℕ) → IsWordAt (codes "[") ts a → SelectedIn a rest x → Selected ts rest x.0 x.1
+selected ts a rest x w (follows {mid = b} n (follows {mid = c} v (follows {mid = d} m end))) =
+    unmap (λ (x : ℕ × ℕ). Selected ts rest x.0 x.1) end (λ y s. record { a = a; b = b; c = c; d = d; opens = w; first = n.0; most = n.2; between = v; second = m.0; within = m.2; closes = s })
+
+part_in : List ℕ → Read Operation
+part_in text ts = selection_in ts >>= λ x. Ok (operation.Part text x.0.0 x.0.1, x.1)
+
+abbrev PartIn : List ℕ → List Token → List Token → Operation → Type 0
+PartIn text = Mapped SelectedIn (λ x. operation.Part text x.0 x.1)
+
+part_in_reads : (text : List ℕ) → Reads true pair (PartIn text) (part_in text)
+unfolding part_in
+part_in_reads text = map_reads _ (λ x. operation.Part text x.0 x.1) (λ x k. refl) selection_in_reads
+
+-- an operand behind which stands no operator: a name may have a part selected
+alone_there : (t : Token) → is_at (codes "?") (t ∷ []) ≡ false → symbol_at (t ∷ []) ≡ None → (x : Operand) (k : List Token) → operation_by x (t ∷ k) ≡ alone_by x (t ∷ k)
+unfolding operation_by binary_by symbol_at
+alone_there t h f x k = rw (h, f) refl
+
+plain_alone : (x : Operand) (t : Token) (ts : List Token) → Ends (t ∷ ts) → is_at (codes "?") (t ∷ ts) ≡ false → symbol_at (t ∷ ts) ≡ None
+    → ((k : List Token) → Alike (t ∷ ts) k → alone_by x k ≡ Ok (operation.Plain x, k)) → Verdict false pair (Behind x) (operation_by x) (t ∷ ts)
+unfolding operation_by binary_by symbol_at
+plain_alone x t ts e h f same =
+    past (λ k. k) (t ∷ ts) (operation.Plain x) puts_none refl e (λ a b l. l)
+    (λ k l. let q : is_at (codes "?") k ≡ false = sym (alike_word (codes "?") (t ∷ ts) k l) ∙ h in let r : symbol_at k ≡ None = sym (alike_test symbol_at (λ t a b. refl) (t ∷ ts) k l) ∙ f in rw (q, r) (same k l))
+    (λ k front i. plain i)
+
+by_operand : (x : Operand) (t : Token) (ts : List Token) → Ends (t ∷ ts) → is_word (codes "?") t ≡ false → symbol_at (t ∷ []) ≡ None → Verdict false pair (Behind x) (operation_by x) (t ∷ ts)
+unfolding alone_by selection_at part_in selection_in symbol_at word_at
+by_operand (operand.Literal width value) t ts e h f = plain_alone (operand.Literal width value) t ts e h f (λ k l. refl)
+by_operand (operand.Name text) t ts e h f = go (is_word (codes "[") t) refl
+  where
+    part_there : is_word (codes "[") t ≡ true → (a rest : List Token) (o : Operation) → PartIn text a rest o → Behind (operand.Name text) (t ∷ a) rest o
+    part_there b a rest o m = unmap (Behind (operand.Name text) (t ∷ a) rest) m (λ x s front i. selection (part_is (name_of i) (selected (t ∷ a) a rest x (at_word (codes "[") (t ∷ a) b) s)))
+
+    in_brackets : is_word (codes "[") t ≡ true → (k : List Token) → alone_by (operand.Name text) (t ∷ k) ≡ part_in text k
+    in_brackets b k = rw b refl
+
+    go : (b : Bool) → is_word (codes "[") t ≡ b → Verdict false pair (Behind (operand.Name text)) (operation_by (operand.Name text)) (t ∷ ts)
+    go true b =
+        behind t (operation_by (operand.Name text)) (λ k. alone_there t h f (operand.Name text) k ∙ in_brackets b k) (part_there b)
+        (opened ((part_in_reads text).judged ts (word_left (codes "[") refl t ts e b)))
+    go false b = plain_alone (operand.Name text) t ts e h f (λ k l. let q : is_at (codes "[") k ≡ false = sym (alike_word (codes "[") (t ∷ ts) k l) ∙ b in rw q refl)
+
 behind_reads : (x : Operand) → Reads false pair (Behind x) (operation_by x)
 unfolding operation_by binary_by symbol_at
 behind_reads x = record { judged = judge; some = record { back = λ k. k; value = operation.Plain x; spells = λ k front i. plain i } }
@@ -374,10 +439,7 @@ behind_reads x = record { judged = judge; some = record { back = λ k. k; value 
     by_symbol : (t : Token) (ts : List Token) → Ends (t ∷ ts) → is_word (codes "?") t ≡ false → (o : Option Symbol) → symbol_at (t ∷ []) ≡ o → Verdict false pair (Behind x) (operation_by x) (t ∷ ts)
     by_symbol t ts e h (Some s) f =
         behind t (operation_by x) (λ k. rw (h, f) refl) (second_in t s f) (opened ((second_reads x s).judged ts (symbol_left t s ts e f)))
-    by_symbol t ts e h None f =
-        past (λ k. k) (t ∷ ts) (operation.Plain x) puts_none refl e (λ a b l. l)
-        (λ k l. let q : is_at (codes "?") k ≡ false = sym (alike_word (codes "?") (t ∷ ts) k l) ∙ h in let r : symbol_at k ≡ None = sym (alike_test symbol_at (λ t a b. refl) (t ∷ ts) k l) ∙ f in rw (q, r) refl)
-        (λ k front i. plain i)
+    by_symbol t ts e h None f = by_operand x t ts e h f
 
     judge : (ts : List Token) → Ends ts → Verdict false pair (Behind x) (operation_by x) ts
     judge [] e = absurd (omega (arith, ends_some e))
@@ -406,22 +468,101 @@ operation_reads = record { judged = judge; some = (reads_as within operand_first
 
 -- ---- items
 
-abbrev DriveIs : List Token → List Token → Drive → Type 0
-DriveIs =
-    Follows (Word (codes "assign")) (λ a. Follows Name (λ target. Follows (Word (codes "=")) (λ b. Follows IsOperation (λ o. Mapped (Word (codes ";")) (λ c. record { target = target; operation = o })))))
+-- `[bit:bit]`
+abbrev BitIs : List Token → List Token → ℕ → Type 0
+BitIs ts rest bit = Selected ts rest bit bit
 
-drive_reads : Reads true pair IsDrive drive_at
-unfolding drive_at
-drive_reads = reads_as within whole
+abbrev BitIn : List Token → List Token → ℕ → Type 0
+BitIn = Follows (Word (codes "[")) (λ a. Follows (Number 0 63) (λ bit. Follows (Word (codes ":")) (λ b. Follows (Number bit bit) (λ again. Mapped (Word (codes "]")) (λ c. bit)))))
+
+bit_reads : Reads true pair BitIs selected_bit_at
+unfolding selected_bit_at
+bit_reads = reads_as within whole
   where
-    whole : Reads true pair DriveIs drive_at
+    whole : Reads true pair BitIn selected_bit_at
     whole =
-        then_reads _ (word_reads (codes "assign") refl) (λ a. then_reads _ name_reads (λ target. then_reads _ (word_reads (codes "=") refl) (λ b. then_reads _ operation_reads
-        (λ o. map_reads _ (λ c. record { target = target; operation = o }) (λ c k. refl) (word_reads (codes ";") refl)))))
+        then_reads _ (word_reads (codes "[") refl) (λ a. then_reads _ (number_reads 0 63 (omega arith)) (λ bit. then_reads _ (word_reads (codes ":") refl)
+        (λ b. then_reads _ (number_reads bit bit (omega arith)) (λ again. map_reads _ (λ c. bit) (λ c k. refl) (word_reads (codes "]") refl)))))
 
-    within : (ts rest : List Token) (d : Drive) → DriveIs ts rest d → IsDrive ts rest d
-    within ts rest d (follows {mid = a} w (follows {mid = b} n (follows {mid = c} v (follows {mid = e} o m)))) =
-        unmap (IsDrive ts rest) m (λ x s. record { a = a; b = b; c = c; e = e; assigns = w; target = n; equals = v; operation = o; ends = s })
+    within : (ts rest : List Token) (bit : ℕ) → BitIn ts rest bit → BitIs ts rest bit
+    within ts rest bit (follows {mid = a} w (follows {mid = b} {x = one} n (follows {mid = c} v (follows {mid = d} {x = again} m end)))) =
+        unmap (λ (bit : ℕ). Selected ts rest bit bit) end (λ y s.
+        let same_bit : again ≡ one = (let low = m.1 in let high = m.2 in omega arith) in
+        record { a = a; b = b; c = c; d = d; opens = w; first = n.0; most = n.2; between = v; second = subst (IsNumberAt c d) same_bit m.0; within = omega arith; closes = s })
+
+abbrev WideIs : List Token → List Token → ℕ × Operation → Type 0
+WideIs ts rest x = Widened ts rest x.0 x.1
+
+abbrev WideIn : List Token → List Token → ℕ × Operation → Type 0
+WideIn =
+    Follows (Words (codes "{" ∷ codes "{" ∷ [])) (λ a. Follows (Number 1 63) (λ by. Follows (Word (codes "{")) (λ b. Follows Name (λ n. Follows BitIs (λ bit.
+    Follows (Words (codes "}" ∷ codes "}" ∷ codes "," ∷ [])) (λ c. Follows (ThisName n) (λ d. Mapped (Word (codes "}")) (λ e. (bit, operation.Widen n by)))))))))
+
+widening_reads : Reads true pair WideIs widening_at
+unfolding widening_at
+widening_reads = reads_as within whole
+  where
+    whole : Reads true pair WideIn widening_at
+    whole =
+        then_reads _ (words_read (codes "{") (codes "{" ∷ []) (refl, (refl, tt))) (λ a. then_reads _ (number_reads 1 63 (omega arith)) (λ by. then_reads _ (word_reads (codes "{") refl)
+        (λ b. then_reads _ name_reads (λ n. then_reads _ bit_reads (λ bit. then_reads _ (words_read (codes "}") (codes "}" ∷ codes "," ∷ []) (refl, (refl, (refl, tt))))
+        (λ c. then_reads _ (this_name_reads n) (λ d. map_reads _ (λ e. (bit, operation.Widen n by)) (λ e k. refl) (word_reads (codes "}") refl))))))))
+
+    within : (ts rest : List Token) (x : ℕ × Operation) → WideIn ts rest x → WideIs ts rest x
+    within ts rest x (follows {mid = a} o (follows {mid = b} {x = by} c (follows {mid = d} w (follows {x = n} i (follows {mid = f} s (follows {mid = g} v (follows {mid = h} m end))))))) =
+        unmap (λ (x : ℕ × Operation). Widened ts rest x.0 x.1) end (λ y z. record {
+          name = n;
+          by = by;
+          widens = record { a = a; b = b; c = d; d = f; e = g; f = h; opens = o; copies = c.0; least = c.1; most = c.2; begins = w; selected = part_is i s; between = v; again = m; closes = z };
+          is = refl;
+        })
+
+-- what stands behind `assign target =`, whatever spells that
+abbrev Given : List ℕ → List Token → List Token → Item → Type 0
+Given target ts rest x = (front a b : List Token) → IsWordAt (codes "assign") front a → IsNameAt a b target → IsWordAt (codes "=") b ts → IsKindItem front rest x
+
+abbrev WideGiven : List ℕ → List Token → List Token → Item → Type 0
+WideGiven target = Follows WideIs (λ x. Mapped (Word (codes ";")) (λ c. widening x.0 (record { target = target; operation = x.1 })))
+
+wide_given_reads : (target : List ℕ) → Reads true pair (Given target) (λ ts. widening_at ts >>= λ x. word_at (codes ";") x.1 >>= λ rest. Ok (widening x.0.0 (record { target = target; operation = x.0.1 }), rest))
+wide_given_reads target =
+    reads_as within (then_reads _ widening_reads (λ x. map_reads _ (λ c. widening x.0 (record { target = target; operation = x.1 })) (λ c k. refl) (word_reads (codes ";") refl)))
+  where
+    within : (ts rest : List Token) (x : Item) → WideGiven target ts rest x → Given target ts rest x
+    within ts rest x (follows {mid = e} {x = wide} is m) = unmap (Given target ts rest) m (λ c s front a b w n v.
+      kind_wide_assignment {d = record { target = target; operation = wide.1 }} (record { a = a; b = b; c = ts; e = e; name = is.name; by = is.by; assigns = w; target = n; equals = v; widens = is.widens; operation = is.is; ends = s }))
+
+abbrev DriveGiven : List ℕ → List Token → List Token → Item → Type 0
+DriveGiven target = Follows IsOperation (λ o. Mapped (Word (codes ";")) (λ c. drive (record { target = target; operation = o })))
+
+drive_given_reads : (target : List ℕ) → Reads true pair (Given target) (λ ts. operation_at ts >>= λ x. word_at (codes ";") x.1 >>= λ rest. Ok (drive (record { target = target; operation = x.0 }), rest))
+drive_given_reads target =
+    reads_as within (then_reads _ operation_reads (λ o. map_reads _ (λ c. drive (record { target = target; operation = o })) (λ c k. refl) (word_reads (codes ";") refl)))
+  where
+    within : (ts rest : List Token) (x : Item) → DriveGiven target ts rest x → Given target ts rest x
+    within ts rest x (follows {mid = e} {x = o} is m) = unmap (Given target ts rest) m (λ c s front a b w n v.
+      kind_assignment {d = record { target = target; operation = o }} (record { a = a; b = b; c = ts; e = e; assigns = w; target = n; equals = v; operation = is; ends = s }))
+
+given_reads : (target : List ℕ) → Reads true pair (Given target) (given_at target)
+unfolding given_at
+given_reads target = record { judged = judge; some = (drive_given_reads target).some }
+  where
+    judge : (ts : List Token) → Ends ts → Verdict true pair (Given target) (given_at target) ts
+    judge ts e = go (is_at (codes "{") ts) refl
+      where
+        go : (b : Bool) → is_at (codes "{") ts ≡ b → Verdict true pair (Given target) (given_at target) ts
+        go true h = when_true _ _ (is_at (codes "{")) (alike_word (codes "{")) h ((wide_given_reads target).judged ts e)
+        go false h = when_false _ _ (is_at (codes "{")) (alike_word (codes "{")) h ((drive_given_reads target).judged ts e)
+
+pub assigned_reads : Reads true pair IsKindItem assigned_at
+unfolding assigned_at
+assigned_reads = reads_as within whole
+  where
+    whole : Reads true pair (Follows (Word (codes "assign")) (λ a. Follows Name (λ target. Follows (Word (codes "=")) (λ b. Given target)))) assigned_at
+    whole = then_reads _ (word_reads (codes "assign") refl) (λ a. then_reads _ name_reads (λ target. then_reads _ (word_reads (codes "=") refl) (λ b. given_reads target)))
+
+    within : (ts rest : List Token) (x : Item) → Follows (Word (codes "assign")) (λ a. Follows Name (λ target. Follows (Word (codes "=")) (λ b. Given target))) ts rest x → IsKindItem ts rest x
+    within ts rest x (follows {mid = a} w (follows {mid = b} n (follows v is))) = is ts a b w n v
 
 abbrev EdgeIs : List Token → List Token → Unit {0} → Type 0
 EdgeIs =
@@ -459,34 +600,18 @@ reset_reads = reads_as within whole
     within : (ts rest : List Token) (x : Sized) → ResetIs ts rest x → Reset ts rest x
     within ts rest x (follows {mid = a} w (follows {mid = b} l m)) = unmap (Reset ts rest) m (λ y o. record { a = a; b = b; becomes = w; literal_is = l; otherwise = o })
 
-abbrev StepIs : List Token → List Token → Item → Type 0
+abbrev pub StepIs : List Token → List Token → Item → Type 0
 StepIs =
     Follows Edge (λ a. Follows Name (λ name. Follows Reset (λ reset. Follows (ThisName name) (λ b. Follows (Word (codes "<=")) (λ c. Follows IsOperand
     (λ next. Mapped (Word (codes ";")) (λ d. step_item reset.width (record { register = name; reset = reset.value; next = next }))))))))
 
-step_reads : Reads true pair StepIs step_at
+pub step_reads : Reads true pair StepIs step_at
 unfolding step_at
 step_reads =
     then_reads _ edge_reads (λ a. then_reads _ name_reads (λ name. then_reads _ reset_reads (λ reset. then_reads _ (this_name_reads name) (λ b. then_reads _ (word_reads (codes "<=") refl)
     (λ c. then_reads _ operand_reads (λ next. map_reads _ (λ d. step_item reset.width (record { register = name; reset = reset.value; next = next })) (λ d k. refl) (word_reads (codes ";") refl)))))))
 
-as_step : (ts rest : List Token) (x : Item) → StepIs ts rest x → IsItem ts rest x
+pub as_step : (ts rest : List Token) (x : Item) → StepIs ts rest x → IsItem ts rest x
 as_step ts rest x (follows {mid = a} e (follows {mid = b} n (follows {mid = f} r (follows {mid = g} i (follows {mid = h} w (follows {mid = j} o m)))))) =
     unmap (IsItem ts rest) m (λ y s. at_an_edge (record { a = a; b = b; c = r.a; d = r.b; e = f; f = g; g = h; h = j; at_edge = e; register = n; becomes = r.becomes; reset = r.literal_is; otherwise = r.otherwise; again = i; becomes_too = w; next = o; ends = s }))
 
-drive_item : Reads true pair (Mapped IsDrive drive) (λ ts. drive_at ts >>= λ x. Ok (drive x.0, x.1))
-drive_item = map_reads _ drive (λ x k. refl) drive_reads
-
-as_drive : (ts rest : List Token) (x : Item) → Mapped IsDrive drive ts rest x → IsItem ts rest x
-as_drive ts rest x m = unmap (IsItem ts rest) m (λ d is. assignment is)
-
-pub item_reads : Reads true pair IsItem item_at
-unfolding item_at
-item_reads = record { judged = judge; some = (reads_as as_drive drive_item).some }
-  where
-    judge : (ts : List Token) → Ends ts → Verdict true pair IsItem item_at ts
-    judge ts e = go (is_at (codes "assign") ts) refl
-      where
-        go : (b : Bool) → is_at (codes "assign") ts ≡ b → Verdict true pair IsItem item_at ts
-        go true h = when_true _ _ (is_at (codes "assign")) (alike_word (codes "assign")) h (verdict_as as_drive (drive_item.judged ts e))
-        go false h = when_false _ _ (is_at (codes "assign")) (alike_word (codes "assign")) h (verdict_as as_step (step_reads.judged ts e))

@@ -1,378 +1,32 @@
--- How the readers of lists and of a whole text end, and that a text breaks off where its reader stops.
-use Rattle.std.proofs.Common.{◌≡◌, ◌≢◌, ℕ, zero, suc, ◌<◌, ◌≤◌, Bool, true, false, true≢false, List, [], ◌∷◌, ◌++◌, length, Result, Ok, Err, refl, sym, ap, subst, ◌∙◌, arith, append_assoc}
+-- How the reader of a whole text ends, and that a text breaks off where its reader stops.
+use Rattle.std.proofs.Common.{◌≡◌, ◌≢◌, ◌⊎◌, inl, inr, ℕ, zero, suc, ◌+◌, ◌<◌, ◌≤◌, Bool, true, false, not, true≢false, List, [], ◌∷◌, ◌++◌, length, take, Result, Ok, Err, refl, sym, ap, subst, ◌∙◌, arith, append_assoc, length-append}
 use Rattle.std.specs.Prelude.{◌&&◌, codes}
 use Rattle.std.specs.Str.{bytes_eq}
-use Rattle.std.proofs.lemmas.List.{append-nil}
+use Rattle.std.proofs.lemmas.Bool.{cases_lt}
+use Rattle.std.proofs.Math.Seq.{take-append_seam}
+use Rattle.std.proofs.lemmas.Slice.Eq.{bytes_eq-Decides}
 use Rattle.av_base.specs.declared.place.Place.{Place}
+use Rattle.av_base.specs.declared.width.Width.{Width}
 use Rattle.av_base.specs.Tokens.{start}
 use Rattle.av_net.specs.declared.token_kind.TokenKind.TheVariants as kind
 use Rattle.av_net.specs.declared.netlist.Port.{Port}
 use Rattle.av_net.specs.Names.{clk, rst}
 use Rattle.av_net.specs.Lexemes.{Token, IsSpelled, AreTokens, end as end_of_bytes, blank, comment, token}
-use Rattle.av_net.specs.Grammar.{Text, Declaration, Item, AreWords, no_word, next_word, IsWordAt, IsNameAt, name, IsEnd, end, no_range, IsPort, IsDeclaration, IsItem, AreMany, no_more, one_more, IsClocked, IsText}
+use Rattle.av_net.specs.Grammar.{Text, ModuleText, Declaration, Item, AreWords, no_word, next_word, IsWordAt, IsNameAt, name, IsEnd, end, IsRange, no_range, range, IsPort, IsDeclaration, IsItem, AreMany, no_more, one_more, IsKindInput, IsKindDeclaration, IsKindItem, IsClockFirst, IsKind, IsClocked, IsTop, IsText}
 use Rattle.av_vread.specs.Beginnings.{Begins, StopsAt}
-use Rattle.av_vread.specs.inner.Reading.{◌>>=◌, Read, same, is_word, is_at, are_at, words_at, end_at, width_for, directed_at, begins_declaration, declaration_at, begins_item, item_at, many_at, all_at, ports_at, declarations_at, items_at, Header, closed_at, clocked_at, header_at, text_at}
-use Rattle.av_vread.proofs.Steps.{same_is, same_self, at_word, other_there}
-use Rattle.av_vread.proofs.Sound.{width_bits}
-use Rattle.av_vread.proofs.Complete.{directed_gives, two_there, declaration_begins, item_begins, text_gives}
-use Rattle.av_vread.proofs.Ends.{port_end, declaration_end, item_end}
-use Rattle.av_vread.proofs.Verdicts.{Ends, last, before, ends_some, left_ends, Puts, puts_none, puts_one, puts_both, Alike, alike_put, Looks, looks_alike, looks_same, Completes, Verdict, past, stops, Reads, pair, alone, Follows, follows, then_reads, reads_as}
-use Rattle.av_vread.proofs.BeginningParts.{word_token, name_token, Word, Words, Name, ThisName, word_reads, name_reads, this_name_reads, words_read, alike_test, alike_word, word_left, directed_reads, declaration_reads, item_reads}
-use Rattle.av_base.proofs.Truths.{both}
+use Rattle.av_vread.specs.inner.Reading.{◌>>=◌, same, is_word, is_at, word_at, words_at, end_at, width_for, many_at, all_at, declarations_at, items_at, Header, closed_at, clocked_at, header_at, with_body, top_at, is_name, begins_top, begins_kind, kind_at, kinds_at, text_at}
+use Rattle.av_vread.proofs.Steps.{same_is, same_self, at_word, word_there, other_there, end_gives}
+use Rattle.av_vread.proofs.Sound.{width_bits, Outputs, HasKindHeader, no_clock}
+use Rattle.av_vread.proofs.Complete.{kind_begins, kind_gives, top_begins, top_gives, no_kind, text_gives}
+use Rattle.av_vread.proofs.Ends.{words_end, name_end, port_end, many_end, kind_input_end, kind_declaration_end, kind_item_end, kind_end}
+use Rattle.av_vread.proofs.Verdicts.{Ends, last, before, ends_some, Puts, puts_both, Completes, Verdict, past, stops, Reads, pair, alone, Follows, follows, then_reads, Mapped, mapped, unmap, map_reads, reads_as}
+use Rattle.av_vread.proofs.BeginningParts.{word_token, name_token, Word, Words, Name, ThisName, word_reads, name_reads, this_name_reads, words_read}
+use Rattle.av_vread.proofs.BeginningLists.{Parts, all_parts, part_stops, parts_judged}
+use Rattle.av_vread.proofs.BeginningPorts.{Tail, tail_at, tail_reads, closing, closes}
+use Rattle.av_vread.proofs.BeginningItems.{declarations_read, items_read, KindShape, shape_reads}
+use Rattle.av_base.proofs.Truths.{both, not_true, not_false, by_test}
 
--- ---- lists
-
-pub many_append : {A : Type 0} {Is : List Token → List Token → A → Type 0} {ts mid rest : List Token} {xs ys : List A} → AreMany Is ts mid xs → AreMany Is mid rest ys → AreMany Is ts rest (xs ++ ys)
-many_append (no_more) more = more
-many_append (one_more is many) more = one_more is (many_append many more)
-
-module _ {A : Type 0} (Is : List Token → List Token → A → Type 0) (begins : List Token → Bool) (read : Read A) where
-  -- all parts that begin were read, or the reader of one of them stopped
-  pub data Parts (ts : List Token) : Type 0 where
-    all_parts : (front : List Token → List Token) (rest : List Token) (xs : List A) → Puts front → ts ≡ front rest → Ends rest → begins rest ≡ false
-        → ((n : ℕ) (k : List Token) (found : List A) → length (front k) ≤ n → begins k ≡ false → many_at begins read n found (front k) ≡ Ok (found ++ xs, k))
-        → ((k : List Token) → AreMany Is (front k) k xs) → Parts ts
-    part_stops : (front : List Token → List Token) (t : Token) (rest : List Token) → Puts front → ts ≡ front (t ∷ rest)
-        → ((n : ℕ) (k : List Token) (found : List A) → length (front (t ∷ k)) ≤ n → many_at begins read n found (front (t ∷ k)) ≡ Err t.place)
-        → ((k : List Token) → begins (front (t ∷ k)) ≡ true) → Completes (AreMany Is) front → Parts ts
-
-  module _ (none : begins [] ≡ false) (parts : (ts : List Token) → Ends ts → Verdict true pair Is read ts)
-      (does_begin : (ts rest : List Token) (x : A) → Is ts rest x → begins ts ≡ true)
-      (goes_on : (front : List Token → List Token) (t : Token) (rest : List Token) → Puts front → begins (front (t ∷ rest)) ≡ true → ((k : List Token) → read (front (t ∷ k)) ≡ Err t.place)
-      → (k : List Token) → begins (front (t ∷ k)) ≡ true)
-      (shorter : (ts rest : List Token) (x : A) → Is ts rest x → length rest < length ts) where
-    -- one turn of the loop
-    turned : (n : ℕ) (found : List A) (ts : List Token) → length ts ≤ n → begins ts ≡ true → (r : Result (A × List Token) Place) → read ts ≡ r
-        → (m : ℕ) × ((suc m ≡ n) × (many_at begins read n found ts ≡ (r >>= λ x. many_at begins read m (found ++ x.0 ∷ []) x.1)))
-    unfolding many_at
-    turned n found [] l b r e = absurd (true≢false (sym b ∙ none))
-    turned zero found (t ∷ ts) l b r e = absurd (omega arith)
-    turned (suc m) found (t ∷ ts) l b r e = (m, (refl, rw b (ap (λ z. z >>= λ x. many_at begins read m (found ++ x.0 ∷ []) x.1) e)))
-
-    ended : (n : ℕ) (k : List Token) (found : List A) → begins k ≡ false → many_at begins read n found k ≡ Ok (found ++ [], k)
-    unfolding many_at
-    ended zero k found b = ap (λ (z : List A). Ok (z, k)) (sym (append-nil found))
-    ended (suc n) k found b = rw b (ap (λ (z : List A). Ok (z, k)) (sym (append-nil found)))
-
-    pub parts_judged : (n : ℕ) (ts : List Token) → length ts ≤ n → Ends ts → Parts ts
-    parts_judged zero ts l e = absurd (omega (arith, ends_some e))
-    parts_judged (suc n) ts l e = go (λ rest m f. parts_judged n rest m f) (begins ts) refl
-      where
-        behind_part : (front : List Token → List Token) (rest : List Token) (x : A) → Puts front → ts ≡ front rest → ((k : List Token) → read (front k) ≡ Ok (x, k)) → ((k : List Token) → Is (front k) k x)
-            → Parts rest → Parts ts
-        behind_part front rest x p is again spells (all_parts more left xs q same left_ends none_left once says) =
-            all_parts (λ k. front (more k)) left (x ∷ xs) (puts_both p q) (is ∙ ap front same) left_ends none_left
-            (λ n k found le b.
-            let turn = turned n found (front (more k)) le (does_begin _ _ _ (spells (more k))) (Ok (x, more k)) (again (more k)) in
-            turn.1.1 ∙ once turn.0 k (found ++ x ∷ []) (omega (arith, shorter _ _ _ (spells (more k)), le, turn.1.0)) b ∙ ap (λ (z : List A). Ok (z, k)) (append_assoc found (x ∷ []) xs))
-            (λ k. one_more (spells (more k)) (says k))
-        behind_part front rest x p is again spells (part_stops more t left q same stopped starts c) =
-            part_stops (λ k. front (more k)) t left (puts_both p q) (is ∙ ap front same)
-            (λ n k found le.
-            let turn = turned n found (front (more (t ∷ k))) le (does_begin _ _ _ (spells (more (t ∷ k)))) (Ok (x, more (t ∷ k))) (again (more (t ∷ k))) in
-            turn.1.1 ∙ stopped turn.0 k (found ++ x ∷ []) (omega (arith, shorter _ _ _ (spells (more (t ∷ k))), le, turn.1.0)))
-            (λ k. does_begin _ _ _ (spells (more (t ∷ k))))
-            (record { back = c.back; value = x ∷ c.value; spells = λ k. one_more (spells (more (c.back k))) (c.spells k) })
-
-        part : ((rest : List Token) → length rest ≤ n → Ends rest → Parts rest) → begins ts ≡ true → Verdict true pair Is read ts → Parts ts
-        part deeper b (stops front t rest p is again c) =
-            let starts = goes_on front t rest p (ap begins (sym is) ∙ b) again in
-            part_stops front t rest p is (λ n k found le. (turned n found (front (t ∷ k)) le (starts k) (Err t.place) (again k)).1.1) starts
-            (record { back = c.back; value = c.value ∷ []; spells = λ k. one_more (c.spells k) no_more })
-        part deeper b (past front rest x p is ends sees again spells) =
-            behind_part front rest x p is (λ k. again k tt) spells (deeper rest (omega (arith, shorter _ _ _ (spells rest), ap length is, l)) ends)
-
-        go : ((rest : List Token) → length rest ≤ n → Ends rest → Parts rest) → (b : Bool) → begins ts ≡ b → Parts ts
-        go deeper true b = part deeper b (parts ts e)
-        go deeper false b = all_parts (λ k. k) ts [] puts_none refl e b (λ n k found le c. ended n k found c) (λ k. no_more)
-
-    -- where the next token tells whether a part begins
-    pub all_read : ((a b : List Token) → Alike a b → begins a ≡ begins b) → Reads false pair (AreMany Is) (all_at begins read)
-    all_read alike = record { judged = λ ts e. go ts (parts_judged (length ts) ts (omega arith) e); some = record { back = λ k. k; value = []; spells = λ k. no_more } }
-      where
-        go : (ts : List Token) → Parts ts → Verdict false pair (AreMany Is) (all_at begins read) ts
-        go ts (all_parts front rest xs p is ends none_left once says) =
-            past front rest xs p is ends (λ a b l. alike_put a b p l) (λ k l. once (length (front k)) k [] (omega arith) (sym (alike rest k l) ∙ none_left)) says
-        go ts (part_stops front t rest p is stopped starts c) = stops front t rest p is (λ k. stopped (length (front (t ∷ k))) k [] (omega arith)) c
-
-one_goes_on : (begins : List Token → Bool) → ((a b : List Token) → Alike a b → begins a ≡ begins b) → (front : List Token → List Token) (t : Token) (rest : List Token) → Puts front
-    → begins (front (t ∷ rest)) ≡ true → (k : List Token) → begins (front (t ∷ k)) ≡ true
-one_goes_on begins alike front t rest p b k = alike (front (t ∷ k)) (front (t ∷ rest)) (alike_put (t ∷ k) (t ∷ rest) p refl) ∙ b
-
-alike_declaration : (a b : List Token) → Alike a b → begins_declaration a ≡ begins_declaration b
-alike_declaration a b h = alike_test begins_declaration (λ t a b. refl) a b h
-
-alike_item : (a b : List Token) → Alike a b → begins_item a ≡ begins_item b
-alike_item a b h = alike_test begins_item (λ t a b. refl) a b h
-
-declarations_read : Reads false pair (AreMany IsDeclaration) declarations_at
-declarations_read =
-    all_read IsDeclaration begins_declaration declaration_at refl declaration_reads.judged declaration_begins
-    (λ front t rest p b again k. one_goes_on begins_declaration alike_declaration front t rest p b k) (λ ts rest x d. declaration_end d) alike_declaration
-
-pub items_read : Reads false pair (AreMany IsItem) items_at
-items_read =
-    all_read IsItem begins_item item_at refl item_reads.judged item_begins
-    (λ front t rest p b again k. one_goes_on begins_item alike_item front t rest p b k) (λ ts rest x i. item_end i) alike_item
-
--- ---- the ports
-
--- with a comma and a direction a port begins
-port_given : (direction : List ℕ) (t u : Token) → t.kind ≢ kind.Name → t.text ≡ codes "," → u.kind ≢ kind.Name → u.text ≡ direction
-    → directed_at direction (t ∷ u ∷ name_token clk ∷ []) ≡ Ok (record { name = clk; width = width_for 0 }, [])
-unfolding name_token
-port_given direction t u k e l f =
-    directed_gives direction _ [] _ (record { a = name_token clk ∷ []; b = name_token clk ∷ []; words_first = next_word k e (next_word l f no_word); range = no_range (width_bits 0 (omega arith)); name = name refl refl })
-
-port_goes_on : (direction : List ℕ) → bytes_eq [] direction ≡ false → (front : List Token → List Token) (t : Token) (rest : List Token) → Puts front → are_at (codes ",") direction (front (t ∷ rest)) ≡ true
-    → ((k : List Token) → directed_at direction (front (t ∷ k)) ≡ Err t.place) → (k : List Token) → are_at (codes ",") direction (front (t ∷ k)) ≡ true
-unfolding word_token
-port_goes_on direction some front t rest p b again k = ap (are_at (codes ",") direction) (p.is (t ∷ k)) ∙ go p.tokens (ap (are_at (codes ",") direction) (sym (p.is (t ∷ rest))) ∙ b) (λ k. ap (directed_at direction) (sym (p.is (t ∷ k))) ∙ again k)
-  where
-    not_both : (x : Port × List Token) → ◌≡◌ {A = Result (Port × List Token) Place} (Ok x) (Err t.place) → ⊥
-    not_both x e = cc
-
-    word : (text : List ℕ) (t : Token) → is_word text t ≡ true → (t.kind ≢ kind.Name) × (t.text ≡ text)
-    word text t h = open_word (at_word text (t ∷ []) h)
-      where
-        open_word : IsWordAt text (t ∷ []) [] → (t.kind ≢ kind.Name) × (t.text ≡ text)
-        open_word (next_word k e (no_word)) = (k, e)
-
-    go : (w : List Token) → are_at (codes ",") direction (w ++ (t ∷ rest)) ≡ true → ((k : List Token) → directed_at direction (w ++ (t ∷ k)) ≡ Err t.place) → are_at (codes ",") direction (w ++ (t ∷ k)) ≡ true
-    go [] h bad =
-        let c = word (codes ",") t (both (is_word (codes ",") t) (is_at direction rest) h).0 in
-        absurd (not_both _ (sym (port_given direction t (word_token direction) c.0 c.1 (λ h. absurd cc) refl) ∙ bad (word_token direction ∷ name_token clk ∷ [])))
-    go (a ∷ []) h bad =
-        let z = both (is_word (codes ",") a) (is_word direction t) h in
-        let c = word (codes ",") a z.0 in
-        let d = word direction t z.1 in
-        absurd (not_both _ (sym (port_given direction a t c.0 c.1 d.0 d.1) ∙ bad (name_token clk ∷ [])))
-    go (a ∷ b ∷ w) h bad = h
-
-module _ (direction : List ℕ) (some : bytes_eq [] direction ≡ false) where
-  abbrev IsDirected : List Token → List Token → Port → Type 0
-  IsDirected = IsPort (codes "," ∷ direction ∷ [])
-
-  ports_judged : (ts : List Token) → Ends ts → Parts IsDirected (are_at (codes ",") direction) (directed_at direction) ts
-  ports_judged ts e =
-      parts_judged IsDirected (are_at (codes ",") direction) (directed_at direction) refl (directed_reads direction some).judged (λ ts rest x p. two_there direction ts p.a p.words_first)
-      (port_goes_on direction some) (λ ts rest x p. port_end p) (length ts) ts (omega arith) e
-
--- where no comma comes next, the tokens before it and that token alone tell whether a port begins
-same_ports : (direction : List ℕ) (front : List Token → List Token) (a b : List Token) → Puts front → Alike a b → is_at (codes ",") a ≡ false → are_at (codes ",") direction (front a) ≡ are_at (codes ",") direction (front b)
-same_ports direction front a b p l h = ap (are_at (codes ",") direction) (p.is a) ∙ go p.tokens ∙ ap (are_at (codes ",") direction) (sym (p.is b))
-  where
-    none : (ts : List Token) → is_at (codes ",") ts ≡ false → are_at (codes ",") direction ts ≡ false
-    none [] h = refl
-    none (t ∷ ts) h = rw h refl
-
-    go : (w : List Token) → are_at (codes ",") direction (w ++ a) ≡ are_at (codes ",") direction (w ++ b)
-    go [] = none a h ∙ sym (none b (sym (alike_word (codes ",") a b l) ∙ h))
-    go (t ∷ []) = ap (λ z. is_word (codes ",") t && z) (alike_word direction a b l)
-    go (t ∷ u ∷ w) = refl
-
--- the tokens before two others, and these, tell whether a port begins
-two_ports : (direction : List ℕ) (front : List Token → List Token) (t u : Token) (a b : List Token) → Puts front → are_at (codes ",") direction (front (t ∷ u ∷ a)) ≡ are_at (codes ",") direction (front (t ∷ u ∷ b))
-two_ports direction front t u a b p = ap (are_at (codes ",") direction) (p.is (t ∷ u ∷ a)) ∙ go p.tokens ∙ ap (are_at (codes ",") direction) (sym (p.is (t ∷ u ∷ b)))
-  where
-    go : (w : List Token) → are_at (codes ",") direction (w ++ (t ∷ u ∷ a)) ≡ are_at (codes ",") direction (w ++ (t ∷ u ∷ b))
-    go [] = refl
-    go (x ∷ []) = refl
-    go (x ∷ y ∷ w) = refl
-
--- an output is no input
-not_input : (ts : List Token) → are_at (codes ",") (codes "output") ts ≡ true → are_at (codes ",") (codes "input") ts ≡ false
-not_input [] h = refl
-not_input (t ∷ []) h = and_false (is_word (codes ",") t)
-  where
-    and_false : (b : Bool) → (b && false) ≡ false
-    and_false true = refl
-    and_false false = refl
-not_input (t ∷ u ∷ ts) h = go (both (is_word (codes ",") t) (is_word (codes "output") u) h).1
-  where
-    other : IsWordAt (codes "output") (u ∷ []) [] → is_word (codes "input") u ≡ false
-    other w = other_there w (codes "input") refl
-
-    and_false : (b c : Bool) → c ≡ false → (b && c) ≡ false
-    and_false true c e = e
-    and_false false c e = refl
-
-    go : is_word (codes "output") u ≡ true → are_at (codes ",") (codes "input") (t ∷ u ∷ ts) ≡ false
-    go h = and_false (is_word (codes ",") t) (is_word (codes "input") u) (other (at_word (codes "output") (u ∷ []) h))
-
-abbrev pub IsInput : List Token → List Token → Port → Type 0
-IsInput = IsPort (codes "," ∷ codes "input" ∷ [])
-
-abbrev pub IsOutput : List Token → List Token → Port → Type 0
-IsOutput = IsPort (codes "," ∷ codes "output" ∷ [])
-
-inputs_judged : (ts : List Token) → Ends ts → Parts IsInput (are_at (codes ",") (codes "input")) (directed_at (codes "input")) ts
-inputs_judged ts e = ports_judged (codes "input") refl ts e
-
-outputs_judged : (ts : List Token) → Ends ts → Parts IsOutput (are_at (codes ",") (codes "output")) (directed_at (codes "output")) ts
-outputs_judged ts e = ports_judged (codes "output") refl ts e
-
--- the ports beside the clock and the reset, and what closes them
-pub record Tail (called : List ℕ) (ts rest : List Token) (x : Header) : Type 0 where
-  pub a : List Token
-  pub b : List Token
-  pub named : x.name ≡ called
-  pub inputs : AreMany IsInput ts a x.inputs
-  pub outputs : AreMany IsOutput a b x.outputs
-  pub closes : AreWords (codes ")" ∷ codes ";" ∷ []) b rest
-
-pub tail_at : List ℕ → Read Header
-tail_at called ts =
-    ports_at (codes "input") ts >>= λ inputs. ports_at (codes "output") inputs.1 >>= λ outputs. closed_at outputs.1 >>= λ rest. Ok (record { name = called; inputs = inputs.0; outputs = outputs.0 }, rest)
-
--- what closes the ports
-closing : List Token → List Token
-closing k = word_token (codes ")") ∷ word_token (codes ";") ∷ k
-
-closes : (k : List Token) → AreWords (codes ")" ∷ codes ";" ∷ []) (closing k) k
-unfolding closing word_token
-closes k = next_word (λ h. absurd cc) refl (next_word (λ h. absurd cc) refl no_word)
-
-closed_reads : Reads true alone (Words (codes ")" ∷ codes ";" ∷ [])) (words_at (codes ")" ∷ codes ";" ∷ []))
-closed_reads = words_read (codes ")") (codes ";" ∷ []) (refl, (refl, tt))
-
-closed_by : (k : List Token) → is_at (codes ",") k ≡ false → closed_at k ≡ words_at (codes ")" ∷ codes ";" ∷ []) k
-unfolding closed_at
-closed_by k h = rw h refl
-
-comma_closes : (t u : Token) (k : List Token) → is_word (codes ",") t ≡ true → closed_at (t ∷ u ∷ k) ≡ Err u.place
-unfolding closed_at
-comma_closes t u k h = rw h refl
-
-one_output : (t : Token) (k : List Token) → is_word (codes ",") t ≡ true → IsOutput (t ∷ word_token (codes "output") ∷ name_token clk ∷ k) k (record { name = clk; width = width_for 0 })
-unfolding word_token name_token
-one_output t k h =
-    record { a = name_token clk ∷ k; b = name_token clk ∷ k; words_first = joined (at_word (codes ",") (t ∷ []) h); range = no_range (width_bits 0 (omega arith)); name = name refl refl }
-  where
-    joined : IsWordAt (codes ",") (t ∷ []) [] → AreWords (codes "," ∷ codes "output" ∷ []) (t ∷ word_token (codes "output") ∷ name_token clk ∷ k) (name_token clk ∷ k)
-    joined (next_word k e (no_word)) = next_word k e (next_word (λ h. absurd cc) refl no_word)
-
-module _ (called : List ℕ) where
-  header_of : List Port → List Port → Header
-  header_of xs ys = record { name = called; inputs = xs; outputs = ys }
-
-  -- what follows the inputs, and what follows the outputs
-  behind_inputs : List Port × List Token → Result (Header × List Token) Place
-  behind_inputs inputs = ports_at (codes "output") inputs.1 >>= λ outputs. closed_at outputs.1 >>= λ rest. Ok (header_of inputs.0 outputs.0, rest)
-
-  behind_outputs : List Port → List Port × List Token → Result (Header × List Token) Place
-  behind_outputs xs outputs = closed_at outputs.1 >>= λ rest. Ok (header_of xs outputs.0, rest)
-
-  -- the inputs were read, and behind them the outputs
-  through : (ts mid last_left : List Token) (xs ys : List Port) → ports_at (codes "input") ts ≡ Ok (xs, mid) → ports_at (codes "output") mid ≡ Ok (ys, last_left) → (r : Result (List Token) Place) → closed_at last_left ≡ r
-      → tail_at called ts ≡ (r >>= λ rest. Ok (header_of xs ys, rest))
-  unfolding tail_at header_of
-  through ts mid last_left xs ys e f r g = rw (e, f, g) refl
-
-  stopped_outputs : (ts mid : List Token) (xs : List Port) (p : Place) → ports_at (codes "input") ts ≡ Ok (xs, mid) → ports_at (codes "output") mid ≡ Err p → tail_at called ts ≡ Err p
-  unfolding tail_at
-  stopped_outputs ts mid xs p e f = rw (e, f) refl
-
-  stopped_inputs : (ts : List Token) (p : Place) → ports_at (codes "input") ts ≡ Err p → tail_at called ts ≡ Err p
-  unfolding tail_at
-  stopped_inputs ts p e = rw e refl
-
-  pub tail_reads : Reads true pair (Tail called) (tail_at called)
-  unfolding header_of
-  tail_reads = record { judged = λ ts e. with_inputs ts (inputs_judged ts e); some = record { back = closing; value = header_of [] []; spells = λ k. record { a = closing k; b = closing k; named = refl; inputs = no_more; outputs = no_more; closes = closes k } } }
-    where
-      with_closed : (ts rest1 rest2 : List Token) (xs ys : List Port) (front more : List Token → List Token) → Puts front → ts ≡ front rest1 → are_at (codes ",") (codes "input") rest1 ≡ false
-          → ((k : List Token) → are_at (codes ",") (codes "input") k ≡ false → ports_at (codes "input") (front k) ≡ Ok (xs, k)) → ((k : List Token) → AreMany IsInput (front k) k xs)
-          → Puts more → rest1 ≡ more rest2 → are_at (codes ",") (codes "output") rest2 ≡ false
-          → ((k : List Token) → are_at (codes ",") (codes "output") k ≡ false → ports_at (codes "output") (more k) ≡ Ok (ys, k)) → ((k : List Token) → AreMany IsOutput (more k) k ys)
-          → is_at (codes ",") rest2 ≡ false → Verdict true alone (Words (codes ")" ∷ codes ";" ∷ [])) (words_at (codes ")" ∷ codes ";" ∷ [])) rest2 → Verdict true pair (Tail called) (tail_at called) ts
-      with_closed ts rest1 rest2 xs ys front more p is in_none ins are_ins q same out_none outs are_outs comma v = go v
-        where
-          none_out : (k : List Token) → Alike rest2 k → are_at (codes ",") (codes "output") k ≡ false
-          none_out k l = sym (same_ports (codes "output") (λ k. k) rest2 k puts_none l comma) ∙ out_none
-
-          none_in : (k : List Token) → Alike rest2 k → are_at (codes ",") (codes "input") (more k) ≡ false
-          none_in k l = sym (same_ports (codes "input") more rest2 k q l comma) ∙ ap (are_at (codes ",") (codes "input")) (sym same) ∙ in_none
-
-          closed : (k : List Token) → Alike rest2 k → (r : Result (List Token) Place) → words_at (codes ")" ∷ codes ";" ∷ []) k ≡ r → closed_at k ≡ r
-          closed k l r e = closed_by k (sym (alike_word (codes ",") rest2 k l) ∙ comma) ∙ e
-
-          read : (k : List Token) → Alike rest2 k → (r : Result (List Token) Place) → words_at (codes ")" ∷ codes ";" ∷ []) k ≡ r → tail_at called (front (more k)) ≡ (r >>= λ rest. Ok (header_of xs ys, rest))
-          read k l r e = through (front (more k)) (more k) k xs ys (ins (more k) (none_in k l)) (outs k (none_out k l)) r (closed k l r e)
-
-          go : Verdict true alone (Words (codes ")" ∷ codes ";" ∷ [])) (words_at (codes ")" ∷ codes ";" ∷ [])) rest2 → Verdict true pair (Tail called) (tail_at called) ts
-          go (stops final t left w at again c) =
-              stops (λ k. front (more (final k))) t left (puts_both p (puts_both q w)) (is ∙ ap front (same ∙ ap more at))
-              (λ k. read (final (t ∷ k)) (subst (λ z. Alike z (final (t ∷ k))) (sym at) (alike_put (t ∷ left) (t ∷ k) w refl)) (Err t.place) (again k))
-              (record {
-                back = c.back;
-                value = header_of xs ys;
-                spells = λ k. record { a = more (final (c.back k)); b = final (c.back k); named = refl; inputs = are_ins (more (final (c.back k))); outputs = are_outs (final (c.back k)); closes = c.spells k };
-              })
-          go (past final left x w at ends sees again spells) =
-              past (λ k. front (more (final k))) left (header_of xs ys) (puts_both p (puts_both q w)) (is ∙ ap front (same ∙ ap more at)) ends
-              (λ a b l. alike_put (more (final a)) (more (final b)) p (alike_put (final a) (final b) q (sees a b tt)))
-              (λ k l. read (final k) (subst (λ z. Alike z (final k)) (sym at) (sees left k tt)) (Ok k) (again k tt))
-              (λ k. record { a = more (final k); b = final k; named = refl; inputs = are_ins (more (final k)); outputs = are_outs (final k); closes = spells k })
-
-      -- a comma, and what stands behind it is no direction that may stand there
-      with_comma : (ts rest1 : List Token) (t u : Token) (left : List Token) (xs ys : List Port) (front more : List Token → List Token) → Puts front → ts ≡ front rest1 → are_at (codes ",") (codes "input") rest1 ≡ false
-          → ((k : List Token) → are_at (codes ",") (codes "input") k ≡ false → ports_at (codes "input") (front k) ≡ Ok (xs, k)) → ((k : List Token) → AreMany IsInput (front k) k xs)
-          → Puts more → rest1 ≡ more (t ∷ u ∷ left) → are_at (codes ",") (codes "output") (t ∷ u ∷ left) ≡ false
-          → ((k : List Token) → are_at (codes ",") (codes "output") k ≡ false → ports_at (codes "output") (more k) ≡ Ok (ys, k)) → ((k : List Token) → AreMany IsOutput (more k) k ys)
-          → is_word (codes ",") t ≡ true → Verdict true pair (Tail called) (tail_at called) ts
-      with_comma ts rest1 t u left xs ys front more p is in_none ins are_ins q same out_none outs are_outs comma =
-          stops (λ k. front (more (t ∷ k))) u left (puts_both p (puts_both q (puts_one t))) (is ∙ ap front same)
-          (λ k. through (front (more (t ∷ u ∷ k))) (more (t ∷ u ∷ k)) (t ∷ u ∷ k) xs ys
-          (ins (more (t ∷ u ∷ k)) (two_ports (codes "input") more t u k left q ∙ ap (are_at (codes ",") (codes "input")) (sym same) ∙ in_none)) (outs (t ∷ u ∷ k) out_none)
-          (Err u.place) (comma_closes t u k comma))
-          (record {
-            back = λ k. word_token (codes "output") ∷ name_token clk ∷ closing k;
-            value = header_of xs (ys ++ record { name = clk; width = width_for 0 } ∷ []);
-            spells = λ k. record {
-              a = more (t ∷ word_token (codes "output") ∷ name_token clk ∷ closing k);
-              b = closing k;
-              named = refl;
-              inputs = are_ins (more (t ∷ word_token (codes "output") ∷ name_token clk ∷ closing k));
-              outputs = many_append (are_outs (t ∷ word_token (codes "output") ∷ name_token clk ∷ closing k)) (one_more (one_output t (closing k) comma) no_more);
-              closes = closes k;
-            };
-          })
-
-      with_outputs : (ts rest1 : List Token) (xs : List Port) (front : List Token → List Token) → Puts front → ts ≡ front rest1 → are_at (codes ",") (codes "input") rest1 ≡ false
-          → ((k : List Token) → are_at (codes ",") (codes "input") k ≡ false → ports_at (codes "input") (front k) ≡ Ok (xs, k)) → ((k : List Token) → AreMany IsInput (front k) k xs)
-          → Parts IsOutput (are_at (codes ",") (codes "output")) (directed_at (codes "output")) rest1 → Verdict true pair (Tail called) (tail_at called) ts
-      with_outputs ts rest1 xs front p is in_none ins are_ins (part_stops more t left q same stopped starts c) =
-          stops (λ k. front (more k)) t left (puts_both p q) (is ∙ ap front same)
-          (λ k. stopped_outputs (front (more (t ∷ k))) (more (t ∷ k)) xs t.place (ins (more (t ∷ k)) (not_input (more (t ∷ k)) (starts k))) (stopped (length (more (t ∷ k))) k [] (omega arith)))
-          (record {
-            back = λ k. c.back (closing k);
-            value = header_of xs c.value;
-            spells = λ k. record { a = more (c.back (closing k)); b = closing k; named = refl; inputs = are_ins (more (c.back (closing k))); outputs = c.spells (closing k); closes = closes k };
-          })
-      with_outputs ts rest1 xs front p is in_none ins are_ins (all_parts more rest2 ys q same ends out_none once are_outs) = go rest2 same ends out_none (is_at (codes ",") rest2) refl
-        where
-          outs : (k : List Token) → are_at (codes ",") (codes "output") k ≡ false → ports_at (codes "output") (more k) ≡ Ok (ys, k)
-          outs k b = once (length (more k)) k [] (omega arith) b
-
-          go : (rest2 : List Token) → rest1 ≡ more rest2 → Ends rest2 → are_at (codes ",") (codes "output") rest2 ≡ false → (b : Bool) → is_at (codes ",") rest2 ≡ b → Verdict true pair (Tail called) (tail_at called) ts
-          go rest2 same ends none false h = with_closed ts rest1 rest2 xs ys front more p is in_none ins are_ins q same none outs are_outs h (closed_reads.judged rest2 ends)
-          go [] same ends none true h = absurd cc
-          go (t ∷ []) same ends none true h = absurd (omega (arith, ends_some (word_left (codes ",") refl t [] ends h)))
-          go (t ∷ u ∷ left) same ends none true h = with_comma ts rest1 t u left xs ys front more p is in_none ins are_ins q same none outs are_outs h
-
-      with_inputs : (ts : List Token) → Parts IsInput (are_at (codes ",") (codes "input")) (directed_at (codes "input")) ts → Verdict true pair (Tail called) (tail_at called) ts
-      with_inputs ts (part_stops front t rest p is stopped starts c) =
-          stops front t rest p is (λ k. stopped_inputs (front (t ∷ k)) t.place (stopped (length (front (t ∷ k))) k [] (omega arith)))
-          (record {
-            back = λ k. c.back (closing k);
-            value = header_of c.value [];
-            spells = λ k. record { a = closing k; b = closing k; named = refl; inputs = c.spells (closing k); outputs = no_more; closes = closes k };
-          })
-      with_inputs ts (all_parts front rest xs p is ends none once spells) =
-          with_outputs ts rest xs front p is none (λ k b. once (length (front k)) k [] (omega arith) b) spells (outputs_judged rest ends)
-
--- ---- the whole text
+-- ---- the header of a top
 
 abbrev ClockedIs : List Token → List Token → Unit {0} → Type 0
 ClockedIs = Follows (Words (codes "(" ∷ codes "input" ∷ [])) (λ a. Follows (ThisName clk) (λ b. Follows (Words (codes "," ∷ codes "input" ∷ [])) (λ c. ThisName rst)))
@@ -399,111 +53,567 @@ header_reads : Reads true pair HeaderIs header_at
 unfolding header_at tail_at
 header_reads = then_reads _ (word_reads (codes "module") refl) (λ a. then_reads _ name_reads (λ called. then_reads _ clocked_reads (λ b. tail_reads called)))
 
--- how a reader of all that is left ends
-data LastVerdict {Y : Type 0} (Is : List Token → Y → Type 0) (read : List Token → Result Y Place) (ts : List Token) : Type 0 where
-  read_all : (y : Y) → read ts ≡ Ok y → LastVerdict Is read ts
-  breaks : (front : List Token → List Token) (t : Token) (rest : List Token) → Puts front → ts ≡ front (t ∷ rest) → ((k : List Token) → read (front (t ∷ k)) ≡ Err t.place)
-      → (more : List Token) (y : Y) → Is (front more) y → LastVerdict Is read ts
+-- ---- the top
 
-record ReadsLast {Y : Type 0} (Is : List Token → Y → Type 0) (read : List Token → Result Y Place) : Type 0 where
-  judged : (ts : List Token) → Ends ts → LastVerdict Is read ts
-  more : List Token
-  value : Y
-  spells : Is more value
+abbrev TopIs : List Token → List Token → ModuleText → Type 0
+TopIs = Follows HeaderIs (λ header. Follows (AreMany IsDeclaration) (λ ds. Follows (AreMany IsItem) (λ items. Mapped (Word (codes "endmodule")) (λ a. with_body header ds items))))
 
-data FollowsLast {A B : Type 0} (First : List Token → List Token → A → Type 0) (Second : A → List Token → B → Type 0) (ts : List Token) (y : B) : Type 0 where
-  follows_last : {mid : List Token} {x : A} → First ts mid x → Second x mid y → FollowsLast First Second ts y
-
-then_last : {A X Y : Type 0} {c : Bool} {put : A → List Token → X} {First : List Token → List Token → A → Type 0} {Second : A → List Token → Y → Type 0} {read : List Token → Result X Place}
-    (next : X → Result Y Place) → Reads c put First read → ((x : A) → ReadsLast (Second x) (λ k. next (put x k))) → ReadsLast (FollowsLast First Second) (λ ts. read ts >>= next)
-then_last {A} {X} {Y} {c} {put} {First} {Second} {read} next one two =
-    let last_part = two one.some.value in
-    record { judged = λ ts e. go ts (one.judged ts e); more = one.some.back last_part.more; value = last_part.value; spells = follows_last (one.some.spells last_part.more) last_part.spells }
+top_reads : Reads true pair IsTop top_at
+unfolding top_at
+top_reads = reads_as within whole
   where
-    on : (ts : List Token) (front : List Token → List Token) (rest : List Token) (x : A) → Puts front → ts ≡ front rest → ((k : List Token) → Looks c rest k → read (front k) ≡ Ok (put x k)) → ((k : List Token) → First (front k) k x)
-        → LastVerdict (Second x) (λ k. next (put x k)) rest → LastVerdict (FollowsLast First Second) (λ ts. read ts >>= next) ts
-    on ts front rest x p is again spells (read_all y e) = read_all y (ap (λ z. read z >>= next) is ∙ ap (λ z. z >>= next) (again rest (looks_same c rest)) ∙ e)
-    on ts front rest x p is again spells (breaks inner t left q same stopped more y says) =
-        breaks (λ k. front (inner k)) t left (puts_both p q) (is ∙ ap front same)
-        (λ k. ap (λ z. z >>= next) (again (inner (t ∷ k)) (looks_alike c rest (inner (t ∷ k)) (subst (λ z. Alike z (inner (t ∷ k))) (sym same) (alike_put (t ∷ left) (t ∷ k) q refl)))) ∙ stopped k)
-        more y (follows_last (spells (inner more)) says)
+    whole : Reads true pair TopIs top_at
+    whole =
+        then_reads _ header_reads (λ header. then_reads _ declarations_read (λ ds. then_reads _ items_read (λ items. map_reads _ (λ a. with_body header ds items) (λ a k. refl) (word_reads (codes "endmodule") refl))))
 
-    go : (ts : List Token) → Verdict c put First read ts → LastVerdict (FollowsLast First Second) (λ ts. read ts >>= next) ts
-    go ts (stops front t rest p is again w) =
-        let last_part = two w.value in
-        breaks front t rest p is (λ k. ap (λ z. z >>= next) (again k)) (w.back last_part.more) last_part.value (follows_last (w.spells last_part.more) last_part.spells)
-    go ts (past front rest x p is ends sees again spells) = on ts front rest x p is again spells ((two x).judged rest ends)
+    within : (ts rest : List Token) (x : ModuleText) → TopIs ts rest x → IsTop ts rest x
+    within ts rest x (follows {mid = f} {x = header} (follows {mid = a} m (follows {mid = b} {x = called} n (follows {mid = c} k t))) (follows {mid = g} {x = ds} d (follows {mid = h} {x = items} i end))) =
+        unmap (IsTop ts rest) end (λ y s. record {
+          a = a;
+          b = b;
+          c = c;
+          d = t.a;
+          e = t.b;
+          f = f;
+          g = g;
+          h = h;
+          begins = m;
+          name = subst (λ z. IsNameAt a b z) (sym t.named) n;
+          clocked = k;
+          inputs = t.inputs;
+          outputs = t.outputs;
+          closes = t.closes;
+          declarations = d;
+          items = i;
+          stops = s;
+        })
 
--- the end, and what was said before it
-EndIs : Text → List Token → Text → Type 0
-EndIs said ts x = IsEnd ts × (x ≡ said)
+-- ---- the first tokens of a module
+
+-- at most four tokens, as `module name ( input`
+data Opens : List Token → Type 0 where
+  unopened : Opens []
+  after_module : {m : Token} → IsWordAt (codes "module") (m ∷ []) [] → Opens (m ∷ [])
+  after_name : {m n : Token} {text : List ℕ} → IsWordAt (codes "module") (m ∷ []) [] → IsNameAt (n ∷ []) [] text → Opens (m ∷ n ∷ [])
+  after_open : {m n o : Token} {text : List ℕ} → IsWordAt (codes "module") (m ∷ []) [] → IsNameAt (n ∷ []) [] text → IsWordAt (codes "(") (o ∷ []) [] → Opens (m ∷ n ∷ o ∷ [])
+  after_input : {m n o i : Token} {text : List ℕ} → IsWordAt (codes "module") (m ∷ []) [] → IsNameAt (n ∷ []) [] text → IsWordAt (codes "(") (o ∷ []) [] → IsWordAt (codes "input") (i ∷ []) [] → Opens (m ∷ n ∷ o ∷ i ∷ [])
+
+-- tokens that go on as `module name ( output`
+data OpensOutput : List Token → Type 0 where
+  after_output : {m n o i : Token} {text : List ℕ} → IsWordAt (codes "module") (m ∷ []) [] → IsNameAt (n ∷ []) [] text → IsWordAt (codes "(") (o ∷ []) [] → IsWordAt (codes "output") (i ∷ []) [] → OpensOutput (m ∷ n ∷ o ∷ i ∷ [])
+
+-- a token alone stands so before others too
+word_more : {text : List ℕ} {t : Token} → IsWordAt text (t ∷ []) [] → (k : List Token) → IsWordAt text (t ∷ k) k
+word_more (next_word l e (no_word)) k = next_word l e no_word
+
+name_more : {text : List ℕ} {t : Token} → IsNameAt (t ∷ []) [] text → (k : List Token) → IsNameAt (t ∷ k) k text
+name_more (name l e) k = name l e
+
+a_word : (text : List ℕ) (k : List Token) → IsWordAt text (word_token text ∷ k) k
+unfolding word_token
+a_word text k = next_word (λ h. absurd cc) refl no_word
+
+named : (text : List ℕ) (k : List Token) → IsNameAt (name_token text ∷ k) k text
+unfolding name_token
+named text k = name refl refl
+
+-- ---- a kind, from its first tokens on
+
+-- one output, and nothing inside
+last_part : List Token → List Token
+last_part k = closing (word_token (codes "endmodule") ∷ k)
+
+output_part : List Token → List Token
+output_part k = word_token (codes "output") ∷ name_token rst ∷ last_part k
+
+one_port : Port
+one_port = record { name = rst; width = width_for 0 }
+
+small_kind : List ℕ → List Port → ModuleText
+small_kind called inputs = record { name = called; inputs = inputs; outputs = one_port ∷ []; declarations = []; items = [] }
+
+-- a kind with this name and these inputs, of which an output stands first or an input that is not `clk`
+kind_with : {ts a b c d e : List Token} {called : List ℕ} {inputs : List Port} → IsWordAt (codes "module") ts a → IsNameAt a b called → IsWordAt (codes "(") b c → (IsClockFirst c → ⊥)
+    → AreMany IsKindInput c d inputs → IsWordAt (codes "output") d e → (k : List Token) → e ≡ name_token rst ∷ last_part k → IsKind ts k (small_kind called inputs)
+unfolding last_part one_port small_kind
+kind_with {ts = ts} {a = a} {b = b} {c = c} {d = d} {e = e} {called = called} {inputs = inputs} m n o no ins out k is = record {
+  a = a;
+  b = b;
+  c = c;
+  d = d;
+  e = last_part k;
+  f = last_part k;
+  g = word_token (codes "endmodule") ∷ k;
+  h = word_token (codes "endmodule") ∷ k;
+  i = word_token (codes "endmodule") ∷ k;
+  first = one_port;
+  later = [];
+  begins = m;
+  name = n;
+  opens = o;
+  no_clock = no;
+  inputs = ins;
+  output = record { a = e; b = e; words_first = out; range = no_range (width_bits 0 (omega arith)); name = subst (λ z. IsNameAt z (last_part k) rst) (sym is) (named rst (last_part k)) };
+  more_outputs = no_more;
+  outputs = refl;
+  closes = closes (word_token (codes "endmodule") ∷ k);
+  declarations = no_more;
+  items = no_more;
+  stops = a_word (codes "endmodule") k;
+}
+
+-- an output is no clock
+output_first : {c d : List Token} → IsWordAt (codes "output") c d → IsClockFirst c → ⊥
+output_first w first = true≢false (sym (word_there first.input).0 ∙ other_there w (codes "input") refl)
+
+-- nor is an input with another name
+input_first : {i t : Token} {k : List Token} → IsWordAt (codes "input") (i ∷ []) [] → IsNameAt (t ∷ []) [] rst → IsClockFirst (i ∷ t ∷ k) → ⊥
+input_first w n first = go first.input first.clock n
+  where
+    go : {i t : Token} {k a b : List Token} → IsWordAt (codes "input") (i ∷ t ∷ k) a → IsNameAt a b clk → IsNameAt (t ∷ []) [] rst → ⊥
+    go (next_word l e (no_word)) (name l2 e2) (name l3 e3) = true≢false (sym ((bytes_eq-Decides clk rst).1 (sym e2 ∙ e3)))
+
+-- behind such tokens a kind can stand
+kind_opens : (w : List Token) → Opens w → Completes IsKind (λ k. w ++ k)
+unfolding output_part last_part
+kind_opens w (unopened) = record {
+  back = λ k. word_token (codes "module") ∷ name_token rst ∷ word_token (codes "(") ∷ output_part k;
+  value = small_kind rst [];
+  spells = λ k.
+      kind_with (a_word (codes "module") _) (named rst _) (a_word (codes "(") (output_part k)) (output_first (a_word (codes "output") _)) no_more (a_word (codes "output") _) k refl;
+}
+kind_opens w (after_module m) = record {
+  back = λ k. name_token rst ∷ word_token (codes "(") ∷ output_part k;
+  value = small_kind rst [];
+  spells = λ k. kind_with (word_more m _) (named rst _) (a_word (codes "(") (output_part k)) (output_first (a_word (codes "output") _)) no_more (a_word (codes "output") _) k refl;
+}
+kind_opens w (after_name {text = text} m n) = record {
+  back = λ k. word_token (codes "(") ∷ output_part k;
+  value = small_kind text [];
+  spells = λ k. kind_with (word_more m _) (name_more n _) (a_word (codes "(") (output_part k)) (output_first (a_word (codes "output") _)) no_more (a_word (codes "output") _) k refl;
+}
+kind_opens w (after_open {text = text} m n o) = record {
+  back = output_part;
+  value = small_kind text [];
+  spells = λ k. kind_with (word_more m _) (name_more n _) (word_more o (output_part k)) (output_first (a_word (codes "output") _)) no_more (a_word (codes "output") _) k refl;
+}
+kind_opens w (after_input {i = i} {text = text} m n o w_in) = record {
+  back = λ k. name_token rst ∷ word_token (codes ",") ∷ output_part k;
+  value = small_kind text (one_port ∷ []);
+  spells = λ k.
+      kind_with (word_more m _) (name_more n _) (word_more o _) (input_first w_in (named rst [])) (one_more (one_input w_in (output_part k)) no_more) (a_word (codes "output") _) k refl;
+}
+  where
+    one_input : {i : Token} → IsWordAt (codes "input") (i ∷ []) [] → (k : List Token) → IsKindInput (i ∷ name_token rst ∷ word_token (codes ",") ∷ k) k one_port
+    unfolding one_port
+    one_input w k = record {
+      a = word_token (codes ",") ∷ k;
+      directed = record {
+        a = name_token rst ∷ word_token (codes ",") ∷ k;
+        b = name_token rst ∷ word_token (codes ",") ∷ k;
+        words_first = word_more w _;
+        range = no_range (width_bits 0 (omega arith));
+        name = named rst _;
+      };
+      comma = a_word (codes ",") k;
+    }
+output_opens : (w : List Token) → OpensOutput w → Completes IsKind (λ k. w ++ k)
+unfolding output_part last_part
+output_opens w (after_output {text = text} m n o w_out) = record {
+  back = λ k. name_token rst ∷ last_part k;
+  value = small_kind text [];
+  spells = λ k. kind_with (word_more m _) (name_more n _) (word_more o _) (output_first (word_more w_out _)) no_more (word_more w_out _) k refl;
+}
+
+-- ---- the first tokens of a kind and of a top
+
+-- `module name ( input` or `module name ( output`, and a token more
+data KindTokens : List Token → Type 0 where
+  with_input : {m n o i x : Token} {text : List ℕ} {k : List Token} → IsWordAt (codes "module") (m ∷ []) [] → IsNameAt (n ∷ []) [] text → IsWordAt (codes "(") (o ∷ []) [] → IsWordAt (codes "input") (i ∷ []) []
+      → KindTokens (m ∷ n ∷ o ∷ i ∷ x ∷ k)
+  with_output : {m n o i x : Token} {text : List ℕ} {k : List Token} → IsWordAt (codes "module") (m ∷ []) [] → IsNameAt (n ∷ []) [] text → IsWordAt (codes "(") (o ∷ []) [] → IsWordAt (codes "output") (i ∷ []) []
+      → KindTokens (m ∷ n ∷ o ∷ i ∷ x ∷ k)
+
+-- a range and a name are some token
+data HasFirst : List Token → Type 0 where
+  first_token : {x : Token} {k : List Token} → HasFirst (x ∷ k)
+
+name_some : {ts rest : List Token} {text : List ℕ} → IsNameAt ts rest text → HasFirst ts
+name_some (name k e) = first_token
+
+range_some : {ts mid rest : List Token} {width : Width} {text : List ℕ} → IsRange ts mid width → IsNameAt mid rest text → HasFirst ts
+range_some (no_range e) n = name_some n
+range_some (range (next_word k e w) n le c b) m = first_token
+
+port_tokens : {word : List ℕ} {ts rest : List Token} {port : Port} → IsPort (word ∷ []) ts rest port → (W : List Token → Type 0) → ({i x : Token} {k : List Token} → IsWordAt word (i ∷ []) [] → W (i ∷ x ∷ k)) → W ts
+port_tokens p W make = go p.words_first (range_some p.range p.name) make
+  where
+    go : {word : List ℕ} {ts a : List Token} → IsWordAt word ts a → HasFirst a → ({i x : Token} {k : List Token} → IsWordAt word (i ∷ []) [] → W (i ∷ x ∷ k)) → W ts
+    go (next_word k e (no_word)) (first_token) make = make (next_word k e no_word)
+
+header_tokens : {ts rest : List Token} {x : Header} → HasKindHeader ts rest x → KindTokens ts
+header_tokens h = go h.begins h.name h.opens h.inputs h.outputs.output
+  where
+    go : {ts a b c d e : List Token} {text : List ℕ} {inputs : List Port} {port : Port} → IsWordAt (codes "module") ts a → IsNameAt a b text → IsWordAt (codes "(") b c → AreMany IsKindInput c d inputs → IsPort (codes "output" ∷ []) d e port → KindTokens ts
+    go (next_word {t = m} k1 e1 (no_word)) (name {t = n} k2 e2) (next_word {t = o} k3 e3 (no_word)) (no_more) p =
+        port_tokens p (λ c. KindTokens (m ∷ n ∷ o ∷ c)) (λ w. with_output (next_word k1 e1 no_word) (name k2 e2) (next_word k3 e3 no_word) w)
+    go (next_word {t = m} k1 e1 (no_word)) (name {t = n} k2 e2) (next_word {t = o} k3 e3 (no_word)) (one_more i many) p =
+        port_tokens i.directed (λ c. KindTokens (m ∷ n ∷ o ∷ c)) (λ w. with_input (next_word k1 e1 no_word) (name k2 e2) (next_word k3 e3 no_word) w)
+
+-- the first of them, four at most
+kind_front : {ts : List Token} → KindTokens ts → (n : ℕ) → n ≤ 4 → Opens (take n ts) ⊎ OpensOutput (take n ts)
+kind_front (with_input m n o i) zero le = inl unopened
+kind_front (with_input m n o i) (suc zero) le = inl (after_module m)
+kind_front (with_input m n o i) (suc (suc zero)) le = inl (after_name m n)
+kind_front (with_input m n o i) (suc (suc (suc zero))) le = inl (after_open m n o)
+kind_front (with_input m n o i) (suc (suc (suc (suc zero)))) le = inl (after_input m n o i)
+kind_front (with_input m n o i) (suc (suc (suc (suc (suc k))))) le = absurd (omega arith)
+kind_front (with_output m n o i) zero le = inl unopened
+kind_front (with_output m n o i) (suc zero) le = inl (after_module m)
+kind_front (with_output m n o i) (suc (suc zero)) le = inl (after_name m n)
+kind_front (with_output m n o i) (suc (suc (suc zero))) le = inl (after_open m n o)
+kind_front (with_output m n o i) (suc (suc (suc (suc zero)))) le = inr (after_output m n o i)
+kind_front (with_output m n o i) (suc (suc (suc (suc (suc k))))) le = absurd (omega arith)
+
+-- and those of a top
+top_front : (ts : List Token) → begins_top ts ≡ true → (n : ℕ) → n ≤ 4 → Opens (take n ts)
+top_front [] h n le = absurd cc
+top_front (t1 ∷ []) h n le = absurd cc
+top_front (t1 ∷ t2 ∷ []) h n le = absurd cc
+top_front (t1 ∷ t2 ∷ t3 ∷ []) h n le = absurd cc
+top_front (t1 ∷ t2 ∷ t3 ∷ t4 ∷ []) h n le = absurd cc
+top_front (t1 ∷ t2 ∷ t3 ∷ t4 ∷ t5 ∷ ts) h n le =
+    let z = both (is_word (codes "module") t1) (same t2.kind kind.Name && (is_word (codes "(") t3 && (is_word (codes "input") t4 && is_name clk t5))) h in
+    let y = both (same t2.kind kind.Name) (is_word (codes "(") t3 && (is_word (codes "input") t4 && is_name clk t5)) z.1 in
+    let x = both (is_word (codes "(") t3) (is_word (codes "input") t4 && is_name clk t5) y.1 in
+    let w = both (is_word (codes "input") t4) (is_name clk t5) x.1 in
+    go (at_word (codes "module") (t1 ∷ []) z.0) (name (same_is t2.kind kind.Name y.0) refl) (at_word (codes "(") (t3 ∷ []) x.0) (at_word (codes "input") (t4 ∷ []) w.0) n le
+  where
+    go : IsWordAt (codes "module") (t1 ∷ []) [] → IsNameAt (t2 ∷ []) [] t2.text → IsWordAt (codes "(") (t3 ∷ []) [] → IsWordAt (codes "input") (t4 ∷ []) [] → (n : ℕ) → n ≤ 4 → Opens (take n (t1 ∷ t2 ∷ t3 ∷ t4 ∷ t5 ∷ ts))
+    go m n o i zero le = unopened
+    go m n o i (suc zero) le = after_module m
+    go m n o i (suc (suc zero)) le = after_name m n
+    go m n o i (suc (suc (suc zero))) le = after_open m n o
+    go m n o i (suc (suc (suc (suc zero)))) le = after_input m n o i
+    go m n o i (suc (suc (suc (suc (suc k))))) le = absurd (omega arith)
+
+-- four tokens and one more tell whether a top begins
+same_top : (w : List Token) → 4 ≤ length w → (t : Token) (a b : List Token) → begins_top (w ++ (t ∷ a)) ≡ begins_top (w ++ (t ∷ b))
+same_top [] le t a b = absurd (omega arith)
+same_top (t1 ∷ []) le t a b = absurd (omega arith)
+same_top (t1 ∷ t2 ∷ []) le t a b = absurd (omega arith)
+same_top (t1 ∷ t2 ∷ t3 ∷ []) le t a b = absurd (omega arith)
+same_top (t1 ∷ t2 ∷ t3 ∷ t4 ∷ []) le t a b = refl
+same_top (t1 ∷ t2 ∷ t3 ∷ t4 ∷ t5 ∷ w) le t a b = refl
+
+five_top : (w : List Token) → 5 ≤ length w → (a b : List Token) → begins_top (w ++ a) ≡ begins_top (w ++ b)
+five_top [] le a b = absurd (omega arith)
+five_top (t1 ∷ []) le a b = absurd (omega arith)
+five_top (t1 ∷ t2 ∷ []) le a b = absurd (omega arith)
+five_top (t1 ∷ t2 ∷ t3 ∷ []) le a b = absurd (omega arith)
+five_top (t1 ∷ t2 ∷ t3 ∷ t4 ∷ []) le a b = absurd (omega arith)
+five_top (t1 ∷ t2 ∷ t3 ∷ t4 ∷ t5 ∷ w) le a b = refl
+
+-- what begins a kind begins no top, and some tokens that begin no kind begin a top
+not_top : (ts : List Token) → begins_kind ts ≡ true → begins_top ts ≡ false
+not_top [] h = absurd cc
+not_top (t ∷ ts) h = not_true (begins_top (t ∷ ts)) h
+
+a_top : (ts : List Token) → Ends ts → begins_kind ts ≡ false → begins_top ts ≡ true
+a_top [] e h = absurd (omega (arith, ends_some e))
+a_top (t ∷ ts) e h = not_false (begins_top (t ∷ ts)) h
+
+-- ---- kinds
+
+kind_from : {ts rest : List Token} {x : ModuleText} → KindShape ts rest x → begins_top ts ≡ false → IsKind ts rest x
+kind_from {ts = ts} {rest = rest} {x = x} s none =
+    let h = s.headed in
+    subst (IsKind ts rest) (sym s.is)
+    (record {
+      a = h.a;
+      b = h.b;
+      c = h.c;
+      d = h.d;
+      e = h.outputs.a;
+      f = h.e;
+      g = s.g;
+      h = s.h;
+      i = s.i;
+      first = h.outputs.first;
+      later = h.outputs.later;
+      begins = h.begins;
+      name = h.name;
+      opens = h.opens;
+      no_clock = no_clock h.begins h.name h.opens none;
+      inputs = h.inputs;
+      output = h.outputs.output;
+      more_outputs = h.outputs.more_outputs;
+      outputs = h.outputs.are;
+      closes = h.closes;
+      declarations = s.declarations;
+      items = s.items;
+      stops = s.stops;
+    })
+
+-- a kind has five tokens at least
+shape_long : {ts rest : List Token} {x : ModuleText} → KindShape ts rest x → length rest + 5 ≤ length ts
+shape_long s = let h = header_long s.headed in let m = middle s.declarations s.items s.stops in omega arith
+  where
+    middle : {g h i rest : List Token} {ds : List Declaration} {items : List Item} → AreMany IsKindDeclaration g h ds → AreMany IsKindItem h i items → IsWordAt (codes "endmodule") i rest → length rest ≤ length g
+    middle d i s = omega (arith, many_end IsKindDeclaration (λ d. kind_declaration_end d) d, many_end IsKindItem (λ i. kind_item_end i) i, words_end s)
+
+    header_long : {ts rest : List Token} {x : Header} → HasKindHeader ts rest x → length rest + 5 ≤ length ts
+    header_long h =
+        let i = many_end IsKindInput (λ p. kind_input_end p) h.inputs in
+        let o = many_end (IsPort (codes "," ∷ codes "output" ∷ [])) (λ p. port_end p) h.outputs.more_outputs in
+        omega (arith, words_end h.begins, name_end h.name, words_end h.opens, port_end h.outputs.output, words_end h.closes)
+
+kind_judged : (ts : List Token) → Ends ts → begins_kind ts ≡ true → Verdict true pair IsKind kind_at ts
+kind_judged ts e b = go (shape_reads.judged ts e)
+  where
+    none : begins_top ts ≡ false
+    none = not_top ts b
+
+    -- the tokens of a front that has five are those of now
+    still : (front : List Token → List Token) (p : Puts front) → 5 ≤ length p.tokens → (back : List Token) → ts ≡ front back → (k : List Token) → begins_top (front k) ≡ false
+    still front p le back is k = ap begins_top (p.is k) ∙ five_top p.tokens le k back ∙ ap begins_top (sym (p.is back)) ∙ ap begins_top (sym is) ∙ none
+
+    go : Verdict true pair KindShape kind_at ts → Verdict true pair IsKind kind_at ts
+    go (past front rest x p is ends sees again spells) = past front rest x p is ends sees again (λ k.
+      let long = shape_long (spells k) in
+      let whole = ap length (p.is k) in
+      let sum = length-append p.tokens k in
+      kind_from (spells k) (still front p (omega arith) rest is k))
+    go (stops front t rest p is again c) = stops front t rest p is again (completed (cases_lt 4 (length p.tokens)))
+      where
+        moved : Completes IsKind (λ k. p.tokens ++ k) → Completes IsKind front
+        moved d = record { back = d.back; value = d.value; spells = λ k. subst (λ z. IsKind z k d.value) (sym (p.is (d.back k))) (d.spells k) }
+
+        opened : (n : ℕ) → n ≡ length p.tokens → Opens (take n (front (c.back []))) ⊎ OpensOutput (take n (front (c.back []))) → Completes IsKind front
+        opened n len o =
+            let same_front : take n (front (c.back [])) ≡ p.tokens = ap (take n) (p.is (c.back [])) ∙ ap (λ m. take m (p.tokens ++ c.back [])) len ∙ take-append_seam p.tokens (c.back []) in
+            elim o [
+              | inl own ↦ moved (kind_opens p.tokens (subst Opens same_front own))
+              | inr out ↦ moved (output_opens p.tokens (subst OpensOutput same_front out))
+            ]
+
+        completed : (4 < length p.tokens) ⊎ (length p.tokens ≤ 4) → Completes IsKind front
+        completed (inl long) = record { back = c.back; value = c.value; spells = λ k. kind_from (c.spells k) (still front p (omega arith) (t ∷ rest) is (c.back k)) }
+        completed (inr few) = opened (length p.tokens) refl (kind_front (header_tokens (c.spells []).headed) (length p.tokens) few)
+
+kind_goes_on : (front : List Token → List Token) (t : Token) (rest : List Token) → Puts front → begins_kind (front (t ∷ rest)) ≡ true → ((k : List Token) → kind_at (front (t ∷ k)) ≡ Err t.place) → (k : List Token) → begins_kind (front (t ∷ k)) ≡ true
+kind_goes_on front t rest p b again k = go (cases_lt 3 (length p.tokens))
+  where
+    some_kind : (w : List Token) (t : Token) (k : List Token) → begins_top (w ++ (t ∷ k)) ≡ false → begins_kind (w ++ (t ∷ k)) ≡ true
+    some_kind [] t k h = ap not h
+    some_kind (u ∷ w) t k h = ap not h
+
+    kind_of : begins_top (p.tokens ++ (t ∷ k)) ≡ false → begins_kind (front (t ∷ k)) ≡ true
+    kind_of h = ap begins_kind (p.is (t ∷ k)) ∙ some_kind p.tokens t k h
+
+    none : begins_top (p.tokens ++ (t ∷ rest)) ≡ false
+    none = ap begins_top (sym (p.is (t ∷ rest))) ∙ not_top (front (t ∷ rest)) b
+
+    not_both : (x : ModuleText × List Token) (q : Place) → ◌≡◌ {A = Result (ModuleText × List Token) Place} (Ok x) (Err q) → ⊥
+    not_both x q e = cc
+
+    -- with few tokens a kind can go on behind this one
+    few_tokens : length p.tokens ≤ 3 → begins_top (p.tokens ++ (t ∷ k)) ≡ true → ⊥
+    few_tokens le h =
+        let w = p.tokens ++ (t ∷ []) in
+        let line : (k : List Token) → w ++ k ≡ p.tokens ++ (t ∷ k) = λ k. append_assoc p.tokens (t ∷ []) k in
+        let sum = length-append p.tokens (t ∷ []) in
+        let len : length w ≤ 4 = omega arith in
+        let opens : Opens (take (length w) (w ++ k)) = top_front (w ++ k) (ap begins_top (line k) ∙ h) (length w) len in
+        let c = kind_opens w (subst Opens (take-append_seam w k) opens) in
+        let read = kind_gives (w ++ c.back []) [] c.value (c.spells []) in
+        not_both (c.value, []) t.place (sym read ∙ ap kind_at (line (c.back []) ∙ sym (p.is (t ∷ c.back []))) ∙ again (c.back []))
+
+    go : (3 < length p.tokens) ⊎ (length p.tokens ≤ 3) → begins_kind (front (t ∷ k)) ≡ true
+    go (inl long) = kind_of (same_top p.tokens (omega arith) t k rest ∙ none)
+    go (inr few) = by_test (begins_top (p.tokens ++ (t ∷ k))) (λ h. absurd (few_tokens few h)) (λ h. kind_of h)
+
+kinds_judged : (ts : List Token) → Ends ts → Parts IsKind begins_kind kind_at ts
+kinds_judged ts e = parts_judged IsKind begins_kind kind_at refl kind_judged kind_begins kind_goes_on (λ ts rest x k. kind_end k) (length ts) ts (omega arith) e
+
+-- ---- a top, from its first tokens on
+
+-- ` clk, input rst); endmodule`
+rest_of_top : List Token → List Token
+rest_of_top k = word_token (codes ",") ∷ word_token (codes "input") ∷ name_token rst ∷ last_part k
+
+clock_part : List Token → List Token
+clock_part k = name_token clk ∷ rest_of_top k
+
+small_top : List ℕ → ModuleText
+small_top called = record { name = called; inputs = []; outputs = []; declarations = []; items = [] }
+
+top_with : {ts a b c d : List Token} {called : List ℕ} → IsWordAt (codes "module") ts a → IsNameAt a b called → IsWordAt (codes "(") b c → IsWordAt (codes "input") c d → (k : List Token) → d ≡ clock_part k → IsTop ts k (small_top called)
+unfolding last_part small_top rest_of_top clock_part word_token
+top_with {ts = ts} {a = a} {b = b} {c = c} {d = d} {called = called} m n o i k is = record {
+  a = a;
+  b = b;
+  c = last_part k;
+  d = last_part k;
+  e = last_part k;
+  f = word_token (codes "endmodule") ∷ k;
+  g = word_token (codes "endmodule") ∷ k;
+  h = word_token (codes "endmodule") ∷ k;
+  begins = m;
+  name = n;
+  clocked = record {
+    a = d;
+    b = rest_of_top k;
+    c = name_token rst ∷ last_part k;
+    opens = two_words o i;
+    clock = subst (λ z. IsNameAt z (rest_of_top k) clk) (sym is) (named clk (rest_of_top k));
+    between = next_word (λ h. absurd cc) refl (next_word (λ h. absurd cc) refl no_word);
+    reset = named rst (last_part k);
+  };
+  inputs = no_more;
+  outputs = no_more;
+  closes = closes (word_token (codes "endmodule") ∷ k);
+  declarations = no_more;
+  items = no_more;
+  stops = a_word (codes "endmodule") k;
+}
+  where
+    two_words : {v w : List ℕ} {ts a b : List Token} → IsWordAt v ts a → IsWordAt w a b → AreWords (v ∷ w ∷ []) ts b
+    two_words (next_word k e (no_word)) w = next_word k e w
+
+top_opens : (w : List Token) → Opens w → Completes IsTop (λ k. w ++ k)
+top_opens w (unopened) = record {
+  back = λ k. word_token (codes "module") ∷ name_token rst ∷ word_token (codes "(") ∷ word_token (codes "input") ∷ clock_part k;
+  value = small_top rst;
+  spells = λ k. top_with (a_word (codes "module") _) (named rst _) (a_word (codes "(") _) (a_word (codes "input") (clock_part k)) k refl;
+}
+top_opens w (after_module m) = record {
+  back = λ k. name_token rst ∷ word_token (codes "(") ∷ word_token (codes "input") ∷ clock_part k;
+  value = small_top rst;
+  spells = λ k. top_with (word_more m _) (named rst _) (a_word (codes "(") _) (a_word (codes "input") (clock_part k)) k refl;
+}
+top_opens w (after_name {text = text} m n) = record {
+  back = λ k. word_token (codes "(") ∷ word_token (codes "input") ∷ clock_part k;
+  value = small_top text;
+  spells = λ k. top_with (word_more m _) (name_more n _) (a_word (codes "(") _) (a_word (codes "input") (clock_part k)) k refl;
+}
+top_opens w (after_open {text = text} m n o) = record {
+  back = λ k. word_token (codes "input") ∷ clock_part k;
+  value = small_top text;
+  spells = λ k. top_with (word_more m _) (name_more n _) (word_more o _) (a_word (codes "input") (clock_part k)) k refl;
+}
+top_opens w (after_input {text = text} m n o i) = record {
+  back = clock_part;
+  value = small_top text;
+  spells = λ k. top_with (word_more m _) (name_more n _) (word_more o _) (word_more i (clock_part k)) k refl;
+}
+
+-- where the reader of a top stops, a top begins whatever follows
+top_goes_on : (front : List Token → List Token) (t : Token) (rest : List Token) → Puts front → begins_top (front (t ∷ rest)) ≡ true → ((k : List Token) → top_at (front (t ∷ k)) ≡ Err t.place) → (k : List Token) → begins_top (front (t ∷ k)) ≡ true
+top_goes_on front t rest p b again k = go (cases_lt 3 (length p.tokens))
+  where
+    now : begins_top (p.tokens ++ (t ∷ rest)) ≡ true
+    now = ap begins_top (sym (p.is (t ∷ rest))) ∙ b
+
+    not_both : (x : ModuleText × List Token) (q : Place) → ◌≡◌ {A = Result (ModuleText × List Token) Place} (Ok x) (Err q) → ⊥
+    not_both x q e = cc
+
+    few_tokens : length p.tokens ≤ 3 → ⊥
+    few_tokens le =
+        let w = p.tokens ++ (t ∷ []) in
+        let line : (k : List Token) → w ++ k ≡ p.tokens ++ (t ∷ k) = λ k. append_assoc p.tokens (t ∷ []) k in
+        let sum = length-append p.tokens (t ∷ []) in
+        let len : length w ≤ 4 = omega arith in
+        let opens : Opens (take (length w) (w ++ rest)) = top_front (w ++ rest) (ap begins_top (line rest) ∙ now) (length w) len in
+        let c = top_opens w (subst Opens (take-append_seam w rest) opens) in
+        let read = top_gives (w ++ c.back []) [] c.value (c.spells []) in
+        not_both (c.value, []) t.place (sym read ∙ ap top_at (line (c.back []) ∙ sym (p.is (t ∷ c.back []))) ∙ again (c.back []))
+
+    go : (3 < length p.tokens) ⊎ (length p.tokens ≤ 3) → begins_top (front (t ∷ k)) ≡ true
+    go (inl long) = ap begins_top (p.is (t ∷ k)) ∙ same_top p.tokens (omega arith) t k rest ∙ now
+    go (inr few) = absurd (few_tokens few)
+
+-- ---- the whole text
+
+-- how the reader of a text ends
+data LastVerdict (ts : List Token) : Type 0 where
+  read_all : (y : Text) → text_at ts ≡ Ok y → LastVerdict ts
+  breaks : (front : List Token → List Token) (t : Token) (rest : List Token) → Puts front → ts ≡ front (t ∷ rest) → ((k : List Token) → text_at (front (t ∷ k)) ≡ Err t.place)
+      → (more : List Token) (y : Text) → IsText (front more) y → LastVerdict ts
 
 end_token : Token
 end_token = record { kind = kind.End; text = []; place = start }
 
-end_reads : (said : Text) → ReadsLast (EndIs said) (λ ts. end_at ts >>= λ nothing. Ok said)
-unfolding EndIs end_at end_token
-end_reads said = record { judged = judge; more = end_token ∷ []; value = said; spells = (end refl, refl) }
+ended : IsEnd (end_token ∷ [])
+unfolding end_token
+ended = end refl
+
+-- where the reader of kinds, of the top or of the end stops, so does that of the text
+kinds_stop : (ts : List Token) (p : Place) → kinds_at ts ≡ Err p → text_at ts ≡ Err p
+unfolding text_at
+kinds_stop ts p e = rw e refl
+
+top_stops : (ts mid : List Token) (ks : List ModuleText) (p : Place) → kinds_at ts ≡ Ok (ks, mid) → top_at mid ≡ Err p → text_at ts ≡ Err p
+unfolding text_at
+top_stops ts mid ks p e f = rw (e, f) refl
+
+end_stops : (ts mid rest : List Token) (ks : List ModuleText) (x : ModuleText) (p : Place) → kinds_at ts ≡ Ok (ks, mid) → top_at mid ≡ Ok (x, rest) → end_at rest ≡ Err p → text_at ts ≡ Err p
+unfolding text_at
+end_stops ts mid rest ks x p e f g = rw (e, f, g) refl
+
+all_read : (ts mid rest : List Token) (ks : List ModuleText) (x : ModuleText) → kinds_at ts ≡ Ok (ks, mid) → top_at mid ≡ Ok (x, rest) → end_at rest ≡ Ok tt → text_at ts ≡ Ok (record { kinds = ks; top = x })
+unfolding text_at
+all_read ts mid rest ks x e f g = rw (e, f, g) refl
+
+-- what is no end
+end_there : (t : Token) → t.kind ≢ kind.End → (k : List Token) → end_at (t ∷ k) ≡ Err t.place
+unfolding end_at
+end_there t k [] = rw (other (same t.kind kind.End) refl) refl
   where
-    judge : (ts : List Token) → Ends ts → LastVerdict (EndIs said) (λ ts. end_at ts >>= λ nothing. Ok said) ts
-    judge ts (last {t = t} k e) = read_all said (rw (same_self t.kind kind.End k) refl)
-    judge ts (before {t = t} {ts = rest} k e) = breaks (λ k. k) t rest puts_none refl again (end_token ∷ []) said (end refl, refl)
-      where
-        other : same t.kind kind.End ≡ false
-        other = is_false (same t.kind kind.End) refl
-          where
-            is_false : (b : Bool) → same t.kind kind.End ≡ b → b ≡ false
-            is_false true h = absurd (k (same_is t.kind kind.End h))
-            is_false false h = refl
+    other : (b : Bool) → same t.kind kind.End ≡ b → same t.kind kind.End ≡ false
+    other true h = absurd (k (same_is t.kind kind.End h))
+    other false h = h
+end_there t k (u ∷ ts) = refl
 
-        again : (k : List Token) → (end_at (t ∷ k) >>= λ nothing. Ok said) ≡ Err t.place
-        again [] = rw other refl
-        again (u ∷ k) = refl
+text_judged : (ts : List Token) → Ends ts → LastVerdict ts
+unfolding end_at
+text_judged ts e = with_kinds ts (kinds_judged ts e)
+  where
+    with_end : (ts rest left : List Token) (ks : List ModuleText) (x : ModuleText) (front inner : List Token → List Token) → Puts front → ts ≡ front rest → Puts inner → rest ≡ inner left → Ends left
+        → ((k : List Token) → AreMany IsKind (front k) k ks) → ((k : List Token) → kinds_at (front (inner k)) ≡ Ok (ks, inner k)) → ((k : List Token) → top_at (inner k) ≡ Ok (x, k)) → ((k : List Token) → IsTop (inner k) k x) → LastVerdict ts
+    with_end ts rest left ks x front inner p is q same (last {t = t} k f) are kinds top spells =
+        read_all (record { kinds = ks; top = x }) (ap text_at (is ∙ ap front same) ∙ all_read (front (inner left)) (inner left) left ks x (kinds left) (top left) (end_gives (end k)))
+    with_end ts rest left ks x front inner p is q same (before {t = t} {ts = more} k f) are kinds top spells =
+        breaks (λ k. front (inner k)) t more (puts_both p q) (is ∙ ap front same)
+        (λ b. end_stops (front (inner (t ∷ b))) (inner (t ∷ b)) (t ∷ b) ks x t.place (kinds (t ∷ b)) (top (t ∷ b)) (end_there t k b)) (end_token ∷ []) (record { kinds = ks; top = x })
+        (record { a = inner (end_token ∷ []); b = end_token ∷ []; kinds = are (inner (end_token ∷ [])); top = spells (end_token ∷ []); ends = ended })
 
-text_of : Header → List Declaration → List Item → Text
-text_of header ds items = record { name = header.name; inputs = header.inputs; outputs = header.outputs; declarations = ds; items = items }
+    with_top : (ts rest : List Token) (ks : List ModuleText) (front : List Token → List Token) → Puts front → ts ≡ front rest → begins_top rest ≡ true
+        → ((k : List Token) → begins_kind k ≡ false → kinds_at (front k) ≡ Ok (ks, k)) → ((k : List Token) → AreMany IsKind (front k) k ks) → Verdict true pair IsTop top_at rest → LastVerdict ts
+    with_top ts rest ks front p is begins kinds are (stops inner t left q same again c) =
+        breaks (λ k. front (inner k)) t left (puts_both p q) (is ∙ ap front same)
+        (λ k.
+        let still : begins_top (inner (t ∷ k)) ≡ true = top_goes_on inner t left q (ap begins_top (sym same) ∙ begins) again k in
+        top_stops (front (inner (t ∷ k))) (inner (t ∷ k)) ks t.place (kinds (inner (t ∷ k)) (no_kind (inner (t ∷ k)) still)) (again k))
+        (c.back (end_token ∷ [])) (record { kinds = ks; top = c.value })
+        (record { a = inner (c.back (end_token ∷ [])); b = end_token ∷ []; kinds = are (inner (c.back (end_token ∷ []))); top = c.spells (end_token ∷ []); ends = ended })
+    with_top ts rest ks front p is begins kinds are (past inner left x q same ends sees again spells) =
+        with_end ts rest left ks x front inner p is q same ends are (λ k. kinds (inner k) (no_kind (inner k) (top_begins (spells k)))) (λ k. again k tt) spells
 
-abbrev TextIs : List Token → Text → Type 0
-TextIs =
-    FollowsLast HeaderIs (λ header. FollowsLast (AreMany IsDeclaration) (λ ds. FollowsLast (AreMany IsItem) (λ items. FollowsLast (Word (codes "endmodule")) (λ a. EndIs (text_of header ds items)))))
-
-text_reads : ReadsLast TextIs text_at
-unfolding text_at text_of
-text_reads =
-    then_last _ header_reads (λ header. then_last _ declarations_read (λ ds. then_last _ items_read (λ items. then_last _ (word_reads (codes "endmodule") refl) (λ a. end_reads (text_of header ds items)))))
-
-as_text : (ts : List Token) (x : Text) → TextIs ts x → IsText ts x
-unfolding EndIs text_of
-as_text ts x
-    (follows_last {mid = f} (follows {mid = a} m (follows {mid = b} {x = called} n (follows {mid = c} k t))) (follows_last {mid = g} {x = ds} d (follows_last {mid = h} {x = items} i (follows_last {mid = j} w e)))) =
-    subst (IsText ts) (sym e.1)
-    (record {
-      a = a;
-      b = b;
-      c = c;
-      d = t.a;
-      e = t.b;
-      f = f;
-      g = g;
-      h = h;
-      i = j;
-      begins = m;
-      name = subst (λ z. IsNameAt a b z) (sym t.named) n;
-      clocked = k;
-      inputs = t.inputs;
-      outputs = t.outputs;
-      closes = t.closes;
-      declarations = d;
-      items = i;
-      stops = w;
-      ends = e.0;
-    })
+    with_kinds : (ts : List Token) → Parts IsKind begins_kind kind_at ts → LastVerdict ts
+    with_kinds ts (part_stops front t rest p is stopped starts c) =
+        let t1 = top_opens [] unopened in
+        let more = t1.back (end_token ∷ []) in
+        breaks front t rest p is (λ k. kinds_stop (front (t ∷ k)) t.place (stopped (length (front (t ∷ k))) k [] (omega arith))) (c.back more) (record { kinds = c.value; top = t1.value })
+        (record { a = more; b = end_token ∷ []; kinds = c.spells more; top = t1.spells (end_token ∷ []); ends = ended })
+    with_kinds ts (all_parts front rest ks p is ends none once spells) =
+        with_top ts rest ks front p is (a_top rest ends none) (λ k b. once (length (front k)) k [] (omega arith) b) spells (top_reads.judged rest ends)
 
 -- ---- where a text breaks off
 
 -- the tokens at which reading stops are those with which no text goes on
 pub stops_there : (tokens : List Token) (p : Place) → Ends tokens → text_at tokens ≡ Err p → StopsAt tokens p
-stops_there tokens p e f = go (text_reads.judged tokens e)
+stops_there tokens p e f = go (text_judged tokens e)
   where
     read_err : (x : Text) → ◌≡◌ {A = Result Text Place} (Ok x) (Err p) → ⊥
     read_err x e = cc
@@ -511,7 +621,7 @@ stops_there tokens p e f = go (text_reads.judged tokens e)
     same_place : (q : Place) → ◌≡◌ {A = Result Text Place} (Err q) (Err p) → q ≡ p
     same_place q e = cc
 
-    go : LastVerdict TextIs text_at tokens → StopsAt tokens p
+    go : LastVerdict tokens → StopsAt tokens p
     go (read_all x g) = absurd (read_err x (sym g ∙ f))
     go (breaks front t rest q is again more x says) =
         record {
@@ -520,7 +630,7 @@ stops_there tokens p e f = go (text_reads.judged tokens e)
           after = rest;
           whole = is ∙ q.is (t ∷ rest);
           stands = same_place t.place (sym (again rest) ∙ ap text_at (sym is) ∙ f);
-          begins = record { more = more; said = x; says = subst (λ z. IsText z x) (q.is more) (as_text (front more) x says) };
+          begins = record { more = more; said = x; says = subst (λ z. IsText z x) (q.is more) says };
           none = λ b.
               let there : front (t ∷ b.more) ≡ (q.tokens ++ (t ∷ [])) ++ b.more = q.is (t ∷ b.more) ∙ sym (append_assoc q.tokens (t ∷ []) b.more) in
               read_not b.said t.place (sym (text_gives _ b.said b.says) ∙ ap text_at (sym there) ∙ again b.more);

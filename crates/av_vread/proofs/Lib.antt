@@ -34,4 +34,7 @@ pub mod RoundTrip
 pub mod SoundOrFault
 pub mod Verdicts
 pub mod BeginningParts
+pub mod BeginningLists
+pub mod BeginningItems
+pub mod BeginningPorts
 pub mod BeginningTexts

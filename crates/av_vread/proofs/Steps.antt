@@ -16,7 +16,7 @@ use Rattle.av_net.specs.declared.token_kind.TokenKind.TheVariants as kind
 use Rattle.av_net.specs.Lexemes.{Token, IsSized}
 use Rattle.av_net.specs.Grammar.{AreWords, no_word, next_word, IsWordAt, IsNameAt, name, IsNumberAt, number, IsLiteral, IsLiteralAt, literal, IsEnd, end}
 use Rattle.av_vread.specs.inner.Bits.{is_width, width_of}
-use Rattle.av_vread.specs.inner.Reading.{◌>>=◌, code, same, after, is_word, is_at, word_at, words_at, name_at, number_at, size_digits, value_digits, begins_base, are_digits, is_sized, fits_in, is_literal, Sized, sized_in, literal_in, literal_by, literal_at, end_at, this_name_at}
+use Rattle.av_vread.specs.inner.Reading.{◌>>=◌, code, same, after, is_word, is_at, word_at, words_at, name_at, is_between, number_at, size_digits, value_digits, begins_base, are_digits, is_sized, fits_in, is_literal, Sized, sized_in, literal_in, literal_by, literal_at, end_at, this_name_at}
 use Rattle.av_vread.proofs.Longest.{run_stops, digits_all, digits_some, first_digits}
 use Rattle.av_vread.proofs.BitsOf.{bits_of, is_width_of, fits_width}
 use Rattle.av_base.proofs.Truths.{both}
@@ -158,19 +158,20 @@ pub this_name_gives : {ts rest : List Token} {text : List ℕ} → IsNameAt ts r
 unfolding this_name_at
 this_name_gives (name {t = t} {text = text} k e) = rw (same_self t.kind kind.Name k, is_text t.text text e) refl
 
-pub number_took : (ts : List Token) (y : ℕ × List Token) → number_at ts ≡ Ok y → IsNumberAt ts y.1 y.0 × (y.0 ≤ 63)
+pub number_took : (least most : ℕ) (ts : List Token) (y : ℕ × List Token) → number_at least most ts ≡ Ok y → IsNumberAt ts y.1 y.0 × (least ≤ y.0) × (y.0 ≤ most)
 unfolding number_at
-number_took [] y e = absurd cc
-number_took (t ∷ ts) y e =
-    let p = passed (same t.kind kind.Number && nat_le (number_of t.text) 63) (Ok (number_of t.text, ts)) t.place y e in
-    let b = both (same t.kind kind.Number) (nat_le (number_of t.text) 63) p.0 in
+number_took least most [] y e = absurd cc
+number_took least most (t ∷ ts) y e =
+    let p = passed (same t.kind kind.Number && is_between least most (number_of t.text)) (Ok (number_of t.text, ts)) t.place y e in
+    let b = both (same t.kind kind.Number) (is_between least most (number_of t.text)) p.0 in
+    let c = both (nat_le least (number_of t.text)) (nat_le (number_of t.text) most) b.1 in
     let found : ℕ × List Token = (number_of t.text, ts) in
-    subst (λ (z : ℕ × List Token). IsNumberAt (t ∷ ts) z.1 z.0 × (z.0 ≤ 63)) (ok_is found y p.1)
-    (number (same_is t.kind kind.Number b.0) refl, leb-true (number_of t.text) 63 b.1)
+    subst (λ (z : ℕ × List Token). IsNumberAt (t ∷ ts) z.1 z.0 × (least ≤ z.0) × (z.0 ≤ most)) (ok_is found y p.1)
+    (number (same_is t.kind kind.Number b.0) refl, leb-true least (number_of t.text) c.0, leb-true (number_of t.text) most c.1)
 
-pub number_gives : {ts rest : List Token} {n : ℕ} → IsNumberAt ts rest n → n ≤ 63 → number_at ts ≡ Ok (n, rest)
+pub number_gives : {ts rest : List Token} {n : ℕ} → IsNumberAt ts rest n → (least most : ℕ) → least ≤ n → n ≤ most → number_at least most ts ≡ Ok (n, rest)
 unfolding number_at
-number_gives (number {t = t} {n = n} k e) h = rw (same_self t.kind kind.Number k, e, le-leb n 63 h) refl
+number_gives (number {t = t} {n = n} k e) least most g h = rw (same_self t.kind kind.Number k, e, le-leb least n g, le-leb n most h) refl
 
 -- ---- literals
 

@@ -2,15 +2,18 @@
 
 ghost use Rattle.std.specs.Prelude.{◌≡◌, ◌≤◌, map, IfOk};
 ghost use Rattle.av_vread.specs.inner.Lexing.{view, views};
-ghost use Rattle.av_vread.specs.inner.Reading.{Gives, place_of, after, is_word, is_at, are_at, word_at, words_at, name_at, number_at, sized_view, literal_at, end_at, width_for, range_at, port_at, directed_at, declared_at, begins_declaration, declaration_at, begins_literal, operand_at, order_of, arithmetic_of, bitwise_of, symbol_of, symbol_at, order_at, signed_at, comparison_at, choice_at, operation_by, operation_at, drive_at, this_name_at, edge_at, reset_at, step_at, begins_item, item_at, ports_at, declarations_at, items_at, closed_at, clocked_at, header_at, text_at, said_declaration, said_item, said_header, said};
+ghost use Rattle.av_vread.specs.inner.Reading.{Gives, place_of, after, is_word, is_name, is_at, are_at, word_at, words_at, name_at, number_at, sized_view, literal_at, end_at, width_for, range_at, port_at, directed_at, declared_at, begins_declaration, declaration_at, begins_literal, begins_name, operand_at, order_of, arithmetic_of, bitwise_of, symbol_of, symbol_at, order_at, signed_at, comparison_at, choice_at, alone_by, selection_at, selected_bit_at, widening_at, operation_by, operation_at, assigned_at, this_name_at, edge_at, reset_at, step_at, link_at, next_link_at, links_at, instance_at, begins_item, item_at, ports_at, declarations_at, items_at, assignments_at, closed_at, clocked_at, header_at, top_at, begins_kind, kind_input_at, kind_inputs_at, kind_outputs_at, kind_header_at, kind_wire_at, kind_wires_at, kind_at, kinds_at, text_at, said_declaration, said_link, said_item, said_header, said_module, said};
 
 use crate::fault::ReadError;
 use crate::literal::{Literal, literal_of};
-use crate::parsed::{Declaration, Header, Item, Text};
+use crate::parsed::{Declaration, Header, Instantiation, Item, Link, ModuleText, Text};
 use crate::token::Token;
 use av_base::{List, Name, Place, Width, decimal_value};
 use av_net::{Drive, Operand, Operation, Port, Step, Symbol, TokenKind};
 use std::alloc::Global;
+
+// The greatest number of a bit.
+const MOST_BIT: u64 = 63;
 
 /// What a design text says, or the place of the first token that no text continues.
 #[tactic(auto, unfolding(crate::specs::inner::Reading::text_at))]
@@ -21,18 +24,10 @@ pub(crate) fn read_text<'a>(alloc: Global, tokens: &[Token<'a>]) -> Result<Text,
         alloc,
         rest: tokens,
     };
-    let header = reader.header()?;
-    let declarations = reader.declarations()?;
-    let items = reader.items()?;
-    reader.word("endmodule")?;
+    let kinds = reader.kinds()?;
+    let top = reader.top()?;
     reader.end()?;
-    Ok(Text {
-        name: header.name,
-        inputs: header.inputs,
-        outputs: header.outputs,
-        declarations,
-        items,
-    })
+    Ok(Text { kinds, top })
 }
 
 fn arithmetic_of(text: &str) -> Option<Symbol>
@@ -109,6 +104,13 @@ fn is_word(token: &Token, text: &str) -> bool
     ensures { result ≡ is_word text.now (view token.now) }
 {
     token.kind != TokenKind::Name && token.text == text
+}
+
+// Whether a token is this name.
+fn is_name(token: &Token, text: &str) -> bool
+    ensures { result ≡ is_name text.now (view token.now) }
+{
+    token.kind == TokenKind::Name && token.text == text
 }
 
 /// The tokens that are left.
@@ -197,16 +199,16 @@ impl<'t, 'a> Reader<'t, 'a> {
         }
     }
 
-    // A number of at most 63.
+    // A number between these two.
     #[tactic(auto, unfolding(crate::specs::inner::Reading::number_at))]
-    fn number(&mut self) -> Result<u64, ReadError>
-        ensures within { IfOk result (λ x. x ≤ 63) }
-        ensures gives { Gives (λ x. (x, views self.new.rest.now)) result (number_at (views self.old.rest.now)) }
+    fn number(&mut self, least: u64, most: u64) -> Result<u64, ReadError>
+        ensures within { IfOk result (λ x. (least ≤ x) × (x ≤ most)) }
+        ensures gives { Gives (λ x. (x, views self.new.rest.now)) result (number_at least most (views self.old.rest.now)) }
     {
         match self.rest {
             [first, rest @ ..] if first.kind == TokenKind::Number => {
                 match decimal_value(first.text.as_bytes()) {
-                    Some(value) if value <= 63 => {
+                    Some(value) if least <= value && value <= most => {
                         self.rest = rest;
                         Ok(value)
                     }
@@ -255,7 +257,7 @@ impl<'t, 'a> Reader<'t, 'a> {
             return Ok(width_above(0));
         }
         self.skip();
-        let number = self.number()?;
+        let number = self.number(0, MOST_BIT)?;
         self.word(":")?;
         self.word("0")?;
         self.word("]")?;
@@ -435,7 +437,7 @@ impl<'t, 'a> Reader<'t, 'a> {
             return self.choice(left);
         }
         match self.symbol() {
-            None => Ok(Operation::Plain(left)),
+            None => self.alone(left),
             Some(symbol) => {
                 self.skip();
                 let right = self.operand()?;
@@ -446,6 +448,65 @@ impl<'t, 'a> Reader<'t, 'a> {
                 })
             }
         }
+    }
+
+    // An operand behind which stands no operator: a name may have a part selected.
+    #[tactic(auto, unfolding(crate::specs::inner::Reading::alone_by))]
+    fn alone(&mut self, operand: Operand) -> Result<Operation, ReadError>
+        ensures { Gives (λ x. (x, views self.new.rest.now)) result (alone_by operand (views self.old.rest.now)) }
+    {
+        match operand {
+            Operand::Name(name) if self.is_at("[") => {
+                let (high, low) = self.selection()?;
+                Ok(Operation::Part { name, high, low })
+            }
+            operand => Ok(Operation::Plain(operand)),
+        }
+    }
+
+    // `[high:low]`
+    #[tactic(auto, unfolding(crate::specs::inner::Reading::selection_at))]
+    fn selection(&mut self) -> Result<(u8, u8), ReadError>
+        ensures { Gives (λ x. (x, views self.new.rest.now)) result (selection_at (views self.old.rest.now)) }
+    {
+        self.word("[")?;
+        let high = self.number(0, MOST_BIT)?;
+        self.word(":")?;
+        let low = self.number(0, high)?;
+        self.word("]")?;
+        Ok((high as u8, low as u8))
+    }
+
+    // `{{by{name[bit:bit]}}, name}`, as the bit and the operation.
+    #[tactic(auto, unfolding(crate::specs::inner::Reading::widening_at))]
+    fn widening(&mut self) -> Result<(u64, Operation), ReadError>
+        ensures { Gives (λ x. (x, views self.new.rest.now)) result (widening_at (views self.old.rest.now)) }
+    {
+        self.word("{")?;
+        self.word("{")?;
+        let by = self.number(1, MOST_BIT)?;
+        self.word("{")?;
+        let name = self.name()?;
+        let bit = self.selected_bit()?;
+        self.word("}")?;
+        self.word("}")?;
+        self.word(",")?;
+        self.this_name(name.as_str())?;
+        self.word("}")?;
+        Ok((bit, Operation::Widen { name, by: by as u8 }))
+    }
+
+    // `[bit:bit]`
+    #[tactic(auto, unfolding(crate::specs::inner::Reading::selected_bit_at))]
+    fn selected_bit(&mut self) -> Result<u64, ReadError>
+        ensures { Gives (λ x. (x, views self.new.rest.now)) result (selected_bit_at (views self.old.rest.now)) }
+    {
+        self.word("[")?;
+        let bit = self.number(0, MOST_BIT)?;
+        self.word(":")?;
+        self.number(bit, bit)?;
+        self.word("]")?;
+        Ok(bit)
     }
 
     #[tactic(auto, unfolding(crate::specs::inner::Reading::operation_at))]
@@ -459,16 +520,22 @@ impl<'t, 'a> Reader<'t, 'a> {
         self.operation_by(left)
     }
 
-    #[tactic(auto, unfolding(crate::specs::inner::Reading::drive_at))]
-    fn drive(&mut self) -> Result<Drive, ReadError>
-        ensures { Gives (λ x. (x, views self.new.rest.now)) result (drive_at (views self.old.rest.now)) }
+    // `assign name = ..;`
+    #[tactic(auto, unfolding(crate::specs::inner::Reading::assigned_at, crate::specs::inner::Reading::given_at))]
+    fn assigned(&mut self) -> Result<Item, ReadError>
+        ensures { Gives (λ x. (said_item x, views self.new.rest.now)) result (assigned_at (views self.old.rest.now)) }
     {
         self.word("assign")?;
         let target = self.name()?;
         self.word("=")?;
+        if self.is_at("{") {
+            let (bit, operation) = self.widening()?;
+            self.word(";")?;
+            return Ok(Item::Widening(bit, Drive { target, operation }));
+        }
         let operation = self.operation()?;
         self.word(";")?;
-        Ok(Drive { target, operation })
+        Ok(Item::Drive(Drive { target, operation }))
     }
 
     // What stands before a reset.
@@ -518,10 +585,72 @@ impl<'t, 'a> Reader<'t, 'a> {
         Ok(Item::Step(literal.width, step))
     }
 
+    // ---- instances
+
+    // `.port(operand)`
+    #[tactic(auto, unfolding(crate::specs::inner::Reading::link_at))]
+    fn link(&mut self) -> Result<Link, ReadError>
+        ensures { Gives (λ x. (said_link x, views self.new.rest.now)) result (link_at (views self.old.rest.now)) }
+    {
+        self.word(".")?;
+        let port = self.name()?;
+        self.word("(")?;
+        let operand = self.operand()?;
+        self.word(")")?;
+        Ok(Link { port, operand })
+    }
+
+    #[tactic(auto, unfolding(crate::specs::inner::Reading::next_link_at))]
+    fn next_link(&mut self) -> Result<Link, ReadError>
+        ensures { Gives (λ x. (said_link x, views self.new.rest.now)) result (next_link_at (views self.old.rest.now)) }
+    {
+        self.word(",")?;
+        self.link()
+    }
+
+    // One link and more behind commas.
+    fn links(&mut self) -> Result<List<Link>, ReadError>
+        ensures { Gives (λ x. (map said_link x, views self.new.rest.now)) result (links_at (views self.old.rest.now)) }
+    {
+        let mut found = List::new(self.alloc);
+        let first = self.link()?;
+        found.push(first)?;
+        while self.is_at(",") {
+            let link = self.next_link()?;
+            found.push(link)?;
+        }
+        Ok(found)
+    }
+
+    // `kind name (link, ..);`
+    #[tactic(auto, unfolding(crate::specs::inner::Reading::instance_at))]
+    fn instance(&mut self) -> Result<Item, ReadError>
+        ensures { Gives (λ x. (said_item x, views self.new.rest.now)) result (instance_at (views self.old.rest.now)) }
+    {
+        let kind = self.name()?;
+        let name = self.name()?;
+        self.word("(")?;
+        let links = self.links()?;
+        self.word(")")?;
+        self.word(";")?;
+        Ok(Item::Instance(Instantiation { kind, name, links }))
+    }
+
+    // ---- lists of items
+
+    fn is_at_name(&self) -> bool
+        ensures { result ≡ begins_name (views self.now.rest.now) }
+    {
+        match self.rest {
+            [first, ..] => first.kind == TokenKind::Name,
+            [] => false,
+        }
+    }
+
     fn begins_item(&self) -> bool
         ensures { result ≡ begins_item (views self.now.rest.now) }
     {
-        self.is_at("assign") || self.is_at("always")
+        self.is_at("assign") || self.is_at("always") || self.is_at_name()
     }
 
     #[tactic(auto, unfolding(crate::specs::inner::Reading::item_at))]
@@ -529,10 +658,12 @@ impl<'t, 'a> Reader<'t, 'a> {
         ensures { Gives (λ x. (said_item x, views self.new.rest.now)) result (item_at (views self.old.rest.now)) }
     {
         if self.is_at("assign") {
-            let drive = self.drive()?;
-            return Ok(Item::Drive(drive));
+            return self.assigned();
         }
-        self.step()
+        if self.is_at("always") {
+            return self.step();
+        }
+        self.instance()
     }
 
     fn items(&mut self) -> Result<List<Item>, ReadError>
@@ -546,9 +677,136 @@ impl<'t, 'a> Reader<'t, 'a> {
         Ok(found)
     }
 
-    // ---- the text
+    fn assignments(&mut self) -> Result<List<Item>, ReadError>
+        ensures { Gives (λ x. (map said_item x, views self.new.rest.now)) result (assignments_at (views self.old.rest.now)) }
+    {
+        let mut found = List::new(self.alloc);
+        while self.is_at("assign") {
+            let item = self.assigned()?;
+            found.push(item)?;
+        }
+        Ok(found)
+    }
 
-    // The ports that each module has.
+    // ---- kinds of cells
+
+    // Whether tokens are left, and they do not begin as a top, with `module name(input clk`.
+    fn begins_kind(&self) -> bool
+        ensures { result ≡ begins_kind (views self.now.rest.now) }
+    {
+        match self.rest {
+            [] => false,
+            [module, name, opens, input, clock, ..] => {
+                !(is_word(module, "module")
+                    && name.kind == TokenKind::Name
+                    && is_word(opens, "(")
+                    && is_word(input, "input")
+                    && is_name(clock, "clk"))
+            }
+            _ => true,
+        }
+    }
+
+    // A port of a kind, with the comma behind it.
+    #[tactic(auto, unfolding(crate::specs::inner::Reading::kind_input_at))]
+    fn kind_input(&mut self) -> Result<Port, ReadError>
+        ensures { Gives (λ x. (x, views self.new.rest.now)) result (kind_input_at (views self.old.rest.now)) }
+    {
+        self.word("input")?;
+        let port = self.port()?;
+        self.word(",")?;
+        Ok(port)
+    }
+
+    fn kind_inputs(&mut self) -> Result<List<Port>, ReadError>
+        ensures { Gives (λ x. (x, views self.new.rest.now)) result (kind_inputs_at (views self.old.rest.now)) }
+    {
+        let mut found = List::new(self.alloc);
+        while self.is_at("input") {
+            let port = self.kind_input()?;
+            found.push(port)?;
+        }
+        Ok(found)
+    }
+
+    // One output and more behind commas.
+    fn kind_outputs(&mut self) -> Result<List<Port>, ReadError>
+        ensures { Gives (λ x. (x, views self.new.rest.now)) result (kind_outputs_at (views self.old.rest.now)) }
+    {
+        let mut found = List::new(self.alloc);
+        self.word("output")?;
+        let first = self.port()?;
+        found.push(first)?;
+        while self.is_at(",") {
+            let port = self.directed("output")?;
+            found.push(port)?;
+        }
+        Ok(found)
+    }
+
+    #[tactic(auto, unfolding(crate::specs::inner::Reading::kind_header_at))]
+    fn kind_header(&mut self) -> Result<Header, ReadError>
+        ensures { Gives (λ x. (said_header x, views self.new.rest.now)) result (kind_header_at (views self.old.rest.now)) }
+    {
+        self.word("module")?;
+        let name = self.name()?;
+        self.word("(")?;
+        let inputs = self.kind_inputs()?;
+        let outputs = self.kind_outputs()?;
+        self.word(")")?;
+        self.word(";")?;
+        Ok(Header {
+            name,
+            inputs,
+            outputs,
+        })
+    }
+
+    #[tactic(auto, unfolding(crate::specs::inner::Reading::kind_wire_at))]
+    fn kind_wire(&mut self) -> Result<Declaration, ReadError>
+        ensures { Gives (λ x. (said_declaration x, views self.new.rest.now)) result (kind_wire_at (views self.old.rest.now)) }
+    {
+        self.word("wire")?;
+        let port = self.declared()?;
+        Ok(Declaration::Wire(port))
+    }
+
+    fn kind_wires(&mut self) -> Result<List<Declaration>, ReadError>
+        ensures { Gives (λ x. (map said_declaration x, views self.new.rest.now)) result (kind_wires_at (views self.old.rest.now)) }
+    {
+        let mut found = List::new(self.alloc);
+        while self.is_at("wire") {
+            let declaration = self.kind_wire()?;
+            found.push(declaration)?;
+        }
+        Ok(found)
+    }
+
+    #[tactic(auto, unfolding(crate::specs::inner::Reading::kind_at))]
+    fn kind(&mut self) -> Result<ModuleText, ReadError>
+        ensures { Gives (λ x. (said_module x, views self.new.rest.now)) result (kind_at (views self.old.rest.now)) }
+    {
+        let header = self.kind_header()?;
+        let declarations = self.kind_wires()?;
+        let items = self.assignments()?;
+        self.word("endmodule")?;
+        Ok(header.with(declarations, items))
+    }
+
+    fn kinds(&mut self) -> Result<List<ModuleText>, ReadError>
+        ensures { Gives (λ x. (map said_module x, views self.new.rest.now)) result (kinds_at (views self.old.rest.now)) }
+    {
+        let mut found = List::new(self.alloc);
+        while self.begins_kind() {
+            let kind = self.kind()?;
+            found.push(kind)?;
+        }
+        Ok(found)
+    }
+
+    // ---- the top
+
+    // The ports that each top has.
     #[tactic(auto, unfolding(crate::specs::inner::Reading::clocked_at))]
     fn clocked(&mut self) -> Result<(), ReadError>
         ensures { Gives (λ _. views self.new.rest.now) result (clocked_at (views self.old.rest.now)) }
@@ -589,5 +847,16 @@ impl<'t, 'a> Reader<'t, 'a> {
             inputs,
             outputs,
         })
+    }
+
+    #[tactic(auto, unfolding(crate::specs::inner::Reading::top_at))]
+    fn top(&mut self) -> Result<ModuleText, ReadError>
+        ensures { Gives (λ x. (said_module x, views self.new.rest.now)) result (top_at (views self.old.rest.now)) }
+    {
+        let header = self.header()?;
+        let declarations = self.declarations()?;
+        let items = self.items()?;
+        self.word("endmodule")?;
+        Ok(header.with(declarations, items))
     }
 }

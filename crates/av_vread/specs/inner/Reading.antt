@@ -19,7 +19,7 @@ use Rattle.av_net.specs.declared.netlist.Port.{Port}
 use Rattle.av_net.specs.declared.netlist.Drive.{Drive}
 use Rattle.av_net.specs.Names.{clk, rst}
 use Rattle.av_net.specs.Lexemes.{Token}
-use Rattle.av_net.specs.Grammar.{Text, Declaration, wire, register, Item, drive, step}
+use Rattle.av_net.specs.Grammar.{Text, ModuleText, Declaration, wire, register, Link, Instantiation, Item, drive, widening, step, instance}
 use Rattle.av_vread.specs.inner.Bits.{is_width, width_of}
 use Rattle.av_vread.specs.declared.fault.ReadError.{ReadError}
 use Rattle.av_vread.specs.declared.fault.ReadError.TheVariants as error
@@ -29,6 +29,9 @@ use Rattle.av_vread.specs.declared.parsed.Declaration.TheVariants as declaration
 use Rattle.av_vread.specs.declared.parsed.Item.{Item as FoundItem}
 use Rattle.av_vread.specs.declared.parsed.Item.TheVariants as item
 use Rattle.av_vread.specs.declared.parsed.Header.{Header as FoundHeader}
+use Rattle.av_vread.specs.declared.parsed.Link.{Link as FoundLink}
+use Rattle.av_vread.specs.declared.parsed.Instantiation.{Instantiation as FoundInstance}
+use Rattle.av_vread.specs.declared.parsed.ModuleText.{ModuleText as FoundModule}
 use Rattle.av_vread.specs.declared.parsed.Text.{Text as FoundText}
 
 infixl 10 ◌>>=◌
@@ -104,10 +107,14 @@ unfoldable pub this_name_at : List ℕ → List Token → Result (List Token) Pl
 this_name_at name [] = Err start
 this_name_at name (t ∷ ts) = if same t.kind kind.Name && bytes_eq t.text name then Ok ts else Err t.place
 
--- a number of at most 63
-unfoldable pub number_at : Read ℕ
-number_at [] = Err start
-number_at (t ∷ ts) = if same t.kind kind.Number && nat_le (number_of t.text) 63 then Ok (number_of t.text, ts) else Err t.place
+-- a number between these two
+abbrev pub is_between : ℕ → ℕ → ℕ → Bool
+is_between least most n = nat_le least n && nat_le n most
+
+unfoldable pub number_at : ℕ → ℕ → Read ℕ
+number_at least most [] = Err start
+number_at least most (t ∷ ts) =
+    if same t.kind kind.Number && is_between least most (number_of t.text) then Ok (number_of t.text, ts) else Err t.place
 
 -- the digits before and after 'd
 abbrev pub size_digits : List ℕ → List ℕ
@@ -167,7 +174,7 @@ width_for n = width_of (n + 1)
 
 unfoldable pub range_at : Read Width
 range_at ts =
-    if is_at (codes "[") ts then (number_at (after ts) >>= λ n. words_at (codes ":" ∷ codes "0" ∷ codes "]" ∷ []) n.1 >>= λ rest. Ok (width_for n.0, rest))
+    if is_at (codes "[") ts then (number_at 0 63 (after ts) >>= λ n. words_at (codes ":" ∷ codes "0" ∷ codes "]" ∷ []) n.1 >>= λ rest. Ok (width_for n.0, rest))
     else Ok (width_for 0, ts)
 
 -- a range and a name
@@ -252,9 +259,40 @@ comparison_at ts = signed_at ts >>= λ x. order_at x.1 >>= λ s. signed_at s.1 >
 unfoldable pub choice_at : Operand → Read Operation
 choice_at condition ts = operand_at ts >>= λ x. word_at (codes ":") x.1 >>= λ rest. operand_at rest >>= λ y. Ok (operation.Choose condition x.0 y.0, y.1)
 
+-- `[high:low]`
+unfoldable pub selection_at : Read (ℕ × ℕ)
+selection_at ts =
+    word_at (codes "[") ts >>= λ a. number_at 0 63 a >>= λ high. word_at (codes ":") high.1 >>= λ b. number_at 0 high.0 b >>= λ low.
+    word_at (codes "]") low.1 >>= λ rest. Ok ((high.0, low.0), rest)
+
+-- `[bit:bit]`
+unfoldable pub selected_bit_at : Read ℕ
+selected_bit_at ts =
+    word_at (codes "[") ts >>= λ a. number_at 0 63 a >>= λ bit. word_at (codes ":") bit.1 >>= λ b. number_at bit.0 bit.0 b >>= λ again.
+    word_at (codes "]") again.1 >>= λ rest. Ok (bit.0, rest)
+
+-- `{{by{name[bit:bit]}}, name}`
+unfoldable pub widening_at : Read (ℕ × Operation)
+widening_at ts = do
+  t1 ← words_at (codes "{" ∷ codes "{" ∷ []) ts
+  by ← number_at 1 63 t1
+  t2 ← word_at (codes "{") by.1
+  name ← name_at t2
+  bit ← selected_bit_at name.1
+  t3 ← words_at (codes "}" ∷ codes "}" ∷ codes "," ∷ []) bit.1
+  t4 ← this_name_at name.0 t3
+  t5 ← word_at (codes "}") t4
+  Ok ((bit.0, operation.Widen name.0 by.0), t5)
+
+-- an operand behind which no operator stands; a name may have a part selected
+unfoldable pub alone_by : Operand → Read Operation
+alone_by (operand.Name name) ts =
+    if is_at (codes "[") ts then (selection_at ts >>= λ x. Ok (operation.Part name x.0.0 x.0.1, x.1)) else Ok (operation.Plain (operand.Name name), ts)
+alone_by (operand.Literal width value) ts = Ok (operation.Plain (operand.Literal width value), ts)
+
 -- what follows a first operand that is no condition
 unfoldable pub binary_by : Operand → Option Symbol → Read Operation
-binary_by x None ts = Ok (operation.Plain x, ts)
+binary_by x None ts = alone_by x ts
 binary_by x (Some s) ts = operand_at (after ts) >>= λ y. Ok (operation.Binary x s y.0, y.1)
 
 unfoldable pub operation_by : Operand → Read Operation
@@ -263,14 +301,14 @@ operation_by x ts = if is_at (codes "?") ts then choice_at x (after ts) else bin
 unfoldable pub operation_at : Read Operation
 operation_at ts = if is_at (codes "$signed") ts then comparison_at ts else (operand_at ts >>= λ x. operation_by x.0 x.1)
 
-unfoldable pub drive_at : Read Drive
-drive_at ts = do
-  t1 ← word_at (codes "assign") ts
-  target ← name_at t1
-  t2 ← word_at (codes "=") target.1
-  operation ← operation_at t2
-  t3 ← word_at (codes ";") operation.1
-  Ok (record { target = target.0; operation = operation.0 }, t3)
+-- what an `assign` gives its target
+unfoldable pub given_at : List ℕ → Read Item
+given_at target ts =
+    if is_at (codes "{") ts then (widening_at ts >>= λ x. word_at (codes ";") x.1 >>= λ rest. Ok (widening x.0.0 (record { target = target; operation = x.0.1 }), rest))
+    else (operation_at ts >>= λ x. word_at (codes ";") x.1 >>= λ rest. Ok (drive (record { target = target; operation = x.0 }), rest))
+
+unfoldable pub assigned_at : Read Item
+assigned_at ts = word_at (codes "assign") ts >>= λ a. name_at a >>= λ target. word_at (codes "=") target.1 >>= λ b. given_at target.0 b
 
 -- `always @(posedge clk) if (rst)`
 unfoldable pub edge_at : List Token → Result (List Token) Place
@@ -296,13 +334,25 @@ step_at ts = do
   t4 ← word_at (codes ";") next.1
   Ok (step reset.0.width (record { register = name.0; reset = reset.0.value; next = next.0 }), t4)
 
-abbrev pub begins_item : List Token → Bool
-begins_item ts = is_at (codes "assign") ts || is_at (codes "always") ts
+abbrev pub begins_name : List Token → Bool
+begins_name [] = false
+begins_name (t ∷ ts) = same t.kind kind.Name
 
-unfoldable pub item_at : Read Item
-item_at ts =
-    if is_at (codes "assign") ts then (drive_at ts >>= λ x. Ok (drive x.0, x.1))
-    else step_at ts
+-- `.port(operand)`
+unfoldable pub link_at : Read Link
+link_at ts = do
+  t1 ← word_at (codes ".") ts
+  port ← name_at t1
+  t2 ← word_at (codes "(") port.1
+  operand ← operand_at t2
+  t3 ← word_at (codes ")") operand.1
+  Ok (record { port = port.0; operand = operand.0 }, t3)
+
+unfoldable pub next_link_at : Read Link
+next_link_at ts = word_at (codes ",") ts >>= λ rest. link_at rest
+
+abbrev pub begins_item : List Token → Bool
+begins_item ts = is_at (codes "assign") ts || is_at (codes "always") ts || begins_name ts
 
 -- ---- lists
 
@@ -320,8 +370,29 @@ ports_at direction ts = all_at (are_at (codes ",") direction) (directed_at direc
 abbrev pub declarations_at : Read (List Declaration)
 declarations_at ts = all_at begins_declaration declaration_at ts
 
+-- one link and more behind commas
+abbrev pub links_at : Read (List Link)
+links_at ts = link_at ts >>= λ first. all_at (is_at (codes ",")) next_link_at first.1 >>= λ later. Ok (first.0 ∷ later.0, later.1)
+
+-- `kind name (link, ..);`
+unfoldable pub instance_at : Read Item
+instance_at ts = do
+  kind ← name_at ts
+  name ← name_at kind.1
+  t1 ← word_at (codes "(") name.1
+  links ← links_at t1
+  t2 ← words_at (codes ")" ∷ codes ";" ∷ []) links.1
+  Ok (instance (record { kind = kind.0; name = name.0; links = links.0 }), t2)
+
+unfoldable pub item_at : Read Item
+item_at ts = if is_at (codes "assign") ts then assigned_at ts else (if is_at (codes "always") ts then step_at ts else instance_at ts)
+
 abbrev pub items_at : Read (List Item)
 items_at ts = all_at begins_item item_at ts
+
+-- those of a kind
+abbrev pub assignments_at : Read (List Item)
+assignments_at ts = all_at (is_at (codes "assign")) assigned_at ts
 
 -- ---- the text
 
@@ -352,14 +423,84 @@ header_at ts = do
   t3 ← closed_at outputs.1
   Ok (record { name = name.0; inputs = inputs.0; outputs = outputs.0 }, t3)
 
-unfoldable pub text_at : List Token → Result Text Place
-text_at ts = do
+abbrev pub with_body : Header → List Declaration → List Item → ModuleText
+with_body header declarations items = record {
+  name = header.name;
+  inputs = header.inputs;
+  outputs = header.outputs;
+  declarations = declarations;
+  items = items;
+}
+
+unfoldable pub top_at : Read ModuleText
+top_at ts = do
   header ← header_at ts
   declarations ← declarations_at header.1
   items ← items_at declarations.1
   rest ← word_at (codes "endmodule") items.1
-  end ← end_at rest
-  Ok (record { name = header.0.name; inputs = header.0.inputs; outputs = header.0.outputs; declarations = declarations.0; items = items.0 })
+  Ok (with_body header.0 declarations.0 items.0, rest)
+
+-- ---- kinds of cells
+
+-- whether a token is this name
+abbrev pub is_name : List ℕ → Token → Bool
+is_name text t = same t.kind kind.Name && bytes_eq t.text text
+
+-- whether the tokens begin with `module name(input clk`, as a top does and no kind
+abbrev pub begins_top : List Token → Bool
+begins_top (t1 ∷ t2 ∷ t3 ∷ t4 ∷ t5 ∷ ts) =
+    is_word (codes "module") t1 && (same t2.kind kind.Name && (is_word (codes "(") t3 && (is_word (codes "input") t4 && is_name clk t5)))
+begins_top _ = false
+
+-- whether there are tokens, and they do not begin so
+abbrev pub begins_kind : List Token → Bool
+begins_kind [] = false
+begins_kind (t ∷ ts) = not (begins_top (t ∷ ts))
+
+unfoldable pub kind_input_at : Read Port
+kind_input_at ts = word_at (codes "input") ts >>= λ a. port_at a >>= λ port. word_at (codes ",") port.1 >>= λ rest. Ok (port.0, rest)
+
+abbrev pub kind_inputs_at : Read (List Port)
+kind_inputs_at ts = all_at (is_at (codes "input")) kind_input_at ts
+
+abbrev pub more_outputs_at : Read (List Port)
+more_outputs_at ts = all_at (is_at (codes ",")) (directed_at (codes "output")) ts
+
+-- one output and more behind commas
+abbrev pub kind_outputs_at : Read (List Port)
+kind_outputs_at ts = word_at (codes "output") ts >>= λ a. port_at a >>= λ first. more_outputs_at first.1 >>= λ later. Ok (first.0 ∷ later.0, later.1)
+
+unfoldable pub kind_header_at : Read Header
+kind_header_at ts = do
+  t1 ← word_at (codes "module") ts
+  name ← name_at t1
+  t2 ← word_at (codes "(") name.1
+  inputs ← kind_inputs_at t2
+  outputs ← kind_outputs_at inputs.1
+  t3 ← words_at (codes ")" ∷ codes ";" ∷ []) outputs.1
+  Ok (record { name = name.0; inputs = inputs.0; outputs = outputs.0 }, t3)
+
+unfoldable pub kind_wire_at : Read Declaration
+kind_wire_at ts = word_at (codes "wire") ts >>= λ a. declared_at a >>= λ port. Ok (wire port.0, port.1)
+
+abbrev pub kind_wires_at : Read (List Declaration)
+kind_wires_at ts = all_at (is_at (codes "wire")) kind_wire_at ts
+
+unfoldable pub kind_at : Read ModuleText
+kind_at ts = do
+  header ← kind_header_at ts
+  declarations ← kind_wires_at header.1
+  items ← assignments_at declarations.1
+  rest ← word_at (codes "endmodule") items.1
+  Ok (with_body header.0 declarations.0 items.0, rest)
+
+abbrev pub kinds_at : Read (List ModuleText)
+kinds_at ts = all_at begins_kind kind_at ts
+
+-- ---- the text
+
+unfoldable pub text_at : List Token → Result Text Place
+text_at ts = kinds_at ts >>= λ kinds. top_at kinds.1 >>= λ top. end_at top.1 >>= λ end. Ok (record { kinds = kinds.0; top = top.0 })
 
 -- ---- what the program found
 
@@ -374,18 +515,29 @@ abbrev pub said_declaration : FoundDeclaration → Declaration
 said_declaration (declaration.Wire port) = wire port
 said_declaration (declaration.Register port) = register port
 
+abbrev pub said_link : FoundLink → Link
+said_link x = record { port = x.port; operand = x.operand }
+
+abbrev pub said_instance : FoundInstance → Instantiation
+said_instance x = record { kind = x.kind; name = x.name; links = map said_link x.links }
+
 abbrev pub said_item : FoundItem → Item
 said_item (item.Drive d) = drive d
+said_item (item.Widening bit d) = widening bit d
 said_item (item.Step width s) = step width s
+said_item (item.Instance x) = instance (said_instance x)
 
 abbrev pub said_header : FoundHeader → Header
 said_header x = record { name = x.name; inputs = x.inputs; outputs = x.outputs }
 
-abbrev pub said : FoundText → Text
-said x = record {
+abbrev pub said_module : FoundModule → ModuleText
+said_module x = record {
   name = x.name;
   inputs = x.inputs;
   outputs = x.outputs;
   declarations = map said_declaration x.declarations;
   items = map said_item x.items;
 }
+
+abbrev pub said : FoundText → Text
+said x = record { kinds = map said_module x.kinds; top = said_module x.top }
