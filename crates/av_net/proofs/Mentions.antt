@@ -52,7 +52,7 @@ none_again pick sort earlier (m ∷ ms) distinct e =
 
 -- ---- the sorts
 
-nothing_twice : AreDistinct []
+pub nothing_twice : AreDistinct []
 nothing_twice i j d lt lj = absurd (omega arith)
 
 one_alone : (name : List ℕ) → AreDistinct (name ∷ [])
@@ -155,7 +155,7 @@ links_sort u = record { single = single; same = same }
 
 -- ---- the mentions of a module
 
-nested : {X Y Z : Type 0} (f : Y → List Z) (g : X → List Y) (xs : List X) → flat_map f (flat_map g xs) ≡ flat_map (λ x. flat_map f (g x)) xs
+pub nested : {X Y Z : Type 0} (f : Y → List Z) (g : X → List Y) (xs : List X) → flat_map f (flat_map g xs) ≡ flat_map (λ x. flat_map f (g x)) xs
 nested f g [] = refl
 nested f g (x ∷ xs) = flat_map-append f (g x) (flat_map g xs) ∙ ap (λ more. flat_map f (g x) ++ more) (nested f g xs)
 
@@ -192,21 +192,29 @@ items_declare kinds (instance x ∷ items) =
 abbrev pub declared_in : ModuleText → List (List ℕ)
 declared_in x = names_of x.inputs ++ names_of x.outputs ++ declared_names x.declarations
 
--- all of them, and the instances, are declared once
-pub declared_once : (kinds : List CellKind) (earlier : List (List ℕ)) (x : ModuleText) → first_again (map of_module earlier ++ declares clk ∷ declares rst ∷ []) (mentions_of kinds x) ≡ None
-    → AreDistinct (clk ∷ rst ∷ (declared_in x ++ instance_names (instances_in kinds x.items)))
-declared_once kinds earlier x e =
-    let first : flat_map declared_by (map of_module earlier ++ declares clk ∷ declares rst ∷ []) ≡ clk ∷ rst ∷ [] =
-      flat_map-append declared_by (map of_module earlier) (declares clk ∷ declares rst ∷ []) ∙ ap (λ names. names ++ clk ∷ rst ∷ []) (no_modules earlier) in
+-- what stands before the mentions of a module, behind others with these names
+abbrev pub front_of : List (List ℕ) → List Mention
+front_of earlier = map of_module earlier ++ declares clk ∷ declares rst ∷ []
+
+front_declares : (earlier : List (List ℕ)) → flat_map declared_by (front_of earlier) ≡ clk ∷ rst ∷ []
+front_declares earlier = flat_map-append declared_by (map of_module earlier) (declares clk ∷ declares rst ∷ []) ∙ ap (λ names. names ++ clk ∷ rst ∷ []) (no_modules earlier)
+
+-- the names that are declared, in the order of the mentions
+pub all_declared_in : (kinds : List CellKind) (earlier : List (List ℕ)) (x : ModuleText) → flat_map declared_by (front_of earlier ++ mentions_of kinds x) ≡ clk ∷ rst ∷ (declared_in x ++ instance_names (instances_in kinds x.items))
+all_declared_in kinds earlier x =
     let later : flat_map declared_by (mentions_of kinds x) ≡ declared_in x ++ instance_names (instances_in kinds x.items) =
       flat_map-append declared_by (map declares (declared_in x)) (flat_map (item_mentions kinds) x.items)
       ∙ ap (λ names. names ++ flat_map declared_by (flat_map (item_mentions kinds) x.items)) (all_declared (declared_in x))
       ∙ ap (λ names. declared_in x ++ names) (items_declare kinds x.items) in
-    let both : flat_map declared_by ((map of_module earlier ++ declares clk ∷ declares rst ∷ []) ++ mentions_of kinds x) ≡ clk ∷ rst ∷ (declared_in x ++ instance_names (instances_in kinds x.items)) =
-      flat_map-append declared_by (map of_module earlier ++ declares clk ∷ declares rst ∷ []) (mentions_of kinds x)
-      ∙ ap (λ names. names ++ flat_map declared_by (mentions_of kinds x)) first ∙ ap (λ names. clk ∷ rst ∷ names) later in
-    subst AreDistinct both
-    (none_again declared_by declarations_sort (map of_module earlier ++ declares clk ∷ declares rst ∷ []) (mentions_of kinds x) (subst AreDistinct (sym first) clock_and_reset) e)
+    flat_map-append declared_by (front_of earlier) (mentions_of kinds x)
+    ∙ ap (λ names. names ++ flat_map declared_by (mentions_of kinds x)) (front_declares earlier) ∙ ap (λ names. clk ∷ rst ∷ names) later
+
+-- all of them, and the instances, are declared once
+pub declared_once : (kinds : List CellKind) (earlier : List (List ℕ)) (x : ModuleText) → first_again (front_of earlier) (mentions_of kinds x) ≡ None
+    → AreDistinct (clk ∷ rst ∷ (declared_in x ++ instance_names (instances_in kinds x.items)))
+declared_once kinds earlier x e =
+    subst AreDistinct (all_declared_in kinds earlier x)
+    (none_again declared_by declarations_sort (front_of earlier) (mentions_of kinds x) (subst AreDistinct (sym (front_declares earlier)) clock_and_reset) e)
   where
     clock_and_reset : AreDistinct (clk ∷ rst ∷ [])
     clock_and_reset = distinct_tested (clk ∷ rst ∷ []) refl
@@ -232,7 +240,7 @@ links_drive kind u (l ∷ ls) =
     ∙ ap (λ here. here ++ flat_map driven_at (flat_map (link_mentions kind u) ls)) (all_driven (driven_by_link kind l))
     ∙ ap (λ more. driven_by_link kind l ++ more) (links_drive kind u ls)
 
-items_drive : (kinds : List CellKind) (items : List Item) → flat_map driven_at (flat_map (item_mentions kinds) items) ≡ driven_names kinds items
+pub items_drive : (kinds : List CellKind) (items : List Item) → flat_map driven_at (flat_map (item_mentions kinds) items) ≡ driven_names kinds items
 items_drive kinds [] = refl
 items_drive kinds (drive d ∷ items) = ap (λ more. d.target ∷ more) (items_drive kinds items)
 items_drive kinds (widening bit d ∷ items) = ap (λ more. d.target ∷ more) (items_drive kinds items)
@@ -243,26 +251,29 @@ items_drive kinds (instance x ∷ items) =
     ∙ ap (λ here. here ++ flat_map driven_at (flat_map (item_mentions kinds) items)) (links_drive (kind_for kinds x) x.name x.links)
     ∙ ap (λ more. flat_map (driven_by_link (kind_for kinds x)) x.links ++ more) (items_drive kinds items)
 
--- what stands behind other modules, `clk` and `rst` alone
-module _ (pick : Mention → List (List ℕ)) (sort : IsSort pick) (no_module : (name : List ℕ) → pick (of_module name) ≡ []) (no_declared : (name : List ℕ) → pick (declares name) ≡ []) where
-  pub items_once : (kinds : List CellKind) (earlier : List (List ℕ)) (x : ModuleText) → first_again (map of_module earlier ++ declares clk ∷ declares rst ∷ []) (mentions_of kinds x) ≡ None
-      → AreDistinct (flat_map pick (flat_map (item_mentions kinds) x.items))
-  items_once kinds earlier x e =
-      let front = map of_module earlier ++ declares clk ∷ declares rst ∷ [] in
-      let first : flat_map pick front ≡ [] =
-        flat_map-append pick (map of_module earlier) (declares clk ∷ declares rst ∷ [])
-        ∙ ap (λ names. names ++ flat_map pick (declares clk ∷ declares rst ∷ [])) (no_drives pick no_module earlier) ∙ declare_none pick no_declared (clk ∷ rst ∷ []) in
+-- the names of a sort that neither modules nor declarations have
+module _ (pick : Mention → List (List ℕ)) (no_module : (name : List ℕ) → pick (of_module name) ≡ []) (no_declared : (name : List ℕ) → pick (declares name) ≡ []) where
+  front_picks : (earlier : List (List ℕ)) → flat_map pick (front_of earlier) ≡ []
+  front_picks earlier =
+      flat_map-append pick (map of_module earlier) (declares clk ∷ declares rst ∷ [])
+      ∙ ap (λ names. names ++ flat_map pick (declares clk ∷ declares rst ∷ [])) (no_drives pick no_module earlier) ∙ declare_none pick no_declared (clk ∷ rst ∷ [])
+
+  pub picked_in : (kinds : List CellKind) (earlier : List (List ℕ)) (x : ModuleText) → flat_map pick (front_of earlier ++ mentions_of kinds x) ≡ flat_map pick (flat_map (item_mentions kinds) x.items)
+  picked_in kinds earlier x =
       let later : flat_map pick (mentions_of kinds x) ≡ flat_map pick (flat_map (item_mentions kinds) x.items) =
         ap (λ here. here ++ flat_map pick (map declares (declared_in x) ++ flat_map (item_mentions kinds) x.items)) (no_module x.name)
         ∙ flat_map-append pick (map declares (declared_in x)) (flat_map (item_mentions kinds) x.items)
         ∙ ap (λ names. names ++ flat_map pick (flat_map (item_mentions kinds) x.items)) (declare_none pick no_declared (declared_in x)) in
-      let both : flat_map pick (front ++ mentions_of kinds x) ≡ flat_map pick (flat_map (item_mentions kinds) x.items) =
-        flat_map-append pick front (mentions_of kinds x) ∙ ap (λ names. names ++ flat_map pick (mentions_of kinds x)) first ∙ later in
-      subst AreDistinct both (none_again pick sort front (mentions_of kinds x) (subst AreDistinct (sym first) nothing_twice) e)
+      flat_map-append pick (front_of earlier) (mentions_of kinds x) ∙ ap (λ names. names ++ flat_map pick (mentions_of kinds x)) (front_picks earlier) ∙ later
 
-pub driven_once : (kinds : List CellKind) (earlier : List (List ℕ)) (x : ModuleText) → first_again (map of_module earlier ++ declares clk ∷ declares rst ∷ []) (mentions_of kinds x) ≡ None
+  pub items_once : IsSort pick → (kinds : List CellKind) (earlier : List (List ℕ)) (x : ModuleText) → first_again (front_of earlier) (mentions_of kinds x) ≡ None
+      → AreDistinct (flat_map pick (flat_map (item_mentions kinds) x.items))
+  items_once sort kinds earlier x e =
+      subst AreDistinct (picked_in kinds earlier x) (none_again pick sort (front_of earlier) (mentions_of kinds x) (subst AreDistinct (sym (front_picks earlier)) nothing_twice) e)
+
+pub driven_once : (kinds : List CellKind) (earlier : List (List ℕ)) (x : ModuleText) → first_again (front_of earlier) (mentions_of kinds x) ≡ None
     → AreDistinct (driven_names kinds x.items)
-driven_once kinds earlier x e = subst AreDistinct (items_drive kinds x.items) (items_once driven_at drives_sort (λ name. refl) (λ name. refl) kinds earlier x e)
+driven_once kinds earlier x e = subst AreDistinct (items_drive kinds x.items) (items_once driven_at (λ name. refl) (λ name. refl) drives_sort kinds earlier x e)
 
 -- ---- the ports that an instance links
 
@@ -270,7 +281,7 @@ no_links : (u : List ℕ) (names : List (List ℕ)) → flat_map (linked_at u) (
 no_links u [] = refl
 no_links u (name ∷ names) = no_links u names
 
-own_links : (kind : CellKind) (u : List ℕ) (ls : List Link) → flat_map (linked_at u) (flat_map (link_mentions kind u) ls) ≡ ports_in ls
+pub own_links : (kind : CellKind) (u : List ℕ) (ls : List Link) → flat_map (linked_at u) (flat_map (link_mentions kind u) ls) ≡ ports_in ls
 own_links kind u [] = refl
 own_links kind u (l ∷ ls) =
     let same : bytes_eq u u ≡ true = (bytes_eq-Decides u u).1 refl in
@@ -278,21 +289,21 @@ own_links kind u (l ∷ ls) =
     flat_map-append (linked_at u) (link_mentions kind u l) (flat_map (link_mentions kind u) ls)
     ∙ ap (λ names. names ++ flat_map (linked_at u) (flat_map (link_mentions kind u) ls)) here ∙ ap (λ more. l.port ∷ more) (own_links kind u ls)
 
-pub linked_once : (kinds : List CellKind) (earlier : List (List ℕ)) (x : ModuleText) → first_again (map of_module earlier ++ declares clk ∷ declares rst ∷ []) (mentions_of kinds x) ≡ None
+pub linked_once : (kinds : List CellKind) (earlier : List (List ℕ)) (x : ModuleText) → first_again (front_of earlier) (mentions_of kinds x) ≡ None
     → (i : Instantiation) → Contains x.items (instance i) → AreDistinct (ports_in i.links)
 linked_once kinds earlier x e i at =
     let u = i.name in
     let all : AreDistinct (flat_map (λ item. flat_map (linked_at u) (item_mentions kinds item)) x.items) =
-      subst AreDistinct (nested (linked_at u) (item_mentions kinds) x.items) (items_once (linked_at u) (links_sort u) (λ name. refl) (λ name. refl) kinds earlier x e) in
+      subst AreDistinct (nested (linked_at u) (item_mentions kinds) x.items) (items_once (linked_at u) (λ name. refl) (λ name. refl) (links_sort u) kinds earlier x e) in
     subst AreDistinct (own_links (kind_for kinds i) u i.links) (part_distinct (λ item. flat_map (linked_at u) (item_mentions kinds item)) x.items (instance i) all at)
 
 -- ---- names of modules
 
 -- the module's name is none of earlier ones
-pub module_once : (kinds : List CellKind) (earlier : List (List ℕ)) (x : ModuleText) → first_again (map of_module earlier ++ declares clk ∷ declares rst ∷ []) (mentions_of kinds x) ≡ None
+pub module_once : (kinds : List CellKind) (earlier : List (List ℕ)) (x : ModuleText) → first_again (front_of earlier) (mentions_of kinds x) ≡ None
     → Contains earlier x.name → ⊥
 module_once kinds earlier x e at =
-    let front = map of_module earlier ++ declares clk ∷ declares rst ∷ [] in
+    let front = front_of earlier in
     let rest = first_again (front ++ of_module x.name ∷ []) (map declares (declared_in x) ++ flat_map (item_mentions kinds) x.items) in
     let (none, more) = neither (list_any (is_same (of_module x.name)) front) x.name rest e in
     let there : Contains front (of_module x.name) = Contains-append_left (map of_module earlier) (declares clk ∷ declares rst ∷ []) (of_module x.name) (among_map of_module earlier x.name at) in

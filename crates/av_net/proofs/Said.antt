@@ -106,7 +106,7 @@ drive_first widths d (Choose a b c) items = refl
 drive_first widths d (Part name high low) items = refl
 drive_first widths d (Widen name by) items = refl
 
-drives_said : (widths : Widths) (drives : List Drive) → drives_of (map (drive_said widths) drives) ≡ drives
+pub drives_said : (widths : Widths) (drives : List Drive) → drives_of (map (drive_said widths) drives) ≡ drives
 drives_said widths [] = refl
 drives_said widths (d ∷ drives) = drive_first widths d d.operation (map (drive_said widths) drives) ∙ ap (λ more. d ∷ more) (drives_said widths drives)
 
@@ -116,7 +116,7 @@ kind_back kind =
     let d : drives_of (map (drive_said (written_width (kind_module kind))) kind.drives) ≡ kind.drives = drives_said (written_width (kind_module kind)) kind.drives in
     rw (w, d) refl
 
-kinds_back : (kinds : List CellKind) → map kind_from (map kind_said kinds) ≡ kinds
+pub kinds_back : (kinds : List CellKind) → map kind_from (map kind_said kinds) ≡ kinds
 kinds_back [] = refl
 kinds_back (kind ∷ kinds) = rw (kind_back kind, kinds_back kinds) refl
 
@@ -126,7 +126,7 @@ kind_names_of : List CellKind → List (List ℕ)
 kind_names_of kinds = map (λ kind. kind.name) kinds
 
 -- of distinct names the one at a place is found there
-found_at : (kinds : List CellKind) (n : ℕ) → AreDistinct (map (λ (kind : CellKind). kind.name) kinds) → n < length kinds
+pub found_at : (kinds : List CellKind) (n : ℕ) → AreDistinct (map (λ (kind : CellKind). kind.name) kinds) → n < length kinds
     → (kind_named kinds (get_or kinds n no_kind).name ≡ Some (get_or kinds n no_kind)) × (kind_number kinds (get_or kinds n no_kind).name ≡ n)
 found_at [] n distinct lt = absurd (omega arith)
 found_at (kind ∷ kinds) zero distinct lt =
@@ -200,7 +200,7 @@ instance_back plan modules i at =
 
 -- ---- the items of the top
 
-instances_joined : (kinds : List CellKind) (xs ys : List Item) → instances_in kinds (xs ++ ys) ≡ instances_in kinds xs ++ instances_in kinds ys
+pub instances_joined : (kinds : List CellKind) (xs ys : List Item) → instances_in kinds (xs ++ ys) ≡ instances_in kinds xs ++ instances_in kinds ys
 instances_joined kinds [] ys = refl
 instances_joined kinds (drive d ∷ xs) ys = instances_joined kinds xs ys
 instances_joined kinds (widening bit d ∷ xs) ys = instances_joined kinds xs ys
@@ -216,7 +216,7 @@ flat_joined kinds (instance x ∷ xs) ys =
     ap (λ more. instance_drives kinds (instance_of kinds x) ++ more) (flat_joined kinds xs ys)
     ∙ sym (append_assoc (instance_drives kinds (instance_of kinds x)) (flat_drives kinds xs) (flat_drives kinds ys))
 
-steps_joined : (xs ys : List Item) → steps_of (xs ++ ys) ≡ steps_of xs ++ steps_of ys
+pub steps_joined : (xs ys : List Item) → steps_of (xs ++ ys) ≡ steps_of xs ++ steps_of ys
 steps_joined [] ys = refl
 steps_joined (drive d ∷ xs) ys = steps_joined xs ys
 steps_joined (widening bit d ∷ xs) ys = steps_joined xs ys
@@ -233,7 +233,7 @@ one_drive kinds widths d (Choose a b c) items = (refl, refl, refl)
 one_drive kinds widths d (Part name high low) items = (refl, refl, refl)
 one_drive kinds widths d (Widen name by) items = (refl, refl, refl)
 
-all_drives : (kinds : List CellKind) (widths : Widths) (drives : List Drive)
+pub all_drives : (kinds : List CellKind) (widths : Widths) (drives : List Drive)
     → (instances_in kinds (map (drive_said widths) drives) ≡ []) × (flat_drives kinds (map (drive_said widths) drives) ≡ drives) × (steps_of (map (drive_said widths) drives) ≡ [])
 all_drives kinds widths [] = (refl, refl, refl)
 all_drives kinds widths (d ∷ drives) =
@@ -241,7 +241,7 @@ all_drives kinds widths (d ∷ drives) =
     let more = all_drives kinds widths drives in
     (one.0 ∙ more.0, one.1 ∙ ap (λ rest. d ∷ rest) more.1, one.2 ∙ more.2)
 
-all_steps : (kinds : List CellKind) (registers : List Port) (steps : List Step)
+pub all_steps : (kinds : List CellKind) (registers : List Port) (steps : List Step)
     → (instances_in kinds (map (step_said registers) steps) ≡ []) × (flat_drives kinds (map (step_said registers) steps) ≡ []) × (steps_of (map (step_said registers) steps) ≡ steps)
 all_steps kinds registers [] = (refl, refl, refl)
 all_steps kinds registers (s ∷ steps) =
@@ -263,12 +263,12 @@ all_instances plan modules (i ∷ instances) within =
       more.2,
     )
 
-wires_back : (wires registers : List Port) → wires_of (map wire wires ++ map register registers) ≡ wires
+pub wires_back : (wires registers : List Port) → wires_of (map wire wires ++ map register registers) ≡ wires
 wires_back [] [] = refl
 wires_back [] (port ∷ registers) = wires_back [] registers
 wires_back (port ∷ wires) registers = ap (λ ports. port ∷ ports) (wires_back wires registers)
 
-registers_back : (wires registers : List Port) → registers_in (map wire wires ++ map register registers) ≡ registers
+pub registers_back : (wires registers : List Port) → registers_in (map wire wires ++ map register registers) ≡ registers
 registers_back [] [] = refl
 registers_back [] (port ∷ registers) = ap (λ ports. port ∷ ports) (registers_back [] registers)
 registers_back (port ∷ wires) registers = registers_back wires registers
