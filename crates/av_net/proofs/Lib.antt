@@ -19,6 +19,7 @@ pub mod Mentions
 pub mod Counts
 pub mod Linked
 pub mod Said
+pub mod Alone
 pub mod FlatWalks
 pub mod Parts
 pub mod RowTests

@@ -1,6 +1,6 @@
 -- What the text of a plan says: its kinds, and its top with an instantiation for each instance. Its flat module is
 -- that of the plan.
-use Rattle.std.proofs.Common.{◌≡◌, ◌≢◌, ℕ, zero, suc, ◌+◌, ◌-◌, ◌<◌, List, [], ◌∷◌, ◌++◌, map, length, get_or, Some, refl, sym, ◌∙◌, ap, subst, arith, append_assoc, Bool, true, false, if◌then◌else◌}
+use Rattle.std.proofs.Common.{◌≡◌, ◌≢◌, ℕ, zero, suc, ◌+◌, ◌-◌, ◌<◌, List, [], ◌∷◌, ◌++◌, map, length, get_or, Some, refl, sym, ◌∙◌, ap, subst, arith, append_assoc, Bool, true, false, cond, if◌then◌else◌}
 use Rattle.std.specs.Prelude.{All, Contains, find, option_map}
 use Rattle.std.specs.List.{flat_map}
 use Rattle.std.specs.Str.{bytes_eq}
@@ -22,7 +22,7 @@ use Rattle.av_net.specs.declared.plan.CellKind.{CellKind}
 use Rattle.av_net.specs.declared.plan.Instance.{Instance}
 use Rattle.av_net.specs.declared.plan.Plan.{Plan}
 use Rattle.av_net.specs.Meaning.{Widths}
-use Rattle.av_net.specs.Names.{AreDistinct, names_of, given_names, wire_names, all_names, width_of}
+use Rattle.av_net.specs.Names.{AreDistinct, names_of, given_names, wire_names, all_names, width_in, width_of}
 use Rattle.av_net.specs.Sound.{IsSound}
 use Rattle.av_net.specs.Texts.{written_width}
 use Rattle.av_net.specs.Flat.{kind_module, kind_of, no_kind, kind_ports, instance_wires, instance_drives, flat_module}
@@ -73,6 +73,15 @@ instance_said kinds i = record {
 abbrev pub width_for : List Port → List ℕ → Width
 width_for [] name = record { bits = 1; least = leb-true 1 1 refl; most = leb-true 1 64 refl }
 width_for (port ∷ ports) name = if bytes_eq port.name name then port.width else width_for ports name
+
+-- the width that a step's reset is written with
+pub width_for_is : (registers : List Port) (n : List ℕ) → (width_for registers n).bits ≡ width_in registers n
+width_for_is [] n = refl
+width_for_is (port ∷ ports) n = go (bytes_eq port.name n) (width_for_is ports n)
+  where
+    go : (t : Bool) → (width_for ports n).bits ≡ width_in ports n → (cond t port.width (width_for ports n)).bits ≡ cond t port.width.bits (width_in ports n)
+    go true e = refl
+    go false e = e
 
 -- the literal of a reset has the width of the first of these registers with the step's name
 abbrev pub step_said : List Port → Step → Item

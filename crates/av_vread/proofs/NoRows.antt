@@ -1,5 +1,5 @@
 -- No row of faults holds of the text of a plan with sound modules.
-use Rattle.std.proofs.Common.{◌≡◌, ℕ, zero, suc, ◌+◌, ◌-◌, ◌<◌, ◌≤◌, Bool, true, false, cond, if◌then◌else◌, not, List, [], ◌∷◌, ◌++◌, map, get_or, Option, Some, None, refl, sym, ap, subst, ◌∙◌, arith, inl, inr, append_assoc, eq-eqb, true≢false}
+use Rattle.std.proofs.Common.{◌≡◌, ℕ, zero, suc, ◌+◌, ◌-◌, ◌<◌, ◌≤◌, Bool, true, false, if◌then◌else◌, not, List, [], ◌∷◌, ◌++◌, map, get_or, Option, Some, None, refl, sym, ap, subst, ◌∙◌, arith, inl, inr, append_assoc, eq-eqb, true≢false}
 use Rattle.std.specs.Prelude.{◌&&◌, nat_eq, nat_lt, All, Contains, find, option_map}
 use Rattle.std.specs.List.{flat_map, list_any, AllByRecursion}
 use Rattle.std.specs.Str.{bytes_eq}
@@ -37,13 +37,14 @@ use Rattle.av_net.proofs.Declared.{width_here, register_declared, names_declared
 use Rattle.av_net.proofs.Settles.{not_equal, names_distinct}
 use Rattle.av_net.proofs.RowTests.{each_by}
 use Rattle.av_net.proofs.Made.{made}
+use Rattle.av_net.proofs.Alone.{alone_top}
 use Rattle.av_net.proofs.InParts.{kind_sound, named_port}
 use Rattle.av_net.proofs.FlatTargets.{placed_at}
 use Rattle.av_net.proofs.Counts.{count, count_joined, distinct_by, at_most_once}
 use Rattle.av_net.proofs.Linked.{ports_in}
 use Rattle.av_net.proofs.Mentions.{declared_in, front_of, all_declared_in, picked_in, items_drive, own_links, nested, linked_at, driven_at, nothing_twice}
 use Rattle.av_net.proofs.Rowless.{count_names}
-use Rattle.av_net.proofs.Said.{drive_said, said_by, kind_said, step_said, instance_said, top_said, plan_said, width_for, kinds_back, found_at, instances_joined, steps_joined, all_drives, all_steps, wires_back, registers_back, drives_said, instance_back}
+use Rattle.av_net.proofs.Said.{drive_said, said_by, kind_said, step_said, instance_said, top_said, plan_said, width_for, width_for_is, kinds_back, found_at, instances_joined, steps_joined, all_drives, all_steps, wires_back, registers_back, drives_said, instance_back}
 use Rattle.av_vread.proofs.Each.{all_append, all_front, all_back, all_map, all_unmap, all_weaker, both_all}
 use Rattle.av_vread.proofs.FreshMentions.{module_at, AreFresh, fresh_none}
 use Rattle.av_vread.proofs.SaidLinks.{IsSaid, kind_there, drives_outputs, links_ports, instance_right, all_linked, reads_late, instance_suits}
@@ -260,15 +261,6 @@ registers_distinct m distinct =
     rest_distinct (names_of m.inputs) (names_of m.registers)
     (front_distinct (names_of m.inputs ++ names_of m.registers) (names_of m.outputs) (front_distinct (names_of m.inputs ++ names_of m.registers ++ names_of m.outputs) (names_of m.wires) all))
 
--- the width that a step's reset is written with
-pub width_for_is : (registers : List Port) (n : List ℕ) → (width_for registers n).bits ≡ width_in registers n
-width_for_is [] n = refl
-width_for_is (port ∷ ports) n = go (bytes_eq port.name n) (width_for_is ports n)
-  where
-    go : (t : Bool) → (width_for ports n).bits ≡ width_in ports n → (cond t port.width (width_for ports n)).bits ≡ cond t port.width.bits (width_in ports n)
-    go true e = refl
-    go false e = e
-
 -- ---- drives and steps among items
 
 drives_joined : (xs ys : List Item) → drives_of (xs ++ ys) ≡ drives_of xs ++ drives_of ys
@@ -320,34 +312,6 @@ kind_as_module kinds kind =
     let w = append-nil (map wire kind.wires) in
     let d = append-nil (map (drive_said (written_width (kind_module kind))) kind.drives) in
     rw (w, d) refl
-
--- the rules for a kind are those for a top without instances
-alone_top : (kinds : List CellKind) (m : Module) → IsSound m → IsSoundTop kinds m []
-alone_top kinds m sound =
-    let nothing : AreDistinct (clk ∷ rst ∷ all_names m ++ [] ++ []) = (let e = append-nil (all_names m) in let f = append-nil (all_names m ++ []) in subst (λ names. AreDistinct (clk ∷ rst ∷ names)) (sym (f ∙ e)) sound.declared_once) in
-    let known : IsInOrder (given_names m ++ []) m.drives = subst (λ names. IsInOrder names m.drives) (sym (append-nil (given_names m))) sound.in_order in
-    record {
-      declared_once = nothing;
-      driven_once = sound.driven_once;
-      links_wires = All-nil (Contains (wire_names m));
-      drives_wires = sound.drives_wires;
-      steps_registers = sound.steps_registers;
-      instances_read = All-nil (λ (i : Instance). All (IsAmong (all_names m)) i.inputs);
-      drives_read = sound.drives_read;
-      steps_read = sound.steps_read;
-      wires_driven = sound.wires_driven;
-      registers_stepped = sound.registers_stepped;
-      instances_in_order = tt;
-      in_order = known;
-      placed = All-nil (IsPlaced kinds (width_of m));
-      drive_widths = sound.drive_widths;
-      step_widths = sound.step_widths;
-      instances_fit = All-nil (λ (i : Instance). All IsFitting i.inputs);
-      drives_fit = sound.drives_fit;
-      steps_fit = sound.steps_fit;
-      resets_fit = sound.resets_fit;
-      orders = sound.orders;
-    }
 
 module _ (kinds : List CellKind) (m : Module) (instances : List Instance) (top : IsSoundTop kinds m instances)
     (back : (i : Instance) → Contains instances i → instance_of kinds (instance_said kinds i) ≡ i)

@@ -1,4 +1,4 @@
--- A module as tokens with the blanks around them.
+-- A plan as tokens with the blanks around them. A design is a plan without kinds.
 use Rattle.std.proofs.Common.{ℕ, ◌-◌, List, [], ◌∷◌, ◌++◌}
 use Rattle.std.specs.Prelude.{codes, decimal}
 use Rattle.av_net.specs.declared.token_kind.TokenKind.TheVariants as kind
@@ -12,7 +12,14 @@ use Rattle.av_net.specs.declared.netlist.Step.{Step}
 use Rattle.av_net.specs.declared.netlist.Module.{Module}
 use Rattle.av_base.specs.declared.width.Width.{Width}
 use Rattle.av_net.specs.Names.{clk, rst, width_in}
-use Rattle.av_net.specs.Grammar.{spelling}
+use Rattle.av_net.specs.declared.plan.CellKind.{CellKind}
+use Rattle.av_net.specs.declared.plan.Instance.{Instance}
+use Rattle.av_net.specs.declared.plan.Plan.{Plan}
+use Rattle.av_net.specs.Meaning.{Widths}
+use Rattle.av_net.specs.Texts.{written_width}
+use Rattle.av_net.specs.Flat.{kind_module}
+use Rattle.av_net.specs.Grammar.{Link, Instantiation, spelling}
+use Rattle.av_net.proofs.Said.{instance_said}
 use Rattle.av_vread.proofs.Spaced.{Written}
 
 -- ---- single tokens, by what stands after them
@@ -67,22 +74,34 @@ declarations_onto kind (port ∷ ports) rest = declaration_parts kind port ++ de
 
 -- ---- items
 
+-- a part select
+abbrev pub select_parts : List ℕ → ℕ → ℕ → List Written
+select_parts name high low = named name [] ∷ symbol (codes "[") [] ∷ number (decimal high) ∷ symbol (codes ":") [] ∷ number (decimal low) ∷ symbol (codes "]") [] ∷ []
+
+-- a widening that selects this bit
+abbrev pub widening_parts : List ℕ → ℕ → ℕ → List Written
+widening_parts name by bit =
+    symbol (codes "{") [] ∷ symbol (codes "{") [] ∷ number (decimal by) ∷ symbol (codes "{") [] ∷ (select_parts name bit bit
+    ++ (symbol (codes "}") [] ∷ symbol (codes "}") [] ∷ symbol (codes ",") (codes " ") ∷ named name [] ∷ symbol (codes "}") [] ∷ []))
+
 abbrev pub signed_parts : Operand → List ℕ → List Written
 signed_parts x after = system ∷ symbol (codes "(") [] ∷ operand_part x [] ∷ symbol (codes ")") after ∷ []
 
-abbrev pub operation_parts : Operation → List Written
-operation_parts (operation.Plain x) = operand_part x [] ∷ []
-operation_parts (operation.Binary x s y) = operand_part x (codes " ") ∷ symbol (spelling s) (codes " ") ∷ operand_part y [] ∷ []
-operation_parts (operation.Signed x s y) = signed_parts x (codes " ") ++ (symbol (spelling s) (codes " ") ∷ signed_parts y [])
-operation_parts (operation.Choose c x y) =
+abbrev pub operation_parts : Widths → Operation → List Written
+operation_parts widths (operation.Plain x) = operand_part x [] ∷ []
+operation_parts widths (operation.Binary x s y) = operand_part x (codes " ") ∷ symbol (spelling s) (codes " ") ∷ operand_part y [] ∷ []
+operation_parts widths (operation.Signed x s y) = signed_parts x (codes " ") ++ (symbol (spelling s) (codes " ") ∷ signed_parts y [])
+operation_parts widths (operation.Choose c x y) =
     operand_part c (codes " ") ∷ symbol (codes "?") (codes " ") ∷ operand_part x (codes " ") ∷ symbol (codes ":") (codes " ") ∷ operand_part y [] ∷ []
+operation_parts widths (operation.Part name high low) = select_parts name high low
+operation_parts widths (operation.Widen name by) = widening_parts name by (widths name - 1)
 
-abbrev pub drive_onto : Drive → List Written → List Written
-drive_onto d rest = indented (codes "assign") ∷ named d.target (codes " ") ∷ symbol (codes "=") (codes " ") ∷ (operation_parts d.operation ++ (end_of_line ∷ rest))
+abbrev pub drive_onto : Widths → Drive → List Written → List Written
+drive_onto widths d rest = indented (codes "assign") ∷ named d.target (codes " ") ∷ symbol (codes "=") (codes " ") ∷ (operation_parts widths d.operation ++ (end_of_line ∷ rest))
 
-abbrev pub drives_onto : List Drive → List Written → List Written
-drives_onto [] rest = rest
-drives_onto (d ∷ drives) rest = drive_onto d (drives_onto drives rest)
+abbrev pub drives_onto : Widths → List Drive → List Written → List Written
+drives_onto widths [] rest = rest
+drives_onto widths (d ∷ drives) rest = drive_onto widths d (drives_onto widths drives rest)
 
 abbrev pub edge_parts : List Written
 edge_parts =
@@ -105,7 +124,58 @@ abbrev pub steps_onto : List Port → List Step → List Written → List Writte
 steps_onto registers [] rest = rest
 steps_onto registers (s ∷ steps) rest = step_onto (width_in registers s.register) s (steps_onto registers steps rest)
 
--- ---- the module
+-- ---- instances
+
+abbrev pub link_onto : Link → List ℕ → List Written → List Written
+link_onto link after rest = symbol (codes ".") [] ∷ named link.port [] ∷ symbol (codes "(") [] ∷ operand_part link.operand [] ∷ symbol (codes ")") after ∷ rest
+
+-- each behind a comma
+abbrev pub links_onto : List Link → List Written → List Written
+links_onto [] rest = rest
+links_onto (link ∷ links) rest = symbol (codes ",") (codes " ") ∷ link_onto link [] (links_onto links rest)
+
+-- the first behind nothing
+abbrev pub all_links_onto : List Link → List Written → List Written
+all_links_onto [] rest = rest
+all_links_onto (link ∷ links) rest = link_onto link [] (links_onto links rest)
+
+abbrev pub kind_part : List ℕ → Written
+kind_part text = record { before = codes "  "; kind = kind.Name; text = text; after = codes " " }
+
+abbrev pub instance_onto : Instantiation → List Written → List Written
+instance_onto x rest = kind_part x.kind ∷ named x.name (codes " ") ∷ symbol (codes "(") [] ∷ all_links_onto x.links (symbol (codes ")") [] ∷ end_of_line ∷ rest)
+
+abbrev pub instances_onto : List CellKind → List Instance → List Written → List Written
+instances_onto kinds [] rest = rest
+instances_onto kinds (i ∷ instances) rest = instance_onto (instance_said kinds i) (instances_onto kinds instances rest)
+
+-- ---- kinds
+
+abbrev pub directed_onto : List ℕ → Port → List Written → List Written
+directed_onto direction port rest = word direction (codes " ") ∷ (range_parts port.width ++ (named port.name [] ∷ rest))
+
+-- each before a comma
+abbrev pub inputs_onto : List Port → List Written → List Written
+inputs_onto [] rest = rest
+inputs_onto (port ∷ ports) rest = directed_onto (codes "input") port (symbol (codes ",") (codes " ") ∷ inputs_onto ports rest)
+
+-- the first behind nothing, each other one behind a comma
+abbrev pub outputs_onto : List Port → List Written → List Written
+outputs_onto [] rest = rest
+outputs_onto (port ∷ ports) rest = directed_onto (codes "output") port (ports_onto (codes "output") ports rest)
+
+abbrev pub kind_body_onto : CellKind → List Written → List Written
+kind_body_onto kind rest = declarations_onto (codes "wire") kind.wires (drives_onto (written_width (kind_module kind)) kind.drives (word (codes "endmodule") (codes "\n") ∷ rest))
+
+abbrev pub kind_onto : CellKind → List Written → List Written
+kind_onto kind rest =
+    word (codes "module") (codes " ") ∷ named kind.name [] ∷ symbol (codes "(") [] ∷ inputs_onto kind.inputs (outputs_onto kind.outputs (symbol (codes ")") [] ∷ end_of_line ∷ kind_body_onto kind rest))
+
+abbrev pub kinds_onto : List CellKind → List Written → List Written
+kinds_onto [] rest = rest
+kinds_onto (kind ∷ kinds) rest = kind_onto kind (kinds_onto kinds rest)
+
+-- ---- the top
 
 abbrev pub clocked_parts : List ℕ → List Written
 clocked_parts name =
@@ -113,13 +183,16 @@ clocked_parts name =
     ∷ word (codes "input") (codes " ") ∷ named rst [] ∷ []
 
 abbrev pub items_onto : Module → List Written
-items_onto m = drives_onto m.drives (steps_onto m.registers m.steps (word (codes "endmodule") (codes "\n") ∷ []))
+items_onto m = drives_onto (written_width m) m.drives (steps_onto m.registers m.steps (word (codes "endmodule") (codes "\n") ∷ []))
 
-abbrev pub body_onto : Module → List Written
-body_onto m = declarations_onto (codes "wire") m.wires (declarations_onto (codes "reg") m.registers (items_onto m))
+abbrev pub body_onto : List CellKind → List Instance → Module → List Written
+body_onto kinds instances m = declarations_onto (codes "wire") m.wires (declarations_onto (codes "reg") m.registers (instances_onto kinds instances (items_onto m)))
 
-abbrev pub closed_onto : Module → List Written
-closed_onto m = symbol (codes ")") [] ∷ end_of_line ∷ body_onto m
+abbrev pub closed_onto : List CellKind → List Instance → Module → List Written
+closed_onto kinds instances m = symbol (codes ")") [] ∷ end_of_line ∷ body_onto kinds instances m
 
-abbrev pub module_parts : Module → List Written
-module_parts m = clocked_parts m.name ++ ports_onto (codes "input") m.inputs (ports_onto (codes "output") m.outputs (closed_onto m))
+abbrev pub top_parts : List CellKind → List Instance → Module → List Written
+top_parts kinds instances m = clocked_parts m.name ++ ports_onto (codes "input") m.inputs (ports_onto (codes "output") m.outputs (closed_onto kinds instances m))
+
+abbrev pub plan_parts : Plan → List Written
+plan_parts plan = kinds_onto plan.kinds (top_parts plan.kinds plan.instances plan.top)

@@ -1,5 +1,7 @@
--- The tokens of a written module are those that are found in its text.
-use Rattle.std.proofs.Common.{◌≡◌, ℕ, ◌-◌, ◌<◌, ◌≤◌, ◌^◌, true, List, [], ◌∷◌, ◌++◌, refl, sym, subst, arith}
+-- The tokens of a written plan are those that are found in its text.
+use Rattle.std.proofs.Common.{◌≡◌, ℕ, ◌-◌, ◌<◌, ◌≤◌, ◌^◌, Bool, true, false, if◌then◌else◌, List, [], ◌∷◌, ◌++◌, map, length, refl, sym, subst, ◌∙◌, arith, length-append}
+use Rattle.std.specs.Str.{bytes_eq}
+use Rattle.std.proofs.lemmas.List.{length-map}
 use Rattle.std.specs.Prelude.{codes, decimal, All, Contains, IsTrue}
 use Rattle.std.specs.List.{AllByRecursion}
 use Rattle.std.proofs.lemmas.List.Elements.{All-nil, All-from_recursion, recursion_from_All}
@@ -17,22 +19,25 @@ use Rattle.av_net.specs.declared.netlist.Port.{Port}
 use Rattle.av_net.specs.declared.netlist.Drive.{Drive}
 use Rattle.av_net.specs.declared.netlist.Step.{Step}
 use Rattle.av_net.specs.declared.netlist.Module.{Module}
-use Rattle.av_net.specs.Meaning.{EachOperand}
+use Rattle.av_net.specs.Meaning.{Widths, EachOperand}
 use Rattle.av_net.specs.Names.{clk, rst, width_in, declarations}
 use Rattle.av_net.specs.Lexemes.{reserved_words, IsName}
-use Rattle.av_net.specs.Grammar.{spelling}
+use Rattle.av_net.specs.Grammar.{Link, Instantiation, spelling}
 use Rattle.av_net.specs.Spelling.{is_reserved}
-use Rattle.av_vread.specs.SpelledParts.{IsOperandSpelled, IsPortSpelled, IsDriveSpelled, IsStepSpelled, IsModuleSpelled}
+use Rattle.av_net.specs.declared.plan.CellKind.{CellKind}
+use Rattle.av_net.specs.declared.plan.Instance.{Instance}
+use Rattle.av_net.specs.declared.plan.Plan.{Plan}
+use Rattle.av_net.specs.Texts.{written_width}
+use Rattle.av_net.specs.Flat.{kind_module, kind_of, no_kind}
+use Rattle.av_net.proofs.Said.{width_for, width_for_is, links_said, instance_said}
+use Rattle.av_vread.specs.SpelledParts.{IsOperandSpelled, IsPortSpelled, HasBitsSpelled, IsDriveSpelled, IsStepSpelled, IsModuleSpelled, IsInstanceSpelled, IsKindSpelled, IsPlanSpelled}
 use Rattle.av_base.proofs.Tables.{is_there, none_there}
-use Rattle.av_vread.proofs.Each.{all_front, all_back}
+use Rattle.av_vread.proofs.Each.{all_append, all_front, all_back}
 use Rattle.av_vread.proofs.Spaced.{Written, bytes_of, IsNext, AreBlank, AreSpaced}
 use Rattle.av_vread.proofs.NextTokens.{is_clear, name_next, reserved_next, plain_next, single_next, pair_next, signed_next, number_next, literal_next}
-use Rattle.av_vread.proofs.WrittenParts.{word, named, symbol, literal, operand_part, range_parts, port_parts, ports_onto, end_of_line, declaration_parts, declarations_onto, signed_parts, operation_parts, drive_onto, drives_onto, edge_parts, otherwise_onto, becomes_onto, step_onto, steps_onto, closed_onto, module_parts}
-use Rattle.av_vread.proofs.WrittenGrammar.{word_small, reset_width, reset_bits}
+use Rattle.av_vread.proofs.WrittenParts.{word, named, symbol, literal, operand_part, range_parts, port_parts, ports_onto, end_of_line, declaration_parts, declarations_onto, signed_parts, operation_parts, drive_onto, drives_onto, edge_parts, otherwise_onto, becomes_onto, step_onto, steps_onto, closed_onto, select_parts, widening_parts, link_onto, links_onto, all_links_onto, instance_onto, instances_onto, directed_onto, inputs_onto, outputs_onto, kind_body_onto, kind_onto, kinds_onto, top_parts, plan_parts}
+use Rattle.av_vread.proofs.Spelled.{word_small, ArePortsSpelled, AreNarrow, narrow, spelled_by_kind, IsLinkSpelled, IsInstantiationSpelled, instance_spelled}
 use Rattle.av_base.proofs.Digits.{number_digits}
-
-abbrev pub ArePortsSpelled : List Port → Type 0
-ArePortsSpelled ports = AllByRecursion IsPortSpelled ports
 
 one_blank : AreBlank (codes " ")
 one_blank = (refl, tt)
@@ -129,13 +134,23 @@ signed_spaced : (x : Operand) (after : List ℕ) (ws : List Written) → IsOpera
 signed_spaced x after ws w a s =
     (tt, signed_next _, tt, (tt, plain_next 40 _ refl, tt, operand_spaced x [] (symbol (codes ")") after ∷ ws) w tt refl (tt, plain_next 41 _ refl, a, s)))
 
-operation_spaced : (o : Operation) (ws : List Written) → EachOperand IsOperandSpelled o → is_clear (bytes_of ws) ≡ true → AreSpaced ws → AreSpaced (operation_parts o ++ ws)
-operation_spaced (operation.Plain x) ws w c s = operand_spaced x [] ws w tt c s
-operation_spaced (operation.Binary x o y) ws w c s =
+select_spaced : (name : List ℕ) (high low : ℕ) (ws : List Written) → IsName name → high ≤ 64 → low ≤ 64 → AreSpaced ws → AreSpaced (select_parts name high low ++ ws)
+select_spaced name high low ws n h l s =
+    (tt, name_next name _ n refl, tt, (tt, plain_next 91 _ refl, tt, (tt, number_next (decimal high) _ (small_number high h) refl, tt, (tt, plain_next 58 _ refl, tt, (tt, number_next (decimal low) _ (small_number low l) refl, tt, (tt, plain_next 93 _ refl, tt, s))))))
+
+widening_spaced : (name : List ℕ) (by bit : ℕ) (ws : List Written) → IsName name → by ≤ 64 → bit ≤ 64 → AreSpaced ws → AreSpaced (widening_parts name by bit ++ ws)
+widening_spaced name by bit ws n b t s =
+    (tt, plain_next 123 _ refl, tt, (tt, plain_next 123 _ refl, tt, (tt, number_next (decimal by) _ (small_number by b) refl, tt, (tt, plain_next 123 _ refl, tt,
+    select_spaced name bit bit (symbol (codes "}") [] ∷ symbol (codes "}") [] ∷ symbol (codes ",") (codes " ") ∷ named name [] ∷ symbol (codes "}") [] ∷ ws) n t t
+    (tt, plain_next 125 _ refl, tt, (tt, plain_next 125 _ refl, tt, (tt, plain_next 44 _ refl, one_blank, (tt, name_next name _ n refl, tt, (tt, plain_next 125 _ refl, tt, s)))))))))
+
+operation_spaced : (widths : Widths) → AreNarrow widths → (o : Operation) (ws : List Written) → EachOperand IsOperandSpelled o → HasBitsSpelled o → is_clear (bytes_of ws) ≡ true → AreSpaced ws → AreSpaced (operation_parts widths o ++ ws)
+operation_spaced widths narrow (operation.Plain x) ws w bits c s = operand_spaced x [] ws w tt c s
+operation_spaced widths narrow (operation.Binary x o y) ws w bits c s =
     operand_spaced x (codes " ") (symbol (spelling o) (codes " ") ∷ operand_part y [] ∷ ws) w.0 one_blank refl (tt, symbol_next o _ refl, one_blank, operand_spaced y [] ws w.1 tt c s)
-operation_spaced (operation.Signed x o y) ws w c s =
+operation_spaced widths narrow (operation.Signed x o y) ws w bits c s =
     signed_spaced x (codes " ") (symbol (spelling o) (codes " ") ∷ signed_parts y [] ++ ws) w.0 one_blank (tt, symbol_next o _ refl, one_blank, signed_spaced y [] ws w.1 tt s)
-operation_spaced (operation.Choose b x y) ws w c s =
+operation_spaced widths narrow (operation.Choose b x y) ws w bits c s =
     operand_spaced b (codes " ") (symbol (codes "?") (codes " ") ∷ operand_part x (codes " ") ∷ symbol (codes ":") (codes " ") ∷ operand_part y [] ∷ ws) w.0 one_blank refl (
       tt,
       plain_next 63 _ refl,
@@ -143,9 +158,11 @@ operation_spaced (operation.Choose b x y) ws w c s =
       operand_spaced x (codes " ") (symbol (codes ":") (codes " ") ∷ operand_part y [] ∷ ws) w.1 one_blank refl
           (tt, plain_next 58 _ refl, one_blank, operand_spaced y [] ws w.2 tt c s),
     )
+operation_spaced widths narrow (operation.Part name high low) ws w bits c s = (let l = bits.0 in let h = bits.1 in select_spaced name high low ws w (omega arith) (omega arith) s)
+operation_spaced widths narrow (operation.Widen name by) ws w bits c s = (let most = bits.1 in let wide = narrow name in widening_spaced name by (widths name - 1) ws w (omega arith) (omega arith) s)
 
-drive_spaced : (d : Drive) (ws : List Written) → IsDriveSpelled d → AreSpaced ws → AreSpaced (drive_onto d ws)
-drive_spaced d ws w s = (
+drive_spaced : (widths : Widths) → AreNarrow widths → (d : Drive) (ws : List Written) → IsDriveSpelled d → AreSpaced ws → AreSpaced (drive_onto widths d ws)
+drive_spaced widths narrow d ws w s = (
   two_blanks,
   reserved_next (codes "assign") _ (is_word (codes "assign") refl) refl,
   one_blank,
@@ -153,7 +170,7 @@ drive_spaced d ws w s = (
     tt,
     name_next d.target _ w.target refl,
     one_blank,
-    (tt, single_next 61 _ refl refl, one_blank, operation_spaced d.operation (end_of_line ∷ ws) w.operands refl (tt, plain_next 59 _ refl, one_feed, s)),
+    (tt, single_next 61 _ refl refl, one_blank, operation_spaced widths narrow d.operation (end_of_line ∷ ws) w.operands w.bits refl (tt, plain_next 59 _ refl, one_feed, s)),
   ),
 )
 
@@ -166,8 +183,8 @@ line_ended ws s = (tt, plain_next 59 _ refl, one_feed, s)
 
 step_spaced : (registers : List Port) (t : Step) (ws : List Written) → IsStepSpelled registers t → AreSpaced ws → AreSpaced (step_onto (width_in registers t.register) t ws)
 step_spaced registers t ws w s =
-    let width = reset_width registers t.register in
-    let same : width.bits ≡ width_in registers t.register = reset_bits registers t.register in
+    let width = width_for registers t.register in
+    let same : width.bits ≡ width_in registers t.register = width_for_is registers t.register in
     let most : width_in registers t.register ≤ 64 = subst (λ b. b ≤ 64) same width.most in
     let small : t.reset < 2 ^ 64 = word_small width t.reset (subst (λ b. IsWord b t.reset) (sym same) w.reset) in
     edge_spaced (becomes_onto (width_in registers t.register) t ws) (
@@ -183,42 +200,82 @@ step_spaced registers t ws w s =
       ),
     )
 
-drives_spaced : (drives : List Drive) (ws : List Written) → AllByRecursion IsDriveSpelled drives → AreSpaced ws → AreSpaced (drives_onto drives ws)
-drives_spaced [] ws w s = s
-drives_spaced (d ∷ drives) ws w s = drive_spaced d (drives_onto drives ws) w.0 (drives_spaced drives ws w.1 s)
+drives_spaced : (widths : Widths) → AreNarrow widths → (drives : List Drive) (ws : List Written) → AllByRecursion IsDriveSpelled drives → AreSpaced ws → AreSpaced (drives_onto widths drives ws)
+drives_spaced widths narrow [] ws w s = s
+drives_spaced widths narrow (d ∷ drives) ws w s = drive_spaced widths narrow d (drives_onto widths drives ws) w.0 (drives_spaced widths narrow drives ws w.1 s)
 
 steps_spaced : (registers : List Port) (steps : List Step) (ws : List Written) → AllByRecursion (IsStepSpelled registers) steps → AreSpaced ws → AreSpaced (steps_onto registers steps ws)
 steps_spaced registers [] ws w s = s
 steps_spaced registers (t ∷ steps) ws w s = step_spaced registers t (steps_onto registers steps ws) w.0 (steps_spaced registers steps ws w.1 s)
 
--- ---- the module
+-- ---- instances
 
--- the declarations, each kind for itself
-record HaveSpelledPorts (m : Module) : Type 0 where
-  pub inputs : ArePortsSpelled m.inputs
-  pub outputs : ArePortsSpelled m.outputs
-  pub wires : ArePortsSpelled m.wires
-  pub registers : ArePortsSpelled m.registers
+link_spaced : (link : Link) (ws : List Written) → IsLinkSpelled link → AreSpaced ws → AreSpaced (link_onto link [] ws)
+link_spaced link ws l s =
+    (tt, plain_next 46 _ refl, tt, (tt, name_next link.port _ l.port refl, tt, (tt, plain_next 40 _ refl, tt, operand_spaced link.operand [] (symbol (codes ")") [] ∷ ws) l.operand tt refl (tt, plain_next 41 _ refl, tt, s))))
 
-spelled_by_kind : (m : Module) → All IsPortSpelled (declarations m) → HaveSpelledPorts m
-spelled_by_kind m h =
-    let all = recursion_from_All IsPortSpelled (declarations m) h in
-    let ports = all_front IsPortSpelled (m.inputs ++ m.registers ++ m.outputs) m.wires all in
-    let given = all_front IsPortSpelled (m.inputs ++ m.registers) m.outputs ports in
-    record {
-      inputs = all_front IsPortSpelled m.inputs m.registers given;
-      outputs = all_back IsPortSpelled (m.inputs ++ m.registers) m.outputs ports;
-      wires = all_back IsPortSpelled (m.inputs ++ m.registers ++ m.outputs) m.wires all;
-      registers = all_back IsPortSpelled m.inputs m.registers given;
-    }
+links_spaced : (links : List Link) (ws : List Written) → AllByRecursion IsLinkSpelled links → AreSpaced ws → AreSpaced (links_onto links ws)
+links_spaced [] ws l s = s
+links_spaced (link ∷ links) ws l s = (tt, plain_next 44 _ refl, one_blank, link_spaced link (links_onto links ws) l.0 (links_spaced links ws l.1 s))
 
-pub module_spaced : (m : Module) → IsModuleSpelled m → AreSpaced (module_parts m)
-module_spaced m w =
-    let declared_ports = spelled_by_kind m w.ports in
-    let last : AreSpaced (word (codes "endmodule") (codes "\n") ∷ []) = (tt, reserved_next (codes "endmodule") _ (is_word (codes "endmodule") refl) refl, one_feed, tt) in
-    let steps = steps_spaced m.registers m.steps _ (recursion_from_All (IsStepSpelled m.registers) m.steps w.steps) last in
-    let items = drives_spaced m.drives _ (recursion_from_All IsDriveSpelled m.drives w.drives) steps in
-    let declared = declarations_spaced (codes "wire") m.wires _ refl declared_ports.wires (declarations_spaced (codes "reg") m.registers _ refl declared_ports.registers items) in
-    let closed : AreSpaced (closed_onto m) = (tt, plain_next 41 _ refl, tt, (tt, plain_next 59 _ refl, one_feed, declared)) in
-    let ports = ports_spaced (codes "input") m.inputs _ refl declared_ports.inputs (ports_spaced (codes "output") m.outputs (closed_onto m) refl declared_ports.outputs (record { clear = refl; spaced = closed })) in
-    (tt, reserved_next (codes "module") _ (is_word (codes "module") refl) refl, one_blank, (tt, name_next m.name _ w.name refl, tt, (tt, plain_next 40 _ refl, tt, (tt, reserved_next (codes "input") _ (is_word (codes "input") refl) refl, one_blank, (tt, name_next clk _ clk_name refl, tt, (tt, plain_next 44 _ refl, one_blank, (tt, reserved_next (codes "input") _ (is_word (codes "input") refl) refl, one_blank, (tt, name_next rst _ rst_name ports.clear, tt, ports.spaced))))))))
+all_links_spaced : (links : List Link) (ws : List Written) → AllByRecursion IsLinkSpelled links → AreSpaced ws → AreSpaced (all_links_onto links ws)
+all_links_spaced [] ws l s = s
+all_links_spaced (link ∷ links) ws l s = link_spaced link (links_onto links ws) l.0 (links_spaced links ws l.1 s)
+
+instance_spaced : (x : Instantiation) (ws : List Written) → IsInstantiationSpelled x → AreSpaced ws → AreSpaced (instance_onto x ws)
+instance_spaced x ws h s =
+    (two_blanks, name_next x.kind _ h.kind refl, one_blank, (tt, name_next x.name _ h.name refl, one_blank, (tt, plain_next 40 _ refl, tt, all_links_spaced x.links (symbol (codes ")") [] ∷ end_of_line ∷ ws) h.links (tt, plain_next 41 _ refl, tt, line_ended ws s))))
+
+instances_spaced : (kinds : List CellKind) → AllByRecursion IsKindSpelled kinds → (instances : List Instance) (ws : List Written) → AllByRecursion (IsInstanceSpelled kinds) instances → AreSpaced ws → AreSpaced (instances_onto kinds instances ws)
+instances_spaced kinds k [] ws h s = s
+instances_spaced kinds k (i ∷ instances) ws h s = instance_spaced (instance_said kinds i) (instances_onto kinds instances ws) (instance_spelled kinds k i h.0) (instances_spaced kinds k instances ws h.1 s)
+
+-- ---- kinds
+
+directed_spaced : (direction : List ℕ) (port : Port) (ws : List Written) → is_reserved direction ≡ true → IsName port.name → is_clear (bytes_of ws) ≡ true → AreSpaced ws → AreSpaced (directed_onto direction port ws)
+directed_spaced direction port ws d n c s =
+    (tt, reserved_next direction _ (is_word direction d) refl, one_blank, range_spaced port.width (named port.name [] ∷ ws) (tt, name_next port.name _ n c, tt, s))
+
+inputs_spaced : (ports : List Port) (ws : List Written) → ArePortsSpelled ports → AreSpaced ws → AreSpaced (inputs_onto ports ws)
+inputs_spaced [] ws n s = s
+inputs_spaced (port ∷ ports) ws n s =
+    directed_spaced (codes "input") port (symbol (codes ",") (codes " ") ∷ inputs_onto ports ws) refl n.0.name refl (tt, plain_next 44 _ refl, one_blank, inputs_spaced ports ws n.1 s)
+
+outputs_spaced : (ports : List Port) (ws : List Written) → ArePortsSpelled ports → IsClearly ws → AreSpaced (outputs_onto ports ws)
+outputs_spaced [] ws n s = s.spaced
+outputs_spaced (port ∷ ports) ws n s =
+    let later = ports_spaced (codes "output") ports ws refl n.1 s in
+    directed_spaced (codes "output") port (ports_onto (codes "output") ports ws) refl n.0.name later.clear later.spaced
+
+last_spaced : (ws : List Written) → AreSpaced ws → AreSpaced (word (codes "endmodule") (codes "\n") ∷ ws)
+last_spaced ws s = (tt, reserved_next (codes "endmodule") _ (is_word (codes "endmodule") refl) refl, one_feed, s)
+
+kind_spaced : (kind : CellKind) (ws : List Written) → IsKindSpelled kind → AreSpaced ws → AreSpaced (kind_onto kind ws)
+kind_spaced kind ws h s =
+    let m = kind_module kind in
+    let ports = spelled_by_kind m h.of_module.ports in
+    let drives = drives_spaced (written_width m) (narrow m) kind.drives _ (recursion_from_All IsDriveSpelled kind.drives h.of_module.drives) (last_spaced ws s) in
+    let body = declarations_spaced (codes "wire") kind.wires _ refl ports.wires drives in
+    let closed : AreSpaced (symbol (codes ")") [] ∷ end_of_line ∷ kind_body_onto kind ws) = (tt, plain_next 41 _ refl, tt, line_ended _ body) in
+    (tt, reserved_next (codes "module") _ (is_word (codes "module") refl) refl, one_blank, (tt, name_next kind.name _ h.of_module.name refl, tt, (tt, plain_next 40 _ refl, tt,
+    inputs_spaced kind.inputs _ ports.inputs (outputs_spaced kind.outputs _ ports.outputs (record { clear = refl; spaced = closed })))))
+
+kinds_spaced : (kinds : List CellKind) (ws : List Written) → AllByRecursion IsKindSpelled kinds → AreSpaced ws → AreSpaced (kinds_onto kinds ws)
+kinds_spaced [] ws h s = s
+kinds_spaced (kind ∷ kinds) ws h s = kind_spaced kind (kinds_onto kinds ws) h.0 (kinds_spaced kinds ws h.1 s)
+
+-- ---- the whole
+
+pub plan_spaced : (plan : Plan) → IsPlanSpelled plan → AreSpaced (plan_parts plan)
+plan_spaced plan w =
+    let m = plan.top in
+    let kinds = recursion_from_All IsKindSpelled plan.kinds w.kinds in
+    let declared_ports = spelled_by_kind m w.top.ports in
+    let steps = steps_spaced m.registers m.steps _ (recursion_from_All (IsStepSpelled m.registers) m.steps w.top.steps) (last_spaced [] tt) in
+    let items = drives_spaced (written_width m) (narrow m) m.drives _ (recursion_from_All IsDriveSpelled m.drives w.top.drives) steps in
+    let instances = instances_spaced plan.kinds kinds plan.instances _ (recursion_from_All (IsInstanceSpelled plan.kinds) plan.instances w.instances) items in
+    let declared = declarations_spaced (codes "wire") m.wires _ refl declared_ports.wires (declarations_spaced (codes "reg") m.registers _ refl declared_ports.registers instances) in
+    let closed : AreSpaced (closed_onto plan.kinds plan.instances m) = (tt, plain_next 41 _ refl, tt, line_ended _ declared) in
+    let ports = ports_spaced (codes "input") m.inputs _ refl declared_ports.inputs (ports_spaced (codes "output") m.outputs (closed_onto plan.kinds plan.instances m) refl declared_ports.outputs (record { clear = refl; spaced = closed })) in
+    kinds_spaced plan.kinds (top_parts plan.kinds plan.instances m) kinds
+    (tt, reserved_next (codes "module") _ (is_word (codes "module") refl) refl, one_blank, (tt, name_next m.name _ w.top.name refl, tt, (tt, plain_next 40 _ refl, tt, (tt, reserved_next (codes "input") _ (is_word (codes "input") refl) refl, one_blank, (tt, name_next clk _ clk_name refl, tt, (tt, plain_next 44 _ refl, one_blank, (tt, reserved_next (codes "input") _ (is_word (codes "input") refl) refl, one_blank, (tt, name_next rst _ rst_name ports.clear, tt, ports.spaced))))))))
