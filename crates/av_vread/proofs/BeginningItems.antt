@@ -141,7 +141,7 @@ unfolding kind_wire_at
 kind_wire_reads = reads_as within (then_reads _ (word_reads (codes "wire") refl) (λ a. map_reads _ wire (λ x k. refl) declared_reads))
   where
     within : (ts rest : List Token) (x : Declaration) → Follows (Word (codes "wire")) (λ a. Mapped Declared wire) ts rest x → IsKindDeclaration ts rest x
-    within ts rest x (follows {mid = a} w m) = unmap (IsKindDeclaration ts rest) m (λ port d. declared_in (λ p. IsKindDeclaration ts rest (wire p)) (codes "wire") ts a rest port w d (λ b p s. kind_wire p s))
+    within ts rest x (follows {mid = a} w m) = unmap (IsKindDeclaration ts rest) m (λ port d. declared_in (λ p. IsKindDeclaration ts rest (wire p)) (codes "wire") ts a rest port w d (λ q b p s. kind_wire p s))
 
 kind_wires_read : Reads false pair (AreMany IsKindDeclaration) kind_wires_at
 kind_wires_read = many_read IsKindDeclaration (is_at (codes "wire")) kind_wire_at refl (alike_word (codes "wire")) kind_wire_reads kind_wire_begins (λ ts rest x d. kind_declaration_end d)

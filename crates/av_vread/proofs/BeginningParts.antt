@@ -31,7 +31,7 @@ name_token text = record { kind = kind.Name; text = text; place = start }
 
 -- a token whose value is this number
 number_token : ℕ → Token
-number_token n = record { kind = kind.Number; text = n + 48 ∷ []; place = start }
+number_token n = record { kind = kind.Number; text = (n + 48) ∷ []; place = start }
 
 -- 1'd0
 literal_token : Token
@@ -228,8 +228,8 @@ register_reads = then_reads _ (word_reads (codes "reg") refl) (λ x. map_reads _
 
 -- a word and what is declared behind it
 pub declared_in : (Wanted : Port → Type 0) (word : List ℕ) (ts a rest : List Token) (port : Port) → IsWordAt word ts a → Declared a rest port
-    → ({port : Port} (b : List Token) → IsPort (word ∷ []) ts b port → IsWordAt (codes ";") b rest → Wanted port) → Wanted port
-declared_in Wanted word ts a rest port w (follows {mid = d} {x = inner} p m) make = unmap Wanted m (λ x s. make d (as_port (word ∷ []) ts d inner (follows w p)) s)
+    → ((port : Port) (b : List Token) → IsPort (word ∷ []) ts b port → IsWordAt (codes ";") b rest → Wanted port) → Wanted port
+declared_in Wanted word ts a rest port w (follows {mid = d} {x = inner} p m) make = unmap Wanted m (λ x s. make inner d (as_port (word ∷ []) ts d inner (follows w p)) s)
 
 declared_is : (word : List ℕ) (made : Port → Declaration) (ts a rest : List Token) (port : Port)
     → ((b : List Token) (port : Port) → IsPort (word ∷ []) ts b port → IsWordAt (codes ";") b rest → IsDeclaration ts rest (made port)) → IsWordAt word ts a → Declared a rest port → IsDeclaration ts rest (made port)

@@ -175,7 +175,7 @@ input_first w n first = go first.input first.clock n
 
 -- behind such tokens a kind can stand
 kind_opens : (w : List Token) → Opens w → Completes IsKind (λ k. w ++ k)
-unfolding output_part last_part
+unfolding output_part last_part one_port
 kind_opens w (unopened) = record {
   back = λ k. word_token (codes "module") ∷ name_token rst ∷ word_token (codes "(") ∷ output_part k;
   value = small_kind rst [];
@@ -205,7 +205,6 @@ kind_opens w (after_input {i = i} {text = text} m n o w_in) = record {
 }
   where
     one_input : {i : Token} → IsWordAt (codes "input") (i ∷ []) [] → (k : List Token) → IsKindInput (i ∷ name_token rst ∷ word_token (codes ",") ∷ k) k one_port
-    unfolding one_port
     one_input w k = record {
       a = word_token (codes ",") ∷ k;
       directed = record {
@@ -360,12 +359,12 @@ shape_long : {ts rest : List Token} {x : ModuleText} → KindShape ts rest x →
 shape_long s = let h = header_long s.headed in let m = middle s.declarations s.items s.stops in omega arith
   where
     middle : {g h i rest : List Token} {ds : List Declaration} {items : List Item} → AreMany IsKindDeclaration g h ds → AreMany IsKindItem h i items → IsWordAt (codes "endmodule") i rest → length rest ≤ length g
-    middle d i s = omega (arith, many_end IsKindDeclaration (λ d. kind_declaration_end d) d, many_end IsKindItem (λ i. kind_item_end i) i, words_end s)
+    middle d i s = omega (arith, many_end IsKindDeclaration (λ ts rest x d. kind_declaration_end d) d, many_end IsKindItem (λ ts rest x i. kind_item_end i) i, words_end s)
 
     header_long : {ts rest : List Token} {x : Header} → HasKindHeader ts rest x → length rest + 5 ≤ length ts
     header_long h =
-        let i = many_end IsKindInput (λ p. kind_input_end p) h.inputs in
-        let o = many_end (IsPort (codes "," ∷ codes "output" ∷ [])) (λ p. port_end p) h.outputs.more_outputs in
+        let i = many_end IsKindInput (λ ts rest x p. kind_input_end p) h.inputs in
+        let o = many_end (IsPort (codes "," ∷ codes "output" ∷ [])) (λ ts rest x p. port_end p) h.outputs.more_outputs in
         omega (arith, words_end h.begins, name_end h.name, words_end h.opens, port_end h.outputs.output, words_end h.closes)
 
 kind_judged : (ts : List Token) → Ends ts → begins_kind ts ≡ true → Verdict true pair IsKind kind_at ts

@@ -68,10 +68,10 @@ step_end : {ts rest : List Token} {width : Width} {x : Step} → IsStep ts rest 
 step_end s =
     omega (arith, edge_end s.at_edge, name_end s.register, words_end s.becomes, literal_end s.reset, words_end s.otherwise, name_end s.again, words_end s.becomes_too, operand_end s.next, words_end s.ends)
 
-pub many_end : {A : Type 0} (Is : List Token → List Token → A → Type 0) → ({ts rest : List Token} {x : A} → Is ts rest x → length rest < length ts)
+pub many_end : {A : Type 0} (Is : List Token → List Token → A → Type 0) → ((ts rest : List Token) (x : A) → Is ts rest x → length rest < length ts)
     → {ts rest : List Token} {xs : List A} → AreMany Is ts rest xs → length rest ≤ length ts
 many_end Is shorter (no_more) = omega arith
-many_end Is shorter (one_more is many) = omega (arith, shorter is, many_end Is shorter many)
+many_end Is shorter (one_more {ts = ts} {a = a} {x = x} is many) = omega (arith, shorter ts a x is, many_end Is shorter many)
 
 link_end : {ts rest : List Token} {link : Link} → IsLink ts rest link → length rest < length ts
 link_end l = omega (arith, words_end l.dot, name_end l.port, words_end l.opens, operand_end l.operand, words_end l.closes)
@@ -81,7 +81,7 @@ next_link_end l = omega (arith, words_end l.comma, link_end l.linked)
 
 instance_end : {ts rest : List Token} {x : Instantiation} → IsInstantiation ts rest x → length rest < length ts
 instance_end i =
-    let later = many_end IsNextLink (λ l. next_link_end l) i.links_later in
+    let later = many_end IsNextLink (λ ts rest x l. next_link_end l) i.links_later in
     omega (arith, name_end i.kind, name_end i.name, words_end i.opens, link_end i.links_first, words_end i.closes)
 
 pub item_end : {ts rest : List Token} {x : Item} → IsItem ts rest x → length rest < length ts
@@ -102,8 +102,8 @@ kind_declaration_end (kind_wire p s) = omega (arith, port_end p, words_end s)
 
 pub kind_end : {ts rest : List Token} {x : ModuleText} → IsKind ts rest x → length rest < length ts
 kind_end k =
-    let inputs = many_end IsKindInput (λ p. kind_input_end p) k.inputs in
-    let outputs = many_end (IsPort (codes "," ∷ codes "output" ∷ [])) (λ p. port_end p) k.more_outputs in
-    let declarations = many_end IsKindDeclaration (λ d. kind_declaration_end d) k.declarations in
-    let items = many_end IsKindItem (λ i. kind_item_end i) k.items in
+    let inputs = many_end IsKindInput (λ ts rest x p. kind_input_end p) k.inputs in
+    let outputs = many_end (IsPort (codes "," ∷ codes "output" ∷ [])) (λ ts rest x p. port_end p) k.more_outputs in
+    let declarations = many_end IsKindDeclaration (λ ts rest x d. kind_declaration_end d) k.declarations in
+    let items = many_end IsKindItem (λ ts rest x i. kind_item_end i) k.items in
     omega (arith, words_end k.begins, name_end k.name, words_end k.opens, port_end k.output, words_end k.closes, words_end k.stops)

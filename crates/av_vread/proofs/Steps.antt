@@ -74,7 +74,7 @@ other_than k e n = absurd (true≢false (sym (same_self k kind.Name n) ∙ e))
 
 -- ---- words
 
-other_kind : (k : TokenKind) → not (same k kind.Name) ≡ true → k ≢ kind.Name
+pub other_kind : (k : TokenKind) → not (same k kind.Name) ≡ true → k ≢ kind.Name
 other_kind k e n = let z : same k kind.Name ≡ true = same_self k kind.Name n in absurd (true≢false (sym e ∙ ap not z))
 
 pub kind_other : (k : TokenKind) → k ≢ kind.Name → not (same k kind.Name) ≡ true

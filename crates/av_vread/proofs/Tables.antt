@@ -36,7 +36,7 @@ pub symbol_is : (text : List ℕ) → Contains symbols text → IsSymbol text
 symbol_is text s = short_is is_other is_single is_pair symbols refl text s
 
 pub single_symbol : (b : ℕ) → is_single b ≡ true → Contains symbols (b ∷ [])
-single_symbol b h = single_there (codes "()[]:;,.@?=<>+-*&|") symbols refl b h
+single_symbol b h = single_there (codes "()[]:;,.@?=<>+-*&|{}") symbols refl b h
 
 abbrev firsts : List ℕ
 firsts = codes "<>=!"

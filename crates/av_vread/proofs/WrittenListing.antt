@@ -139,6 +139,14 @@ version_comment = record {
   no_return = (refl, (refl, (refl, (refl, (refl, (refl, (refl, (refl, (refl, (refl, (refl, tt)))))))))));
 }
 
+pub second_comment : IsCommentLine (codes "// alphav 2")
+second_comment = record {
+  more = codes " alphav 2";
+  slashes = refl;
+  no_feed = (refl, (refl, (refl, (refl, (refl, (refl, (refl, (refl, (refl, (refl, (refl, tt)))))))))));
+  no_return = (refl, (refl, (refl, (refl, (refl, (refl, (refl, (refl, (refl, (refl, (refl, tt)))))))))));
+}
+
 pub entry_comments : (listing : Listing) → AllByRecursion IsEntrySpelled listing.ins → AllByRecursion IsEntrySpelled listing.ats → AllByRecursion IsCommentLine (entry_lines listing)
 entry_comments listing h k =
     all_append IsCommentLine (map (line_text (codes "in")) listing.ins) (map (line_text (codes "at")) listing.ats)
