@@ -163,12 +163,12 @@ module _ (kinds : List CellKind) (m : Module) (x : Instantiation) (is : IsPut ki
   pub outputs_are_wires : AllByRecursion (Contains (wire_names m)) (instance_of kinds x).outputs
   outputs_are_wires = each_by (Contains (wire_names m)) (map (name_to x.links) (kind_for kinds x).outputs) (λ name at.
     let (port, here, same) = from_map (name_to x.links) (kind_for kinds x).outputs name at in
-    let (named, wire) = each_at (λ o. IsNamed o × IsAmong (wire_names m) o) (map (operand_to x.links) (kind_for kinds x).outputs) (operand_to x.links port) at_outputs (among_map (operand_to x.links) (kind_for kinds x).outputs port here) in
-    subst (Contains (wire_names m)) same (the_name (operand_to x.links port) named wire))
+    let (named, within) = each_at (λ o. IsNamed o × IsAmong (wire_names m) o) (map (operand_to x.links) (kind_for kinds x).outputs) (operand_to x.links port) at_outputs (among_map (operand_to x.links) (kind_for kinds x).outputs port here) in
+    subst (Contains (wire_names m)) same (the_name (operand_to x.links port) named within))
     where
       the_name : (o : Operand) → IsNamed o → IsAmong (wire_names m) o → Contains (wire_names m) (name_in o)
-      the_name (operand.Name name) named wire = wire
-      the_name (operand.Literal width value) named wire = absurd named
+      the_name (operand.Name name) named within = within
+      the_name (operand.Literal width value) named within = absurd named
 
   -- what its links drive, in the order of the kind's outputs
   pub driven_same : (name : List ℕ) → count name (instance_of kinds x).outputs ≡ count name (flat_map (driven_by_link (kind_for kinds x)) x.links)

@@ -124,7 +124,7 @@ pub record Tail (called : List ℕ) (ts rest : List Token) (x : Header) : Type 0
   pub outputs : AreMany IsOutput a b x.outputs
   pub closes : AreWords (codes ")" ∷ codes ";" ∷ []) b rest
 
-pub tail_at : List ℕ → Read Header
+unfoldable pub tail_at : List ℕ → Read Header
 tail_at called ts =
     ports_at (codes "input") ts >>= λ inputs. ports_at (codes "output") inputs.1 >>= λ outputs. closed_at outputs.1 >>= λ rest. Ok (record { name = called; inputs = inputs.0; outputs = outputs.0 }, rest)
 

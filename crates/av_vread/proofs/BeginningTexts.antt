@@ -67,8 +67,8 @@ top_reads = reads_as within whole
         then_reads _ header_reads (λ header. then_reads _ declarations_read (λ ds. then_reads _ items_read (λ items. map_reads _ (λ a. with_body header ds items) (λ a k. refl) (word_reads (codes "endmodule") refl))))
 
     within : (ts rest : List Token) (x : ModuleText) → TopIs ts rest x → IsTop ts rest x
-    within ts rest x (follows {mid = f} {x = header} (follows {mid = a} m (follows {mid = b} {x = called} n (follows {mid = c} k t))) (follows {mid = g} {x = ds} d (follows {mid = h} {x = items} i end))) =
-        unmap (IsTop ts rest) end (λ y s. record {
+    within ts rest x (follows {mid = f} {x = header} (follows {mid = a} m (follows {mid = b} {x = called} n (follows {mid = c} k t))) (follows {mid = g} {x = ds} d (follows {mid = h} {x = items} i closed))) =
+        unmap (IsTop ts rest) closed (λ y s. record {
           a = a;
           b = b;
           c = c;
@@ -136,7 +136,7 @@ small_kind called inputs = record { name = called; inputs = inputs; outputs = on
 kind_with : {ts a b c d e : List Token} {called : List ℕ} {inputs : List Port} → IsWordAt (codes "module") ts a → IsNameAt a b called → IsWordAt (codes "(") b c → (IsClockFirst c → ⊥)
     → AreMany IsKindInput c d inputs → IsWordAt (codes "output") d e → (k : List Token) → e ≡ name_token rst ∷ last_part k → IsKind ts k (small_kind called inputs)
 unfolding last_part one_port small_kind
-kind_with {ts = ts} {a = a} {b = b} {c = c} {d = d} {e = e} {called = called} {inputs = inputs} m n o no ins out k is = record {
+kind_with {ts = ts} {a = a} {b = b} {c = c} {d = d} {e = e} {called = called} {inputs = inputs} m n o away ins out k is = record {
   a = a;
   b = b;
   c = c;
@@ -151,7 +151,7 @@ kind_with {ts = ts} {a = a} {b = b} {c = c} {d = d} {e = e} {called = called} {i
   begins = m;
   name = n;
   opens = o;
-  no_clock = no;
+  no_clock = away;
   inputs = ins;
   output = record { a = e; b = e; words_first = out; range = no_range (width_bits 0 (omega arith)); name = subst (λ z. IsNameAt z (last_part k) rst) (sym is) (named rst (last_part k)) };
   more_outputs = no_more;
@@ -244,20 +244,20 @@ range_some : {ts mid rest : List Token} {width : Width} {text : List ℕ} → Is
 range_some (no_range e) n = name_some n
 range_some (range (next_word k e w) n le c b) m = first_token
 
-port_tokens : {word : List ℕ} {ts rest : List Token} {port : Port} → IsPort (word ∷ []) ts rest port → (W : List Token → Type 0) → ({i x : Token} {k : List Token} → IsWordAt word (i ∷ []) [] → W (i ∷ x ∷ k)) → W ts
+port_tokens : {word : List ℕ} {ts rest : List Token} {port : Port} → IsPort (word ∷ []) ts rest port → (W : List Token → Type 0) → ((i x : Token) (k : List Token) → IsWordAt word (i ∷ []) [] → W (i ∷ x ∷ k)) → W ts
 port_tokens p W make = go p.words_first (range_some p.range p.name) make
   where
-    go : {word : List ℕ} {ts a : List Token} → IsWordAt word ts a → HasFirst a → ({i x : Token} {k : List Token} → IsWordAt word (i ∷ []) [] → W (i ∷ x ∷ k)) → W ts
-    go (next_word k e (no_word)) (first_token) make = make (next_word k e no_word)
+    go : {word : List ℕ} {ts a : List Token} → IsWordAt word ts a → HasFirst a → ((i x : Token) (k : List Token) → IsWordAt word (i ∷ []) [] → W (i ∷ x ∷ k)) → W ts
+    go (next_word {t = i} l e (no_word)) (first_token {x = x} {k = k}) make = make i x k (next_word l e no_word)
 
 header_tokens : {ts rest : List Token} {x : Header} → HasKindHeader ts rest x → KindTokens ts
 header_tokens h = go h.begins h.name h.opens h.inputs h.outputs.output
   where
     go : {ts a b c d e : List Token} {text : List ℕ} {inputs : List Port} {port : Port} → IsWordAt (codes "module") ts a → IsNameAt a b text → IsWordAt (codes "(") b c → AreMany IsKindInput c d inputs → IsPort (codes "output" ∷ []) d e port → KindTokens ts
     go (next_word {t = m} k1 e1 (no_word)) (name {t = n} k2 e2) (next_word {t = o} k3 e3 (no_word)) (no_more) p =
-        port_tokens p (λ c. KindTokens (m ∷ n ∷ o ∷ c)) (λ w. with_output (next_word k1 e1 no_word) (name k2 e2) (next_word k3 e3 no_word) w)
+        port_tokens p (λ c. KindTokens (m ∷ n ∷ o ∷ c)) (λ i x k w. with_output (next_word k1 e1 no_word) (name k2 e2) (next_word k3 e3 no_word) w)
     go (next_word {t = m} k1 e1 (no_word)) (name {t = n} k2 e2) (next_word {t = o} k3 e3 (no_word)) (one_more i many) p =
-        port_tokens i.directed (λ c. KindTokens (m ∷ n ∷ o ∷ c)) (λ w. with_input (next_word k1 e1 no_word) (name k2 e2) (next_word k3 e3 no_word) w)
+        port_tokens i.directed (λ c. KindTokens (m ∷ n ∷ o ∷ c)) (λ i x k w. with_input (next_word k1 e1 no_word) (name k2 e2) (next_word k3 e3 no_word) w)
 
 -- the first of them, four at most
 kind_front : {ts : List Token} → KindTokens ts → (n : ℕ) → n ≤ 4 → Opens (take n ts) ⊎ OpensOutput (take n ts)
@@ -580,10 +580,10 @@ text_judged ts e = with_kinds ts (kinds_judged ts e)
   where
     with_end : (ts rest left : List Token) (ks : List ModuleText) (x : ModuleText) (front inner : List Token → List Token) → Puts front → ts ≡ front rest → Puts inner → rest ≡ inner left → Ends left
         → ((k : List Token) → AreMany IsKind (front k) k ks) → ((k : List Token) → kinds_at (front (inner k)) ≡ Ok (ks, inner k)) → ((k : List Token) → top_at (inner k) ≡ Ok (x, k)) → ((k : List Token) → IsTop (inner k) k x) → LastVerdict ts
-    with_end ts rest left ks x front inner p is q same (last {t = t} k f) are kinds top spells =
-        read_all (record { kinds = ks; top = x }) (ap text_at (is ∙ ap front same) ∙ all_read (front (inner left)) (inner left) left ks x (kinds left) (top left) (end_gives (end k)))
-    with_end ts rest left ks x front inner p is q same (before {t = t} {ts = more} k f) are kinds top spells =
-        breaks (λ k. front (inner k)) t more (puts_both p q) (is ∙ ap front same)
+    with_end ts rest left ks x front inner p is q gone (last {t = t} k f) are kinds top spells =
+        read_all (record { kinds = ks; top = x }) (ap text_at (is ∙ ap front gone) ∙ all_read (front (inner left)) (inner left) left ks x (kinds left) (top left) (end_gives (end {t = t} k)))
+    with_end ts rest left ks x front inner p is q gone (before {t = t} {ts = more} k f) are kinds top spells =
+        breaks (λ k. front (inner k)) t more (puts_both p q) (is ∙ ap front gone)
         (λ b. end_stops (front (inner (t ∷ b))) (inner (t ∷ b)) (t ∷ b) ks x t.place (kinds (t ∷ b)) (top (t ∷ b)) (end_there t k b)) (end_token ∷ []) (record { kinds = ks; top = x })
         (record { a = inner (end_token ∷ []); b = end_token ∷ []; kinds = are (inner (end_token ∷ [])); top = spells (end_token ∷ []); ends = ended })
 

@@ -676,6 +676,9 @@ module _ (plan : Plan) (modules : HasSoundModules plan) where
         let f = count_joined name (declared_in top_text) (instance_names plan.instances) in
         omega arith)
 
+  pub top_back : module_of top_text ≡ plan.top
+  top_back = module_is K plan.top plan.instances modules.top back_at said_at
+
   no_at : {P : Type 0} (i : Instance) → Contains [] i → P
   no_at i at = absurd (none_among i at)
 

@@ -30,7 +30,7 @@ use Rattle.av_vread.proofs.WrittenSpaced.{plan_spaced}
 use Rattle.av_vread.proofs.WrittenBytes.{plan_bytes, module_bytes}
 use Rattle.av_vread.proofs.WrittenGrammar.{plan_is}
 use Rattle.av_vread.proofs.WrittenListing.{joined, entry_lines, listing_joined, IsCommentLine, version_comment, second_comment, entry_comments, after_lines, comments_before, lines_after, lines_found, listing_found}
-use Rattle.av_vread.proofs.NoRows.{module_is, no_rows}
+use Rattle.av_vread.proofs.NoRows.{top_back, no_rows}
 use Rattle.av_vread.proofs.SpelledParts.{parts_spelled, plan_spelled}
 
 -- ---- a plan whose parts are spelled is told by its text, be it sound or not
@@ -98,7 +98,7 @@ plan_told plan spelled =
 told_spells : (version : List ℕ) → IsCommentLine version → (plan : Plan) → IsSoundPlan plan → Spells (told version plan) (flat_of plan)
 told_spells version comment plan sound =
     let spelled = plan_spelled plan sound in
-    let is : module_of (top_said plan) ≡ plan.top = top_is plan sound in
+    let is : module_of (top_said plan) ≡ plan.top = top_back plan sound.modules in
     record {
       said = plan_said plan;
       line = module_line version comment plan spelled;
