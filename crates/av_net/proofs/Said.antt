@@ -193,7 +193,7 @@ names_back widths (port ∷ ports) (name ∷ names) distinct suits =
 
 -- ---- instances
 
-instance_back : (plan : Plan) → HasParts plan → (i : Instance) → Contains plan.instances i → instance_of plan.kinds (instance_said plan.kinds i) ≡ i
+pub instance_back : (plan : Plan) → HasParts plan → (i : Instance) → Contains plan.instances i → instance_of plan.kinds (instance_said plan.kinds i) ≡ i
 instance_back plan modules i at =
     let kind = kind_of plan.kinds i in
     let placed = placed_at plan modules i at in

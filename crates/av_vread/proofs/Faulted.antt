@@ -9,7 +9,7 @@ use Rattle.av_net.specs.Names.{names_of, wire_names}
 use Rattle.av_net.specs.Lexemes.{Token, design_texts}
 use Rattle.av_net.specs.Grammar.{Text}
 use Rattle.av_net.specs.Listed.{Line, lines_of, numbered, listing_lines, IsListing, IsBadLine}
-use Rattle.av_net.specs.Rows.{is_in, module_of, declared_twice, driven_twice, wrong_name, undriven_name, early_name, unsuited_name}
+use Rattle.av_net.specs.Rows.{is_in, module_of, flat_text, twice_name, wrong_name, undriven_name, early_name, unsuited_name}
 use Rattle.av_net.specs.Designs.{Says, HasNoRow, Spells, IsSoundDesign, first_line}
 use Rattle.av_vread.specs.declared.fault.VFault.{VFault}
 use Rattle.av_vread.specs.declared.fault.VFault.TheVariants.{VByte, VSyntax, VListing, VTwice, VName, VUnassigned, VOrder, VWidth, Memory}
@@ -24,7 +24,7 @@ use Rattle.av_vread.proofs.Longest.{finds}
 use Rattle.av_vread.proofs.Sound.{text_took}
 use Rattle.av_vread.proofs.Complete.{text_gives}
 use Rattle.av_vread.proofs.BeginningTexts.{stops_there, one_stop, stops_say_none, lexed_ends}
-use Rattle.av_vread.proofs.NamesSpelled.{tokens_named, IsNamed, text_named, are_words}
+use Rattle.av_vread.proofs.NamesSpelled.{tokens_named, IsNamed, text_named, input_names, wires_have_names, are_words}
 use Rattle.av_vread.proofs.ListingLines.{read_listed, listing_is, listing_read, bad_is, bad_read, kept_listed}
 use Rattle.av_vread.proofs.SoundDesigns.{spelled_sound}
 
@@ -36,16 +36,15 @@ no_row f (Some n) later e = absurd cc
 
 pub row_none : (x : Text) → first_row x ≡ None → HasNoRow x
 row_none x e =
-    let a = no_row VTwice (declared_twice x) _ e in
-    let b = no_row VTwice (driven_twice x) _ a.1 in
-    let c = no_row VName (wrong_name x) _ b.1 in
+    let a = no_row VTwice (twice_name x) _ e in
+    let c = no_row VName (wrong_name x) _ a.1 in
     let d = no_row VUnassigned (undriven_name x) _ c.1 in
     let g = no_row VOrder (early_name x) _ d.1 in
     let h = no_row VWidth (unsuited_name x) _ g.1 in
-    record { declared_once = a.0; driven_once = b.0; named_right = c.0; all_driven = d.0; in_order = g.0; suited = h.0 }
+    record { once = a.0; named_right = c.0; all_driven = d.0; in_order = g.0; suited = h.0 }
 
 pub none_row : (x : Text) → HasNoRow x → first_row x ≡ None
-none_row x h = rw (h.declared_once, h.driven_once, h.named_right, h.all_driven, h.in_order, h.suited) refl
+none_row x h = rw (h.once, h.named_right, h.all_driven, h.in_order, h.suited) refl
 
 -- a fault that a row of names has
 abbrev IsRow : VFault → Type 0
@@ -68,23 +67,23 @@ is_row f h (Some n) later k g e = subst IsRow (some_is (f n) g e) (h n)
 
 row_is : (x : Text) (f : VFault) → first_row x ≡ Some f → IsRow f
 row_is x f e =
-    is_row VTwice (λ n. tt) (declared_twice x) _ (is_row VTwice (λ n. tt) (driven_twice x) _ (is_row VName (λ n. tt) (wrong_name x) _ (is_row VUnassigned (λ n. tt) (undriven_name x) _
-    (is_row VOrder (λ n. tt) (early_name x) _ (is_row VWidth (λ n. tt) (unsuited_name x) None (λ g h. absurd cc)))))) f e
+    is_row VTwice (λ n. tt) (twice_name x) _ (is_row VName (λ n. tt) (wrong_name x) _ (is_row VUnassigned (λ n. tt) (undriven_name x) _
+    (is_row VOrder (λ n. tt) (early_name x) _ (is_row VWidth (λ n. tt) (unsuited_name x) None (λ g h. absurd cc))))) f e
 
 -- ---- the listing of what is said
 
 abbrev listing_of : List ℕ → Text → ℕ → Listed
-listing_of bytes x line = listing_at (is_in (names_of x.inputs)) (is_in (wire_names (module_of x))) bytes line
+listing_of bytes x line = listing_at (is_in (names_of x.top.inputs)) (is_in (wire_names (module_of x.top))) bytes line
 
 abbrev Lists : List ℕ → Text → ℕ → Listing → Type 0
-Lists bytes x line listing = IsListing (names_of x.inputs) (wire_names (module_of x)) (listing_lines bytes line) listing
+Lists bytes x line listing = IsListing (names_of x.top.inputs) (wire_names (module_of x.top)) (listing_lines bytes line) listing
 
 module _ (bytes : List ℕ) (x : Text) (line : ℕ) (s : Says bytes x line) where
   ports : List (List ℕ)
-  ports = names_of x.inputs
+  ports = names_of x.top.inputs
 
   wires : List (List ℕ)
-  wires = wire_names (module_of x)
+  wires = wire_names (module_of x.top)
 
   lines : List Line
   lines = numbered 1 (take (line - 1) (lines_of bytes))
@@ -99,17 +98,17 @@ module _ (bytes : List ℕ) (x : Text) (line : ℕ) (s : Says bytes x line) wher
   listing_given : (listing : Listing) → Lists bytes x line listing → listing_of bytes x line ≡ Ok listing
   unfolding ports wires lines
   listing_given listing h =
-      sym (read_listed ports wires no_lines lines) ∙ listing_read ports wires (are_words ports named.inputs) (are_words wires named.wires) (listing_lines bytes line) listing h
+      sym (read_listed ports wires no_lines lines) ∙ listing_read ports wires (are_words ports (input_names x.top named.top)) (are_words wires (wires_have_names x.top named.top)) (listing_lines bytes line) listing h
 
-  bad_line : (n : ℕ) → listing_of bytes x line ≡ Err n → IsBadLine (names_of x.inputs) (wire_names (module_of x)) (listing_lines bytes line) n
+  bad_line : (n : ℕ) → listing_of bytes x line ≡ Err n → IsBadLine (names_of x.top.inputs) (wire_names (module_of x.top)) (listing_lines bytes line) n
   unfolding ports wires lines
   bad_line n e =
-      bad_is ports wires (are_words ports named.inputs) (are_words wires named.wires) (listing_lines bytes line) n (kept_listed lines) (read_listed ports wires no_lines lines ∙ e)
+      bad_is ports wires (are_words ports (input_names x.top named.top)) (are_words wires (wires_have_names x.top named.top)) (listing_lines bytes line) n (kept_listed lines) (read_listed ports wires no_lines lines ∙ e)
 
-  bad_given : (n : ℕ) → IsBadLine (names_of x.inputs) (wire_names (module_of x)) (listing_lines bytes line) n → listing_of bytes x line ≡ Err n
+  bad_given : (n : ℕ) → IsBadLine (names_of x.top.inputs) (wire_names (module_of x.top)) (listing_lines bytes line) n → listing_of bytes x line ≡ Err n
   unfolding ports wires lines
   bad_given n b =
-      sym (read_listed ports wires no_lines lines) ∙ bad_read ports wires (are_words ports named.inputs) (are_words wires named.wires) (listing_lines bytes line) n (kept_listed lines) b
+      sym (read_listed ports wires no_lines lines) ∙ bad_read ports wires (are_words ports (input_names x.top named.top)) (are_words wires (wires_have_names x.top named.top)) (listing_lines bytes line) n (kept_listed lines) b
 
   -- what is said is checked
   checked_said : checked_of bytes ≡ checked_listing x (listing_of bytes x line)
@@ -227,12 +226,12 @@ module _ (bytes : List ℕ) where
   abbrev pub designed : Listing → Module → Design
   designed listing m = record { listing = listing; «module» = m }
 
-  pub found : (x : Text) (listing : Listing) (m : Module) → checked_of bytes ≡ Ok (x, listing) → m ≡ module_of x → Spells bytes (designed listing m)
+  pub found : (x : Text) (listing : Listing) (m : Module) → checked_of bytes ≡ Ok (x, listing) → m ≡ flat_text x → Spells bytes (designed listing m)
   found x listing m c e =
       let s = said_ok (x, listing) c in
-      record { said = x; line = s.line; says = s.says; lists = s.lists; is_module = e; no_row = row_none x s.no_row_holds }
+      record { said = x; line = s.line; says = s.says; lists = s.lists; is_flat = e; no_row = row_none x s.no_row_holds }
 
-  pub sound : (x : Text) (listing : Listing) (m : Module) → checked_of bytes ≡ Ok (x, listing) → m ≡ module_of x → IsSoundDesign (designed listing m)
+  pub sound : (x : Text) (listing : Listing) (m : Module) → checked_of bytes ≡ Ok (x, listing) → m ≡ flat_text x → IsSoundDesign (designed listing m)
   sound x listing m c e = spelled_sound bytes (designed listing m) (found x listing m c e)
 
   given : (design : Design) (s : Spells bytes design) → checked_of bytes ≡ Ok (s.said, design.listing)
@@ -240,10 +239,10 @@ module _ (bytes : List ℕ) where
       checked_said bytes s.said s.line s.says ∙ ap (checked_listing s.said) (listing_given bytes s.said s.line s.says design.listing s.lists)
       ∙ ap (checked_row s.said design.listing) (none_row s.said s.no_row)
 
-  pub only_ok : (x : Text) (listing : Listing) (m : Module) (wanted : Design) → checked_of bytes ≡ Ok (x, listing) → m ≡ module_of x → Spells bytes wanted → designed listing m ≡ wanted
+  pub only_ok : (x : Text) (listing : Listing) (m : Module) (wanted : Design) → checked_of bytes ≡ Ok (x, listing) → m ≡ flat_text x → Spells bytes wanted → designed listing m ≡ wanted
   only_ok x listing m wanted c e s =
       let same : (x, listing) ≡ (s.said, wanted.listing) = ok_read (x, listing) (s.said, wanted.listing) (sym c ∙ given wanted s) in
-      ap (designed listing) e ∙ ap (λ read. designed read.1 (module_of read.0)) same ∙ ap (designed wanted.listing) (sym s.is_module)
+      ap (designed listing) e ∙ ap (λ read. designed read.1 (flat_text read.0)) same ∙ ap (designed wanted.listing) (sym s.is_flat)
 
   ok_or_err : {f : VFault} {read : Text × Listing} → ◌≡◌ {A = Checked} (Ok read) (Err f) → ⊥
   ok_or_err e = cc
@@ -326,11 +325,11 @@ pub either : (bytes : List ℕ) → ((design : Design) × Spells bytes design) �
 either bytes = go (checked_of bytes) refl
   where
     go : (r : Checked) → checked_of bytes ≡ r → ((design : Design) × Spells bytes design) ⊎ ((f : VFault) × IsFault bytes f)
-    go (Ok read) e = inl (designed bytes read.1 (module_of read.0), found bytes read.0 read.1 (module_of read.0) e refl)
+    go (Ok read) e = inl (designed bytes read.1 (flat_text read.0), found bytes read.0 read.1 (flat_text read.0) e refl)
     go (Err f) e = inr (f, said_err bytes f e)
 
 pub not_both : (bytes : List ℕ) (design : Design) (f : VFault) → Spells bytes design → IsFault bytes f → ⊥
 not_both bytes design f s h = refused_ok bytes (s.said, design.listing) f (given bytes design s) h
 
 pub one_design : (bytes : List ℕ) (some other : Design) → Spells bytes some → Spells bytes other → some ≡ other
-one_design bytes some other s t = only_ok bytes s.said some.listing some.«module» other (given bytes some s) s.is_module t
+one_design bytes some other s t = only_ok bytes s.said some.listing some.«module» other (given bytes some s) s.is_flat t

@@ -105,11 +105,14 @@ none_linked : (u : List ℕ) (kind : CellKind) (v : List ℕ) (ls : List Link) �
 none_linked u kind v [] other = refl
 none_linked u kind v (l ∷ ls) other =
     flat_map-append (linked_at u) (link_mentions kind v l) (flat_map (link_mentions kind v) ls)
-    ∙ ap (λ here. here ++ flat_map (linked_at u) (flat_map (link_mentions kind v) ls)) (rw other (none_driven (driven_by_link kind l))) ∙ none_linked u kind v ls other
+    ∙ ap (λ here. here ++ flat_map (linked_at u) (flat_map (link_mentions kind v) ls)) here ∙ none_linked u kind v ls other
   where
     none_driven : (names : List (List ℕ)) → flat_map (linked_at u) (map drives names) ≡ []
     none_driven [] = refl
     none_driven (name ∷ names) = none_driven names
+
+    here : flat_map (linked_at u) (link_mentions kind v l) ≡ []
+    here = rw other (none_driven (driven_by_link kind l))
 
 -- the names of modules, and no other mention
 modules_in : (kinds : List CellKind) (earlier : List (List ℕ)) (x : ModuleText) → flat_map module_at (front_of earlier ++ mentions_of kinds x) ≡ earlier ++ x.name ∷ []
@@ -390,7 +393,7 @@ module _ (kinds : List CellKind) (m : Module) (instances : List Instance) (top :
       (λ same.
         let is : u ≡ i.name = (bytes_eq-Decides u i.name).0 same in
         let here : linked_by u (instance (instance_said kinds i)) ≡ names_of (kind_of kinds i).inputs ++ names_of (kind_of kinds i).outputs =
-          ap (λ v. linked_by v (instance (instance_said kinds i))) is ∙ own_links _ i.name _ ∙ links_ports kinds (width_of m) (all_names m) (wire_names m) i (said i (within i (first_among i some))) in
+          ap (λ v. linked_by v (instance (instance_said kinds i))) is ∙ own_links (kind_for kinds (instance_said kinds i)) i.name (instance_said kinds i).links ∙ links_ports kinds (width_of m) (all_names m) (wire_names m) i (said i (within i (first_among i some))) in
         let none : flat_map (linked_by u) (map (λ i. instance (instance_said kinds i)) some) ≡ [] = others u some (λ at. apart (i.name ∷ []) (instance_names some) u distinct (0, omega arith, sym is) at) in
         subst AreDistinct (sym (ap (λ names. names ++ flat_map (linked_by u) (map (λ i. instance (instance_said kinds i)) some)) here ∙ ap (λ names. (names_of (kind_of kinds i).inputs ++ names_of (kind_of kinds i).outputs) ++ names) none ∙ append-nil _))
         (said i (within i (first_among i some))).ports)
