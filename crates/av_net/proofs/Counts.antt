@@ -83,9 +83,9 @@ at_most_once (x ∷ xs) name d =
     let more : count name xs ≤ 1 = at_most_once xs name (rest_distinct (x ∷ []) xs d) in
     by_test (bytes_eq x name)
     (λ same.
-      let one : once name x ≡ 1 = rw same refl in
-      let none : count name xs ≡ 0 = subst (λ y. count y xs ≡ 0) ((bytes_eq-Decides x name).0 same) (none_again x xs d) in
-      omega arith)
+    let one : once name x ≡ 1 = rw same refl in
+    let none : count name xs ≡ 0 = subst (λ y. count y xs ≡ 0) ((bytes_eq-Decides x name).0 same) (none_again x xs d) in
+    omega arith)
     (λ other. let one : once name x ≡ 0 = rw other refl in omega arith)
 
 -- ---- the names that each of some parts has

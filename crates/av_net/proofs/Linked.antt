@@ -42,12 +42,12 @@ link_of [] port at = absurd (none_among port.name at)
 link_of (link ∷ links) port at = by_test (bytes_eq link.port port.name)
     (λ same. record { link = link; among = first_among link links; of_port = (bytes_eq-Decides link.port port.name).0 same; has = rw same refl })
     (λ other.
-      let later : Contains (ports_in links) port.name = elim (among_cases link.port port.name (ports_in links) at) [
-        | inl same ↦ absurd (true≢false (sym ((bytes_eq-Decides link.port port.name).1 same) ∙ other))
-        | inr more ↦ more
-      ] in
-      let rest = link_of links port later in
-      record { link = rest.link; among = more_among link rest.link links rest.among; of_port = rest.of_port; has = rest.has ∙ rw other refl })
+    let later : Contains (ports_in links) port.name = elim (among_cases link.port port.name (ports_in links) at) [
+      | inl same ↦ absurd (true≢false (sym ((bytes_eq-Decides link.port port.name).1 same) ∙ other))
+      | inr more ↦ more
+    ] in
+    let rest = link_of links port later in
+    record { link = rest.link; among = more_among link rest.link links rest.among; of_port = rest.of_port; has = rest.has ∙ rw other refl })
 
 -- ---- the names that links drive, port by port
 
@@ -71,26 +71,26 @@ port_names : (links : List Link) (port : Port) → AreDistinct (ports_in links) 
 port_names [] port distinct at = absurd (none_among port.name at)
 port_names (link ∷ links) port distinct at = by_test (bytes_eq link.port port.name)
     (λ same.
-      let is : link.port ≡ port.name = (bytes_eq-Decides link.port port.name).0 same in
-      let none : flat_map (at_port port.name) links ≡ [] = no_link port.name links (λ later. apart (link.port ∷ []) (ports_in links) port.name distinct (0, omega arith, is) later) in
-      rw (same, none, append-nil) refl)
+    let is : link.port ≡ port.name = (bytes_eq-Decides link.port port.name).0 same in
+    let none : flat_map (at_port port.name) links ≡ [] = no_link port.name links (λ later. apart (link.port ∷ []) (ports_in links) port.name distinct (0, omega arith, is) later) in
+    rw (same, none, append-nil) refl)
     (λ other.
-      let later : Contains (ports_in links) port.name = elim (among_cases link.port port.name (ports_in links) at) [
-        | inl same ↦ absurd (true≢false (sym ((bytes_eq-Decides link.port port.name).1 same) ∙ other))
-        | inr more ↦ more
-      ] in
-      let rest = port_names links port (rest_distinct (link.port ∷ []) (ports_in links) distinct) later in
-      rw (other, rest) refl)
+    let later : Contains (ports_in links) port.name = elim (among_cases link.port port.name (ports_in links) at) [
+      | inl same ↦ absurd (true≢false (sym ((bytes_eq-Decides link.port port.name).1 same) ∙ other))
+      | inr more ↦ more
+    ] in
+    let rest = port_names links port (rest_distinct (link.port ∷ []) (ports_in links) distinct) later in
+    rw (other, rest) refl)
 
 -- one link, where a port stands before others
 one_link : (name : List ℕ) (port : Port) (ports : List Port) (link : Link) → (Contains (names_of ports) port.name → ⊥)
     → count name (at_ports (port ∷ ports) link) ≡ count name (at_port port.name link) + count name (at_ports ports link)
 one_link name port ports link none = by_test (bytes_eq link.port port.name)
     (λ same.
-      let is : link.port ≡ port.name = (bytes_eq-Decides link.port port.name).0 same in
-      let other : is_in (names_of ports) link.port ≡ false = not_there link.port (names_of ports) (λ at. none (subst (Contains (names_of ports)) is at)) in
-      let zero : count name [] ≡ 0 = count_none name in
-      rw (same, other) (omega arith))
+    let is : link.port ≡ port.name = (bytes_eq-Decides link.port port.name).0 same in
+    let other : is_in (names_of ports) link.port ≡ false = not_there link.port (names_of ports) (λ at. none (subst (Contains (names_of ports)) is at)) in
+    let zero : count name [] ≡ 0 = count_none name in
+    rw (same, other) (omega arith))
     (λ differs. let zero : count name [] ≡ 0 = count_none name in rw differs (omega arith))
 
 several_links : (name : List ℕ) (port : Port) (ports : List Port) (links : List Link) → (Contains (names_of ports) port.name → ⊥)

@@ -44,8 +44,8 @@ none_again pick sort earlier [] distinct e = subst (λ ms. AreDistinct (flat_map
 none_again pick sort earlier (m ∷ ms) distinct e =
     let (apart, rest) = neither (list_any (is_same m) earlier) (mentioned m) (first_again (earlier ++ m ∷ []) ms) e in
     let more : AreDistinct (flat_map pick earlier ++ pick m) = append_distinct (flat_map pick earlier) (pick m) distinct (sort.single m) (λ name before here.
-      let (other, at, there) = from_flat_map pick earlier name before in
-      true≢false (sym (any_true (is_same m) earlier other at (sort.same m other name here there)) ∙ apart)) in
+    let (other, at, there) = from_flat_map pick earlier name before in
+    true≢false (sym (any_true (is_same m) earlier other at (sort.same m other name here there)) ∙ apart)) in
     let line : flat_map pick (earlier ++ m ∷ []) ≡ flat_map pick earlier ++ pick m = flat_map-append pick earlier (m ∷ []) ∙ ap (λ names. flat_map pick earlier ++ names) (append-nil (pick m)) in
     subst (λ ms. AreDistinct (flat_map pick ms)) (append_assoc earlier (m ∷ []) ms)
     (none_again pick sort (earlier ++ m ∷ []) ms (subst AreDistinct (sym line) more) rest)
@@ -136,12 +136,12 @@ links_sort u = record { single = single; same = same }
     both_linked : (v w a b name : List ℕ) → Contains (linked_at u (links v a)) name → Contains (linked_at u (links w b)) name → (bytes_eq v w && bytes_eq a b) ≡ true
     both_linked v w a b name at there = by_test (bytes_eq u v)
         (λ is_v. by_test (bytes_eq u w)
-          (λ is_w.
-            let same_u : v ≡ w = sym ((bytes_eq-Decides u v).0 is_v) ∙ (bytes_eq-Decides u w).0 is_w in
-            let in_a : Contains (a ∷ []) name = rw is_v at at in
-            let in_b : Contains (b ∷ []) name = rw is_w at there in
-            and_true (bytes_eq v w) (bytes_eq a b) ((bytes_eq-Decides v w).1 same_u) (one_name a b name in_a in_b))
-          (λ no_w. let none : Contains [] name = rw no_w at there in absurd (none_among name none)))
+        (λ is_w.
+        let same_u : v ≡ w = sym ((bytes_eq-Decides u v).0 is_v) ∙ (bytes_eq-Decides u w).0 is_w in
+        let in_a : Contains (a ∷ []) name = rw is_v at at in
+        let in_b : Contains (b ∷ []) name = rw is_w at there in
+        and_true (bytes_eq v w) (bytes_eq a b) ((bytes_eq-Decides v w).1 same_u) (one_name a b name in_a in_b))
+        (λ no_w. let none : Contains [] name = rw no_w at there in absurd (none_among name none)))
         (λ no_v. let none : Contains [] name = rw no_v at at in absurd (none_among name none))
 
     same : (m later : Mention) (name : List ℕ) → Contains (linked_at u m) name → Contains (linked_at u later) name → is_same m later ≡ true
@@ -203,9 +203,9 @@ front_declares earlier = flat_map-append declared_by (map of_module earlier) (de
 pub all_declared_in : (kinds : List CellKind) (earlier : List (List ℕ)) (x : ModuleText) → flat_map declared_by (front_of earlier ++ mentions_of kinds x) ≡ clk ∷ rst ∷ (declared_in x ++ instance_names (instances_in kinds x.items))
 all_declared_in kinds earlier x =
     let later : flat_map declared_by (mentions_of kinds x) ≡ declared_in x ++ instance_names (instances_in kinds x.items) =
-      flat_map-append declared_by (map declares (declared_in x)) (flat_map (item_mentions kinds) x.items)
-      ∙ ap (λ names. names ++ flat_map declared_by (flat_map (item_mentions kinds) x.items)) (all_declared (declared_in x))
-      ∙ ap (λ names. declared_in x ++ names) (items_declare kinds x.items) in
+    flat_map-append declared_by (map declares (declared_in x)) (flat_map (item_mentions kinds) x.items)
+    ∙ ap (λ names. names ++ flat_map declared_by (flat_map (item_mentions kinds) x.items)) (all_declared (declared_in x))
+    ∙ ap (λ names. declared_in x ++ names) (items_declare kinds x.items) in
     flat_map-append declared_by (front_of earlier) (mentions_of kinds x)
     ∙ ap (λ names. names ++ flat_map declared_by (mentions_of kinds x)) (front_declares earlier) ∙ ap (λ names. clk ∷ rst ∷ names) later
 
@@ -261,9 +261,9 @@ module _ (pick : Mention → List (List ℕ)) (no_module : (name : List ℕ) →
   pub picked_in : (kinds : List CellKind) (earlier : List (List ℕ)) (x : ModuleText) → flat_map pick (front_of earlier ++ mentions_of kinds x) ≡ flat_map pick (flat_map (item_mentions kinds) x.items)
   picked_in kinds earlier x =
       let later : flat_map pick (mentions_of kinds x) ≡ flat_map pick (flat_map (item_mentions kinds) x.items) =
-        ap (λ here. here ++ flat_map pick (map declares (declared_in x) ++ flat_map (item_mentions kinds) x.items)) (no_module x.name)
-        ∙ flat_map-append pick (map declares (declared_in x)) (flat_map (item_mentions kinds) x.items)
-        ∙ ap (λ names. names ++ flat_map pick (flat_map (item_mentions kinds) x.items)) (declare_none pick no_declared (declared_in x)) in
+      ap (λ here. here ++ flat_map pick (map declares (declared_in x) ++ flat_map (item_mentions kinds) x.items)) (no_module x.name)
+      ∙ flat_map-append pick (map declares (declared_in x)) (flat_map (item_mentions kinds) x.items)
+      ∙ ap (λ names. names ++ flat_map pick (flat_map (item_mentions kinds) x.items)) (declare_none pick no_declared (declared_in x)) in
       flat_map-append pick (front_of earlier) (mentions_of kinds x) ∙ ap (λ names. names ++ flat_map pick (mentions_of kinds x)) (front_picks earlier) ∙ later
 
   pub items_once : IsSort pick → (kinds : List CellKind) (earlier : List (List ℕ)) (x : ModuleText) → first_again (front_of earlier) (mentions_of kinds x) ≡ None
@@ -294,7 +294,7 @@ pub linked_once : (kinds : List CellKind) (earlier : List (List ℕ)) (x : Modul
 linked_once kinds earlier x e i at =
     let u = i.name in
     let all : AreDistinct (flat_map (λ item. flat_map (linked_at u) (item_mentions kinds item)) x.items) =
-      subst AreDistinct (nested (linked_at u) (item_mentions kinds) x.items) (items_once (linked_at u) (λ name. refl) (λ name. refl) (links_sort u) kinds earlier x e) in
+    subst AreDistinct (nested (linked_at u) (item_mentions kinds) x.items) (items_once (linked_at u) (λ name. refl) (λ name. refl) (links_sort u) kinds earlier x e) in
     subst AreDistinct (own_links (kind_for kinds i) u i.links) (part_distinct (λ item. flat_map (linked_at u) (item_mentions kinds item)) x.items (instance i) all at)
 
 -- ---- names of modules

@@ -72,19 +72,19 @@ numbered : (kinds : List CellKind) (name : List ℕ) (kind : CellKind) → kind_
 numbered [] name kind e = absurd cc
 numbered (first ∷ kinds) name kind e = by_test (bytes_eq first.name name)
     (λ same.
-      let found : kind_named (first ∷ kinds) name ≡ Some first = rw same refl in
-      let here : first ≡ kind = some_same first kind (sym found ∙ e) in
-      let zeroth : kind_number (first ∷ kinds) name ≡ 0 = rw same refl in
-      record { among = (0, omega arith, here); number = omega arith; is_kind = ap (λ k. get_or (first ∷ kinds) k no_kind) zeroth ∙ here })
+    let found : kind_named (first ∷ kinds) name ≡ Some first = rw same refl in
+    let here : first ≡ kind = some_same first kind (sym found ∙ e) in
+    let zeroth : kind_number (first ∷ kinds) name ≡ 0 = rw same refl in
+    record { among = (0, omega arith, here); number = omega arith; is_kind = ap (λ k. get_or (first ∷ kinds) k no_kind) zeroth ∙ here })
     (λ other.
-      let found : kind_named (first ∷ kinds) name ≡ kind_named kinds name = rw other refl in
-      let later = numbered kinds name kind (sym found ∙ e) in
-      let next : kind_number (first ∷ kinds) name ≡ suc (kind_number kinds name) = rw other (omega arith) in
-      record {
-        among = more_among first kind kinds later.among;
-        number = (let h : kind_number kinds name < length kinds = later.number in omega arith);
-        is_kind = ap (λ k. get_or (first ∷ kinds) k no_kind) next ∙ later.is_kind;
-      })
+    let found : kind_named (first ∷ kinds) name ≡ kind_named kinds name = rw other refl in
+    let later = numbered kinds name kind (sym found ∙ e) in
+    let next : kind_number (first ∷ kinds) name ≡ suc (kind_number kinds name) = rw other (omega arith) in
+    record {
+      among = more_among first kind kinds later.among;
+      number = (let h : kind_number kinds name < length kinds = later.number in omega arith);
+      is_kind = ap (λ k. get_or (first ∷ kinds) k no_kind) next ∙ later.is_kind;
+    })
   where
     some_same : (a b : CellKind) → Some a ≡ Some b → a ≡ b
     some_same a b e = cc
@@ -134,9 +134,9 @@ put kinds ports m x once wrong unlinked suit fit = go (kind_named kinds x.kind) 
         let names = names_of kind.inputs ++ names_of kind.outputs in
         let right : AllByRecursion (λ link. wrong_link (is_in (wire_names m)) (is_in (all_names m)) kind link ≡ None) x.links = each_none (wrong_link (is_in (wire_names m)) (is_in (all_names m)) kind) x.links w in
         let none : find (λ port. not (is_in (ports_in x.links) port)) (names_of kind.inputs ++ names_of kind.outputs) ≡ None =
-          subst (λ (k : CellKind). find (λ port. not (is_in (ports_in x.links) port)) (names_of k.inputs ++ names_of k.outputs) ≡ None) is unlinked in
+        subst (λ (k : CellKind). find (λ port. not (is_in (ports_in x.links) port)) (names_of k.inputs ++ names_of k.outputs) ≡ None) is unlinked in
         let widths : not (list_any (λ link. not (suits_port (width_of m) (kind.inputs ++ kind.outputs) link)) x.links) ≡ true =
-          subst (λ (k : CellKind). not (list_any (λ link. not (suits_port (width_of m) (k.inputs ++ k.outputs) link)) x.links) ≡ true) is suit in
+        subst (λ (k : CellKind). not (list_any (λ link. not (suits_port (width_of m) (k.inputs ++ k.outputs) link)) x.links) ≡ true) is suit in
         subst (IsPut kinds m x) (sym is) (record {
           number = n.number;
           is_kind = n.is_kind;
@@ -158,13 +158,13 @@ module _ (kinds : List CellKind) (m : Module) (x : Instantiation) (is : IsPut ki
 
   outputs_linked : AreLinked x.links (kind_for kinds x).outputs
   outputs_linked = each_by (λ port. Contains (ports_in x.links) port.name × IsNamed (operand_to x.links port)) (kind_for kinds x).outputs (λ port at.
-    (is.outputs_linked port at, (each_at (λ o. IsNamed o × IsAmong (wire_names m) o) (map (operand_to x.links) (kind_for kinds x).outputs) (operand_to x.links port) at_outputs (among_map (operand_to x.links) (kind_for kinds x).outputs port at)).0))
+      (is.outputs_linked port at, (each_at (λ o. IsNamed o × IsAmong (wire_names m) o) (map (operand_to x.links) (kind_for kinds x).outputs) (operand_to x.links port) at_outputs (among_map (operand_to x.links) (kind_for kinds x).outputs port at)).0))
 
   pub outputs_are_wires : AllByRecursion (Contains (wire_names m)) (instance_of kinds x).outputs
   outputs_are_wires = each_by (Contains (wire_names m)) (map (name_to x.links) (kind_for kinds x).outputs) (λ name at.
-    let (port, here, same) = from_map (name_to x.links) (kind_for kinds x).outputs name at in
-    let (named, within) = each_at (λ o. IsNamed o × IsAmong (wire_names m) o) (map (operand_to x.links) (kind_for kinds x).outputs) (operand_to x.links port) at_outputs (among_map (operand_to x.links) (kind_for kinds x).outputs port here) in
-    subst (Contains (wire_names m)) same (the_name (operand_to x.links port) named within))
+      let (port, here, same) = from_map (name_to x.links) (kind_for kinds x).outputs name at in
+      let (named, within) = each_at (λ o. IsNamed o × IsAmong (wire_names m) o) (map (operand_to x.links) (kind_for kinds x).outputs) (operand_to x.links port) at_outputs (among_map (operand_to x.links) (kind_for kinds x).outputs port here) in
+      subst (Contains (wire_names m)) same (the_name (operand_to x.links port) named within))
     where
       the_name : (o : Operand) → IsNamed o → IsAmong (wire_names m) o → Contains (wire_names m) (name_in o)
       the_name (operand.Name name) named within = within
@@ -184,11 +184,11 @@ module _ (kinds : List CellKind) (m : Module) (x : Instantiation) (is : IsPut ki
       let all = kind.inputs ++ kind.outputs in
       let distinct : AreDistinct (names_of all) = subst AreDistinct (sym (map-append (λ (port : Port). port.name) kind.inputs kind.outputs)) is.ports_once in
       let inputs : SuitPorts (width_of m) (map (operand_to x.links) kind.inputs) kind.inputs =
-        suit_ports (width_of m) x.links all distinct kind.inputs (λ port at. Contains-append_left kind.inputs kind.outputs port at) is.inputs_linked is.suited in
+      suit_ports (width_of m) x.links all distinct kind.inputs (λ port at. Contains-append_left kind.inputs kind.outputs port at) is.inputs_linked is.suited in
       let outputs : SuitPorts (width_of m) (map (operand_to x.links) kind.outputs) kind.outputs =
-        suit_ports (width_of m) x.links all distinct kind.outputs (λ port at. Contains-append_right kind.inputs kind.outputs port at) is.outputs_linked is.suited in
+      suit_ports (width_of m) x.links all distinct kind.outputs (λ port at. Contains-append_right kind.inputs kind.outputs port at) is.outputs_linked is.suited in
       let named : SuitPorts (width_of m) (map operand.Name (map (name_to x.links) kind.outputs)) kind.outputs =
-        subst (λ os. SuitPorts (width_of m) os kind.outputs) (sym (named_back x.links kind.outputs outputs_linked)) outputs in
+      subst (λ os. SuitPorts (width_of m) os kind.outputs) (sym (named_back x.links kind.outputs outputs_linked)) outputs in
       record {
         kind = is.number;
         inputs = subst (λ (k : CellKind). SuitPorts (width_of m) (map (operand_to x.links) kind.inputs) k.inputs) (sym is.is_kind) inputs;
@@ -207,11 +207,11 @@ IsGood kinds m (instance x) = IsPut kinds m x (kind_for kinds x)
 good_drive : (m : Module) (d : Drive) → wrong_drive (is_in (wire_names m)) (is_in (all_names m)) d ≡ None → Contains (wire_names m) d.target × EachOperand (IsAmong (all_names m)) d.operation
 good_drive m d e = by_test (is_in (wire_names m) d.target)
     (λ there.
-      let same : wrong_drive (is_in (wire_names m)) (is_in (all_names m)) d ≡ first_some (wrong_operand (is_in (all_names m))) (operands_of d.operation) = rw there refl in (
-        is_there d.target (wire_names m) there,
-        each_operand (IsAmong (all_names m)) d.operation
-        (all_as (operands_of d.operation) (right_operand (all_names m)) (each_none (wrong_operand (is_in (all_names m))) (operands_of d.operation) (sym same ∙ e))),
-      ))
+    let same : wrong_drive (is_in (wire_names m)) (is_in (all_names m)) d ≡ first_some (wrong_operand (is_in (all_names m))) (operands_of d.operation) = rw there refl in (
+      is_there d.target (wire_names m) there,
+      each_operand (IsAmong (all_names m)) d.operation
+          (all_as (operands_of d.operation) (right_operand (all_names m)) (each_none (wrong_operand (is_in (all_names m))) (operands_of d.operation) (sym same ∙ e))),
+    ))
     (λ other. let same : wrong_drive (is_in (wire_names m)) (is_in (all_names m)) d ≡ Some d.target = rw other refl in absurd cc)
 
 good_step : (m : Module) (s : Step) → (if is_in (names_of m.registers) s.register then wrong_operand (is_in (all_names m)) s.next else Some s.register) ≡ None
@@ -294,8 +294,8 @@ module _ (kinds : List CellKind) (m : Module) where
   link_known known earlier x k is e link at here =
       let test : is_input_of (kind_for kinds x) link.port ≡ true = is_found link.port (names_of (kind_for kinds x).inputs) here in
       let early : (is_input_of (kind_for kinds x) link.port && is_early (is_in (wire_names m)) (is_in earlier) link.operand) ≡ false =
-        each_at (λ link. is_early_link (is_in (wire_names m)) (is_in earlier) (kind_for kinds x) link ≡ false) x.links link
-        (none_of (is_early_link (is_in (wire_names m)) (is_in earlier) (kind_for kinds x)) x.links e) at in
+      each_at (λ link. is_early_link (is_in (wire_names m)) (is_in earlier) (kind_for kinds x) link ≡ false) x.links link
+      (none_of (is_early_link (is_in (wire_names m)) (is_in earlier) (kind_for kinds x)) x.links e) at in
       known_operand (all_names m) (wire_names m) (given_names m) known earlier link.operand k (is.inputs_read link at here) (rw test at early)
 
   go_on : (item : Item) (test : Bool) (later : Option (List ℕ)) → (if test then Some (target_of item) else later) ≡ None → (test ≡ false) × (later ≡ None)
@@ -317,7 +317,7 @@ module _ (kinds : List CellKind) (m : Module) where
   items_in_order (step width s ∷ items) known earlier k good e =
       items_in_order items known (earlier ++ s.register ∷ [])
       (known_more (all_names m) (wire_names m) (given_names m) known known earlier (s.register ∷ []) k (λ n c. c) (λ n c.
-        k.first n (Contains-append_right (names_of m.inputs) (names_of m.registers) n (subst (Contains (names_of m.registers)) (only s.register n c) good.0.0)))) good.1 e
+      k.first n (Contains-append_right (names_of m.inputs) (names_of m.registers) n (subst (Contains (names_of m.registers)) (only s.register n c) good.0.0)))) good.1 e
     where
       only : (a n : List ℕ) → Contains (a ∷ []) n → a ≡ n
       only a n c = elim (among_cases a n [] c) [
@@ -330,10 +330,10 @@ module _ (kinds : List CellKind) (m : Module) where
       let (early, later) = go_on (instance x) (list_any (is_early_link (is_in (wire_names m)) (is_in earlier) (kind_for kinds x)) x.links) (first_early kinds (is_in (wire_names m)) (earlier ++ own) items) e in (
         All-from_recursion (IsAmong known) (instance_of kinds x).inputs (inputs_may kinds m x good.0 (IsAmong known) (link_known known earlier x k good.0 early)),
         items_in_order items (known ++ outputs) (earlier ++ own)
-        (known_more (all_names m) (wire_names m) (given_names m) known (known ++ outputs) earlier own k (λ n c. Contains-append_left known outputs n c) (λ n c.
-          let same = driven_same kinds m x good.0 n in
-          let there = stands n own c in
-          Contains-append_right known outputs n (counted n outputs (omega arith)))) good.1 later,
+            (known_more (all_names m) (wire_names m) (given_names m) known (known ++ outputs) earlier own k (λ n c. Contains-append_left known outputs n c) (λ n c.
+            let same = driven_same kinds m x good.0 n in
+            let there = stands n own c in
+            Contains-append_right known outputs n (counted n outputs (omega arith)))) good.1 later,
       )
 
 -- ---- the declarations of a module
@@ -370,13 +370,13 @@ count_names name x =
 -- and with others behind them
 pub names_moved : (x : ModuleText) (front more : List (List ℕ)) → AreDistinct (front ++ (declared_in x ++ more)) → AreDistinct (front ++ (all_names (module_of x) ++ more))
 names_moved x front more distinct = distinct_by (front ++ (all_names (module_of x) ++ more)) (λ name.
-  let same = count_names name x in
-  let a = count_joined name front (all_names (module_of x) ++ more) in
-  let b = count_joined name (all_names (module_of x)) more in
-  let c = count_joined name front (declared_in x ++ more) in
-  let d = count_joined name (declared_in x) more in
-  let most = at_most_once (front ++ (declared_in x ++ more)) name distinct in
-  omega arith)
+    let same = count_names name x in
+    let a = count_joined name front (all_names (module_of x) ++ more) in
+    let b = count_joined name (all_names (module_of x)) more in
+    let c = count_joined name front (declared_in x ++ more) in
+    let d = count_joined name (declared_in x) more in
+    let most = at_most_once (front ++ (declared_in x ++ more)) name distinct in
+    omega arith)
 
 -- ---- the module
 
@@ -399,21 +399,21 @@ module _ (kinds : List CellKind) (ports : HavePorts kinds) (earlier : List (List
 
   good : AllByRecursion (IsGood kinds own) x.items
   good = each_by (IsGood kinds own) x.items (λ item at.
-    good_item kinds ports own item (λ i is. linked_once kinds earlier x rows.once i (subst (Contains x.items) is at)) (record {
-      right = each_at (λ item. wrong_in kinds (is_in (wire_names own)) (is_in (names_of own.registers)) (is_in (all_names own)) item ≡ None) x.items item
-          (each_none (wrong_in kinds (is_in (wire_names own)) (is_in (names_of own.registers)) (is_in (all_names own))) x.items rows.named_right) at;
-      linked = each_at (λ item. unlinked_in kinds item ≡ None) x.items item (each_none (unlinked_in kinds) x.items undriven.1) at;
-      suited = each_at (λ item. suits kinds (width_of own) item ≡ true) x.items item suited at;
-      fit = each_at IsFit x.items item fit at;
-    }))
+      good_item kinds ports own item (λ i is. linked_once kinds earlier x rows.once i (subst (Contains x.items) is at)) (record {
+        right = each_at (λ item. wrong_in kinds (is_in (wire_names own)) (is_in (names_of own.registers)) (is_in (all_names own)) item ≡ None) x.items item
+            (each_none (wrong_in kinds (is_in (wire_names own)) (is_in (names_of own.registers)) (is_in (all_names own))) x.items rows.named_right) at;
+        linked = each_at (λ item. unlinked_in kinds item ≡ None) x.items item (each_none (unlinked_in kinds) x.items undriven.1) at;
+        suited = each_at (λ item. suits kinds (width_of own) item ≡ true) x.items item suited at;
+        fit = each_at IsFit x.items item fit at;
+      }))
 
   driven_apart : AreDistinct (linked_names instances ++ (targets_of (drives_of x.items) ++ registers_of (steps_of x.items)))
   driven_apart = distinct_by (linked_names instances ++ (targets_of (drives_of x.items) ++ registers_of (steps_of x.items))) (λ name.
-    let same = count_items kinds own name x.items good in
-    let a = count_joined name (linked_names instances) (targets_of (drives_of x.items) ++ registers_of (steps_of x.items)) in
-    let b = count_joined name (targets_of (drives_of x.items)) (registers_of (steps_of x.items)) in
-    let most = at_most_once (driven_names kinds x.items) name (driven_once kinds earlier x rows.once) in
-    omega arith)
+      let same = count_items kinds own name x.items good in
+      let a = count_joined name (linked_names instances) (targets_of (drives_of x.items) ++ registers_of (steps_of x.items)) in
+      let b = count_joined name (targets_of (drives_of x.items)) (registers_of (steps_of x.items)) in
+      let most = at_most_once (driven_names kinds x.items) name (driven_once kinds earlier x rows.once) in
+      omega arith)
 
   links_wires : AllByRecursion (Contains (wire_names own)) (linked_names instances)
   links_wires = linked_all (Contains (wire_names own)) instances (instances_all kinds (IsGood kinds own) (λ i. AllByRecursion (Contains (wire_names own)) i.outputs) x.items (λ i put. outputs_are_wires kinds own i put) good)
@@ -435,7 +435,7 @@ module _ (kinds : List CellKind) (ports : HavePorts kinds) (earlier : List (List
   driven : (n : List ℕ) → Contains (names_of x.outputs ++ declared_names x.declarations) n → Contains (linked_names instances ++ targets_of (drives_of x.items)) n ⊎ Contains (registers_of (steps_of x.items)) n
   driven n c =
       let there : Contains (driven_names kinds x.items) n = is_there n (driven_names kinds x.items)
-        (each_at (λ n. is_in (driven_names kinds x.items) n ≡ true) (names_of x.outputs ++ declared_names x.declarations) n (each_fails (is_in (driven_names kinds x.items)) (names_of x.outputs ++ declared_names x.declarations) undriven.0) c) in
+      (each_at (λ n. is_in (driven_names kinds x.items) n ≡ true) (names_of x.outputs ++ declared_names x.declarations) n (each_fails (is_in (driven_names kinds x.items)) (names_of x.outputs ++ declared_names x.declarations) undriven.0) c) in
       let same = count_items kinds own n x.items good in
       let one = stands n (driven_names kinds x.items) there in
       let a = count_joined n (linked_names instances) (targets_of (drives_of x.items)) in

@@ -202,7 +202,7 @@ instance_back plan modules i at =
     let inputs : AreDistinct (names_of kind.inputs) = front_distinct (names_of kind.inputs) [] (front_distinct (names_of kind.inputs ++ []) (names_of kind.outputs ++ names_of kind.wires) names) in
     let outputs : AreDistinct (names_of kind.outputs) = front_distinct (names_of kind.outputs) (names_of kind.wires) (rest_distinct (names_of kind.inputs ++ []) (names_of kind.outputs ++ names_of kind.wires) names) in
     let none : (name : List ℕ) → Contains (names_of kind.inputs) name → Contains (names_of kind.outputs) name → ⊥ = λ name a b.
-      apart (names_of kind.inputs ++ []) (names_of kind.outputs ++ names_of kind.wires) name names (Contains-append_left (names_of kind.inputs) [] name a) (Contains-append_left (names_of kind.outputs) (names_of kind.wires) name b) in
+    apart (names_of kind.inputs ++ []) (names_of kind.outputs ++ names_of kind.wires) name names (Contains-append_left (names_of kind.inputs) [] name a) (Contains-append_left (names_of kind.outputs) (names_of kind.wires) name b) in
     let a = operands_back (width_of plan.top) kind.inputs i.inputs (links_said kind.outputs (map Name i.outputs)) inputs placed.inputs in
     let b = all_passed kind.inputs i.inputs (links_said kind.outputs (map Name i.outputs)) kind.outputs none ∙ names_back (width_of plan.top) kind.outputs i.outputs outputs placed.outputs in
     rw (named, number, a, b) refl
@@ -295,13 +295,13 @@ flat_of_said plan modules =
     let d = all_drives K (written_width plan.top) plan.top.drives in
     let s = all_steps K plan.top.registers plan.top.steps in
     let instances : instances_in K (I ++ D ++ S) ≡ plan.instances =
-      instances_joined K (I ++ D) S ∙ ap (λ xs. instances_in K (I ++ D) ++ xs) s.0 ∙ append-nil (instances_in K (I ++ D))
-      ∙ instances_joined K I D ∙ ap (λ xs. instances_in K I ++ xs) d.0 ∙ append-nil (instances_in K I) ∙ i.0 in
+    instances_joined K (I ++ D) S ∙ ap (λ xs. instances_in K (I ++ D) ++ xs) s.0 ∙ append-nil (instances_in K (I ++ D))
+    ∙ instances_joined K I D ∙ ap (λ xs. instances_in K I ++ xs) d.0 ∙ append-nil (instances_in K I) ∙ i.0 in
     let drives : flat_drives K (I ++ D ++ S) ≡ flat_map (instance_drives K) plan.instances ++ plan.top.drives =
-      flat_joined K (I ++ D) S ∙ ap (λ xs. flat_drives K (I ++ D) ++ xs) s.1 ∙ append-nil (flat_drives K (I ++ D))
-      ∙ flat_joined K I D ∙ ap (λ xs. flat_drives K I ++ xs) d.1 ∙ ap (λ xs. xs ++ plan.top.drives) i.1 in
+    flat_joined K (I ++ D) S ∙ ap (λ xs. flat_drives K (I ++ D) ++ xs) s.1 ∙ append-nil (flat_drives K (I ++ D))
+    ∙ flat_joined K I D ∙ ap (λ xs. flat_drives K I ++ xs) d.1 ∙ ap (λ xs. xs ++ plan.top.drives) i.1 in
     let steps : steps_of (I ++ D ++ S) ≡ plan.top.steps =
-      steps_joined (I ++ D) S ∙ ap (λ xs. xs ++ steps_of S) (steps_joined I D ∙ ap (λ xs. xs ++ steps_of D) i.2 ∙ d.2) ∙ s.2 in
+    steps_joined (I ++ D) S ∙ ap (λ xs. xs ++ steps_of S) (steps_joined I D ∙ ap (λ xs. xs ++ steps_of D) i.2 ∙ d.2) ∙ s.2 in
     let wires : wires_of (map wire plan.top.wires ++ map register plan.top.registers) ≡ plan.top.wires = wires_back plan.top.wires plan.top.registers in
     let registers : registers_in (map wire plan.top.wires ++ map register plan.top.registers) ≡ plan.top.registers = registers_back plan.top.wires plan.top.registers in
     rw (kinds, instances, drives, steps, wires, registers) refl

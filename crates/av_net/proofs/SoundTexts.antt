@@ -135,8 +135,8 @@ sound_kind kinds ports earlier x is rows =
     let names : AreDistinct (clk ∷ rst ∷ (declared_in x ++ instance_names (instances_in kinds x.items))) = declared_once kinds earlier x rows.once in
     let no_parts : part_names kinds (instances_in kinds x.items) ≡ [] = ap (part_names kinds) none in
     let all : AreDistinct (clk ∷ rst ∷ (declared_in x ++ (instance_names (instances_in kinds x.items) ++ part_names kinds (instances_in kinds x.items)))) =
-      subst (λ (parts : List (List ℕ)). AreDistinct (clk ∷ rst ∷ (declared_in x ++ (instance_names (instances_in kinds x.items) ++ parts)))) (sym no_parts)
-      (subst (λ (own : List (List ℕ)). AreDistinct (clk ∷ rst ∷ (declared_in x ++ own))) (sym (append-nil (instance_names (instances_in kinds x.items)))) names) in
+    subst (λ (parts : List (List ℕ)). AreDistinct (clk ∷ rst ∷ (declared_in x ++ (instance_names (instances_in kinds x.items) ++ parts)))) (sym no_parts)
+    (subst (λ (own : List (List ℕ)). AreDistinct (clk ∷ rst ∷ (declared_in x ++ own))) (sym (append-nil (instance_names (instances_in kinds x.items)))) names) in
     let made : IsMadeTop kinds (module_of x) [] = subst (IsMadeTop kinds (module_of x)) none (made_module kinds ports earlier x rows is.fit all) in
     let order : IsInOrder (given_names (module_of x)) (drives_of x.items) = plain_order kinds (given_names (module_of x)) x.items is.plain (module_order kinds ports earlier x rows is.fit) in
     let same : module_of x ≡ kind_module (kind_from x) = (let r = is.registers in let s = is.steps in rw (r, s) refl) in
@@ -188,13 +188,13 @@ module _ (x : Text) (h : HasNoRow x) where
       let names : AreDistinct (top_names x) = declared_once (kinds_of x) before x.top rows.once in
       let parts : AreDistinct (top_names x ++ part_names (kinds_of x) I) = none_repeated (top_names x) (part_names (kinds_of x) I) names twice.1 in
       let all : AreDistinct (clk ∷ rst ∷ (declared_in x.top ++ (instance_names I ++ part_names (kinds_of x) I))) =
-        subst (λ (names : List (List ℕ)). AreDistinct (clk ∷ rst ∷ names)) (append_assoc (declared_in x.top) (instance_names I) (part_names (kinds_of x) I)) parts in
+      subst (λ (names : List (List ℕ)). AreDistinct (clk ∷ rst ∷ names)) (append_assoc (declared_in x.top) (instance_names I) (part_names (kinds_of x) I)) parts in
       record {
         named_once = subst AreDistinct modules_named modules_once.names;
         kinds = all_by (λ kind. IsSound (kind_module kind)) (kinds_of x) (λ kind at.
-          let (k, here, same) = from_map kind_from x.kinds kind at in
-          let (behind, own) = rows_of k (of_kind k here) in
-          subst (λ (kind : CellKind). IsSound (kind_module kind)) same (sound_kind (kinds_of x) ports behind k (each_at IsPlainKind x.kinds k plain here) own));
+            let (k, here, same) = from_map kind_from x.kinds kind at in
+            let (behind, own) = rows_of k (of_kind k here) in
+            subst (λ (kind : CellKind). IsSound (kind_module kind)) same (sound_kind (kinds_of x) ports behind k (each_at IsPlainKind x.kinds k plain here) own));
         top = made_module (kinds_of x) ports before x.top rows fit all;
       }
     where

@@ -163,7 +163,7 @@ kind_with {ts = ts} {a = a} {b = b} {c = c} {d = d} {e = e} {called = called} {i
 }
 
 -- an output is no clock
-output_first : {c d : List Token} → IsWordAt (codes "output") c d → IsClockFirst c → ⊥
+pub output_first : {c d : List Token} → IsWordAt (codes "output") c d → IsClockFirst c → ⊥
 output_first w first = true≢false (sym (word_there first.input).0 ∙ other_there w (codes "input") refl)
 
 -- nor is an input with another name

@@ -38,3 +38,6 @@ pub mod BeginningLists
 pub mod BeginningItems
 pub mod BeginningPorts
 pub mod BeginningTexts
+pub mod FreshMentions
+pub mod SaidLinks
+pub mod Spelled

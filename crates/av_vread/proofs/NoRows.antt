@@ -281,7 +281,7 @@ instances_no_drives : (kinds : List CellKind) (is : List Instance) → (drives_o
 instances_no_drives kinds [] = (refl, refl)
 instances_no_drives kinds (i ∷ is) = instances_no_drives kinds is
 
-drives_back : (kinds : List CellKind) (widths : Widths) (registers : List Port) (is : List Instance) (ds : List Drive) (ss : List Step)
+pub drives_back : (kinds : List CellKind) (widths : Widths) (registers : List Port) (is : List Instance) (ds : List Drive) (ss : List Step)
     → drives_of (map (λ i. instance (instance_said kinds i)) is ++ map (drive_said widths) ds ++ map (step_said registers) ss) ≡ ds
 drives_back kinds widths registers is ds ss =
     let I = map (λ i. instance (instance_said kinds i)) is in
@@ -290,7 +290,7 @@ drives_back kinds widths registers is ds ss =
     drives_joined (I ++ D) S ∙ ap (λ xs. drives_of (I ++ D) ++ xs) (no_drives registers ss) ∙ append-nil (drives_of (I ++ D)) ∙ drives_joined I D
     ∙ ap (λ xs. xs ++ drives_of D) (instances_no_drives kinds is).0 ∙ drives_said widths ds
 
-steps_back : (kinds : List CellKind) (widths : Widths) (registers : List Port) (is : List Instance) (ds : List Drive) (ss : List Step)
+pub steps_back : (kinds : List CellKind) (widths : Widths) (registers : List Port) (is : List Instance) (ds : List Drive) (ss : List Step)
     → steps_of (map (λ i. instance (instance_said kinds i)) is ++ map (drive_said widths) ds ++ map (step_said registers) ss) ≡ ss
 steps_back kinds widths registers is ds ss =
     let I = map (λ i. instance (instance_said kinds i)) is in

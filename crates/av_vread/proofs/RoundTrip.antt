@@ -133,7 +133,7 @@ read_back d sound =
     let same : flat_of plan ≡ d = ap (λ m. designed d.listing m) (alone_flat d.listing d.«module») in
     subst (Spells (text d)) same (subst (λ z. Spells z (flat_of plan)) (sym (design_told d)) (told_spells (codes "// alphav 1") version_comment plan (design_plan d sound)))
   where
-    abbrev designed : Listing → Module → Design
+    designed : Listing → Module → Design
     designed listing m = record { listing = listing; «module» = m }
 
 pub one_text : (a b : Design) → IsSoundDesign a → IsSoundDesign b → text a ≡ text b → a ≡ b

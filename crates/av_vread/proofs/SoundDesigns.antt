@@ -72,18 +72,16 @@ kind_item_bits no_more = tt
 kind_item_bits (one_more (kind_assignment d) many) = (drive_bits d, kind_item_bits many)
 kind_item_bits (one_more (kind_wide_assignment d) many) = (wide_drive_bits d, kind_item_bits many)
 
-HaveBits : ModuleText → Type 0
+abbrev HaveBits : ModuleText → Type 0
 HaveBits x = AllByRecursion DriveHasBits (drives_of x.items)
 
 kinds_bits : {ts rest : List Token} {xs : List ModuleText} → AreMany IsKind ts rest xs → AllByRecursion HaveBits xs
-unfolding HaveBits
 kinds_bits no_more = tt
 kinds_bits (one_more k many) = (kind_item_bits k.items, kinds_bits many)
 
 -- ---- modules
 
 module_spelled : (x : ModuleText) → IsModuleNamed x → HaveBits x → HasSpelling (module_of x)
-unfolding HaveBits
 module_spelled x named bits = record {
   module_name = named.own;
   names = all_have_names x named;
@@ -99,9 +97,9 @@ kind_spelled x named bits r s =
     subst HasSpelling same (module_spelled x named bits)
 
 kinds_spelled : (xs : List ModuleText) → AllByRecursion IsModuleNamed xs → AllByRecursion HaveBits xs → AllByRecursion IsPlainKind xs → (kind : CellKind) → Contains (map kind_from xs) kind → HasSpelling (kind_module kind)
-kinds_spelled xs named bits plain kind at =
+kinds_spelled xs named bits all kind at =
     let (x, here, same) = from_map kind_from xs kind at in
-    let is = each_at IsPlainKind xs x plain here in
+    let is = each_at IsPlainKind xs x all here in
     subst (λ kind. HasSpelling (kind_module kind)) same
     (kind_spelled x (each_at IsModuleNamed xs x named here) (each_at HaveBits xs x bits here) is.registers is.steps)
 
@@ -117,12 +115,12 @@ spelled_sound bytes design s =
     let x = s.said in
     let t = s.says.parsed in
     let named = text_named t (tokens_named s.says.lexed) in
-    let plain = plain_kinds t.kinds in
+    let all = plain_kinds t.kinds in
     let bits = item_bits t.top.items in
-    let parts = text_parts x s.no_row plain (fit_items t.top.items) in
+    let parts = text_parts x s.no_row all (fit_items t.top.items) in
     let flat = text_spelling x parts (record {
-      kinds = all_by (λ kind. HasSpelling (kind_module kind)) (kinds_of x) (kinds_spelled x.kinds named.kinds (kinds_bits t.kinds) plain);
-      top = top_spelled x.top named.top bits;
+      kinds = all_by (λ kind. HasSpelling (kind_module kind)) (kinds_of x) (kinds_spelled x.kinds named.kinds (kinds_bits t.kinds) all);
+      top = module_spelled x.top named.top bits;
       instance_names = instances_named (kinds_of x) x.top.items named.instances;
       instance_literals = all_by (λ (i : Instance). All HasWidth i.inputs) (instances_in (kinds_of x) x.top.items) (λ i at. all_by HasWidth i.inputs (λ o there. has_width o));
     }) in
@@ -138,7 +136,3 @@ spelled_sound bytes design s =
       ins = s.lists.ins;
       ats = listed_wires (plan_of x) design.listing.ats s.lists.ats;
     })
-  where
-    top_spelled : (x : ModuleText) → IsModuleNamed x → AllByRecursion DriveHasBits (drives_of x.items) → HasSpelling (module_of x)
-    unfolding HaveBits
-    top_spelled x named bits = module_spelled x named bits

@@ -1,29 +1,38 @@
 -- A design whose parts are spelled is sound, or its own text has a first fault.
-use Rattle.std.proofs.Common.{◌≡◌, ℕ, List, ◌++◌, map, ap, subst, ◌∙◌, inl, inr, ◌⊎◌}
-use Rattle.std.specs.Prelude.{All, Contains}
-use Rattle.std.proofs.lemmas.List.Elements.{All-from_recursion, recursion_from_All, All-contains_itself, All-weaker, All-append, All-map, Contains-append_left, Contains-append_right}
+use Rattle.std.proofs.Common.{◌≡◌, ℕ, List, [], ◌∷◌, ◌++◌, map, refl, sym, ap, subst, ◌∙◌, inl, inr, ◌⊎◌}
+use Rattle.std.specs.Prelude.{All, Contains, codes}
+use Rattle.std.proofs.lemmas.List.Elements.{All-from_recursion, recursion_from_All, All-contains_itself, All-weaker, All-append, All-map, All-nil, Contains-append_left, Contains-append_right}
+use Rattle.av_net.specs.declared.operation.Operation.{Operation}
+use Rattle.av_net.specs.declared.operation.Operation.TheVariants.{Plain, Binary, Signed, Choose, Part, Widen}
+use Rattle.av_net.specs.declared.netlist.Port.{Port}
+use Rattle.av_net.specs.declared.netlist.Drive.{Drive}
+use Rattle.av_net.specs.declared.netlist.Step.{Step}
 use Rattle.av_net.specs.declared.netlist.Module.{Module}
 use Rattle.av_net.specs.declared.design.Entry.{Entry}
 use Rattle.av_net.specs.declared.design.Listing.{Listing}
 use Rattle.av_net.specs.declared.design.Design.{Design}
+use Rattle.av_net.specs.declared.plan.Plan.{Plan}
+use Rattle.av_net.specs.Meaning.{Widths}
 use Rattle.av_net.specs.Names.{names_of, wire_names}
 use Rattle.av_net.specs.Lexemes.{IsName}
+use Rattle.av_net.specs.Grammar.{Item, wire, register}
 use Rattle.av_net.specs.Listed.{Line, listing_lines, MayBeListed, IsListing}
-use Rattle.av_net.specs.Rows.{module_of}
-use Rattle.av_net.specs.Texts.{text}
-use Rattle.av_net.specs.Designs.{Spells, IsSoundDesign}
+use Rattle.av_net.specs.Rows.{wires_of, registers_in, drives_of, steps_of, module_of, flat_text}
+use Rattle.av_net.specs.Texts.{written_width, text}
+use Rattle.av_net.specs.Designs.{Says, Spells, IsSoundDesign}
+use Rattle.av_net.proofs.Alone.{alone}
+use Rattle.av_net.proofs.Said.{said_by, drive_said, step_said, top_said, plan_said, wires_back, registers_back, ArePlain, plain_flat}
 use Rattle.av_vread.specs.declared.fault.VFault.{VFault}
 use Rattle.av_vread.specs.Faults.{IsFault}
-use Rattle.av_vread.specs.SpelledParts.{IsEntrySpelled, HasSpelledParts}
+use Rattle.av_vread.specs.SpelledParts.{IsEntrySpelled, HasSpelledParts, IsPlanSpelled}
 use Rattle.av_vread.proofs.Each.{all_unmap, both_all}
-use Rattle.av_vread.proofs.NamesSpelled.{tokens_named, text_named, are_words}
+use Rattle.av_vread.proofs.NamesSpelled.{tokens_named, text_named, input_names, wires_have_names, are_words}
 use Rattle.av_vread.proofs.ListingLines.{texts_of, one_listing}
 use Rattle.av_vread.proofs.Faulted.{one_said, either, not_both}
 use Rattle.av_vread.proofs.SoundDesigns.{spelled_sound}
-use Rattle.av_vread.proofs.WrittenGrammar.{said}
-use Rattle.av_vread.proofs.WrittenListing.{entry_lines}
-use Rattle.av_vread.proofs.NoRows.{module_said}
-use Rattle.av_vread.proofs.RoundTrip.{module_line, says, lines_told, read_back}
+use Rattle.av_vread.proofs.WrittenListing.{entry_lines, version_comment}
+use Rattle.av_vread.proofs.NoRows.{drives_back, steps_back}
+use Rattle.av_vread.proofs.RoundTrip.{module_line, says, lines_told, design_told, read_back}
 
 -- ---- entries, at the wires that they name
 
@@ -59,20 +68,67 @@ same_listing ports wires lines a b p w h e ins ats =
     (record { spelled = h.spelled; ins = at_more ports (own_wires b.ins) a.ins h.ins; ats = at_more wires (own_wires b.ats) a.ats h.ats })
     (record { spelled = e; ins = at_own ports b.ins ins; ats = at_own wires b.ats ats })
 
+-- ---- a design as a plan, be it sound or not
+
+plain_steps : (registers : List Port) (ss : List Step) → ArePlain (map (step_said registers) ss)
+plain_steps registers [] = tt
+plain_steps registers (s ∷ ss) = plain_steps registers ss
+
+plain_drive : (widths : Widths) (d : Drive) (o : Operation) (items : List Item) → ArePlain items → ArePlain (said_by widths d o ∷ items)
+plain_drive widths d (Plain a) items h = h
+plain_drive widths d (Binary a symbol b) items h = h
+plain_drive widths d (Signed a symbol b) items h = h
+plain_drive widths d (Choose a b c) items h = h
+plain_drive widths d (Part name high low) items h = h
+plain_drive widths d (Widen name by) items h = h
+
+plain_items : (widths : Widths) (registers : List Port) (ds : List Drive) (ss : List Step) → ArePlain (map (drive_said widths) ds ++ map (step_said registers) ss)
+plain_items widths registers [] ss = plain_steps registers ss
+plain_items widths registers (d ∷ ds) ss = plain_drive widths d d.operation (map (drive_said widths) ds ++ map (step_said registers) ss) (plain_items widths registers ds ss)
+
+module_back : (listing : Listing) (m : Module) → module_of (top_said (alone listing m)) ≡ m
+module_back listing m =
+    let widths = written_width m in
+    let w : wires_of (map wire m.wires ++ map register m.registers) ≡ m.wires = wires_back m.wires m.registers in
+    let r : registers_in (map wire m.wires ++ map register m.registers) ≡ m.registers = registers_back m.wires m.registers in
+    let d : drives_of (map (drive_said widths) m.drives ++ map (step_said m.registers) m.steps) ≡ m.drives = drives_back [] widths m.registers [] m.drives m.steps in
+    let s : steps_of (map (drive_said widths) m.drives ++ map (step_said m.registers) m.steps) ≡ m.steps = steps_back [] widths m.registers [] m.drives m.steps in
+    rw (w, r, d, s) refl
+
+alone_said : (listing : Listing) (m : Module) → flat_text (plan_said (alone listing m)) ≡ m
+alone_said listing m = plain_flat (plan_said (alone listing m)) (plain_items (written_width m) m.registers m.drives m.steps) ∙ module_back listing m
+
 -- ---- what the text of a design spells is that design
 
 module _ (d other : Design) (spelled : HasSpelledParts d) (s : Spells (text d) other) where
-  same : (s.said ≡ said d.«module») × (s.line ≡ module_line d spelled)
-  same = one_said (text d) s.said (said d.«module») s.line (module_line d spelled) s.says (says d spelled)
+  abbrev plan : Plan
+  plan = alone d.listing d.«module»
+
+  parts : IsPlanSpelled plan
+  parts = record { kinds = All-nil _; top = spelled.of_module; instances = All-nil _; ins = spelled.ins; ats = spelled.ats }
+
+  line : ℕ
+  line = module_line (codes "// alphav 1") version_comment plan parts
+
+  text_says : Says (text d) (plan_said plan) line
+  unfolding line
+  text_says = subst (λ z. Says z (plan_said plan) line) (sym (design_told d)) (says (codes "// alphav 1") version_comment plan parts)
+
+  same : (s.said ≡ plan_said plan) × (s.line ≡ line)
+  same = one_said (text d) s.said (plan_said plan) s.line line s.says text_says
 
   modules : other.«module» ≡ d.«module»
-  modules = s.is_module ∙ ap module_of same.0 ∙ module_said d.«module»
+  modules = s.is_flat ∙ ap flat_text same.0 ∙ alone_said d.listing d.«module»
+
+  own_lines : texts_of (listing_lines (text d) line) ≡ entry_lines d.listing
+  unfolding line
+  own_lines = ap (λ z. texts_of (listing_lines z line)) (design_told d) ∙ lines_told (codes "// alphav 1") version_comment plan parts
 
   listings : other.listing ≡ d.listing
   listings =
       let named = text_named s.says.parsed (tokens_named s.says.lexed) in
-      same_listing (names_of s.said.inputs) (wire_names (module_of s.said)) (listing_lines (text d) s.line) other.listing d.listing named.inputs named.wires s.lists
-      (ap (λ n. texts_of (listing_lines (text d) n)) same.1 ∙ lines_told d spelled) spelled.ins spelled.ats
+      same_listing (names_of s.said.top.inputs) (wire_names (module_of s.said.top)) (listing_lines (text d) s.line) other.listing d.listing
+      (input_names s.said.top named.top) (wires_have_names s.said.top named.top) s.lists (ap (λ n. texts_of (listing_lines (text d) n)) same.1 ∙ own_lines) spelled.ins spelled.ats
 
   abbrev designed : Listing → Module → Design
   designed listing m = record { listing = listing; «module» = m }

@@ -188,18 +188,18 @@ none_more : (ws : List Written) → bytes_of (links_onto [] ws) ≡ behind_comma
 none_more ws = refl
 
 -- and all of them
+others_bytes : (others : List Port) (names : List Operand) (ws : List Written) → bytes_of (all_links_onto (links_said others names) ws) ≡ joined (link_texts others names) ++ bytes_of ws
+others_bytes [] names ws = refl
+others_bytes (port ∷ others) [] ws = refl
+others_bytes (port ∷ others) (o ∷ names) ws =
+    link_bytes port o [] (links_onto (links_said others names) ws)
+    ∙ ap (λ z. link_text port o ++ z) (ap (λ z. bytes_of (links_onto z ws)) (sym (append-nil (links_said others names))) ∙ links_bytes others names [] [] ws refl ∙ ap (λ z. behind_commas z ++ bytes_of ws) (append-nil (link_texts others names)))
+    ∙ sym (append_assoc (link_text port o) (behind_commas (link_texts others names)) (bytes_of ws))
+
 all_links_bytes : (ports : List Port) (operands : List Operand) (others : List Port) (names : List Operand) (ws : List Written)
     → bytes_of (all_links_onto (links_said ports operands ++ links_said others names) ws) ≡ joined (link_texts ports operands ++ link_texts others names) ++ bytes_of ws
-all_links_bytes [] operands others names ws = first others names
-  where
-    first : (others : List Port) (names : List Operand) → bytes_of (all_links_onto (links_said others names) ws) ≡ joined (link_texts others names) ++ bytes_of ws
-    first [] names = refl
-    first (port ∷ others) [] = refl
-    first (port ∷ others) (o ∷ names) =
-        link_bytes port o [] (links_onto (links_said others names) ws)
-        ∙ ap (λ z. link_text port o ++ z) (ap (λ z. bytes_of (links_onto z ws)) (sym (append-nil (links_said others names))) ∙ links_bytes others names [] [] ws refl ∙ ap (λ z. behind_commas z ++ bytes_of ws) (append-nil (link_texts others names)))
-        ∙ sym (append_assoc (link_text port o) (behind_commas (link_texts others names)) (bytes_of ws))
-all_links_bytes (port ∷ ports) [] others names ws = all_links_bytes [] [] others names ws
+all_links_bytes [] operands others names ws = others_bytes others names ws
+all_links_bytes (port ∷ ports) [] others names ws = others_bytes others names ws
 all_links_bytes (port ∷ ports) (o ∷ operands) others names ws =
     link_bytes port o [] (links_onto (links_said ports operands ++ links_said others names) ws)
     ∙ ap (λ z. link_text port o ++ z) (links_bytes ports operands (links_said others names) (link_texts others names) ws
@@ -232,7 +232,10 @@ directed_bytes direction port ws =
 
 -- a port behind a comma
 comma_bytes : (direction : List ℕ) (port : Port) (rest : List ℕ) → port_text direction port ++ rest ≡ codes ", " ++ (directed_text direction port ++ rest)
-comma_bytes direction port rest = simp append_assoc refl
+comma_bytes direction port rest = chain (codes ", ") direction (codes " ") (range_text port.width) (codes " ") port.name rest
+  where
+    chain : (c d s r t n x : List ℕ) → c ++ d ++ s ++ r ++ t ++ n ++ x ≡ c ++ ((d ++ s ++ r ++ t ++ n) ++ x)
+    chain c d s r t n x = simp append_assoc refl
 
 ports_behind : (direction : List ℕ) (ports : List Port) → flat_map (port_text direction) ports ≡ behind_commas (map (directed_text direction) ports)
 ports_behind direction [] = refl
@@ -271,6 +274,9 @@ kind_body_bytes kind ws =
 kind_bytes : (kind : CellKind) (ws : List Written) → 1 ≤ length kind.outputs → bytes_of (kind_onto kind ws) ≡ kind_text kind ++ bytes_of ws
 kind_bytes kind ws some = go kind.outputs refl
   where
+    eight : (a b c d e w r l x : List ℕ) → (a ++ b ++ c ++ d ++ e) ++ w ++ r ++ l ++ x ≡ a ++ (b ++ (c ++ (d ++ (e ++ (w ++ (r ++ (l ++ x)))))))
+    eight a b c d e w r l x = simp append_assoc refl
+
     go : (outputs : List Port) → kind.outputs ≡ outputs → bytes_of (kind_onto kind ws) ≡ kind_text kind ++ bytes_of ws
     go [] e = absurd (omega (arith, ap length e))
     go (first ∷ later) e =
@@ -281,9 +287,6 @@ kind_bytes kind ws some = go kind.outputs refl
         ap (λ z. codes "module " ++ (kind.name ++ (40 ∷ z))) (ports ∙ ap (λ z. joined (map (directed_text (codes "input")) kind.inputs ++ map (directed_text (codes "output")) kind.outputs) ++ (codes ");\n" ++ z)) (kind_body_bytes kind ws))
         ∙ sym (eight (codes "module ") kind.name (codes "(") (joined (map (directed_text (codes "input")) kind.inputs ++ map (directed_text (codes "output")) kind.outputs)) (codes ");\n")
         (flat_map (declaration_line (codes "wire")) kind.wires) (flat_map (drive_line (written_width (kind_module kind))) kind.drives) (codes "endmodule\n") (bytes_of ws))
-
-    eight : (a b c d e w r l x : List ℕ) → (a ++ b ++ c ++ d ++ e) ++ w ++ r ++ l ++ x ≡ a ++ (b ++ (c ++ (d ++ (e ++ (w ++ (r ++ (l ++ x)))))))
-    eight a b c d e w r l x = simp append_assoc refl
 
 pub kinds_bytes : (kinds : List CellKind) (ws : List Written) → AllByRecursion (λ kind. 1 ≤ length kind.outputs) kinds → bytes_of (kinds_onto kinds ws) ≡ flat_map kind_text kinds ++ bytes_of ws
 kinds_bytes [] ws some = refl

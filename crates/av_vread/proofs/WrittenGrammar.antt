@@ -1,5 +1,5 @@
 -- The tokens of a written plan say that plan.
-use Rattle.std.proofs.Common.{◌≡◌, ◌≢◌, ℕ, ◌-◌, ◌<◌, ◌^◌, Bool, true, false, cond, List, [], ◌∷◌, ◌++◌, map, refl, sym, subst, arith}
+use Rattle.std.proofs.Common.{◌≡◌, ◌≢◌, ℕ, ◌-◌, ◌<◌, ◌≤◌, ◌^◌, Bool, true, false, cond, List, [], ◌∷◌, ◌++◌, map, length, refl, sym, subst, ◌∙◌, arith}
 use Rattle.std.specs.Prelude.{codes, decimal}
 use Rattle.std.specs.List.{AllByRecursion}
 use Rattle.std.specs.Str.{bytes_eq}
@@ -173,12 +173,12 @@ widening_is p text by bit ws least most fits = record {
 
 -- all operations but widenings
 abbrev IsNarrow : Operation → Type 0
-IsNarrow (operation.Widen name by) = ⊥
+IsNarrow (operation.Widen text by) = ⊥
 IsNarrow (operation.Plain x) = Unit {0}
 IsNarrow (operation.Binary x s y) = Unit {0}
 IsNarrow (operation.Signed x s y) = Unit {0}
 IsNarrow (operation.Choose c x y) = Unit {0}
-IsNarrow (operation.Part name high low) = Unit {0}
+IsNarrow (operation.Part text high low) = Unit {0}
 
 operation_is : (p : Place) (widths : Widths) (o : Operation) (ws : List Written) → IsNarrow o → EachOperand IsOperandSpelled o → HasBitsSpelled o → ComparesByOrder o → IsOperation (tokens_from p (operation_parts widths o ++ ws)) (tokens_from (passed p (operation_parts widths o)) ws) o
 operation_is p widths (operation.Plain x) ws own h bits k = plain (operand_is p x [] ws h)
@@ -222,11 +222,11 @@ drive_is p widths d ws own h =
 
 wide_is : (p : Place) (widths : Widths) → AreNarrow widths → (target text : List ℕ) (by : ℕ) (ws : List Written) → IsDriveSpelled (record { target = target; operation = operation.Widen text by })
     → Then (λ ts rest. IsKindItem ts rest (widening (widths text - 1) (record { target = target; operation = operation.Widen text by }))) (tokens_from p (drive_onto widths (record { target = target; operation = operation.Widen text by }) ws)) ws
-wide_is p widths narrow target text by ws h =
+wide_is p widths small target text by ws h =
     let q = past (past (past p (part.indented (codes "assign"))) (part.named target (codes " "))) (part.symbol (codes "=") (codes " ")) in
     let bit = widths text - 1 in
     let r = passed q (widening_parts text by bit) in
-    let wide : widths text ≤ 64 = narrow text in
+    let wide : widths text ≤ 64 = small text in
     record {
       place = past r end_of_line;
       is = kind_wide_assignment {d = record { target = target; operation = operation.Widen text by }} (record {
@@ -248,12 +248,12 @@ wide_is p widths narrow target text by ws h =
 -- as an item of a kind
 item_is : (p : Place) (widths : Widths) → AreNarrow widths → (target : List ℕ) (o : Operation) (ws : List Written) → IsDriveSpelled (record { target = target; operation = o })
     → Then (λ ts rest. IsKindItem ts rest (said_by widths (record { target = target; operation = o }) o)) (tokens_from p (drive_onto widths (record { target = target; operation = o }) ws)) ws
-item_is p widths narrow target (operation.Widen text by) ws h = wide_is p widths narrow target text by ws h
-item_is p widths narrow target (operation.Plain x) ws h = drive_is p widths (record { target = target; operation = operation.Plain x }) ws tt h
-item_is p widths narrow target (operation.Binary x s y) ws h = drive_is p widths (record { target = target; operation = operation.Binary x s y }) ws tt h
-item_is p widths narrow target (operation.Signed x s y) ws h = drive_is p widths (record { target = target; operation = operation.Signed x s y }) ws tt h
-item_is p widths narrow target (operation.Choose c x y) ws h = drive_is p widths (record { target = target; operation = operation.Choose c x y }) ws tt h
-item_is p widths narrow target (operation.Part text high low) ws h = drive_is p widths (record { target = target; operation = operation.Part text high low }) ws tt h
+item_is p widths small target (operation.Widen text by) ws h = wide_is p widths small target text by ws h
+item_is p widths small target (operation.Plain x) ws h = drive_is p widths (record { target = target; operation = operation.Plain x }) ws tt h
+item_is p widths small target (operation.Binary x s y) ws h = drive_is p widths (record { target = target; operation = operation.Binary x s y }) ws tt h
+item_is p widths small target (operation.Signed x s y) ws h = drive_is p widths (record { target = target; operation = operation.Signed x s y }) ws tt h
+item_is p widths small target (operation.Choose c x y) ws h = drive_is p widths (record { target = target; operation = operation.Choose c x y }) ws tt h
+item_is p widths small target (operation.Part text high low) ws h = drive_is p widths (record { target = target; operation = operation.Part text high low }) ws tt h
 
 drives_are : (p : Place) (widths : Widths) → AreNarrow widths → (drives : List Drive) (ws : List Written) → AllByRecursion IsDriveSpelled drives → Then (λ ts rest. AreMany IsKindItem ts rest (map (drive_said widths) drives)) (tokens_from p (drives_onto widths drives ws)) ws
 drives_are p widths narrow [] ws h = record { place = p; is = no_more }
@@ -418,7 +418,7 @@ kind_wires_are p (port ∷ ports) ws =
 -- a range stands before the name of each port
 not_clock : (p : Place) (inputs : List Port) (first : Port) (later : List Port) (ws : List Written) → IsClockFirst (tokens_from p (inputs_onto inputs (outputs_onto (first ∷ later) ws))) → ⊥
 not_clock p [] first later ws c = output_first (next_word no_reserved refl no_word) c
-not_clock p (port ∷ inputs) first later ws c = go c.input c.clock
+not_clock p (port ∷ inputs) first later ws c = go c.input c.clock refl
   where
     no_name : kind.Symbol ≡ kind.Name → ⊥
     no_name e = cc

@@ -2,8 +2,11 @@
 
 ghost use Rattle.std.specs.Prelude.{◌≡◌, ◌⊎◌, ℕ, List as Items};
 ghost use Rattle.av_net.specs.declared.design.Design.{Design as Spelled};
+ghost use Rattle.av_net.specs.declared.plan.Plan.{Plan as Shared};
+ghost use Rattle.av_net.specs.Flat.{flat_of};
 ghost use Rattle.av_net.specs.Texts.{text};
-ghost use Rattle.av_net.specs.Designs.{Spells, IsSoundDesign};
+ghost use Rattle.av_net.specs.PlanTexts.{text2};
+ghost use Rattle.av_net.specs.Designs.{Spells, IsSoundDesign, IsSoundPlan};
 ghost use Rattle.av_vread.specs.declared.fault.VFault.{VFault as Fault};
 ghost use Rattle.av_vread.specs.Faults.{IsFault};
 ghost use Rattle.av_vread.specs.SpelledParts.{HasSpelledParts};
@@ -25,9 +28,10 @@ pub fn spelled_is_sound()
     ensures { (bytes : Items ℕ) (design : Spelled) → Spells bytes design → IsSoundDesign design }
 {}
 
-/// A law: the text of a sound design spells that design.
+/// A law: the text of a sound design spells that design, and the text of a sound plan its flat design.
 pub fn read_back()
-    ensures { (design : Spelled) → IsSoundDesign design → Spells (text design) design }
+    ensures design { (design : Spelled) → IsSoundDesign design → Spells (text design) design }
+    ensures plan { (plan : Shared) → IsSoundPlan plan → Spells (text2 plan) (flat_of plan) }
 {}
 
 /// A law: two sound designs with one text are one design.

@@ -2,12 +2,13 @@
 
 ghost use Rattle.std.specs.Prelude.{◌≡◌, ◌≤◌, map, IfOk};
 ghost use Rattle.av_vread.specs.inner.Lexing.{view, views};
-ghost use Rattle.av_vread.specs.inner.Reading.{Gives, place_of, after, is_word, is_name, is_at, are_at, word_at, words_at, name_at, number_at, sized_view, literal_at, end_at, width_for, range_at, port_at, directed_at, declared_at, begins_declaration, declaration_at, begins_literal, begins_name, operand_at, order_of, arithmetic_of, bitwise_of, symbol_of, symbol_at, order_at, signed_at, comparison_at, choice_at, alone_by, selection_at, selected_bit_at, widening_at, operation_by, operation_at, assigned_at, this_name_at, edge_at, reset_at, step_at, link_at, next_link_at, links_at, instance_at, begins_item, item_at, ports_at, declarations_at, items_at, assignments_at, closed_at, clocked_at, header_at, top_at, begins_kind, kind_input_at, kind_inputs_at, kind_outputs_at, kind_header_at, kind_wire_at, kind_wires_at, kind_at, kinds_at, text_at, said_declaration, said_link, said_item, said_header, said_module, said};
+ghost use Rattle.av_vread.specs.inner.Reading.{Gives, place_of, after, is_at, are_at, word_at, words_at, name_at, number_at, sized_view, literal_at, end_at, width_for, range_at, port_at, directed_at, declared_at, begins_declaration, declaration_at, begins_literal, begins_name, operand_at, symbol_at, order_at, signed_at, comparison_at, choice_at, alone_by, selection_at, selected_bit_at, widening_at, operation_by, operation_at, assigned_at, this_name_at, edge_at, reset_at, step_at, link_at, next_link_at, links_from, links_at, instance_at, begins_item, item_at, ports_at, declarations_at, items_at, assignments_at, closed_at, clocked_at, header_at, top_at, begins_kind, kind_input_at, kind_inputs_at, outputs_from, kind_outputs_at, kind_header_at, kind_wire_at, kind_wires_at, kind_at, kinds_at, text_at, said_declaration, said_link, said_item, said_header, said_module, said};
 
 use crate::fault::ReadError;
 use crate::literal::{Literal, literal_of};
 use crate::parsed::{Declaration, Header, Instantiation, Item, Link, ModuleText, Text};
-use crate::token::Token;
+use crate::symbols::{order_of, symbol_of};
+use crate::token::{Token, is_name, is_word};
 use av_base::{List, Name, Place, Width, decimal_value};
 use av_net::{Drive, Operand, Operation, Port, Step, Symbol, TokenKind};
 use std::alloc::Global;
@@ -30,65 +31,6 @@ pub(crate) fn read_text<'a>(alloc: Global, tokens: &[Token<'a>]) -> Result<Text,
     Ok(Text { kinds, top })
 }
 
-fn arithmetic_of(text: &str) -> Option<Symbol>
-    ensures { result ≡ arithmetic_of text.now }
-{
-    if text == "+" {
-        Some(Symbol::Add)
-    } else if text == "-" {
-        Some(Symbol::Sub)
-    } else if text == "*" {
-        Some(Symbol::Mul)
-    } else {
-        None
-    }
-}
-
-fn bitwise_of(text: &str) -> Option<Symbol>
-    ensures { result ≡ bitwise_of text.now }
-{
-    if text == "&" {
-        Some(Symbol::And)
-    } else if text == "|" {
-        Some(Symbol::Or)
-    } else if text == "==" {
-        Some(Symbol::Equal)
-    } else if text == "!=" {
-        Some(Symbol::Unequal)
-    } else {
-        None
-    }
-}
-
-fn order_of(text: &str) -> Option<Symbol>
-    ensures { result ≡ order_of text.now }
-{
-    if text == "<" {
-        Some(Symbol::Less)
-    } else if text == "<=" {
-        Some(Symbol::LessEqual)
-    } else if text == ">" {
-        Some(Symbol::Greater)
-    } else if text == ">=" {
-        Some(Symbol::GreaterEqual)
-    } else {
-        None
-    }
-}
-
-// The operator that a symbol stands for.
-fn symbol_of(text: &str) -> Option<Symbol>
-    ensures { result ≡ symbol_of text.now }
-{
-    if let Some(symbol) = arithmetic_of(text) {
-        return Some(symbol);
-    }
-    if let Some(symbol) = bitwise_of(text) {
-        return Some(symbol);
-    }
-    order_of(text)
-}
-
 // The width of the range from a number to 0.
 fn width_above(number: u64) -> Width
     requires { number ≤ 63 }
@@ -97,20 +39,6 @@ fn width_above(number: u64) -> Width
     Width {
         bits: number as u32 + 1,
     }
-}
-
-// Whether a token is no name, and has this text.
-fn is_word(token: &Token, text: &str) -> bool
-    ensures { result ≡ is_word text.now (view token.now) }
-{
-    token.kind != TokenKind::Name && token.text == text
-}
-
-// Whether a token is this name.
-fn is_name(token: &Token, text: &str) -> bool
-    ensures { result ≡ is_name text.now (view token.now) }
-{
-    token.kind == TokenKind::Name && token.text == text
 }
 
 /// The tokens that are left.
@@ -612,8 +540,14 @@ impl<'t, 'a> Reader<'t, 'a> {
     fn links(&mut self) -> Result<List<Link>, ReadError>
         ensures { Gives (λ x. (map said_link x, views self.new.rest.now)) result (links_at (views self.old.rest.now)) }
     {
-        let mut found = List::new(self.alloc);
         let first = self.link()?;
+        self.links_from(first)
+    }
+
+    fn links_from(&mut self, first: Link) -> Result<List<Link>, ReadError>
+        ensures { Gives (λ x. (map said_link x, views self.new.rest.now)) result (links_from (said_link first) (views self.old.rest.now)) }
+    {
+        let mut found = List::new(self.alloc);
         found.push(first)?;
         while self.is_at(",") {
             let link = self.next_link()?;
@@ -733,9 +667,15 @@ impl<'t, 'a> Reader<'t, 'a> {
     fn kind_outputs(&mut self) -> Result<List<Port>, ReadError>
         ensures { Gives (λ x. (x, views self.new.rest.now)) result (kind_outputs_at (views self.old.rest.now)) }
     {
-        let mut found = List::new(self.alloc);
         self.word("output")?;
         let first = self.port()?;
+        self.outputs_from(first)
+    }
+
+    fn outputs_from(&mut self, first: Port) -> Result<List<Port>, ReadError>
+        ensures { Gives (λ x. (x, views self.new.rest.now)) result (outputs_from first (views self.old.rest.now)) }
+    {
+        let mut found = List::new(self.alloc);
         found.push(first)?;
         while self.is_at(",") {
             let port = self.directed("output")?;

@@ -371,8 +371,11 @@ abbrev pub declarations_at : Read (List Declaration)
 declarations_at ts = all_at begins_declaration declaration_at ts
 
 -- one link and more behind commas
+abbrev pub links_from : Link → Read (List Link)
+links_from first ts = all_at (is_at (codes ",")) next_link_at ts >>= λ later. Ok (first ∷ later.0, later.1)
+
 abbrev pub links_at : Read (List Link)
-links_at ts = link_at ts >>= λ first. all_at (is_at (codes ",")) next_link_at first.1 >>= λ later. Ok (first.0 ∷ later.0, later.1)
+links_at ts = link_at ts >>= λ first. links_from first.0 first.1
 
 -- `kind name (link, ..);`
 unfoldable pub instance_at : Read Item
@@ -466,9 +469,12 @@ kind_inputs_at ts = all_at (is_at (codes "input")) kind_input_at ts
 abbrev pub more_outputs_at : Read (List Port)
 more_outputs_at ts = all_at (is_at (codes ",")) (directed_at (codes "output")) ts
 
+abbrev pub outputs_from : Port → Read (List Port)
+outputs_from first ts = more_outputs_at ts >>= λ later. Ok (first ∷ later.0, later.1)
+
 -- one output and more behind commas
 abbrev pub kind_outputs_at : Read (List Port)
-kind_outputs_at ts = word_at (codes "output") ts >>= λ a. port_at a >>= λ first. more_outputs_at first.1 >>= λ later. Ok (first.0 ∷ later.0, later.1)
+kind_outputs_at ts = word_at (codes "output") ts >>= λ a. port_at a >>= λ first. outputs_from first.0 first.1
 
 unfoldable pub kind_header_at : Read Header
 kind_header_at ts = do
