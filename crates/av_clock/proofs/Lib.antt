@@ -9,3 +9,4 @@ pub mod Marking
 pub mod Reading
 pub mod Held
 pub mod Taking
+pub mod Extended

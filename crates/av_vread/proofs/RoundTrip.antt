@@ -9,6 +9,7 @@ use Rattle.av_net.specs.declared.netlist.Module.{Module}
 use Rattle.av_net.specs.declared.design.Listing.{Listing}
 use Rattle.av_net.specs.declared.design.Design.{Design}
 use Rattle.av_net.specs.declared.plan.CellKind.{CellKind}
+use Rattle.av_net.specs.declared.plan.Instance.{Instance}
 use Rattle.av_net.specs.declared.plan.Plan.{Plan}
 use Rattle.av_net.specs.Names.{names_of, wire_names}
 use Rattle.av_net.specs.Flat.{flat_module, flat_of}
@@ -17,7 +18,7 @@ use Rattle.av_net.specs.Listed.{lines_of, numbered, is_listed, listing_lines, Is
 use Rattle.av_net.specs.Rows.{module_of, flat_text}
 use Rattle.av_net.specs.Texts.{version_line, listing_text, module_text, text}
 use Rattle.av_net.specs.PlanTexts.{second_version_line, kind_text, top_text, text2}
-use Rattle.av_net.specs.Designs.{Says, Spells, IsSoundDesign, IsSoundPlan}
+use Rattle.av_net.specs.Designs.{first_line, Says, Spells, IsSoundDesign, IsSoundPlan}
 use Rattle.av_net.proofs.Made.{made}
 use Rattle.av_net.proofs.Alone.{alone, alone_sound, alone_flat}
 use Rattle.av_net.proofs.Said.{plan_said, top_said, flat_of_said}
@@ -25,11 +26,11 @@ use Rattle.av_vread.specs.SpelledParts.{IsEntrySpelled, HasSpelledParts, IsKindS
 use Rattle.av_vread.proofs.Faulted.{one_design}
 use Rattle.av_vread.proofs.ListingLines.{texts_of}
 use Rattle.av_vread.proofs.Spaced.{bytes_of, tokens_from, spaced_tokens}
-use Rattle.av_vread.proofs.WrittenParts.{plan_parts}
+use Rattle.av_vread.proofs.WrittenParts.{kinds_onto, top_parts, plan_parts}
 use Rattle.av_vread.proofs.WrittenSpaced.{plan_spaced}
 use Rattle.av_vread.proofs.WrittenBytes.{plan_bytes, module_bytes}
 use Rattle.av_vread.proofs.WrittenGrammar.{plan_is}
-use Rattle.av_vread.proofs.WrittenListing.{joined, entry_lines, listing_joined, IsCommentLine, version_comment, second_comment, entry_comments, after_lines, comments_before, lines_after, lines_found, listing_found}
+use Rattle.av_vread.proofs.WrittenListing.{joined, entry_lines, listing_joined, IsCommentLine, IsVersionLine, first_version, second_version, entry_comments, after_lines, comments_before, lines_after, lines_found, listing_found}
 use Rattle.av_vread.proofs.NoRows.{top_back, no_rows}
 use Rattle.av_vread.proofs.SpelledParts.{parts_spelled, plan_spelled}
 
@@ -39,13 +40,18 @@ use Rattle.av_vread.proofs.SpelledParts.{parts_spelled, plan_spelled}
 pub told : List ℕ → Plan → List ℕ
 told version plan = joined (version ∷ entry_lines plan.listing) (bytes_of (plan_parts plan))
 
-module _ (version : List ℕ) (comment : IsCommentLine version) (plan : Plan) (spelled : IsPlanSpelled plan) where
+-- the first token stands where they begin
+first_place : (p : Place) (some kinds : List CellKind) (instances : List Instance) (m : Module) → first_line (tokens_from p (kinds_onto some (top_parts kinds instances m))) ≡ p.line
+first_place p [] kinds instances m = refl
+first_place p (kind ∷ some) kinds instances m = refl
+
+module _ (version : List ℕ) (is_version : IsVersionLine version) (plan : Plan) (spelled : IsPlanSpelled plan) where
   heads : List (List ℕ)
   heads = version ∷ entry_lines plan.listing
 
   comments : AllByRecursion IsCommentLine heads
   unfolding heads
-  comments = (comment, entry_comments plan.listing (recursion_from_All IsEntrySpelled plan.listing.ins spelled.ins) (recursion_from_All IsEntrySpelled plan.listing.ats spelled.ats))
+  comments = (is_version.comment, entry_comments plan.listing (recursion_from_All IsEntrySpelled plan.listing.ins spelled.ins) (recursion_from_All IsEntrySpelled plan.listing.ats spelled.ats))
 
   here : Place
   here = after_lines start heads
@@ -60,7 +66,7 @@ module _ (version : List ℕ) (comment : IsCommentLine version) (plan : Plan) (s
     tokens = tokens_from here (plan_parts plan);
     lexed = comments_before start heads (bytes_of (plan_parts plan)) (tokens_from here (plan_parts plan)) comments (spaced_tokens here (plan_parts plan) (plan_spaced plan spelled));
     parsed = plan_is here plan spelled;
-    begins = refl;
+    begins = first_place here plan.kinds plan.kinds plan.instances plan.top;
   }
 
   found : listing_lines (told version plan) module_line ≡ filter is_listed (numbered 1 heads)
@@ -72,7 +78,7 @@ module _ (version : List ℕ) (comment : IsCommentLine version) (plan : Plan) (s
 
   pub lines_told : texts_of (listing_lines (told version plan) module_line) ≡ entry_lines plan.listing
   unfolding heads
-  lines_told = ap texts_of found ∙ listing_found plan.listing
+  lines_told = ap texts_of found ∙ listing_found version is_version plan.listing
 
 -- ---- both versions
 
@@ -95,24 +101,24 @@ plan_told plan spelled =
 -- ---- a sound plan is read from its text
 
 -- with either first line
-told_spells : (version : List ℕ) → IsCommentLine version → (plan : Plan) → IsSoundPlan plan → Spells (told version plan) (flat_of plan)
-told_spells version comment plan sound =
+told_spells : (version : List ℕ) → IsVersionLine version → (plan : Plan) → IsSoundPlan plan → Spells (told version plan) (flat_of plan)
+told_spells version is_version plan sound =
     let spelled = plan_spelled plan sound in
     let is : module_of (top_said plan) ≡ plan.top = top_back plan sound.modules in
     record {
       said = plan_said plan;
-      line = module_line version comment plan spelled;
-      says = says version comment plan spelled;
+      line = module_line version is_version plan spelled;
+      says = says version is_version plan spelled;
       lists =
-          subst (λ z. IsListing (names_of plan.top.inputs) (wire_names z) (listing_lines (told version plan) (module_line version comment plan spelled)) plan.listing) (sym is)
-          (record { spelled = lines_told version comment plan spelled; ins = sound.ins; ats = sound.ats });
+          subst (λ z. IsListing (names_of plan.top.inputs) (wire_names z) (listing_lines (told version plan) (module_line version is_version plan spelled)) plan.listing) (sym is)
+          (record { spelled = lines_told version is_version plan spelled; ins = sound.ins; ats = sound.ats });
       is_flat = sym (flat_of_said plan (made plan sound.modules));
       no_row = no_rows plan sound.modules;
     }
 
 pub plan_read_back : (plan : Plan) → IsSoundPlan plan → Spells (text2 plan) (flat_of plan)
 plan_read_back plan sound =
-    subst (λ z. Spells z (flat_of plan)) (sym (plan_told plan (plan_spelled plan sound))) (told_spells (codes "// alphav 2") second_comment plan sound)
+    subst (λ z. Spells z (flat_of plan)) (sym (plan_told plan (plan_spelled plan sound))) (told_spells (codes "// alphav 2") second_version plan sound)
 
 -- a sound design is a sound plan
 pub design_plan : (d : Design) → IsSoundDesign d → IsSoundPlan (alone d.listing d.«module»)
@@ -131,7 +137,7 @@ pub read_back : (d : Design) → IsSoundDesign d → Spells (text d) d
 read_back d sound =
     let plan = alone d.listing d.«module» in
     let same : flat_of plan ≡ d = ap (λ m. designed d.listing m) (alone_flat d.listing d.«module») in
-    subst (Spells (text d)) same (subst (λ z. Spells z (flat_of plan)) (sym (design_told d)) (told_spells (codes "// alphav 1") version_comment plan (design_plan d sound)))
+    subst (Spells (text d)) same (subst (λ z. Spells z (flat_of plan)) (sym (design_told d)) (told_spells (codes "// alphav 1") first_version plan (design_plan d sound)))
   where
     designed : Listing → Module → Design
     designed listing m = record { listing = listing; «module» = m }

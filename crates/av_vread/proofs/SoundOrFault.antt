@@ -30,7 +30,7 @@ use Rattle.av_vread.proofs.NamesSpelled.{tokens_named, text_named, input_names, 
 use Rattle.av_vread.proofs.ListingLines.{texts_of, one_listing}
 use Rattle.av_vread.proofs.Faulted.{one_said, either, not_both}
 use Rattle.av_vread.proofs.SoundDesigns.{spelled_sound}
-use Rattle.av_vread.proofs.WrittenListing.{entry_lines, version_comment}
+use Rattle.av_vread.proofs.WrittenListing.{entry_lines, first_version}
 use Rattle.av_vread.proofs.NoRows.{drives_back, steps_back}
 use Rattle.av_vread.proofs.RoundTrip.{module_line, says, lines_told, design_told, read_back}
 
@@ -108,11 +108,11 @@ module _ (d other : Design) (spelled : HasSpelledParts d) (s : Spells (text d) o
   parts = record { kinds = All-nil _; top = spelled.of_module; instances = All-nil _; ins = spelled.ins; ats = spelled.ats }
 
   line : ℕ
-  line = module_line (codes "// alphav 1") version_comment plan parts
+  line = module_line (codes "// alphav 1") first_version plan parts
 
   text_says : Says (text d) (plan_said plan) line
   unfolding line
-  text_says = subst (λ z. Says z (plan_said plan) line) (sym (design_told d)) (says (codes "// alphav 1") version_comment plan parts)
+  text_says = subst (λ z. Says z (plan_said plan) line) (sym (design_told d)) (says (codes "// alphav 1") first_version plan parts)
 
   same : (s.said ≡ plan_said plan) × (s.line ≡ line)
   same = one_said (text d) s.said (plan_said plan) s.line line s.says text_says
@@ -122,7 +122,7 @@ module _ (d other : Design) (spelled : HasSpelledParts d) (s : Spells (text d) o
 
   own_lines : texts_of (listing_lines (text d) line) ≡ entry_lines d.listing
   unfolding line
-  own_lines = ap (λ z. texts_of (listing_lines z line)) (design_told d) ∙ lines_told (codes "// alphav 1") version_comment plan parts
+  own_lines = ap (λ z. texts_of (listing_lines z line)) (design_told d) ∙ lines_told (codes "// alphav 1") first_version plan parts
 
   listings : other.listing ≡ d.listing
   listings =

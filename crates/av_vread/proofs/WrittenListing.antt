@@ -131,20 +131,31 @@ at_line e h = record {
   no_return = (refl, (refl, (refl, (refl, (refl, (refl, body_out 13 return_ends e h))))));
 }
 
-pub version_comment : IsCommentLine (codes "// alphav 1")
-version_comment = record {
-  more = codes " alphav 1";
-  slashes = refl;
-  no_feed = (refl, (refl, (refl, (refl, (refl, (refl, (refl, (refl, (refl, (refl, (refl, tt)))))))))));
-  no_return = (refl, (refl, (refl, (refl, (refl, (refl, (refl, (refl, (refl, (refl, (refl, tt)))))))))));
+-- a first line, which is none of the listing
+pub record IsVersionLine (line : List ℕ) : Type 0 where
+  pub comment : IsCommentLine line
+  pub unlisted : is_listed (record { number = 1; text = line }) ≡ false
+
+pub first_version : IsVersionLine (codes "// alphav 1")
+first_version = record {
+  comment = record {
+    more = codes " alphav 1";
+    slashes = refl;
+    no_feed = (refl, (refl, (refl, (refl, (refl, (refl, (refl, (refl, (refl, (refl, (refl, tt)))))))))));
+    no_return = (refl, (refl, (refl, (refl, (refl, (refl, (refl, (refl, (refl, (refl, (refl, tt)))))))))));
+  };
+  unlisted = refl;
 }
 
-pub second_comment : IsCommentLine (codes "// alphav 2")
-second_comment = record {
-  more = codes " alphav 2";
-  slashes = refl;
-  no_feed = (refl, (refl, (refl, (refl, (refl, (refl, (refl, (refl, (refl, (refl, (refl, tt)))))))))));
-  no_return = (refl, (refl, (refl, (refl, (refl, (refl, (refl, (refl, (refl, (refl, (refl, tt)))))))))));
+pub second_version : IsVersionLine (codes "// alphav 2")
+second_version = record {
+  comment = record {
+    more = codes " alphav 2";
+    slashes = refl;
+    no_feed = (refl, (refl, (refl, (refl, (refl, (refl, (refl, (refl, (refl, (refl, (refl, tt)))))))))));
+    no_return = (refl, (refl, (refl, (refl, (refl, (refl, (refl, (refl, (refl, (refl, (refl, tt)))))))))));
+  };
+  unlisted = refl;
 }
 
 pub entry_comments : (listing : Listing) → AllByRecursion IsEntrySpelled listing.ins → AllByRecursion IsEntrySpelled listing.ats → AllByRecursion IsCommentLine (entry_lines listing)
@@ -223,5 +234,5 @@ entries_listed listing =
     ats [] = tt
     ats (e ∷ entries) = ((λ n. refl), ats entries)
 
-pub listing_found : (listing : Listing) → texts_of (filter is_listed (numbered 1 (codes "// alphav 1" ∷ entry_lines listing))) ≡ entry_lines listing
-listing_found listing = numbered_all 2 (entry_lines listing) (entries_listed listing)
+pub listing_found : (version : List ℕ) → IsVersionLine version → (listing : Listing) → texts_of (filter is_listed (numbered 1 (version ∷ entry_lines listing))) ≡ entry_lines listing
+listing_found version is listing = rw is.unlisted (numbered_all 2 (entry_lines listing) (entries_listed listing))
