@@ -16,7 +16,7 @@ use Rattle.av_flat.specs.Signatures.{is_computed}
 use Rattle.av_net.specs.declared.operation.Operand.{Operand}
 use Rattle.av_net.specs.declared.operation.Operand.TheVariants.{Name, Literal}
 use Rattle.av_net.specs.declared.operation.Operation.{Operation}
-use Rattle.av_net.specs.declared.operation.Operation.TheVariants.{Plain, Binary, Signed, Choose}
+use Rattle.av_net.specs.declared.operation.Operation.TheVariants.{Plain, Binary, Signed, Choose, Part, Widen}
 use Rattle.av_net.specs.declared.netlist.Port.{Port}
 use Rattle.av_net.specs.declared.netlist.Drive.{Drive}
 use Rattle.av_net.specs.declared.netlist.Step.{Step}
@@ -29,6 +29,7 @@ use Rattle.av_space.specs.declared.cells.Link.{Link as LinkMade}
 use Rattle.av_space.specs.Ports.{output_cells, is_output_cell}
 use Rattle.av_space.specs.Occupancy.{IsUsed, Computes}
 use Rattle.av_space.specs.Quantities.{IsUse}
+use Rattle.av_net.specs.Designs.{HasBits}
 use Rattle.av_space.specs.ArrayForm.{IsWire, IsRegister, MayName, MayTake, operands_of, Sort, rest, AreOfSorts, ended, sorted, how_many, is_same, operators, ArePiecesOn, AreDrivesOf, of_cell, other, HasFewOperators, HasCounter, counting, without, IsArrayForm}
 use Rattle.av_space.proofs.ByPlace.{from_map, pairs_by_place}
 use Rattle.av_space.proofs.Elements.{each_at, in_range, at_index}
@@ -51,7 +52,7 @@ use Rattle.av_build.proofs.Fine.{Known, IsKnown, FineGates, FineBuilt, Fine}
 use Rattle.av_build.proofs.ArrayForm.{MayRead}
 use Rattle.av_build.proofs.Form.{value_wire, inner_wire, line_register, may_name, may_link, register_owner, register_sort}
 use Rattle.av_build.proofs.Counted.{lane_has}
-use Rattle.av_build.proofs.Sorts.{NotCounter, Good, GoodGates, GoodBuilt, Among, sort_in, is_sort, more_sorts, unit, operation_has, gates_have, plan_good, FreeTap, FreePart}
+use Rattle.av_build.proofs.Sorts.{NotCounter, Good, good_bits, GoodGates, GoodBuilt, Among, sort_in, is_sort, more_sorts, unit, operation_has, gates_have, plan_good, FreeTap, FreePart}
 use Rattle.av_build.proofs.Listed.{value_label, place_of}
 use Rattle.av_build.proofs.Connected.{given, legal_array}
 use Rattle.av_build.proofs.Whole.{module_reads}
@@ -96,6 +97,8 @@ each_operand P Q f (Plain a) h = All-from_recursion Q (a ∷ []) (f a h, tt)
 each_operand P Q f (Binary a s b) h = All-from_recursion Q (a ∷ b ∷ []) (f a h.0, (f b h.1, tt))
 each_operand P Q f (Signed a s b) h = All-from_recursion Q (a ∷ b ∷ []) (f a h.0, (f b h.1, tt))
 each_operand P Q f (Choose c a b) h = All-from_recursion Q (c ∷ a ∷ b ∷ []) (f c h.0, (f a h.1, (f b h.2, tt)))
+each_operand P Q f (Part x high low) h = All-from_recursion Q (Name x ∷ []) (f (Name x) h, tt)
+each_operand P Q f (Widen x by) h = All-from_recursion Q (Name x ∷ []) (f (Name x) h, tt)
 
 among_by : (D : List Drive) (name : Naming) (n : ℕ) (gates : List Gate) → ((d : Drive) → Contains (drives_from name n gates) d → Contains D d) → Among D name n gates
 among_by D name n [] h = tt
@@ -501,6 +504,13 @@ module _ (w : Width) (t : Timed) (a : Cells) (program : Program) (g : IsProgramO
   lane_good q lane is =
       let good = built_good q lane is in
       lane_each (λ (d : Drive). Good m.drives d.operation) q lane (λ i x at. gate_good (gates q lane) good.gates i x at) good.root
+
+  -- no drive is a widening
+  pub widenings : All (λ (d : Drive). HasBits d.operation) m.drives
+  widenings = All-from_recursion (λ (d : Drive). HasBits d.operation) m.drives (drives_each (λ (d : Drive). HasBits d.operation)
+      (λ q lane is i x at. good_bits m.drives x.operation (gate_good (gates q lane) (built_good q lane is).gates i x at))
+      (λ q lane is. good_bits m.drives (cell_built N w q lane).root (built_good q lane is).root)
+      (λ k q at. tt) (λ counted. tt))
 
   -- ---- the drives of a cell
 

@@ -5,7 +5,7 @@ use Rattle.av_base.specs.declared.width.Width.{Width}
 use Rattle.av_net.specs.declared.operation.Operand.{Operand}
 use Rattle.av_net.specs.declared.operation.Operand.TheVariants.{Name}
 use Rattle.av_net.specs.declared.operation.Operation.{Operation}
-use Rattle.av_net.specs.declared.operation.Operation.TheVariants.{Plain, Binary, Signed, Choose}
+use Rattle.av_net.specs.declared.operation.Operation.TheVariants.{Plain, Binary, Signed, Choose, Part as Select, Widen}
 use Rattle.av_flat.specs.Trees.{Tree}
 use Rattle.av_build.specs.declared.gates.Gate.{Gate}
 use Rattle.av_build.specs.inner.Gates.{gate, Naming, Built, Named, named, named_by}
@@ -21,6 +21,8 @@ named_gates name w old gates (Plain a) = refl
 named_gates name w old gates (Binary a s b) = append_assoc old gates (gate w (Binary a s b) ∷ [])
 named_gates name w old gates (Signed a s b) = append_assoc old gates (gate w (Signed a s b) ∷ [])
 named_gates name w old gates (Choose c a b) = append_assoc old gates (gate w (Choose c a b) ∷ [])
+named_gates name w old gates (Select x high low) = append_assoc old gates (gate w (Select x high low) ∷ [])
+named_gates name w old gates (Widen x by) = append_assoc old gates (gate w (Widen x by) ∷ [])
 
 name_after : (name : Naming) (old gates : List Gate) → ◌≡◌ {A = Operand} (Name (name (0 + length (old ++ gates)))) (Name (name (length old + length gates)))
 name_after name old gates = let e : 0 + length (old ++ gates) ≡ length old + length gates = omega (arith, length-append old gates) in ap (λ k. Name (name k)) e
@@ -30,6 +32,8 @@ named_operand name w old gates (Plain a) = refl
 named_operand name w old gates (Binary a s b) = name_after name old gates
 named_operand name w old gates (Signed a s b) = name_after name old gates
 named_operand name w old gates (Choose c a b) = name_after name old gates
+named_operand name w old gates (Select x high low) = name_after name old gates
+named_operand name w old gates (Widen x by) = name_after name old gates
 
 pub named_added : (name : Naming) (w : Width) (g0 g1 g2 : List Gate) (b : Built) (root : Operation) (a : Operand) → AddsBuilt g0 g1 b root → AddsNamed g2 (named_by name 0 w g1 root) a → AddsOperand name w g0 g2 b a
 named_added name w g0 g1 g2 b root a h k =

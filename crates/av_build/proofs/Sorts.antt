@@ -15,8 +15,9 @@ use Rattle.av_net.specs.declared.operation.Symbol.TheVariants.{Add, Sub, Mul, An
 use Rattle.av_net.specs.declared.operation.Operand.{Operand}
 use Rattle.av_net.specs.declared.operation.Operand.TheVariants.{Name, Literal}
 use Rattle.av_net.specs.declared.operation.Operation.{Operation}
-use Rattle.av_net.specs.declared.operation.Operation.TheVariants.{Plain, Binary, Signed, Choose}
+use Rattle.av_net.specs.declared.operation.Operation.TheVariants.{Plain, Binary, Signed, Choose, Part as Select, Widen}
 use Rattle.av_net.specs.declared.netlist.Drive.{Drive}
+use Rattle.av_net.specs.Designs.{HasBits}
 use Rattle.av_space.specs.ArrayForm as form
 use Rattle.av_space.specs.ArrayForm.{Sort, plus, minus, times, test, rest, NamesCounter, IsControl, compared, IsOfSort, adds, subtracts, multiplies, compares, compares_signed, counts, joins, chooses, copies, is_same, how_many, sort_of, operators}
 use Rattle.av_build.specs.declared.gates.Gate.{Gate}
@@ -55,6 +56,8 @@ Good D (Plain a) = NotCounter a
 Good D (Binary a s b) = GoodSymbol D a s b
 Good D (Signed a s b) = NotCounter a × NotCounter b
 Good D (Choose c a b) = Unit {0}
+Good D (Select x high low) = ⊥
+Good D (Widen x by) = ⊥
 
 abbrev pub GoodGates : List Drive → List Gate → Type 0
 GoodGates D gates = AllByRecursion (λ (g : Gate). Good D g.operation) gates
@@ -82,6 +85,8 @@ sort_in (Plain a) = rest
 sort_in (Binary a s b) = sort_symbol s
 sort_in (Signed a s b) = test
 sort_in (Choose c a b) = rest
+sort_in (Select x high low) = rest
+sort_in (Widen x by) = rest
 
 no_counter : (a b : Operand) → NotCounter a → NotCounter b → NamesCounter a b → ⊥
 no_counter a b p q (inl e) = p e
@@ -106,6 +111,17 @@ is_sort D (Binary a Greater b) g = counts form.greater g
 is_sort D (Binary a GreaterEqual b) g = counts form.greater_equal g
 is_sort D (Signed a s b) g = compares_signed (no_counter a b g.0 g.1)
 is_sort D (Choose c a b) g = chooses
+is_sort D (Select x high low) g = absurd g
+is_sort D (Widen x by) g = absurd g
+
+-- which is no widening
+pub good_bits : (D : List Drive) (o : Operation) → Good D o → HasBits o
+good_bits D (Plain a) g = tt
+good_bits D (Binary a s b) g = tt
+good_bits D (Signed a s b) g = tt
+good_bits D (Choose c a b) g = tt
+good_bits D (Select x high low) g = tt
+good_bits D (Widen x by) g = absurd g
 
 -- ---- how many there are of a kind
 
@@ -169,6 +185,8 @@ operation_has k h (Plain a) = none_of k h
 operation_has k h (Binary a s b) = symbol_has k h s
 operation_has k h (Signed a s b) = tests_of k
 operation_has k h (Choose c a b) = none_of k h
+operation_has k h (Select x high low) = none_of k h
+operation_has k h (Widen x by) = none_of k h
 
 pub more_sorts : (k o : Sort) (os : List Sort) → how_many k (o ∷ os) ≡ is_same k o + how_many k os
 more_sorts k o os = sum_by-cons (λ x. x) (is_same k o) (map (is_same k) os)
@@ -209,6 +227,8 @@ among_named D name n w gates (Plain a) h = h
 among_named D name n w gates (Binary a s b) h = among_front D name n gates (gate w (Binary a s b) ∷ []) h
 among_named D name n w gates (Signed a s b) h = among_front D name n gates (gate w (Signed a s b) ∷ []) h
 among_named D name n w gates (Choose c a b) h = among_front D name n gates (gate w (Choose c a b) ∷ []) h
+among_named D name n w gates (Select x high low) h = among_front D name n gates (gate w (Select x high low) ∷ []) h
+among_named D name n w gates (Widen x by) h = among_front D name n gates (gate w (Widen x by) ∷ []) h
 
 -- ---- what is built is good
 
@@ -234,6 +254,8 @@ module _ (D : List Drive) (name : Naming) (free : (i : ℕ) → NotCounter (Name
   named_good n w gates (Binary a s b) h = record { gates = good_last gates w (Binary a s b) h.gates h.root; operand = free (n + length gates) }
   named_good n w gates (Signed a s b) h = record { gates = good_last gates w (Signed a s b) h.gates h.root; operand = free (n + length gates) }
   named_good n w gates (Choose c a b) h = record { gates = good_last gates w (Choose c a b) h.gates h.root; operand = free (n + length gates) }
+  named_good n w gates (Select x high low) h = absurd h.root
+  named_good n w gates (Widen x by) h = absurd h.root
 
   joined_good : (n : ℕ) (g : Sign) (gates : List Gate) (a b : Operand) → GoodGates D gates → NotCounter a → NotCounter b → GoodBuilt D (joined name n g gates a b)
   joined_good n sign.Add gates a b h p q = record { gates = h; root = tt }

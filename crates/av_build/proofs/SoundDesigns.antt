@@ -25,7 +25,7 @@ use Rattle.av_flat.proofs.Bounded.{small_point}
 use Rattle.av_net.specs.declared.operation.Operand.{Operand}
 use Rattle.av_net.specs.declared.operation.Operand.TheVariants.{Name, Literal}
 use Rattle.av_net.specs.declared.operation.Operation.{Operation}
-use Rattle.av_net.specs.declared.operation.Operation.TheVariants.{Plain, Binary, Signed, Choose}
+use Rattle.av_net.specs.declared.operation.Operation.TheVariants.{Plain, Binary, Signed, Choose, Part, Widen}
 use Rattle.av_net.specs.declared.netlist.Port.{Port}
 use Rattle.av_net.specs.declared.design.Entry.{Entry}
 use Rattle.av_net.specs.Listed.{MayBeListed}
@@ -43,6 +43,7 @@ use Rattle.av_build.specs.inner.Programs.{Lane, Program}
 use Rattle.av_build.specs.inner.Modules.{cell_built, if_counted, module_of}
 use Rattle.av_build.specs.inner.Built.{IsProgramOf, array_of, design_of}
 use Rattle.av_build.proofs.Connected.{given, is_sound}
+use Rattle.av_build.proofs.InArrayForm.{widenings}
 use Rattle.av_build.proofs.Declared.{wires_of, wire_list, inputs_are, outputs_are, wires_are}
 use Rattle.av_build.proofs.Listed.{value_label}
 use Rattle.av_build.proofs.SoundProgram.{contained_range, contained_cell}
@@ -64,6 +65,8 @@ each_width (Plain a) = has_width a
 each_width (Binary a s b) = (has_width a, has_width b)
 each_width (Signed a s b) = (has_width a, has_width b)
 each_width (Choose c a b) = (has_width c, has_width a, has_width b)
+each_width (Part x high low) = tt
+each_width (Widen x by) = tt
 
 -- ---- points of variables that are shown
 
@@ -183,6 +186,7 @@ module _ (w : Width) (t : Timed) (a : Cells) (program : Program) (g : IsProgramO
         widths = λ i d lt. (let p = get_or (declarations m) i d in (p.width.least, p.width.most));
         drive_literals = λ i d lt. each_width (get_or m.drives i d).operation;
         step_literals = λ i d lt. has_width (get_or m.steps i d).next;
+        widenings = widenings w t a program g;
         ins = all_by_place (MayBeListed (names_of m.inputs)) a.listing.ins in_listed;
         ats = all_by_place (MayBeListed (wire_names m)) a.listing.ats at_listed;
       }

@@ -21,6 +21,8 @@ use Rattle.av_vread.proofs.Complete.{kind_begins, kind_gives, top_begins, top_gi
 use Rattle.av_vread.proofs.Ends.{words_end, name_end, port_end, many_end, kind_input_end, kind_declaration_end, kind_item_end, kind_end}
 use Rattle.av_vread.proofs.Verdicts.{Ends, last, before, ends_some, Puts, puts_both, Completes, Verdict, past, stops, Reads, pair, alone, Follows, follows, then_reads, Mapped, mapped, unmap, map_reads, reads_as}
 use Rattle.av_vread.proofs.BeginningParts.{word_token, name_token, Word, Words, Name, ThisName, word_reads, name_reads, this_name_reads, words_read}
+use Rattle.av_vread.specs.Fronts.{FrontText}
+use Rattle.av_vread.proofs.FrontTexts.{front_begins, begins_front}
 use Rattle.av_vread.proofs.BeginningLists.{Parts, all_parts, part_stops, parts_judged}
 use Rattle.av_vread.proofs.BeginningPorts.{Tail, tail_at, tail_reads, closing, closes}
 use Rattle.av_vread.proofs.BeginningItems.{declarations_read, items_read, KindShape, shape_reads}
@@ -629,8 +631,9 @@ stops_there tokens p e f = go (text_judged tokens e)
           after = rest;
           whole = is ∙ q.is (t ∷ rest);
           stands = same_place t.place (sym (again rest) ∙ ap text_at (sym is) ∙ f);
-          begins = record { more = more; said = x; says = subst (λ z. IsText z x) (q.is more) says };
-          none = λ b.
+          begins = begins_front q.tokens (record { more = more; said = x; says = subst (λ z. IsText z x) (q.is more) says });
+          none = λ f.
+              let b = front_begins (q.tokens ++ (t ∷ [])) f in
               let there : front (t ∷ b.more) ≡ (q.tokens ++ (t ∷ [])) ++ b.more = q.is (t ∷ b.more) ∙ sym (append_assoc q.tokens (t ∷ []) b.more) in
               read_not b.said t.place (sym (text_gives _ b.said b.says) ∙ ap text_at (sym there) ∙ again b.more);
         }
@@ -679,19 +682,22 @@ shorter_begins xs x zs b =
       says = subst (λ z. IsText z b.said) (append_assoc xs (x ∷ zs) b.more ∙ sym (append_assoc xs (x ∷ []) (zs ++ b.more))) b.says;
     }
 
+shorter_front : (xs : List Token) (x : Token) (zs : List Token) → FrontText (xs ++ (x ∷ zs)) → FrontText (xs ++ (x ∷ []))
+shorter_front xs x zs f = begins_front (xs ++ (x ∷ [])) (shorter_begins xs x zs (front_begins (xs ++ (x ∷ zs)) f))
+
 -- a text breaks off at one place
 pub one_stop : (tokens : List Token) (p q : Place) → StopsAt tokens p → StopsAt tokens q → p ≡ q
 one_stop tokens p q s t = go (cuts s.before t.before s.token t.token s.after t.after (sym s.whole ∙ t.whole))
   where
     go : Cuts s.before t.before s.token t.token → p ≡ q
     go (same_cut e) = sym s.stands ∙ ap (λ (z : Token). z.place) e ∙ t.stands
-    go (later_cut zs e) = absurd (s.none (shorter_begins s.before s.token zs (subst Begins e t.begins)))
-    go (earlier_cut zs e) = absurd (t.none (shorter_begins t.before t.token zs (subst Begins e s.begins)))
+    go (later_cut zs e) = absurd (s.none (shorter_front s.before s.token zs (subst FrontText e t.begins)))
+    go (earlier_cut zs e) = absurd (t.none (shorter_front t.before t.token zs (subst FrontText e s.begins)))
 
 -- where tokens stop to begin a text, they say none
 pub stops_say_none : (tokens : List Token) (p : Place) (x : Text) → StopsAt tokens p → IsText tokens x → ⊥
 stops_say_none tokens p x s t =
-    s.none (record { more = s.after; said = x; says = subst (λ z. IsText z x) (s.whole ∙ sym (append_assoc s.before (s.token ∷ []) s.after)) t })
+    s.none (begins_front (s.before ++ (s.token ∷ [])) (record { more = s.after; said = x; says = subst (λ z. IsText z x) (s.whole ∙ sym (append_assoc s.before (s.token ∷ []) s.after)) t }))
 
 -- the tokens of bytes end
 pub lexed_ends : {p : Place} {bytes : List ℕ} {tokens : List Token} → AreTokens p bytes tokens → Ends tokens

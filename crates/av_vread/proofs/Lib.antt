@@ -41,3 +41,6 @@ pub mod BeginningTexts
 pub mod FreshMentions
 pub mod SaidLinks
 pub mod Spelled
+pub mod FrontRules
+pub mod FrontParts
+pub mod FrontTexts

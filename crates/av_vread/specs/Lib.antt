@@ -1,3 +1,4 @@
+pub mod Fronts
 pub mod Beginnings
 pub mod Faults
 pub mod SpelledParts

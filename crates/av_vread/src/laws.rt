@@ -8,6 +8,9 @@ ghost use Rattle.av_net.specs.Texts.{text};
 ghost use Rattle.av_net.specs.PlanTexts.{text2};
 ghost use Rattle.av_net.specs.Designs.{Spells, IsSoundDesign, IsSoundPlan};
 ghost use Rattle.av_vread.specs.declared.fault.VFault.{VFault as Fault};
+ghost use Rattle.av_net.specs.Lexemes.{Token};
+ghost use Rattle.av_vread.specs.Fronts.{FrontText};
+ghost use Rattle.av_vread.specs.Beginnings.{Begins};
 ghost use Rattle.av_vread.specs.Faults.{IsFault};
 ghost use Rattle.av_vread.specs.SpelledParts.{HasSpelledParts};
 
@@ -15,6 +18,12 @@ ghost use Rattle.av_vread.specs.SpelledParts.{HasSpelledParts};
 pub fn one_design()
     ensures { (bytes : Items ℕ) (some other : Spelled) → Spells bytes some → Spells bytes other
         → some ≡ other }
+{}
+
+/// A law: the tokens that are a front of a text, by the rules of its grammar, are those that some text continues.
+pub fn fronts()
+    ensures begin { (tokens : Items Token) → FrontText tokens → Begins tokens }
+    ensures all { (tokens : Items Token) → Begins tokens → FrontText tokens }
 {}
 
 /// A law: each text spells a design or has a first fault, and none does both.
