@@ -190,6 +190,7 @@ many_rules {A = A} {F = F} {I = I} r = record { start = in_part r.start; splits 
 -- ---- words
 
 pub words_rules : (texts : List (List ℕ)) → Rules (FrontWords texts) (Words texts)
+unfolding word_token
 words_rules texts = record { start = no_word_yet; splits = λ ts more rest x w. splits texts ts more rest w; extends = λ ts rest x w more. extends w more; completes = λ ts f. completes texts ts f }
   where
     splits : (texts : List (List ℕ)) (ts more rest : List Token) → AreWords texts (ts ++ more) rest → Split (FrontWords texts) (Words texts) ts more rest tt
@@ -206,7 +207,6 @@ words_rules texts = record { start = no_word_yet; splits = λ ts more rest x w. 
     extends (next_word k e w) more = next_word k e (extends w more)
 
     there : (texts : List (List ℕ)) (rest : List Token) → AreWords texts (map word_token texts ++ rest) rest
-    unfolding word_token
     there [] rest = no_word
     there (text ∷ texts) rest = next_word (λ h. absurd cc) refl (there texts rest)
 

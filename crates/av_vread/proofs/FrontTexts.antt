@@ -126,10 +126,10 @@ other_name t k c = go c.input c.clock
     names e = cc
 
     go : {a b : List Token} → IsWordAt (codes "input") (t ∷ name_token rst ∷ k) a → IsNameAt a b clk → ⊥
-    unfolding name_token
     go (next_word l e (no_word)) (name m f) = names f
 
 ports_rules : Rules FrontKindPorts PortsAre
+unfolding word_token name_token
 ports_rules = record {
   start = record { no_clock = λ c. nothing c.input; front = rest_rules.start };
   splits = λ ts more rest x p. split ts more rest x p.0 (rest_rules.splits ts more rest x p.1);
@@ -146,12 +146,10 @@ ports_rules = record {
 
     -- an output first
     output_front : FrontKindRest (word_token (codes "output") ∷ [])
-    unfolding word_token
     output_front = in_next no_more (in_first (in_first (past_word (λ h. absurd cc) refl no_word_yet)))
 
     -- an input and its name
     input_front : (t : Token) → t.kind ≢ kind.Name → t.text ≡ codes "input" → FrontKindRest (t ∷ name_token rst ∷ [])
-    unfolding name_token
     input_front t k e = in_first (in_part (in_first (in_next {x = tt} (next_word k e no_word) (in_next {x = width_for 0} (no_range (width_bits 0 (omega arith))) (one_there (name refl refl))))))
 
     input_word : (t : Token) → is_at (codes "input") (t ∷ []) ≡ true → (t.kind ≢ kind.Name) × (t.text ≡ codes "input")
@@ -166,8 +164,7 @@ ports_rules = record {
         record { more = word_token (codes "output") ∷ c.more; value = c.value; is = λ rest. (not_input (other_there (there (c.more ++ rest)) (codes "input") refl), c.is rest) }
       where
         there : (k : List Token) → IsWordAt (codes "output") (word_token (codes "output") ∷ k) k
-        unfolding word_token
-        there k = next_word (λ h. absurd cc) refl no_word
+            there k = next_word (λ h. absurd cc) refl no_word
     completes (t ∷ []) f = by_first (is_at (codes "input") (t ∷ [])) refl
       where
         by_first : (b : Bool) → is_at (codes "input") (t ∷ []) ≡ b → Completion PortsAre (t ∷ [])
@@ -229,7 +226,7 @@ kind_rules = part_as to from (behind_rules (words_rules (codes "module" ∷ []))
     from ts rest x k =
         subst (λ outputs. KindIs ts rest (record { name = x.name; inputs = x.inputs; outputs = outputs; declarations = x.declarations; items = x.items })) (sym k.outputs)
         (follows {x = tt} k.begins (follows k.name (follows {x = tt} k.opens (mapped {x = body x.inputs k.first k.later x.declarations x.items}
-        (k.no_clock, follows k.inputs (follows k.output (follows k.more_outputs (follows {x = tt} k.closes (follows k.declarations (follows k.items (mapped k.stops))))))))))
+        (k.no_clock, follows k.inputs (follows k.output (follows k.more_outputs (follows {x = tt} k.closes (follows k.declarations (follows k.items (mapped k.stops)))))))))))
 
 -- ---- the top
 

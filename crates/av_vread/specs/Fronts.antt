@@ -227,7 +227,7 @@ abbrev pub FrontTop : List Token → Type 0
 FrontTop =
     WordsThen (codes "module" ∷ []) (NameThen (λ name. Behind FrontClocked Clocked (λ x.
     Behind (FrontPorts (codes "input")) (AreMany (IsPort (codes "," ∷ codes "input" ∷ []))) (λ inputs. Behind (FrontPorts (codes "output")) (AreMany (IsPort (codes "," ∷ codes "output" ∷ []))) (λ outputs.
-    WordsThen (codes ")" ∷ codes ";" ∷ []) (Behind (FrontMany FrontDeclaration IsDeclaration) (AreMany IsDeclaration) (λ declarations. Behind (FrontMany FrontItem IsItem) (AreMany IsItem) (λ items. FrontWords (codes "endmodule" ∷ []))))))))
+    WordsThen (codes ")" ∷ codes ";" ∷ []) (Behind (FrontMany FrontDeclaration IsDeclaration) (AreMany IsDeclaration) (λ declarations. Behind (FrontMany FrontItem IsItem) (AreMany IsItem) (λ items. FrontWords (codes "endmodule" ∷ [])))))))))
 
 -- ---- the text
 
