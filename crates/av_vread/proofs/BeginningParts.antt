@@ -30,11 +30,11 @@ unfoldable pub name_token : List ℕ → Token
 name_token text = record { kind = kind.Name; text = text; place = start }
 
 -- a token whose value is this number
-pub number_token : ℕ → Token
+unfoldable pub number_token : ℕ → Token
 number_token n = record { kind = kind.Number; text = (n + 48) ∷ []; place = start }
 
 -- 1'd0
-pub literal_token : Token
+unfoldable pub literal_token : Token
 literal_token = record { kind = kind.Literal; text = codes "1'd0"; place = start }
 
 -- ---- single tokens

@@ -31,7 +31,7 @@ name_rules = one_rules (record { head = λ ts rest x i. head i; anywhere = λ t 
     head : {ts rest : List Token} {x : List ℕ} → IsNameAt ts rest x → (t : Token) × (ts ≡ t ∷ rest)
     head (name {t = t} k e) = (t, refl)
 
-    anywhere : {t : Token} {rest : List Token} {x : List ℕ} → IsNameAt (t ∷ rest) rest x → (other : List Token) → IsNameAt (t ∷ other) other x
+    anywhere : {t : Token} {ts rest : List Token} {x : List ℕ} → IsNameAt (t ∷ ts) rest x → (other : List Token) → IsNameAt (t ∷ other) other x
     anywhere (name k e) other = name k e
 
 pub this_name_rules : (text : List ℕ) → Rules (FrontOne (IsThisName text)) (IsThisName text)
@@ -41,7 +41,7 @@ this_name_rules text = one_rules (record { head = λ ts rest x i. head i; anywhe
     head : {ts rest : List Token} {x : List ℕ} → IsNameAt ts rest x → (t : Token) × (ts ≡ t ∷ rest)
     head (name {t = t} k e) = (t, refl)
 
-    anywhere : {t : Token} {rest : List Token} {x : List ℕ} → IsNameAt (t ∷ rest) rest x → (other : List Token) → IsNameAt (t ∷ other) other x
+    anywhere : {t : Token} {ts rest : List Token} {x : List ℕ} → IsNameAt (t ∷ ts) rest x → (other : List Token) → IsNameAt (t ∷ other) other x
     anywhere (name k e) other = name k e
 
 number_rules : (least most : ℕ) → least ≤ most → Rules (FrontOne (IsBetween least most)) (IsBetween least most)
@@ -52,7 +52,7 @@ number_rules least most le =
     head : {ts rest : List Token} {n : ℕ} → IsNumberAt ts rest n → (t : Token) × (ts ≡ t ∷ rest)
     head (number {t = t} k e) = (t, refl)
 
-    anywhere : {t : Token} {rest : List Token} {n : ℕ} → IsNumberAt (t ∷ rest) rest n → (other : List Token) → IsNumberAt (t ∷ other) other n
+    anywhere : {t : Token} {ts rest : List Token} {n : ℕ} → IsNumberAt (t ∷ ts) rest n → (other : List Token) → IsNumberAt (t ∷ other) other n
     anywhere (number k e) other = number k e
 
 literal_rules : Rules FrontLiteral IsSizedAt
@@ -69,13 +69,13 @@ literal_rules =
     head : {ts rest : List Token} {w : Width} {v : ℕ} → IsLiteralAt ts rest w v → (t : Token) × (ts ≡ t ∷ rest)
     head (literal {t = t} k l) = (t, refl)
 
-    anywhere : {t : Token} {rest : List Token} {w : Width} {v : ℕ} → IsLiteralAt (t ∷ rest) rest w v → (other : List Token) → IsLiteralAt (t ∷ other) other w v
+    anywhere : {t : Token} {ts rest : List Token} {w : Width} {v : ℕ} → IsLiteralAt (t ∷ ts) rest w v → (other : List Token) → IsLiteralAt (t ∷ other) other w v
     anywhere (literal k l) other = literal k l
 
 word_head : {text : List ℕ} {ts rest : List Token} → AreWords (text ∷ []) ts rest → (t : Token) × (ts ≡ t ∷ rest)
 word_head (next_word {t = t} k e (no_word)) = (t, refl)
 
-word_anywhere : {text : List ℕ} {t : Token} {rest : List Token} → AreWords (text ∷ []) (t ∷ rest) rest → (other : List Token) → AreWords (text ∷ []) (t ∷ other) other
+word_anywhere : {text : List ℕ} {t : Token} {ts rest : List Token} → AreWords (text ∷ []) (t ∷ ts) rest → (other : List Token) → AreWords (text ∷ []) (t ∷ other) other
 word_anywhere (next_word k e w) other = next_word k e no_word
 
 operator_rules : Rules (FrontOne IsOperator) IsOperator
@@ -374,7 +374,7 @@ edge_rules =
     from ts rest x e = follows {x = tt} e.at_edge (follows {x = tt} e.clock (follows {x = tt} e.tests (follows {x = tt} e.reset e.closes)))
 
 abbrev stepped : List ℕ → Sized → Operand → Width × Step
-stepped register reset next = (reset.width, record { register = register; reset = reset.value; next = next })
+stepped text reset next = (reset.width, record { register = text; reset = reset.value; next = next })
 
 abbrev IsSteppedAt : List Token → List Token → Width × Step → Type 0
 IsSteppedAt ts rest x = IsStep ts rest x.0 x.1

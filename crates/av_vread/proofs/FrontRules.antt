@@ -169,13 +169,15 @@ many_rules {A = A} {F = F} {I = I} r = record { start = in_part r.start; splits 
     third ts more rest left x xs i (short g) = short (past_part i g)
     third ts more rest left x xs i (within end e m) = within end e (one_more i m)
 
+    second : (ts more rest a : List Token) (x : A) (xs : List A) → Split F I ts more a x → ((left : List Token) → a ≡ left ++ more → Split (FrontMany F I) (AreMany I) left more rest xs)
+        → Split (FrontMany F I) (AreMany I) ts more rest (x ∷ xs)
+    second ts more rest a x xs (short f) later = short (in_part f)
+    second ts more rest a x xs (within left e i) later = third ts more rest left x xs i (later left e)
+
     walk : (zs rest : List Token) (xs : List A) → AreMany I zs rest xs → (ts more : List Token) → zs ≡ ts ++ more → Split (FrontMany F I) (AreMany I) ts more rest xs
     walk zs rest xs (no_more) ts more e = within ts e no_more
-    walk zs rest xs (one_more {a = a} {x = x} {xs = ys} i many) ts more e = second (r.splits ts more a x (subst (λ z. I z a x) e i))
-      where
-        second : Split F I ts more a x → Split (FrontMany F I) (AreMany I) ts more rest (x ∷ ys)
-        second (short f) = short (in_part f)
-        second (within left f j) = third ts more rest left x ys j (walk a rest ys many left more f)
+    walk zs rest xs (one_more {a = a} {x = x} {xs = ys} i many) ts more e =
+        second ts more rest a x ys (r.splits ts more a x (subst (λ z. I z a x) e i)) (λ left f. walk a rest ys many left more f)
 
     extended : (ts rest : List Token) (xs : List A) → AreMany I ts rest xs → (more : List Token) → AreMany I (ts ++ more) (rest ++ more) xs
     extended ts rest xs (no_more) more = no_more

@@ -164,7 +164,7 @@ ports_rules = record {
         record { more = word_token (codes "output") ∷ c.more; value = c.value; is = λ rest. (not_input (other_there (there (c.more ++ rest)) (codes "input") refl), c.is rest) }
       where
         there : (k : List Token) → IsWordAt (codes "output") (word_token (codes "output") ∷ k) k
-            there k = next_word (λ h. absurd cc) refl no_word
+        there k = next_word (λ h. absurd cc) refl no_word
     completes (t ∷ []) f = by_first (is_at (codes "input") (t ∷ [])) refl
       where
         by_first : (b : Bool) → is_at (codes "input") (t ∷ []) ≡ b → Completion PortsAre (t ∷ [])

@@ -1,4 +1,5 @@
 pub mod Scoped
+pub mod Kinds
 pub mod Reading
 pub mod Lexing
 pub mod Lines

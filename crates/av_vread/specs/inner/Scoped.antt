@@ -11,6 +11,11 @@ Bytes = List ℕ
 abbrev pub texts : List (Bor Bytes) → List Bytes
 texts names = map (λ name. name.now) names
 
+-- what is there, as a list
+abbrev pub listed : Option Bytes → List Bytes
+listed None = []
+listed (Some name) = name ∷ []
+
 -- the width of the first port with a name, where there is one
 abbrev pub width_found : List Port → Bytes → Option ℕ
 width_found [] q = None
