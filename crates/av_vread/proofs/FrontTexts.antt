@@ -1,6 +1,7 @@
 -- Fronts of kinds, of the top and of texts: the tokens that are one are those with which a text begins.
-use Rattle.std.proofs.Common.{◌≡◌, ◌≢◌, ◌⊎◌, inl, inr, ℕ, Bool, true, false, true≢false, List, [], ◌∷◌, ◌++◌, refl, sym, ap, subst, ◌∙◌, arith}
+use Rattle.std.proofs.Common.{◌≡◌, ◌≢◌, ◌⊎◌, inl, inr, ℕ, Bool, true, false, true≢false, List, [], ◌∷◌, ◌++◌, length, refl, sym, ap, subst, ◌∙◌, arith}
 use Rattle.std.specs.Prelude.{codes}
+use Rattle.std.proofs.lemmas.Slice.Eq.{bytes_eq-Decides}
 use Rattle.av_base.specs.Tokens.{start}
 use Rattle.av_base.specs.declared.width.Width.{Width}
 use Rattle.av_net.specs.declared.token_kind.TokenKind.TheVariants as kind
@@ -116,14 +117,14 @@ PortsAre ts rest x = (IsClockFirst ts → ⊥) × RestIs ts rest x
 
 -- a first token that is no `input`, and a second one that is no `clk`
 not_input : {ts : List Token} → is_at (codes "input") ts ≡ false → IsClockFirst ts → ⊥
-not_input no c = true≢false (sym (word_there c.input).0 ∙ no)
+not_input other c = true≢false (sym (word_there c.input).0 ∙ other)
 
 other_name : (t : Token) (k : List Token) → IsClockFirst (t ∷ name_token rst ∷ k) → ⊥
 unfolding name_token
 other_name t k c = go c.input c.clock
   where
     names : rst ≡ clk → ⊥
-    names e = cc
+    names e = true≢false (sym ((bytes_eq-Decides rst clk).1 e))
 
     go : {a b : List Token} → IsWordAt (codes "input") (t ∷ name_token rst ∷ k) a → IsNameAt a b clk → ⊥
     go (next_word l e (no_word)) (name m f) = names f
@@ -138,7 +139,7 @@ ports_rules = record {
 }
   where
     nothing : {a : List Token} → IsWordAt (codes "input") [] a → ⊥
-    nothing w = absurd cc
+    nothing w = true≢false (sym (word_there w).0)
 
     split : (ts more rest : List Token) (x : Body) → (IsClockFirst (ts ++ more) → ⊥) → Split FrontKindRest RestIs ts more rest x → Split FrontKindPorts PortsAre ts more rest x
     split ts more rest x none (short f) = short (record { no_clock = λ c. none (clock_longer ts more c); front = f })
@@ -277,6 +278,9 @@ kinds_rules = many_rules kind_rules
 end_there : Token
 end_there = record { kind = kind.End; text = []; place = start }
 
+end_alone : {ts : List Token} → IsEnd ts → length ts ≡ 1
+end_alone (end k) = refl
+
 -- each front is one of a text
 pub front_begins : (ts : List Token) → FrontText ts → Begins ts
 unfolding end_there
@@ -321,7 +325,7 @@ begins_front ts b = kinds b.says (kinds_rules.splits ts b.more b.says.a b.said.k
     ending : (left more : List Token) → IsEnd (left ++ more) → FrontEnd left
     ending [] more e = no_end_yet
     ending (t ∷ []) more (end k) = at_end (end k)
-    ending (t ∷ u ∷ left) more e = absurd cc
+    ending (t ∷ u ∷ left) more e = absurd (let one = end_alone e in omega (arith, one))
 
     tops : (t : IsText (ts ++ b.more) b.said) (left : List Token) → AreMany IsKind ts left b.said.kinds → Split FrontTop IsTop left b.more t.b b.said.top → FrontText ts
     tops t left k (short f) = in_next k (in_first f)

@@ -4,9 +4,10 @@ use Rattle.std.specs.Prelude.{◌||◌, OnOk, Result, Ok, Err, find, if◌then�
 use Rattle.std.proofs.Math.Path.{fun_ext}
 use Rattle.std.proofs.lemmas.List.{append-nil}
 use Rattle.av_net.specs.declared.netlist.Port.{Port}
+use Rattle.av_net.specs.declared.plan.CellKind.{CellKind}
 use Rattle.av_net.specs.Names.{width_in}
 use Rattle.av_net.specs.Grammar.{Item}
-use Rattle.av_net.specs.Rows.{Among, is_in, target_of, reads_early, first_early, wires_of, registers_in}
+use Rattle.av_net.specs.Rows.{Among, is_in, target_of, driven_by, reads_early, first_early, wires_of, registers_in}
 use Rattle.av_vread.specs.inner.Scoped.{Bytes, texts, width_found}
 use Rattle.av_vread.specs.declared.parsed.Item.{Item as FoundItem}
 use Rattle.av_vread.specs.declared.parsed.Declaration.{Declaration as FoundDeclaration}
@@ -35,25 +36,24 @@ set_more names i d set set' q lt e so =
     rest_at names i d lt = drop-cons names i d lt ∙ ap (λ n. get_or names i d ∷ drop n names) (let next : suc i ≡ i + 1 = omega arith in next)
 
 -- the same names more after either list
-one_more_name : (a b : List (List ℕ)) (t q : List ℕ) → is_in a q ≡ is_in b q → is_in (a ++ t ∷ []) q ≡ is_in (b ++ t ∷ []) q
-one_more_name a b t q h = any_or_of q a (t ∷ []) ∙ ap (λ x. x || is_in (t ∷ []) q) h ∙ sym (any_or_of q b (t ∷ []))
+more_names : (a b names : List (List ℕ)) (q : List ℕ) → is_in a q ≡ is_in b q → is_in (a ++ names) q ≡ is_in (b ++ names) q
+more_names a b names q h = any_or_of q a names ∙ ap (λ x. x || is_in names q) h ∙ sym (any_or_of q b names)
 
-pub early_same : (w : Among) (a b : List (List ℕ)) (items : List Item) → ((q : List ℕ) → is_in a q ≡ is_in b q) → first_early w a items ≡ first_early w b items
-early_same w a b [] h = refl
-early_same w a b (item ∷ items) h =
-    ap (λ (t : Among). cond (reads_early w t item) (Some (target_of item)) (first_early w (a ++ target_of item ∷ []) items)) (same_test a b h)
-    ∙ ap (λ z. cond (reads_early w (is_in b) item) (Some (target_of item)) z) (early_same w (a ++ target_of item ∷ []) (b ++ target_of item ∷ []) items (λ q. one_more_name a b (target_of item) q (h q)))
+pub early_same : (kinds : List CellKind) (w : Among) (a b : List (List ℕ)) (items : List Item) → ((q : List ℕ) → is_in a q ≡ is_in b q) → first_early kinds w a items ≡ first_early kinds w b items
+early_same kinds w a b [] h = refl
+early_same kinds w a b (item ∷ items) h =
+    ap (λ (t : Among). cond (reads_early kinds w t item) (Some (target_of item)) (first_early kinds w (a ++ driven_by kinds item) items)) (same_test a b h)
+    ∙ ap (λ z. cond (reads_early kinds w (is_in b) item) (Some (target_of item)) z)
+    (early_same kinds w (a ++ driven_by kinds item) (b ++ driven_by kinds item) items (λ q. more_names a b (driven_by kinds item) q (h q)))
 
-pub early_more : (w : Among) (items : List FoundItem) (i : ℕ) (x : FoundItem) (earlier earlier' : List (List ℕ)) (total : Option (List ℕ)) → first_early w earlier (map said_item (drop i items)) ≡ total
-    → i < length items → x ≡ get_or items i x → reads_early w (is_in earlier) (said_item x) ≡ false
-    → earlier' ≡ (if is_in earlier (target_of (said_item x)) then earlier else (earlier ++ target_of (said_item x) ∷ []))
-    → first_early w earlier' (map said_item (drop (i + 1) items)) ≡ total
-early_more w items i x earlier earlier' total so lt at late e =
-    let t : List ℕ = target_of (said_item x) in
+pub early_more : (kinds : List CellKind) (w : Among) (items : List FoundItem) (i : ℕ) (x : FoundItem) (earlier earlier' : List (List ℕ)) (total : Option (List ℕ)) → first_early kinds w earlier (map said_item (drop i items)) ≡ total
+    → i < length items → x ≡ get_or items i x → reads_early kinds w (is_in earlier) (said_item x) ≡ false
+    → ((q : List ℕ) → is_in earlier' q ≡ is_in (earlier ++ driven_by kinds (said_item x)) q) → first_early kinds w earlier' (map said_item (drop (i + 1) items)) ≡ total
+early_more kinds w items i x earlier earlier' total so lt at late same =
     let rest : List Item = map said_item (drop (i + 1) items) in
-    let same : (q : List ℕ) → is_in earlier' q ≡ is_in (earlier ++ t ∷ []) q = λ q. ap (λ z. is_in z q) (sym (append-nil earlier')) ∙ put_in earlier earlier' [] t q e in
-    let one : first_early w earlier (said_item x ∷ rest) ≡ first_early w (earlier ++ t ∷ []) rest = rw late refl in
-    early_same w earlier' (earlier ++ t ∷ []) rest same ∙ sym one ∙ ap (λ z. first_early w earlier (map said_item z)) (sym (next_item items i x lt at)) ∙ so
+    let one : first_early kinds w earlier (said_item x ∷ rest) ≡ first_early kinds w (earlier ++ driven_by kinds (said_item x)) rest =
+      ap (λ test. cond test (Some (target_of (said_item x))) (first_early kinds w (earlier ++ driven_by kinds (said_item x)) rest)) late in
+    early_same kinds w earlier' (earlier ++ driven_by kinds (said_item x)) rest same ∙ sym one ∙ ap (λ z. first_early kinds w earlier (map said_item z)) (sym (next_item items i x lt at)) ∙ so
 
 pub missing_same : (a b : List (List ℕ)) (names : List (List ℕ)) → ((q : List ℕ) → is_in a q ≡ is_in b q) → find (λ name. not (is_in a name)) names ≡ find (λ name. not (is_in b name)) names
 missing_same a b names h = ap (λ (t : Among). find (λ name. not (t name)) names) (same_test a b h)

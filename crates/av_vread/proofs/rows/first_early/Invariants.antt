@@ -4,4 +4,4 @@ use Rattle.av_net.specs.Rows.{is_in, first_early}
 use Rattle.av_vread.proofs.rows.first_early.Given as goal
 
 abbrev pub invariant-loop-item : goal.invariant-loop-item
-invariant-loop-item l = first_early (is_in l.wires) l.earlier (map said_item (drop l.item-index l.items)) ≡ first_early (is_in l.wires) [] (map said_item l.items)
+invariant-loop-item l = first_early l.kinds (is_in l.wires) l.earlier (map said_item (drop l.item-index l.items)) ≡ first_early l.kinds (is_in l.wires) [] (map said_item l.items)

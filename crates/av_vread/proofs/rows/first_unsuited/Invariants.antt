@@ -6,4 +6,4 @@ use Rattle.std.specs.Prelude.{find, not}
 use Rattle.av_vread.proofs.rows.first_unsuited.Given as goal
 
 abbrev pub invariant-loop-item : goal.invariant-loop-item
-invariant-loop-item l = find (λ item. not (suits (width_in l.widths) item)) (map said_item (drop l.item-index l.items)) ≡ find (λ item. not (suits (width_in l.widths) item)) (map said_item l.items)
+invariant-loop-item l = find (λ item. not (suits l.kinds (width_in l.widths) item)) (map said_item (drop l.item-index l.items)) ≡ find (λ item. not (suits l.kinds (width_in l.widths) item)) (map said_item l.items)
