@@ -1,4 +1,6 @@
 pub mod Scoped
+pub mod KindPorts
+pub mod Numbered
 pub mod Kinds
 pub mod Reading
 pub mod Lexing

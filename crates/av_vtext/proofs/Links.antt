@@ -1,7 +1,7 @@
 -- Links of ports that are put on a page, one after another, each behind a comma.
-use Rattle.std.proofs.Common.{◌≡◌, ◌⊎◌, inl, inr, ℕ, zero, suc, ◌+◌, ◌<◌, ◌≤◌, List, [], ◌∷◌, ◌++◌, map, length, get_or, drop, codes, refl, sym, ◌∙◌, ap, subst, arith, append_assoc, add-one, drop-cons}
+use Rattle.std.proofs.Common.{◌≡◌, ◌⊎◌, inl, inr, ℕ, zero, suc, ◌+◌, ◌<◌, ◌≤◌, ◌-◌, List, [], ◌∷◌, ◌++◌, map, length, get_or, take, drop, codes, refl, sym, ◌∙◌, ap, subst, arith, append_assoc, add-one, drop-cons}
 use Rattle.std.specs.List.{flat_map}
-use Rattle.std.proofs.lemmas.List.{append-nil, drop_all, drop-map, get_or-map, length-map}
+use Rattle.std.proofs.lemmas.List.{append-nil, drop_all, get_or-map, length-map, take_all}
 use Rattle.std.proofs.lemmas.List.Concat.{flat_map-append}
 use Rattle.av_base.specs.Outside.{SinkState}
 use Rattle.av_net.specs.declared.operation.Operand.{Operand}
@@ -55,7 +55,7 @@ next_item xs at x lt is = drop-cons xs at x lt ∙ ap (λ y. y ∷ drop (suc at)
 
 pub next_name : (names : List (List ℕ)) (at : ℕ) (name : List ℕ) → at < length names → name ≡ get_or names at name → drop at (map Name names) ≡ Name name ∷ drop (at + 1) (map Name names)
 next_name names at name lt is =
-    next_item (map Name names) at (Name name) (omega (arith, length-map names Name)) (ap Name is ∙ sym (get_or-map Name names at (Name name) name lt))
+    next_item (map Name names) at (Name name) (omega (arith, length-map names Name)) (ap Name is ∙ sym (get_or-map Name names at name (Name name) lt))
 
 -- ---- all links
 
@@ -65,3 +65,26 @@ pub later_links : (port : Port) (operand : Operand) (ports more : List Port) (op
 later_links port operand ports more operands others =
     append_assoc (link_text port operand) (behind_commas (link_texts ports operands)) (behind_commas (link_texts more others))
     ∙ ap (λ rest. link_text port operand ++ rest) (sym (flat_map-append (λ text. codes ", " ++ text) (link_texts ports operands) (link_texts more others)))
+
+-- ---- a first item and the others
+
+pub whole : {X : Type 0} (xs : List X) (x : X) → 1 ≤ length xs → x ≡ get_or xs 0 x → xs ≡ x ∷ take (length xs - 1) (drop 1 xs)
+whole [] x some is = absurd (omega arith)
+whole (y ∷ xs) x some is = ap (λ z. z ∷ xs) (sym is) ∙ ap (λ rest. x ∷ rest) (sym (take_all (length (y ∷ xs) - 1) xs (omega arith)))
+
+pub empty : {X : Type 0} (xs : List X) → length xs < 1 → xs ≡ []
+empty [] none = refl
+empty (x ∷ xs) none = absurd (omega arith)
+
+pub no_operand : (ports : List Port) → link_texts ports [] ≡ []
+no_operand ports = no_operands ports
+
+pub name_links : (ports later : List Port) (names others : List (List ℕ)) (port : Port) (name : List ℕ) → ports ≡ port ∷ later → names ≡ name ∷ others
+    → link_text port (Name name) ++ behind_commas (link_texts later (map Name others)) ≡ joined (link_texts ports (map Name names))
+name_links ports later names others port name p n = sym (ap (λ ps. joined (link_texts ps (map Name names))) p ∙ ap (λ ns. joined (link_texts (port ∷ later) (map Name ns))) n)
+
+pub all_links : (ports later : List Port) (operands others : List Operand) (outputs : List Port) (names : List (List ℕ)) (port : Port) (operand : Operand) → ports ≡ port ∷ later → operands ≡ operand ∷ others
+    → (link_text port operand ++ behind_commas (link_texts later others)) ++ behind_commas (link_texts outputs (map Name names)) ≡ joined (link_texts ports operands ++ link_texts outputs (map Name names))
+all_links ports later operands others outputs names port operand p o =
+    later_links port operand later outputs others (map Name names)
+    ∙ sym (ap (λ ps. joined (link_texts ps operands ++ link_texts outputs (map Name names))) p ∙ ap (λ os. joined (link_texts (port ∷ later) os ++ link_texts outputs (map Name names))) o)

@@ -1,0 +1,81 @@
+//! A kind of cell of a text.
+
+ghost use Rattle.std.specs.Prelude.{◌≡◌, ◌++◌, IfOk};
+ghost use Rattle.av_net.specs.Names.{width_in};
+ghost use Rattle.av_net.specs.Rows.{kind_from, is_input_of, is_output_of};
+ghost use Rattle.av_vread.specs.inner.Reading.{said_module};
+
+use crate::parsed::ModuleText;
+use crate::scope;
+use crate::widths::Widths;
+use av_base::Memory;
+use av_table::NameSet;
+use std::alloc::Global;
+use std::marker::Model;
+
+/// A kind of cell with its ports, found by their names. Contracts see the kind.
+#[derive(Drop)]
+pub(crate) struct Kind<'a> {
+    of: &'a ModuleText,
+    inputs: NameSet<'a>,
+    outputs: NameSet<'a>,
+    widths: Widths<'a>,
+}
+
+impl<'a> Model for Kind<'a> {
+    ghost use Rattle.av_net.specs.declared.plan.CellKind.{CellKind as Cell};
+    ghost use Rattle.av_net.specs.Rows.{kind_from};
+    ghost use Rattle.av_vread.specs.inner.Reading.{said_module};
+    ghost use Rattle.av_vread.specs.inner.KindPorts.{HasPorts};
+
+    ghost Value = { Cell };
+
+    ghost view = { λ kind. kind_from (said_module kind.of.now) };
+
+    ghost invariant = { HasPorts };
+}
+
+impl<'a> Kind<'a> {
+    /// That of a text.
+    pub(crate) fn new(alloc: Global, of: &'a ModuleText) -> Result<Kind<'a>, Memory>
+        ensures { IfOk result (λ kind. kind ≡ kind_from (said_module of.now)) }
+    {
+        let mut widths = Widths::new(alloc);
+        scope::insert_ports(&mut widths, of.inputs.as_slice())?;
+        scope::insert_ports(&mut widths, of.outputs.as_slice())?;
+        Ok(Kind {
+            of,
+            inputs: scope::port_names(alloc, of.inputs.as_slice())?,
+            outputs: scope::port_names(alloc, of.outputs.as_slice())?,
+            widths,
+        })
+    }
+
+    /// Its text.
+    pub(crate) fn text(&self) -> &'a ModuleText
+        ensures { kind_from (said_module result.now) ≡ self.now }
+    {
+        self.of
+    }
+
+    /// Whether an input port has this name.
+    pub(crate) fn takes(&self, port: &str) -> bool
+        ensures { result ≡ is_input_of self.now port.now }
+    {
+        self.inputs.contains(port.as_bytes())
+    }
+
+    /// Whether an output port has this name.
+    pub(crate) fn gives(&self, port: &str) -> bool
+        ensures { result ≡ is_output_of self.now port.now }
+    {
+        self.outputs.contains(port.as_bytes())
+    }
+
+    /// The width of the port with this name.
+    pub(crate) fn bits(&self, port: &str) -> u32
+        ensures { result ≡ width_in (self.now.inputs ++ self.now.outputs) port.now }
+    {
+        self.widths.bits(port)
+    }
+}
