@@ -530,7 +530,7 @@ wide_given_reads target =
   where
     within : (ts rest : List Token) (x : Item) → WideGiven target ts rest x → Given target ts rest x
     within ts rest x (follows {mid = e} {x = wide} is m) = unmap (Given target ts rest) m (λ c s front a b w n v.
-      kind_wide_assignment {d = record { target = target; operation = wide.1 }} (record { a = a; b = b; c = ts; e = e; name = is.name; by = is.by; assigns = w; target = n; equals = v; widens = is.widens; operation = is.is; ends = s }))
+        kind_wide_assignment {d = record { target = target; operation = wide.1 }} (record { a = a; b = b; c = ts; e = e; name = is.name; by = is.by; assigns = w; target = n; equals = v; widens = is.widens; operation = is.is; ends = s }))
 
 abbrev DriveGiven : List ℕ → List Token → List Token → Item → Type 0
 DriveGiven target = Follows IsOperation (λ o. Mapped (Word (codes ";")) (λ c. drive (record { target = target; operation = o })))
@@ -541,7 +541,7 @@ drive_given_reads target =
   where
     within : (ts rest : List Token) (x : Item) → DriveGiven target ts rest x → Given target ts rest x
     within ts rest x (follows {mid = e} {x = o} is m) = unmap (Given target ts rest) m (λ c s front a b w n v.
-      kind_assignment {d = record { target = target; operation = o }} (record { a = a; b = b; c = ts; e = e; assigns = w; target = n; equals = v; operation = is; ends = s }))
+        kind_assignment {d = record { target = target; operation = o }} (record { a = a; b = b; c = ts; e = e; assigns = w; target = n; equals = v; operation = is; ends = s }))
 
 given_reads : (target : List ℕ) → Reads true pair (Given target) (given_at target)
 unfolding given_at
@@ -614,4 +614,3 @@ step_reads =
 pub as_step : (ts rest : List Token) (x : Item) → StepIs ts rest x → IsItem ts rest x
 as_step ts rest x (follows {mid = a} e (follows {mid = b} n (follows {mid = f} r (follows {mid = g} i (follows {mid = h} w (follows {mid = j} o m)))))) =
     unmap (IsItem ts rest) m (λ y s. at_an_edge (record { a = a; b = b; c = r.a; d = r.b; e = f; f = g; g = h; h = j; at_edge = e; register = n; becomes = r.becomes; reset = r.literal_is; otherwise = r.otherwise; again = i; becomes_too = w; next = o; ends = s }))
-

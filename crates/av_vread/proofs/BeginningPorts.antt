@@ -274,4 +274,3 @@ module _ (called : List ℕ) where
           })
       with_inputs ts (all_parts front rest xs p is ends none once spells) =
           with_outputs ts rest xs front p is none (λ k b. once (length (front k)) k [] (omega arith) b) spells (outputs_judged rest ends)
-

@@ -218,6 +218,7 @@ kind_opens w (after_input {i = i} {text = text} m n o w_in) = record {
       };
       comma = a_word (codes ",") k;
     }
+
 output_opens : (w : List Token) → OpensOutput w → Completes IsKind (λ k. w ++ k)
 unfolding output_part last_part
 output_opens w (after_output {text = text} m n o w_out) = record {
@@ -381,10 +382,10 @@ kind_judged ts e b = go (shape_reads.judged ts e)
 
     go : Verdict true pair KindShape kind_at ts → Verdict true pair IsKind kind_at ts
     go (past front rest x p is ends sees again spells) = past front rest x p is ends sees again (λ k.
-      let long = shape_long (spells k) in
-      let whole = ap length (p.is k) in
-      let sum = length-append p.tokens k in
-      kind_from (spells k) (still front p (omega arith) rest is k))
+        let long = shape_long (spells k) in
+        let whole = ap length (p.is k) in
+        let sum = length-append p.tokens k in
+        kind_from (spells k) (still front p (omega arith) rest is k))
     go (stops front t rest p is again c) = stops front t rest p is again (completed (cases_lt 4 (length p.tokens)))
       where
         moved : Completes IsKind (λ k. p.tokens ++ k) → Completes IsKind front

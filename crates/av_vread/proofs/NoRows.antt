@@ -253,9 +253,9 @@ names_by_text m name =
 
 text_distinct : (m : Module) → AreDistinct (names_of (declarations m)) → AreDistinct (names_of (m.inputs ++ m.outputs ++ m.wires ++ m.registers))
 text_distinct m distinct = distinct_by (names_of (m.inputs ++ m.outputs ++ m.wires ++ m.registers)) (λ name.
-  let same = names_by_text m name in
-  let most = at_most_once (names_of (declarations m)) name distinct in
-  omega arith)
+    let same = names_by_text m name in
+    let most = at_most_once (names_of (declarations m)) name distinct in
+    omega arith)
 
 registers_distinct : (m : Module) → AreDistinct (names_of (declarations m)) → AreDistinct (names_of m.registers)
 registers_distinct m distinct =
@@ -391,16 +391,16 @@ module _ (kinds : List CellKind) (m : Module) (instances : List Instance) (top :
   instances_once u [] within distinct = nothing_twice
   instances_once u (i ∷ some) within distinct = by_test (bytes_eq u i.name)
       (λ same.
-        let is : u ≡ i.name = (bytes_eq-Decides u i.name).0 same in
-        let here : linked_by u (instance (instance_said kinds i)) ≡ names_of (kind_of kinds i).inputs ++ names_of (kind_of kinds i).outputs =
-          ap (λ v. linked_by v (instance (instance_said kinds i))) is ∙ own_links (kind_for kinds (instance_said kinds i)) i.name (instance_said kinds i).links ∙ links_ports kinds (width_of m) (all_names m) (wire_names m) i (said i (within i (first_among i some))) in
-        let none : flat_map (linked_by u) (map (λ i. instance (instance_said kinds i)) some) ≡ [] = others u some (λ at. apart (i.name ∷ []) (instance_names some) u distinct (0, omega arith, sym is) at) in
-        subst AreDistinct (sym (ap (λ names. names ++ flat_map (linked_by u) (map (λ i. instance (instance_said kinds i)) some)) here ∙ ap (λ names. (names_of (kind_of kinds i).inputs ++ names_of (kind_of kinds i).outputs) ++ names) none ∙ append-nil _))
-        (said i (within i (first_among i some))).ports)
+      let is : u ≡ i.name = (bytes_eq-Decides u i.name).0 same in
+      let here : linked_by u (instance (instance_said kinds i)) ≡ names_of (kind_of kinds i).inputs ++ names_of (kind_of kinds i).outputs =
+      ap (λ v. linked_by v (instance (instance_said kinds i))) is ∙ own_links (kind_for kinds (instance_said kinds i)) i.name (instance_said kinds i).links ∙ links_ports kinds (width_of m) (all_names m) (wire_names m) i (said i (within i (first_among i some))) in
+      let none : flat_map (linked_by u) (map (λ i. instance (instance_said kinds i)) some) ≡ [] = others u some (λ at. apart (i.name ∷ []) (instance_names some) u distinct (0, omega arith, sym is) at) in
+      subst AreDistinct (sym (ap (λ names. names ++ flat_map (linked_by u) (map (λ i. instance (instance_said kinds i)) some)) here ∙ ap (λ names. (names_of (kind_of kinds i).inputs ++ names_of (kind_of kinds i).outputs) ++ names) none ∙ append-nil _))
+      (said i (within i (first_among i some))).ports)
       (λ other.
-        let here : linked_by u (instance (instance_said kinds i)) ≡ [] = no_links u (instance_said kinds i) other in
-        subst AreDistinct (sym (ap (λ names. names ++ flat_map (linked_by u) (map (λ i. instance (instance_said kinds i)) some)) here))
-        (instances_once u some (λ j at. within j (more_among i j some at)) (rest_distinct (i.name ∷ []) (instance_names some) distinct)))
+      let here : linked_by u (instance (instance_said kinds i)) ≡ [] = no_links u (instance_said kinds i) other in
+      subst AreDistinct (sym (ap (λ names. names ++ flat_map (linked_by u) (map (λ i. instance (instance_said kinds i)) some)) here))
+      (instances_once u some (λ j at. within j (more_among i j some at)) (rest_distinct (i.name ∷ []) (instance_names some) distinct)))
     where
       no_links : (u : List ℕ) (y : Instantiation) → bytes_eq u y.name ≡ false → linked_by u (instance y) ≡ []
       no_links u y other = none_linked u (kind_for kinds y) y.name y.links other
@@ -422,14 +422,14 @@ module _ (kinds : List CellKind) (m : Module) (instances : List Instance) (top :
 
   names_apart : AreDistinct (clk ∷ rst ∷ (declared_in text ++ instance_names instances))
   names_apart = distinct_by (clk ∷ rst ∷ (declared_in text ++ instance_names instances)) (λ name.
-    let same : count name (all_names m) ≡ count name (declared_in text) = subst (λ z. count name (all_names z) ≡ count name (declared_in text)) module_is (count_names name text) in
-    let front : AreDistinct (clk ∷ rst ∷ all_names m ++ instance_names instances) = front_distinct (clk ∷ rst ∷ all_names m ++ instance_names instances) (part_names kinds instances) top.declared_once in
-    let most = at_most_once (clk ∷ rst ∷ all_names m ++ instance_names instances) name front in
-    let a = count_joined name (clk ∷ rst ∷ []) (all_names m ++ instance_names instances) in
-    let b = count_joined name (all_names m) (instance_names instances) in
-    let c = count_joined name (clk ∷ rst ∷ []) (declared_in text ++ instance_names instances) in
-    let d = count_joined name (declared_in text) (instance_names instances) in
-    omega arith)
+      let same : count name (all_names m) ≡ count name (declared_in text) = subst (λ z. count name (all_names z) ≡ count name (declared_in text)) module_is (count_names name text) in
+      let front : AreDistinct (clk ∷ rst ∷ all_names m ++ instance_names instances) = front_distinct (clk ∷ rst ∷ all_names m ++ instance_names instances) (part_names kinds instances) top.declared_once in
+      let most = at_most_once (clk ∷ rst ∷ all_names m ++ instance_names instances) name front in
+      let a = count_joined name (clk ∷ rst ∷ []) (all_names m ++ instance_names instances) in
+      let b = count_joined name (all_names m) (instance_names instances) in
+      let c = count_joined name (clk ∷ rst ∷ []) (declared_in text ++ instance_names instances) in
+      let d = count_joined name (declared_in text) (instance_names instances) in
+      omega arith)
 
   pub none_twice : (earlier : List (List ℕ)) → AreDistinct (earlier ++ m.name ∷ []) → first_again (front_of earlier) (mentions_of kinds text) ≡ None
   none_twice earlier named = fresh_none (front_of earlier) (mentions_of kinds text) (record {
@@ -439,8 +439,8 @@ module _ (kinds : List CellKind) (m : Module) (instances : List Instance) (top :
     linked = λ u.
         let D = flat_map (linked_by u) of_drives in
         let parts : flat_map (linked_by u) text.items ≡ flat_map (linked_by u) of_instances =
-          flat_map-append (linked_by u) (of_instances ++ of_drives) of_steps ∙ ap (λ xs. flat_map (linked_by u) (of_instances ++ of_drives) ++ xs) (steps_link u m.steps) ∙ append-nil _
-          ∙ flat_map-append (linked_by u) of_instances of_drives ∙ ap (λ xs. flat_map (linked_by u) of_instances ++ xs) (drives_link u m.drives) ∙ append-nil _ in
+        flat_map-append (linked_by u) (of_instances ++ of_drives) of_steps ∙ ap (λ xs. flat_map (linked_by u) (of_instances ++ of_drives) ++ xs) (steps_link u m.steps) ∙ append-nil _
+        ∙ flat_map-append (linked_by u) of_instances of_drives ∙ ap (λ xs. flat_map (linked_by u) of_instances ++ xs) (drives_link u m.drives) ∙ append-nil _ in
         let own : AreDistinct (instance_names instances) = rest_distinct (clk ∷ rst ∷ declared_in text) (instance_names instances) names_apart in
         subst AreDistinct (sym (picked_in (linked_at u) (λ name. refl) (λ name. refl) kinds earlier text ∙ nested (linked_at u) (item_mentions kinds) text.items ∙ parts)) (instances_once u instances (λ i at. at) own);
   })
@@ -457,9 +457,9 @@ module _ (kinds : List CellKind) (m : Module) (instances : List Instance) (top :
       (each_by (λ i. wrong_of m (instance (instance_said kinds i)) ≡ None) instances (λ i at. instance_right kinds (width_of m) (all_names m) (wire_names m) i (said i at)))
       (both_all (λ d. Contains (wire_names m) d.target) (λ d. EachOperand (IsAmong (all_names m)) d.operation) (λ d. wrong_of m (drive_said (written_width m) d) ≡ None)
       (λ d t o.
-        let e = is_found d.target (wire_names m) t in
-        let right : wrong_drive (is_in (wire_names m)) (is_in (all_names m)) d ≡ None = rw e (right_operation (all_names m) d.operation o) in
-        wrong_same kinds (is_in (wire_names m)) (is_in (names_of m.registers)) (is_in (all_names m)) (written_width m) d d.operation ∙ right) m.drives
+      let e = is_found d.target (wire_names m) t in
+      let right : wrong_drive (is_in (wire_names m)) (is_in (all_names m)) d ≡ None = rw e (right_operation (all_names m) d.operation o) in
+      wrong_same kinds (is_in (wire_names m)) (is_in (names_of m.registers)) (is_in (all_names m)) (written_width m) d d.operation ∙ right) m.drives
       (all_unmap (Contains (wire_names m)) (λ d. d.target) m.drives (recursion_from_All (Contains (wire_names m)) (targets_of m.drives) top.drives_wires))
       (recursion_from_All (λ d. EachOperand (IsAmong (all_names m)) d.operation) m.drives top.drives_read))
       (both_all (λ t. Contains (names_of m.registers) t.register) (λ t. IsAmong (all_names m) t.next) (λ t. wrong_of m (step_said m.registers t) ≡ None)
@@ -475,11 +475,11 @@ module _ (kinds : List CellKind) (m : Module) (instances : List Instance) (top :
   all_named : AllByRecursion (Contains driven) (names_of m.outputs ++ (names_of m.wires ++ names_of m.registers))
   all_named =
       let wires : AllByRecursion (Contains driven) (wire_names m) =
-        all_weaker (Contains (linked_names instances ++ targets_of m.drives)) (Contains driven) (λ n h. Contains-append_left (linked_names instances ++ targets_of m.drives) (registers_of m.steps) n h) (wire_names m)
-        (recursion_from_All (Contains (linked_names instances ++ targets_of m.drives)) (wire_names m) top.wires_driven) in
+      all_weaker (Contains (linked_names instances ++ targets_of m.drives)) (Contains driven) (λ n h. Contains-append_left (linked_names instances ++ targets_of m.drives) (registers_of m.steps) n h) (wire_names m)
+      (recursion_from_All (Contains (linked_names instances ++ targets_of m.drives)) (wire_names m) top.wires_driven) in
       let registers : AllByRecursion (Contains driven) (names_of m.registers) =
-        all_weaker (Contains (registers_of m.steps)) (Contains driven) (λ n h. Contains-append_right (linked_names instances ++ targets_of m.drives) (registers_of m.steps) n h) (names_of m.registers)
-        (recursion_from_All (Contains (registers_of m.steps)) (names_of m.registers) top.registers_stepped) in
+      all_weaker (Contains (registers_of m.steps)) (Contains driven) (λ n h. Contains-append_right (linked_names instances ++ targets_of m.drives) (registers_of m.steps) n h) (names_of m.registers)
+      (recursion_from_All (Contains (registers_of m.steps)) (names_of m.registers) top.registers_stepped) in
       all_append (Contains driven) (names_of m.outputs) (names_of m.wires ++ names_of m.registers) (all_front (Contains driven) (names_of m.outputs) (names_of m.wires) wires)
       (all_append (Contains driven) (names_of m.wires) (names_of m.registers) (all_back (Contains driven) (names_of m.outputs) (names_of m.wires) wires) registers)
 
@@ -487,15 +487,15 @@ module _ (kinds : List CellKind) (m : Module) (instances : List Instance) (top :
   all_driven =
       let names = names_said m.wires m.registers in
       let wires : find (λ name. not (is_in (driven_names kinds text.items) name)) (names_of m.outputs ++ declared_names text.declarations) ≡ None =
-        ap (λ z. find (λ name. not (is_in z name)) (names_of m.outputs ++ declared_names text.declarations)) driven_are
-        ∙ ap (λ z. find (λ name. not (is_in driven name)) (names_of m.outputs ++ z)) names
-        ∙ found_none (λ name. not (is_in driven name)) (names_of m.outputs ++ (names_of m.wires ++ names_of m.registers))
-        (all_weaker (Contains driven) (λ name. not (is_in driven name) ≡ false) (λ n h. ap not (is_found n driven h)) (names_of m.outputs ++ (names_of m.wires ++ names_of m.registers)) all_named) in
+      ap (λ z. find (λ name. not (is_in z name)) (names_of m.outputs ++ declared_names text.declarations)) driven_are
+      ∙ ap (λ z. find (λ name. not (is_in driven name)) (names_of m.outputs ++ z)) names
+      ∙ found_none (λ name. not (is_in driven name)) (names_of m.outputs ++ (names_of m.wires ++ names_of m.registers))
+      (all_weaker (Contains driven) (λ name. not (is_in driven name) ≡ false) (λ n h. ap not (is_found n driven h)) (names_of m.outputs ++ (names_of m.wires ++ names_of m.registers)) all_named) in
       let links : first_some (unlinked_in kinds) text.items ≡ None =
-        nothing (unlinked_in kinds) text.items (items_all (λ item. unlinked_in kinds item ≡ None)
-        (each_by (λ i. unlinked_in kinds (instance (instance_said kinds i)) ≡ None) instances (λ i at. all_linked kinds (width_of m) (all_names m) (wire_names m) i (said i at)))
-        (each_by (λ d. unlinked_in kinds (drive_said (written_width m) d) ≡ None) m.drives (λ d at. drive_unlinked kinds (written_width m) d d.operation))
-        (each_by (λ s. unlinked_in kinds (step_said m.registers s) ≡ None) m.steps (λ s at. refl))) in
+      nothing (unlinked_in kinds) text.items (items_all (λ item. unlinked_in kinds item ≡ None)
+      (each_by (λ i. unlinked_in kinds (instance (instance_said kinds i)) ≡ None) instances (λ i at. all_linked kinds (width_of m) (all_names m) (wire_names m) i (said i at)))
+      (each_by (λ d. unlinked_in kinds (drive_said (written_width m) d) ≡ None) m.drives (λ d at. drive_unlinked kinds (written_width m) d d.operation))
+      (each_by (λ s. unlinked_in kinds (step_said m.registers s) ≡ None) m.steps (λ s at. refl))) in
       rw (wires, links) refl
 
   -- ---- items in order
@@ -520,10 +520,10 @@ module _ (kinds : List CellKind) (m : Module) (instances : List Instance) (top :
       let is = said i (within i (first_among i some)) in
       let rest = map (λ i. instance (instance_said kinds i)) some ++ (of_drives ++ of_steps) in
       let late : AllByRecursion (λ o. is_early W (is_in earlier) o ≡ false) i.inputs =
-        all_weaker (IsAmong known) (λ o. is_early W (is_in earlier) o ≡ false) (λ o at. not_early W known earlier h o at) i.inputs (recursion_from_All (IsAmong known) i.inputs a.0) in
+      all_weaker (IsAmong known) (λ o. is_early W (is_in earlier) o ≡ false) (λ o at. not_early W known earlier h o at) i.inputs (recursion_from_All (IsAmong known) i.inputs a.0) in
       let reads : reads_early kinds W (is_in earlier) (instance (instance_said kinds i)) ≡ false =
-        ap (λ (k : CellKind). list_any (is_early_link W (is_in earlier) k) (instance_said kinds i).links) (kind_there kinds (width_of m) (all_names m) (wire_names m) i is)
-        ∙ reads_late kinds (width_of m) (all_names m) (wire_names m) i is (is_early W (is_in earlier)) late in
+      ap (λ (k : CellKind). list_any (is_early_link W (is_in earlier) k) (instance_said kinds i).links) (kind_there kinds (width_of m) (all_names m) (wire_names m) i is)
+      ∙ reads_late kinds (width_of m) (all_names m) (wire_names m) i is (is_early W (is_in earlier)) late in
       let outputs = drives_outputs kinds (width_of m) (all_names m) (wire_names m) i is in
       first_instance kinds W earlier (instance_said kinds i) rest reads ∙ ap (λ names. first_early kinds W (earlier ++ names) rest) outputs
       ∙ instances_in_order some (λ j at. within j (more_among i j some at)) (known ++ i.outputs) (earlier ++ i.outputs) (earlier_more W known earlier i.outputs h) a.1
@@ -532,7 +532,7 @@ module _ (kinds : List CellKind) (m : Module) (instances : List Instance) (top :
   pub in_order : early_in_module kinds text ≡ None
   in_order =
       let own : AreDistinct (all_names m) =
-        rest_distinct (clk ∷ rst ∷ []) (all_names m) (front_distinct (clk ∷ rst ∷ all_names m) (instance_names instances) (front_distinct (clk ∷ rst ∷ all_names m ++ instance_names instances) (part_names kinds instances) top.declared_once)) in
+      rest_distinct (clk ∷ rst ∷ []) (all_names m) (front_distinct (clk ∷ rst ∷ all_names m) (instance_names instances) (front_distinct (clk ∷ rst ∷ all_names m ++ instance_names instances) (part_names kinds instances) top.declared_once)) in
       ap (λ z. first_early kinds (is_in (wire_names z)) [] text.items) module_is ∙ ap (first_early kinds W []) (append_assoc of_instances of_drives of_steps)
       ∙ instances_in_order instances (λ i at. at) (given_names m) [] (λ n k w. absurd (apart (given_names m) (wire_names m) n own k (is_there n (wire_names m) w))) top.instances_in_order top.in_order
 
@@ -614,15 +614,15 @@ module _ (plan : Plan) (modules : HasSoundModules plan) where
       let kind = kind_of K i in
       let names : AreDistinct (all_names (kind_module kind)) = names_distinct (kind_module kind) (kind_sound plan has i at) in
       let ports : AreDistinct (names_of kind.inputs ++ names_of kind.outputs) =
-        subst (λ ins. AreDistinct (ins ++ names_of kind.outputs)) (append-nil (names_of kind.inputs))
-        (front_distinct ((names_of kind.inputs ++ []) ++ names_of kind.outputs) (names_of kind.wires) (subst AreDistinct (sym (append_assoc (names_of kind.inputs ++ []) (names_of kind.outputs) (names_of kind.wires))) names)) in
+      subst (λ ins. AreDistinct (ins ++ names_of kind.outputs)) (append-nil (names_of kind.inputs))
+      (front_distinct ((names_of kind.inputs ++ []) ++ names_of kind.outputs) (names_of kind.wires) (subst AreDistinct (sym (append_assoc (names_of kind.inputs ++ []) (names_of kind.outputs) (names_of kind.wires))) names)) in
       record {
         placed = placed;
         named = (found_at K i.kind (front_distinct (map (λ (kind : CellKind). kind.name) K) (plan.top.name ∷ []) modules.named_once) placed.kind).0;
         ports = ports;
         reads = All-contains (λ (i : Instance). All (IsAmong (all_names plan.top)) i.inputs) plan.instances i modules.top.instances_read at;
         takes = each_by (Contains (wire_names plan.top)) i.outputs (λ name here.
-          All-contains (Contains (wire_names plan.top)) (linked_names plan.instances) name modules.top.links_wires (among_flat_map (λ (i : Instance). i.outputs) plan.instances i name at here));
+            All-contains (Contains (wire_names plan.top)) (linked_names plan.instances) name modules.top.links_wires (among_flat_map (λ (i : Instance). i.outputs) plan.instances i name at here));
       }
 
   back_at : (i : Instance) → Contains plan.instances i → instance_of K (instance_said K i) ≡ i
@@ -650,8 +650,8 @@ module _ (plan : Plan) (modules : HasSoundModules plan) where
       let rest = map (λ (kind : CellKind). kind.name) some ++ plan.top.name ∷ [] in
       let next : AreDistinct ((earlier ++ kind.name ∷ []) ++ rest) = subst AreDistinct (sym (append_assoc earlier (kind.name ∷ []) rest)) distinct in
       let here : first_again (front_of earlier) (mentions_of K (kind_said kind)) ≡ None =
-        subst (λ x. first_again (front_of earlier) (mentions_of K x) ≡ None) (sym (kind_as_module K kind))
-        (none_twice K (kind_module kind) [] (kind_top kind (within kind (first_among kind some))) (λ i at. absurd (none_at i at)) (λ i at. absurd (none_at i at)) earlier (front_distinct (earlier ++ kind.name ∷ []) rest next)) in
+      subst (λ x. first_again (front_of earlier) (mentions_of K x) ≡ None) (sym (kind_as_module K kind))
+      (none_twice K (kind_module kind) [] (kind_top kind (within kind (first_among kind some))) (λ i at. absurd (none_at i at)) (λ i at. absurd (none_at i at)) earlier (front_distinct (earlier ++ kind.name ∷ []) rest next)) in
       let later = kinds_once (earlier ++ kind.name ∷ []) some (λ other at. within other (more_among kind other some at)) next in
       rw (here, later) refl
 
@@ -668,16 +668,16 @@ module _ (plan : Plan) (modules : HasSoundModules plan) where
 
       parts_apart : AreDistinct (clk ∷ rst ∷ (declared_in top_text ++ instance_names plan.instances) ++ part_names K plan.instances)
       parts_apart = distinct_by (clk ∷ rst ∷ (declared_in top_text ++ instance_names plan.instances) ++ part_names K plan.instances) (λ name.
-        let same : count name (all_names plan.top) ≡ count name (declared_in top_text) = subst (λ z. count name (all_names z) ≡ count name (declared_in top_text)) (module_is K plan.top plan.instances modules.top back_at said_at) (count_names name top_text) in
-        let front = clk ∷ rst ∷ [] in
-        let most = at_most_once (clk ∷ rst ∷ all_names plan.top ++ instance_names plan.instances ++ part_names K plan.instances) name modules.top.declared_once in
-        let a = count_joined name front (all_names plan.top ++ instance_names plan.instances ++ part_names K plan.instances) in
-        let b = count_joined name (all_names plan.top ++ instance_names plan.instances) (part_names K plan.instances) in
-        let c = count_joined name (all_names plan.top) (instance_names plan.instances) in
-        let d = count_joined name front ((declared_in top_text ++ instance_names plan.instances) ++ part_names K plan.instances) in
-        let e = count_joined name (declared_in top_text ++ instance_names plan.instances) (part_names K plan.instances) in
-        let f = count_joined name (declared_in top_text) (instance_names plan.instances) in
-        omega arith)
+          let same : count name (all_names plan.top) ≡ count name (declared_in top_text) = subst (λ z. count name (all_names z) ≡ count name (declared_in top_text)) (module_is K plan.top plan.instances modules.top back_at said_at) (count_names name top_text) in
+          let front = clk ∷ rst ∷ [] in
+          let most = at_most_once (clk ∷ rst ∷ all_names plan.top ++ instance_names plan.instances ++ part_names K plan.instances) name modules.top.declared_once in
+          let a = count_joined name front (all_names plan.top ++ instance_names plan.instances ++ part_names K plan.instances) in
+          let b = count_joined name (all_names plan.top ++ instance_names plan.instances) (part_names K plan.instances) in
+          let c = count_joined name (all_names plan.top) (instance_names plan.instances) in
+          let d = count_joined name front ((declared_in top_text ++ instance_names plan.instances) ++ part_names K plan.instances) in
+          let e = count_joined name (declared_in top_text ++ instance_names plan.instances) (part_names K plan.instances) in
+          let f = count_joined name (declared_in top_text) (instance_names plan.instances) in
+          omega arith)
 
   pub top_back : module_of top_text ≡ plan.top
   top_back = module_is K plan.top plan.instances modules.top back_at said_at

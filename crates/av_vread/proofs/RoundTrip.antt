@@ -92,7 +92,7 @@ pub plan_told : (plan : Plan) → IsPlanSpelled plan → text2 plan ≡ told (co
 unfolding second_version_line told
 plan_told plan spelled =
     let some : AllByRecursion (λ (kind : CellKind). 1 ≤ length kind.outputs) plan.kinds =
-      recursion_from_All (λ (kind : CellKind). 1 ≤ length kind.outputs) plan.kinds (All-weaker IsKindSpelled (λ (kind : CellKind). 1 ≤ length kind.outputs) (λ kind k. k.puts) plan.kinds spelled.kinds) in
+    recursion_from_All (λ (kind : CellKind). 1 ≤ length kind.outputs) plan.kinds (All-weaker IsKindSpelled (λ (kind : CellKind). 1 ≤ length kind.outputs) (λ kind k. k.puts) plan.kinds spelled.kinds) in
     let modules = flat_map kind_text plan.kinds ++ top_text plan in
     append_assoc (second_version_line ++ listing_text plan.listing) (flat_map kind_text plan.kinds) (top_text plan)
     ∙ append_assoc second_version_line (listing_text plan.listing) (flat_map kind_text plan.kinds ++ top_text plan)

@@ -52,7 +52,7 @@ pub early_more : (kinds : List CellKind) (w : Among) (items : List FoundItem) (i
 early_more kinds w items i x earlier earlier' total so lt at late same =
     let rest : List Item = map said_item (drop (i + 1) items) in
     let one : first_early kinds w earlier (said_item x ∷ rest) ≡ first_early kinds w (earlier ++ driven_by kinds (said_item x)) rest =
-      ap (λ test. cond test (Some (target_of (said_item x))) (first_early kinds w (earlier ++ driven_by kinds (said_item x)) rest)) late in
+    ap (λ test. cond test (Some (target_of (said_item x))) (first_early kinds w (earlier ++ driven_by kinds (said_item x)) rest)) late in
     early_same kinds w earlier' (earlier ++ driven_by kinds (said_item x)) rest same ∙ sym one ∙ ap (λ z. first_early kinds w earlier (map said_item z)) (sym (next_item items i x lt at)) ∙ so
 
 pub missing_same : (a b : List (List ℕ)) (names : List (List ℕ)) → ((q : List ℕ) → is_in a q ≡ is_in b q) → find (λ name. not (is_in a name)) names ≡ find (λ name. not (is_in b name)) names

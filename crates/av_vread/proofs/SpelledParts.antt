@@ -42,7 +42,7 @@ register_width m distinct name h =
     let own : names_of (declarations m) ≡ names_of m.inputs ++ names_of m.registers ++ names_of m.outputs ++ names_of m.wires = simp map-append in
     let all : AreDistinct (names_of m.inputs ++ names_of m.registers ++ names_of m.outputs ++ names_of m.wires) = subst AreDistinct own distinct in
     let registers = rest_distinct (names_of m.inputs) (names_of m.registers)
-      (front_distinct (names_of m.inputs ++ names_of m.registers) (names_of m.outputs) (front_distinct (names_of m.inputs ++ names_of m.registers ++ names_of m.outputs) (names_of m.wires) all)) in
+    (front_distinct (names_of m.inputs ++ names_of m.registers) (names_of m.outputs) (front_distinct (names_of m.inputs ++ names_of m.registers ++ names_of m.outputs) (names_of m.wires) all)) in
     subst (λ n. width_in m.registers n ≡ width_of m n) same (width_here m.registers port registers here ∙ sym (width_here (declarations m) port distinct (register_declared m port here)))
 
 -- ---- the module
@@ -248,11 +248,11 @@ plan_spelled plan sound =
     let wires : All IsName (wire_names m) = All-from_recursion IsName (wire_names m) (all_back IsName (given_names m) (wire_names m) names) in
     record {
       kinds = all_by IsKindSpelled plan.kinds (λ kind at.
-        let spelled = All-contains (λ (kind : CellKind). HasSpelling (kind_module kind)) plan.kinds kind sound.kinds_spelled at in
-        record {
-          of_module = module_spelled (kind_module kind) (sound_ruled (kind_module kind) (All-contains (λ (kind : CellKind). IsSound (kind_module kind)) plan.kinds kind sound.modules.kinds at)) spelled.module_name spelled.names spelled.widenings;
-          puts = All-contains (λ (kind : CellKind). 1 ≤ length kind.outputs) plan.kinds kind sound.kinds_put at;
-        });
+          let spelled = All-contains (λ (kind : CellKind). HasSpelling (kind_module kind)) plan.kinds kind sound.kinds_spelled at in
+          record {
+            of_module = module_spelled (kind_module kind) (sound_ruled (kind_module kind) (All-contains (λ (kind : CellKind). IsSound (kind_module kind)) plan.kinds kind sound.modules.kinds at)) spelled.module_name spelled.names spelled.widenings;
+            puts = All-contains (λ (kind : CellKind). 1 ≤ length kind.outputs) plan.kinds kind sound.kinds_put at;
+          });
       top = module_spelled m (top_ruled plan sound.modules) sound.top_spelled.module_name sound.top_spelled.names sound.top_spelled.widenings;
       instances = all_by (IsInstanceSpelled plan.kinds) plan.instances (plan_instance plan sound);
       ins = All-weaker (MayBeListed (names_of m.inputs)) IsEntrySpelled (entry_spelled (names_of m.inputs) inputs) plan.listing.ins sound.ins;

@@ -282,8 +282,8 @@ kind_bytes kind ws some = go kind.outputs refl
     go (first ∷ later) e =
         let input = map (directed_text (codes "input")) kind.inputs in
         let ports : bytes_of (inputs_onto kind.inputs (outputs_onto kind.outputs (symbol (codes ")") [] ∷ end_of_line ∷ kind_body_onto kind ws))) ≡ joined (map (directed_text (codes "input")) kind.inputs ++ map (directed_text (codes "output")) kind.outputs) ++ (codes ");\n" ++ bytes_of (kind_body_onto kind ws)) =
-          subst (λ (outputs : List Port). bytes_of (inputs_onto kind.inputs (outputs_onto outputs (symbol (codes ")") [] ∷ end_of_line ∷ kind_body_onto kind ws))) ≡ joined (map (directed_text (codes "input")) kind.inputs ++ map (directed_text (codes "output")) outputs) ++ (codes ");\n" ++ bytes_of (kind_body_onto kind ws)))
-          (sym e) (kind_ports_bytes kind.inputs first later (symbol (codes ")") [] ∷ end_of_line ∷ kind_body_onto kind ws)) in
+        subst (λ (outputs : List Port). bytes_of (inputs_onto kind.inputs (outputs_onto outputs (symbol (codes ")") [] ∷ end_of_line ∷ kind_body_onto kind ws))) ≡ joined (map (directed_text (codes "input")) kind.inputs ++ map (directed_text (codes "output")) outputs) ++ (codes ");\n" ++ bytes_of (kind_body_onto kind ws)))
+        (sym e) (kind_ports_bytes kind.inputs first later (symbol (codes ")") [] ∷ end_of_line ∷ kind_body_onto kind ws)) in
         ap (λ z. codes "module " ++ (kind.name ++ (40 ∷ z))) (ports ∙ ap (λ z. joined (map (directed_text (codes "input")) kind.inputs ++ map (directed_text (codes "output")) kind.outputs) ++ (codes ");\n" ++ z)) (kind_body_bytes kind ws))
         ∙ sym (eight (codes "module ") kind.name (codes "(") (joined (map (directed_text (codes "input")) kind.inputs ++ map (directed_text (codes "output")) kind.outputs)) (codes ");\n")
         (flat_map (declaration_line (codes "wire")) kind.wires) (flat_map (drive_line (written_width (kind_module kind))) kind.drives) (codes "endmodule\n") (bytes_of ws))

@@ -194,7 +194,6 @@ operation_is p widths (operation.Choose c x y) ws own h bits k =
     let r = past (past q (operand_part x (codes " "))) (part.symbol (codes ":") (codes " ")) in
     choice (operand_is p c (codes " ") (part.symbol (codes "?") (codes " ") ∷ operand_part x (codes " ") ∷ part.symbol (codes ":") (codes " ") ∷ operand_part y [] ∷ ws) h.0) (next_word no_symbol refl no_word)
     (operand_is q x (codes " ") (part.symbol (codes ":") (codes " ") ∷ operand_part y [] ∷ ws) h.1) (next_word no_symbol refl no_word) (operand_is r y [] ws h.2)
-
 operation_is p widths (operation.Part text high low) ws own h bits k = selection (select_is p text high low ws bits.1 bits.0)
 operation_is p widths (operation.Widen text by) ws own h bits k = absurd own
 

@@ -139,10 +139,28 @@ select_spaced name high low ws n h l s =
     (tt, name_next name _ n refl, tt, (tt, plain_next 91 _ refl, tt, (tt, number_next (decimal high) _ (small_number high h) refl, tt, (tt, plain_next 58 _ refl, tt, (tt, number_next (decimal low) _ (small_number low l) refl, tt, (tt, plain_next 93 _ refl, tt, s))))))
 
 widening_spaced : (name : List ℕ) (by bit : ℕ) (ws : List Written) → IsName name → by ≤ 64 → bit ≤ 64 → AreSpaced ws → AreSpaced (widening_parts name by bit ++ ws)
-widening_spaced name by bit ws n b t s =
-    (tt, plain_next 123 _ refl, tt, (tt, plain_next 123 _ refl, tt, (tt, number_next (decimal by) _ (small_number by b) refl, tt, (tt, plain_next 123 _ refl, tt,
-    select_spaced name bit bit (symbol (codes "}") [] ∷ symbol (codes "}") [] ∷ symbol (codes ",") (codes " ") ∷ named name [] ∷ symbol (codes "}") [] ∷ ws) n t t
-    (tt, plain_next 125 _ refl, tt, (tt, plain_next 125 _ refl, tt, (tt, plain_next 44 _ refl, one_blank, (tt, name_next name _ n refl, tt, (tt, plain_next 125 _ refl, tt, s)))))))))
+widening_spaced name by bit ws n b t s = (
+  tt,
+  plain_next 123 _ refl,
+  tt,
+  (
+    tt,
+    plain_next 123 _ refl,
+    tt,
+    (
+      tt,
+      number_next (decimal by) _ (small_number by b) refl,
+      tt,
+      (
+        tt,
+        plain_next 123 _ refl,
+        tt,
+        select_spaced name bit bit (symbol (codes "}") [] ∷ symbol (codes "}") [] ∷ symbol (codes ",") (codes " ") ∷ named name [] ∷ symbol (codes "}") [] ∷ ws) n t t
+            (tt, plain_next 125 _ refl, tt, (tt, plain_next 125 _ refl, tt, (tt, plain_next 44 _ refl, one_blank, (tt, name_next name _ n refl, tt, (tt, plain_next 125 _ refl, tt, s))))),
+      ),
+    ),
+  ),
+)
 
 operation_spaced : (widths : Widths) → AreNarrow widths → (o : Operation) (ws : List Written) → EachOperand IsOperandSpelled o → HasBitsSpelled o → is_clear (bytes_of ws) ≡ true → AreSpaced ws → AreSpaced (operation_parts widths o ++ ws)
 operation_spaced widths narrow (operation.Plain x) ws w bits c s = operand_spaced x [] ws w tt c s
@@ -256,9 +274,22 @@ kind_spaced kind ws h s =
     let ports = spelled_by_kind m h.of_module.ports in
     let drives = drives_spaced (written_width m) (narrow m) kind.drives _ (recursion_from_All IsDriveSpelled kind.drives h.of_module.drives) (last_spaced ws s) in
     let body = declarations_spaced (codes "wire") kind.wires _ refl ports.wires drives in
-    let closed : AreSpaced (symbol (codes ")") [] ∷ end_of_line ∷ kind_body_onto kind ws) = (tt, plain_next 41 _ refl, tt, line_ended _ body) in
-    (tt, reserved_next (codes "module") _ (is_word (codes "module") refl) refl, one_blank, (tt, name_next kind.name _ h.of_module.name refl, tt, (tt, plain_next 40 _ refl, tt,
-    inputs_spaced kind.inputs _ ports.inputs (outputs_spaced kind.outputs _ ports.outputs (record { clear = refl; spaced = closed })))))
+    let closed : AreSpaced (symbol (codes ")") [] ∷ end_of_line ∷ kind_body_onto kind ws) = (tt, plain_next 41 _ refl, tt, line_ended _ body) in (
+      tt,
+      reserved_next (codes "module") _ (is_word (codes "module") refl) refl,
+      one_blank,
+      (
+        tt,
+        name_next kind.name _ h.of_module.name refl,
+        tt,
+        (
+          tt,
+          plain_next 40 _ refl,
+          tt,
+          inputs_spaced kind.inputs _ ports.inputs (outputs_spaced kind.outputs _ ports.outputs (record { clear = refl; spaced = closed })),
+        ),
+      ),
+    )
 
 kinds_spaced : (kinds : List CellKind) (ws : List Written) → AllByRecursion IsKindSpelled kinds → AreSpaced ws → AreSpaced (kinds_onto kinds ws)
 kinds_spaced [] ws h s = s
