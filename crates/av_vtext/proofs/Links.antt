@@ -68,6 +68,12 @@ later_links port operand ports more operands others =
 
 -- ---- a first item and the others
 
+-- an item that is there, by any default
+pub same_default : {X : Type 0} (xs : List X) (k : ℕ) (d e : X) → k < length xs → get_or xs k d ≡ get_or xs k e
+same_default [] k d e lt = absurd (omega arith)
+same_default (x ∷ xs) zero d e lt = refl
+same_default (x ∷ xs) (suc k) d e lt = same_default xs k d e (omega arith)
+
 pub whole : {X : Type 0} (xs : List X) (x : X) → 1 ≤ length xs → x ≡ get_or xs 0 x → xs ≡ x ∷ take (length xs - 1) (drop 1 xs)
 whole [] x some is = absurd (omega arith)
 whole (y ∷ xs) x some is = ap (λ z. z ∷ xs) (sym is) ∙ ap (λ rest. x ∷ rest) (sym (take_all (length (y ∷ xs) - 1) xs (omega arith)))
