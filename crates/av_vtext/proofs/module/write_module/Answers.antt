@@ -1,6 +1,5 @@
-use Rattle.std.proofs.Common.{rules}
 use Rattle.av_net.specs.Texts as texts
-use Rattle.av_page.proofs.Putting.{Puts-more, Puts-is}
+use Rattle.av_page.proofs.Putting.{Puts-more}
 use Rattle.av_vtext.proofs.module.write_module.Goals as goal
 
 pub returns : goal.returns

@@ -1,4 +1,4 @@
-use Rattle.std.proofs.Common.{map, codes, sym, ap, ◌∙◌, arith}
+use Rattle.std.proofs.Common.{map, codes, sym, ap, ◌∙◌}
 use Rattle.av_net.specs.PlanTexts.{joined, directed_text}
 use Rattle.av_page.proofs.Putting.{Puts-none, Puts-more, Puts-is}
 use Rattle.av_vtext.proofs.Joined.{outputs_alone}
