@@ -1,20 +1,15 @@
 -- A design is a plan without kinds and instances.
-use Rattle.std.proofs.Common.{◌≡◌, List, [], ◌∷◌, ◌++◌, refl, sym, ◌∙◌, ap, subst, arith}
-use Rattle.std.specs.Prelude.{All}
+use Rattle.std.proofs.Common.{◌≡◌, List, [], ◌∷◌, ◌++◌, refl, sym, ◌∙◌, subst, arith}
 use Rattle.std.proofs.lemmas.List.{append-nil}
 use Rattle.std.proofs.lemmas.List.Elements.{All-nil}
 use Rattle.av_net.specs.declared.design.Listing.{Listing}
-use Rattle.av_net.specs.declared.design.Design.{Design}
 use Rattle.av_net.specs.declared.netlist.Module.{Module}
 use Rattle.av_net.specs.declared.plan.CellKind.{CellKind}
-use Rattle.av_net.specs.declared.plan.Instance.{Instance}
 use Rattle.av_net.specs.declared.plan.Plan.{Plan}
-use Rattle.av_net.specs.Names.{clk, rst, given_names, wire_names, all_names, AreDistinct, IsAmong, width_of}
-use Rattle.av_net.specs.Names.{names_of}
-use Rattle.av_net.specs.Sound.{IsInOrder, IsFitting, IsSound}
-use Rattle.av_net.specs.Flat.{kind_module, flat_module, flat_of}
-use Rattle.av_net.specs.Plans.{IsPlaced, IsSoundTop, HasSoundModules}
-use Rattle.av_net.specs.Designs.{HasSpelling, IsSoundDesign, IsSoundPlan}
+use Rattle.av_net.specs.Names.{clk, rst, given_names, all_names, AreDistinct}
+use Rattle.av_net.specs.Sound.{IsInOrder, IsSound}
+use Rattle.av_net.specs.Flat.{flat_module}
+use Rattle.av_net.specs.Plans.{IsSoundTop, HasSoundModules}
 use Rattle.av_base.proofs.Among.{none_among}
 use Rattle.av_net.proofs.Distinct.{cons_distinct}
 

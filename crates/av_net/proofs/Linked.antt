@@ -1,26 +1,24 @@
 -- What the links of an instantiation say of the instance: where each port of its kind is linked, and once, an operand
 -- stands at each input port and a name at each output port.
-use Rattle.std.proofs.Common.{◌≡◌, ◌⊎◌, ℕ, zero, suc, ◌+◌, ◌<◌, ◌≤◌, List, [], ◌∷◌, ◌++◌, map, length, get_or, Option, Some, None, refl, sym, ◌∙◌, ap, subst, arith, Bool, true, false, ◌||◌, ◌&&◌, not, if◌then◌else◌, inl, inr, true≢false}
-use Rattle.std.specs.Prelude.{All, Contains, find, option_map, nat_eq}
-use Rattle.std.specs.List.{flat_map, list_any, AllByRecursion}
+use Rattle.std.proofs.Common.{◌≡◌, ℕ, ◌+◌, List, [], ◌∷◌, map, refl, sym, ◌∙◌, ap, subst, arith, true, false, if◌then◌else◌, inl, inr, true≢false}
+use Rattle.std.specs.Prelude.{Contains}
+use Rattle.std.specs.List.{flat_map, AllByRecursion}
 use Rattle.std.specs.Str.{bytes_eq}
 use Rattle.std.proofs.lemmas.Bool.{eqb-true}
-use Rattle.std.proofs.lemmas.List.{map-append, append-nil}
-use Rattle.std.proofs.lemmas.List.Elements.{Contains-append_left, Contains-append_right, Contains-append_cases}
+use Rattle.std.proofs.lemmas.List.{append-nil}
 use Rattle.std.proofs.lemmas.Slice.Eq.{bytes_eq-Decides}
-use Rattle.av_base.proofs.Among.{first_among, more_among, among_cases, none_among, among_map, from_map}
-use Rattle.av_base.proofs.Tables.{is_found, is_there, not_there, none_there}
-use Rattle.av_base.proofs.Truths.{by_test, either, neither}
+use Rattle.av_base.proofs.Among.{first_among, more_among, among_cases, none_among, among_map}
+use Rattle.av_base.proofs.Tables.{not_there}
+use Rattle.av_base.proofs.Truths.{by_test}
 use Rattle.av_net.specs.declared.operation.Operand.{Operand}
 use Rattle.av_net.specs.declared.operation.Operand.TheVariants.{Name, Literal}
 use Rattle.av_net.specs.declared.netlist.Port.{Port}
-use Rattle.av_net.specs.declared.plan.CellKind.{CellKind}
 use Rattle.av_net.specs.Meaning.{Widths, operand_width}
 use Rattle.av_net.specs.Names.{AreDistinct, names_of, width_in}
 use Rattle.av_net.specs.Plans.{SuitPorts}
 use Rattle.av_net.specs.Grammar.{Link}
-use Rattle.av_net.specs.Rows.{is_in, linked_to, operand_or, operand_to, name_in, name_to, names_in, is_output_of, driven_by_link, suits_port}
-use Rattle.av_net.proofs.Distinct.{apart, front_distinct, rest_distinct}
+use Rattle.av_net.specs.Rows.{is_in, operand_to, name_in, name_to, names_in, suits_port}
+use Rattle.av_net.proofs.Distinct.{apart, rest_distinct}
 use Rattle.av_net.proofs.Settles.{not_equal}
 use Rattle.av_net.proofs.Declared.{width_here}
 use Rattle.av_net.proofs.Counts.{once, count, count_none, count_first, count_one, count_joined}

@@ -1,9 +1,9 @@
 -- The tests of the rows of faults, each as the fact that it decides.
-use Rattle.std.proofs.Common.{◌≡◌, ◌⊎◌, ℕ, zero, suc, ◌+◌, ◌-◌, ◌<◌, Bool, true, false, cond, not, List, [], ◌∷◌, ◌++◌, length, map, Option, Some, None, refl, sym, ap, subst, ◌∙◌, arith, inl, inr, true≢false}
-use Rattle.std.specs.Prelude.{◌||◌, ◌&&◌, Contains, All, find, nat_eq, nat_lt, option_map}
-use Rattle.std.specs.List.{list_any, flat_map, AllByRecursion}
+use Rattle.std.proofs.Common.{◌≡◌, ℕ, ◌+◌, ◌-◌, Bool, true, false, cond, not, List, [], ◌∷◌, ◌++◌, Option, Some, None, refl, sym, subst, ◌∙◌, inl, inr, true≢false}
+use Rattle.std.specs.Prelude.{◌&&◌, Contains, find, nat_eq, nat_lt, option_map}
+use Rattle.std.specs.List.{list_any, AllByRecursion}
 use Rattle.std.proofs.lemmas.Bool.{eqb-true, ltb-true}
-use Rattle.std.proofs.lemmas.List.Elements.{All-from_recursion, All-contains, All-contains_itself, All-weaker, recursion_from_All, Contains-append_left, Contains-append_right, Contains-append_cases}
+use Rattle.std.proofs.lemmas.List.Elements.{All-from_recursion, All-contains, Contains-append_cases}
 use Rattle.av_base.specs.declared.width.Width.{Width}
 use Rattle.av_base.specs.Words.{IsWord}
 use Rattle.av_base.proofs.Among.{first_among, more_among}
@@ -20,8 +20,8 @@ use Rattle.av_net.specs.Meaning.{Widths, operand_width, EachOperand}
 use Rattle.av_net.specs.Names.{targets_of, registers_of, IsAmong}
 use Rattle.av_net.specs.Sound.{symbol_width, SuitsWidth, IsFitting, ComparesByOrder}
 use Rattle.av_net.specs.Lexemes.{Token}
-use Rattle.av_net.specs.Grammar.{Link, Instantiation, Item, drive, widening, step, instance, IsOperand, named, constant, IsLiteralAt, literal, IsOperation, plain, binary, signed, choice, selection, IsLink, IsNextLink, IsItem, assignment, wide_assignment, at_an_edge, instantiation, IsKindItem, kind_assignment, kind_wide_assignment, AreMany, no_more, one_more}
-use Rattle.av_net.specs.Rows.{drives_of, steps_of, operands_of, is_in, first_from, first_some, Among, wrong_operand, is_early, suits_width, suits}
+use Rattle.av_net.specs.Grammar.{Link, Item, drive, widening, step, instance, IsOperand, named, constant, IsLiteralAt, literal, IsOperation, plain, binary, signed, choice, selection, IsNextLink, IsItem, assignment, wide_assignment, at_an_edge, instantiation, IsKindItem, kind_assignment, kind_wide_assignment, AreMany, no_more, one_more}
+use Rattle.av_net.specs.Rows.{drives_of, steps_of, operands_of, is_in, first_from, first_some, wrong_operand, is_early, suits_width, suits}
 
 -- ---- lists
 

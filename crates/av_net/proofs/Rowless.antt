@@ -1,16 +1,15 @@
 -- A module of a text for which no row of faults holds: its parts go together, and its items stand in order.
-use Rattle.std.proofs.Common.{◌≡◌, ◌⊎◌, ℕ, zero, suc, ◌+◌, ◌<◌, ◌≤◌, Bool, true, false, cond, not, List, [], ◌∷◌, ◌++◌, length, map, get_or, Option, Some, None, refl, sym, ap, subst, ◌∙◌, arith, inl, inr, append_assoc, length-append, if◌then◌else◌, true≢false}
-use Rattle.std.specs.Prelude.{◌&&◌, ◌||◌, Contains, All, find, nat_eq, option_map}
+use Rattle.std.proofs.Common.{◌≡◌, ◌⊎◌, ℕ, suc, ◌+◌, ◌<◌, Bool, true, false, not, List, [], ◌∷◌, ◌++◌, length, map, get_or, Option, Some, None, refl, sym, ap, subst, ◌∙◌, arith, inl, inr, append_assoc, if◌then◌else◌, true≢false}
+use Rattle.std.specs.Prelude.{◌&&◌, Contains, All, find, nat_eq}
 use Rattle.std.specs.List.{list_any, flat_map, AllByRecursion}
 use Rattle.std.specs.Str.{bytes_eq}
 use Rattle.std.proofs.lemmas.Bool.{eqb-true}
 use Rattle.std.proofs.lemmas.List.{map-append}
-use Rattle.std.proofs.lemmas.List.Elements.{All-from_recursion, All-contains, recursion_from_All, Contains-append_left, Contains-append_right, Contains-append_cases}
-use Rattle.std.proofs.lemmas.Slice.Eq.{bytes_eq-Decides}
+use Rattle.std.proofs.lemmas.List.Elements.{All-from_recursion, Contains-append_left, Contains-append_right, Contains-append_cases}
 use Rattle.av_base.specs.Words.{IsWord}
-use Rattle.av_base.proofs.Among.{first_among, more_among, among_cases, none_among, among_map, from_map}
+use Rattle.av_base.proofs.Among.{more_among, among_cases, none_among, among_map, from_map}
 use Rattle.av_base.proofs.Tables.{is_found, is_there, not_there}
-use Rattle.av_base.proofs.Truths.{both, neither, not_true, not_false, by_test}
+use Rattle.av_base.proofs.Truths.{both, not_true, not_false, by_test}
 use Rattle.av_net.specs.declared.operation.Operand.{Operand}
 use Rattle.av_net.specs.declared.operation.Operand.TheVariants as operand
 use Rattle.av_net.specs.declared.netlist.Port.{Port}
@@ -22,15 +21,15 @@ use Rattle.av_net.specs.declared.plan.Instance.{Instance}
 use Rattle.av_net.specs.Meaning.{Widths, operand_width, EachOperand}
 use Rattle.av_net.specs.Names.{clk, rst, names_of, given_names, wire_names, all_names, targets_of, registers_of, AreDistinct, IsAmong, width_of}
 use Rattle.av_net.specs.Sound.{SuitsWidth, IsFitting, ComparesByOrder}
-use Rattle.av_net.specs.Flat.{no_kind, kind_of}
+use Rattle.av_net.specs.Flat.{no_kind}
 use Rattle.av_net.specs.Plans.{SuitPorts, IsPlaced, instance_names, linked_names, part_names}
 use Rattle.av_net.specs.Grammar.{ModuleText, Declaration, wire, register, Link, Instantiation, Item, drive, widening, step, instance}
-use Rattle.av_net.specs.Rows.{wires_of, registers_in, drives_of, steps_of, module_of, declared_names, target_of, operands_of, is_in, first_some, Among, kind_named, kind_number, kind_or, kind_for, linked_to, operand_to, name_in, name_to, instance_by, instance_of, instances_in, is_input_of, is_output_of, driven_by_link, driven_by, driven_names, wrong_operand, wrong_output, wrong_link, wrong_instance, wrong_drive, wrong_in, wrong_in_module, unlinked_in, undriven_in_module, is_early, is_early_link, reads_early, first_early, early_in_module, suits_port, selects_highest, suits_width, suits, unsuited_in_module, of_module, declares, first_again, mentions_of}
+use Rattle.av_net.specs.Rows.{wires_of, registers_in, drives_of, steps_of, module_of, declared_names, target_of, operands_of, is_in, first_some, kind_named, kind_number, kind_or, kind_for, operand_to, name_in, name_to, instance_of, instances_in, is_input_of, is_output_of, driven_by_link, driven_names, wrong_operand, wrong_output, wrong_link, wrong_instance, wrong_drive, wrong_in, wrong_in_module, unlinked_in, undriven_in_module, is_early, is_early_link, first_early, early_in_module, suits_port, selects_highest, suits_width, suits, unsuited_in_module, of_module, declares, first_again, mentions_of}
 use Rattle.av_net.proofs.Distinct.{apart, front_distinct, rest_distinct}
 use Rattle.av_net.proofs.Made.{IsMadeTop}
 use Rattle.av_net.proofs.FlatTexts.{AreItemsInOrder}
 use Rattle.av_net.proofs.InParts.{all_by}
-use Rattle.av_net.proofs.Counts.{count, count_none, count_first, count_one, count_joined, stands, counted, distinct_by, at_most_once}
+use Rattle.av_net.proofs.Counts.{count, count_none, count_first, count_joined, stands, counted, distinct_by, at_most_once}
 use Rattle.av_net.proofs.Linked.{ports_in, IsNamed, AreLinked, count_linked, operands_all, suit_ports, named_back}
 use Rattle.av_net.proofs.Mentions.{declared_in, declared_once, driven_once, linked_once}
 use Rattle.av_net.proofs.RowTests.{each_none, each_fails, each_operand, all_as, each_by, each_at, none_of, none_both, none_found, drives_all, steps_all, targets_all, registers_all, right_operand, Known, known_operand, known_operation, known_more, suits_so, IsFit, reset_fits}

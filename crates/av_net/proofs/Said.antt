@@ -1,12 +1,12 @@
 -- What the text of a plan says: its kinds, and its top with an instantiation for each instance. Its flat module is
 -- that of the plan.
-use Rattle.std.proofs.Common.{◌≡◌, ◌≢◌, ℕ, zero, suc, ◌+◌, ◌-◌, ◌<◌, List, [], ◌∷◌, ◌++◌, map, length, get_or, Some, refl, sym, ◌∙◌, ap, subst, arith, append_assoc, Bool, true, false, cond, if◌then◌else◌}
-use Rattle.std.specs.Prelude.{All, Contains, find, option_map}
+use Rattle.std.proofs.Common.{◌≡◌, ℕ, zero, suc, ◌+◌, ◌-◌, ◌<◌, List, [], ◌∷◌, ◌++◌, map, length, get_or, Some, refl, sym, ◌∙◌, ap, arith, append_assoc, Bool, true, false, cond, if◌then◌else◌}
+use Rattle.std.specs.Prelude.{Contains}
 use Rattle.std.specs.List.{flat_map}
 use Rattle.std.specs.Str.{bytes_eq}
 use Rattle.std.proofs.lemmas.Bool.{leb-true}
-use Rattle.std.proofs.lemmas.List.{map-append, append-nil}
-use Rattle.std.proofs.lemmas.List.Elements.{All-contains, Contains-append_left, Contains-append_right, Contains-get_or}
+use Rattle.std.proofs.lemmas.List.{append-nil}
+use Rattle.std.proofs.lemmas.List.Elements.{Contains-append_left, Contains-get_or}
 use Rattle.std.proofs.lemmas.Slice.Eq.{bytes_eq-Decides}
 use Rattle.av_base.proofs.Among.{first_among, more_among, among_map}
 use Rattle.av_base.specs.declared.width.Width.{Width}
@@ -17,22 +17,20 @@ use Rattle.av_net.specs.declared.operation.Operation.TheVariants.{Plain, Binary,
 use Rattle.av_net.specs.declared.netlist.Port.{Port}
 use Rattle.av_net.specs.declared.netlist.Drive.{Drive}
 use Rattle.av_net.specs.declared.netlist.Step.{Step}
-use Rattle.av_net.specs.declared.netlist.Module.{Module}
 use Rattle.av_net.specs.declared.plan.CellKind.{CellKind}
 use Rattle.av_net.specs.declared.plan.Instance.{Instance}
 use Rattle.av_net.specs.declared.plan.Plan.{Plan}
 use Rattle.av_net.specs.Meaning.{Widths}
-use Rattle.av_net.specs.Names.{AreDistinct, names_of, given_names, wire_names, all_names, width_in, width_of}
-use Rattle.av_net.specs.Sound.{IsSound}
+use Rattle.av_net.specs.Names.{AreDistinct, names_of, width_in, width_of}
 use Rattle.av_net.specs.Texts.{written_width}
-use Rattle.av_net.specs.Flat.{kind_module, kind_of, no_kind, kind_ports, instance_wires, instance_drives, flat_module}
-use Rattle.av_net.specs.Plans.{SuitPorts, IsPlaced, module_names}
-use Rattle.av_net.specs.Rows.{wires_of, registers_in, drives_of, steps_of, module_of, kind_from, kinds_of, kind_named, kind_number, kind_or, kind_for, linked_to, operand_or, operand_to, name_in, name_to, instance_by, instance_of, instances_in, flat_drives, flat_text}
+use Rattle.av_net.specs.Flat.{kind_module, kind_of, no_kind, instance_drives, flat_module}
+use Rattle.av_net.specs.Plans.{SuitPorts}
+use Rattle.av_net.specs.Rows.{wires_of, registers_in, drives_of, steps_of, module_of, kind_from, kinds_of, kind_named, kind_number, operand_to, name_to, instance_of, instances_in, flat_drives, flat_text}
 use Rattle.av_net.proofs.Made.{HasParts}
 use Rattle.av_net.proofs.Distinct.{apart, front_distinct, rest_distinct}
 use Rattle.av_net.proofs.Settles.{not_equal, names_distinct}
 use Rattle.av_net.proofs.InParts.{kind_sound}
-use Rattle.av_net.proofs.FlatTargets.{placed_at, kind_names}
+use Rattle.av_net.proofs.FlatTargets.{placed_at}
 use Rattle.av_net.specs.Grammar.{Text, ModuleText, wire, register, Link, Instantiation, Item, drive, widening, step, instance}
 
 -- an `assign`; that of a widening selects the highest bit

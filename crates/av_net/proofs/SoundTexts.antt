@@ -1,21 +1,20 @@
 -- A text for which no row of faults holds has a sound flat module.
-use Rattle.std.proofs.Common.{◌≡◌, ℕ, List, [], ◌∷◌, ◌++◌, map, Option, Some, None, refl, sym, ap, subst, ◌∙◌, arith, append_assoc, Bool, true, false, if◌then◌else◌, inl, inr}
-use Rattle.std.specs.Prelude.{Contains, All}
-use Rattle.std.specs.List.{flat_map, AllByRecursion}
+use Rattle.std.proofs.Common.{◌≡◌, ℕ, List, [], ◌∷◌, ◌++◌, map, Option, Some, None, refl, sym, ap, subst, arith, append_assoc, Bool, true, false, if◌then◌else◌, inl, inr}
+use Rattle.std.specs.Prelude.{Contains}
+use Rattle.std.specs.List.{AllByRecursion}
 use Rattle.std.proofs.lemmas.List.{append-nil}
 use Rattle.std.proofs.lemmas.List.Elements.{Contains-append_left, Contains-append_right}
-use Rattle.av_base.proofs.Among.{first_among, more_among, among_cases, none_among, from_map}
+use Rattle.av_base.proofs.Among.{first_among, among_cases, none_among, from_map}
 use Rattle.av_base.proofs.Tables.{none_there}
 use Rattle.av_net.specs.declared.netlist.Module.{Module}
 use Rattle.av_net.specs.declared.plan.CellKind.{CellKind}
-use Rattle.av_net.specs.Meaning.{EachOperand}
-use Rattle.av_net.specs.Names.{clk, rst, names_of, given_names, all_names, AreDistinct, IsAmong}
+use Rattle.av_net.specs.Names.{clk, rst, names_of, given_names, all_names, AreDistinct}
 use Rattle.av_net.specs.Sound.{IsInOrder, IsSound}
-use Rattle.av_net.specs.Flat.{kind_module, instance_wires}
+use Rattle.av_net.specs.Flat.{kind_module}
 use Rattle.av_net.specs.Plans.{instance_names, part_names, module_names}
 use Rattle.av_net.specs.Lexemes.{Token}
-use Rattle.av_net.specs.Grammar.{Text, ModuleText, Declaration, wire, register, Item, drive, widening, step, instance, AreMany, no_more, one_more, IsKindDeclaration, kind_wire, IsKindItem, kind_assignment, kind_wide_assignment, IsKind, IsText}
-use Rattle.av_net.specs.Rows.{is_in, declared_names, registers_in, drives_of, steps_of, module_of, kind_from, kinds_of, modules_of, instances_in, flat_text, Mention, of_module, declares, first_again, mentions_of, twice_from, first_from, first_repeated, top_names, part_twice, wrong_in_module, undriven_in_module, early_in_module, unsuited_in_module}
+use Rattle.av_net.specs.Grammar.{Text, ModuleText, Declaration, Item, drive, widening, step, instance, AreMany, no_more, one_more, IsKindDeclaration, kind_wire, IsKindItem, kind_assignment, kind_wide_assignment, IsKind, IsText}
+use Rattle.av_net.specs.Rows.{is_in, declared_names, registers_in, drives_of, steps_of, module_of, kind_from, kinds_of, modules_of, instances_in, flat_text, of_module, declares, first_again, mentions_of, twice_from, first_repeated, top_names, part_twice, wrong_in_module, undriven_in_module, early_in_module, unsuited_in_module}
 use Rattle.av_net.specs.Designs.{HasNoRow}
 use Rattle.av_net.proofs.Distinct.{front_distinct, rest_distinct, cons_distinct, append_distinct}
 use Rattle.av_net.proofs.Made.{IsMadeTop, HasParts}

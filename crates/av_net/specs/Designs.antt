@@ -12,7 +12,7 @@ use Rattle.av_net.specs.Meaning.{EachOperand}
 use Rattle.av_net.specs.Names.{names_of, wire_names, all_names, declarations}
 use Rattle.av_net.specs.Sound.{IsSound}
 use Rattle.av_net.specs.Flat.{kind_module}
-use Rattle.av_net.specs.Plans.{instance_names, module_names, HasSoundModules}
+use Rattle.av_net.specs.Plans.{instance_names, HasSoundModules}
 use Rattle.av_net.specs.Lexemes.{Token, AreTokens, IsName}
 use Rattle.av_net.specs.Grammar.{Text, IsText}
 use Rattle.av_net.specs.Listed.{listing_lines, MayBeListed, IsListing}

@@ -1,5 +1,6 @@
 -- What checking a text answers: the design that the text spells, or its first fault.
 use Rattle.std.proofs.Common.{◌≡◌, ℕ, ◌-◌, List, length, take, Option, Some, None, Result, Ok, Err, refl, sym, ap, subst, ◌∙◌, arith, inl, inr, ◌⊎◌}
+use Rattle.std.specs.Prelude.{IfOk}
 use Rattle.av_base.specs.declared.place.Place.{Place}
 use Rattle.av_base.specs.Tokens.{start}
 use Rattle.av_net.specs.declared.netlist.Module.{Module}
@@ -18,7 +19,7 @@ use Rattle.av_vread.specs.inner.Reading.{text_at}
 use Rattle.av_vread.specs.inner.Listings.{Listed, no_lines, listing_at}
 use Rattle.av_vread.specs.Beginnings.{BreaksOff}
 use Rattle.av_vread.specs.Faults.{or_row, first_row, ListsBadly, HasRow, IsFault, GivesDesign, GivesFault}
-use Rattle.av_vread.specs.inner.Checked.{Checked, checked_row, checked_listing, checked_text, checked_tokens, checked_of, FaultIs}
+use Rattle.av_vread.specs.inner.Checked.{Checked, checked_row, checked_listing, checked_text, checked_tokens, checked_of, FaultIs, AnswersDesign}
 use Rattle.av_base.proofs.Readings.{read_sound, read_fault, read_complete, fault_complete}
 use Rattle.av_vread.proofs.Longest.{finds}
 use Rattle.av_vread.proofs.Sound.{text_took}
@@ -319,6 +320,35 @@ module _ (bytes : List ℕ) where
     where
       memory : (f : VFault) → GivesFault (Err Memory) f
       memory f = tt
+
+-- ---- the answer of a reader
+
+module _ (bytes : List ℕ) where
+  pub answered_found : (r : Result Design VFault) → AnswersDesign r (checked_of bytes) → IfOk r (λ design. Spells bytes design)
+  answered_found (Ok design) a = found bytes a.0 design.listing design.«module» a.1 a.2
+  answered_found (Err f) a = tt
+
+  pub answered_sound : (r : Result Design VFault) → AnswersDesign r (checked_of bytes) → IfOk r IsSoundDesign
+  answered_sound (Ok design) a = sound bytes a.0 design.listing design.«module» a.1 a.2
+  answered_sound (Err f) a = tt
+
+  pub answered_only : (r : Result Design VFault) → AnswersDesign r (checked_of bytes) → (design : Design) → Spells bytes design → GivesDesign r design
+  answered_only (Ok design) a wanted s = only_ok bytes a.0 design.listing design.«module» wanted a.1 a.2 s
+  answered_only (Err f) a wanted s = only_err bytes f wanted a s
+
+  pub answered_fault : (r : Result Design VFault) → AnswersDesign r (checked_of bytes) → (f : VFault) → r ≡ Err f → (f ≡ Memory) ⊎ IsFault bytes f
+  answered_fault (Ok design) a f e = absurd (no_err design f e)
+    where
+      no_err : (d : Design) (f : VFault) → ◌≡◌ {A = Result Design VFault} (Ok d) (Err f) → ⊥
+      no_err d f e = cc
+  answered_fault (Err g) a f e = fault bytes f (subst (λ z. FaultIs z (checked_of bytes)) (err_is g f e) a)
+    where
+      err_is : (g f : VFault) → ◌≡◌ {A = Result Design VFault} (Err g) (Err f) → g ≡ f
+      err_is g f e = cc
+
+  pub answered_refused : (r : Result Design VFault) → AnswersDesign r (checked_of bytes) → (f : VFault) → IsFault bytes f → GivesFault r f
+  answered_refused (Ok design) a f h = refused_ok bytes (a.0, design.listing) f a.1 h
+  answered_refused (Err g) a f h = refused_err bytes g f a h
 
 -- each text spells a design or has a first fault
 pub either : (bytes : List ℕ) → ((design : Design) × Spells bytes design) ⊎ ((f : VFault) × IsFault bytes f)
