@@ -1,5 +1,5 @@
 -- A word with copies of its highest bit above it, as shifts and a sum give it.
-use Rattle.std.proofs.Common.{◌≡◌, ℕ, ◌+◌, ◌-◌, ◌*◌, ◌%◌, ◌^◌, ◌<◌, ◌≤◌, Bool, true, false, nat_lt, if◌then◌else◌, refl, sym, ap, subst, ◌∙◌, arith, pow_pos, pow_mono, pow-add, true≢false}
+use Rattle.std.proofs.Common.{◌≡◌, ℕ, ◌+◌, ◌-◌, ◌*◌, ◌%◌, ◌^◌, ◌<◌, ◌≤◌, Bool, true, false, nat_lt, if◌then◌else◌, refl, sym, ap, subst, ◌∙◌, arith, pow_pos, pow_mono, pow-add}
 use Rattle.std.proofs.lemmas.Nat.{shl_whole, mul-add-lt}
 use Rattle.std.proofs.lemmas.Bool.{ltb-true}
 use Rattle.av_base.specs.Words.{IsWord}
