@@ -44,3 +44,4 @@ pub mod Spelled
 pub mod FrontRules
 pub mod FrontParts
 pub mod FrontTexts
+pub mod KindTables

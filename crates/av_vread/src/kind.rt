@@ -43,10 +43,12 @@ impl<'a> Kind<'a> {
         let mut widths = Widths::new(alloc);
         scope::insert_ports(&mut widths, of.inputs.as_slice())?;
         scope::insert_ports(&mut widths, of.outputs.as_slice())?;
+        let inputs = scope::port_names(alloc, of.inputs.as_slice())?;
+        let outputs = scope::port_names(alloc, of.outputs.as_slice())?;
         Ok(Kind {
             of,
-            inputs: scope::port_names(alloc, of.inputs.as_slice())?,
-            outputs: scope::port_names(alloc, of.outputs.as_slice())?,
+            inputs,
+            outputs,
             widths,
         })
     }

@@ -9,5 +9,5 @@ use Rattle.av_vread.proofs.rows.unsuited_in.Goals as goal
 pub returns : goal.returns
 returns c =
     let widths : width_in c.in_ok-widths.widths ≡ width_of (module_of (said_module c.args.of.now)) = widths_test c.in_ok-widths.widths _ c.in_ok-widths.ensures in
-    c.first_unsuited.ensures ∙ ap (λ z. option_map target_of (find (λ item. not (suits (width_in c.in_ok-widths.widths) item)) (map said_item z))) c.as_slice.ensures
-    ∙ ap (λ w. option_map target_of (find (λ item. not (suits w item)) (map said_item c.args.of.now.items))) widths
+    c.first_unsuited.ensures ∙ ap (λ z. option_map target_of (find (λ item. not (suits c.args.kinds.now (width_in c.in_ok-widths.widths) item)) (map said_item z))) c.as_slice.ensures
+    ∙ ap (λ w. option_map target_of (find (λ item. not (suits c.args.kinds.now w item)) (map said_item c.args.of.now.items))) widths

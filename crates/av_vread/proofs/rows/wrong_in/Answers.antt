@@ -12,7 +12,7 @@ returns c =
     let registers : is_in c.in_ok-registers.registers ≡ is_in (names_of m.registers) = same_test _ _ c.in_ok-registers.ensures in
     let all : is_in c.in_ok-all.all ≡ is_in (all_names m) = same_test _ _ c.in_ok-all.ensures in
     let items = ap (map said_item) c.as_slice.ensures in
-    c.first_wrong.ensures ∙ ap (λ z. first_some (wrong_in (is_in c.in_ok-wires.wires) (is_in c.in_ok-registers.registers) (is_in c.in_ok-all.all)) z) items
-    ∙ ap (λ w. first_some (wrong_in w (is_in c.in_ok-registers.registers) (is_in c.in_ok-all.all)) (map said_item c.args.of.now.items)) wires
-    ∙ ap (λ r. first_some (wrong_in (is_in (wire_names m)) r (is_in c.in_ok-all.all)) (map said_item c.args.of.now.items)) registers
-    ∙ ap (λ a. first_some (wrong_in (is_in (wire_names m)) (is_in (names_of m.registers)) a) (map said_item c.args.of.now.items)) all
+    c.first_wrong.ensures ∙ ap (λ z. first_some (wrong_in c.args.kinds.now (is_in c.in_ok-wires.wires) (is_in c.in_ok-registers.registers) (is_in c.in_ok-all.all)) z) items
+    ∙ ap (λ w. first_some (wrong_in c.args.kinds.now w (is_in c.in_ok-registers.registers) (is_in c.in_ok-all.all)) (map said_item c.args.of.now.items)) wires
+    ∙ ap (λ r. first_some (wrong_in c.args.kinds.now (is_in (wire_names m)) r (is_in c.in_ok-all.all)) (map said_item c.args.of.now.items)) registers
+    ∙ ap (λ a. first_some (wrong_in c.args.kinds.now (is_in (wire_names m)) (is_in (names_of m.registers)) a) (map said_item c.args.of.now.items)) all

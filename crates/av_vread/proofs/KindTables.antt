@@ -1,0 +1,141 @@
+-- What kinds of cells found by their names tell.
+use Rattle.std.proofs.Common.{◌≡◌, ℕ, zero, suc, ◌++◌, Bool, true, false, true≢false, cond, List, [], ◌∷◌, map, length, Option, Some, None, refl, sym, ap, ◌∙◌}
+use Rattle.std.specs.Prelude.{◌||◌, is_some, option_map, slice_get, if◌then◌else◌}
+use Rattle.std.specs.Map.{lookup}
+use Rattle.std.proofs.lemmas.Slice.Eq.{bytes_eq-Decides}
+use Rattle.std.specs.List.{list_any, flat_map}
+use Rattle.std.specs.Str.{bytes_eq}
+use Rattle.av_net.specs.declared.netlist.Port.{Port}
+use Rattle.av_net.specs.declared.plan.CellKind.{CellKind}
+use Rattle.av_net.specs.Flat.{no_kind}
+use Rattle.av_net.specs.Names.{width_in}
+use Rattle.av_net.specs.Grammar.{Link, Instantiation, instance}
+use Rattle.av_net.specs.Rows.{Among, first_from, first_some, kind_named, driven_by, driven_by_link, is_early_link, reads_early}
+use Rattle.av_vread.specs.inner.Numbered.{number_of}
+use Rattle.av_vread.specs.inner.Scoped.{Bytes, width_found}
+use Rattle.av_vread.proofs.Walks.{found_more}
+use Rattle.av_vread.proofs.Table.{flip}
+use Rattle.av_vread.proofs.RowWalks.{same_widths}
+
+-- ---- no kind
+
+no_early : (wires earlier : Among) (links : List Link) → list_any (is_early_link wires earlier no_kind) links ≡ false
+no_early wires earlier [] = refl
+no_early wires earlier (link ∷ links) = no_early wires earlier links
+
+pub unknown_early : (kinds : List CellKind) (wires earlier : Among) (x : Instantiation) → kind_named kinds x.kind ≡ None → reads_early kinds wires earlier (instance x) ≡ false
+unknown_early kinds wires earlier x e = rw e (no_early wires earlier x.links)
+
+no_driven : (links : List Link) → flat_map (driven_by_link no_kind) links ≡ []
+no_driven [] = refl
+no_driven (link ∷ links) = no_driven links
+
+pub unknown_drives : (kinds : List CellKind) (x : Instantiation) → kind_named kinds x.kind ≡ None → driven_by kinds (instance x) ≡ []
+unknown_drives kinds x e = rw e (no_driven x.links)
+
+-- ---- the widths of a kind's ports
+
+pub two_walks : (w1 w2 a b : List Port) → ((q : Bytes) → width_found w1 q ≡ width_found ([] ++ a) q) → ((q : Bytes) → width_found w2 q ≡ width_found (w1 ++ b) q) → (q : Bytes) → width_in w2 q ≡ width_in (a ++ b) q
+two_walks w1 w2 a b h1 h2 q = same_widths w2 (a ++ b) (λ p. h2 p ∙ found_more w1 a b p (h1 p)) q
+
+-- ---- kinds by their numbers
+
+or_none : Bool → ℕ → Option ℕ
+or_none t n = if t then Some n else None
+
+lookup_joined : (xs : List (Bytes × ℕ)) (name : Bytes) (n : ℕ) (q : Bytes) → lookup (bytes_eq q) (xs ++ (name, n) ∷ []) ≡ first_from (lookup (bytes_eq q) xs) (or_none (bytes_eq q name) n)
+unfolding or_none
+lookup_joined [] name n q = refl
+lookup_joined (x ∷ xs) name n q = go (bytes_eq q x.0) (lookup_joined xs name n q)
+  where
+    go : (t : Bool) → lookup (bytes_eq q) (xs ++ (name, n) ∷ []) ≡ first_from (lookup (bytes_eq q) xs) (or_none (bytes_eq q name) n)
+        → cond t (Some x.1) (lookup (bytes_eq q) (xs ++ (name, n) ∷ [])) ≡ first_from (cond t (Some x.1) (lookup (bytes_eq q) xs)) (or_none (bytes_eq q name) n)
+    go true e = refl
+    go false e = e
+
+number_joined : (kinds : List CellKind) (kind : CellKind) (q : Bytes) → number_of (kinds ++ kind ∷ []) q ≡ first_from (number_of kinds q) (or_none (bytes_eq kind.name q) (length kinds))
+unfolding or_none
+number_joined [] kind q = go (bytes_eq kind.name q)
+  where
+    go : (t : Bool) → cond t (Some 0) None ≡ or_none t 0
+    go true = refl
+    go false = refl
+number_joined (k ∷ kinds) kind q = go (bytes_eq k.name q) (number_joined kinds kind q)
+  where
+    more : (a : Option ℕ) (t : Bool) (n : ℕ) → option_map suc (first_from a (or_none t n)) ≡ first_from (option_map suc a) (or_none t (suc n))
+    more None true n = refl
+    more None false n = refl
+    more (Some m) t n = refl
+
+    go : (t : Bool) → number_of (kinds ++ kind ∷ []) q ≡ first_from (number_of kinds q) (or_none (bytes_eq kind.name q) (length kinds))
+        → cond t (Some 0) (option_map suc (number_of (kinds ++ kind ∷ []) q)) ≡ first_from (cond t (Some 0) (option_map suc (number_of kinds q))) (or_none (bytes_eq kind.name q) (length (k ∷ kinds)))
+    go true e = refl
+    go false e = ap (option_map suc) e ∙ more (number_of kinds q) (bytes_eq kind.name q) (length kinds)
+
+-- a kind more, where its name is new
+pub more_numbers : (numbers numbers' : List (Bytes × ℕ)) (kinds : List CellKind) (kind : CellKind) (n : ℕ) → ((q : Bytes) → lookup (bytes_eq q) numbers ≡ number_of kinds q) → n ≡ length kinds
+    → numbers' ≡ (if is_some (lookup (bytes_eq kind.name) numbers) then numbers else (numbers ++ (kind.name, n) ∷ [])) → (q : Bytes) → lookup (bytes_eq q) numbers' ≡ number_of (kinds ++ kind ∷ []) q
+unfolding or_none
+more_numbers numbers numbers' kinds kind n h same e q = go (is_some (lookup (bytes_eq kind.name) numbers)) refl e
+  where
+    there : (a : Option ℕ) (t : Bool) (m : ℕ) → (a ≡ None → t ≡ true → ⊥) → a ≡ first_from a (or_none t m)
+    there (Some k) t m none = refl
+    there None false m none = refl
+    there None true m none = absurd (none refl refl)
+
+    go : (t : Bool) → is_some (lookup (bytes_eq kind.name) numbers) ≡ t → numbers' ≡ (if t then numbers else (numbers ++ (kind.name, n) ∷ [])) → lookup (bytes_eq q) numbers' ≡ number_of (kinds ++ kind ∷ []) q
+    go false f e =
+        ap (lookup (bytes_eq q)) e ∙ lookup_joined numbers kind.name n q ∙ ap (λ z. first_from z (or_none (bytes_eq q kind.name) n)) (h q)
+        ∙ ap (λ t. first_from (number_of kinds q) (or_none t n)) (flip q kind.name) ∙ ap (λ m. first_from (number_of kinds q) (or_none (bytes_eq kind.name q) m)) same ∙ sym (number_joined kinds kind q)
+    go true f e =
+        ap (lookup (bytes_eq q)) e ∙ h q
+        ∙ there (number_of kinds q) (bytes_eq kind.name q) (length kinds) (λ none is.
+        let name : kind.name ≡ q = (bytes_eq-Decides kind.name q).0 is in
+        true≢false (sym f ∙ ap is_some (ap (λ z. lookup (bytes_eq z) numbers) name ∙ h q ∙ none)))
+        ∙ sym (number_joined kinds kind q)
+
+pub number_there : (kinds : List CellKind) (q : Bytes) (n : ℕ) → number_of kinds q ≡ Some n → slice_get kinds n ≡ kind_named kinds q
+number_there [] q n e = absurd cc
+number_there (kind ∷ kinds) q n e = go (bytes_eq kind.name q) n e
+  where
+    go : (t : Bool) (n : ℕ) → cond t (Some 0) (option_map suc (number_of kinds q)) ≡ Some n → slice_get (kind ∷ kinds) n ≡ cond t (Some kind) (kind_named kinds q)
+    go true zero e = refl
+    go true (suc n) e = absurd cc
+    go false n e = later (number_of kinds q) refl n e
+      where
+        later : (a : Option ℕ) → number_of kinds q ≡ a → (n : ℕ) → option_map suc a ≡ Some n → slice_get (kind ∷ kinds) n ≡ kind_named kinds q
+        later None f n e = absurd cc
+        later (Some m) f zero e = absurd cc
+        later (Some m) f (suc n) e = number_there kinds q n (f ∙ (let s : m ≡ n = cc in ap Some s))
+
+pub number_none : (kinds : List CellKind) (q : Bytes) → number_of kinds q ≡ None → kind_named kinds q ≡ None
+number_none [] q e = refl
+number_none (kind ∷ kinds) q e = go (bytes_eq kind.name q) e
+  where
+    go : (t : Bool) → cond t (Some 0) (option_map suc (number_of kinds q)) ≡ None → cond t (Some kind) (kind_named kinds q) ≡ None
+    go true e = absurd cc
+    go false e = number_none kinds q (later (number_of kinds q) e)
+      where
+        later : (a : Option ℕ) → option_map suc a ≡ None → a ≡ None
+        later None e = refl
+        later (Some m) e = absurd cc
+
+-- ---- one module after the other
+
+pub first_joined : {X : Type 0} (f : X → Option Bytes) (xs ys : List X) → first_some f (xs ++ ys) ≡ first_from (first_some f xs) (first_some f ys)
+first_joined f [] ys = refl
+first_joined f (x ∷ xs) ys = go (f x) (first_joined f xs ys)
+  where
+    go : (o : Option Bytes) → first_some f (xs ++ ys) ≡ first_from (first_some f xs) (first_some f ys) → first_from o (first_some f (xs ++ ys)) ≡ first_from (first_from o (first_some f xs)) (first_some f ys)
+    go None e = e
+    go (Some y) e = refl
+
+pub kind_first : {X : Type 0} (f : X → Option Bytes) (xs : List X) (top : X) (y : Bytes) → first_some f xs ≡ Some y → first_some f (xs ++ top ∷ []) ≡ Some y
+kind_first f xs top y e = first_joined f xs (top ∷ []) ∙ ap (λ o. first_from o (first_some f (top ∷ []))) e
+
+pub top_first : {X : Type 0} (f : X → Option Bytes) (xs : List X) (top : X) → first_some f xs ≡ None → first_some f (xs ++ top ∷ []) ≡ f top
+top_first f xs top e = first_joined f xs (top ∷ []) ∙ ap (λ o. first_from o (first_some f (top ∷ []))) e ∙ alone (f top)
+  where
+    alone : (o : Option Bytes) → first_from o None ≡ o
+    alone None = refl
+    alone (Some y) = refl

@@ -1,0 +1,11 @@
+use Rattle.std.proofs.Common.{◌≡◌, map, take}
+use Rattle.std.specs.Map.{lookup}
+use Rattle.std.specs.Str.{bytes_eq}
+use Rattle.av_net.specs.Rows.{kind_from}
+use Rattle.av_vread.specs.inner.Reading.{said_module}
+use Rattle.av_vread.specs.inner.Numbered.{number_of}
+use Rattle.av_vread.specs.inner.Scoped.{Bytes}
+use Rattle.av_vread.proofs.kinds.Kinds.new.Given as goal
+
+abbrev pub invariant-loop-text : goal.invariant-loop-text
+invariant-loop-text l = (l.kinds.items ≡ map (λ text. kind_from (said_module text)) (take l.text-index l.of)) × ((q : Bytes) → lookup (bytes_eq q) l.numbers ≡ number_of l.kinds.items q)

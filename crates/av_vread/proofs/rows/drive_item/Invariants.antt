@@ -1,7 +1,0 @@
-use Rattle.std.proofs.Common.{◌≡◌, ◌++◌, drop}
-use Rattle.av_vread.specs.inner.Scoped.{Bytes, texts}
-use Rattle.av_net.specs.Rows.{is_in}
-use Rattle.av_vread.proofs.rows.drive_item.Given as goal
-
-abbrev pub invariant-loop-name : goal.invariant-loop-name
-invariant-loop-name l = (q : Bytes) → is_in (l.earlier ++ texts (drop l.name-index l.names.items)) q ≡ is_in (l.fn.earlier ++ texts l.names.items) q
