@@ -36,10 +36,14 @@ set_more names i d set set' q lt e so =
     rest_at names i d lt = drop-cons names i d lt ∙ ap (λ n. get_or names i d ∷ drop n names) (let next : suc i ≡ i + 1 = omega arith in next)
 
 -- a name more of those that are put in
-pub set_next : (names : List (Bor Bytes)) (i : ℕ) (x : Bor Bytes) (set set' : List Bytes) (total : Bytes → Bool) (q : Bytes) → i < length names → x ≡ get_or names i x
-    → set' ≡ (if is_in set x.now then set else (set ++ x.now ∷ [])) → ((q : Bytes) → is_in (set ++ texts (drop i names)) q ≡ total q) → is_in (set' ++ texts (drop (i + 1) names)) q ≡ total q
-set_next names i x set set' total q lt at e so =
-    put_in set set' (texts (drop (i + 1) names)) x.now q e ∙ ap (λ (z : List (Bor Bytes)). is_in (set ++ texts z) q) (sym (next_item names i x lt at)) ∙ so q
+pub set_walk : (names : List (Bor Bytes)) (i : ℕ) (d : Bor Bytes) (set set' : List Bytes) (total : Bytes → Bool) (q : Bytes) → i < length names
+    → set' ≡ (if is_in set (get_or names i d).now then set else (set ++ (get_or names i d).now ∷ [])) → ((q : Bytes) → is_in (set ++ texts (drop i names)) q ≡ total q)
+    → is_in (set' ++ texts (drop (i + 1) names)) q ≡ total q
+set_walk names i d set set' total q lt e so =
+    put_in set set' (texts (drop (i + 1) names)) (get_or names i d).now q e ∙ ap (λ (z : List (Bor Bytes)). is_in (set ++ texts z) q) (sym (rest_at names i d lt)) ∙ so q
+  where
+    rest_at : (names : List (Bor Bytes)) (i : ℕ) (d : Bor Bytes) → i < length names → drop i names ≡ get_or names i d ∷ drop (i + 1) names
+    rest_at names i d lt = drop-cons names i d lt ∙ ap (λ n. get_or names i d ∷ drop n names) (let next : suc i ≡ i + 1 = omega arith in next)
 
 -- the same names more after either list
 more_names : (a b names : List (List ℕ)) (q : List ℕ) → is_in a q ≡ is_in b q → is_in (a ++ names) q ≡ is_in (b ++ names) q

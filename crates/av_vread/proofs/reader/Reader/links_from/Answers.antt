@@ -10,11 +10,11 @@ use Rattle.av_vread.proofs.Sound.{next_link_took}
 use Rattle.av_vread.proofs.reader.Reader.links_from.Goals as goal
 
 pub loop-self-init : goal.loop-self-init
-loop-self-init c = behind_first (is_at (codes ",")) (next_link_at) (said_link c.args.first ∷ []) (views c.args.self.now.rest.now)
+loop-self-init c = rw (c.in_ok-push.ensures.ok, c.new-found.ensures) (behind_first (is_at (codes ",")) (next_link_at) (said_link c.args.first ∷ []) (views c.args.self.now.rest.now))
 
 pub returns-in_err-link : goal.returns-in_err-link
 returns-in_err-link c =
-    let p = err_from_is_err_and c.from_residual.result c.from_residual.ensures.1 in
+    let p = err_from_is_err_and c.from_residual-in_err-link.result c.from_residual-in_err-link.ensures.1 in
     let test : is_at (codes ",") (views c.loop-self.self.rest.now) ≡ true = sym c.is_at.ensures ∙ c.loop-self-test.true in
     rw (p.1, p.2)
     (behind_wrong (is_at (codes ",")) (next_link_at) (said_link c.args.first ∷ []) (views c.args.self.now.rest.now) (map said_link c.loop-self.found) (views c.loop-self.self.rest.now) c.in_err-link.field-0.0

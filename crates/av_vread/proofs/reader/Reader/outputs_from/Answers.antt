@@ -10,11 +10,11 @@ use Rattle.av_vread.proofs.Sound.{directed_took}
 use Rattle.av_vread.proofs.reader.Reader.outputs_from.Goals as goal
 
 pub loop-self-init : goal.loop-self-init
-loop-self-init c = behind_first (is_at (codes ",")) (directed_at (codes "output")) (c.args.first ∷ []) (views c.args.self.now.rest.now)
+loop-self-init c = rw (c.in_ok-push.ensures.ok, c.new-found.ensures) (behind_first (is_at (codes ",")) (directed_at (codes "output")) (c.args.first ∷ []) (views c.args.self.now.rest.now))
 
 pub returns-in_err-port : goal.returns-in_err-port
 returns-in_err-port c =
-    let p = err_from_is_err_and c.from_residual.result c.from_residual.ensures.1 in
+    let p = err_from_is_err_and c.from_residual-in_err-port.result c.from_residual-in_err-port.ensures.1 in
     let test : is_at (codes ",") (views c.loop-self.self.rest.now) ≡ true = sym c.is_at.ensures ∙ c.loop-self-test.true in
     rw (p.1, p.2)
     (behind_wrong (is_at (codes ",")) (directed_at (codes "output")) (c.args.first ∷ []) (views c.args.self.now.rest.now) c.loop-self.found (views c.loop-self.self.rest.now) c.in_err-port.field-0.0
