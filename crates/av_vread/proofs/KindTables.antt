@@ -1,6 +1,6 @@
 -- What kinds of cells found by their names tell.
-use Rattle.std.proofs.Common.{◌≡◌, ℕ, zero, suc, ◌++◌, Bool, true, false, true≢false, cond, List, [], ◌∷◌, map, length, Option, Some, None, refl, sym, ap, ◌∙◌}
-use Rattle.std.specs.Prelude.{◌||◌, is_some, option_map, slice_get, if◌then◌else◌}
+use Rattle.std.proofs.Common.{◌≡◌, ℕ, zero, suc, ◌++◌, Bool, true, false, true≢false, cond, List, [], ◌∷◌, map, length, Option, Some, None, refl, sym, ap, ◌∙◌, arith}
+use Rattle.std.specs.Prelude.{◌||◌, ◌<◌, is_some, option_map, slice_get, IfSome, if◌then◌else◌}
 use Rattle.std.specs.Map.{lookup}
 use Rattle.std.proofs.lemmas.Slice.Eq.{bytes_eq-Decides}
 use Rattle.std.specs.List.{list_any, flat_map}
@@ -94,31 +94,41 @@ more_numbers numbers numbers' kinds kind n h same e q = go (is_some (lookup (byt
         true≢false (sym f ∙ ap is_some (ap (λ z. lookup (bytes_eq z) numbers) name ∙ h q ∙ none)))
         ∙ sym (number_joined kinds kind q)
 
+number_step : (kind : CellKind) (kinds : List CellKind) (q : Bytes) (t : Bool) (a : Option ℕ) (n : ℕ) → cond t (Some 0) (option_map suc a) ≡ Some n → ((m : ℕ) → a ≡ Some m → slice_get kinds m ≡ kind_named kinds q)
+    → slice_get (kind ∷ kinds) n ≡ cond t (Some kind) (kind_named kinds q)
+number_step kind kinds q true a zero e ih = refl
+number_step kind kinds q true a (suc n) e ih = absurd cc
+number_step kind kinds q false None n e ih = absurd cc
+number_step kind kinds q false (Some m) zero e ih = absurd cc
+number_step kind kinds q false (Some m) (suc n) e ih = ih n (let s : m ≡ n = cc in ap (λ k. Some k) s)
+
 pub number_there : (kinds : List CellKind) (q : Bytes) (n : ℕ) → number_of kinds q ≡ Some n → slice_get kinds n ≡ kind_named kinds q
 number_there [] q n e = absurd cc
-number_there (kind ∷ kinds) q n e = go (bytes_eq kind.name q) n e
-  where
-    go : (t : Bool) (n : ℕ) → cond t (Some 0) (option_map suc (number_of kinds q)) ≡ Some n → slice_get (kind ∷ kinds) n ≡ cond t (Some kind) (kind_named kinds q)
-    go true zero e = refl
-    go true (suc n) e = absurd cc
-    go false n e = later (number_of kinds q) refl n e
-      where
-        later : (a : Option ℕ) → number_of kinds q ≡ a → (n : ℕ) → option_map suc a ≡ Some n → slice_get (kind ∷ kinds) n ≡ kind_named kinds q
-        later None f n e = absurd cc
-        later (Some m) f zero e = absurd cc
-        later (Some m) f (suc n) e = number_there kinds q n (f ∙ (let s : m ≡ n = cc in ap Some s))
+number_there (kind ∷ kinds) q n e = number_step kind kinds q (bytes_eq kind.name q) (number_of kinds q) n e (λ m f. number_there kinds q m f)
+
+none_step : (kind : CellKind) (kinds : List CellKind) (q : Bytes) (t : Bool) (a : Option ℕ) → cond t (Some 0) (option_map suc a) ≡ None → (a ≡ None → kind_named kinds q ≡ None) → cond t (Some kind) (kind_named kinds q) ≡ None
+none_step kind kinds q true a e ih = absurd cc
+none_step kind kinds q false None e ih = ih refl
+none_step kind kinds q false (Some m) e ih = absurd cc
 
 pub number_none : (kinds : List CellKind) (q : Bytes) → number_of kinds q ≡ None → kind_named kinds q ≡ None
 number_none [] q e = refl
-number_none (kind ∷ kinds) q e = go (bytes_eq kind.name q) e
+number_none (kind ∷ kinds) q e = none_step kind kinds q (bytes_eq kind.name q) (number_of kinds q) e (λ f. number_none kinds q f)
+
+pub number_within : (kinds : List CellKind) (q : Bytes) (r : Option ℕ) → r ≡ number_of kinds q → IfSome r (λ n. n < length kinds)
+number_within kinds q None e = tt
+number_within kinds q (Some n) e = below kinds n (sym e)
   where
-    go : (t : Bool) → cond t (Some 0) (option_map suc (number_of kinds q)) ≡ None → cond t (Some kind) (kind_named kinds q) ≡ None
-    go true e = absurd cc
-    go false e = number_none kinds q (later (number_of kinds q) e)
-      where
-        later : (a : Option ℕ) → option_map suc a ≡ None → a ≡ None
-        later None e = refl
-        later (Some m) e = absurd cc
+    step : (t : Bool) (a : Option ℕ) (n m : ℕ) → cond t (Some 0) (option_map suc a) ≡ Some n → ((k : ℕ) → a ≡ Some k → k < m) → n < suc m
+    step true a zero m e ih = omega arith
+    step true a (suc n) m e ih = absurd cc
+    step false None n m e ih = absurd cc
+    step false (Some k) zero m e ih = absurd cc
+    step false (Some k) (suc n) m e ih = let less = ih k refl in let same : k ≡ n = cc in omega (arith, less, same)
+
+    below : (kinds : List CellKind) (n : ℕ) → number_of kinds q ≡ Some n → n < length kinds
+    below [] n e = absurd cc
+    below (kind ∷ kinds) n e = step (bytes_eq kind.name q) (number_of kinds q) n (length kinds) e (λ k f. below kinds k f)
 
 -- ---- one module after the other
 
