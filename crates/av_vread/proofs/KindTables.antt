@@ -1,5 +1,5 @@
 -- What kinds of cells found by their names tell.
-use Rattle.std.proofs.Common.{◌≡◌, ℕ, zero, suc, ◌++◌, Bool, true, false, true≢false, cond, List, [], ◌∷◌, map, length, Option, Some, None, refl, sym, ap, ◌∙◌, arith}
+use Rattle.std.proofs.Common.{◌≡◌, ℕ, zero, suc, ◌++◌, Bool, true, false, true≢false, cond, List, [], ◌∷◌, map, length, get_or, drop, ◌+◌, ◌≤◌, Option, Some, None, refl, sym, ap, ◌∙◌, arith}
 use Rattle.std.specs.Prelude.{◌||◌, ◌<◌, is_some, option_map, slice_get, IfSome, if◌then◌else◌}
 use Rattle.std.specs.Map.{lookup}
 use Rattle.std.proofs.lemmas.Slice.Eq.{bytes_eq-Decides}
@@ -9,10 +9,13 @@ use Rattle.av_net.specs.declared.netlist.Port.{Port}
 use Rattle.av_net.specs.declared.plan.CellKind.{CellKind}
 use Rattle.av_net.specs.Flat.{no_kind}
 use Rattle.av_net.specs.Names.{width_in}
-use Rattle.av_net.specs.Grammar.{Link, Instantiation, instance}
+use Rattle.av_net.specs.Grammar.{Link, Instantiation, ModuleText, instance}
 use Rattle.av_net.specs.Rows.{Among, first_from, first_some, kind_named, driven_by, driven_by_link, is_early_link, reads_early}
 use Rattle.av_vread.specs.inner.Numbered.{number_of}
 use Rattle.av_vread.specs.inner.Scoped.{Bytes, width_found}
+use Rattle.av_vread.specs.declared.parsed.ModuleText.{ModuleText as FoundModule}
+use Rattle.av_vread.specs.inner.Reading.{said_module}
+use Rattle.av_base.proofs.Lists.{next_item, nothing_left}
 use Rattle.av_vread.proofs.Walks.{found_more}
 use Rattle.av_vread.proofs.Table.{flip}
 use Rattle.av_vread.proofs.RowWalks.{same_widths}
@@ -115,6 +118,18 @@ pub number_none : (kinds : List CellKind) (q : Bytes) → number_of kinds q ≡ 
 number_none [] q e = refl
 number_none (kind ∷ kinds) q e = none_step kind kinds q (bytes_eq kind.name q) (number_of kinds q) e (λ f. number_none kinds q f)
 
+item_step : (kind : CellKind) (kinds : List CellKind) (q : Bytes) (t : Bool) (a : Option ℕ) (n : ℕ) (d : CellKind) → cond t (Some 0) (option_map suc a) ≡ Some n → ((m : ℕ) → a ≡ Some m → Some (get_or kinds m d) ≡ kind_named kinds q)
+    → Some (get_or (kind ∷ kinds) n d) ≡ cond t (Some kind) (kind_named kinds q)
+item_step kind kinds q true a zero d e ih = refl
+item_step kind kinds q true a (suc n) d e ih = absurd cc
+item_step kind kinds q false None n d e ih = absurd cc
+item_step kind kinds q false (Some m) zero d e ih = absurd cc
+item_step kind kinds q false (Some m) (suc n) d e ih = ih n (let s : m ≡ n = cc in ap (λ k. Some k) s)
+
+pub number_item : (kinds : List CellKind) (q : Bytes) (n : ℕ) (d : CellKind) → number_of kinds q ≡ Some n → Some (get_or kinds n d) ≡ kind_named kinds q
+number_item [] q n d e = absurd cc
+number_item (kind ∷ kinds) q n d e = item_step kind kinds q (bytes_eq kind.name q) (number_of kinds q) n d e (λ m f. number_item kinds q m d f)
+
 pub number_within : (kinds : List CellKind) (q : Bytes) (r : Option ℕ) → r ≡ number_of kinds q → IfSome r (λ n. n < length kinds)
 number_within kinds q None e = tt
 number_within kinds q (Some n) e = below kinds n (sym e)
@@ -149,3 +164,15 @@ top_first f xs top e = first_joined f xs (top ∷ []) ∙ ap (λ o. first_from o
     alone : (o : Option Bytes) → first_from o None ≡ o
     alone None = refl
     alone (Some y) = refl
+
+-- a walk over the kinds of a text, and then its top
+pub told_by_kind : (f : ModuleText → Option Bytes) (kinds : List FoundModule) (i : ℕ) (kind : FoundModule) (top : ModuleText) (name : Bytes) → first_some f (map said_module (drop i kinds)) ≡ first_some f (map said_module kinds)
+    → i < length kinds → kind ≡ get_or kinds i kind → f (said_module kind) ≡ Some name → Some name ≡ first_some f (map said_module kinds ++ top ∷ [])
+told_by_kind f kinds i kind top name so lt is at =
+    let here : first_some f (map said_module (drop i kinds)) ≡ Some name =
+    ap (λ z. first_some f (map said_module z)) (next_item kinds i kind lt is) ∙ ap (λ o. first_from o (first_some f (map said_module (drop (i + 1) kinds)))) at in
+    sym (kind_first f (map said_module kinds) top name (sym so ∙ here))
+
+pub told_by_top : (f : ModuleText → Option Bytes) (kinds : List FoundModule) (i : ℕ) (top : ModuleText) → first_some f (map said_module (drop i kinds)) ≡ first_some f (map said_module kinds) → length kinds ≤ i
+    → f top ≡ first_some f (map said_module kinds ++ top ∷ [])
+told_by_top f kinds i top so past = sym (top_first f (map said_module kinds) top (sym so ∙ ap (λ z. first_some f (map said_module z)) (nothing_left kinds i past)))
