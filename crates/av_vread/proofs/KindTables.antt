@@ -1,5 +1,5 @@
 -- What kinds of cells found by their names tell.
-use Rattle.std.proofs.Common.{◌≡◌, ℕ, zero, suc, ◌++◌, Bool, true, false, true≢false, cond, List, [], ◌∷◌, map, length, get_or, drop, ◌+◌, ◌≤◌, Option, Some, None, refl, sym, ap, ◌∙◌, arith}
+use Rattle.std.proofs.Common.{◌≡◌, ℕ, zero, suc, ◌++◌, Bool, true, false, true≢false, cond, List, [], ◌∷◌, map, length, get_or, take, drop, ◌+◌, ◌≤◌, Option, Some, None, refl, sym, ap, ◌∙◌, arith}
 use Rattle.std.specs.Prelude.{◌||◌, ◌<◌, is_some, option_map, slice_get, IfSome, if◌then◌else◌}
 use Rattle.std.specs.Map.{lookup}
 use Rattle.std.proofs.lemmas.Slice.Eq.{bytes_eq-Decides}
@@ -164,6 +164,14 @@ top_first f xs top e = first_joined f xs (top ∷ []) ∙ ap (λ o. first_from o
     alone : (o : Option Bytes) → first_from o None ≡ o
     alone None = refl
     alone (Some y) = refl
+
+-- one item more of those that were gone over
+pub taken_map : {X Y : Type 0} (f : X → Y) (xs : List X) (i : ℕ) (x : X) → i < length xs → x ≡ get_or xs i x → map f (take i xs) ++ f x ∷ [] ≡ map f (take (i + 1) xs)
+taken_map f [] i x lt is = absurd (omega arith)
+taken_map f (y ∷ xs) zero x lt is = ap (λ z. f z ∷ []) is
+taken_map f (y ∷ xs) (suc i) x lt is =
+    let next : suc (i + 1) ≡ suc i + 1 = omega arith in
+    ap (λ zs. f y ∷ zs) (taken_map f xs i x (omega arith) is) ∙ ap (λ n. map f (take n (y ∷ xs))) next
 
 -- a walk over the kinds of a text, and then its top
 pub told_by_kind : (f : ModuleText → Option Bytes) (kinds : List FoundModule) (i : ℕ) (kind : FoundModule) (top : ModuleText) (name : Bytes) → first_some f (map said_module (drop i kinds)) ≡ first_some f (map said_module kinds)
