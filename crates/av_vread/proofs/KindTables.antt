@@ -1,6 +1,6 @@
 -- What kinds of cells found by their names tell.
 use Rattle.std.proofs.Common.{◌≡◌, ℕ, zero, suc, ◌++◌, Bool, true, false, true≢false, cond, List, [], ◌∷◌, map, length, get_or, take, drop, ◌+◌, ◌≤◌, Option, Some, None, refl, sym, ap, ◌∙◌, arith}
-use Rattle.std.specs.Prelude.{◌||◌, ◌<◌, is_some, option_map, slice_get, IfSome, if◌then◌else◌}
+use Rattle.std.specs.Prelude.{◌||◌, ◌<◌, is_some, option_map, slice_get, find, not, IfSome, if◌then◌else◌}
 use Rattle.std.specs.Map.{lookup}
 use Rattle.std.proofs.lemmas.Slice.Eq.{bytes_eq-Decides}
 use Rattle.std.specs.List.{list_any, flat_map}
@@ -8,13 +8,15 @@ use Rattle.std.specs.Str.{bytes_eq}
 use Rattle.av_net.specs.declared.netlist.Port.{Port}
 use Rattle.av_net.specs.declared.plan.CellKind.{CellKind}
 use Rattle.av_net.specs.Flat.{no_kind}
-use Rattle.av_net.specs.Names.{width_in}
+use Rattle.av_net.specs.Names.{names_of, width_in}
 use Rattle.av_net.specs.Grammar.{Link, Instantiation, ModuleText, instance}
-use Rattle.av_net.specs.Rows.{Among, first_from, first_some, kind_named, driven_by, driven_by_link, is_early_link, reads_early}
+use Rattle.av_net.specs.Rows.{Among, is_in, first_from, first_some, kind_from, kind_or, kind_named, unlinked_in, driven_by, driven_by_link, is_early_link, reads_early}
 use Rattle.av_vread.specs.inner.Numbered.{number_of}
 use Rattle.av_vread.specs.inner.Scoped.{Bytes, width_found}
 use Rattle.av_vread.specs.declared.parsed.ModuleText.{ModuleText as FoundModule}
-use Rattle.av_vread.specs.inner.Reading.{said_module}
+use Rattle.av_vread.specs.declared.parsed.Link.{Link as FoundLink}
+use Rattle.av_vread.specs.declared.parsed.Instantiation.{Instantiation as FoundInstance}
+use Rattle.av_vread.specs.inner.Reading.{said_link, said_instance, said_module}
 use Rattle.av_base.proofs.Lists.{next_item, nothing_left}
 use Rattle.av_vread.proofs.Walks.{found_more}
 use Rattle.av_vread.proofs.Table.{flip}
@@ -35,6 +37,22 @@ no_driven (link ∷ links) = no_driven links
 
 pub unknown_drives : (kinds : List CellKind) (x : Instantiation) → kind_named kinds x.kind ≡ None → driven_by kinds (instance x) ≡ []
 unknown_drives kinds x e = rw e (no_driven x.links)
+
+-- ---- ports that are not linked
+
+ports_said : (links : List FoundLink) → map (λ link. link.port) (map said_link links) ≡ map (λ link. link.port) links
+ports_said [] = refl
+ports_said (link ∷ links) = ap (λ ports. link.port ∷ ports) (ports_said links)
+
+pub unlinked_there : (kinds : List CellKind) (x : FoundInstance) (kind : CellKind) (text : FoundModule) → kind_named kinds x.kind ≡ Some kind → kind_from (said_module text) ≡ kind
+    → find (λ port. not (is_in (map (λ link. link.port) x.links) port)) (names_of text.inputs ++ names_of text.outputs) ≡ unlinked_in kinds (instance (said_instance x))
+unlinked_there kinds x kind text e same =
+    ap (λ (k : CellKind). find (λ port. not (is_in (map (λ link. link.port) x.links) port)) (names_of k.inputs ++ names_of k.outputs)) same
+    ∙ ap (λ ports. find (λ port. not (is_in ports port)) (names_of kind.inputs ++ names_of kind.outputs)) (sym (ports_said x.links))
+    ∙ ap (λ o. find (λ port. not (is_in (map (λ link. link.port) (map said_link x.links)) port)) (names_of (kind_or o).inputs ++ names_of (kind_or o).outputs)) (sym e)
+
+pub unlinked_none : (kinds : List CellKind) (x : FoundInstance) → kind_named kinds x.kind ≡ None → unlinked_in kinds (instance (said_instance x)) ≡ None
+unlinked_none kinds x e = rw e refl
 
 -- ---- the widths of a kind's ports
 
