@@ -9,6 +9,7 @@ from collections import defaultdict, namedtuple
 WIDTH, HEIGHT = 88, 64           # the least size of a cell
 LANE, OUTER, GAP = 8, 16, 46     # between lanes, at the outer edges, and between cells
 WORD = 24                        # the height of a word of a stream
+LOOP = 22                        # the width of a cell's link to itself, where it has more than corners
 SIDES = {"left": (0, -1), "top": (-1, 0), "right": (0, 1), "bottom": (1, 0)}      # the way out: down and across
 
 Route = namedtuple("Route", "trunk across down")     # the trunk of a link, its gutter of rows, and its gutter of columns or None
@@ -172,12 +173,16 @@ class Layout:
         """Gives the greatest number of ports that a cell of a row (axis 0) or column (axis 1) has on one of two sides."""
         return max([len(self.ports[cell, side]) for cell, place in self.place.items() if place[axis] == number for side in sides], default=1)
 
+    def _loops(self, column):
+        """Gives the greatest number of links to itself that a cell of a column has."""
+        return max(len(self.loops[cell]) for cell, place in self.place.items() if place[1] == column)
+
     def _measure(self):
         """Gives rows, columns and gutters their places: wide enough for the streams at the ports and for the lanes."""
         at_ports = [line.point for line in self.array.design.ins + self.array.design.ats if line.name[0] in "io"]
         longest = max([len(str(point)) - 2 * bool(point.indices) for point in at_ports], default=2)
         self.slot = max(36, 16 + 6 * longest)
-        self.widths = [max(WIDTH, self._most(1, column, ("top", "bottom")) * self.slot + 8) for column in range(self.columns)]
+        self.widths = [max(WIDTH, self._most(1, column, ("top", "bottom")) * self.slot + 8, LOOP * self._loops(column)) for column in range(self.columns)]
         self.heights = [max(HEIGHT, self._most(0, row, ("left", "right")) * WORD + 4) for row in range(self.rows)]
         self.x, self.y = self._starts("column", self.widths), self._starts("row", self.heights)
         self.size = self.x[-1], self.y[-1]
@@ -217,13 +222,13 @@ class Layout:
             if trunk not in entries[link.consumer]:
                 entries[link.consumer].append(trunk)
             shift = 12 * entries[link.consumer].index(trunk)
-            level, start = self.lane(across, trunk), x + 0.64 * wide
+            level, start = self.lane(across, trunk), x + 0.72 * wide
             way = [(start, y + high if level > y else y), (start, level)]
             if down is None:
-                end = to_x + 16 + shift
+                end = to_x + 24 + shift
                 self.paths[link] = [*way, (end, level), (end, to_y + to_high if level > to_y else to_y)]
             else:
-                pillar, end = self.lane(down, trunk), to_y + 14 + shift
+                pillar, end = self.lane(down, trunk), to_y + 22 + shift
                 self.paths[link] = [*way, (pillar, level), (pillar, end), (to_x if pillar < to_x else to_x + to_wide, end)]
 
     def arrow(self, link, shift):

@@ -6,8 +6,8 @@ an output is drawn as it is after the last cycle. A port of a cell that has no f
 from html import escape
 
 from .formula import formulas
-from .layout import GAP, SIDES, WORD, Layout
-from .svg import box, colours, path, point, style, svg, text, towards
+from .layout import GAP, LOOP, SIDES, WORD, Layout
+from .svg import box, colours, most, path, point, style, svg, text, towards
 
 STUB = 30               # the way from the border to the first word of a stream
 LIVE_GAP = 72           # between cells where each link has room for a word
@@ -49,7 +49,7 @@ class Picture:
         width = max(self.width, wide, 420)
         head = text(14, 22, escape(title), "title", "start") + text(width - 14, 22, self.array.totals, "faint", "end") + "\n"
         label = f"The systolic array {title}: {self.array.totals}"
-        return svg(width, self.height + 8 + tall, head + self.drawn() + legend, label, style())
+        return svg(width, self.height + 8 + tall, head + self.drawn() + legend, label, self.colour, style(most(self.colour)))
 
     def drawn(self):
         """Gives the array with its streams, without title and legend."""
@@ -96,9 +96,13 @@ class Picture:
         return towards(*points, sum((a - b) ** 2 for a, b in zip(*points)) ** 0.5 / 2 - 2)
 
     def loop(self, link):
-        """Gives the middle of the registers of a cell's link to itself, and its way round one of the cell's corners."""
+        """Gives the middle of the registers of a cell's link to itself, and its way: round one of the cell's corners, or below the cell."""
         x, y, wide, high = self.layout.box(link.consumer)
-        right, down = self.layout.corners(link.consumer)[self.layout.loops[link.consumer].index(link) % 4]
+        number = self.layout.loops[link.consumer].index(link)
+        if number >= 4:
+            begin, low = x + 22 + LOOP * (number - 4), y + high
+            return (begin + 6, low + 13), f"M{begin:.1f},{low:.1f} v6 q0,7 6,7 q6,0 6,-7 v-6"
+        right, down = self.layout.corners(link.consumer)[number]
         corner = x + wide * right, y + high * down
         out, up = (1 if right else -1), (1 if down else -1)
         ways = [(0, -16 * up), (15 * out, -16 * up), (15 * out, 15 * up), (0, 14 * up), (-16 * out, 10 * up), (-16 * out, 0)]
@@ -187,7 +191,8 @@ class Picture:
             x, y = self.slot(border, way, away)
             yield text(x, y + 3.5, self.array.cycles - 1 - away if ports[0][0] == "o" else away, "faint ruler")
         x, y = self.slot(border, way, last + 1)
-        yield text(x if across else x + 6, y + 3.5, "cycle", "faint ruler", "middle" if across else "end")
+        head = "cycle out" if ports[0][0] == "o" else "cycle in"
+        yield text(x if across else x + 6, y + 3.5, head, "faint ruler", "middle" if across else "end")
 
     def legend(self, y):
         """Gives the colours and signs, what the cells of each node compute, and the words of inner ports; how wide and how high all that is."""

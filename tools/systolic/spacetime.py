@@ -4,7 +4,7 @@ Above 48 cells points are dots, whose names show under the pointer.
 """
 from html import escape
 
-from .svg import box, colours, point, style, svg, text, towards
+from .svg import box, colours, most, point, style, svg, text, towards
 
 LEFT, TOP, MANY = 56, 74, 48
 
@@ -36,7 +36,8 @@ class SpaceTime:
     def svg(self, title):
         note = "cells across, cycles down; a mark at the upper edge is a word from an input port"
         head = text(14, 22, escape(title), "title", "start") + text(14, 40, note, "faint", "start") + "\n"
-        return svg(max(self.width, 420), self.height, head + self.drawn(), f"The space-time diagram of {title}: {self.array.totals}", style())
+        label = f"The space-time diagram of {title}: {self.array.totals}"
+        return svg(max(self.width, 420), self.height, head + self.drawn(), label, self.colour, style(most(self.colour)))
 
     def drawn(self):
         return "\n".join([*self.axes(), *self.dependences(), *self.points()]) + "\n"

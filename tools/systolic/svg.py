@@ -24,25 +24,25 @@ THEMES = {
 }
 
 
-def tinted(theme, prefix=""):
-    """Gives the rules of a theme's colours, one a line; with a prefix they hold where it does."""
+def tinted(theme, used, prefix=""):
+    """Gives the rules of a theme's colours of which so many are used, one a line; with a prefix they hold where it does."""
     rules = INKS % THEMES[theme]
-    for number, colour in enumerate(THEMES[theme]["colours"]):
+    for number, colour in enumerate(THEMES[theme]["colours"][:used]):
         rules += f".s{number}{{stroke:{colour}}}\n.f{number}{{fill:{colour}}}\n"
         rules += f".t{number}{{fill:{colour};fill-opacity:{THEMES[theme]['tint']}}}\n"
     return "".join(f"{prefix}{line}\n" for line in rules.splitlines())
 
 
-def style():
+def style(used):
     """Gives the rules of a picture that stands alone: dark on a screen that is dark, and light elsewhere and in print."""
-    return f"<style>{SHAPES}{tinted('light')}@media screen and (prefers-color-scheme:dark){{{tinted('dark')}}}</style>"
+    return f"<style>{SHAPES}{tinted('light', used)}@media screen and (prefers-color-scheme:dark){{\n{tinted('dark', used)}}}</style>\n"
 
 
-def svg(width, height, content, label, rules="", above=0):
-    """Gives a whole SVG text; what stands above a height is cut off. The label is what a screen reader says."""
+def svg(width, height, content, label, colour, rules="", above=0):
+    """Gives a whole SVG text; what stands above a height is cut off. The label is what a screen reader says, `colour` has the colours that are used."""
     heads = "".join(f'<marker id="to{number}" viewBox="0 0 8 8" refX="7.2" refY="4" markerWidth="8.5" markerHeight="8.5" '
                     f'markerUnits="userSpaceOnUse" orient="auto"><path class="f{number}" d="M0,0.6 L8,4 L0,7.4 z"/></marker>\n'
-                    for number in range(len(LIGHT)))
+                    for number in range(most(colour)))
     return (f'<svg xmlns="http://www.w3.org/2000/svg" viewBox="0 {above} {width:.0f} {height - above:.0f}" '
             f'width="{width:.0f}" height="{height - above:.0f}" role="img" aria-label="{escape(label)}">\n'
             f'{rules}<defs>\n{heads}</defs>\n<rect class="paper" width="{width:.0f}" height="{height:.0f}"/>\n{content}</svg>\n')
@@ -72,6 +72,11 @@ def colours(array):
     names = [line.point.variable for line in array.design.ins] + [cell.node.partition("#")[0] for cell in array.cells]
     order = list(dict.fromkeys(names))
     return {name: order.index(name.partition("#")[0]) % len(LIGHT) for name in [*order, *[cell.node for cell in array.cells]]}
+
+
+def most(colour):
+    """Gives how many colours are used."""
+    return 1 + max(colour.values(), default=0)
 
 
 def path(points):
