@@ -15,4 +15,5 @@ They read what the program writes and prove nothing.
 | `clocked` | a run on data, compared with what `run` and `trace` write |
 | `bench` | a test bench in Verilog |
 | `page` | the page that plays a run; `page.html` is its frame |
+| `examples` | the texts in examples/ |
 """

@@ -22,8 +22,8 @@ def program():
     """Gives the path of the built program, which `ALPHAV` in the environment may name."""
     found = shutil.which(os.environ.get("ALPHAV", BUILT))
     if not found:
-        raise Ended(f"{os.environ.get('ALPHAV', BUILT)} is missing. `{TOP}/alphav demo 2` proves and builds the program, once, "
-                    "which can take an hour; ALPHAV in the environment can name one that is built already.", MISSING)
+        raise Ended(f"{os.environ.get('ALPHAV', BUILT)} is missing: `{TOP}/alphav demo 2` proves and builds the program, once, which can "
+                    "take an hour. ALPHAV in the environment can name one that is built already.", MISSING)
     return found
 
 
@@ -49,17 +49,21 @@ class Given:
         return " ".join([*(found.groups() if found else ()), *[word for word in self.words if re.fullmatch(r"\w+=-?\d+", word)]])
 
 
+def guarded(tool, *words):
+    """Gives the status with which a tool ends; where it ends early, it is told why on standard error."""
+    try:
+        return tool(*words)
+    except Ended as ended:
+        print(ended, file=sys.stderr)
+        return ended.status
+
+
 def main(tool, help_text):
-    """Runs a tool, which takes what is given and gives the text to write."""
+    """Runs a tool that makes one text of another: it takes what is given, and gives what is to be written."""
     words = sys.argv[1:]
     if {"-h", "--help"} & set(words):
         sys.exit(print(help_text))
-    try:
-        written = tool(Given(words, sys.stdin.buffer.read().decode("latin-1")))
-        sys.stdout.buffer.write(written.encode("utf-8"))
-        sys.stdout.flush()
-    except Ended as ended:
-        print(ended, file=sys.stderr)
-        sys.exit(ended.status)
-    except BrokenPipeError:
-        sys.stdout = None
+
+    def write():
+        sys.stdout.buffer.write(tool(Given(words, sys.stdin.buffer.read().decode("latin-1"))).encode("utf-8"))
+    sys.exit(guarded(write))
