@@ -222,7 +222,9 @@ class Layout:
             if trunk not in entries[link.consumer]:
                 entries[link.consumer].append(trunk)
             shift = 12 * entries[link.consumer].index(trunk)
-            level, start = self.lane(across, trunk), x + 0.72 * wide
+            level = self.lane(across, trunk)
+            has_two_ports = len(self.ports[link.producer, "bottom" if level > y else "top"]) == 2
+            start = x + wide * (0.86 if has_two_ports else 0.72)
             way = [(start, y + high if level > y else y), (start, level)]
             if down is None:
                 end = to_x + 24 + shift
