@@ -208,10 +208,19 @@ class Layout:
         return (self.x if kind == "column" else self.y)[number] - 11 - LANE * self.lanes.lane[gutter, trunk]
 
     def _draw_straight(self):
-        for links in self.straight.values():
+        self.diagonal = defaultdict(set)
+        for pair, links in self.straight.items():
+            self._note_diagonal(*pair)
             apart = min(16, (HEIGHT - 16) / len(links))
             for number, link in enumerate(links):
                 self.paths[link] = self.arrow(link, apart * (number - (len(links) - 1) / 2))
+
+    def _note_diagonal(self, one, other):
+        """Notes the corners of two neighbours at which a diagonal arrow between them ends."""
+        for cell, far in ((one, other), (other, one)):
+            (row, column), (to_row, to_column) = self.place[cell], self.place[far]
+            if row != to_row and column != to_column:
+                self.diagonal[cell].add((to_column > column, to_row > row))
 
     def _draw_routed(self):
         """Gives each link that runs along lanes the corners of its way; links of one trunk end in one arrow."""
@@ -249,7 +258,4 @@ class Layout:
 
     def corners(self, cell):
         """Gives the corners of a cell, as 1 for right and 1 for down, those first at which no diagonal arrow ends."""
-        row, column = self.place[cell]
-        others = [self.place[other] for pair in self.straight if cell in pair for other in pair if other != cell]
-        taken = {(other[1] > column, other[0] > row) for other in others if other[0] != row and other[1] != column}
-        return sorted([(1, 0), (1, 1), (0, 1), (0, 0)], key=lambda corner: corner in taken)
+        return sorted([(1, 0), (1, 1), (0, 1), (0, 0)], key=lambda corner: corner in self.diagonal[cell])
