@@ -7,9 +7,8 @@ straight arrow. Any other runs in the gutters between rows and columns, in a lan
 from collections import defaultdict, namedtuple
 
 WIDTH, HEIGHT = 88, 64           # the least size of a cell
-LANE, OUTER, GAP = 8, 16, 46     # between lanes, at the outer edges, and between cells
+LANE, OUTER = 8, 16              # between lanes, and at the outer edges
 WORD = 24                        # the height of a word of a stream
-LOOP = 22                        # the width of a cell's link to itself, where it has more than corners
 SIDES = {"left": (0, -1), "top": (-1, 0), "right": (0, 1), "bottom": (1, 0)}      # the way out: down and across
 
 Route = namedtuple("Route", "trunk across down")     # the trunk of a link, its gutter of rows, and its gutter of columns or None
@@ -96,11 +95,11 @@ class Lanes:
 class Layout:
     """`place` has the row and column of each cell, `paths` the corners of each link's way, `ports` the ports of a cell's sides.
 
-    `gap` is the least distance between two cells of a row or column.
+    `gap` is the least distance between two cells of a row or column, `loop` the width of a cell's link to itself where it has more than corners.
     """
 
-    def __init__(self, array, gap=GAP):
-        self.array, self.place, self.gap = array, placed(array), gap
+    def __init__(self, array, gap=46, loop=22):
+        self.array, self.place, self.gap, self.loop = array, placed(array), gap, loop
         self.rows, self.columns = (1 + max((place[axis] for place in self.place.values()), default=-1) for axis in (0, 1))
         self._sides()
         self._sort()
@@ -182,7 +181,7 @@ class Layout:
         at_ports = [line.point for line in self.array.design.ins + self.array.design.ats if line.name[0] in "io"]
         longest = max([len(str(point)) - 2 * bool(point.indices) for point in at_ports], default=2)
         self.slot = max(36, 16 + 6 * longest)
-        self.widths = [max(WIDTH, self._most(1, column, ("top", "bottom")) * self.slot + 8, LOOP * self._loops(column)) for column in range(self.columns)]
+        self.widths = [max(WIDTH, self._most(1, column, ("top", "bottom")) * self.slot + 8, self.loop * self._loops(column)) for column in range(self.columns)]
         self.heights = [max(HEIGHT, self._most(0, row, ("left", "right")) * WORD + 4) for row in range(self.rows)]
         self.x, self.y = self._starts("column", self.widths), self._starts("row", self.heights)
         self.size = self.x[-1], self.y[-1]

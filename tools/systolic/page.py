@@ -5,6 +5,7 @@ from html import escape
 
 from .array import Array
 from .formula import formula
+from .listing import Point
 from .picture import Picture
 from .spacetime import SpaceTime
 from .svg import SHAPES, most, svg, tinted
@@ -61,7 +62,7 @@ class Run:
         """Gives all of it, as the page's script reads it."""
         wires = [f"from cell {link.producer} to cell {link.consumer} through {link.delay} register{'s' * (link.delay > 1)}"
                  for link in sorted(self.array.links)]
-        nodes = [f"{cell.node}({','.join(map(str, cell.coordinates))})" for cell in self.array.cells]
+        nodes = [str(Point(cell.node, cell.coordinates)) for cell in self.array.cells]
         return {"cycles": self.array.cycles, "nodes": nodes, "wires": wires, "links": self.links(), "ports": self.ports(),
                 "cells": [self.cells(cycle) for cycle in range(self.array.cycles)]}
 

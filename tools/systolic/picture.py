@@ -6,11 +6,11 @@ an output is drawn as it is after the last cycle. A port of a cell that has no f
 from html import escape
 
 from .formula import formulas
-from .layout import GAP, LOOP, SIDES, WORD, Layout
+from .layout import SIDES, WORD, Layout
 from .svg import box, colours, most, path, point, style, svg, text, towards
 
 STUB = 30               # the way from the border to the first word of a stream
-LIVE_GAP = 72           # between cells where each link has room for a word
+LIVE = {"gap": 72, "loop": 54}      # room for a word on each link
 
 
 class Picture:
@@ -18,7 +18,7 @@ class Picture:
 
     def __init__(self, array, is_live=False):
         self.array, self.is_live, self.colour = array, is_live, colours(array)
-        self.layout = Layout(array, LIVE_GAP if is_live else GAP)
+        self.layout = Layout(array, **LIVE if is_live else {})
         self.outputs = set(array.outputs().values())
         self.place = {port: where for where, ports in self.layout.ports.items() for port in ports}
         self.words = {}
@@ -100,7 +100,7 @@ class Picture:
         x, y, wide, high = self.layout.box(link.consumer)
         number = self.layout.loops[link.consumer].index(link)
         if number >= 4:
-            begin, low = x + 22 + LOOP * (number - 4), y + high
+            begin, low = x + 22 + self.layout.loop * (number - 4), y + high
             return (begin + 6, low + 13), f"M{begin:.1f},{low:.1f} v6 q0,7 6,7 q6,0 6,-7 v-6"
         right, down = self.layout.corners(link.consumer)[number]
         corner = x + wide * right, y + high * down
