@@ -40,7 +40,8 @@ class Given:
         text = self.system if text is None else text
         ran = subprocess.run([program(), command, *self.words], input=text.encode("latin-1"), capture_output=True, check=False)
         if ran.returncode:
-            raise Ended((ran.stdout + ran.stderr).decode("latin-1").strip(), ran.returncode)
+            line = (ran.stdout + ran.stderr).decode("latin-1").strip()
+            raise Ended(line or f"alphav {command} ended with status {ran.returncode}", ran.returncode)
         return ran.stdout.decode("latin-1")
 
     def title(self):

@@ -40,7 +40,14 @@ class SpaceTime:
         return svg(max(self.width, 420), self.height, head + self.drawn(), label, self.colour, style(most(self.colour)))
 
     def drawn(self):
-        return "\n".join([*self.axes(), *self.dependences(), *self.points()]) + "\n"
+        """Gives the axes, then the dependences and above them the points, both in a group for each cycle."""
+        layers = []
+        for kind, drawn in (("reads", self.dependences()), ("points", self.points())):
+            groups = [[] for _ in range(self.array.cycles)]
+            for cycle, shape in drawn:
+                groups[cycle].append(shape)
+            layers += ["\n".join([f'<g class="{kind}" data-cycle="{cycle}">', *group, "</g>"]) for cycle, group in enumerate(groups) if group]
+        return "\n".join([*self.axes(), *layers]) + "\n"
 
     def middle(self, cell, cycle):
         return LEFT + self.across * (self.column[cell] + 0.5), self.top + self.down * (cycle + 0.5)
@@ -58,7 +65,7 @@ class SpaceTime:
                 yield text(x, self.top - 6, name)
 
     def dependences(self):
-        """Gives a line for each word that a cell reads from a delay line, in the colour of the word's variable."""
+        """Gives a line for each word that a cell reads from a delay line, in the colour of the word's variable, with the reader's cycle."""
         for link, cycles in self.array.links.items():
             shift = 0 if self.array.is_value(link.line) else 5
             for cycle in sorted(cycles):
@@ -68,8 +75,8 @@ class SpaceTime:
                 start = x + shift, y
                 end = self.edge((to_x + shift, to_y), start)
                 head = "" if self.has_dots else f' marker-end="url(#to{colour})"'
-                yield (f'<path class="{"thin " * self.has_dots}dependence s{colour}" data-cycle="{cycle}" '
-                       f'd="M{start[0]:.1f},{start[1]:.1f} L{end[0]:.1f},{end[1]:.1f}"{head}/>')
+                yield cycle, (f'<path class="{"thin " * self.has_dots}dependence s{colour}" '
+                              f'd="M{start[0]:.1f},{start[1]:.1f} L{end[0]:.1f},{end[1]:.1f}"{head}/>')
 
     def edge(self, middle, start):
         """Gives where a line from a start to a point's mark meets the mark's edge."""
@@ -88,6 +95,7 @@ class SpaceTime:
         return found
 
     def points(self):
+        """Gives the mark of each computed point, with its cycle."""
         marks = self.marks()
         for (cell, cycle), computed in sorted(self.array.computed.items()):
             x, y = self.middle(cell, cycle)
@@ -100,7 +108,7 @@ class SpaceTime:
                 for number, mark in enumerate(inputs):
                     left = x - 4 + 10 * (number - (len(inputs) - 1) / 2)
                     made += f'<path class="f{mark}" d="M{left:.1f},{y - 15:.1f} h8 l-4,6 z"/>'
-            yield f'<g class="computed" data-cell="{cell}" data-cycle="{cycle}">{made}</g>'
+            yield cycle, f'<g class="computed" data-cell="{cell}" data-cycle="{cycle}">{made}</g>'
 
 
 def spacetime(array, title):
