@@ -7,7 +7,7 @@ import sys
 
 TOP = os.path.dirname(os.path.dirname(os.path.dirname(os.path.abspath(__file__))))
 BUILT = f"{TOP}/crates/alphav/out/alphav"
-MISSING = 127       # the status of a shell that does not find a command
+MISSING, WRITE_FAILED = 127, 4       # the status of a shell that does not find a command, and that of alphav where a write fails
 
 
 class Ended(Exception):
@@ -59,12 +59,21 @@ def guarded(tool, *words):
         return ended.status
 
 
+def write(text):
+    """Writes a text to standard output, and gives the status: that of the program where a write fails."""
+    try:
+        sys.stdout.buffer.write(text.encode("utf-8"))
+        sys.stdout.flush()
+    except BrokenPipeError:
+        os.dup2(os.open(os.devnull, os.O_WRONLY), sys.stdout.fileno())     # so that Python's own flush at the end is silent
+        return WRITE_FAILED
+    return 0
+
+
 def main(tool, help_text):
     """Runs a tool that makes one text of another: it takes what is given, and gives what is to be written."""
     words = sys.argv[1:]
     if {"-h", "--help"} & set(words):
         sys.exit(print(help_text))
 
-    def write():
-        sys.stdout.buffer.write(tool(Given(words, sys.stdin.buffer.read().decode("latin-1"))).encode("utf-8"))
-    sys.exit(guarded(write))
+    sys.exit(guarded(lambda: write(tool(Given(words, sys.stdin.buffer.read().decode("latin-1"))))))

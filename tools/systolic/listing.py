@@ -5,7 +5,7 @@ from collections import namedtuple
 
 from .verilog import Module
 
-LISTED = re.compile(r"// (in|at) (\S+) (\(\S*\)) (\S+) (\d+)")
+LISTED = re.compile(r"(?m)^// (in|at) (\S+) (\(\S*\)) (\S+) (\d+)$")
 
 Cell = namedtuple("Cell", "number node coordinates")          # `cell 2 C#1 (1,1)`
 Listed = namedtuple("Listed", "point name cycle")             # `in X (0) i0 0`, or `at Y (0) o0 0`
