@@ -8,7 +8,7 @@ from .formula import formula
 from .listing import Point
 from .picture import Picture
 from .spacetime import SpaceTime
-from .svg import SHAPES, most, svg, tinted
+from .svg import SHAPES, heads, most, svg, tinted
 from .verilog import signed
 
 FRAME = os.path.join(os.path.dirname(os.path.abspath(__file__)), "page.html")
@@ -73,13 +73,13 @@ def page(given, clocked):
     state = Run(array, clocked.shown).state() | {"top": diagram.top, "down": diagram.down}
     legend, wide, tall = picture.legend(picture.height + 8)
     bar = f'<rect id="bar" x="0" y="0" width="{diagram.width:.0f}" height="{diagram.down}"/>\n'
-    title, colour = given.title(), picture.colour
+    title, used = given.title(), most(picture.colour)
+    drawn = heads(used) + picture.drawn() + legend
     parts = {
-        "TITLE": escape(title), "TOTALS": array.totals, "LIGHT": SHAPES + tinted("light", most(colour)),
-        "DARKMEDIA": tinted("dark", most(colour), ":root:not([data-theme=light]) "),
-        "DARK": tinted("dark", most(colour), ":root[data-theme=dark] "),
-        "PICTURE": svg(max(picture.width, wide), picture.height + 8 + tall, picture.drawn() + legend, f"The array of {title}", colour, above=30),
-        "SPACETIME": svg(diagram.width, diagram.height, bar + diagram.drawn(), f"The space-time diagram of {title}", colour, above=46),
+        "TITLE": escape(title), "TOTALS": array.totals, "LIGHT": SHAPES + tinted("light", used),
+        "DARKMEDIA": tinted("dark", used, ":root:not([data-theme=light]) "), "DARK": tinted("dark", used, ":root[data-theme=dark] "),
+        "PICTURE": svg(max(picture.width, wide), picture.height + 8 + tall, drawn, f"The array of {title}", above=30),
+        "SPACETIME": svg(diagram.width, diagram.height, bar + diagram.drawn(), f"The space-time diagram of {title}", above=46),
         "RUN": json.dumps(state, separators=(",", ":"), ensure_ascii=False),
     }
     with open(FRAME, encoding="utf-8") as file:

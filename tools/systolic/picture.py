@@ -7,7 +7,7 @@ from html import escape
 
 from .formula import formulas
 from .layout import SIDES, WORD, Layout
-from .svg import box, colours, most, path, point, style, svg, text, towards
+from .svg import alone, box, colours, path, point, text, towards
 
 STUB = 30               # the way from the border to the first word of a stream
 LIVE = {"gap": 72, "loop": 54}      # room for a word on each link
@@ -49,7 +49,7 @@ class Picture:
         width = max(self.width, wide, 420)
         head = text(14, 22, escape(title), "title", "start") + text(width - 14, 22, self.array.totals, "faint", "end") + "\n"
         label = f"The systolic array {title}: {self.array.totals}"
-        return svg(width, self.height + 8 + tall, head + self.drawn() + legend, label, self.colour, style(most(self.colour)))
+        return alone(width, self.height + 8 + tall, head + self.drawn() + legend, label, self.colour)
 
     def drawn(self):
         """Gives the array with its streams, without title and legend."""

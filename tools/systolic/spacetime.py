@@ -4,7 +4,7 @@ Above 48 cells points are dots, whose names show under the pointer.
 """
 from html import escape
 
-from .svg import box, colours, most, point, style, svg, text, towards
+from .svg import alone, box, colours, point, text, towards
 
 LEFT, TOP, MANY = 56, 74, 48
 
@@ -37,7 +37,7 @@ class SpaceTime:
         note = "cells across, cycles down; a mark at the upper edge is a word from an input port"
         head = text(14, 22, escape(title), "title", "start") + text(14, 40, note, "faint", "start") + "\n"
         label = f"The space-time diagram of {title}: {self.array.totals}"
-        return svg(max(self.width, 420), self.height, head + self.drawn(), label, self.colour, style(most(self.colour)))
+        return alone(max(self.width, 420), self.height, head + self.drawn(), label, self.colour)
 
     def drawn(self):
         """Gives the axes, then the dependences and above them the points, both in a group for each cycle."""

@@ -38,14 +38,24 @@ def style(used):
     return f"<style>{SHAPES}{tinted('light', used)}@media screen and (prefers-color-scheme:dark){{\n{tinted('dark', used)}}}</style>\n"
 
 
-def svg(width, height, content, label, colour, rules="", above=0):
-    """Gives a whole SVG text; what stands above a height is cut off. The label is what a screen reader says, `colour` has the colours that are used."""
-    heads = "".join(f'<marker id="to{number}" viewBox="0 0 8 8" refX="7.2" refY="4" markerWidth="8.5" markerHeight="8.5" '
-                    f'markerUnits="userSpaceOnUse" orient="auto"><path class="f{number}" d="M0,0.6 L8,4 L0,7.4 z"/></marker>\n'
-                    for number in range(most(colour)))
+def heads(used):
+    """Gives the heads of arrows, one for each colour that is used."""
+    markers = "".join(f'<marker id="to{number}" viewBox="0 0 8 8" refX="7.2" refY="4" markerWidth="8.5" markerHeight="8.5" '
+                      f'markerUnits="userSpaceOnUse" orient="auto"><path class="f{number}" d="M0,0.6 L8,4 L0,7.4 z"/></marker>\n'
+                      for number in range(used))
+    return f"<defs>\n{markers}</defs>\n"
+
+
+def svg(width, height, content, label, above=0):
+    """Gives a whole SVG text; what stands above a height is cut off. The label is what a screen reader says."""
     return (f'<svg xmlns="http://www.w3.org/2000/svg" viewBox="0 {above} {width:.0f} {height - above:.0f}" '
             f'width="{width:.0f}" height="{height - above:.0f}" role="img" aria-label="{escape(label)}">\n'
-            f'{rules}<defs>\n{heads}</defs>\n<rect class="paper" width="{width:.0f}" height="{height:.0f}"/>\n{content}</svg>\n')
+            f'<rect class="paper" width="{width:.0f}" height="{height:.0f}"/>\n{content}</svg>\n')
+
+
+def alone(width, height, content, label, colour):
+    """Gives the text of a picture that stands alone; `colour` has the colours that it uses."""
+    return svg(width, height, style(most(colour)) + heads(most(colour)) + content, label)
 
 
 def box(x, y, wide, high, kind, corner, line=1.0):
