@@ -1,4 +1,4 @@
-"""A test bench for an emitted module, in Verilog of IEEE 1364-2005, for any simulator.
+"""A test bench for an emitted module, in plain Verilog of IEEE 1364-2005.
 
 It presents the data at the listed ports in the listed cycles, puts words by chance on the ports in all other cycles and in all registers before
 the reset edge, and checks each listed wire in its listed cycle. It does so in several rounds with other words by chance.

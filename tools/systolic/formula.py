@@ -1,5 +1,5 @@
 """What a cell computes, as a formula of what it reads: `C#1 + A × B`."""
-from .verilog import signed
+from .verilog import Literal, signed
 
 RANKS = {"+": 1, "-": 1, "*": 2}
 HIGHEST = 3
@@ -25,6 +25,11 @@ def formula(array, name, cycle, spelled):
     return Formulas(array, spelled).ranked(name, cycle)[0]
 
 
+def number(literal):
+    """Gives a literal with its sign; one of a single bit has none."""
+    return str(signed(*literal) if literal.width > 1 else literal.word).replace("-", "−")
+
+
 class Formulas:
     def __init__(self, array, spelled):
         self.array, self.spelled = array, spelled
@@ -32,7 +37,7 @@ class Formulas:
     def ranked(self, operand, cycle):
         """Gives an operand's formula, and its rank: the highest for a name, a number or a call, less where parentheses may be wanted."""
         if not isinstance(operand, str):
-            return str(signed(*operand) if operand.width > 1 else operand.word).replace("-", "−"), HIGHEST
+            return number(operand), HIGHEST
         if operand not in self.array.module.drives:
             line, delay = self.array.tapped(operand)
             return self.spelled(self.array, line, cycle - delay), HIGHEST
@@ -69,8 +74,10 @@ class Formulas:
         return f"(if {self.ranked(test, cycle)[0]} then {one} else {other})", HIGHEST
 
     def extreme(self, is_least, arms, cycle):
-        """Gives the formula of the lesser or greater of two; that with the greatest or least word is the other one."""
-        for arm, other in (arms, arms[::-1]):
-            if not isinstance(arm, str) and arm.word == (1 << arm.width - 1) - is_least:
-                return self.ranked(other, cycle)
-        return f"{'min' if is_least else 'max'}({', '.join(self.ranked(arm, cycle)[0] for arm in arms)})", HIGHEST
+        """Gives the formula of the lesser or greater of two; the lesser of any word and the greatest one is that word."""
+        width = arms[0].width if isinstance(arms[0], Literal) else self.array.module.widths[arms[0]]
+        identity = number(Literal((1 << width - 1) - is_least, width))
+        one, other = (self.ranked(arm, cycle) for arm in arms)
+        if identity in (one[0], other[0]):
+            return other if one[0] == identity else one
+        return f"{'min' if is_least else 'max'}({one[0]}, {other[0]})", HIGHEST

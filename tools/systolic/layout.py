@@ -101,6 +101,7 @@ class Layout:
     def __init__(self, array, gap=46, loop=22):
         self.array, self.place, self.gap, self.loop = array, placed(array), gap, loop
         self.rows, self.columns = (1 + max((place[axis] for place in self.place.values()), default=-1) for axis in (0, 1))
+        self._edges()
         self._sides()
         self._sort()
         self._measure()
@@ -108,11 +109,19 @@ class Layout:
         self._draw_straight()
         self._draw_routed()
 
+    def _edges(self):
+        """Finds for each side the places of the last cells of the rows or columns there."""
+        self.last = {side: {} for side in SIDES}
+        for row, column in sorted(self.place.values()):
+            self.last["left"].setdefault(row, (row, column))
+            self.last["right"][row] = row, column
+            self.last["top"].setdefault(column, (row, column))
+            self.last["bottom"][column] = row, column
+
     def is_free(self, cell, side):
         """Tells whether no other cell stands between a cell and the border on a side."""
-        (down, across), (row, column) = SIDES[side], self.place[cell]
-        return not any((other[0] - row) * down > 0 and other[1] == column or (other[1] - column) * across > 0 and other[0] == row
-                       for other in self.place.values())
+        row, column = self.place[cell]
+        return self.last[side][row if side in ("left", "right") else column] == (row, column)
 
     def _flows(self):
         """Gives the steps, in rows and columns, on which each cell passes on the words of each variable."""
@@ -168,21 +177,17 @@ class Layout:
             self.lanes.add(down, trunk, row, to_row)
         self.routed[link] = Route(trunk, across, down)
 
-    def _most(self, axis, number, sides):
-        """Gives the greatest number of ports that a cell of a row (axis 0) or column (axis 1) has on one of two sides."""
-        return max([len(self.ports[cell, side]) for cell, place in self.place.items() if place[axis] == number for side in sides], default=1)
-
-    def _loops(self, column):
-        """Gives the greatest number of links to itself that a cell of a column has."""
-        return max(len(self.loops[cell]) for cell, place in self.place.items() if place[1] == column)
-
     def _measure(self):
         """Gives rows, columns and gutters their places: wide enough for the streams at the ports and for the lanes."""
         at_ports = [line.point for line in self.array.design.ins + self.array.design.ats if line.name[0] in "io"]
         longest = max([len(str(point)) - 2 * bool(point.indices) for point in at_ports], default=2)
         self.slot = max(36, 16 + 6 * longest)
-        self.widths = [max(WIDTH, self._most(1, column, ("top", "bottom")) * self.slot + 8, self.loop * self._loops(column)) for column in range(self.columns)]
-        self.heights = [max(HEIGHT, self._most(0, row, ("left", "right")) * WORD + 4) for row in range(self.rows)]
+        self.widths, self.heights = [WIDTH] * self.columns, [HEIGHT] * self.rows
+        for cell, (row, column) in self.place.items():
+            ports = {side: len(self.ports.get((cell, side), ())) for side in SIDES}
+            wide = max(max(ports["top"], ports["bottom"]) * self.slot + 8, self.loop * len(self.loops.get(cell, ())))
+            self.widths[column] = max(self.widths[column], wide)
+            self.heights[row] = max(self.heights[row], max(ports["left"], ports["right"]) * WORD + 4)
         self.x, self.y = self._starts("column", self.widths), self._starts("row", self.heights)
         self.size = self.x[-1], self.y[-1]
 
