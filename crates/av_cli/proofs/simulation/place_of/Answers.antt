@@ -9,7 +9,7 @@ unreachable-requires c =
     let name = c.as_bytes.ensures.value ∙ c.as_str.ensures in
     no_place c.args.targets.now c.args.name.now (ap (λ n. position (bytes_eq n) c.args.targets.now) (sym name) ∙ sym c.find.ensures.place ∙ c.in-None.is) c.requires.among
 
-pub returns-in-Some : goal.returns-in-Some
-returns-in-Some c =
+pub returns : goal.returns
+returns c =
     let name = c.as_bytes.ensures.value ∙ c.as_str.ensures in
     at_place c.args.targets.now c.args.name.now c.in-Some.place (ap (λ n. position (bytes_eq n) c.args.targets.now) (sym name) ∙ sym c.find.ensures.place ∙ c.in-Some.is)
