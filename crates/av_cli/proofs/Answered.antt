@@ -24,7 +24,7 @@ use Rattle.av_cli.specs.inner.Asked.{Refuses, Gives}
 use Rattle.av_cli.specs.Program.{Writes, WritesRefusal, IsRefused, HasRefusal, AddsWhole, AddsFront, IsComplete}
 use Rattle.av_cli.specs.inner.Written.{IsPut, IsAnswered, refused, given, no_memory}
 use Rattle.av_cli.specs.Checks.{RefusesCheck, GivesCheck}
-use Rattle.av_cli.specs.Emits.{RefusesEmit, GivesEmit}
+use Rattle.av_cli.specs.Emits.{GivesEmit}
 use Rattle.av_cli.specs.Schedules.{RefusesSchedule, GivesSchedule}
 use Rattle.av_cli.specs.Tables.{RefusesTable, GivesTable}
 use Rattle.av_cli.specs.Runs.{RefusesRun, GivesResults, GivesTrace}
@@ -124,7 +124,7 @@ exclusive_sim bytes reason out (bad_stimulus {text} {rest} {first} {design} faul
 
 -- what words of a command refuse, each command by its name
 exclude : (name : List ℕ) (words : List (List ℕ)) (bytes : List ℕ) → Begins name words → length bytes ≤ 1048576
-    → (codes "emit" ≡ name → (bits box : ℕ) (sizes : List Size) → IsEmit words bits box sizes → (reason : List ℕ) → RefusesEmit sizes bits box bytes reason → ⊥)
+    → (codes "emit" ≡ name → (bits box : ℕ) (sizes : List Size) → IsEmit words bits box sizes → (reason : List ℕ) → RefusesTable sizes bits box bytes reason → ⊥)
     → (codes "sim" ≡ name → (reason : List ℕ) → RefusesSim bytes reason → ⊥)
     → (codes "check" ≡ name → (bits : ℕ) (sizes : List Size) → IsCheck words bits sizes → (reason : List ℕ) → RefusesCheck sizes bits bytes reason → ⊥)
     → (codes "schedule" ≡ name → (bits box : ℕ) (sizes : List Size) → IsSchedule words bits box sizes → (reason : List ℕ) → RefusesSchedule sizes bits box bytes reason → ⊥)

@@ -10,7 +10,7 @@ use Rattle.av_cli.specs.Refusals.{refusal_line}
 use Rattle.av_cli.specs.Checks.{RefusesCheck, GivesCheck}
 use Rattle.av_cli.specs.Schedules.{RefusesSchedule, GivesSchedule}
 use Rattle.av_cli.specs.Tables.{RefusesTable, GivesTable}
-use Rattle.av_cli.specs.Emits.{RefusesEmit, GivesEmit}
+use Rattle.av_cli.specs.Emits.{GivesEmit}
 use Rattle.av_cli.specs.Sims.{RefusesSim, GivesSim}
 use Rattle.av_cli.specs.Runs.{RefusesRun, GivesResults, GivesTrace}
 use Rattle.av_cli.specs.Demos.{GivesDemo}
@@ -21,7 +21,7 @@ use Rattle.av_cli.specs.Demos.{GivesDemo}
 abbrev pub IsRefused : List (List ℕ) → List ℕ → List ℕ → Type 0
 IsRefused words bytes reason =
     ((1048576 < length bytes) × TakeInput words × (reason ≡ codes "too long"))
-    ⊎ ((length bytes ≤ 1048576) × ((bits : ℕ) × (box : ℕ) × (sizes : List Size) × IsEmit words bits box sizes × RefusesEmit sizes bits box bytes reason))
+    ⊎ ((length bytes ≤ 1048576) × ((bits : ℕ) × (box : ℕ) × (sizes : List Size) × IsEmit words bits box sizes × RefusesTable sizes bits box bytes reason))
     ⊎ ((length bytes ≤ 1048576) × IsSim words × RefusesSim bytes reason)
     ⊎ ((length bytes ≤ 1048576) × ((bits : ℕ) × (sizes : List Size) × IsCheck words bits sizes × RefusesCheck sizes bits bytes reason))
     ⊎ ((length bytes ≤ 1048576) × ((bits : ℕ) × (box : ℕ) × (sizes : List Size) × IsSchedule words bits box sizes × RefusesSchedule sizes bits box bytes reason))

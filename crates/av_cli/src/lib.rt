@@ -23,6 +23,6 @@ mod table;
 mod words;
 
 pub use program::alphav;
-pub use showing::shown;
+pub use showing::{Data, shown};
 pub use standard::{StdSink, StdSource};
 pub use status::Status;

@@ -1,5 +1,6 @@
 ghost use Rattle.std.specs.Prelude.{◌≡◌, ◌≤◌, length};
 ghost use Rattle.av_base.specs.Outside.{HasRisen};
+ghost use Rattle.av_cli.specs.Commands.{TakeInput};
 ghost use Rattle.av_cli.specs.Program.{AddsWhole, AddsFront, IsComplete};
 ghost use Rattle.av_cli.specs.inner.Written.{IsAnswered};
 ghost use Rattle.av_cli.specs.inner.Asked.{Refuses, Gives};
@@ -33,7 +34,7 @@ pub fn alphav<S: Source, K: Sink>(
     sink: &mut K,
 ) -> Status
     ensures words { result ≡ Status.Words → AddsWhole Status.Words words.now (S.left source.old) (S.left source.new) (K.state sink.old).held (K.state sink.new).held }
-    ensures untouched { result ≡ Status.Words → source.new ≡ source.old }
+    ensures untouched { (TakeInput words.now → ⊥) → source.new ≡ source.old }
     ensures refused { result ≡ Status.Refused → AddsWhole Status.Refused words.now (S.left source.old) (S.left source.new) (K.state sink.old).held (K.state sink.new).held }
     ensures done { result ≡ Status.Done → AddsWhole Status.Done words.now (S.left source.old) (S.left source.new) (K.state sink.old).held (K.state sink.new).held }
 

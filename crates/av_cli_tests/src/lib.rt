@@ -7,6 +7,8 @@ mod answers;
 #[cfg(test)]
 mod checks;
 #[cfg(test)]
+mod demos;
+#[cfg(test)]
 mod designs;
 #[cfg(test)]
 mod emits;

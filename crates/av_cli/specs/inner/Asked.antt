@@ -7,7 +7,7 @@ use Rattle.av_cli.specs.Commands.{IsCheck, IsSchedule, IsTable, IsEmit, IsRun, I
 use Rattle.av_cli.specs.Checks.{RefusesCheck, GivesCheck}
 use Rattle.av_cli.specs.Schedules.{RefusesSchedule, GivesSchedule}
 use Rattle.av_cli.specs.Tables.{RefusesTable, GivesTable}
-use Rattle.av_cli.specs.Emits.{RefusesEmit, GivesEmit}
+use Rattle.av_cli.specs.Emits.{GivesEmit}
 use Rattle.av_cli.specs.Sims.{RefusesSim, GivesSim}
 use Rattle.av_cli.specs.Runs.{RefusesRun, GivesResults, GivesTrace}
 use Rattle.av_cli.specs.Demos.{GivesDemo}
@@ -16,7 +16,7 @@ abbrev pub Refuses : Command → List (List ℕ) → List ℕ → List ℕ → T
 Refuses (Check width) words bytes reason = (sizes : List Size) × IsCheck words width.bits sizes × RefusesCheck sizes width.bits bytes reason
 Refuses (Schedule width reach) words bytes reason = (sizes : List Size) × IsSchedule words width.bits reach.size sizes × RefusesSchedule sizes width.bits reach.size bytes reason
 Refuses (Table width reach) words bytes reason = (sizes : List Size) × IsTable words width.bits reach.size sizes × RefusesTable sizes width.bits reach.size bytes reason
-Refuses (Emit width reach) words bytes reason = (sizes : List Size) × IsEmit words width.bits reach.size sizes × RefusesEmit sizes width.bits reach.size bytes reason
+Refuses (Emit width reach) words bytes reason = (sizes : List Size) × IsEmit words width.bits reach.size sizes × RefusesTable sizes width.bits reach.size bytes reason
 Refuses (Run width reach) words bytes reason = (sizes : List Size) × IsRun words width.bits reach.size sizes × RefusesRun sizes width.bits reach.size bytes reason
 Refuses (Trace width reach) words bytes reason = (sizes : List Size) × IsTrace words width.bits reach.size sizes × RefusesRun sizes width.bits reach.size bytes reason
 Refuses (Demo width reach k) words bytes reason = ⊥

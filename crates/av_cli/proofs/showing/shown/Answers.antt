@@ -12,10 +12,10 @@ use Rattle.av_cli.specs.Simulated.{IsStimulated}
 use Rattle.av_cli.specs.inner.Watching.{bits_of, watched}
 use Rattle.av_cli.proofs.Fed.{left}
 use Rattle.av_cli.proofs.Watching.{shown_so}
-use Rattle.av_cli.proofs.showing.shown_of.Goals as goal
+use Rattle.av_cli.proofs.showing.shown.Goals as goal
 
 pub watch-requires-clause-left : goal.watch-requires-clause-left
-watch-requires-clause-left g c = left c.args.design.now (g.D.Data.words c.args.values.now) c.in_ok-stimulus.stimulus.values c.in_ok-stimulus.ensures.values c.requires.words
+watch-requires-clause-left g c = left c.args.design.now (g.D.Data.words c.args.inputs.now) c.in_ok-stimulus.stimulus.values c.in_ok-stimulus.ensures.values c.requires.words
 
 pub watch-requires-clause-wires : goal.watch-requires-clause-wires
 watch-requires-clause-wires g c =
@@ -27,7 +27,7 @@ pub returns : goal.returns
 returns g c =
     let d = c.args.design.now in
     let s = c.in_ok-stimulus.stimulus in
-    let x = g.D.Data.words c.args.values.now in
+    let x = g.D.Data.words c.args.inputs.now in
     let lines = c.as_slice-lines.ensures in
     let reached : All (λ (l : Entry). l.cycle < s.cycles) d.listing.ats =
     subst (λ (n : ℕ). All (λ (l : Entry). l.cycle < n) d.listing.ats) (sym c.in_ok-stimulus.ensures.cycles)
