@@ -1,7 +1,9 @@
 mod FirstFaults
 pub mod OneChain
 pub mod OneRefusal
+mod OneUnscheduled
 pub mod Pipelined
+mod OneUnmapped
 mod OnlySolution
 mod Unscheduled
 mod TextProper
