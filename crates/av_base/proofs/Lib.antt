@@ -14,6 +14,5 @@ pub mod Pieces
 pub mod Turns
 pub mod Readings
 pub mod Symbols
-pub mod LowBytes
 pub mod Widths
 pub mod Digits
