@@ -24,7 +24,7 @@ use av_depend::{Edge, components, edges_join_nodes};
 use av_flat::{Flat, Reach, Time, Timed, copy_flat};
 use std::alloc::Global;
 
-// The components of the nodes, of which there are as many as linear parts.
+// The components of the nodes, of which there are as many as linear parts. More than numbers of 32 bits tell have no room.
 fn components_of(
     alloc: Global,
     flat: &Flat,
@@ -39,8 +39,9 @@ fn components_of(
     ensures { IfOk result (AreComponents (length (nodes (view_system flat.now))) (ReadsNode (view_system flat.now))) }
 {
     edges_join_nodes();
-    // So few variables that 32 bits number the nodes.
-    let _most = flat.vars.len();
+    if linear.len() > 0xffff_ffff {
+        return Err(Memory);
+    }
     components(alloc, edges, linear.len() as u32)
 }
 
