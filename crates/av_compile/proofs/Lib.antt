@@ -2,7 +2,7 @@ mod FirstFaults
 pub mod OneChain
 pub mod OneRefusal
 pub mod Pipelined
-mod OnlySolution
+pub mod OnlySolution
 mod Unscheduled
 mod TextProper
 pub mod Meant

@@ -22,8 +22,10 @@ use Rattle.av_sched.specs.declared.price.Best.{Best}
 use Rattle.av_sched.specs.Offsets.{part}
 use Rattle.av_sched.specs.Choices.{AreLinearParts}
 use Rattle.av_sched.specs.Order.{references_of, left_still, size_of, IsLess, entry_rank}
-use Rattle.av_sched.specs.inner.Walk.{Agrees, IsAhead, IsBarred, known, AreParts, AreAllParts}
-use Rattle.av_sched.specs.inner.Prices.{IsSmallDirection, ways_of, still_among, left_at, IsPriceAt, ArePricesAt, ArePricesTo, IsSpent, IsFloor, AreFloorsTo, IsRated, IsAbove}
+use Rattle.av_sched.specs.Parts.{Agrees, AreParts, AreAllParts}
+use Rattle.av_sched.specs.inner.Walk.{IsAhead, IsBarred, known, IsRated, IsAbove}
+use Rattle.av_sched.specs.inner.Ways.{IsSmallDirection, ways_of, still_among}
+use Rattle.av_sched.specs.Prices.{left_at, IsPriceAt, ArePricesAt, ArePricesTo, IsSpent, IsFloor, AreFloorsTo}
 use Rattle.av_sched.proofs.Tries.{SameIn}
 use Rattle.av_base.proofs.Lists.{same_default, there_is}
 

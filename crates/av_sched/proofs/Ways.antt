@@ -18,7 +18,7 @@ use Rattle.av_sched.specs.Order.{references_of}
 use Rattle.av_flat.specs.Nodes.{is_node, nodes}
 use Rattle.av_flat.specs.Chained.{IsChained, IsChainedVariable, IsChainedPiece}
 use Rattle.av_flat.specs.Broadcasts.{Reference, references, lists_of, directions, is_zero, along, stays, is_broadcast}
-use Rattle.av_sched.specs.inner.Prices.{HasSmallReferences, IsSmallDirection, ways_of}
+use Rattle.av_sched.specs.inner.Ways.{HasSmallReferences, IsSmallDirection, ways_of}
 use Rattle.av_base.proofs.Lists.{all_at}
 
 abbrev pub three : List ℤ

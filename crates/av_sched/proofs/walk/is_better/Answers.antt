@@ -8,8 +8,7 @@ use Rattle.av_tree.specs.Points.{Point}
 use Rattle.av_sched.specs.declared.price.Best.{Best}
 use Rattle.av_sched.specs.Offsets.{part}
 use Rattle.av_sched.specs.Order.{entry_rank, IsLess}
-use Rattle.av_sched.specs.inner.Walk.{known, IsAhead, IsSound}
-use Rattle.av_sched.specs.inner.Prices.{IsRated}
+use Rattle.av_sched.specs.inner.Walk.{known, IsAhead, IsSound, IsRated}
 use Rattle.av_sched.proofs.Pricing.{by_left, by_size, by_ranks, less_test, small_parts}
 use Rattle.av_sched.proofs.walk.is_better.Goals as goal
 
