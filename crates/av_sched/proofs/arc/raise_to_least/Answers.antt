@@ -1,4 +1,4 @@
-use Rattle.std.proofs.Common.{◌≡◌, ◌∙◌, ◌+◌, ℕ, refl, sym, ap, subst, true≢false, All, List, ℤ, length}
+use Rattle.std.proofs.Common.{rules, ◌≡◌, ◌∙◌, ◌+◌, refl, sym, ap, subst, true≢false, All, List, ℤ, length}
 use Rattle.av_sched.specs.Arcs.{IsLate, IsArc}
 use Rattle.av_sched.specs.inner.Rounds.{raised_all}
 use Rattle.av_sched.proofs.Rounds.{IsKept, kept_first, kept_more}
