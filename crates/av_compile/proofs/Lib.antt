@@ -1,4 +1,4 @@
-mod FirstFaults
+pub mod FirstFaults
 pub mod OneChain
 pub mod OneRefusal
 pub mod Pipelined
