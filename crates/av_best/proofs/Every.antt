@@ -1,5 +1,5 @@
 -- All nodes together as a component: their numbers are their places.
-use Rattle.std.proofs.Common.{◌≡◌, ℕ, zero, suc, ◌+◌, ◌<◌, ◌≤◌, Bool, true, false, cond, List, [], ◌∷◌, ◌++◌, length, take, get_or, add-one, refl, sym, ap, ap₂, subst, ◌∙◌, arith, zero-add, All}
+use Rattle.std.proofs.Common.{◌≡◌, ℕ, zero, suc, ◌+◌, ◌<◌, ◌≤◌, Bool, true, false, cond, List, [], ◌∷◌, ◌++◌, length, take, get_or, add-one, refl, sym, ap, ap₂, subst, ◌∙◌, arith, zero-add, add-zero, All}
 use Rattle.std.specs.Prelude.{AllPairs, slice_index_or, filter}
 use Rattle.std.specs.List.{range_with_len}
 use Rattle.std.proofs.lemmas.List.FromFn.{length-range_with_len, get_or-range_with_len}
@@ -37,12 +37,15 @@ range_push a (suc n) j e = rw add-one (ap (λ xs. a ∷ xs) (subst (λ (k : ℕ)
 
 -- ---- numbering the nodes among variables
 
+abbrev one_if : Bool → ℕ
+one_if b = cond b 1 0
+
 -- a variable that is a node takes the next number
 pub numbered_more : (vs : List Variable) (k : ℕ) (v : Variable) (ns : List ℕ) → k < length vs → v ≡ get_or vs k v → is_node v ≡ true → ns ≡ range_with_len 0 (length (filter is_node (take k vs)))
     → ns ++ length ns ∷ [] ≡ range_with_len 0 (length (filter is_node (take (k + 1) vs)))
 numbered_more vs k v ns l is node e =
     let n = length (filter is_node (take k vs)) in
-    let one : cond (is_node (get_or vs k v)) 1 0 ≡ 1 = ap (λ (w : Variable). cond (is_node w) 1 0) (sym is) ∙ ap (λ (b : Bool). cond b 1 0) node in
+    let one : one_if (is_node (get_or vs k v)) ≡ 1 = ap (λ (w : Variable). one_if (is_node w)) (sym is) ∙ ap one_if node in
     let more : length (filter is_node (take (k + 1) vs)) ≡ n + 1 = length-filter_more is_node vs k v l ∙ ap (λ (m : ℕ). n + m) one in
     let many : length ns ≡ n = ap length e ∙ length-range_with_len 0 n in
     ap₂ (λ (xs : List ℕ) (m : ℕ). xs ++ m ∷ []) e many ∙ sym (range_push 0 n n (zero-add n)) ∙ ap (range_with_len 0) (sym more)
@@ -52,8 +55,8 @@ pub numbered_same : (vs : List Variable) (k : ℕ) (v : Variable) (ns : List ℕ
     → ns ≡ range_with_len 0 (length (filter is_node (take (k + 1) vs)))
 numbered_same vs k v ns l is other e =
     let n = length (filter is_node (take k vs)) in
-    let none : cond (is_node (get_or vs k v)) 1 0 ≡ 0 = ap (λ (w : Variable). cond (is_node w) 1 0) (sym is) ∙ ap (λ (b : Bool). cond b 1 0) other in
-    let same : length (filter is_node (take (k + 1) vs)) ≡ n = (let more = length-filter_more is_node vs k v l in omega (arith, more, none)) in
+    let none : one_if (is_node (get_or vs k v)) ≡ 0 = ap (λ (w : Variable). one_if (is_node w)) (sym is) ∙ ap one_if other in
+    let same : length (filter is_node (take (k + 1) vs)) ≡ n = length-filter_more is_node vs k v l ∙ ap (λ (m : ℕ). n + m) none ∙ add-zero n in
     e ∙ ap (range_with_len 0) (sym same)
 
 -- ---- choices

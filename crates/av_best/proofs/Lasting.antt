@@ -1,10 +1,13 @@
 -- The least number above the last cycles of nodes, one after another, and the offsets with which their first cycles are 0.
-use Rattle.std.proofs.Common.{◌≡◌, ℕ, zero, suc, ◌+◌, ◌<◌, ◌≤◌, max, ℤ, pos, ◌+ℤ◌, ◌<ℤ◌, ◌⊎◌, inl, inr, ⊎_elim, List, [], ◌∷◌, ◌++◌, length, get_or, refl, sym, ap, subst, ◌∙◌, arith, length-append, unsigned_abs}
+use Rattle.std.proofs.Common.{◌≡◌, ℕ, zero, suc, ◌+◌, ◌<◌, ◌≤◌, max, ℤ, pos, ◌+ℤ◌, ◌<ℤ◌, ◌⊎◌, inl, inr, ⊎_elim, List, [], ◌∷◌, ◌++◌, length, map, take, get_or, refl, sym, ap, subst, ◌∙◌, arith, length-append, unsigned_abs}
 use Rattle.std.proofs.Math.IntN.{neg_ℤ}
 use Rattle.std.proofs.lemmas.Int.{ints}
 use Rattle.std.proofs.lemmas.Bool.{cases_eq, cases_lt}
 use Rattle.av_sched.specs.Arcs.{at, AreSmall}
+use Rattle.std.proofs.lemmas.List.{map-append}
+use Rattle.av_flat.specs.declared.timed.Time.{Time}
 use Rattle.av_sched.proofs.Listing.{get_push, get_last}
+use Rattle.av_sched.proofs.Steps.{take_more}
 use Rattle.av_base.proofs.Lists.{same_default}
 use Rattle.av_best.specs.declared.span.Span.{Span}
 use Rattle.av_best.specs.inner.Spans.{AreLows, AreSmallSpans, last_of, IsLeastAbove}
@@ -59,3 +62,7 @@ lows_small k spans off d small h = λ j e l.
     let b = (small j d m).0 in
     let q : get_or off j e ≡ at off j = same_default off j e (pos 0) l in
     omega (arith, ints, a, b, q)
+
+-- the offsets of the first times, and one more
+pub offsets_more : (times : List Time) (k : ℕ) (t : Time) (offs : List ℤ) → k < length times → t ≡ get_or times k t → offs ≡ map (λ u. u.offset) (take k times) → offs ++ t.offset ∷ [] ≡ map (λ u. u.offset) (take (k + 1) times)
+offsets_more times k t offs l is e = ap (λ xs. xs ++ t.offset ∷ []) e ∙ sym (map-append (λ (u : Time). u.offset) (take k times) (t ∷ [])) ∙ ap (map (λ (u : Time). u.offset)) (sym (take_more times k t t l is refl))

@@ -10,7 +10,6 @@ use Rattle.av_tree.specs.Points.{Point}
 use Rattle.av_flat.specs.Trees.{FlatSystem}
 use Rattle.av_flat.specs.Nodes.{nodes, IsComputation}
 use Rattle.av_sched.specs.declared.price.Price.{Price}
-use Rattle.av_sched.specs.declared.price.Best.{Best as Cheapest}
 use Rattle.av_sched.specs.Offsets.{part, cycle_at, AreOffsets, AreLeastOffsets}
 use Rattle.av_sched.specs.Choices.{AreLinearParts}
 use Rattle.av_sched.specs.Order.{cost, IsLess}
@@ -20,7 +19,7 @@ use Rattle.av_sched.specs.Parts.{Agrees}
 use Rattle.av_sched.specs.Prices.{IsSpent, IsFloor}
 use Rattle.av_sched.proofs.Walking.{not_before}
 use Rattle.av_sched.proofs.Tries.{not_itself, not_both, cost_length}
-use Rattle.av_sched.proofs.Pricing.{above_barred}
+use Rattle.av_sched.proofs.Pricing.{dear_later}
 use Rattle.av_best.specs.declared.best.Best.{Best}
 use Rattle.av_best.specs.declared.span.Span.{Span}
 use Rattle.av_best.specs.Lengths.{HasLength}
@@ -28,7 +27,6 @@ use Rattle.av_best.specs.Least.{all_nodes}
 use Rattle.av_best.specs.inner.Spans.{IsSpanAt, AreSpanned, AreLows, last_of, IsLeastAbove}
 use Rattle.av_best.specs.inner.Joint.{FitsIn, joint_cost, IsMet, IsChosen, IsSound, IsBarred, HasWalked, IsForbidden, IsBound, IsBounded, IsAhead}
 use Rattle.av_best.proofs.Every.{as_many, all_within, same_choice}
-use Rattle.av_best.proofs.Bounding.{feasible_of}
 
 -- ---- lengths
 
@@ -168,6 +166,5 @@ module _ (s : FlatSystem) (c k : ℕ) (linear : List Point) where
       → (best.price.left < spent.left + rest.left) ⊎ ((best.price.left ≤ spent.left + rest.left) × (best.price.size < spent.size + rest.size)) → IsBarred s c k linear (Some best)
   barred_dear best m spent rest sound bound e is_spent floor above = λ other parts agrees n f less.
       let l = bound other n parts agrees f in
-      let cheapest : Cheapest = record { parts = best.parts; price = best.price } in
       ⊎_elim (λ h. omega (arith, e, l, h))
-      (λ h. above_barred s c (all_nodes s) k linear spent rest (Some cheapest) is_spent floor sound.spent above other parts agrees (feasible_of s (all_nodes s) other f.offsets f.are) h.1) less
+      (λ h. dear_later s c (all_nodes s) k linear best.parts.items spent rest best.price is_spent floor sound.spent above other parts agrees h.1) less

@@ -4,7 +4,6 @@ use Rattle.std.proofs.lemmas.Result.{IfOk-weaker}
 use Rattle.av_affine.specs.Numbers.{AtMost}
 use Rattle.av_flat.specs.Trees.{view_system}
 use Rattle.av_tree.specs.Points.{Point}
-use Rattle.av_sched.specs.declared.price.Best.{Best as Cheapest}
 use Rattle.av_sched.specs.Offsets.{part}
 use Rattle.av_sched.specs.Order.{entry_rank, cost, IsLess}
 use Rattle.av_sched.specs.Prices.{IsSpent}
@@ -34,10 +33,9 @@ returns c =
     let ns = c.args.nodes.now in
     let linear = c.args.linear.now in
     let parts = c.args.best.now.parts.items in
-    let found : Cheapest = record { parts = c.args.best.now.parts; price = c.args.best.now.price } in
     let own = map entry_rank (flat_map (part linear) ns) in
     let rated = subst (λ (xs : List ℕ). IsSpent s parts xs c.args.best.now.price) (sym c.requires.nodes) c.requires.best.spent in
-    let h = by_ranks s ns linear c.args.spent found c.requires.spent rated c.if-spent-best.false c.if-spent-best-2.false in
+    let h = by_ranks s ns linear c.args.spent parts c.args.best.now.price c.requires.spent rated c.if-spent-best.false c.if-spent-best-2.false in
     let e = subst (λ (ps : List Point). IfOk c.is_earlier.result (λ (b : Bool). IsTrue b ↔ IsLess own (map entry_rank (flat_map (part ps) ns)))) c.deref.ensures.value c.is_earlier.ensures in
     IfOk-weaker c.is_earlier.result (λ (b : Bool). IsTrue b ↔ IsLess own (map entry_rank (flat_map (part parts) ns))) (λ (b : Bool). IsTrue b ↔ IsLess (cost s ns linear) (cost s ns parts))
     (λ b t. ((λ a. h.0 (t.0 a)), (λ a. t.1 (h.1 a)))) e

@@ -1,0 +1,36 @@
+use Rattle.std.proofs.Common.{◌≡◌, ◌<◌, ◌∙◌, ◌++◌, ◌∷◌, [], ℕ, List, length, map, get_or, sym, ap, subst, arith, length-append}
+use Rattle.std.proofs.lemmas.List.{get_or-map, length-map}
+use Rattle.av_flat.specs.declared.flat.Var.{Var}
+use Rattle.av_flat.specs.Trees.{Variable, view_variable}
+use Rattle.av_flat.specs.Nodes.{is_node}
+use Rattle.av_best.proofs.Every.{numbered_more, numbered_same}
+use Rattle.av_best.proofs.joint.all_nodes.Goals as goal
+use Rattle.av_best.proofs.joint.all_nodes.Goals.{then-is_node+in_ok-push, else-is_node}
+
+pub loop-place-preserved : goal.loop-place-preserved
+loop-place-preserved c =
+    let vars = c.args.flat.now.vars in
+    let place = c.loop-place.place in
+    let slice = c.as_slice-vars.result.now in
+    let var = c.index-vars-place.result in
+    let v = view_variable var in
+    let ns = c.loop-place.nodes.items in
+    let few = c.loop-place.invariant.few in
+    let e = ap (λ (xs : List Var). length xs) c.as_slice-vars.ensures in
+    let l : place < length vars = omega (arith, c.loop-place-test.true, c.len-place-end.ensures.count) in
+    let within : place < length (map view_variable vars) = (let m = length-map vars view_variable in omega (arith, l, m)) in
+    let here : var ≡ get_or vars place var = c.index-vars-place.is ∙ ap (λ (xs : List Var). get_or xs place var) c.as_slice-vars.ensures in
+    let is : v ≡ get_or (map view_variable vars) place v = ap view_variable here ∙ sym (get_or-map view_variable vars place var v l) in
+    elim c.if-is_node.branch [
+      | then-is_node+in_ok-push w ↦ (
+        let pushed = w.in_ok-push.ensures.items in
+        let items = ap (λ v. v.items) w.nodes-is in
+        let more = numbered_more (map view_variable vars) place v ns within is (sym w.if-is_node.ensures) c.loop-place.invariant.are in
+        let size = length-append ns (length ns ∷ []) in
+        ?
+      )
+      | else-is_node w ↦ (
+        let same = numbered_same (map view_variable vars) place v ns within is (sym w.if-is_node.ensures) c.loop-place.invariant.are in
+        ?
+      )
+    ]
