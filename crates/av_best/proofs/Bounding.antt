@@ -1,7 +1,6 @@
 -- What places and spans say of schedules with given first parts: there is none, or none is shorter than a number of cycles.
-use Rattle.std.proofs.Common.{◌≡◌, ℕ, zero, suc, ◌+◌, ◌<◌, ◌≤◌, ℤ, pos, ◌+ℤ◌, ◌-ℤ◌, ◌≤ℤ◌, ◌<ℤ◌, ◌⊎◌, inl, inr, ⊎_elim, List, [], ◌∷◌, length, take, get_or, refl, sym, ap, subst, ◌∙◌, arith, All}
-use Rattle.std.proofs.Math.IntN.{neg_ℤ}
-use Rattle.std.specs.Prelude.{Contains, slice_index_or}
+use Rattle.std.proofs.Common.{◌≡◌, ℕ, ◌<◌, ◌≤◌, ℤ, pos, ◌+ℤ◌, ◌≤ℤ◌, ◌<ℤ◌, ⊎_elim, List, length, take, get_or, sym, subst, ◌∙◌, arith, All}
+use Rattle.std.specs.Prelude.{slice_index_or}
 use Rattle.std.proofs.lemmas.Int.{ints}
 use Rattle.std.proofs.lemmas.List.{get_or-take, length-take-le}
 use Rattle.av_affine.specs.Numbers.{dot}
@@ -14,14 +13,14 @@ use Rattle.av_depend.specs.Edges.{AreEdgesOf}
 use Rattle.av_sched.specs.declared.arc.Arc.{Arc}
 use Rattle.av_sched.specs.Offsets.{part, AreOffsets}
 use Rattle.av_sched.specs.Choices.{IsFeasible}
-use Rattle.av_sched.specs.Arcs.{at, IsLate, Solves, IsLeastSolution, IsArc}
+use Rattle.av_sched.specs.Arcs.{at, Solves, IsLeastSolution}
 use Rattle.av_sched.specs.Parts.{Agrees}
 use Rattle.av_sched.specs.Places.{IsWitnessAt}
 use Rattle.av_sched.proofs.Witnesses.{late_there, witnesses_fit}
 use Rattle.av_best.specs.declared.span.Span.{Span}
 use Rattle.av_best.specs.Least.{all_nodes}
-use Rattle.av_best.specs.inner.Spans.{IsSpanAt, AreSpanned, AreLows, last_of, IsLeastAbove}
-use Rattle.av_best.specs.inner.Joint.{FitsIn, IsForbidden, IsBound}
+use Rattle.av_best.specs.inner.Spans.{AreSpanned, AreLows, IsLeastAbove}
+use Rattle.av_best.specs.inner.Joint.{IsForbidden, IsBound}
 use Rattle.av_best.proofs.Every.{agreed, node_there}
 
 abbrev pub feasible_of : (s : FlatSystem) (component : List ℕ) (linear : List Point) (off : List ℤ) → AreOffsets s linear off → IsFeasible s component linear

@@ -1,6 +1,6 @@
 -- All nodes together as a component: their numbers are their places.
-use Rattle.std.proofs.Common.{◌≡◌, ℕ, zero, suc, ◌+◌, ◌<◌, ◌≤◌, Bool, true, false, cond, List, [], ◌∷◌, ◌++◌, length, take, get_or, add-one, refl, sym, ap, ap₂, subst, ◌∙◌, arith, zero-add, add-zero, All}
-use Rattle.std.specs.Prelude.{AllPairs, slice_index_or, filter}
+use Rattle.std.proofs.Common.{◌≡◌, ℕ, zero, suc, ◌+◌, ◌<◌, ◌≤◌, Bool, true, false, cond, List, [], ◌∷◌, ◌++◌, length, take, get_or, add-one, sym, ap, ap₂, subst, ◌∙◌, arith, zero-add, add-zero, All}
+use Rattle.std.specs.Prelude.{AllPairs, filter}
 use Rattle.std.specs.List.{range_with_len}
 use Rattle.std.proofs.lemmas.List.FromFn.{length-range_with_len, get_or-range_with_len}
 use Rattle.std.proofs.lemmas.List.Filters.{length-filter_more}

@@ -1,21 +1,16 @@
 -- What a choice of all parts does to the best one, and when choices are left out.
-use Rattle.std.proofs.Common.{◌≡◌, ℕ, zero, suc, ◌+◌, ◌<◌, ◌≤◌, ℤ, pos, ◌+ℤ◌, ◌≤ℤ◌, ◌<ℤ◌, ◌⊎◌, inl, inr, ⊎_elim, Option, Some, None, List, [], ◌∷◌, length, take, drop, get_or, refl, sym, ap, subst, ◌∙◌, arith, All}
-use Rattle.std.proofs.Math.IntN.{neg_ℤ}
-use Rattle.std.specs.List.{AllZip}
+use Rattle.std.proofs.Common.{◌≡◌, ℕ, zero, suc, ◌+◌, ◌<◌, ◌≤◌, ℤ, pos, ◌≤ℤ◌, ◌⊎◌, inl, inr, ⊎_elim, Option, Some, None, List, ◌∷◌, length, take, drop, sym, ap, subst, ◌∙◌, arith}
 use Rattle.std.proofs.lemmas.Int.{ints}
 use Rattle.std.proofs.lemmas.Bool.{cases_eq}
 use Rattle.std.proofs.lemmas.Option.{slice_get_within}
-use Rattle.av_affine.specs.Numbers.{dot}
 use Rattle.av_tree.specs.Points.{Point}
 use Rattle.av_flat.specs.Trees.{FlatSystem}
 use Rattle.av_flat.specs.Nodes.{nodes, IsComputation}
 use Rattle.av_sched.specs.declared.price.Price.{Price}
-use Rattle.av_sched.specs.Offsets.{part, cycle_at, AreOffsets, AreLeastOffsets}
+use Rattle.av_sched.specs.Offsets.{cycle_at, AreOffsets, AreLeastOffsets}
 use Rattle.av_sched.specs.Choices.{AreLinearParts}
 use Rattle.av_sched.specs.Order.{cost, IsLess}
-use Rattle.av_sched.specs.Arcs.{at}
 use Rattle.av_sched.specs.Leads.{AreStarts}
-use Rattle.av_sched.specs.Parts.{Agrees}
 use Rattle.av_sched.specs.Prices.{IsSpent, IsFloor}
 use Rattle.av_sched.proofs.Walking.{not_before}
 use Rattle.av_sched.proofs.Tries.{not_itself, not_both, cost_length}
@@ -24,8 +19,8 @@ use Rattle.av_best.specs.declared.best.Best.{Best}
 use Rattle.av_best.specs.declared.span.Span.{Span}
 use Rattle.av_best.specs.Lengths.{HasLength}
 use Rattle.av_best.specs.Least.{all_nodes}
-use Rattle.av_best.specs.inner.Spans.{IsSpanAt, AreSpanned, AreLows, last_of, IsLeastAbove}
-use Rattle.av_best.specs.inner.Joint.{FitsIn, joint_cost, IsMet, IsChosen, IsSound, IsBarred, HasWalked, IsForbidden, IsBound, IsBounded, IsAhead}
+use Rattle.av_best.specs.inner.Spans.{AreSpanned, AreLows, IsLeastAbove}
+use Rattle.av_best.specs.inner.Joint.{FitsIn, joint_cost, IsMet, IsChosen, IsSound, IsBarred, HasWalked, IsForbidden, IsBound, IsAhead}
 use Rattle.av_best.proofs.Every.{as_many, all_within, same_choice}
 
 -- ---- lengths

@@ -1,24 +1,22 @@
 -- Schedules in the box as choices with offsets, and what the best of all choices says of them.
-use Rattle.std.proofs.Common.{◌≡◌, ◌≢◌, ℕ, zero, suc, ◌<◌, ◌≤◌, ℤ, pos, ◌+ℤ◌, ◌≤ℤ◌, ◌<ℤ◌, inl, inr, ⊎_elim, Option, Some, List, length, map, get_or, refl, sym, ap, subst, ◌∙◌, arith, All, unsigned_abs}
-use Rattle.std.specs.Prelude.{Contains, slice_get}
+use Rattle.std.proofs.Common.{◌≡◌, ℕ, zero, suc, ◌<◌, ◌≤◌, ℤ, pos, ◌≤ℤ◌, inl, inr, ⊎_elim, Some, List, length, refl, sym, subst, ◌∙◌, arith}
 use Rattle.std.proofs.lemmas.Int.{ints}
 use Rattle.std.proofs.lemmas.Bool.{cases_lt}
 use Rattle.std.proofs.lemmas.List.{length-map}
 use Rattle.std.proofs.lemmas.Option.{slice_get_within}
 use Rattle.av_tree.specs.Points.{Point}
 use Rattle.av_flat.specs.declared.timed.Time.{Time}
-use Rattle.av_flat.specs.Trees.{Variable, FlatSystem}
+use Rattle.av_flat.specs.Trees.{FlatSystem}
 use Rattle.av_flat.specs.Nodes.{nodes, IsComputation}
 use Rattle.av_flat.specs.Chained.{IsChained}
 use Rattle.av_flat.specs.Proper.{IsProper}
 use Rattle.av_flat.specs.Reads.{IsPair}
-use Rattle.av_flat.specs.Schedules.{cycle, IsLinearPart, IsSchedule}
+use Rattle.av_flat.specs.Schedules.{IsLinearPart, IsSchedule}
 use Rattle.av_depend.specs.declared.edge.Edge.{Edge}
 use Rattle.av_depend.specs.Edges.{AreEdgesOf}
 use Rattle.av_depend.proofs.Pairs.{covered_by}
-use Rattle.av_depend.proofs.Generators.{dot_mid}
-use Rattle.av_sched.specs.Offsets.{part, offset, cycle_at, AreOffsets, AreLeastOffsets}
-use Rattle.av_sched.specs.Choices.{AreLinearParts, IsFeasible, HasSchedule}
+use Rattle.av_sched.specs.Offsets.{offset, cycle_at, AreOffsets, AreLeastOffsets}
+use Rattle.av_sched.specs.Choices.{AreLinearParts, HasSchedule}
 use Rattle.av_sched.specs.Order.{cost, IsLess}
 use Rattle.av_sched.proofs.Schedule.{part_of, cycle_is, schedule_of}
 use Rattle.av_sched.proofs.Usable.{usable_edge}
@@ -27,7 +25,7 @@ use Rattle.av_base.proofs.Lists.{there_is}
 use Rattle.av_best.specs.declared.best.Best.{Best}
 use Rattle.av_best.specs.Lengths.{linear_parts, offsets_of, HasLength, IsLength}
 use Rattle.av_best.specs.Least.{all_nodes, IsLeastSchedule}
-use Rattle.av_best.specs.inner.Joint.{FitsIn, joint_cost, IsMet, IsChosen, IsBest}
+use Rattle.av_best.specs.inner.Joint.{FitsIn, joint_cost, IsBest}
 
 -- no computation of a schedule is in a cycle below 0
 pub starts_of_schedule : (s : FlatSystem) (c : ℕ) (times : List Time) → IsSchedule s c times → (n : ℕ) (z : Point) → IsComputation s n z → pos 0 ≤ℤ cycle_at (linear_parts times) (offsets_of times) n z

@@ -1,11 +1,10 @@
 -- The points by which the linear parts of a node are judged, and spans over them.
-use Rattle.std.proofs.Common.{◌≡◌, ℕ, zero, suc, ◌+◌, ◌<◌, ◌≤◌, ◌^◌, ℤ, pos, ◌+ℤ◌, ◌≤ℤ◌, Bool, true, IsTrue, Some, List, [], ◌∷◌, ◌++◌, length, take, get_or, refl, sym, ap, subst, ◌∙◌, arith, All, Any, unsigned_abs, ⊎_elim, length-append, length-take}
+use Rattle.std.proofs.Common.{◌≡◌, ℕ, ◌+◌, ◌<◌, ◌≤◌, ◌^◌, ℤ, ◌≤ℤ◌, true, IsTrue, Some, List, [], ◌∷◌, ◌++◌, length, take, get_or, refl, sym, ap, subst, ◌∙◌, arith, All, Any, unsigned_abs, ⊎_elim, length-append}
 use Rattle.std.proofs.Math.IntN.{neg_ℤ}
-use Rattle.std.specs.Prelude.{Contains, slice_get, slice_index_or, filter}
+use Rattle.std.specs.Prelude.{slice_get, slice_index_or}
 use Rattle.std.specs.Int.{int_min, int_max}
 use Rattle.std.proofs.lemmas.Int.{ints, clamps, by_lt_z}
 use Rattle.std.proofs.lemmas.Bool.{cases_eq}
-use Rattle.std.proofs.lemmas.Option.{slice_get_within}
 use Rattle.std.proofs.lemmas.List.Elements.{All-filter, All-weaker, filter_passes}
 use Rattle.av_affine.specs.Numbers.{dot, AtMost}
 use Rattle.av_tree.specs.Points.{Point}
@@ -15,7 +14,7 @@ use Rattle.av_flat.specs.Nodes.{is_node, nodes, IsComputation}
 use Rattle.av_flat.specs.Chained.{IsChained, IsChainedVariable}
 use Rattle.av_flat.proofs.Sets.{has_is}
 use Rattle.av_flat.proofs.Bounded.{small_point}
-use Rattle.av_depend.specs.Edges.{IsGenerator, AreGenerators}
+use Rattle.av_depend.specs.Edges.{AreGenerators}
 use Rattle.av_depend.proofs.Generators.{IsMidValued, dot_mid, little_listed}
 use Rattle.av_flat.specs.Schedules.{IsLinearPart}
 use Rattle.av_sched.specs.Offsets.{part}

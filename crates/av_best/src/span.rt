@@ -94,13 +94,7 @@ pub(crate) fn spans_of(
     let mut spans = List::new(alloc);
     for k in 0..lists.len() {
         let points = points_of(alloc, flat, k)?;
-        spans.push(spans_at(
-            alloc,
-            flat,
-            k,
-            points.as_slice(),
-            lists[k].as_slice(),
-        )?)?;
+        spans.push(spans_at(alloc, flat, k, points.as_slice(), lists[k].as_slice())?)?;
     }
     Ok(spans)
 }

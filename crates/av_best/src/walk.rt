@@ -23,7 +23,10 @@ use crate::span::Span;
 use av_base::{List, Memory, Point};
 use av_depend::{Edge, copy_point};
 use av_flat::{Flat, Reach};
-use av_sched::{Place, Plan, Price, Room, arcs_of, at_least, copy_points, is_above, is_earlier, raise_to_least, with_more};
+use av_sched::{
+    Place, Plan, Price, Room, arcs_of, at_least, copy_points, is_above, is_earlier, raise_to_least,
+    with_more,
+};
 use std::alloc::Global;
 
 // Whether the linear parts come before those of the best choice.
@@ -275,18 +278,17 @@ fn walk_unless_barred(
     ensures spanned { IfOk result (λ new. AreSpanned (view_system flat.now) level linear.old spans.new) }
     ensures pool { IfOk result (λ new. All (IsPlace edges.now nodes.now) pool.new.items) }
 {
-    let Some(cycles) = bound(
-        flat, edges, reach, nodes, level, linear, spans, pool, room,
-    )?
-    else {
+    let Some(cycles) = bound(flat, edges, reach, nodes, level, linear, spans, pool, room)? else {
         return Ok(best);
     };
     let rest = plan.floors[nodes.len() - level];
-    if is_barred(flat, reach, nodes, level, linear, cycles, spent, rest, &best) {
+    if is_barred(
+        flat, reach, nodes, level, linear, cycles, spent, rest, &best,
+    ) {
         return Ok(best);
     }
     walk(
-        alloc, flat, edges, reach, nodes, plan, table, level, spent, cycles, linear, spans, pool, room,
-        best,
+        alloc, flat, edges, reach, nodes, plan, table, level, spent, cycles, linear, spans, pool,
+        room, best,
     )
 }

@@ -1,6 +1,6 @@
 -- Offsets under lower bounds and differences, apart from what they are offsets of (textbook: the potentials of a system of
 -- difference constraints).
-use Rattle.std.specs.Prelude.{◌≡◌, ℕ, ℤ, pos, ◌+ℤ◌, ◌≤ℤ◌, ◌<◌, ◌≤◌, List, length, slice_index_or, All, unsigned_abs, ◌+◌}
+use Rattle.std.specs.Prelude.{◌≡◌, ℕ, ℤ, pos, ◌+ℤ◌, ◌≤ℤ◌, ◌<◌, ◌≤◌, List, length, slice_index_or, All, unsigned_abs}
 use Rattle.av_sched.specs.declared.arc.Arc.{Arc}
 
 -- the offset of a node

@@ -1,6 +1,6 @@
 -- How far a reader is ahead of what it reads before offsets are added, and the least of it over points (textbook: the constraints
 -- that dependences put on an affine schedule).
-use Rattle.std.specs.Prelude.{◌≡◌, ℕ, ℤ, pos, map, ◌+ℤ◌, ◌≤ℤ◌, ◌<◌, ◌≤◌, List, length, All, unsigned_abs, ◌-ℤ◌, Any, ◌+◌, ◌-◌}
+use Rattle.std.specs.Prelude.{◌≡◌, ℕ, ℤ, pos, ◌+ℤ◌, ◌≤ℤ◌, ◌<◌, ◌≤◌, List, length, All, unsigned_abs, ◌-ℤ◌, Any}
 use Rattle.av_sched.specs.declared.arc.Arc.{Arc}
 use Rattle.av_affine.specs.declared.map.Map.{Map}
 use Rattle.av_affine.specs.Numbers.{dot, AtMost}

@@ -1,5 +1,5 @@
 -- Single points of dependences, and what each of them asks of the offsets (textbook: a violated constraint as a witness).
-use Rattle.std.specs.Prelude.{◌≡◌, ℕ, ℤ, pos, ◌<◌, ◌≤◌, List, length, slice_index_or, unsigned_abs, ◌-ℤ◌, ◌^◌, Contains, ◌-◌}
+use Rattle.std.specs.Prelude.{◌≡◌, ℕ, ℤ, pos, ◌<◌, ◌≤◌, List, length, slice_index_or, unsigned_abs, ◌-ℤ◌, ◌^◌, Contains}
 use Rattle.av_sched.specs.declared.arc.Arc.{Arc}
 use Rattle.av_affine.specs.Numbers.{dot, AtMost}
 use Rattle.av_affine.specs.Maps.{image}

@@ -65,11 +65,7 @@ fn raise_all(off: &mut Vec<i64>, old: &[i64], arcs: &[Arc])
 
 /// Raises offsets to the least that are no less and have each reader late enough; answers false where there are none. `old` is
 /// room for the offsets of the round before.
-pub fn raise_to_least(
-    arcs: &[Arc],
-    off: &mut Vec<i64>,
-    old: &mut Vec<i64>,
-) -> Result<bool, Memory>
+pub fn raise_to_least(arcs: &[Arc], off: &mut Vec<i64>, old: &mut Vec<i64>) -> Result<bool, Memory>
     requires arcs { All (IsArc (length off.old.items)) arcs.now }
     requires low { AreSmall 1073741824 off.old.items }
     requires few { length off.old.items ≤ 1073741824 }

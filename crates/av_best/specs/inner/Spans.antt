@@ -1,11 +1,10 @@
 -- How far the values of a linear part reach over the points of a node. Only private contracts cite this.
-use Rattle.std.specs.Prelude.{◌≡◌, ℕ, ◌^◌, ◌≤◌, ◌<◌, ◌+◌, ◌⊎◌, ℤ, pos, ◌≤ℤ◌, ◌<ℤ◌, ◌+ℤ◌, unsigned_abs, List, [], length, All, Any, slice_index_or}
+use Rattle.std.specs.Prelude.{◌≡◌, ℕ, ◌^◌, ◌≤◌, ◌<◌, ◌⊎◌, ℤ, pos, ◌≤ℤ◌, ◌<ℤ◌, ◌+ℤ◌, unsigned_abs, List, [], length, All, Any, slice_index_or}
 use Rattle.std.proofs.Math.IntN.{neg_ℤ}
 use Rattle.av_affine.specs.Numbers.{dot}
 use Rattle.av_tree.specs.Points.{Point}
 use Rattle.av_flat.specs.Trees.{FlatSystem}
 use Rattle.av_flat.specs.Nodes.{IsComputation}
-use Rattle.av_depend.specs.Edges.{IsGenerator}
 use Rattle.av_sched.specs.Offsets.{part}
 use Rattle.av_sched.specs.Arcs.{at}
 use Rattle.av_best.specs.declared.span.Span.{Span}

@@ -1,6 +1,6 @@
 -- Rounds that raise offsets until each reader is late enough (textbook: after Bellman 1958 and Ford 1956). Only private contracts
 -- cite this.
-use Rattle.std.specs.Prelude.{ℕ, ℤ, pos, map, ◌+ℤ◌, List, [], ◌∷◌, slice_set, if◌then◌else◌, int_lt, ◌+◌}
+use Rattle.std.specs.Prelude.{ℕ, ℤ, pos, map, ◌+ℤ◌, List, [], ◌∷◌, slice_set, if◌then◌else◌, int_lt}
 use Rattle.std.specs.List.{range_with_len}
 use Rattle.av_sched.specs.declared.arc.Arc.{Arc}
 use Rattle.av_sched.specs.Arcs.{at}

@@ -1,4 +1,4 @@
-use Rattle.std.proofs.Common.{◌≡◌, ◌<◌, ◌≤◌, ◌∙◌, pos, ℕ, ℤ, List, length, sym, subst, arith, rules, All}
+use Rattle.std.proofs.Common.{◌≤◌, pos, ℕ, ℤ, List, length, sym, subst, arith, rules, All}
 use Rattle.av_flat.specs.Trees.{view_system}
 use Rattle.av_flat.specs.Nodes.{nodes}
 use Rattle.av_sched.specs.declared.arc.Arc.{Arc}
@@ -8,7 +8,6 @@ use Rattle.av_sched.proofs.Inside.{vectors_of}
 use Rattle.av_sched.proofs.Witnesses.{usable_places}
 use Rattle.av_best.specs.declared.span.Span.{Span}
 use Rattle.av_best.specs.inner.Spans.{IsLeastAbove}
-use Rattle.av_best.specs.Least.{all_nodes}
 use Rattle.av_best.proofs.Every.{as_many}
 use Rattle.av_best.proofs.Spanning.{small_spans}
 use Rattle.av_best.proofs.Lasting.{lows_small}

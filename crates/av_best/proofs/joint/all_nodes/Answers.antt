@@ -1,8 +1,7 @@
-use Rattle.std.proofs.Common.{◌≡◌, ◌<◌, ◌∙◌, ◌++◌, ◌∷◌, [], ℕ, List, length, map, get_or, sym, ap, subst, arith, length-append}
+use Rattle.std.proofs.Common.{◌≡◌, ◌<◌, ◌∙◌, ◌++◌, ◌∷◌, [], ℕ, List, length, map, get_or, sym, ap, arith, rules, length-append}
 use Rattle.std.proofs.lemmas.List.{get_or-map, length-map}
 use Rattle.av_flat.specs.declared.flat.Var.{Var}
-use Rattle.av_flat.specs.Trees.{Variable, view_variable}
-use Rattle.av_flat.specs.Nodes.{is_node}
+use Rattle.av_flat.specs.Trees.{view_variable}
 use Rattle.av_best.proofs.Every.{numbered_more, numbered_same}
 use Rattle.av_best.proofs.joint.all_nodes.Goals as goal
 use Rattle.av_best.proofs.joint.all_nodes.Goals.{then-is_node+in_ok-push, else-is_node}
@@ -11,7 +10,6 @@ pub loop-place-preserved : goal.loop-place-preserved
 loop-place-preserved c =
     let vars = c.args.flat.now.vars in
     let place = c.loop-place.place in
-    let slice = c.as_slice-vars.result.now in
     let var = c.index-vars-place.result in
     let v = view_variable var in
     let ns = c.loop-place.nodes.items in
@@ -23,14 +21,20 @@ loop-place-preserved c =
     let is : v ≡ get_or (map view_variable vars) place v = ap view_variable here ∙ sym (get_or-map view_variable vars place var v l) in
     elim c.if-is_node.branch [
       | then-is_node+in_ok-push w ↦ (
-        let pushed = w.in_ok-push.ensures.items in
-        let items = ap (λ v. v.items) w.nodes-is in
-        let more = numbered_more (map view_variable vars) place v ns within is (sym w.if-is_node.ensures) c.loop-place.invariant.are in
-        let size = length-append ns (length ns ∷ []) in
-        ?
-      )
+          let n : w.len.result ≡ length ns = search rules in
+          let pushed = ap (λ v. v.items) w.nodes-is ∙ w.in_ok-push.ensures.items in
+          let size = ap length pushed ∙ length-append ns (w.len.result ∷ []) in
+          record {
+            are = pushed ∙ ap (λ (m : ℕ). ns ++ m ∷ []) n ∙ numbered_more (map view_variable vars) place v ns within is (sym w.if-is_node.ensures) c.loop-place.invariant.are;
+            few = omega (arith, size, few);
+          }
+          )
       | else-is_node w ↦ (
-        let same = numbered_same (map view_variable vars) place v ns within is (sym w.if-is_node.ensures) c.loop-place.invariant.are in
-        ?
-      )
+          let same = ap (λ v. v.items) w.nodes-is in
+          let size = ap length same in
+          record {
+            are = same ∙ numbered_same (map view_variable vars) place v ns within is (sym w.if-is_node.ensures) c.loop-place.invariant.are;
+            few = omega (arith, size, few);
+          }
+          )
     ]

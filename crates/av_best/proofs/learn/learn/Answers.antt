@@ -3,7 +3,6 @@ use Rattle.std.specs.Prelude.{slice_index_or}
 use Rattle.std.proofs.lemmas.List.Elements.{All-push}
 use Rattle.av_flat.specs.Trees.{view_system}
 use Rattle.av_flat.specs.Nodes.{nodes}
-use Rattle.av_depend.specs.declared.edge.Edge.{Edge}
 use Rattle.av_sched.specs.Leads.{IsUsable}
 use Rattle.av_sched.specs.Places.{IsPlace}
 use Rattle.av_sched.proofs.Bridge.{arcs_length}

@@ -1,4 +1,4 @@
-use Rattle.std.proofs.Common.{◌≡◌, ◌<◌, ◌+◌, ◌∙◌, ℕ, List, ap, sym, subst, arith, length, get_or}
+use Rattle.std.proofs.Common.{◌≡◌, ◌<◌, ◌+◌, ◌∙◌, ℕ, List, ap, sym, subst, arith, length}
 use Rattle.std.specs.Prelude.{slice_index_or}
 use Rattle.av_tree.specs.Points.{Point}
 use Rattle.av_flat.specs.Trees.{view_system}

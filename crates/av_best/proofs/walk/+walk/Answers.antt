@@ -1,4 +1,4 @@
-use Rattle.std.proofs.Common.{rules, ◌≡◌, ◌<◌, ◌≤◌, ◌∙◌, sym, ap, subst, length, suc, pos, add-one, take, ◌++◌, ◌∷◌, [], arith, All, get_or, Option, ℕ, ◌+◌}
+use Rattle.std.proofs.Common.{rules, ◌≡◌, ◌<◌, ◌≤◌, ◌∙◌, sym, ap, subst, length, suc, pos, add-one, take, ◌++◌, ◌∷◌, [], arith, get_or, ℕ, ◌+◌}
 use Rattle.std.specs.Prelude.{List, slice_set, slice_index_or}
 use Rattle.std.proofs.Math.ListN.{length-set}
 use Rattle.av_flat.specs.Trees.{view_system}
@@ -6,20 +6,17 @@ use Rattle.av_flat.specs.Nodes.{nodes}
 use Rattle.av_tree.specs.Points.{Point}
 use Rattle.av_sched.specs.declared.price.Price.{Price}
 use Rattle.av_sched.specs.Parts.{AreParts}
-use Rattle.av_sched.specs.Places.{IsPlace}
-use Rattle.av_sched.specs.Prices.{IsSpent, IsPriceAt, ArePricesAt}
-use Rattle.av_sched.proofs.Steps.{node_at_level, parts_at, part_is_valid, take_more}
-use Rattle.av_sched.proofs.Pricing.{price_there, spent_fits}
+use Rattle.av_sched.specs.Prices.{IsSpent, ArePricesAt}
+use Rattle.av_sched.proofs.Steps.{parts_at, part_is_valid, take_more}
+use Rattle.av_sched.proofs.Pricing.{price_there}
 use Rattle.av_base.proofs.Lists.{same_default, take_whole}
-use Rattle.av_best.specs.declared.best.Best.{Best}
 use Rattle.av_best.specs.declared.span.Span.{Span}
-use Rattle.av_best.specs.Least.{all_nodes}
 use Rattle.av_best.specs.inner.Spans.{AreSpanned}
-use Rattle.av_best.specs.inner.Joint.{IsBound, HasWalked}
+use Rattle.av_best.specs.inner.Joint.{IsBound, IsBounded, HasWalked}
 use Rattle.av_best.proofs.Every.{as_many, node_there}
 use Rattle.av_best.proofs.Leaving.{barred_none}
 use Rattle.av_best.proofs.Spanning.{span_there}
-use Rattle.av_best.proofs.Trying.{IsWalking, nothing_there, walking_more, walking_done, set_valid, same_next, spanned_now, spanned_back, spanned_more, spanned_less, set_first, spent_there}
+use Rattle.av_best.proofs.Trying.{IsWalking, nothing_there, walking_more, walking_done, set_valid, same_next, spanned_now, spanned_back, spanned_more, spanned_less, spent_there}
 use Rattle.av_best.proofs.walk.+walk.Goals as goal
 
 pub walk-leaf-requires-clause-bound : goal.walk-leaf-requires-clause-bound
@@ -33,6 +30,27 @@ walk-bounds-linear-level t c =
     let one = c.requires.linear.one_each in
     let e = ap length c.requires.nodes ∙ as_many (view_system c.args.flat.now) in
     omega (arith, fits, one, e)
+
+pub walk-bounds-linear-level-in-loop-k : goal.walk-bounds-linear-level-in-loop-k
+walk-bounds-linear-level-in-loop-k t c =
+    let fits : c.args.level < length c.args.nodes.now = search rules in
+    let one = c.loop-k.invariant.walking.valid.one_each in
+    let e = ap length c.requires.nodes ∙ as_many (view_system c.args.flat.now) in
+    omega (arith, fits, one, e)
+
+pub walk-bounds-linear-level-2 : goal.walk-bounds-linear-level-2
+walk-bounds-linear-level-2 t c =
+    let fits : c.args.level < length c.args.nodes.now = search rules in
+    let one = c.loop-k.invariant.walking.valid.one_each in
+    let e = ap length c.requires.nodes ∙ as_many (view_system c.args.flat.now) in
+    omega (arith, fits, one, e)
+
+pub walk_unless_barred-returns-in_default-clause-walked : goal.walk_unless_barred-returns-in_default-clause-walked
+walk_unless_barred-returns-in_default-clause-walked t c =
+    let s = view_system c.args.flat.now in
+    let size = c.args.reach.size in
+    let forbidden = subst (IsBounded s size c.args.level c.args.linear.now) c.in_default.is c.in_ok-cycles.ensures in
+    nothing_there s size c.args.level c.args.linear.now c.args.best c.requires.best (barred_none s size c.args.level c.args.linear.now c.args.best forbidden)
 
 pub walk-walk_unless_barred-requires : goal.walk-walk_unless_barred-requires
 walk-walk_unless_barred-requires t c =
@@ -177,7 +195,8 @@ walk-returns-clause-walked t c =
 
 pub walk_unless_barred-walk-requires : goal.walk_unless_barred-walk-requires
 walk_unless_barred-walk-requires t c =
-    let decreases = c.decreases in (
+    let decreases = c.decreases in
+    let bound = subst (IsBounded (view_system c.args.flat.now) c.args.reach.size c.args.level c.args.linear.now) c.in-Some.is c.in_ok-cycles.ensures in (
       omega (arith, decreases),
       (
         c.requires.chained,
@@ -199,7 +218,7 @@ walk_unless_barred-walk-requires t c =
                         c.requires.table,
                         (
                           c.requires.level,
-                          (c.requires.linear, (c.requires.spanned, (c.requires.wide, (c.requires.spent, (c.in-Some.ensures, (c.requires.pool, c.requires.best)))))),
+                          (c.requires.linear, (c.requires.spanned, (c.requires.wide, (c.requires.spent, (bound, (c.requires.pool, c.requires.best)))))),
                         ),
                       ),
                     ),

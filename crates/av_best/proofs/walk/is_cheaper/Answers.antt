@@ -1,4 +1,4 @@
-use Rattle.std.proofs.Common.{◌≡◌, ◌<◌, ◌↔◌, sym, subst, List, ℕ, IsTrue, Bool, IfOk, All, length, map}
+use Rattle.std.proofs.Common.{◌<◌, ◌↔◌, sym, subst, List, ℕ, IsTrue, Bool, IfOk, All, length, map}
 use Rattle.std.specs.List.{flat_map}
 use Rattle.std.proofs.lemmas.Result.{IfOk-weaker}
 use Rattle.av_affine.specs.Numbers.{AtMost}
@@ -8,7 +8,6 @@ use Rattle.av_sched.specs.Offsets.{part}
 use Rattle.av_sched.specs.Order.{entry_rank, cost, IsLess}
 use Rattle.av_sched.specs.Prices.{IsSpent}
 use Rattle.av_sched.proofs.Pricing.{by_ranks, small_parts}
-use Rattle.av_best.specs.Least.{all_nodes}
 use Rattle.av_best.proofs.Every.{parts_within}
 use Rattle.av_best.proofs.walk.is_cheaper.Goals as goal
 

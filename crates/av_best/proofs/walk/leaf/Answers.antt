@@ -1,8 +1,7 @@
-use Rattle.std.proofs.Common.{◌≡◌, ◌<◌, ◌≤◌, ◌∙◌, pos, ℕ, ℤ, List, Option, Some, length, sym, ap, subst, arith, rules, All}
+use Rattle.std.proofs.Common.{◌≡◌, ◌∙◌, pos, ℕ, ℤ, List, Some, length, sym, ap, subst, arith, rules}
 use Rattle.std.specs.List.{AllZip}
 use Rattle.av_tree.specs.Points.{Point}
 use Rattle.av_flat.specs.Trees.{view_system}
-use Rattle.av_flat.specs.Nodes.{nodes}
 use Rattle.av_sched.specs.declared.arc.Arc.{Arc}
 use Rattle.av_sched.specs.Offsets.{AreLeastOffsets}
 use Rattle.av_sched.specs.Choices.{AreLinearParts}

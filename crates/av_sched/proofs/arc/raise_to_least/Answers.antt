@@ -1,5 +1,5 @@
 use Rattle.std.proofs.Common.{rules, ◌≡◌, ◌∙◌, ◌+◌, refl, sym, ap, subst, true≢false, All, List, ℤ, length}
-use Rattle.av_sched.specs.Arcs.{IsLate, IsArc}
+use Rattle.av_sched.specs.Arcs.{IsLate}
 use Rattle.av_sched.specs.inner.Rounds.{raised_all}
 use Rattle.av_sched.proofs.Rounds.{IsKept, kept_first, kept_more}
 use Rattle.av_sched.proofs.arc.raise_to_least.Goals as goal
