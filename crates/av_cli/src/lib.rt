@@ -2,6 +2,7 @@
 #![tactic(auto)]
 
 mod alpha_refusals;
+mod best;
 mod check;
 mod demo;
 mod emit;

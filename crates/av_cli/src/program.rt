@@ -6,6 +6,7 @@ ghost use Rattle.av_cli.specs.inner.Written.{IsAnswered};
 ghost use Rattle.av_cli.specs.inner.Asked.{Refuses, Gives};
 ghost use Rattle.av_cli.specs.inner.CommandsSeen.{Are};
 
+use crate::best::best;
 use crate::check::check;
 use crate::demo::demo;
 use crate::emit::emit;
@@ -21,7 +22,7 @@ use av_base::{Name, ReadAll, Sink, Source, read_all};
 use std::alloc::Global;
 
 const USAGE: &str =
-    "usage: alphav check|schedule|table|emit|run|trace [--width W] [--box C] [NAME=VALUE ...] | sim | demo K\n";
+    "usage: alphav check|schedule|table|emit|run|trace|best [--width W] [--box C] [NAME=VALUE ...] | sim | demo K\n";
 
 const TOO_LONG: &str = "refused: too long\n";
 
@@ -83,6 +84,7 @@ fn answer<K: Sink>(
         Command::Trace { width, reach } => {
             answer_run(alloc, words, bytes, width, reach, Report::Trace, sink)
         }
+        Command::Best { width, reach } => best(alloc, words, bytes, width, reach, sink),
         Command::Sim => sim(alloc, bytes, sink),
         Command::Demo { width, reach, size } => demo(alloc, size, width, reach, sink),
     }

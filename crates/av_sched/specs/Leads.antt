@@ -1,17 +1,17 @@
--- How far a reader is ahead of what it reads before offsets are added, and the least of it over points. Only private contracts
--- cite this.
-use Rattle.std.specs.Prelude.{◌≡◌, ℕ, ℤ, pos, unsigned_abs, ◌+ℤ◌, ◌-ℤ◌, ◌≤ℤ◌, ◌<◌, ◌≤◌, List, length, All, Any}
+-- How far a reader is ahead of what it reads before offsets are added, and the least of it over points (textbook: the constraints
+-- that dependences put on an affine schedule).
+use Rattle.std.specs.Prelude.{◌≡◌, ℕ, ℤ, pos, ◌+ℤ◌, ◌≤ℤ◌, ◌<◌, ◌≤◌, List, length, All, unsigned_abs, ◌-ℤ◌, Any}
+use Rattle.av_sched.specs.declared.arc.Arc.{Arc}
 use Rattle.av_affine.specs.declared.map.Map.{Map}
 use Rattle.av_affine.specs.Numbers.{dot, AtMost}
 use Rattle.av_affine.specs.Forms.{IsWithinLimits}
 use Rattle.av_affine.specs.Maps.{image}
 use Rattle.av_tree.specs.Points.{Point}
 use Rattle.av_depend.specs.declared.edge.Edge.{Edge}
-use Rattle.av_sched.specs.declared.arc.Arc.{Arc}
 use Rattle.av_flat.specs.Trees.{FlatSystem}
 use Rattle.av_flat.specs.Nodes.{nodes, IsComputation}
-use Rattle.av_sched.specs.inner.Arcs.{at}
 use Rattle.av_sched.specs.Offsets.{part}
+use Rattle.av_sched.specs.Arcs.{at}
 
 -- the linear part of the reader times the point, less that of what is read times the image
 abbrev pub lead : Point → Point → Map → Point → ℤ
