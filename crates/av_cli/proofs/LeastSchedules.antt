@@ -47,15 +47,15 @@ is_proper bytes sizes bits s h = h.given.proper (h.normalises.given.proper h.nor
 
 -- a search that answers every fault has none where it answers a schedule
 pub none_where_least : (s : FlatSystem) (box : ℕ) (t : Timed) (r : Result Timed BestFault) → r ≡ Ok t → ((f : BestFault) → searched.IsFault s box f → f ≢ fault.Memory → (r ≡ Err f) ⊎ (r ≡ Err fault.Memory)) → HasNoFault s box
-none_where_least s box t r e refused f is = go f is
+none_where_least s box t r e answers f is = go f is
   where
     no_error : (f : BestFault) → (r ≡ Err f) ⊎ (r ≡ Err fault.Memory) → ⊥
     no_error f (inl h) = cc
     no_error f (inr h) = cc
 
     go : (f : BestFault) → searched.IsFault s box f → f ≡ fault.Memory
-    go (fault.JointCandidates n) is = absurd (no_error (fault.JointCandidates n) (refused (fault.JointCandidates n) is (λ h. cc)))
-    go (fault.NoSchedule name) is = absurd (no_error (fault.NoSchedule name) (refused (fault.NoSchedule name) is (λ h. cc)))
+    go (fault.JointCandidates n) is = absurd (no_error (fault.JointCandidates n) (answers (fault.JointCandidates n) is (λ h. cc)))
+    go (fault.NoSchedule name) is = absurd (no_error (fault.NoSchedule name) (answers (fault.NoSchedule name) is (λ h. cc)))
     go fault.Memory is = refl
 
 -- ---- refused or given, and not both

@@ -14,6 +14,7 @@ use std::test::Fail;
 const THIRTEEN: &str = "system t (A : {i | 0<=i<=1} of integer) \
     returns (X, Y, Z : {i,j,k,l | 0<=(i,j,k,l)<=0} of integer; W : {i | 0<=i<=1} of integer); \
     let X[i,j,k,l] = 0; Y[i,j,k,l] = 0; Z[i,j,k,l] = 0; W[i] = A[i]; tel;";
+
 const FOURTEEN: &str = "system t (A : {i | 0<=i<=1} of integer) \
     returns (X, Y, Z : {i,j,k,l | 0<=(i,j,k,l)<=0} of integer; W : {i,j | 0<=(i,j)<=1} of integer); \
     let X[i,j,k,l] = 0; Y[i,j,k,l] = 0; Z[i,j,k,l] = 0; W[i,j] = A[i]; tel;";
@@ -80,12 +81,7 @@ const FOUND: &[Row] = &[
         Status::Done,
         "Y (0,1) 2\ncycles 5\n",
     ),
-    (
-        &["best"],
-        RUNNING_SUMS,
-        Status::Done,
-        "P (1) 0\ncycles 3\n",
-    ),
+    (&["best"], RUNNING_SUMS, Status::Done, "P (1) 0\ncycles 3\n"),
     (&["best"], NO_POINT, Status::Done, "cycles 0\n"),
     (
         &["best", "--box=4"],
@@ -172,18 +168,8 @@ const CANDIDATES: &[Row] = &[
         Status::Refused,
         "refused: joint candidates 4782969\n",
     ),
-    (
-        &["best"],
-        STEEP,
-        Status::Refused,
-        "refused: non unit W\n",
-    ),
-    (
-        &["best"],
-        HALVES,
-        Status::Refused,
-        "refused: non unit Y\n",
-    ),
+    (&["best"], STEEP, Status::Refused, "refused: non unit W\n"),
+    (&["best"], HALVES, Status::Refused, "refused: non unit Y\n"),
     (
         &["best", "N=4"],
         UNCOVERED,

@@ -1,4 +1,4 @@
-use Rattle.std.proofs.Common.{◌≡◌, inl}
+use Rattle.std.proofs.Common.{◌≡◌}
 use Rattle.std.specs.Prelude.{Err}
 use Rattle.av_flat.specs.Trees.{view_system}
 use Rattle.av_compile.specs.Refusals.{of_serial}

@@ -1,4 +1,3 @@
-use Rattle.std.proofs.Common.{◌++◌}
 use Rattle.av_base.proofs.Moves.{on_err, Adds-more}
 use Rattle.av_data.specs.Schedules.{schedule_text}
 use Rattle.av_cli.specs.Bests.{cycles_line}
