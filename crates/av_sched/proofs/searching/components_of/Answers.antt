@@ -6,7 +6,7 @@ use Rattle.av_flat.specs.Nodes.{nodes}
 use Rattle.av_depend.specs.declared.edge.Edge.{Edge}
 use Rattle.av_depend.specs.Components.{ReadsNode, IsJoined, AreComponents}
 use Rattle.av_depend.proofs.Unique.{components_so}
-use Rattle.av_sched.specs.inner.Leads.{IsUsable}
+use Rattle.av_sched.specs.Leads.{IsUsable}
 use Rattle.av_sched.proofs.Usable.{usable}
 use Rattle.av_sched.proofs.Inside.{vectors_of}
 use Rattle.av_sched.proofs.searching.components_of.Goals as goal
