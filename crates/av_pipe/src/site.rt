@@ -1,6 +1,6 @@
 //! The helpers of the references of a piece.
 
-ghost use Rattle.std.specs.Prelude.{◌≡◌, ◌+◌, ◌∷◌, ◌++◌, [], pos, negsuc, All, IfOk, OnOk, map};
+ghost use Rattle.std.specs.Prelude.{◌≡◌, ◌≤◌, ◌+◌, ◌∷◌, ◌++◌, [], pos, negsuc, All, IfOk, OnOk, length, map};
 ghost use Rattle.std.specs.List.{AllByRecursion};
 ghost use Rattle.av_affine.specs.Numbers.{AtMost};
 ghost use Rattle.av_affine.specs.Forms.{IsWithinLimits};
@@ -14,18 +14,8 @@ use av_affine::Map;
 use av_base::{List, Memory, Point};
 use av_flat::{Helper, Piece, Tree};
 
-// The number of a variable or a piece as a helper keeps it. No text within the limits has numbers above 32 bits, but
-// no condition bounds them either.
-fn helper_number(number: usize) -> Result<u32, Memory>
-    ensures { IfOk result (λ n. n ≡ number) }
-{
-    match u32::try_from(number) {
-        Ok(number) => Ok(number),
-        Err(_) => Err(Memory),
-    }
-}
-
-// The number after this one, of references in a piece.
+// The number after this one, of references in a piece. No text within the limits has numbers above 32 bits, but no
+// condition bounds them either.
 fn next(site: u32) -> Result<u32, Memory>
     ensures { IfOk result (λ n. n ≡ site + 1) }
 {
@@ -37,8 +27,8 @@ fn next(site: u32) -> Result<u32, Memory>
 
 // Puts the helper of a reference behind others, where it is moved; the number of the next reference.
 fn reference_helper(
-    place: usize,
-    piece: usize,
+    place: u32,
+    piece: u32,
     linear: &Point,
     points: &[Point],
     site: u32,
@@ -52,8 +42,8 @@ fn reference_helper(
 {
     if let Some(direction) = first_moving(linear, map, points) {
         helpers.push(Helper {
-            var: helper_number(place)?,
-            piece: helper_number(piece)?,
+            var: place,
+            piece,
             site,
             direction,
         })?;
@@ -63,8 +53,8 @@ fn reference_helper(
 
 /// Puts the helpers of the references in a tree behind others; the number of the next reference.
 pub(crate) fn tree_helpers(
-    place: usize,
-    piece: usize,
+    place: u32,
+    piece: u32,
     linear: &Point,
     points: &[Point],
     site: u32,
@@ -99,18 +89,19 @@ pub(crate) fn tree_helpers(
 
 /// Puts the helpers of the references of a variable's pieces behind others.
 pub(crate) fn piece_helpers(
-    place: usize,
+    place: u32,
     linear: &Point,
     points: &[Point],
     pieces: &[Piece],
     helpers: &mut List<Helper>,
 ) -> Result<(), Memory>
     requires linear { AtMost 4 linear.now }
+    requires few { length pieces.now ≤ 1073741824 }
     requires maps { AllByRecursion (λ p. HasFineMaps points.now p.tree) (map view_piece pieces.now) }
     ensures { OnOk result (helpers.new ≡ helpers.old ++ of_pieces place linear.now 0 (map view_piece pieces.now)) }
 {
     for (number, piece) in pieces.iter().enumerate() {
-        tree_helpers(place, number, linear, points, 0, &piece.tree, helpers)?;
+        tree_helpers(place, number as u32, linear, points, 0, &piece.tree, helpers)?;
     }
     Ok(())
 }

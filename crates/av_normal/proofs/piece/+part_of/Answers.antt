@@ -15,7 +15,7 @@ use Rattle.av_normal.proofs.piece.+part_of.Goals as goal
 
 pub part_of-append_read-requires-clause-fits : goal.part_of-append_read-requires-clause-fits
 part_of-append_read-requires-clause-fits t c =
-    let h : IsReading (signatures_of c.args.vars.now) c.args.under.now c.in-Ref.var c.in-Ref.map = rw c.in-Ref.is at c.requires in
+    let h : IsReading (signatures_of c.args.vars.now) c.args.under.now c.in-Ref.var c.in-Ref.map = rw c.in-Ref.is at c.requires.readable in
     fits_read (signatures_of c.args.vars.now) c.args.under.now c.in-Ref.var c.in-Ref.map c.in_ok-map-in-Ref.map c.in_ok-map-in-Ref.ensures.composed h.results
 
 -- ---- branches
@@ -23,7 +23,7 @@ part_of-append_read-requires-clause-fits t c =
 pub part_of-part_of_case-requires : goal.part_of-part_of_case-requires
 part_of-part_of_case-requires t c = (
   less_deep t c.args.tree.now c.in-Case.branches c.as_slice.result.now c.in-Case.is c.as_slice.ensures c.decreases,
-  case_readable (signatures_of c.args.vars.now) c.args.under.now c.args.tree.now c.in-Case.branches c.as_slice.result.now c.in-Case.is c.as_slice.ensures c.requires,
+  case_readable (signatures_of c.args.vars.now) c.args.under.now c.args.tree.now c.in-Case.branches c.as_slice.result.now c.in-Case.is c.as_slice.ensures c.requires.readable,
 )
 
 pub part_of-returns-in-Case-clause-part : goal.part_of-returns-in-Case-clause-part
@@ -32,7 +32,7 @@ part_of-returns-in-Case-clause-part t c =
     rw e c.part_of_case.ensures.part
 
 pub part_of_case-loop-branch-init : goal.part_of_case-loop-branch-init
-part_of_case-loop-branch-init t c = (record { readable = c.requires; few = omega arith; same = λ few. refl }, refl)
+part_of_case-loop-branch-init t c = (record { readable = c.requires.readable; few = omega arith; same = λ few. refl }, refl)
 
 pub part_of_case-loop-branch-preserved : goal.part_of_case-loop-branch-preserved
 part_of_case-loop-branch-preserved t c =
