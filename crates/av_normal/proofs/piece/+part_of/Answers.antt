@@ -25,8 +25,10 @@ part_of-append_read-requires-clause-fits t c =
 pub part_of-part_of_case-requires : goal.part_of-part_of_case-requires
 part_of-part_of_case-requires t c = (
   less_deep t c.args.tree.now c.in-Case.branches c.as_slice.result.now c.in-Case.is c.as_slice.ensures c.decreases,
-  case_readable (signatures_of c.args.vars.now) c.args.under.now c.args.tree.now c.in-Case.branches c.as_slice.result.now c.in-Case.is c.as_slice.ensures c.requires.readable,
-  case_has_part c.args.tree.now c.in-Case.branches c.as_slice.result.now c.args.number c.in-Case.is c.as_slice.ensures c.requires.number,
+  (
+    case_readable (signatures_of c.args.vars.now) c.args.under.now c.args.tree.now c.in-Case.branches c.as_slice.result.now c.in-Case.is c.as_slice.ensures c.requires.readable,
+    case_has_part c.args.tree.now c.in-Case.branches c.as_slice.result.now c.args.number c.in-Case.is c.as_slice.ensures c.requires.number,
+  ),
 )
 
 pub part_of-returns-in-Case-clause-part : goal.part_of-returns-in-Case-clause-part
@@ -65,7 +67,7 @@ pub part_of_case-unreachable-requires : goal.part_of_case-unreachable-requires
 part_of_case-unreachable-requires t c =
     let l : length c.args.branches.now ≤ c.loop-branch.branch-index = search rules in
     let h = subst (λ (ts : List TreeMade). c.loop-branch.left < piece_count_of_all (trees_of (map view ts))) (nothing_left c.args.branches.now c.loop-branch.branch-index l)
-        (c.loop-branch.invariant.0.there c.requires.number.0 c.requires.number.1)
+    (c.loop-branch.invariant.0.there c.requires.number.0 c.requires.number.1)
     in
     omega (arith, h)
 
@@ -74,45 +76,55 @@ part_of_case-unreachable-requires t c =
 pub part_of-boxed_part-requires-in-Binary : goal.part_of-boxed_part-requires-in-Binary
 part_of-boxed_part-requires-in-Binary t c = (
   search rules,
-  search rules,
-  rw c.deref-in-Binary-2.ensures (has_right c.in-Binary.sign (view c.in-Binary.left.value) (view c.in-Binary.right.value) c.args.number c.two_numbers-first.result.0 c.two_numbers-first.result.1
-  (rw c.deref.ensures at c.two_numbers-first.ensures) (rw c.in-Binary.is at c.requires.number)),
+  (
+    search rules,
+    rw c.deref-in-Binary-2.ensures (has_right c.in-Binary.sign (view c.in-Binary.left.value) (view c.in-Binary.right.value) c.args.number c.two_numbers-first.result.0 c.two_numbers-first.result.1
+        (rw c.deref.ensures at c.two_numbers-first.ensures) (rw c.in-Binary.is at c.requires.number)),
+  ),
 )
 
 pub part_of-boxed_part-requires-in-Choose : goal.part_of-boxed_part-requires-in-Choose
 part_of-boxed_part-requires-in-Choose t c = (
   search rules,
-  search rules,
-  rw c.deref-in-Choose-4.ensures (has_one c.in-Choose.compare (view c.in-Choose.left.value) (view c.in-Choose.right.value) (view c.in-Choose.yes.value) (view c.in-Choose.no.value) c.args.number
-  c.four_numbers-first.result.0 c.four_numbers-first.result.1 c.four_numbers-first.result.2 c.four_numbers-first.result.3
-  (rw (c.deref-in-Choose.ensures, c.deref-in-Choose-2.ensures, c.deref-in-Choose-3.ensures) at c.four_numbers-first.ensures) (rw c.in-Choose.is at c.requires.number)),
+  (
+    search rules,
+    rw c.deref-in-Choose-4.ensures (has_one c.in-Choose.compare (view c.in-Choose.left.value) (view c.in-Choose.right.value) (view c.in-Choose.yes.value) (view c.in-Choose.no.value) c.args.number
+        c.four_numbers-first.result.0 c.four_numbers-first.result.1 c.four_numbers-first.result.2 c.four_numbers-first.result.3
+        (rw (c.deref-in-Choose.ensures, c.deref-in-Choose-2.ensures, c.deref-in-Choose-3.ensures) at c.four_numbers-first.ensures) (rw c.in-Choose.is at c.requires.number)),
+  ),
 )
 
 pub part_of-boxed_part-requires-in-Choose-2 : goal.part_of-boxed_part-requires-in-Choose-2
 part_of-boxed_part-requires-in-Choose-2 t c = (
   search rules,
-  search rules,
-  rw c.deref-in-Choose-5.ensures (has_two c.in-Choose.compare (view c.in-Choose.left.value) (view c.in-Choose.right.value) (view c.in-Choose.yes.value) (view c.in-Choose.no.value) c.args.number
-  c.four_numbers-first.result.0 c.four_numbers-first.result.1 c.four_numbers-first.result.2 c.four_numbers-first.result.3
-  (rw (c.deref-in-Choose.ensures, c.deref-in-Choose-2.ensures, c.deref-in-Choose-3.ensures) at c.four_numbers-first.ensures) (rw c.in-Choose.is at c.requires.number)),
+  (
+    search rules,
+    rw c.deref-in-Choose-5.ensures (has_two c.in-Choose.compare (view c.in-Choose.left.value) (view c.in-Choose.right.value) (view c.in-Choose.yes.value) (view c.in-Choose.no.value) c.args.number
+        c.four_numbers-first.result.0 c.four_numbers-first.result.1 c.four_numbers-first.result.2 c.four_numbers-first.result.3
+        (rw (c.deref-in-Choose.ensures, c.deref-in-Choose-2.ensures, c.deref-in-Choose-3.ensures) at c.four_numbers-first.ensures) (rw c.in-Choose.is at c.requires.number)),
+  ),
 )
 
 pub part_of-boxed_part-requires-in-Choose-3 : goal.part_of-boxed_part-requires-in-Choose-3
 part_of-boxed_part-requires-in-Choose-3 t c = (
   search rules,
-  search rules,
-  rw c.deref-in-Choose-6.ensures (has_three c.in-Choose.compare (view c.in-Choose.left.value) (view c.in-Choose.right.value) (view c.in-Choose.yes.value) (view c.in-Choose.no.value) c.args.number
-  c.four_numbers-first.result.0 c.four_numbers-first.result.1 c.four_numbers-first.result.2 c.four_numbers-first.result.3
-  (rw (c.deref-in-Choose.ensures, c.deref-in-Choose-2.ensures, c.deref-in-Choose-3.ensures) at c.four_numbers-first.ensures) (rw c.in-Choose.is at c.requires.number)),
+  (
+    search rules,
+    rw c.deref-in-Choose-6.ensures (has_three c.in-Choose.compare (view c.in-Choose.left.value) (view c.in-Choose.right.value) (view c.in-Choose.yes.value) (view c.in-Choose.no.value) c.args.number
+        c.four_numbers-first.result.0 c.four_numbers-first.result.1 c.four_numbers-first.result.2 c.four_numbers-first.result.3
+        (rw (c.deref-in-Choose.ensures, c.deref-in-Choose-2.ensures, c.deref-in-Choose-3.ensures) at c.four_numbers-first.ensures) (rw c.in-Choose.is at c.requires.number)),
+  ),
 )
 
 pub part_of-boxed_part-requires-in-Choose-4 : goal.part_of-boxed_part-requires-in-Choose-4
 part_of-boxed_part-requires-in-Choose-4 t c = (
   search rules,
-  search rules,
-  rw c.deref-in-Choose-7.ensures (has_four c.in-Choose.compare (view c.in-Choose.left.value) (view c.in-Choose.right.value) (view c.in-Choose.yes.value) (view c.in-Choose.no.value) c.args.number
-  c.four_numbers-first.result.0 c.four_numbers-first.result.1 c.four_numbers-first.result.2 c.four_numbers-first.result.3
-  (rw (c.deref-in-Choose.ensures, c.deref-in-Choose-2.ensures, c.deref-in-Choose-3.ensures) at c.four_numbers-first.ensures) (rw c.in-Choose.is at c.requires.number)),
+  (
+    search rules,
+    rw c.deref-in-Choose-7.ensures (has_four c.in-Choose.compare (view c.in-Choose.left.value) (view c.in-Choose.right.value) (view c.in-Choose.yes.value) (view c.in-Choose.no.value) c.args.number
+        c.four_numbers-first.result.0 c.four_numbers-first.result.1 c.four_numbers-first.result.2 c.four_numbers-first.result.3
+        (rw (c.deref-in-Choose.ensures, c.deref-in-Choose-2.ensures, c.deref-in-Choose-3.ensures) at c.four_numbers-first.ensures) (rw c.in-Choose.is at c.requires.number)),
+  ),
 )
 
 pub part_of-returns-in_ok-right-in-Binary-clause-part : goal.part_of-returns-in_ok-right-in-Binary-clause-part
