@@ -121,7 +121,15 @@ pub(crate) fn piece_helpers(
     ensures { OnOk result (helpers.new ≡ helpers.old ++ of_pieces place linear.now 0 (map view_piece pieces.now)) }
 {
     for (number, piece) in pieces.iter().enumerate() {
-        tree_helpers(alloc, place, number as u32, linear, points, &piece.tree, helpers)?;
+        tree_helpers(
+            alloc,
+            place,
+            number as u32,
+            linear,
+            points,
+            &piece.tree,
+            helpers,
+        )?;
     }
     Ok(())
 }
