@@ -9,7 +9,7 @@ use Rattle.av_normal.specs.inner.UnderMaps.{IsReading}
 use Rattle.av_normal.specs.inner.PieceByNumber.{IsPartAt}
 use Rattle.av_normal.proofs.Outcomes.{on_ok, if_ok}
 use Rattle.av_normal.proofs.Reading.{fits_read}
-use Rattle.av_normal.proofs.Depths.{less_deep}
+use Rattle.av_normal.proofs.Depths.{less_deep, right_falls, first_falls, second_falls, third_falls, fourth_falls}
 use Rattle.av_normal.proofs.PieceByNumber.{case_readable, case_has_part, has_left, has_right, has_one, has_two, has_three, has_four, next_branch_left, one_branch_more, branch_found, binary_part, choice_part, restriction_part, leaf_part}
 use Rattle.av_flat.specs.Quantities.{piece_count_of_all}
 use Rattle.av_base.proofs.Lists.{nothing_left}
@@ -75,7 +75,7 @@ part_of_case-unreachable-requires t c =
 
 pub part_of-boxed_part-requires-in-Binary : goal.part_of-boxed_part-requires-in-Binary
 part_of-boxed_part-requires-in-Binary t c = (
-  search rules,
+  right_falls t c.args.tree.now c.deref-in-Binary-2.result.now c.decreases c.in-Binary.sign c.in-Binary.left c.in-Binary.right c.in-Binary.is c.deref-in-Binary-2.ensures,
   (
     search rules,
     rw c.deref-in-Binary-2.ensures (has_right c.in-Binary.sign (view c.in-Binary.left.value) (view c.in-Binary.right.value) c.args.number c.two_numbers-first.result.0 c.two_numbers-first.result.1
@@ -85,7 +85,7 @@ part_of-boxed_part-requires-in-Binary t c = (
 
 pub part_of-boxed_part-requires-in-Choose : goal.part_of-boxed_part-requires-in-Choose
 part_of-boxed_part-requires-in-Choose t c = (
-  search rules,
+  first_falls t c.args.tree.now c.deref-in-Choose-4.result.now c.decreases c.in-Choose.compare c.in-Choose.left c.in-Choose.right c.in-Choose.yes c.in-Choose.no c.in-Choose.is c.deref-in-Choose-4.ensures,
   (
     search rules,
     rw c.deref-in-Choose-4.ensures (has_one c.in-Choose.compare (view c.in-Choose.left.value) (view c.in-Choose.right.value) (view c.in-Choose.yes.value) (view c.in-Choose.no.value) c.args.number
@@ -96,7 +96,7 @@ part_of-boxed_part-requires-in-Choose t c = (
 
 pub part_of-boxed_part-requires-in-Choose-2 : goal.part_of-boxed_part-requires-in-Choose-2
 part_of-boxed_part-requires-in-Choose-2 t c = (
-  search rules,
+  second_falls t c.args.tree.now c.deref-in-Choose-5.result.now c.decreases c.in-Choose.compare c.in-Choose.left c.in-Choose.right c.in-Choose.yes c.in-Choose.no c.in-Choose.is c.deref-in-Choose-5.ensures,
   (
     search rules,
     rw c.deref-in-Choose-5.ensures (has_two c.in-Choose.compare (view c.in-Choose.left.value) (view c.in-Choose.right.value) (view c.in-Choose.yes.value) (view c.in-Choose.no.value) c.args.number
@@ -107,7 +107,7 @@ part_of-boxed_part-requires-in-Choose-2 t c = (
 
 pub part_of-boxed_part-requires-in-Choose-3 : goal.part_of-boxed_part-requires-in-Choose-3
 part_of-boxed_part-requires-in-Choose-3 t c = (
-  search rules,
+  third_falls t c.args.tree.now c.deref-in-Choose-6.result.now c.decreases c.in-Choose.compare c.in-Choose.left c.in-Choose.right c.in-Choose.yes c.in-Choose.no c.in-Choose.is c.deref-in-Choose-6.ensures,
   (
     search rules,
     rw c.deref-in-Choose-6.ensures (has_three c.in-Choose.compare (view c.in-Choose.left.value) (view c.in-Choose.right.value) (view c.in-Choose.yes.value) (view c.in-Choose.no.value) c.args.number
@@ -118,7 +118,7 @@ part_of-boxed_part-requires-in-Choose-3 t c = (
 
 pub part_of-boxed_part-requires-in-Choose-4 : goal.part_of-boxed_part-requires-in-Choose-4
 part_of-boxed_part-requires-in-Choose-4 t c = (
-  search rules,
+  fourth_falls t c.args.tree.now c.deref-in-Choose-7.result.now c.decreases c.in-Choose.compare c.in-Choose.left c.in-Choose.right c.in-Choose.yes c.in-Choose.no c.in-Choose.is c.deref-in-Choose-7.ensures,
   (
     search rules,
     rw c.deref-in-Choose-7.ensures (has_four c.in-Choose.compare (view c.in-Choose.left.value) (view c.in-Choose.right.value) (view c.in-Choose.yes.value) (view c.in-Choose.no.value) c.args.number
