@@ -42,7 +42,14 @@ fn variable_helpers(
             // So few pieces that 32 bits number them.
             let _most = var.pieces.len();
             let pieces = var.pieces.as_slice();
-            piece_helpers(place, &time.linear, points.as_slice(), pieces, helpers)
+            piece_helpers(
+                alloc,
+                place,
+                &time.linear,
+                points.as_slice(),
+                pieces,
+                helpers,
+            )
         }
         None => Ok(()),
     }

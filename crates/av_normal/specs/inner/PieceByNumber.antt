@@ -22,6 +22,7 @@ IsPartAt vs ds t number old new made =
 pub record AreLeft (vs : List Signature) (ds : List Map) (all rest : Trees) (number left : ℕ) : Type 0 where
   pub readable : AreReadable vs ds rest
   pub few : piece_count_of_all rest ≤ piece_count_of_all all
+  pub there : number < piece_count_of_all all → piece_count_of_all all ≤ 256 → left < piece_count_of_all rest
   pub same : piece_count_of_all all ≤ 256 → part_at (parts_of_all vs ds all) number ≡ part_at (parts_of_all vs ds rest) left
 
 -- the numbers of four operands, of which the last is fastest, by how many parts those behind each of them have
