@@ -16,7 +16,3 @@ never_wide os (fault.Limit kind n) a w m = never_first_wide os kind n a w
 never_wide os (fault.Pieces n) a w m = w
 never_wide os (fault.Unbounded name) a w m = w
 never_wide os fault.Memory a w m = m refl
-
--- a map that is above a limit is not out of memory
-pub wide_one_over : (o : Measured) (f : NormalFault) → IsWideOne o f → f ≢ fault.Memory
-wide_one_over o f w = λ e. subst (λ (g : NormalFault). IsWideOne o g) e w
