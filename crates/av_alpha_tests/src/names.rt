@@ -232,6 +232,51 @@ const LIMITS: &[TextRow] = &[
     ("Y = A[2000000] + A[1025i];", N2, "limit coefficient 1025"),
 ];
 
+/// The numbers of indices of a variable, of an equation's brackets, of a map's names and of a reduction's body: each at its limit, and one
+/// above.
+const INDICES: &[TextRow] = &[
+    (
+        "system t (A : {i,j,k,l} of integer) returns (Y : {i} of integer); let Y = 1;",
+        &[],
+        "ok 2",
+    ),
+    (
+        "system t (A : {i,j,k,l,m} of integer) returns (Y : {i} of integer); let Y = 1;",
+        &[],
+        "limit indices 5",
+    ),
+    (
+        "system t () returns (Y : {i,j,k,l} of integer); let Y[a,b,c,d] = 1;",
+        &[],
+        "ok 1",
+    ),
+    (
+        "system t () returns (Y : {i,j,k,l,m} of integer); let Y[a,b,c,d,e] = 1;",
+        &[],
+        "limit indices 5",
+    ),
+    (
+        "system t (A : {i} of integer) returns (Y : {i,j,k,l} of integer); let Y = A.(a,b,c,d->d);",
+        &[],
+        "ok 2",
+    ),
+    (
+        "system t (A : {i} of integer) returns (Y : {i,j,k,l,m} of integer); let Y = A.(a,b,c,d,e->d);",
+        &[],
+        "limit indices 5",
+    ),
+    (
+        "system t () returns (Y : {i,j,k} of integer); let Y = reduce(+, (a,b,c,d->a,b,c), 1);",
+        &[],
+        "ok 1",
+    ),
+    (
+        "system t () returns (Y : {i,j,k,l} of integer); let Y = reduce(+, (a,b,c,d,e->a,b,c,d), 1);",
+        &[],
+        "limit indices 5",
+    ),
+];
+
 fn push_fault(out: &mut String, fault: &NameFault) -> Result<(), Fail> {
     match fault {
         NameFault::Repeated(name, place) => push_both(out, "repeated", name, *place),
@@ -320,7 +365,8 @@ fn answers_the_first_rule(rt: HostRuntime) -> Result<(), Fail> {
     assert_texts(&rt, alloc, &Resolved, "", "", TEXTS)?;
     assert_texts(&rt, alloc, &Resolved, SMALL, " tel;", ALONE)?;
     assert_texts(&rt, alloc, &Resolved, TWO_OUTPUTS, " tel;", TOGETHER)?;
-    assert_texts(&rt, alloc, &Resolved, SMALL, " tel;", LIMITS)
+    assert_texts(&rt, alloc, &Resolved, SMALL, " tel;", LIMITS)?;
+    assert_texts(&rt, alloc, &Resolved, "", " tel;", INDICES)
 }
 
 /// A system of so many variables.

@@ -5,6 +5,8 @@
 #[cfg(test)]
 mod asserts;
 #[cfg(test)]
+mod best;
+#[cfg(test)]
 mod build;
 #[cfg(test)]
 mod data;

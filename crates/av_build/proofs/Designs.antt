@@ -18,6 +18,7 @@ use Rattle.av_build.proofs.Connected.{one_computation}
 use Rattle.av_build.proofs.Headline.{carries, headline}
 use Rattle.av_build.proofs.InArrayForm.{in_array_form, linked}
 use Rattle.av_build.proofs.SoundDesigns.{sound_design}
+use Rattle.av_build.proofs.ValueWidths.{value_widths}
 use Rattle.av_base.proofs.Lists.{some_is}
 
 module _ (w : Width) (t : Timed) (a : Cells) (program : Program) (whole : IsWhole t a) (lanes : Lanes) (is_program : IsProgramFor (array_of t a whole.list.placings) lanes program)
@@ -40,6 +41,7 @@ module _ (w : Width) (t : Timed) (a : Cells) (program : Program) (whole : IsWhol
   design_is = record {
     carries = carries w t a program g whole;
     sound = sound_design w t a program g whole;
+    widths = value_widths w t a program g;
     one_point = λ p c m n y z h k.
         let same = one_node p c m n y z h k in
         (same, one_computation t a whole.legal whole.list p c n y z (subst (λ (i : ℕ). Computes own whole.list.placings a.cells p c i y) same h) k);

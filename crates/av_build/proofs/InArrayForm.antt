@@ -182,10 +182,10 @@ module _ (w : Width) (t : Timed) (a : Cells) (program : Program) (g : IsProgramO
   home_of : (q : ℕ) (lane : Lane) → slice_get program.lanes q ≡ Some lane → lane.home < length a.cells
   home_of q lane is = home_there q lane (g.is_program.only q lane is)
 
-  small : (p : ℕ) → p < length a.cells → p < 10 ^ 64
+  pub small : (p : ℕ) → p < length a.cells → p < 10 ^ 64
   small p lt = (let few = g.small.cells in omega (arith, lt, few))
 
-  small_home : (q : ℕ) (lane : Lane) → slice_get program.lanes q ≡ Some lane → lane.home < 10 ^ 64
+  pub small_home : (q : ℕ) (lane : Lane) → slice_get program.lanes q ≡ Some lane → lane.home < 10 ^ 64
   small_home q lane is = small lane.home (home_of q lane is)
 
   -- ---- declarations
@@ -200,7 +200,7 @@ module _ (w : Width) (t : Timed) (a : Cells) (program : Program) (g : IsProgramO
   if_there P true x h = (h refl, tt)
   if_there P false x h = tt
 
-  wires_each : (P : Port → Type 0) → ((q : ℕ) (lane : Lane) → slice_get program.lanes q ≡ Some lane → (i : ℕ) (x : Width) → P (port x (N.wire q i)))
+  pub wires_each : (P : Port → Type 0) → ((q : ℕ) (lane : Lane) → slice_get program.lanes q ≡ Some lane → (i : ℕ) (x : Width) → P (port x (N.wire q i)))
       → ((q : ℕ) (lane : Lane) → slice_get program.lanes q ≡ Some lane → P (port w (N.value q))) → (counts program ≡ true → P (port counter_width next_name)) → AllByRecursion P m.wires
   wires_each P inner value next =
       each_append P (of_lanes (cell_wires N w) 0 program.lanes) (if_counted program (port counter_width next_name))
@@ -280,7 +280,7 @@ module _ (w : Width) (t : Timed) (a : Cells) (program : Program) (g : IsProgramO
   output_no_wire : (k q p : ℕ) → slice_get program.outputs k ≡ Some q → p < 10 ^ 64 → IsWire p (output_name k) → ⊥
   output_no_wire k q p at sp h = sorts_apart (output_name k) 111 99 (output_sort k (output_small k q at)) (wire_sort p (output_name k) sp h) (λ e. omega (arith, e))
 
-  next_no_wire : (p : ℕ) → p < 10 ^ 64 → IsWire p next_name → ⊥
+  pub next_no_wire : (p : ℕ) → p < 10 ^ 64 → IsWire p next_name → ⊥
   next_no_wire p sp h = sorts_apart next_name 1861 99 next_sort (wire_sort p next_name sp h) (λ e. omega (arith, e))
 
   -- ---- what wires read

@@ -34,6 +34,7 @@ pub mod SpelledNames
 pub mod Sorts
 pub mod CellOperators
 pub mod InArrayForm
+pub mod ValueWidths
 pub mod Designs
 pub mod SoundDesigns
 pub mod SelectionSteps

@@ -28,7 +28,7 @@ use crate::least::least_miscovered;
 use crate::verdict::{Blame, Verdict};
 use av_base::{List, Memory, Name, Point};
 use av_flat::{Flat, Pass, Piece, Var};
-use av_normal::Normal;
+use av_normal::{Normal, NormalFault};
 use av_poly::{Poly, copy_set};
 use std::alloc::Global;
 
@@ -155,6 +155,7 @@ pub fn check(alloc: Global, flat: &Flat) -> Result<(), CheckFault>
 {
     match Normal.run(alloc, flat) {
         Ok(normal) => check_normal(alloc, flat, &normal),
-        Err(_) => Err(CheckFault::Memory),
+        Err(NormalFault::Memory) => Err(CheckFault::Memory),
+        Err(_) => unreachable!(),
     }
 }

@@ -14,13 +14,14 @@ use Rattle.av_compile.specs.Headline.{Headline}
 use Rattle.av_cli.specs.declared.status.Status.{Status}
 use Rattle.av_cli.specs.declared.status.Status.TheVariants.{Done}
 use Rattle.av_cli.specs.Commands.{GiveSizes, IsEmit}
-use Rattle.av_cli.specs.Emits.{RefusesEmit, GivesEmit}
+use Rattle.av_cli.specs.Emits.{GivesEmit}
+use Rattle.av_cli.specs.Tables.{RefusesTable}
 use Rattle.av_cli.specs.inner.WithWords.{RefusesEmitWith, GivesEmitWith}
 use Rattle.av_cli.specs.inner.Written.{IsPut, IsAnswered, refused, given, no_memory}
 use Rattle.av_cli.proofs.GivenSizes.{with_sizes}
 use Rattle.av_cli.proofs.Tabling.{not_unmapped}
 
-pub exclusive_emit : (sizes : List Size) (bits box : ℕ) (bytes reason out : List ℕ) → RefusesEmit sizes bits box bytes reason → GivesEmit sizes bits box bytes out → ⊥
+pub exclusive_emit : (sizes : List Size) (bits box : ℕ) (bytes reason out : List ℕ) → RefusesTable sizes bits box bytes reason → GivesEmit sizes bits box bytes out → ⊥
 exclusive_emit sizes bits box bytes reason out r g = not_unmapped sizes bits box bytes reason g.timed g.cells r g.computes.mapped
 
 -- the text of a sound design is read back as that design alone
@@ -38,7 +39,7 @@ emit_given words sizes bits box bytes t a d give headline put =
 -- the words are those that the command was read from
 pub emit_answered : (words : List (List ℕ)) (bits box : ℕ) (bytes : List ℕ) {sink sink' : SinkState} {status : Status} → ((found : List Size) × IsEmit words bits box found)
     → IsAnswered (RefusesEmitWith words bits box bytes) (GivesEmitWith words bits box bytes) sink sink' status
-    → IsAnswered (λ reason. (sizes : List Size) × IsEmit words bits box sizes × RefusesEmit sizes bits box bytes reason)
+    → IsAnswered (λ reason. (sizes : List Size) × IsEmit words bits box sizes × RefusesTable sizes bits box bytes reason)
     (λ out. (sizes : List Size) × IsEmit words bits box sizes × GivesEmit sizes bits box bytes out)
     sink sink' status
 emit_answered words bits box bytes (found, is) (refused r put) = refused (r.sizes, with_sizes (codes "emit") words bits box found r.sizes is r.give, r.refuses) put

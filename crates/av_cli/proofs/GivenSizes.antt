@@ -184,3 +184,6 @@ run_is_no_size is = let k = text_is (codes "run") is in cc
 
 pub trace_is_no_size : IsSize (codes "trace") → ⊥
 trace_is_no_size is = let k = text_is (codes "trace") is in cc
+
+pub best_is_no_size : IsSize (codes "best") → ⊥
+best_is_no_size is = let k = text_is (codes "best") is in cc

@@ -11,6 +11,7 @@ pub mod Simulating
 pub mod Sent
 pub mod Answered
 pub mod Scheduling
+pub mod LeastSchedules
 pub mod Tabling
 pub mod Emitting
 pub mod Fed

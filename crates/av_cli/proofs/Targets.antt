@@ -1,5 +1,5 @@
 -- The names that drives drive, and the places of those of outputs.
-use Rattle.std.proofs.Common.{◌≡◌, ℕ, ◌+◌, ◌<◌, List, [], ◌∷◌, ◌++◌, length, get_or, Some, slice_get, option_map, sym, ap, ◌∙◌, subst, arith, inl, inr, length-append}
+use Rattle.std.proofs.Common.{◌≡◌, ℕ, ◌+◌, ◌^◌, ◌<◌, List, [], ◌∷◌, ◌++◌, length, get_or, Some, slice_get, option_map, sym, ap, ◌∙◌, subst, arith, inl, inr, length-append}
 use Rattle.std.specs.Prelude.{slice_index, Contains}
 use Rattle.std.proofs.lemmas.Bool.{cases_lt}
 use Rattle.std.proofs.lemmas.List.{get_or-map, length-map, get_or_append_left, get_or-append-add}
@@ -15,6 +15,14 @@ use Rattle.av_data.proofs.Lined.{name_there}
 pub target_name : (drives : List Drive) (i : ℕ) (drive : Drive) → i < length drives → drive ≡ get_or drives i drive → (i < length (targets_of drives)) × (drive.target ≡ get_or (targets_of drives) i drive.target)
 target_name drives i drive lt at =
     (omega (arith, length-map drives (λ (d : Drive). d.target)), ap (λ (d : Drive). d.target) at ∙ sym (get_or-map (λ (d : Drive). d.target) drives i drive drive.target lt))
+
+-- they are as many as the drives
+pub few_targets : (drives : List Drive) (targets : List (List ℕ)) → targets ≡ targets_of drives → length drives < 2 ^ 32 → length targets < 2 ^ 32
+few_targets drives targets is few = subst (λ (ts : List (List ℕ)). length ts < 2 ^ 32) (sym is) (omega (arith, few, length-map drives (λ (d : Drive). d.target)))
+
+-- and names as many as the ports
+pub few_names : (ports : List Port) (names : List (List ℕ)) → names ≡ names_of ports → length ports < 2 ^ 32 → length names < 2 ^ 32
+few_names ports names is few = subst (λ (ns : List (List ℕ)). length ns < 2 ^ 32) (sym is) (omega (arith, few, length-map ports (λ (p : Port). p.name)))
 
 -- an output is driven
 pub output_driven : (m : Module) (k : ℕ) (port : Port) → IsSound m → slice_get m.outputs k ≡ Some port → Contains (targets_of m.drives) port.name

@@ -10,5 +10,6 @@ pub mod Schedules
 pub mod Tables
 pub mod Shown
 pub mod Runs
+pub mod Bests
 pub mod Demos
 pub mod inner

@@ -5,14 +5,15 @@ use Rattle.av_base.specs.Outside.{Takes, Adds, AddsPrefix, IsAtEnd}
 use Rattle.av_names.specs.declared.size.Size.{Size}
 use Rattle.av_cli.specs.declared.status.Status.{Status}
 use Rattle.av_cli.specs.declared.status.Status.TheVariants.{Done, Refused, Words, ReadFault, WriteFault, Memory}
-use Rattle.av_cli.specs.Commands.{IsCheck, IsSchedule, IsTable, IsEmit, IsRun, IsTrace, IsSim, IsDemo, TakeInput, AskDemo, AreRead, usage_line}
+use Rattle.av_cli.specs.Commands.{IsCheck, IsSchedule, IsTable, IsEmit, IsRun, IsTrace, IsBest, IsSim, IsDemo, TakeInput, AskDemo, AreRead, usage_line}
 use Rattle.av_cli.specs.Refusals.{refusal_line}
 use Rattle.av_cli.specs.Checks.{RefusesCheck, GivesCheck}
 use Rattle.av_cli.specs.Schedules.{RefusesSchedule, GivesSchedule}
 use Rattle.av_cli.specs.Tables.{RefusesTable, GivesTable}
-use Rattle.av_cli.specs.Emits.{RefusesEmit, GivesEmit}
+use Rattle.av_cli.specs.Emits.{GivesEmit}
 use Rattle.av_cli.specs.Sims.{RefusesSim, GivesSim}
 use Rattle.av_cli.specs.Runs.{RefusesRun, GivesResults, GivesTrace}
+use Rattle.av_cli.specs.Bests.{RefusesBest, GivesBest}
 use Rattle.av_cli.specs.Demos.{GivesDemo}
 
 -- ---- refusals, in their order
@@ -21,13 +22,14 @@ use Rattle.av_cli.specs.Demos.{GivesDemo}
 abbrev pub IsRefused : List (List ℕ) → List ℕ → List ℕ → Type 0
 IsRefused words bytes reason =
     ((1048576 < length bytes) × TakeInput words × (reason ≡ codes "too long"))
-    ⊎ ((length bytes ≤ 1048576) × ((bits : ℕ) × (box : ℕ) × (sizes : List Size) × IsEmit words bits box sizes × RefusesEmit sizes bits box bytes reason))
+    ⊎ ((length bytes ≤ 1048576) × ((bits : ℕ) × (box : ℕ) × (sizes : List Size) × IsEmit words bits box sizes × RefusesTable sizes bits box bytes reason))
     ⊎ ((length bytes ≤ 1048576) × IsSim words × RefusesSim bytes reason)
     ⊎ ((length bytes ≤ 1048576) × ((bits : ℕ) × (sizes : List Size) × IsCheck words bits sizes × RefusesCheck sizes bits bytes reason))
     ⊎ ((length bytes ≤ 1048576) × ((bits : ℕ) × (box : ℕ) × (sizes : List Size) × IsSchedule words bits box sizes × RefusesSchedule sizes bits box bytes reason))
     ⊎ ((length bytes ≤ 1048576) × ((bits : ℕ) × (box : ℕ) × (sizes : List Size) × IsTable words bits box sizes × RefusesTable sizes bits box bytes reason))
     ⊎ ((length bytes ≤ 1048576) × ((bits : ℕ) × (box : ℕ) × (sizes : List Size) × IsRun words bits box sizes × RefusesRun sizes bits box bytes reason))
     ⊎ ((length bytes ≤ 1048576) × ((bits : ℕ) × (box : ℕ) × (sizes : List Size) × IsTrace words bits box sizes × RefusesRun sizes bits box bytes reason))
+    ⊎ ((length bytes ≤ 1048576) × ((bits : ℕ) × (box : ℕ) × (sizes : List Size) × IsBest words bits box sizes × RefusesBest sizes bits box bytes reason))
 
 -- ---- what is written
 
@@ -127,6 +129,18 @@ pub record WritesTrace (words : List (List ℕ)) (left left' : Option (List ℕ)
   pub within : length taken ≤ 1048576
   pub gives : GivesTrace sizes bits box taken out
 
+-- the output of `best`: the lines of the least schedule of the text which the source gave up to its end, and its length
+pub record WritesBest (words : List (List ℕ)) (left left' : Option (List ℕ)) (out : List ℕ) : Type 0 where
+  pub bits : ℕ
+  pub box : ℕ
+  pub sizes : List Size
+  pub read : IsBest words bits box sizes
+  pub taken : List ℕ
+  pub takes : Takes left left' taken
+  pub whole : IsAtEnd left'
+  pub within : length taken ≤ 1048576
+  pub gives : GivesBest sizes bits box taken out
+
 -- the output of `demo`: the totals of an array and the sum of what it computes; the source is as it was
 pub record WritesDemo (words : List (List ℕ)) (left left' : Option (List ℕ)) (out : List ℕ) : Type 0 where
   pub bits : ℕ
@@ -146,6 +160,7 @@ WritesOutput words left left' out =
     ⊎ WritesTable words left left' out
     ⊎ WritesResults words left left' out
     ⊎ WritesTrace words left left' out
+    ⊎ WritesBest words left left' out
     ⊎ WritesDemo words left left' out
 
 -- what a status writes, where it writes something whole

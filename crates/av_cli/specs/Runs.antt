@@ -21,7 +21,7 @@ use Rattle.av_compile.specs.Mapped.{IsMapped}
 use Rattle.av_compile.specs.Headline.{Headline}
 use Rattle.av_cli.specs.Refusals.{data_reason}
 use Rattle.av_cli.specs.Commands.{GiveSizes}
-use Rattle.av_cli.specs.Emits.{RefusesEmit}
+use Rattle.av_cli.specs.Tables.{RefusesTable}
 use Rattle.av_cli.specs.Simulated.{run_lines}
 use Rattle.av_cli.specs.Shown.{IsFedRun}
 
@@ -30,7 +30,7 @@ use Rattle.av_cli.specs.Shown.{IsFedRun}
 -- there is no mark, or `emit` refuses the text before it, or what follows it is no data for the text's inputs
 pub data RefusesRun (sizes : List Size) (bits box : ℕ) (bytes reason : List ℕ) : Type 0 where
   no_mark : HasNoMark bytes → reason ≡ codes "no mark" → RefusesRun sizes bits box bytes reason
-  bad_system : {before rest : List ℕ} {first : ℕ} → IsDivided bytes before rest first → RefusesEmit sizes bits box before reason → RefusesRun sizes bits box bytes reason
+  bad_system : {before rest : List ℕ} {first : ℕ} → IsDivided bytes before rest first → RefusesTable sizes bits box before reason → RefusesRun sizes bits box bytes reason
   bad_data : {before rest : List ℕ} {first : ℕ} {timed : Timed} {cells : Cells} (fault : DataFault) → IsDivided bytes before rest first → IsMapped before sizes bits box timed cells
       → IsInputFault (view_system timed.flat) first rest fault → reason ≡ data_reason fault → RefusesRun sizes bits box bytes reason
 

@@ -1,11 +1,15 @@
 -- What a design shows of words that its inputs are given: one run of it, and the words of the listed wires in their cycles.
-use Rattle.std.specs.Prelude.{◌≡◌, ℕ, ◌<◌, List, map, Some, All}
+use Rattle.std.specs.Prelude.{◌≡◌, ℕ, ◌<◌, ◌≤◌, ℤ, nat_abs, List, map, Some, All}
 use Rattle.av_net.specs.declared.netlist.Port.{Port}
 use Rattle.av_net.specs.declared.design.Entry.{Entry}
 use Rattle.av_net.specs.declared.design.Design.{Design}
 use Rattle.av_net.specs.Meaning.{Words}
 use Rattle.av_net.specs.Clocked.{Stream, Run, IsRun}
 use Rattle.av_net.specs.Shown.{Values}
+
+-- the entries of a point that may be listed
+abbrev pub AreSmall : List ℤ → Type 0
+AreSmall point = All (λ i. nat_abs i ≤ 4095) point
 
 -- no line presents a point at this port in this cycle
 abbrev pub IsIdle : List Entry → ℕ → List ℕ → Type 0

@@ -1,13 +1,15 @@
-//! The lines of refusals of Alpha texts.
+//! The lines of refusals of Alpha texts, and of systems without a least schedule.
 
 ghost use Rattle.std.specs.Prelude.{◌≡◌, ◌++◌, codes, decimal, OnOk, OnErr, IsErr};
 ghost use Rattle.av_base.specs.Outside.{Adds, AddsPrefix, HasRisen};
 ghost use Rattle.av_page.specs.Pages.{Puts};
 ghost use Rattle.av_cli.specs.Refusals.{refusal_line, place_text};
 ghost use Rattle.av_cli.specs.AlphaRefusals.{quantity_text, named_point, blame_text, alpha_reason};
+ghost use Rattle.av_cli.specs.Bests.{best_reason};
 
 use crate::refusals::{put_name, put_place};
 use av_base::{Name, Place, Point, Sink, WriteFault};
+use av_best::BestFault;
 use av_compile::Refusal;
 use av_flat::Quantity;
 use av_page::Page;
@@ -149,6 +151,29 @@ pub(crate) fn write_alpha_refusal<K: Sink>(
     let mut page = Page::new();
     page.put(sink, "refused: ");
     put_alpha_reason(&mut page, sink, refusal);
+    page.put(sink, "\n");
+    page.finish(sink)
+}
+
+fn put_best_reason<K: Sink>(page: &mut Page, sink: &mut K, fault: &BestFault)
+    ensures { Puts (K.state sink.old) (K.state sink.new) page.old page.new (best_reason fault.now) }
+{
+    match fault {
+        BestFault::JointCandidates(amount) => put_amount(page, sink, "joint candidates ", *amount),
+        BestFault::NoSchedule(name) => put_name(page, sink, "no schedule ", name),
+        BestFault::Memory => page.put(sink, ""),
+    }
+}
+
+/// Writes the line that says why there is no least schedule.
+pub(crate) fn write_best_refusal<K: Sink>(fault: &BestFault, sink: &mut K) -> Result<(), WriteFault>
+    ensures added { OnOk result (Adds (K.state sink.old).held (K.state sink.new).held (refusal_line (best_reason fault.now))) }
+    ensures fault { IsErr result → HasRisen (K.state sink.old).faults (K.state sink.new).faults }
+    ensures front { OnErr result (AddsPrefix (K.state sink.old).held (K.state sink.new).held (refusal_line (best_reason fault.now))) }
+{
+    let mut page = Page::new();
+    page.put(sink, "refused: ");
+    put_best_reason(&mut page, sink, fault);
     page.put(sink, "\n");
     page.finish(sink)
 }

@@ -6,12 +6,12 @@ ghost use Rattle.av_base.specs.Outside.{Adds, AddsPrefix, HasRisen};
 ghost use Rattle.av_base.specs.Words.{residue, IsWord};
 ghost use Rattle.av_data.specs.Tables.{totals_line};
 ghost use Rattle.av_cli.specs.Demos.{product_sizes, GivesDemo};
+ghost use Rattle.av_cli.specs.Shown.{AreSmall};
 ghost use Rattle.av_cli.specs.inner.DemoData.{entry, entries, IsEntered, IsSummed};
-ghost use Rattle.av_cli.specs.inner.Feeding.{AreSmall};
 ghost use Rattle.av_cli.specs.inner.Outputs.{PutsOneOf};
 ghost use Rattle.av_cli.specs.inner.Watching.{bits_of};
 
-use crate::showing::{Data, shown_of};
+use crate::showing::{Data, shown};
 use crate::status::Status;
 use av_base::{List, Memory, Name, Point, Sink, Width, Word, WriteFault};
 use av_compile::{Compiled, compile};
@@ -96,7 +96,7 @@ fn multiply<K: Sink>(alloc: Global, compiled: &Compiled, width: Width, sink: &mu
     requires { IsEntered compiled.now.design width.bits }
     ensures { PutsOneOf (IsSummed compiled.now.cells compiled.now.design width.bits) (K.state sink.old) (K.state sink.new) result }
 {
-    match shown_of(alloc, &compiled.design, &Entries { width }) {
+    match shown(alloc, &compiled.design, &Entries { width }) {
         Err(Memory) => Status::Memory,
         Ok(words) => {
             let total = total_of(words.as_slice(), width);

@@ -2,6 +2,7 @@
 #![tactic(auto)]
 
 mod alpha_refusals;
+mod best;
 mod check;
 mod demo;
 mod emit;
@@ -23,6 +24,6 @@ mod table;
 mod words;
 
 pub use program::alphav;
-pub use showing::shown;
+pub use showing::{Data, shown};
 pub use standard::{StdSink, StdSource};
 pub use status::Status;

@@ -1,10 +1,12 @@
 ghost use Rattle.std.specs.Prelude.{◌≡◌, ◌≤◌, length};
 ghost use Rattle.av_base.specs.Outside.{HasRisen};
+ghost use Rattle.av_cli.specs.Commands.{TakeInput};
 ghost use Rattle.av_cli.specs.Program.{AddsWhole, AddsFront, IsComplete};
 ghost use Rattle.av_cli.specs.inner.Written.{IsAnswered};
 ghost use Rattle.av_cli.specs.inner.Asked.{Refuses, Gives};
 ghost use Rattle.av_cli.specs.inner.CommandsSeen.{Are};
 
+use crate::best::best;
 use crate::check::check;
 use crate::demo::demo;
 use crate::emit::emit;
@@ -20,7 +22,7 @@ use av_base::{Name, ReadAll, Sink, Source, read_all};
 use std::alloc::Global;
 
 const USAGE: &str =
-    "usage: alphav check|schedule|table|emit|run|trace [--width W] [--box C] [NAME=VALUE ...] | sim | demo K\n";
+    "usage: alphav check|schedule|table|emit|run|trace|best [--width W] [--box C] [NAME=VALUE ...] | sim | demo K\n";
 
 const TOO_LONG: &str = "refused: too long\n";
 
@@ -33,7 +35,7 @@ pub fn alphav<S: Source, K: Sink>(
     sink: &mut K,
 ) -> Status
     ensures words { result ≡ Status.Words → AddsWhole Status.Words words.now (S.left source.old) (S.left source.new) (K.state sink.old).held (K.state sink.new).held }
-    ensures untouched { result ≡ Status.Words → source.new ≡ source.old }
+    ensures untouched { (TakeInput words.now → ⊥) → source.new ≡ source.old }
     ensures refused { result ≡ Status.Refused → AddsWhole Status.Refused words.now (S.left source.old) (S.left source.new) (K.state sink.old).held (K.state sink.new).held }
     ensures done { result ≡ Status.Done → AddsWhole Status.Done words.now (S.left source.old) (S.left source.new) (K.state sink.old).held (K.state sink.new).held }
 
@@ -82,6 +84,7 @@ fn answer<K: Sink>(
         Command::Trace { width, reach } => {
             answer_run(alloc, words, bytes, width, reach, Report::Trace, sink)
         }
+        Command::Best { width, reach } => best(alloc, words, bytes, width, reach, sink),
         Command::Sim => sim(alloc, bytes, sink),
         Command::Demo { width, reach, size } => demo(alloc, size, width, reach, sink),
     }

@@ -1,6 +1,6 @@
 //! Texts that are put into a sink.
 
-ghost use Rattle.std.specs.Prelude.{◌≡◌};
+ghost use Rattle.std.specs.Prelude.{◌≡◌, ◌++◌};
 ghost use Rattle.av_net.specs.Texts.{text};
 ghost use Rattle.av_flat.specs.Legal.{IsLegal};
 ghost use Rattle.av_data.specs.Schedules.{schedule_text};
@@ -9,14 +9,18 @@ ghost use Rattle.av_space.specs.Arrays.{IsArrayOf};
 ghost use Rattle.av_vread.specs.declared.fault.VFault.TheVariants as verilog_fault;
 ghost use Rattle.av_data.specs.declared.fault.DataFault.TheVariants as data_fault;
 ghost use Rattle.av_compile.specs.declared.refusal.Refusal.TheVariants as alpha_refusal;
+ghost use Rattle.av_best.specs.declared.fault.BestFault.TheVariants as best_fault;
 ghost use Rattle.av_cli.specs.Refusals.{refusal_line, verilog_reason, data_reason};
 ghost use Rattle.av_cli.specs.AlphaRefusals.{alpha_reason};
+ghost use Rattle.av_cli.specs.Bests.{best_reason, cycles_line};
 ghost use Rattle.av_cli.specs.inner.Written.{IsPut};
 
-use crate::alpha_refusals::write_alpha_refusal;
+use crate::alpha_refusals::{write_alpha_refusal, write_best_refusal};
+use crate::best::write_least_schedule;
 use crate::refusals::{write_data_refusal, write_verilog_refusal};
 use crate::status::Status;
 use av_base::{Sink, write_all};
+use av_best::BestFault;
 use av_compile::{Array, Refusal};
 use av_data::{DataFault, write_schedule, write_table};
 use av_flat::Timed;
@@ -102,6 +106,31 @@ pub(crate) fn put_alpha_refusal<K: Sink>(sink: &mut K, refusal: &Refusal) -> Sta
     match refusal {
         Refusal::Memory => Status::Memory,
         _ => match write_alpha_refusal(refusal, sink) {
+            Ok(()) => Status::Refused,
+            Err(_) => Status::WriteFault,
+        },
+    }
+}
+
+/// Adds the lines of the schedule, and its length.
+pub(crate) fn put_least_schedule<K: Sink>(sink: &mut K, timed: &Timed, cycles: u64) -> Status
+    requires { IsLegal timed.now }
+    ensures { IsPut (K.state sink.old) (K.state sink.new) (schedule_text timed.now ++ cycles_line cycles) Status.Done result }
+{
+    match write_least_schedule(timed, cycles, sink) {
+        Ok(()) => Status::Done,
+        Err(_) => Status::WriteFault,
+    }
+}
+
+/// Adds the line that says why there is no least schedule. Out of memory has no line: the status tells it.
+pub(crate) fn put_best_refusal<K: Sink>(sink: &mut K, fault: &BestFault) -> Status
+    ensures memory { fault.now ≡ best_fault.Memory → (result ≡ Status.Memory) × ((K.state sink.new).held ≡ (K.state sink.old).held) }
+    ensures refused { (fault.now ≡ best_fault.Memory → ⊥) → IsPut (K.state sink.old) (K.state sink.new) (refusal_line (best_reason fault.now)) Status.Refused result }
+{
+    match fault {
+        BestFault::Memory => Status::Memory,
+        _ => match write_best_refusal(fault, sink) {
             Ok(()) => Status::Refused,
             Err(_) => Status::WriteFault,
         },

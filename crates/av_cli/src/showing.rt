@@ -1,6 +1,6 @@
 //! What a design shows of words that its inputs are given.
 
-ghost use Rattle.std.specs.Prelude.{◌≡◌, ◌<◌, ◌≤◌, ◌+◌, ◌∷◌, [], map, length, drop, slice_get, Some, None, IsTrue, All, AllPairs, Contains, IfOk, OnOk, IfSome, IfNone};
+ghost use Rattle.std.specs.Prelude.{◌≡◌, ◌<◌, ◌≤◌, ◌+◌, ◌^◌, ◌∷◌, [], map, length, drop, slice_get, Some, None, IsTrue, All, AllPairs, Contains, IfOk, OnOk, IfSome, IfNone};
 ghost use Rattle.av_net.specs.Clocked.{Stream as Ports, Run as Clocked, IsRun};
 ghost use Rattle.av_net.specs.Designs.{IsSoundDesign};
 ghost use Rattle.av_net.specs.Names.{names_of, targets_of, wire_names, AreDistinct};
@@ -11,11 +11,11 @@ ghost use Rattle.av_clock.specs.Seen.{carried};
 ghost use Rattle.av_data.specs.Inputs.{words_of};
 ghost use Rattle.av_cli.specs.Simulated.{IsStimulated};
 ghost use Rattle.av_cli.specs.inner.Clocking.{AreLeft};
-ghost use Rattle.av_cli.specs.Shown.{AreShown};
-ghost use Rattle.av_cli.specs.inner.Feeding.{AreSmall, AreOfLines};
+ghost use Rattle.av_cli.specs.Shown.{AreSmall, AreShown};
+ghost use Rattle.av_cli.specs.inner.Feeding.{AreOfLines};
 ghost use Rattle.av_cli.specs.inner.Watching.{bits_of, AreTaps, noted, watched};
 
-use crate::simulation::{place_of, present, targets, zeros};
+use crate::simulation::{are_numbered, place_of, present, targets, zeros};
 use av_base::{List, Memory, Name, Point, Word};
 use av_clock::Clock;
 use av_data::{Given, Inputs, Stimulus, Timeline};
@@ -23,11 +23,12 @@ use av_net::{Design, Entry, Module, Port};
 use av_table::NameSet;
 use std::alloc::Global;
 
-/// Words of the points of inputs.
-pub(crate) trait Data {
+/// Words of the points of inputs: those of `Inputs`, or others that are not kept but computed.
+pub trait Data {
     ghost words: { Self → Values };
 
-    /// The word of a point, where it has one.
+    /// The word of a point of the input with this name, or `None` where it has none. No entry of the point is greater than 4,095 in
+    /// absolute value.
     fn word(&self, variable: &Name, point: &Point) -> Option<Word>
         requires { AreSmall point.now }
         ensures some { IfSome result (λ word. words self.now variable.now point.now ≡ Some word.bits) }
@@ -46,28 +47,14 @@ impl Data for Inputs {
 ///
 /// The registers are 0 before the reset edge. In the cycle of each `in` line its port carries the word of its point, and every port
 /// carries 0 in all other cycles and at the reset edge.
-pub fn shown(alloc: Global, design: &Design, inputs: &Inputs) -> Result<List<Word>, Memory>
+pub fn shown<D: Data>(alloc: Global, design: &Design, inputs: &D) -> Result<List<Word>, Memory>
     requires sound { IsSoundDesign design.now }
     requires apart { AreApart design.now.listing.ins }
-    requires words { HaveFittingWords design.now (words_of inputs.now) }
-    ensures { IfOk result (λ words. AreShown design.now (words_of inputs.now) (map (λ w. w.bits) words)) }
-{
-    shown_of(alloc, design, inputs)
-}
-
-/// The same with any words of points.
-pub(crate) fn shown_of<D: Data>(
-    alloc: Global,
-    design: &Design,
-    values: &D,
-) -> Result<List<Word>, Memory>
-    requires sound { IsSoundDesign design.now }
-    requires apart { AreApart design.now.listing.ins }
-    requires words { HaveFittingWords design.now (D.words values.now) }
-    ensures { IfOk result (λ words. AreShown design.now (D.words values.now) (bits_of words)) }
+    requires words { HaveFittingWords design.now (D.words inputs.now) }
+    ensures { IfOk result (λ words. AreShown design.now (D.words inputs.now) (map (λ w. w.bits) words)) }
 {
     let lines = design.listing.ats.as_slice();
-    let stimulus = feed(alloc, design, values, cycles_of(lines))?;
+    let stimulus = feed(alloc, design, inputs, cycles_of(lines))?;
     watch(alloc, &design.module, &stimulus, lines)
 }
 
@@ -85,10 +72,10 @@ pub(crate) fn feed<D: Data>(
     ensures values { IfOk result (λ s. AreOfLines design.now (D.words values.now) (length design.now.listing.ins) s.values) }
 {
     let ports = port_places(alloc, design.module.inputs.as_slice())?;
+    are_numbered(&design.module.inputs);
     let mut timeline = Timeline::new(alloc);
     for line in design.listing.ins.as_slice() {
-        let given = given_of(&ports, values, line)?;
-        timeline.give(given)?;
+        timeline.give(given_of(&ports, values, line))?;
     }
     Ok(Stimulus {
         cycles,
@@ -109,21 +96,22 @@ fn port_places(alloc: Global, ports: &[Port]) -> Result<NameSet<'_>, Memory>
 }
 
 // What a line presents.
-fn given_of<D: Data>(ports: &NameSet, values: &D, line: &Entry) -> Result<Given, Memory>
+fn given_of<D: Data>(ports: &NameSet, values: &D, line: &Entry) -> Given
     requires port { Contains ports.now line.now.wire }
+    requires few { length ports.now < 2 ^ 32 }
     requires small { AreSmall line.now.point }
     requires some { IfNone (D.words values.now line.now.variable line.now.point) ⊥ }
-    ensures cycle { IfOk result (λ g. g.cycle ≡ line.now.cycle) }
-    ensures port { IfOk result (λ g. slice_get ports.now g.port ≡ Some line.now.wire) }
-    ensures word { IfOk result (λ g. D.words values.now line.now.variable line.now.point ≡ Some g.value) }
+    ensures cycle { result.cycle ≡ line.now.cycle }
+    ensures port { slice_get ports.now result.port ≡ Some line.now.wire }
+    ensures word { D.words values.now line.now.variable line.now.point ≡ Some result.value }
 {
-    let port = place_of(ports, &line.wire)?;
+    let port = place_of(ports, &line.wire);
     match values.word(&line.variable, &line.point) {
-        Some(word) => Ok(Given {
+        Some(word) => Given {
             cycle: line.cycle,
             port,
             value: word.bits,
-        }),
+        },
         None => unreachable!(),
     }
 }
@@ -149,9 +137,10 @@ fn taps(alloc: Global, of: &Module, lines: &[Entry]) -> Result<List<u32>, Memory
     ensures { IfOk result (λ taps. AreTaps of.now lines.now (length lines.now) taps) }
 {
     let targets = targets(alloc, of.drives.as_slice())?;
+    are_numbered(&of.drives);
     let mut taps = List::new(alloc);
     for line in lines {
-        taps.push(place_of(&targets, &line.wire)?)?;
+        taps.push(place_of(&targets, &line.wire))?;
     }
     Ok(taps)
 }
@@ -179,9 +168,7 @@ fn watch(
     ensures { IfOk result (λ words. (stream : Ports) (run : Clocked) → IsStimulated of.now stimulus.now stream → IsRun of.now stimulus.now.cycles stream run
         → bits_of words ≡ watched run.in_cycle stimulus.now.cycles lines.now) }
 {
-    let Ok(inputs) = u32::try_from(of.inputs.as_slice().len()) else {
-        return Err(Memory);
-    };
+    let inputs = of.inputs.len() as u32;
     let taps = taps(alloc, of, lines)?;
     let mut clock = Clock::new(alloc, of)?;
     let mut ports = zeros(alloc, of.inputs.as_slice().len())?;

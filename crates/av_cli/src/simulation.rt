@@ -1,6 +1,6 @@
 //! A module that is clocked under a stimulus.
 
-ghost use Rattle.std.specs.Prelude.{◌≡◌, ◌<◌, ◌≤◌, ◌+◌, ◌++◌, IsTrue, length, take, drop, slice_get, Some, Contains, IfOk, OnOk, OnErr, IsErr};
+ghost use Rattle.std.specs.Prelude.{◌≡◌, ◌<◌, ◌≤◌, ◌+◌, ◌++◌, ◌^◌, IsTrue, length, take, drop, slice_get, Some, Contains, IfOk, OnOk, OnErr, IsErr};
 ghost use Rattle.av_base.specs.Outside.{Adds, AddsPrefix, HasRisen};
 ghost use Rattle.av_net.specs.Clocked.{Stream as Inputs, Run as Clocked, IsRun};
 ghost use Rattle.av_net.specs.Names.{AreDistinct, names_of, targets_of};
@@ -62,16 +62,21 @@ pub(crate) fn targets(alloc: Global, drives: &[Drive]) -> Result<NameSet<'_>, Me
     Ok(targets)
 }
 
-/// The place of a name, as a number of 32 bits. With so many names that it is greater the answer is out of memory.
-pub(crate) fn place_of(targets: &NameSet, name: &Name) -> Result<u32, Memory>
-    requires { Contains targets.now name.now }
-    ensures { IfOk result (λ place. slice_get targets.now place ≡ Some name.now) }
+/// 32 bits number the items of a list.
+pub(crate) fn are_numbered<T>(items: &List<T>)
+    ensures { length items.now < 2 ^ 32 }
+{
+    let _count = items.len();
+}
+
+/// The place of a name, as a number of 32 bits.
+pub(crate) fn place_of(targets: &NameSet, name: &Name) -> u32
+    requires among { Contains targets.now name.now }
+    requires few { length targets.now < 2 ^ 32 }
+    ensures { slice_get targets.now result ≡ Some name.now }
 {
     match targets.find(name.as_str().as_bytes()) {
-        Some(place) => match u32::try_from(place) {
-            Ok(place) => Ok(place),
-            Err(_) => Err(Memory),
-        },
+        Some(place) => place as u32,
         None => unreachable!(),
     }
 }
@@ -82,9 +87,10 @@ fn wires(alloc: Global, of: &Module) -> Result<List<u32>, Memory>
     ensures { IfOk result (λ wires. AreWires of.now (length of.now.outputs) wires) }
 {
     let targets = targets(alloc, of.drives.as_slice())?;
+    are_numbered(&of.drives);
     let mut wires = List::new(alloc);
     for port in of.outputs.as_slice() {
-        wires.push(place_of(&targets, &port.name)?)?;
+        wires.push(place_of(&targets, &port.name))?;
     }
     Ok(wires)
 }
@@ -105,9 +111,6 @@ pub(crate) fn make_ready<'a>(alloc: Global, of: &'a Module) -> Result<Prepared<'
     requires { IsSound of.now }
     ensures { IfOk result (λ parts. IsPrepared of.now parts) }
 {
-    let Ok(inputs) = u32::try_from(of.inputs.as_slice().len()) else {
-        return Err(Memory);
-    };
     let ports = header_ports(alloc, of)?;
     let words = zeros(alloc, ports.as_slice().len())?;
     Ok(Prepared {
@@ -115,7 +118,7 @@ pub(crate) fn make_ready<'a>(alloc: Global, of: &'a Module) -> Result<Prepared<'
         ports,
         wires: wires(alloc, of)?,
         words,
-        inputs,
+        inputs: of.inputs.len() as u32,
     })
 }
 

@@ -44,6 +44,11 @@ pub(crate) enum Command {
         width: Width,
         reach: Reach,
     },
+    /// The least schedule of a system in a box, and its length. Its sizes stand in the words.
+    Best {
+        width: Width,
+        reach: Reach,
+    },
     /// The run of a module under a stimulus.
     Sim,
     /// The product of two matrices of a size, by an array.
@@ -67,6 +72,7 @@ impl Command {
             | Command::Emit { .. }
             | Command::Run { .. }
             | Command::Trace { .. }
+            | Command::Best { .. }
             | Command::Sim => true,
         }
     }
@@ -101,6 +107,10 @@ pub(crate) fn read_words(words: &[Name]) -> Option<Command>
         "trace" => {
             let (width, reach) = read_width_and_reach(words)?;
             Some(Command::Trace { width, reach })
+        }
+        "best" => {
+            let (width, reach) = read_width_and_reach(words)?;
+            Some(Command::Best { width, reach })
         }
         "sim" if is_bare(words) => Some(Command::Sim),
         "demo" => {

@@ -5,7 +5,11 @@
 #[cfg(test)]
 mod answers;
 #[cfg(test)]
+mod bests;
+#[cfg(test)]
 mod checks;
+#[cfg(test)]
+mod demos;
 #[cfg(test)]
 mod designs;
 #[cfg(test)]

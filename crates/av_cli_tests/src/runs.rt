@@ -275,37 +275,6 @@ fn the_words_the_text_and_the_data_fix_status_and_output(rt: HostRuntime) -> Res
     Ok(())
 }
 
-// The size and the box of a demo.
-const DEMOS: &[(&str, &str)] = &[
-    ("1", "--box=1"),
-    ("1", "--box=2"),
-    ("1", "--box=3"),
-    ("1", "--box=4"),
-    ("3", "--box=1"),
-    ("3", "--box=2"),
-    ("3", "--box=3"),
-    ("3", "--box=4"),
-    ("5", "--box=1"),
-    ("5", "--box=2"),
-    ("5", "--box=3"),
-    ("5", "--box=4"),
-    ("9", "--box=1"),
-    ("9", "--box=2"),
-    ("9", "--box=3"),
-    ("9", "--box=4"),
-];
-
-#[test]
-fn no_size_of_a_demo_meets_a_limit(rt: HostRuntime) -> Result<(), Fail> {
-    let alloc = rt.alloc();
-    for (size, reach) in DEMOS {
-        let words = ["demo", size, reach, "--width=1"];
-        let answer = answered(alloc, &words, joined(alloc, &[])?, 256)?;
-        assert_eq!(rt; answer.status, Status::Done, "{words:?}");
-    }
-    Ok(())
-}
-
 // Runs the increment on three words: this call of the source fails.
 fn answer_three(alloc: Global, call: Option<u64>, sink: &mut MemSink) -> Result<Status, Fail> {
     let input = joined(alloc, &[INCREMENT, "%%\n", THREE_WORDS])?;

@@ -1,6 +1,6 @@
 -- From the fields of a clock to what is seen of it.
-use Rattle.std.proofs.Common.{◌≡◌, ◌≢◌, ℕ, ◌+◌, ◌-◌, ◌^◌, ◌<◌, ◌≤◌, min, List, ◌++◌, length, get_or, set, slice_get, Option, Some, None, refl, sym, ◌∙◌, ap, subst, arith, Bool, true, false, Vec, inl, inr, replicate, length-append}
-use Rattle.std.specs.Prelude.{Contains, IfSome, IsTrue}
+use Rattle.std.proofs.Common.{◌≡◌, ◌≢◌, ℕ, zero, suc, ◌+◌, ◌-◌, ◌^◌, ◌<◌, ◌≤◌, min, List, ◌++◌, length, get_or, set, slice_get, Option, Some, None, refl, sym, ◌∙◌, ap, subst, arith, Bool, true, false, Vec, inl, inr, replicate, length-append}
+use Rattle.std.specs.Prelude.{Contains, IfSome, IsTrue, if◌then◌else◌}
 use Rattle.std.specs.Option.{ForSome}
 use Rattle.std.specs.declared.alloc.Global.{Global}
 use Rattle.std.specs.Vec.{with_items}
@@ -18,7 +18,7 @@ use Rattle.av_net.specs.declared.netlist.Step.{Step}
 use Rattle.av_net.specs.declared.netlist.Module.{Module}
 use Rattle.av_net.specs.Meaning.{Words}
 use Rattle.av_net.specs.Names.{AreDistinct, names_of, given_names, wire_names, all_names, width_of}
-use Rattle.av_net.specs.Settled.{Settled, Agree}
+use Rattle.av_net.specs.Settled.{Settled, Agree, Holds}
 use Rattle.av_net.specs.Clocked.{Edge}
 use Rattle.av_net.specs.Sound.{IsSound}
 use Rattle.av_net.proofs.Cycles.{is_declared, register_contained}
@@ -59,7 +59,7 @@ pub settled_call : (m : Module) (v : Vec ℕ Global) (before new : List ℕ) →
 settled_call m v before new same is h = let P : List ℕ → Type 0 = λ words. Settled m (named m words) in subst P (sym (new_items v before new same is)) h
 
 -- and what it says of both
-pub agree_call : (s : Seen) (m : Module) (v : Vec ℕ Global) (before new : List ℕ) (names : List (List ℕ)) (b : Bool) (w : ℕ) → record { of = m; words = v.items; settled = b; work = w } ≡ s → length new ≡ length before → before ≡ v.items
+pub agree_call : {ms : List Bool} (s : Seen) (m : Module) (v : Vec ℕ Global) (before new : List ℕ) (names : List (List ℕ)) (b : Bool) (w : ℕ) → record { of = m; words = v.items; settled = b; work = w; marked = ms } ≡ s → length new ≡ length before → before ≡ v.items
     → Agree names (named m before) (named m new) → Agree names (carried s) (named m (with_items v new).items)
 agree_call s m v before new names b w view same is h =
     let P : List ℕ → Type 0 = λ words. Agree names (named m v.items) (named m words) in
@@ -111,7 +111,7 @@ if_some None P h = tt
 if_some (Some x) P h = h x refl
 
 -- the port has the word
-pub set_port : (s : Seen) (m : Module) (words : List ℕ) (b : Bool) (w : ℕ) (k value : ℕ) → record { of = m; words = words; settled = b; work = w } ≡ s → IsSound m → length words ≡ length (all_names m) → IfSome (slice_get s.of.inputs k) (λ port. named m (set words k value) port.name ≡ value)
+pub set_port : {ms : List Bool} (s : Seen) (m : Module) (words : List ℕ) (b : Bool) (w : ℕ) (k value : ℕ) → record { of = m; words = words; settled = b; work = w; marked = ms } ≡ s → IsSound m → length words ≡ length (all_names m) → IfSome (slice_get s.of.inputs k) (λ port. named m (set words k value) port.name ≡ value)
 set_port s m words b w k value view sound same =
     let of : m ≡ s.of = ap (λ (s : Seen). s.of) view in
     if_some (slice_get s.of.inputs k) (λ port. named m (set words k value) port.name ≡ value) (λ port at.
@@ -119,7 +119,7 @@ set_port s m words b w k value view sound same =
     rw wrote (with_word_same (named m words) port.name value))
 
 -- and every other name its own
-pub set_others : (s : Seen) (m : Module) (words : List ℕ) (b : Bool) (w : ℕ) (k value : ℕ) → record { of = m; words = words; settled = b; work = w } ≡ s → IsSound m → length words ≡ length (all_names m)
+pub set_others : {ms : List Bool} (s : Seen) (m : Module) (words : List ℕ) (b : Bool) (w : ℕ) (k value : ℕ) → record { of = m; words = words; settled = b; work = w; marked = ms } ≡ s → IsSound m → length words ≡ length (all_names m)
     → IfSome (slice_get s.of.inputs k) (λ port. (name : List ℕ) → name ≢ port.name → named m (set words k value) name ≡ carried s name)
 set_others s m words b w k value view sound same =
     let of : m ≡ s.of = ap (λ (s : Seen). s.of) view in
@@ -128,7 +128,7 @@ set_others s m words b w k value view sound same =
     rw wrote (with_word_other (named m words) port.name value name other ∙ ap (λ (s : Seen). carried s name) view))
 
 -- the words after an edge: `given` are the words that the registers take, `read` the same in the clock's own room
-pub edge_call : (s : Seen) (m : Module) (v u : Vec ℕ Global) (reset b : Bool) (w : ℕ) (seen given room read lent new : List ℕ) → record { of = m; words = v.items; settled = b; work = w } ≡ s
+pub edge_call : {ms : List Bool} (s : Seen) (m : Module) (v u : Vec ℕ Global) (reset b : Bool) (w : ℕ) (seen given room read lent new : List ℕ) → record { of = m; words = v.items; settled = b; work = w; marked = ms } ≡ s
     → seen ≡ v.items → AreTaken m reset (named m seen) (length m.steps) given
     → length given ≡ length room → room ≡ u.items → read ≡ (with_items u given).items
     → length new ≡ length lent → lent ≡ v.items
@@ -170,7 +170,7 @@ value_within m v k place same lt at = elim (slice_get_cases m.drives k).1 [
 ]
 
 -- its word is the one that is seen
-pub value_word : (s : Seen) (m : Module) (items : List ℕ) (b : Bool) (w : ℕ) (k place word : ℕ) → record { of = m; words = items; settled = b; work = w } ≡ s → IsSound m → length items ≡ length (all_names m)
+pub value_word : {ms : List Bool} (s : Seen) (m : Module) (items : List ℕ) (b : Bool) (w : ℕ) (k place word : ℕ) → record { of = m; words = items; settled = b; work = w; marked = ms } ≡ s → IsSound m → length items ≡ length (all_names m)
     → ((d : Drive) → slice_get (all_names m) place ≡ Some (get_or m.drives k d).target) → word ≡ get_or items place word → (d : Drive) → word ≡ carried s (get_or s.of.drives k d).target
 value_word s m items b w k place word view sound same at is d =
     let P : Seen → Type 0 = λ t. word ≡ carried t (get_or t.of.drives k d).target in
@@ -179,7 +179,7 @@ value_word s m items b w k place word view sound same at is d =
     subst P view (is ∙ get_or_default_zero items place word within ∙ sym (look_at (all_names m) items place target (names_distinct m sound) same (at d)))
 
 -- and fits
-pub value_fits : (s : Seen) (m : Module) (items : List ℕ) (b : Bool) (w : ℕ) (k place word : ℕ) → record { of = m; words = items; settled = b; work = w } ≡ s → AllFit m items
+pub value_fits : {ms : List Bool} (s : Seen) (m : Module) (items : List ℕ) (b : Bool) (w : ℕ) (k place word : ℕ) → record { of = m; words = items; settled = b; work = w; marked = ms } ≡ s → AllFit m items
     → ((d : Drive) → slice_get (all_names m) place ≡ Some (get_or m.drives k d).target) → ((d : Drive) → word ≡ carried s (get_or s.of.drives k d).target) → (d : Drive) → IsWord (width_of s.of (get_or s.of.drives k d).target) word
 value_fits s m items b w k place word view fit at is d =
     let P : Seen → Type 0 = λ t. IsWord (width_of t.of (get_or t.of.drives k d).target) (carried t (get_or t.of.drives k d).target) in
@@ -187,21 +187,21 @@ value_fits s m items b w k place word view fit at is d =
     rw (is d) (subst P view (All-contains (λ name. IsWord (width_of m name) (named m items name)) (all_names m) target fit (contains_at (all_names m) place target (at d))))
 
 -- a clock that says so is settled
-pub value_settled : (s : Seen) (m : Module) (items : List ℕ) (b : Bool) (w : ℕ) → record { of = m; words = items; settled = b; work = w } ≡ s → (IsTrue b → Settled m (named m items)) → IsTrue s.settled → Settled s.of (carried s)
+pub value_settled : {ms : List Bool} (s : Seen) (m : Module) (items : List ℕ) (b : Bool) (w : ℕ) → record { of = m; words = items; settled = b; work = w; marked = ms } ≡ s → (IsTrue b → Settled m (named m items)) → IsTrue s.settled → Settled s.of (carried s)
 value_settled s m items b w view settled flag =
     let P : Seen → Type 0 = λ t. Settled t.of (carried t) in
     subst P view (settled (ap (λ (t : Seen). t.settled) view ∙ flag))
 
 -- the place of a drive, as it is seen
-pub drive_seen : (s : Seen) (m : Module) (items : List ℕ) (b : Bool) (w : ℕ) (k : ℕ) → record { of = m; words = items; settled = b; work = w } ≡ s → k < length s.of.drives → k < length m.drives
+pub drive_seen : {ms : List Bool} (s : Seen) (m : Module) (items : List ℕ) (b : Bool) (w : ℕ) (k : ℕ) → record { of = m; words = items; settled = b; work = w; marked = ms } ≡ s → k < length s.of.drives → k < length m.drives
 drive_seen s m items b w k view lt = let P : Seen → Type 0 = λ t. k < length t.of.drives in subst P (sym view) lt
 
 -- the place of a port, as it is seen
-pub port_seen : (s : Seen) (m : Module) (items : List ℕ) (b : Bool) (w : ℕ) (k : ℕ) → record { of = m; words = items; settled = b; work = w } ≡ s → k < length s.of.inputs → k < length m.inputs
+pub port_seen : {ms : List Bool} (s : Seen) (m : Module) (items : List ℕ) (b : Bool) (w : ℕ) (k : ℕ) → record { of = m; words = items; settled = b; work = w; marked = ms } ≡ s → k < length s.of.inputs → k < length m.inputs
 port_seen s m items b w k view lt = let P : Seen → Type 0 = λ t. k < length t.of.inputs in subst P (sym view) lt
 
 -- and that a value fits it
-pub fits_seen : (s : Seen) (m : Module) (items : List ℕ) (b : Bool) (w : ℕ) (k value : ℕ) → record { of = m; words = items; settled = b; work = w } ≡ s → ForSome (slice_get s.of.inputs k) (λ port. IsWord port.width.bits value) → ForSome (slice_get m.inputs k) (λ port. IsWord port.width.bits value)
+pub fits_seen : {ms : List Bool} (s : Seen) (m : Module) (items : List ℕ) (b : Bool) (w : ℕ) (k value : ℕ) → record { of = m; words = items; settled = b; work = w; marked = ms } ≡ s → ForSome (slice_get s.of.inputs k) (λ port. IsWord port.width.bits value) → ForSome (slice_get m.inputs k) (λ port. IsWord port.width.bits value)
 fits_seen s m items b w k value view fits = let P : Seen → Type 0 = λ t. ForSome (slice_get t.of.inputs k) (λ port. IsWord port.width.bits value) in subst P (sym view) fits
 
 -- the words after one was written
@@ -209,23 +209,23 @@ written_call : (v : Vec ℕ Global) (before new : List ℕ) (k value : ℕ) → 
 written_call v before new k value same is wrote = new_items v before new same is ∙ wrote ∙ ap (λ ws. set ws k value) is
 
 -- what is seen after a word was set
-pub set_call : (s : Seen) (m : Module) (v : Vec ℕ Global) (before new : List ℕ) (b : Bool) (w : ℕ) (k value : ℕ) → record { of = m; words = v.items; settled = b; work = w } ≡ s
+pub set_call : {ms ms' : List Bool} (s : Seen) (m : Module) (v : Vec ℕ Global) (before new : List ℕ) (b : Bool) (w : ℕ) (k value : ℕ) → record { of = m; words = v.items; settled = b; work = w; marked = ms } ≡ s
     → length new ≡ length before → before ≡ v.items → new ≡ set before k value
-    → record { of = m; words = (with_items v new).items; settled = false; work = w } ≡ record s { words = set s.words k value; settled = false }
-set_call s m v before new b w k value view same is wrote =
-    let P : Seen → Type 0 = λ t. record { of = m; words = (with_items v new).items; settled = false; work = w } ≡ record t { words = set t.words k value; settled = false } in
-    let F : List ℕ → Seen = λ ws. record { of = m; words = ws; settled = false; work = w } in
+    → record { of = m; words = (with_items v new).items; settled = false; work = w; marked = ms' } ≡ record s { words = set s.words k value; settled = false; marked = ms' }
+set_call {ms' = ms'} s m v before new b w k value view same is wrote =
+    let P : Seen → Type 0 = λ t. record { of = m; words = (with_items v new).items; settled = false; work = w; marked = ms' } ≡ record t { words = set t.words k value; settled = false; marked = ms' } in
+    let F : List ℕ → Seen = λ ws. record { of = m; words = ws; settled = false; work = w; marked = ms' } in
     subst P view (ap F (written_call v before new k value same is wrote))
 
 -- the port has the word after it was
-pub set_port_call : (s : Seen) (m : Module) (v : Vec ℕ Global) (before new : List ℕ) (b : Bool) (w : ℕ) (k value : ℕ) → record { of = m; words = v.items; settled = b; work = w } ≡ s → IsSound m → length v.items ≡ length (all_names m)
+pub set_port_call : {ms : List Bool} (s : Seen) (m : Module) (v : Vec ℕ Global) (before new : List ℕ) (b : Bool) (w : ℕ) (k value : ℕ) → record { of = m; words = v.items; settled = b; work = w; marked = ms } ≡ s → IsSound m → length v.items ≡ length (all_names m)
     → length new ≡ length before → before ≡ v.items → new ≡ set before k value → IfSome (slice_get s.of.inputs k) (λ port. named m (with_items v new).items port.name ≡ value)
 set_port_call s m v before new b w k value view sound size same is wrote =
     let P : List ℕ → Type 0 = λ ws. IfSome (slice_get s.of.inputs k) (λ port. named m ws port.name ≡ value) in
     subst P (sym (written_call v before new k value same is wrote)) (set_port s m v.items b w k value view sound size)
 
 -- and every other name its own
-pub set_others_call : (s : Seen) (m : Module) (v : Vec ℕ Global) (before new : List ℕ) (b : Bool) (w : ℕ) (k value : ℕ) → record { of = m; words = v.items; settled = b; work = w } ≡ s → IsSound m → length v.items ≡ length (all_names m)
+pub set_others_call : {ms : List Bool} (s : Seen) (m : Module) (v : Vec ℕ Global) (before new : List ℕ) (b : Bool) (w : ℕ) (k value : ℕ) → record { of = m; words = v.items; settled = b; work = w; marked = ms } ≡ s → IsSound m → length v.items ≡ length (all_names m)
     → length new ≡ length before → before ≡ v.items → new ≡ set before k value
     → IfSome (slice_get s.of.inputs k) (λ port. (name : List ℕ) → name ≢ port.name → named m (with_items v new).items name ≡ carried s name)
 set_others_call s m v before new b w k value view sound size same is wrote =
@@ -296,7 +296,7 @@ anew_size true mark marks marks' new kept = ap length (new refl) ∙ length-repl
 anew_size false mark marks marks' new kept = ap length (kept refl)
 
 -- an edge, of what is seen
-pub edge_seen : (s : Seen) (m : Module) (v : Vec ℕ Global) (before new : List ℕ) (reset b : Bool) (w : ℕ) → record { of = m; words = v.items; settled = b; work = w } ≡ s → length new ≡ length before → before ≡ v.items
+pub edge_seen : {ms : List Bool} (s : Seen) (m : Module) (v : Vec ℕ Global) (before new : List ℕ) (reset b : Bool) (w : ℕ) → record { of = m; words = v.items; settled = b; work = w; marked = ms } ≡ s → length new ≡ length before → before ≡ v.items
     → Edge m reset (named m before) (named m new) → Edge m reset (carried s) (named m (with_items v new).items)
 edge_seen s m v before new reset b w view same is edge =
     let P : List ℕ → Type 0 = λ words. Edge m reset (named m v.items) (named m words) in
@@ -315,3 +315,37 @@ first_none old count new is zero' = omega arith
 -- nor where there is none to count
 pub first_empty : (old count new n : ℕ) → new ≡ min (old + count) (2 ^ 64 - 1) → count ≤ n → old ≡ 0 → n ≡ 0 → new ≡ n
 first_empty old count new n is few zero' none = omega arith
+
+-- ---- marks
+
+-- each drive that is not marked holds, of what is seen
+pub unmarked_hold : (s : Seen) (m : Module) (words : List ℕ) (b dense : Bool) (w : ℕ) (stale due : List Bool)
+    → record { of = m; words = words; settled = b; work = w; marked = if dense then replicate (length m.drives) true else stale } ≡ s → (dense ≡ false → AreHeld m words stale due)
+    → (k : ℕ) (d : Drive) → k < length s.of.drives → IsClear s.marked k → Holds (width_of s.of) (carried s) (get_or s.of.drives k d)
+unmarked_hold s m words b dense w stale due view held =
+    let P : Seen → Type 0 = λ t. (k : ℕ) (d : Drive) → k < length t.of.drives → IsClear t.marked k → Holds (width_of t.of) (carried t) (get_or t.of.drives k d) in
+    subst P view (λ k d lt clear. by dense k d lt clear held)
+  where
+    by : (t : Bool) (k : ℕ) (d : Drive) → k < length m.drives → IsClear (if t then replicate (length m.drives) true else stale) k → (t ≡ false → AreHeld m words stale due)
+        → Holds (width_of m) (named m words) (get_or m.drives k d)
+    by true k d lt clear h = absurd (none_clear (length m.drives) k clear)
+    by false k d lt clear h = (h refl).drives k d lt clear
+
+-- those of a clock that is not dense, and of one that is
+pub own_marks : (s : Seen) (m : Module) (words : List ℕ) (b dense : Bool) (w : ℕ) (stale : List Bool)
+    → record { of = m; words = words; settled = b; work = w; marked = if dense then replicate (length m.drives) true else stale } ≡ s → dense ≡ false → s.marked ≡ stale
+own_marks s m words b dense w stale view e = sym (ap (λ (t : Seen). t.marked) view) ∙ ap (λ (t : Bool). if t then replicate (length m.drives) true else stale) e
+
+pub all_marked : (s : Seen) (m : Module) (words : List ℕ) (b dense : Bool) (w : ℕ) (stale : List Bool)
+    → record { of = m; words = words; settled = b; work = w; marked = if dense then replicate (length m.drives) true else stale } ≡ s → dense ≡ true → s.marked ≡ replicate (length s.of.drives) true
+all_marked s m words b dense w stale view e =
+    sym (ap (λ (t : Seen). t.marked) view) ∙ ap (λ (t : Bool). if t then replicate (length m.drives) true else stale) e ∙ ap (λ (t : Seen). replicate (length t.of.drives) true) view
+
+-- where all are marked, none stands before the first
+pub all_computed : (old count new n k : ℕ) (marks : List Bool) → new ≡ min (old + count) (2 ^ 64 - 1) → count ≡ n → marks ≡ replicate n true → k ≤ n → ((j : ℕ) → j < k → IsClear marks j) → new + k ≤ old + n
+all_computed old count new n zero marks is all filled few clear = omega (arith, is, all)
+all_computed old count new n (suc k) marks is all filled few clear =
+    absurd (none_clear n 0 (subst (λ (ms : List Bool). IsClear ms 0) filled (clear 0 (omega arith))))
+
+pub few_computed : (old count new n k : ℕ) → new ≡ min (old + count) (2 ^ 64 - 1) → count + k ≤ n → new + k ≤ old + n
+few_computed old count new n k is few = omega (arith, is, few)

@@ -1,5 +1,5 @@
 -- What a clock keeps.
-use Rattle.std.specs.Prelude.{◌≡◌, IsTrue, false, length}
+use Rattle.std.specs.Prelude.{◌≡◌, IsTrue, Bool, true, false, List, if◌then◌else◌, length, replicate}
 use Rattle.av_net.specs.Names.{all_names}
 use Rattle.av_net.specs.Settled.{Settled}
 use Rattle.av_net.specs.Sound.{IsSound}
@@ -8,8 +8,12 @@ use Rattle.av_clock.specs.Named.{named, AllFit}
 use Rattle.av_clock.specs.Seen.{Seen}
 use Rattle.av_clock.specs.Marked.{AreHeld}
 
+-- all drives of a dense clock are marked
+abbrev pub marks_of : Inside → List Bool
+marks_of c = if c.dense then replicate (length c.circuit.drives) true else c.stale
+
 abbrev pub seen : Inside → Seen
-seen c = record { of = c.circuit; words = c.words.items; settled = c.settled; work = c.work }
+seen c = record { of = c.circuit; words = c.words.items; settled = c.settled; work = c.work; marked = marks_of c }
 
 -- a word for each name, within its width, settled where the clock says so, room for the next words and their steps, and a
 -- mark for each drive and each step

@@ -163,6 +163,7 @@ impl<'a> Circuit<'a> {
         ensures fit { AllFit self.now words.new }
         ensures held { AreHeld self.now words.new stale.new due.new }
         ensures most { result ≤ length self.now.drives }
+        ensures alone { (k : ℕ) → k ≤ length self.now.drives → ((j : ℕ) → j < k → IsClear stale.old j) → result + k ≤ length self.now.drives }
     {
         let mut computed = 0;
         let mut drive = stale.next(0);

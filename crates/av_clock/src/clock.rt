@@ -1,10 +1,11 @@
-ghost use Rattle.std.specs.Prelude.{◌≡◌, ◌≢◌, ◌<◌, ◌≤◌, ◌+◌, ℕ, List as Items, length, false, true, replicate, IfOk, IfSome, IsTrue, slice_get, slice_set, slice_index_or};
+ghost use Rattle.std.specs.Prelude.{◌≡◌, ◌≢◌, ◌<◌, ◌≤◌, ◌+◌, ℕ, List as Items, length, true, false, replicate, IfOk, IfSome, IsTrue, slice_get, slice_set, slice_index_or};
 ghost use Rattle.std.specs.Option.{ForSome};
 ghost use Rattle.av_base.specs.Words.{IsWord};
 ghost use Rattle.av_net.specs.Names.{all_names, given_names, names_of, width_of};
-ghost use Rattle.av_net.specs.Settled.{Settled, Agree};
+ghost use Rattle.av_net.specs.Settled.{Settled, Agree, Holds};
 ghost use Rattle.av_net.specs.Clocked.{Edge};
 ghost use Rattle.av_net.specs.Sound.{IsSound};
+ghost use Rattle.av_clock.specs.Marked.{IsClear};
 ghost use Rattle.av_clock.specs.Seen.{carried};
 
 use crate::circuit::Circuit;
@@ -29,7 +30,7 @@ pub struct Clock<'a> {
     // The drives and the steps of which an operand changed.
     stale: Marks,
     due: Marks,
-    // All drives are computed at each settle, and the marks say nothing.
+    // All drives are marked, whatever `stale` says, and each settle computes them.
     dense: bool,
     // The last settle by marks computed more than half of the drives.
     busy: bool,
@@ -53,13 +54,14 @@ impl<'a> Model for Clock<'a> {
 }
 
 impl<'a> Clock<'a> {
-    /// A clock of a sound module, with all words 0 and not settled.
+    /// A clock of a sound module, with all words 0, not settled, and with every drive marked.
     pub fn new(alloc: Global, of: &'a Module) -> Result<Clock<'a>, Memory>
         requires { IsSound of.now }
         ensures of { IfOk result (λ clock. clock.of ≡ of.now) }
         ensures words { IfOk result (λ clock. clock.words ≡ replicate (length (all_names of.now)) 0) }
         ensures flag { IfOk result (λ clock. clock.settled ≡ false) }
         ensures work { IfOk result (λ clock. clock.work ≡ 0) }
+        ensures marked { IfOk result (λ clock. clock.marked ≡ replicate (length of.now.drives) true) }
     {
         let circuit = Circuit::new(alloc, of)?;
         let words = vec![in alloc; 0u64; circuit.size()]?;
@@ -82,7 +84,8 @@ impl<'a> Clock<'a> {
         })
     }
 
-    /// Makes every wire and output the value of its `assign`.
+    /// Makes every wire and output the value of its `assign`. Marked drives alone are computed: none where
+    /// none is marked, and none before the first that is.
     pub fn settle(&mut self)
         ensures of { self.new.of ≡ self.old.of }
         ensures settled { Settled self.new.of (carried self.new) }
@@ -91,6 +94,8 @@ impl<'a> Clock<'a> {
         ensures work { self.old.work ≤ self.new.work }
         ensures first { self.old.work ≡ 0 → self.new.work ≡ length self.new.of.drives }
         ensures most { self.new.work ≤ self.old.work + length self.new.of.drives }
+        ensures alone { (k : ℕ) → k ≤ length self.old.of.drives → ((j : ℕ) → j < k → IsClear self.old.marked j)
+            → self.new.work + k ≤ self.old.work + length self.old.of.drives }
     {
         if self.dense {
             self.settle_all();
@@ -104,8 +109,9 @@ impl<'a> Clock<'a> {
         self.settled = true;
     }
 
-    // Settles by all drives, and nothing is marked.
+    // Settles a clock of which all drives are marked.
     fn settle_all(&mut self)
+        requires { self.old.marked ≡ replicate (length self.old.of.drives) true }
         ensures of { self.new.of ≡ self.old.of }
         ensures settled { Settled self.new.of (carried self.new) }
         ensures given { Agree (given_names self.new.of) (carried self.old) (carried self.new) }
@@ -113,11 +119,21 @@ impl<'a> Clock<'a> {
         ensures work { self.old.work ≤ self.new.work }
         ensures first { self.old.work ≡ 0 → self.new.work ≡ length self.new.of.drives }
         ensures most { self.new.work ≤ self.old.work + length self.new.of.drives }
+        ensures alone { (k : ℕ) → k ≤ length self.old.of.drives → ((j : ℕ) → j < k → IsClear self.old.marked j)
+            → self.new.work + k ≤ self.old.work + length self.old.of.drives }
     {
         self.circuit.settle(&mut self.words);
         self.dense = true;
         self.work = self.work.saturating_add(self.circuit.drives() as u64);
         self.settled = true;
+    }
+
+    /// A law on clocks: each drive that is not marked holds.
+    pub fn unmarked_drives_hold(&self)
+        ensures { (k : ℕ) (d : _) → k < length self.now.of.drives → IsClear self.now.marked k
+            → Holds (width_of self.now.of) (carried self.now) (slice_index_or self.now.of.drives k d) }
+    {
+        let _dense = self.dense;
     }
 
     /// The number of drives that were computed since the clock was made. At the greatest number it stays.
@@ -142,7 +158,7 @@ impl<'a> Clock<'a> {
     pub fn set(&mut self, port: u32, value: u64)
         requires port { port < length self.old.of.inputs }
         requires fits { ForSome (slice_get self.old.of.inputs port) (λ p. IsWord p.width.bits value) }
-        ensures words { self.new ≡ record self.old { words = slice_set self.old.words port value; settled = false } }
+        ensures words { self.new ≡ record self.old { words = slice_set self.old.words port value; settled = false; marked = self.new.marked } }
         ensures port { IfSome (slice_get self.old.of.inputs port) (λ p. carried self.new p.name ≡ value) }
         ensures others { IfSome (slice_get self.old.of.inputs port) (λ p. (name : Items ℕ) → name ≢ p.name
             → carried self.new name ≡ carried self.old name) }
@@ -213,7 +229,7 @@ impl<'a> Clock<'a> {
         self.settled = false;
     }
 
-    // The same by all steps, and nothing is marked.
+    // The same by all steps, and all drives count as marked.
     fn tick_all(&mut self)
         requires { IsTrue self.old.settled }
         ensures of { self.new.of ≡ self.old.of }

@@ -1,8 +1,10 @@
-mod FirstFaults
+pub mod FirstFaults
 pub mod OneChain
 pub mod OneRefusal
+mod OneUnscheduled
 pub mod Pipelined
-mod OnlySolution
+mod OneUnmapped
+pub mod OnlySolution
 mod Unscheduled
 mod TextProper
 pub mod Meant

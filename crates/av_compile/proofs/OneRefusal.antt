@@ -106,7 +106,7 @@ OverBox low high k n =
     ((k ≡ quantity.Coordinate) × (n ≡ greatest (low ++ high)) × (4095 < n))
     ⊎ ((k ≡ quantity.BoxSize) × (greatest (low ++ high) ≤ 4095) × (pos n ≡ box_size low high) × (65536 < n))
 
-one_over_box : (set : Set) (k j : Quantity) (n m : ℕ) → IsOverBox set k n → IsOverBox set j m → (k ≡ j) × (n ≡ m)
+pub one_over_box : (set : Set) (k j : Quantity) (n m : ℕ) → IsOverBox set k n → IsOverBox set j m → (k ≡ j) × (n ≡ m)
 one_over_box set k j n m h i = compare h.over i.over
   where
     low : h.low ≡ i.low

@@ -13,8 +13,7 @@ use Rattle.av_parse.specs.Parsing as parsed
 use Rattle.av_names.specs.declared.size.Size.{Size}
 use Rattle.av_names.specs.declared.fault.NameFault.{NameFault}
 use Rattle.av_names.specs.Accepted.{instance_of}
-use Rattle.av_names.specs.Flattened.{flat_of}
-use Rattle.av_names.specs.Refusals.{IsAccepted, IsRefusal}
+use Rattle.av_names.specs.Refusals.{IsRefusal}
 use Rattle.av_normal.specs.declared.fault.NormalFault.{NormalFault}
 use Rattle.av_normal.specs.declared.fault.NormalFault.TheVariants as normal
 use Rattle.av_normal.specs.NormalFaults as normalised
@@ -23,13 +22,7 @@ use Rattle.av_check.specs.declared.fault.CheckFault.{CheckFault}
 use Rattle.av_check.specs.CheckFaults as checked
 use Rattle.av_compile.specs.declared.refusal.Refusal.{Refusal}
 use Rattle.av_compile.specs.Refusals.{of_lex, of_parse, of_names, of_normal, of_check}
-
--- the bytes spell a system that is accepted with these sizes, and this is its flat system
-pub record Flattens (bytes : List ℕ) (words : List Size) (width : ℕ) (s : FlatSystem) : Type 0 where
-  pub system : System
-  pub text : IsProgramText bytes system
-  pub accepted : IsAccepted system words
-  pub flat : s ≡ flat_of (instance_of system words width)
+pub use Rattle.av_compile.specs.Steps.{Flattens}
 
 -- nothing keeps the system from having a normal form
 abbrev pub HasNormalForm : FlatSystem → Type 0

@@ -17,7 +17,7 @@ use Rattle.av_net.specs.Presented.{IsPresentable}
 use Rattle.av_net.specs.Shown.{Shows}
 use Rattle.av_space.specs.declared.cells.Cells.{Cells}
 use Rattle.av_build.specs.ArrayDesigns.{IsDesignOf}
-use Rattle.av_compile.specs.Mapped.{IsMapped}
+use Rattle.av_compile.specs.Steps.{IsMapped}
 
 -- one line, and no second, lists this point of the variable
 pub record IsListedOnce (lines : List Entry) (variable : Text) (z : Point) : Type 0 where

@@ -1,4 +1,5 @@
 pub mod Refusals
+pub mod Steps
 pub mod Checked
 pub mod Scheduled
 pub mod Mapped

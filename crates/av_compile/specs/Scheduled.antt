@@ -7,37 +7,18 @@ use Rattle.av_tree.specs.Values.{Assignment}
 use Rattle.av_tree.specs.Solutions.{AreInputs, HasOneSolution}
 use Rattle.av_flat.specs.declared.timed.Timed.{Timed}
 use Rattle.av_flat.specs.Trees.{FlatSystem, view_system}
-use Rattle.av_flat.specs.Proper.{IsProper}
 use Rattle.av_flat.specs.Legal.{IsLegal}
 use Rattle.av_names.specs.declared.size.Size.{Size}
 use Rattle.av_names.specs.Accepted.{instance_of}
-use Rattle.av_normal.specs.NormalFaults as normalised
 use Rattle.av_serial.specs.declared.fault.SerialFault.{SerialFault}
 use Rattle.av_serial.specs.SerialFaults as serialised
 use Rattle.av_sched.specs.declared.fault.SchedFault.{SchedFault}
-use Rattle.av_sched.specs.declared.fault.SchedFault.TheVariants as sched
 use Rattle.av_sched.specs.SchedFaults as searched
 use Rattle.av_sched.specs.First.{IsFirstSchedule}
 use Rattle.av_compile.specs.declared.refusal.Refusal.{Refusal}
 use Rattle.av_compile.specs.Refusals.{of_serial, of_sched}
-use Rattle.av_compile.specs.Checked.{Flattens, IsRefused}
-
--- the bytes spell a system whose equations are proper with these sizes, and this is the normal form of its flat system
-pub record Normalises (bytes : List ℕ) (words : List Size) (width : ℕ) (normal : FlatSystem) : Type 0 where
-  pub flat : FlatSystem
-  pub flattens : Flattens bytes words width flat
-  pub proper : IsProper flat
-  pub given : normalised.IsGiven flat normal
-
--- and this is what its reductions are made into
-pub record Serialises (bytes : List ℕ) (words : List Size) (width : ℕ) (chained : FlatSystem) : Type 0 where
-  pub normal : FlatSystem
-  pub normalises : Normalises bytes words width normal
-  pub given : serialised.IsGiven normal chained
-
--- nothing keeps the system from having a first schedule in the box
-abbrev pub HasFirstSchedule : FlatSystem → ℕ → Type 0
-HasFirstSchedule s c = (f : SchedFault) → searched.IsFault s c f → f ≡ sched.Memory
+use Rattle.av_compile.specs.Checked.{IsRefused}
+pub use Rattle.av_compile.specs.Steps.{Normalises, Serialises, HasFirstSchedule}
 
 -- the first schedule in the box, and no helper yet
 pub record IsScheduled (bytes : List ℕ) (words : List Size) (width c : ℕ) (t : Timed) : Type 0 where

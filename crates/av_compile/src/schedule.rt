@@ -1,4 +1,4 @@
-ghost use Rattle.std.specs.Prelude.{◌≡◌, ◌≢◌, ◌<◌, length, IfOk, IfErr, OnOk, Err};
+ghost use Rattle.std.specs.Prelude.{◌≡◌, ◌≢◌, ◌<◌, ◌⊎◌, length, IfOk, IfErr, OnOk, Err};
 ghost use Rattle.av_flat.specs.Trees.{FlatSystem, view_system};
 ghost use Rattle.av_flat.specs.WellFormed.{IsWellFormed};
 ghost use Rattle.av_names.specs.Texts.{AreSmall};
@@ -66,6 +66,9 @@ pub fn scheduled(
 
     // A text is refused for its first fault, unless memory runs out.
     ensures refused { (f : Refused) → result ≡ Err f → f ≢ refusal.Memory → IsUnscheduled bytes.now sizes.now width.bits reach.size f }
+
+    // Where a text has a first fault, it is refused for that one, unless memory runs out.
+    ensures cause { (f : Refused) → IsUnscheduled bytes.now sizes.now width.bits reach.size f → f ≢ refusal.Memory → (result ≡ Err f) ⊎ (result ≡ Err refusal.Memory) }
 
     // A proper system whose reductions become chains, and that has a first schedule, is not refused.
     ensures complete { (s : FlatSystem) → Serialises bytes.now sizes.now width.bits s → HasFirstSchedule s reach.size → IfErr result (λ f. f ≡ refusal.Memory) }

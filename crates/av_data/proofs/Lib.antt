@@ -26,3 +26,4 @@ pub mod Divided
 pub mod Fits
 pub mod Timeds
 pub mod Tabled
+pub mod DistinctInputs

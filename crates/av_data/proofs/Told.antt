@@ -219,3 +219,7 @@ module _ (inputs : List Port) (distinct : AreDistinct (names_of inputs)) where
   -- no bytes both spell a stimulus and have a fault
   pub not_both : (first : ℕ) (bytes : List ℕ) (s : Stimulus) (f : DataFault) → SpellsStimulus inputs bytes s → IsStimulusFault inputs first bytes f → ⊥
   not_both first bytes s f is fault = ok_err (sym (reads_spelled first bytes s is) ∙ all_failed first (data_lines bytes) f fault)
+
+  -- bytes have at most one first fault
+  pub one_fault : (first : ℕ) (bytes : List ℕ) (f g : DataFault) → IsStimulusFault inputs first bytes f → IsStimulusFault inputs first bytes g → f ≡ g
+  one_fault first bytes f g h k = one_err f g (Reads first bytes) (all_failed first (data_lines bytes) f h) (all_failed first (data_lines bytes) g k)

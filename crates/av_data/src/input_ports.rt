@@ -1,6 +1,6 @@
 //! The input ports of a module, found by their names.
 
-ghost use Rattle.std.specs.Prelude.{◌≡◌, ◌<◌, length, IfOk, IfSome};
+ghost use Rattle.std.specs.Prelude.{◌≡◌, ◌<◌, ◌≤◌, length, IfOk, IfSome};
 ghost use Rattle.av_net.specs.Names.{AreDistinct, names_of};
 ghost use Rattle.av_data.specs.Reading.{place_of, width_at};
 
@@ -10,7 +10,7 @@ use av_table::NameSet;
 use std::alloc::Global;
 use std::marker::Model;
 
-/// Input ports with different names, as which contracts see them, and their names in the same order.
+/// Input ports with different names, so few that 32 bits number them, as which contracts see them, and their names in the same order.
 #[derive(Drop)]
 pub(crate) struct InputPorts<'a> {
     ports: &'a [Port],
@@ -33,7 +33,8 @@ impl<'a> Model for InputPorts<'a> {
 impl<'a> InputPorts<'a> {
     /// The input ports by name.
     pub(crate) fn new(alloc: Global, ports: &'a [Port]) -> Result<InputPorts<'a>, Memory>
-        requires { AreDistinct (names_of ports.now) }
+        requires names { AreDistinct (names_of ports.now) }
+        requires few { length ports.now ≤ 1073741824 }
         ensures { IfOk result (λ inputs. inputs ≡ ports.now) }
     {
         let mut names = NameSet::new(alloc);
@@ -43,19 +44,13 @@ impl<'a> InputPorts<'a> {
         Ok(InputPorts { ports, names })
     }
 
-    /// The place of the port with a name. Places are numbers of 32 bits: so many ports that a place is
-    /// greater count as out of memory.
-    pub(crate) fn place(&self, name: &[u8]) -> Result<Option<u32>, Memory>
-        ensures place { IfOk result (λ place. place ≡ place_of self.now name.now) }
-        ensures within { IfOk result (λ place. IfSome place (λ k. k < length self.now)) }
+    /// The place of the port with a name.
+    pub(crate) fn place(&self, name: &[u8]) -> Option<u32>
+        ensures place { result ≡ place_of self.now name.now }
+        ensures within { IfSome result (λ place. place < length self.now) }
     {
-        match self.names.find(name) {
-            None => Ok(None),
-            Some(place) => match u32::try_from(place) {
-                Ok(place) => Ok(Some(place)),
-                Err(_) => Err(Memory),
-            },
-        }
+        let place = self.names.find(name)?;
+        Some(place as u32)
     }
 
     /// The width of the port there.

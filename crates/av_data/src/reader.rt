@@ -54,7 +54,7 @@ fn give(
     ensures ok { OnOk result (given_at inputs.now cycles line values.old (view_setting setting.now) (place_of inputs.now setting.now.port.now) ≡ Ok values.new) }
     ensures err { IfErr result (λ fault. FaultIs fault (given_at inputs.now cycles line values.old (view_setting setting.now) (place_of inputs.now setting.now.port.now))) }
 {
-    let Some(port) = inputs.place(setting.port)? else {
+    let Some(port) = inputs.place(setting.port) else {
         return Err(DataFault::DataUnknown(line));
     };
     let Some(cycle) = number_below(setting.cycle, cycles) else {
@@ -101,6 +101,7 @@ pub(crate) fn read(
 ) -> Result<Stimulus, DataFault>
     requires lines { first + length bytes.now < 4294967295 }
     requires names { AreDistinct (names_of ports.now) }
+    requires few { length ports.now ≤ 1073741824 }
     ensures { Answers result (stimulus_of ports.now first bytes.now) }
 {
     let inputs = InputPorts::new(alloc, ports)?;

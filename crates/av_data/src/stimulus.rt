@@ -49,5 +49,7 @@ pub fn read_stimulus(
     ensures fault { (f : Fault) → result ≡ Err f → (f ≡ OutOfMemory) ⊎ IsStimulusFault of.now.inputs first_line bytes.now f }
     ensures refused { (f : Fault) → IsStimulusFault of.now.inputs first_line bytes.now f → GivesFault result f }
 {
+    // So few ports that 32 bits number them.
+    let _most = of.inputs.len();
     read(alloc, bytes, first_line, of.inputs.as_slice())
 }

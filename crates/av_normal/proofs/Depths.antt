@@ -1,9 +1,14 @@
--- How deep a case is.
-use Rattle.std.proofs.Common.{◌≡◌, ℕ, ◌<◌, ◌+◌, ◌*◌, List, ap, arith}
+-- The parts of a tree are smaller than the tree.
+use Rattle.std.proofs.Common.{◌≡◌, ℕ, ◌<◌, ◌+◌, ◌*◌, List, Box, Global, ap, arith}
 use denote.Param.Weighed.{most}
+use Rattle.av_base.specs.declared.word.Op.{Op}
+use Rattle.av_affine.specs.declared.map.Map.{Map}
+use Rattle.av_poly.specs.Points.{Set}
+use Rattle.av_tree.specs.declared.sign.Sign.{Sign}
+use Rattle.av_tree.specs.declared.relation.Relation.{Relation}
 use Rattle.av_flat.specs.declared.tree.Tree.{Tree as TreeMade}
 use Rattle.av_flat.specs.declared.tree.Tree.TheVariants as made
-use Rattle.av_flat.specs.declared.tree.Tree.TheViews.{sized-Case}
+use Rattle.av_flat.specs.declared.tree.Tree.TheViews.{sized-Binary, sized-Choose, sized-Reduce, sized-Case}
 use Rattle.av_flat.proofs.tree.Tree.TheLaws.{the_size}
 
 -- a case is deeper than any of its branches
@@ -12,3 +17,30 @@ less_deep t u ts slice is same d =
     let f = ap the_size is in
     let g = ap (λ xs. most (λ x. the_size x) xs) same in
     omega (arith, d, f, g, sized-Case ts)
+
+-- and any tree than each part of it
+abbrev Boxed : Type 0
+Boxed = Box TreeMade Global
+
+module _ (t : ℕ) (e x : TreeMade) (d : 2 * the_size e + 0 ≡ t) where
+  pub left_falls : (s : Sign) (l r : Boxed) → e ≡ made.Binary s l r → x ≡ l.value → 2 * the_size x + 1 < t
+  left_falls s l r is same = let f = ap the_size is in let g = ap the_size same in let k = sized-Binary s l r in omega (arith, d, f, g, k)
+
+  pub right_falls : (s : Sign) (l r : Boxed) → e ≡ made.Binary s l r → x ≡ r.value → 2 * the_size x + 1 < t
+  right_falls s l r is same = let f = ap the_size is in let g = ap the_size same in let k = sized-Binary s l r in omega (arith, d, f, g, k)
+
+  module _ (c : Relation) (l r y n : Boxed) (is : e ≡ made.Choose l c r y n) where
+    pub first_falls : x ≡ l.value → 2 * the_size x + 1 < t
+    first_falls same = let f = ap the_size is in let g = ap the_size same in let k = sized-Choose l c r y n in omega (arith, d, f, g, k)
+
+    pub second_falls : x ≡ r.value → 2 * the_size x + 1 < t
+    second_falls same = let f = ap the_size is in let g = ap the_size same in let k = sized-Choose l c r y n in omega (arith, d, f, g, k)
+
+    pub third_falls : x ≡ y.value → 2 * the_size x + 1 < t
+    third_falls same = let f = ap the_size is in let g = ap the_size same in let k = sized-Choose l c r y n in omega (arith, d, f, g, k)
+
+    pub fourth_falls : x ≡ n.value → 2 * the_size x + 1 < t
+    fourth_falls same = let f = ap the_size is in let g = ap the_size same in let k = sized-Choose l c r y n in omega (arith, d, f, g, k)
+
+  pub body_falls : (o : Op) (m : Map) (b : Boxed) (set : Set) → e ≡ made.Reduce o m b set → x ≡ b.value → 2 * the_size x + 1 < t
+  body_falls o m b set is same = let f = ap the_size is in let g = ap the_size same in let k = sized-Reduce o m b set in omega (arith, d, f, g, k)

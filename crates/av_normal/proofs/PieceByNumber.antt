@@ -18,8 +18,8 @@ use Rattle.av_flat.proofs.Parts.{length_parts}
 use Rattle.av_flat.proofs.Views.{view_case}
 use Rattle.av_normal.specs.inner.Numbered.{part_at}
 use Rattle.av_normal.specs.inner.UnderMaps.{IsReadable, AreReadable}
-use Rattle.av_normal.specs.inner.PieceByNumber.{IsPartAt, AreShares, AreLeft}
-use Rattle.av_normal.proofs.Numbering.{at_first, at_second, at_map, at_pairs, at_fours, below}
+use Rattle.av_normal.specs.inner.PieceByNumber.{HasPart, IsPartAt, AreShares, AreFourNumbers, AreLeft}
+use Rattle.av_normal.proofs.Numbering.{at_first, at_second, at_map, at_pairs, at_fours, AreBelow, below}
 use Rattle.av_base.proofs.Lists.{next_item}
 
 -- ---- numbers
@@ -63,6 +63,52 @@ four_shares r x y number cr cx cy third second a o b p c d er ex ey et es ha ho 
       three = hc some_last ∙ ap₂ (λ m n. m / n) is_p is_y;
       four = hd some_last ∙ ap₂ (λ m n. m % n) is_p is_y;
     }
+
+-- ---- the parts of operands
+
+module _ (s : Sign) (l r : Tree) (number first second : ℕ) (shares : 0 < piece_count r → piece_count r ≤ 256 → (first ≡ number / piece_count r) × (second ≡ number % piece_count r)) (h : HasPart (binary s l r) number) where
+  both_below : AreBelow number (piece_count l) (piece_count r)
+  both_below = below number (piece_count l) (piece_count r) h.0 h.1
+
+  pub has_left : HasPart l first
+  has_left = let f = both_below in (subst (λ (z : ℕ). z < piece_count l) (sym ((shares f.some f.few_fast).0)) f.slow, f.few_slow)
+
+  pub has_right : HasPart r second
+  has_right = let f = both_below in (subst (λ (z : ℕ). z < piece_count r) (sym ((shares f.some f.few_fast).1)) f.fast, f.few_fast)
+
+module _ (c : Relation) (l r x y : Tree) (number one two three four : ℕ) (shares : AreFourNumbers number (piece_count r) (piece_count x) (piece_count y) one two three four) (h : HasPart (choice l c r x y) number) where
+  same_count : piece_count l * piece_count r * piece_count x * piece_count y ≡ piece_count l * (piece_count r * (piece_count x * piece_count y))
+  same_count = mul_assoc (piece_count l * piece_count r) (piece_count x) (piece_count y) ∙ mul_assoc (piece_count l) (piece_count r) (piece_count x * piece_count y)
+
+  first_below : AreBelow number (piece_count l) (piece_count r * (piece_count x * piece_count y))
+  first_below = below number (piece_count l) (piece_count r * (piece_count x * piece_count y)) (subst (λ (z : ℕ). number < z) same_count h.0) (subst (λ (z : ℕ). z ≤ 256) same_count h.1)
+
+  second_below : AreBelow (number % (piece_count r * (piece_count x * piece_count y))) (piece_count r) (piece_count x * piece_count y)
+  second_below = let f = first_below in below (number % (piece_count r * (piece_count x * piece_count y))) (piece_count r) (piece_count x * piece_count y) f.fast f.few_fast
+
+  third_below : AreBelow (number % (piece_count r * (piece_count x * piece_count y)) % (piece_count x * piece_count y)) (piece_count x) (piece_count y)
+  third_below = let f = second_below in below (number % (piece_count r * (piece_count x * piece_count y)) % (piece_count x * piece_count y)) (piece_count x) (piece_count y) f.fast f.few_fast
+
+  these : AreShares number (piece_count r * (piece_count x * piece_count y)) (piece_count x * piece_count y) (piece_count y) one two three four
+  these = let f = first_below in shares f.some f.few_fast
+
+  pub has_one : HasPart l one
+  has_one = let f = first_below in let n = these in (subst (λ (z : ℕ). z < piece_count l) (sym n.one) f.slow, f.few_slow)
+
+  pub has_two : HasPart r two
+  has_two = let f = second_below in let n = these in (subst (λ (z : ℕ). z < piece_count r) (sym n.two) f.slow, f.few_slow)
+
+  pub has_three : HasPart x three
+  has_three = let f = third_below in let n = these in (subst (λ (z : ℕ). z < piece_count x) (sym n.three) f.slow, f.few_slow)
+
+  pub has_four : HasPart y four
+  has_four = let f = third_below in let n = these in (subst (λ (z : ℕ). z < piece_count y) (sym n.four) f.fast, f.few_fast)
+
+pub case_has_part : (u : TreeMade) (ts us : List TreeMade) (number : ℕ) → u ≡ made.Case ts → us ≡ ts → HasPart (view u) number → HasPart (cases (trees_of (map view us))) number
+case_has_part u ts us number e f h =
+    let P : Tree → Type 0 = λ (t : Tree). HasPart t number in
+    let k = subst P (ap view e ∙ view_case ts) h in
+    subst (λ (xs : List TreeMade). HasPart (cases (trees_of (map view xs))) number) (sym f) k
 
 -- ---- parts
 
@@ -199,6 +245,10 @@ module _ (vs : List Signature) (ds : List Map) where
         record {
           readable = h.readable.1;
           few = omega (arith, k);
+          there = λ less few.
+              let e = capped (piece_count t) count is (few_here few) in
+              let f = h.there less few in
+              omega (arith, e, f, l);
           same = λ few.
               let e = capped (piece_count t) count is (few_here few) in
               let size = length_parts vs ds t in

@@ -1,12 +1,13 @@
 //! Maps composed outwards, step by step.
 
-ghost use Rattle.std.specs.Prelude.{◌≡◌, [], ◌∷◌, All, IfOk, IfErr, IfSome, OnOk, map};
+ghost use Rattle.std.specs.Prelude.{◌≡◌, ◌≢◌, [], ◌∷◌, All, IfOk, IfErr, IfSome, OnOk, map};
 ghost use Rattle.av_affine.specs.Forms.{IsWithinLimits};
 ghost use Rattle.av_affine.specs.Maps.{composition};
 ghost use Rattle.av_flat.specs.Trees.{view};
 ghost use Rattle.av_flat.specs.Pieces.{composed};
 ghost use Rattle.av_flat.specs.Quantities.{of_map, steps, steps_under, composed_maps};
 ghost use Rattle.av_normal.specs.Searches.{IsNarrow, AreNarrow, IsWideOne, IsWide};
+ghost use Rattle.av_normal.specs.declared.fault.NormalFault.TheVariants as fault;
 ghost use Rattle.av_normal.specs.inner.UnderMaps.{composed_under, AreChained, StandsUnder};
 
 use crate::NormalFault;
@@ -37,6 +38,7 @@ pub(crate) fn outwards(own: &Map, under: &[Map]) -> Result<Map, NormalFault>
     ensures limits { IfOk result (λ m. All IsWithinLimits m.rows) }
     ensures narrow { OnOk result (AreNarrow (map of_map (steps own.now under.now))) }
     ensures first { IfErr result (IsWide (map of_map (steps own.now under.now))) }
+    ensures over { IfErr result (λ f. f ≢ fault.Memory) }
 {
     let mut whole = copy_map(own);
     for outer in under {
@@ -52,6 +54,7 @@ pub(crate) fn together(under: &[Map]) -> Result<Option<Map>, NormalFault>
     ensures limits { IfOk result (λ m. IfSome m (λ whole. All IsWithinLimits whole.rows)) }
     ensures narrow { OnOk result (AreNarrow (map of_map (steps_under under.now))) }
     ensures first { IfErr result (IsWide (map of_map (steps_under under.now))) }
+    ensures over { IfErr result (λ f. f ≢ fault.Memory) }
 {
     if under.is_empty() {
         return Ok(None);

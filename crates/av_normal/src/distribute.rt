@@ -1,6 +1,6 @@
 //! What the pieces of a tree are made of: composed maps and rows at the image.
 
-ghost use Rattle.std.specs.Prelude.{◌≡◌, ◌++◌, ◌∷◌, All, IfOk, OnOk, length, map};
+ghost use Rattle.std.specs.Prelude.{◌≡◌, ◌++◌, ◌∷◌, All, OnOk, length, map};
 ghost use Rattle.av_affine.specs.Forms.{IsWithinLimits};
 ghost use Rattle.av_poly.specs.Points.{IsSmall};
 ghost use Rattle.av_poly.specs.Preimages.{rows_before};
@@ -46,19 +46,19 @@ pub(crate) fn append_under(
     match together(under) {
         Ok(Some(whole)) => append_before(alloc, domain, &whole, rows),
         Ok(None) => append_rows(rows, domain.rows.as_slice()),
-        Err(_fault) => Err(Memory),
+        Err(_fault) => unreachable!(),
     }
 }
 
 /// The map after those that it stands under, which are known to compose within the limits.
-pub(crate) fn composed_map(own: &Map, under: &[Map]) -> Result<Map, Memory>
+pub(crate) fn composed_map(own: &Map, under: &[Map]) -> Map
     requires chained { AreChained (own.now ∷ under.now) }
     requires narrow { AreNarrow (map of_map (steps own.now under.now)) }
-    ensures composed { IfOk result (λ m. m ≡ composed own.now under.now) }
-    ensures limits { IfOk result (λ m. All IsWithinLimits m.rows) }
+    ensures composed { result ≡ composed own.now under.now }
+    ensures limits { All IsWithinLimits result.rows }
 {
     match outwards(own, under) {
-        Ok(whole) => Ok(whole),
-        Err(_fault) => Err(Memory),
+        Ok(whole) => whole,
+        Err(_fault) => unreachable!(),
     }
 }

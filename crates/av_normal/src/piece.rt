@@ -11,7 +11,7 @@ ghost use Rattle.av_flat.specs.Pieces.{parts, rows_of};
 ghost use Rattle.av_flat.specs.Quantities.{piece_count};
 ghost use Rattle.av_normal.specs.inner.Numbered.{part_at, signatures_of};
 ghost use Rattle.av_normal.specs.inner.UnderMaps.{IsReadable, AreReadable};
-ghost use Rattle.av_normal.specs.inner.PieceByNumber.{IsPartAt, AreFourNumbers};
+ghost use Rattle.av_normal.specs.inner.PieceByNumber.{HasPart, IsPartAt, AreFourNumbers};
 
 use crate::compose::prepend_map;
 use crate::count::piece_count;
@@ -117,13 +117,14 @@ fn part_of(
     number: u128,
     rows: &mut List<Form>,
 ) -> Result<Tree, Memory>
-    requires { IsReadable (signatures_of vars.now) under.now (view tree.now) }
+    requires readable { IsReadable (signatures_of vars.now) under.now (view tree.now) }
+    requires number { HasPart (view tree.now) number }
     ensures part { IfOk result (λ t. IsPartAt (signatures_of vars.now) under.now (view tree.now) number rows.old rows.new (view t)) }
     ensures small { OnOk result (All IsSmall rows.old → All IsSmall rows.new) }
 {
     match tree {
         Tree::Ref { var, map } => {
-            let map = composed_map(map, under)?;
+            let map = composed_map(map, under);
             append_read(alloc, vars, *var, &map, rows)?;
             Ok(Tree::Ref { var: *var, map })
         }
@@ -178,7 +179,8 @@ fn part_of_case(
     number: u128,
     rows: &mut List<Form>,
 ) -> Result<Tree, Memory>
-    requires { AreReadable (signatures_of vars.now) under.now (trees_of (map view branches.now)) }
+    requires readable { AreReadable (signatures_of vars.now) under.now (trees_of (map view branches.now)) }
+    requires number { HasPart (cases (trees_of (map view branches.now))) number }
     ensures part { IfOk result (λ t. IsPartAt (signatures_of vars.now) under.now (cases (trees_of (map view branches.now))) number rows.old rows.new (view t)) }
     ensures small { OnOk result (All IsSmall rows.old → All IsSmall rows.new) }
 {
@@ -190,7 +192,7 @@ fn part_of_case(
         }
         left -= count;
     }
-    Err(Memory)
+    unreachable!()
 }
 
 #[cycle(part_of)]
@@ -202,7 +204,8 @@ fn boxed_part(
     number: u128,
     rows: &mut List<Form>,
 ) -> Result<Box<Tree>, Memory>
-    requires { IsReadable (signatures_of vars.now) under.now (view tree.now) }
+    requires readable { IsReadable (signatures_of vars.now) under.now (view tree.now) }
+    requires number { HasPart (view tree.now) number }
     ensures part { IfOk result (λ t. IsPartAt (signatures_of vars.now) under.now (view tree.now) number rows.old rows.new (view t.value)) }
     ensures small { OnOk result (All IsSmall rows.old → All IsSmall rows.new) }
 {

@@ -1,16 +1,16 @@
 -- The first direction that moves a reference, among points that are gone through.
-use Rattle.std.proofs.Common.{◌≡◌, ℕ, zero, suc, ◌+◌, ◌<◌, ◌≤◌, ℤ, pos, negsuc, unsigned_abs, map, ◌+ℤ◌, ◌*ℤ◌, Bool, true, false, not, ◌&&◌, if◌then◌else◌, Option, Some, List, [], ◌∷◌, ◌++◌, length, filter, replicate, get_or, slice_get, append_assoc, refl, sym, ap, subst, ◌∙◌, arith, All, Result, Ok, Err, IfOk}
+use Rattle.std.proofs.Common.{◌≡◌, ℕ, zero, suc, ◌+◌, ◌<◌, ◌≤◌, ℤ, pos, negsuc, unsigned_abs, map, ◌+ℤ◌, ◌*ℤ◌, Bool, true, false, not, ◌&&◌, if◌then◌else◌, Option, Some, List, [], ◌∷◌, ◌++◌, length, filter, replicate, get_or, slice_get, append_assoc, refl, sym, ap, subst, ◌∙◌, arith, All, Result, Ok, Err, OnOk}
 use Rattle.std.specs.List.{AllByRecursion, flat_map}
 use Rattle.std.proofs.lemmas.List.Elements.{All-from_recursion}
 use Rattle.std.proofs.lemmas.Int.{ints}
-use Rattle.std.proofs.lemmas.List.{length-append, append-nil}
 use Rattle.av_affine.specs.declared.map.Map.{Map}
 use Rattle.av_affine.specs.Numbers.{dot, AtMost}
 use Rattle.av_tree.specs.Points.{Point}
-use Rattle.av_flat.specs.Broadcasts.{Reference, lists_of, is_zero, stays, moves, first_moving}
+use Rattle.av_flat.specs.Trees.{Tree, reference, constant, binary, choice, restriction, cases, dependence, reduction, pick}
+use Rattle.av_flat.specs.Broadcasts.{Reference, references, lists_of, is_zero, stays, moves, first_moving}
 use Rattle.av_flat.specs.declared.timed.Helper.{Helper}
 use Rattle.av_pipe.specs.Pipelines.{helper_of, of_references}
-use Rattle.av_pipe.specs.inner.Helping.{IsHelpedTo}
+use Rattle.av_pipe.specs.inner.Helping.{maps_of, of_maps, IsFineMap, HasFineMaps}
 use Rattle.av_pipe.proofs.Directions.{lists_sized}
 
 -- ---- sums of products with zeros behind
@@ -109,30 +109,40 @@ small_directions ws n e =
 
 -- ---- references one after the other
 
-pub of_append : (place piece : ℕ) (linear : Point) (site : ℕ) (rs qs : List Reference) → of_references place piece linear site (rs ++ qs) ≡ of_references place piece linear site rs ++ of_references place piece linear (site + length rs) qs
-of_append place piece linear site [] qs = ap (λ (n : ℕ). of_references place piece linear n qs) (omega arith)
-of_append place piece linear site (r ∷ rs) qs =
-    let h = helper_of place piece site (first_moving linear r.map) in
-    let e : suc site + length rs ≡ site + suc (length rs) = omega arith in
-    ap (λ (xs : List Helper). h ++ xs) (of_append place piece linear (suc site) rs qs ∙ ap (λ (n : ℕ). of_references place piece linear (suc site) rs ++ of_references place piece linear n qs) e)
-    ∙ sym (append_assoc h (of_references place piece linear (suc site) rs) (of_references place piece linear (site + suc (length rs)) qs))
+maps_append : (rs qs : List Reference) → map (λ (r : Reference). r.map) (rs ++ qs) ≡ map (λ (r : Reference). r.map) rs ++ map (λ (r : Reference). r.map) qs
+maps_append [] qs = refl
+maps_append (r ∷ rs) qs = ap (λ (ms : List Map). r.map ∷ ms) (maps_append rs qs)
 
-pub none_helped : (place piece : ℕ) (linear : Point) (site : ℕ) (old : List Helper) → IsHelpedTo place piece linear site [] old old site
-none_helped place piece linear site old = record { helpers = sym (append-nil old); next_is = omega arith }
+-- the maps of some behind the old ones, and those of others behind these
+pub both_maps : (rs qs : List Reference) (old mid new : List Map) → mid ≡ old ++ map (λ (r : Reference). r.map) rs → new ≡ mid ++ map (λ (r : Reference). r.map) qs → new ≡ old ++ map (λ (r : Reference). r.map) (rs ++ qs)
+both_maps rs qs old mid new e f =
+    f ∙ ap (λ (ms : List Map). ms ++ map (λ (r : Reference). r.map) qs) e ∙ append_assoc old (map (λ (r : Reference). r.map) rs) (map (λ (r : Reference). r.map) qs)
+    ∙ ap (λ (ms : List Map). old ++ ms) (sym (maps_append rs qs))
 
-pub one_helped : (place piece : ℕ) (linear : Point) (site : ℕ) (r : Reference) (old new : List Helper) (next : ℕ) → new ≡ old ++ helper_of place piece site (first_moving linear r.map) → next ≡ site + 1
-    → IsHelpedTo place piece linear site (r ∷ []) old new next
-one_helped place piece linear site r old new next e f = record { helpers = e ∙ ap (λ (xs : List Helper). old ++ xs) (sym (append-nil (helper_of place piece site (first_moving linear r.map)))); next_is = f }
+-- the helpers of references are those of their maps
+pub by_maps : (place piece : ℕ) (linear : Point) (site : ℕ) (rs : List Reference) → of_maps place piece linear site (map (λ (r : Reference). r.map) rs) ≡ of_references place piece linear site rs
+by_maps place piece linear site [] = refl
+by_maps place piece linear site (r ∷ rs) = ap (λ (hs : List Helper). helper_of place piece site (first_moving linear r.map) ++ hs) (by_maps place piece linear (suc site) rs)
 
-pub both_helped : (place piece : ℕ) (linear : Point) (site : ℕ) (rs qs : List Reference) (old mid new : List Helper) (at next : ℕ) → IsHelpedTo place piece linear site rs old mid at → IsHelpedTo place piece linear at qs mid new next
-    → IsHelpedTo place piece linear site (rs ++ qs) old new next
-both_helped place piece linear site rs qs old mid new at next h k = record {
-  helpers = k.helpers ∙ ap (λ (xs : List Helper). xs ++ of_references place piece linear at qs) h.helpers ∙ append_assoc old (of_references place piece linear site rs) (of_references place piece linear at qs)
-      ∙ ap (λ (n : ℕ). old ++ (of_references place piece linear site rs ++ of_references place piece linear n qs)) h.next_is
-      ∙ ap (λ (xs : List Helper). old ++ xs) (sym (of_append place piece linear site rs qs));
-  next_is = (let a = h.next_is in let b = k.next_is in let c = length-append rs qs in omega (arith, a, b, c));
-}
+both_fine : (ws : List Point) (rs qs : List Reference) → AllByRecursion (IsFineMap ws) (map (λ (r : Reference). r.map) rs) → AllByRecursion (IsFineMap ws) (map (λ (r : Reference). r.map) qs)
+    → AllByRecursion (IsFineMap ws) (map (λ (r : Reference). r.map) (rs ++ qs))
+both_fine ws [] qs h k = k
+both_fine ws (r ∷ rs) qs h k = (h.0, both_fine ws rs qs h.1 k)
 
-pub if_ok : {T E : Type 0} {P Q : T → Type 0} (r : Result T E) → IfOk r P → ((x : T) → P x → Q x) → IfOk r Q
-if_ok (Ok x) h f = f x h
-if_ok (Err e) h f = h
+-- each map of a tree is fine
+pub all_fine : (ws : List Point) (t : Tree) → HasFineMaps ws t → AllByRecursion (IsFineMap ws) (maps_of t)
+all_fine ws (reference p m) h = (h, tt)
+all_fine ws (constant w) h = tt
+all_fine ws (binary s l r) h = both_fine ws (references l) (references r) (all_fine ws l h.0) (all_fine ws r h.1)
+all_fine ws (choice l c r x y) h =
+    both_fine ws (references l ++ references r ++ references x) (references y)
+    (both_fine ws (references l ++ references r) (references x) (both_fine ws (references l) (references r) (all_fine ws l h.0) (all_fine ws r h.1)) (all_fine ws x h.2)) (all_fine ws y h.3)
+all_fine ws (restriction d t) h = tt
+all_fine ws (cases ts) h = tt
+all_fine ws (dependence m t) h = tt
+all_fine ws (reduction o m t set) h = tt
+all_fine ws (pick place choices n) h = tt
+
+pub on_ok : {T E : Type 0} {P Q : Type 0} (r : Result T E) → OnOk r P → (P → Q) → OnOk r Q
+on_ok (Ok x) h f = f h
+on_ok (Err e) h f = h

@@ -26,7 +26,7 @@ fn number_after(number: usize, var: &Var) -> usize
 // Puts the helpers of a variable behind others, where there is a time for the node of this number.
 fn variable_helpers(
     alloc: Global,
-    place: usize,
+    place: u32,
     times: &[Time],
     number: usize,
     var: &Var,
@@ -39,8 +39,17 @@ fn variable_helpers(
     match times.get(number) {
         Some(time) => {
             let points = lists_of(alloc, var.domain.dim as usize)?;
+            // So few pieces that 32 bits number them.
+            let _most = var.pieces.len();
             let pieces = var.pieces.as_slice();
-            piece_helpers(place, &time.linear, points.as_slice(), pieces, helpers)
+            piece_helpers(
+                alloc,
+                place,
+                &time.linear,
+                points.as_slice(),
+                pieces,
+                helpers,
+            )
         }
         None => Ok(()),
     }
@@ -52,11 +61,13 @@ fn all_helpers(alloc: Global, flat: &Flat, times: &[Time]) -> Result<List<Helper
     requires maps { AllByRecursion HasFinePieces (map view_variable flat.now.vars) }
     ensures { IfOk result (λ helpers. helpers ≡ pipelines (view_system flat.now) times.now) }
 {
+    // So few variables that 32 bits number them.
+    let _most = flat.vars.len();
     let vars = flat.vars.as_slice();
     let mut helpers = List::new(alloc);
     let mut number: usize = 0;
     for (place, var) in vars.iter().enumerate() {
-        variable_helpers(alloc, place, times, number, var, &mut helpers)?;
+        variable_helpers(alloc, place as u32, times, number, var, &mut helpers)?;
         number = number_after(number, var);
     }
     Ok(helpers)

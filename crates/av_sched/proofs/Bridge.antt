@@ -17,8 +17,8 @@ use Rattle.av_depend.specs.Edges.{AreEdgesOf}
 use Rattle.av_depend.proofs.Generators.{IsMidValued, dot_mid, image_middle}
 use Rattle.av_depend.proofs.Pairs.{covered_by, listed}
 use Rattle.av_sched.specs.declared.arc.Arc.{Arc}
-use Rattle.av_sched.specs.inner.Arcs.{at, IsLate, Solves, IsLeastSolution, IsArc}
-use Rattle.av_sched.specs.inner.Leads.{lead, IsArcOf, AreStarts, IsUsable}
+use Rattle.av_sched.specs.Arcs.{at, IsLate, Solves, IsLeastSolution, IsArc}
+use Rattle.av_sched.specs.Leads.{lead, IsArcOf, AreStarts, IsUsable}
 use Rattle.av_sched.specs.Offsets.{part, AreOffsets, AreLeastOffsets}
 
 pub record IsArcIn (linear : List Point) (edges : List Edge) (arc : Arc) : Type 0 where

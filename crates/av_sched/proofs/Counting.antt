@@ -1,7 +1,7 @@
 -- Powers that stop at the greatest number.
 use Rattle.std.proofs.Common.{◌≡◌, ℕ, zero, suc, ◌+◌, ◌*◌, ◌-◌, ◌^◌, ◌<◌, ◌≤◌, min, List, [], ◌∷◌, ◌++◌, map, sum, length, take, drop, get_or, refl, sym, ap, subst, ◌∙◌, arith, ⊎_elim, add-one}
 use Rattle.std.specs.Prelude.{slice_index_or, slice_get, All, sum_by}
-use Rattle.std.proofs.lemmas.List.Sums.{sum_by-cons, sum-map}
+use Rattle.std.proofs.lemmas.List.Sums.{sum_by-cons, sum-map, sum_by_more}
 use Rattle.std.proofs.lemmas.List.Elements.{All-push}
 use Rattle.av_flat.specs.Trees.{Variable, FlatSystem}
 use Rattle.av_flat.specs.Nodes.{nodes}
@@ -9,9 +9,8 @@ use Rattle.av_depend.specs.Components.{ReadsNode, AreComponents}
 use Rattle.av_sched.specs.Choices.{candidates, dimension_of}
 use Rattle.av_sched.specs.SchedFaults.{HasManyCandidates}
 use Rattle.std.proofs.Math.Nat.{pow-suc}
-use Rattle.std.proofs.lemmas.List.Sums.{sum_by_more}
 use Rattle.std.proofs.lemmas.Bool.{cases_lt}
-use Rattle.av_sched.specs.inner.Vectors.{indices_of}
+use Rattle.av_sched.specs.Parts.{indices_of}
 use Rattle.av_sched.proofs.Steps.{take_more}
 use Rattle.av_base.proofs.Lists.{take_whole}
 

@@ -32,7 +32,7 @@ first_schedule s c components times linear are e h least = record {
   offsets = subst (λ (xs : List Point). AreLeastOffsets s xs (map (λ t. t.offset) times)) (sym e) least;
 }
 
-first_is_among : {X : Type 0} (P : X → Type 0) (xs ys : List X) (x : X) → xs ≡ ys → IsFirst P xs x → Contains ys x
+pub first_is_among : {X : Type 0} (P : X → Type 0) (xs ys : List X) (x : X) → xs ≡ ys → IsFirst P xs x → Contains ys x
 first_is_among P xs ys x e f = subst (λ (zs : _). Contains zs x) (sym f.is ∙ e) (Contains-append_right f.before (x ∷ f.after) x (first_among x f.after))
 
 -- then there is no fault

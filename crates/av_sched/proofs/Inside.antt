@@ -14,8 +14,9 @@ use Rattle.av_flat.specs.Nodes.{nodes}
 use Rattle.av_depend.specs.declared.edge.Edge.{Edge}
 use Rattle.av_base.proofs.Among.{none_among, last_among}
 use Rattle.av_sched.specs.declared.arc.Arc.{Arc}
-use Rattle.av_sched.specs.inner.Arcs.{zeros, IsArc, AreSmall, Solves, IsLeastSolution}
-use Rattle.av_sched.specs.inner.Leads.{IsArcOf}
+use Rattle.av_sched.specs.inner.Rounds.{zeros}
+use Rattle.av_sched.specs.Arcs.{IsArc, AreSmall, Solves, IsLeastSolution}
+use Rattle.av_sched.specs.Leads.{IsArcOf}
 use Rattle.av_sched.specs.Offsets.{part, AreVectors}
 use Rattle.av_sched.specs.Choices.{AreLinearParts, IsFeasible}
 use Rattle.av_sched.specs.inner.Walk.{AreArcsInside}

@@ -5,7 +5,7 @@ use Rattle.std.proofs.lemmas.Int.{ints, clamps, by_lt_z}
 use Rattle.std.proofs.lemmas.Bool.{cases_eq}
 use Rattle.av_affine.specs.declared.map.Map.{Map}
 use Rattle.av_tree.specs.Points.{Point}
-use Rattle.av_sched.specs.inner.Leads.{lead, IsLeastLead}
+use Rattle.av_sched.specs.Leads.{lead, IsLeastLead}
 use Rattle.av_base.proofs.Lists.{same_default}
 
 pub record IsLeastSoFar (a b : Point) (m : Map) (points : List Point) (k : ℕ) (x : ℤ) : Type 0 where

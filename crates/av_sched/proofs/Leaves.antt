@@ -12,9 +12,10 @@ use Rattle.av_depend.specs.declared.edge.Edge.{Edge}
 use Rattle.av_depend.specs.Edges.{AreEdgesOf}
 use Rattle.av_depend.proofs.Pairs.{covered_by, listed}
 use Rattle.av_sched.specs.declared.arc.Arc.{Arc}
-use Rattle.av_sched.specs.inner.Arcs.{at, IsLate, Solves, IsArc, zeros}
+use Rattle.av_sched.specs.Arcs.{at, IsLate, Solves, IsArc}
+use Rattle.av_sched.specs.inner.Rounds.{zeros}
 use Rattle.av_sched.specs.Offsets.{part}
-use Rattle.av_sched.specs.inner.Leads.{lead, IsArcOf}
+use Rattle.av_sched.specs.Leads.{lead, IsArcOf}
 use Rattle.av_sched.specs.Choices.{IsFeasible}
 use Rattle.av_sched.specs.inner.Walk.{AreInside}
 use Rattle.av_sched.proofs.Bridge.{arc_in, arc_from, lead_mid, arc_below}

@@ -11,7 +11,8 @@ use Rattle.av_flat.specs.Schedules.{IsLinearPart}
 use Rattle.av_flat.specs.Nodes.{is_node, nodes}
 use Rattle.av_flat.specs.Chained.{IsChained, IsChainedVariable}
 use Rattle.av_sched.specs.inner.Vectors.{AreLinearPartsOf}
-use Rattle.av_sched.specs.inner.Walk.{AreParts, AreAllParts, AreAllPartsTo}
+use Rattle.av_sched.specs.Parts.{AreParts, AreAllParts}
+use Rattle.av_sched.specs.inner.Walk.{AreAllPartsTo}
 use Rattle.av_base.proofs.Lists.{all_at, same_default, there_is}
 
 -- the dimensions of those among the variables that are nodes

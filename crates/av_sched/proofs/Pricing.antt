@@ -21,9 +21,11 @@ use Rattle.av_sched.specs.declared.price.Price.{Price}
 use Rattle.av_sched.specs.declared.price.Best.{Best}
 use Rattle.av_sched.specs.Offsets.{part}
 use Rattle.av_sched.specs.Choices.{AreLinearParts}
-use Rattle.av_sched.specs.Order.{references_of, left_still, size_of, IsLess, entry_rank}
-use Rattle.av_sched.specs.inner.Walk.{Agrees, IsAhead, IsBarred, known, AreParts, AreAllParts}
-use Rattle.av_sched.specs.inner.Prices.{IsSmallDirection, ways_of, still_among, left_at, IsPriceAt, ArePricesAt, ArePricesTo, IsSpent, IsFloor, AreFloorsTo, IsRated, IsAbove}
+use Rattle.av_sched.specs.Order.{references_of, left_still, size_of, cost, IsLess, entry_rank}
+use Rattle.av_sched.specs.Parts.{Agrees, AreParts, AreAllParts}
+use Rattle.av_sched.specs.inner.Walk.{IsBarred, known, IsRated, IsAbove}
+use Rattle.av_sched.specs.inner.Ways.{IsSmallDirection, ways_of, still_among}
+use Rattle.av_sched.specs.Prices.{left_at, IsPriceAt, ArePricesAt, ArePricesTo, IsSpent, IsFloor, AreFloorsTo}
 use Rattle.av_sched.proofs.Tries.{SameIn}
 use Rattle.av_base.proofs.Lists.{same_default, there_is}
 
@@ -142,11 +144,11 @@ module _ (s : FlatSystem) where
   above_not v d w b xs ys (inr h) (inr (e, inl l)) = let f = h.1 in omega (arith, f, l)
   above_not v d w b xs ys (inr h) (inr (e, inr l)) = let f = h.1 in let g = l.0 in omega (arith, f, g)
 
-  pub above_barred : (c : ℕ) (component : List ℕ) (k : ℕ) (linear : List Point) (spent rest : Price) (best : Option Best) → IsSpent s linear (take k component) spent → IsFloor s c (drop k component) rest → IsRated s component best
-      → IsAbove spent rest best → IsBarred s c component k linear (known best)
-  above_barred c component k linear spent rest None h floor rated above = absurd above
-  above_barred c component k linear spent rest (Some best) h floor rated above = λ other are agrees f less.
-      let parts = best.parts.items in
+  -- a choice that begins so comes not before one whose price is less than what was spent and the least of the rest
+  pub dear_later : (c : ℕ) (component : List ℕ) (k : ℕ) (linear parts : List Point) (spent rest price : Price) → IsSpent s linear (take k component) spent → IsFloor s c (drop k component) rest → IsSpent s parts component price
+      → (price.left < spent.left + rest.left) ⊎ ((price.left ≤ spent.left + rest.left) × (price.size < spent.size + rest.size))
+      → (other : List Point) → AreLinearParts s c other → Agrees component k linear other → IsLess (cost s component other) (cost s component parts) → ⊥
+  dear_later c component k linear parts spent rest price h floor rated above other are agrees less =
       let same = spent_same (take k component) linear other spent (agrees_taken component k linear other agrees) h in
       let sl = same.left in
       let ss = same.size in
@@ -167,38 +169,43 @@ module _ (s : FlatSystem) where
       above_not v d w b (map entry_rank _) (map entry_rank _)
       (⊎_elim (λ h. inl (omega (arith, h, low, bl))) (λ h. let p = h.0 in let q = h.1 in inr (omega (arith, p, low, bl), omega (arith, q, low', bs))) above) less
 
+  pub above_barred : (c : ℕ) (component : List ℕ) (k : ℕ) (linear : List Point) (spent rest : Price) (best : Option Best) → IsSpent s linear (take k component) spent → IsFloor s c (drop k component) rest → IsRated s component best
+      → IsAbove spent rest best → IsBarred s c component k linear (known best)
+  above_barred c component k linear spent rest None h floor rated above = absurd above
+  above_barred c component k linear spent rest (Some best) h floor rated above = λ other are agrees f less. dear_later c component k linear best.parts.items spent rest best.price h floor rated above other are agrees less
+
   -- ---- the order by prices
 
-  module _ (component : List ℕ) (linear : List Point) (spent : Price) (best : Best) (h : IsSpent s linear component spent) (rated : IsSpent s best.parts.items component best.price) where
+  module _ (component : List ℕ) (linear : List Point) (spent : Price) (parts : List Point) (price : Price) (h : IsSpent s linear component spent) (rated : IsSpent s parts component price) where
     own_left : sum (map (left_still s linear) component) ≡ spent.left
     own_left = sum-map (left_still s linear) component ∙ sym h.left
 
     own_size : sum (map (λ n. size_of (part linear n)) component) ≡ spent.size
     own_size = sum-map (λ n. size_of (part linear n)) component ∙ sym h.size
 
-    best_left : sum (map (left_still s best.parts.items) component) ≡ best.price.left
-    best_left = sum-map (left_still s best.parts.items) component ∙ sym rated.left
+    other_left : sum (map (left_still s parts) component) ≡ price.left
+    other_left = sum-map (left_still s parts) component ∙ sym rated.left
 
-    best_size : sum (map (λ n. size_of (part best.parts.items n)) component) ≡ best.price.size
-    best_size = sum-map (λ n. size_of (part best.parts.items n)) component ∙ sym rated.size
+    other_size : sum (map (λ n. size_of (part parts n)) component) ≡ price.size
+    other_size = sum-map (λ n. size_of (part parts n)) component ∙ sym rated.size
 
-    pub by_left : spent.left ≢ best.price.left → (spent.left < best.price.left) ↔ IsAhead s component linear (known (Some best))
+    pub by_left : spent.left ≢ price.left → (spent.left < price.left) ↔ IsLess (cost s component linear) (cost s component parts)
     by_left d = (
-      (λ l. inl (omega (arith, own_left, best_left, l))),
-      (λ less. ⊎_elim (λ l. omega (arith, own_left, best_left, l)) (λ e. absurd (d (sym own_left ∙ e.0 ∙ best_left))) less),
+      (λ l. inl (omega (arith, own_left, other_left, l))),
+      (λ less. ⊎_elim (λ l. omega (arith, own_left, other_left, l)) (λ e. absurd (d (sym own_left ∙ e.0 ∙ other_left))) less),
     )
 
-    pub by_size : spent.left ≡ best.price.left → spent.size ≢ best.price.size → (spent.size < best.price.size) ↔ IsAhead s component linear (known (Some best))
+    pub by_size : spent.left ≡ price.left → spent.size ≢ price.size → (spent.size < price.size) ↔ IsLess (cost s component linear) (cost s component parts)
     by_size e d = (
-      (λ l. inr (own_left ∙ e ∙ sym best_left, inl (omega (arith, own_size, best_size, l)))),
-      (λ less. ⊎_elim (λ l. absurd (omega (arith, own_left, best_left, l, e))) (λ r. ⊎_elim (λ l. omega (arith, own_size, best_size, l)) (λ q. absurd (d (sym own_size ∙ q.0 ∙ best_size))) r.1) less),
+      (λ l. inr (own_left ∙ e ∙ sym other_left, inl (omega (arith, own_size, other_size, l)))),
+      (λ less. ⊎_elim (λ l. absurd (omega (arith, own_left, other_left, l, e))) (λ r. ⊎_elim (λ l. omega (arith, own_size, other_size, l)) (λ q. absurd (d (sym own_size ∙ q.0 ∙ other_size))) r.1) less),
     )
 
-    pub by_ranks : spent.left ≡ best.price.left → spent.size ≡ best.price.size
-        → IsLess (map entry_rank (flat_map (part linear) component)) (map entry_rank (flat_map (part best.parts.items) component)) ↔ IsAhead s component linear (known (Some best))
+    pub by_ranks : spent.left ≡ price.left → spent.size ≡ price.size
+        → IsLess (map entry_rank (flat_map (part linear) component)) (map entry_rank (flat_map (part parts) component)) ↔ IsLess (cost s component linear) (cost s component parts)
     by_ranks e f = (
-      (λ l. inr (own_left ∙ e ∙ sym best_left, inr (own_size ∙ f ∙ sym best_size, l))),
-      (λ less. ⊎_elim (λ l. absurd (omega (arith, own_left, best_left, l, e))) (λ r. ⊎_elim (λ l. absurd (omega (arith, own_size, best_size, l, f))) (λ q. q.1) r.1) less),
+      (λ l. inr (own_left ∙ e ∙ sym other_left, inr (own_size ∙ f ∙ sym other_size, l))),
+      (λ less. ⊎_elim (λ l. absurd (omega (arith, own_left, other_left, l, e))) (λ r. ⊎_elim (λ l. absurd (omega (arith, own_size, other_size, l, f))) (λ q. q.1) r.1) less),
     )
 
   -- ---- prices of the parts of a node

@@ -7,7 +7,8 @@ use Rattle.std.proofs.lemmas.Bool.Decides.{nat_tests}
 use Rattle.std.proofs.lemmas.List.Elements.{All-contains_itself, All-contains, All-weaker, All-head, All-tail, All-cons, All-nil}
 use Rattle.av_base.proofs.Among.{first_among, more_among}
 use Rattle.av_sched.specs.declared.arc.Arc.{Arc}
-use Rattle.av_sched.specs.inner.Arcs.{at, IsLate, Solves, IsLeastSolution, raised, raised_all, IsArc, AreSmall}
+use Rattle.av_sched.specs.Arcs.{at, IsLate, Solves, IsLeastSolution, IsArc, AreSmall}
+use Rattle.av_sched.specs.inner.Rounds.{raised, raised_all}
 use Rattle.av_base.proofs.Lists.{same_default}
 use Rattle.av_base.proofs.Truths.{by_test}
 

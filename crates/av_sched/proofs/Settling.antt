@@ -10,8 +10,8 @@ use Rattle.av_depend.specs.declared.edge.Edge.{Edge}
 use Rattle.av_depend.specs.Edges.{AreEdgesOf}
 use Rattle.av_tree.specs.Points.{Point}
 use Rattle.av_sched.specs.declared.arc.Arc.{Arc}
-use Rattle.av_sched.specs.inner.Arcs.{Solves, IsLeastSolution}
-use Rattle.av_sched.specs.inner.Leads.{IsArcOf, AreStarts}
+use Rattle.av_sched.specs.Arcs.{Solves, IsLeastSolution}
+use Rattle.av_sched.specs.Leads.{IsArcOf, AreStarts}
 use Rattle.av_sched.specs.Offsets.{AreOffsets, AreLeastOffsets}
 use Rattle.av_sched.proofs.Bridge.{least_offsets, no_offsets}
 

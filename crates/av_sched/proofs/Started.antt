@@ -13,8 +13,8 @@ use Rattle.av_flat.specs.Points.{has}
 use Rattle.av_flat.specs.Nodes.{is_node, nodes, number_at}
 use Rattle.av_flat.proofs.Sets.{has_is}
 use Rattle.av_flat.proofs.Cycles.{node_at}
-use Rattle.av_sched.specs.inner.Arcs.{at, AreSmall}
-use Rattle.av_sched.specs.inner.Leads.{IsStart, AreStarts}
+use Rattle.av_sched.specs.Arcs.{at, AreSmall}
+use Rattle.av_sched.specs.Leads.{IsStart, AreStarts}
 use Rattle.av_sched.specs.Offsets.{part}
 use Rattle.av_sched.specs.inner.Starts.{IsSpanned}
 

@@ -12,7 +12,9 @@ use Rattle.av_depend.specs.declared.edge.Edge.{Edge}
 use Rattle.av_sched.specs.declared.place.Place.{Place}
 use Rattle.av_sched.specs.Offsets.{part}
 use Rattle.av_sched.specs.Choices.{AreLinearParts}
-use Rattle.av_sched.specs.inner.Walk.{Agrees, IsSound, HasWalked, HasTried, AreParts, AreAllParts, IsPlace, IsBarred, IsLike}
+use Rattle.av_sched.specs.Parts.{Agrees, AreParts, AreAllParts}
+use Rattle.av_sched.specs.inner.Walk.{IsSound, HasWalked, HasTried, IsBarred, IsLike}
+use Rattle.av_sched.specs.Places.{IsPlace}
 use Rattle.av_sched.proofs.Walking.{nothing_there}
 use Rattle.av_sched.proofs.Tries.{tried_none, tried_more, tried_all, leads_on}
 use Rattle.av_base.proofs.Lists.{same_default, there_is}

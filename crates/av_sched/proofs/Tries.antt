@@ -14,7 +14,8 @@ use Rattle.av_flat.specs.Broadcasts.{is_broadcast, is_moved}
 use Rattle.av_sched.specs.Offsets.{part}
 use Rattle.av_sched.specs.Choices.{AreLinearParts, IsFeasible}
 use Rattle.av_sched.specs.Order.{entry_rank, references_of, left_still, size_of, cost, IsLess}
-use Rattle.av_sched.specs.inner.Walk.{Agrees, IsMet, IsSound, IsAhead, HasWalked, HasTried}
+use Rattle.av_sched.specs.Parts.{Agrees}
+use Rattle.av_sched.specs.inner.Walk.{IsMet, IsSound, IsAhead, HasWalked, HasTried}
 use Rattle.av_sched.proofs.Walking.{not_before}
 use Rattle.av_base.proofs.Lists.{same_default, there_is}
 

@@ -28,7 +28,7 @@ use Rattle.av_depend.proofs.Generators.{dot_mid, little_listed}
 use Rattle.av_flat.proofs.Bounded.{small_point}
 use Rattle.av_depend.proofs.Small.{small_map}
 use Rattle.av_sched.specs.Offsets.{part, AreVectors}
-use Rattle.av_sched.specs.inner.Leads.{IsSmallPart, IsSmallMap, IsUsableAs, IsUsable}
+use Rattle.av_sched.specs.Leads.{IsSmallPart, IsSmallMap, IsUsableAs, IsUsable}
 use Rattle.av_base.proofs.Lists.{all_at}
 
 small_part : (s : FlatSystem) (linear : List Point) (n : ℕ) (v : Variable) → AreVectors s 4 linear → IsChainedVariable s v → slice_get (nodes s) n ≡ Some v → IsSmallPart (length (part linear n)) (part linear n)

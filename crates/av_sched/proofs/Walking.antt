@@ -7,10 +7,12 @@ use Rattle.std.proofs.lemmas.List.FromFn.{get_or-map-range_with_len, length-map-
 use Rattle.av_tree.specs.Points.{Point}
 use Rattle.av_flat.specs.Trees.{FlatSystem}
 use Rattle.av_sched.specs.declared.arc.Arc.{Arc}
-use Rattle.av_sched.specs.inner.Arcs.{at, Solves, IsArc, zeros}
+use Rattle.av_sched.specs.Arcs.{at, Solves, IsArc}
+use Rattle.av_sched.specs.inner.Rounds.{zeros}
 use Rattle.av_sched.specs.Choices.{AreLinearParts, IsFeasible}
 use Rattle.av_sched.specs.Order.{IsLess}
-use Rattle.av_sched.specs.inner.Walk.{Agrees, IsMet, IsSound, HasWalked}
+use Rattle.av_sched.specs.Parts.{Agrees}
+use Rattle.av_sched.specs.inner.Walk.{IsMet, IsSound, HasWalked}
 
 -- ---- the order
 

@@ -9,7 +9,6 @@ use Rattle.av_affine.specs.declared.map.Map.{Map}
 use Rattle.av_tree.specs.Points.{Point}
 use Rattle.av_flat.specs.declared.flat.Piece.{Piece as PieceMade}
 use Rattle.av_flat.specs.declared.flat.Var.{Var}
-use Rattle.av_flat.specs.declared.tree.Tree.TheVariants as made
 use Rattle.av_base.proofs.Among.{among_map}
 use Rattle.av_flat.specs.Trees.{view, view_piece, view_variable, Tree, Piece, Variable, FlatSystem, reference, constant, binary, choice, restriction, cases, dependence, reduction, pick}
 use Rattle.av_flat.specs.Signatures.{Signature, signatures}
@@ -18,7 +17,7 @@ use Rattle.av_sched.specs.Order.{references_of}
 use Rattle.av_flat.specs.Nodes.{is_node, nodes}
 use Rattle.av_flat.specs.Chained.{IsChained, IsChainedVariable, IsChainedPiece}
 use Rattle.av_flat.specs.Broadcasts.{Reference, references, lists_of, directions, is_zero, along, stays, is_broadcast}
-use Rattle.av_sched.specs.inner.Prices.{HasSmallReferences, IsSmallDirection, ways_of}
+use Rattle.av_sched.specs.inner.Ways.{HasSmallReferences, IsSmallDirection, ways_of}
 use Rattle.av_base.proofs.Lists.{all_at}
 
 abbrev pub three : List ℤ

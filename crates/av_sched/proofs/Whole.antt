@@ -23,7 +23,7 @@ use Rattle.av_depend.proofs.Pairs.{covered_by}
 use Rattle.av_flat.proofs.Bounded.{small_point}
 use Rattle.av_sched.specs.Offsets.{part, AreOffsets, AreVectors}
 use Rattle.av_sched.specs.Choices.{IsFeasible}
-use Rattle.av_sched.specs.inner.Leads.{lead}
+use Rattle.av_sched.specs.Leads.{lead}
 use Rattle.av_sched.proofs.Bridge.{lead_mid}
 use Rattle.av_sched.proofs.Halving.{first_span}
 use Rattle.av_sched.proofs.Usable.{usable_edge}

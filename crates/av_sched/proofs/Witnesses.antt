@@ -15,11 +15,14 @@ use Rattle.av_depend.specs.Edges.{AreEdgesOf}
 use Rattle.av_depend.proofs.Pairs.{listed}
 use Rattle.av_sched.specs.declared.arc.Arc.{Arc}
 use Rattle.av_sched.specs.declared.place.Place.{Place}
-use Rattle.av_sched.specs.inner.Arcs.{IsArc, Solves, zeros}
-use Rattle.av_sched.specs.inner.Leads.{IsSmallPart, IsSmallPoint}
+use Rattle.av_sched.specs.Arcs.{IsArc, Solves}
+use Rattle.av_sched.specs.inner.Rounds.{zeros}
+use Rattle.av_sched.specs.Leads.{IsSmallPart, IsSmallPoint}
 use Rattle.av_sched.specs.Offsets.{part, AreVectors}
 use Rattle.av_sched.specs.Choices.{IsFeasible}
-use Rattle.av_sched.specs.inner.Walk.{Agrees, IsPlace, IsUsablePlace, IsWitnessAt, IsForbidden}
+use Rattle.av_sched.specs.Parts.{Agrees}
+use Rattle.av_sched.specs.Places.{IsPlace, IsUsablePlace, IsWitnessAt}
+use Rattle.av_sched.specs.inner.Walk.{IsForbidden}
 use Rattle.av_sched.proofs.Usable.{usable_edge}
 use Rattle.av_sched.proofs.Walking.{unsolvable}
 
@@ -59,7 +62,7 @@ module _ (s : FlatSystem) (edges : List Edge) (component : List ℕ) (linear : L
 
 module _ (s : FlatSystem) (edges : List Edge) (component : List ℕ) (k : ℕ) (linear : List Point) (chained : IsChained s) (are : AreEdgesOf s edges) where
   -- a feasible choice with the first parts makes the reader of each witness late
-  late_there : (arc : Arc) → IsWitnessAt edges component k linear arc → (other : List Point) → Agrees component k linear other → (f : IsFeasible s component other)
+  pub late_there : (arc : Arc) → IsWitnessAt edges component k linear arc → (other : List Point) → Agrees component k linear other → (f : IsFeasible s component other)
       → (f.0 (slice_index_or component arc.read 0) +ℤ arc.weight) ≤ℤ f.0 (slice_index_or component arc.reader 0)
   late_there arc w other agrees f =
       let place = w.place in

@@ -3,4 +3,9 @@ pub mod Choices
 pub mod Order
 pub mod First
 pub mod SchedFaults
+pub mod Arcs
+pub mod Leads
+pub mod Parts
+pub mod Places
+pub mod Prices
 pub mod inner

@@ -1,7 +1,6 @@
-pub mod Arcs
-pub mod Leads
+pub mod Rounds
 pub mod Starts
 pub mod Vectors
 pub mod Walk
 pub mod FirstChoices
-pub mod Prices
+pub mod Ways

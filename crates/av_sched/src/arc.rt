@@ -1,14 +1,15 @@
 //! Least offsets under lower bounds and differences.
 
 ghost use Rattle.std.specs.Prelude.{◌≡◌, ◌≤◌, ◌<◌, ◌*◌, ◌+◌, ◌^◌, ℤ, List as Items, length, unsigned_abs, IsTrue, ◌↔◌, All, IfOk, IfSome, IfNone};
-ghost use Rattle.av_sched.specs.inner.Arcs.{IsLate, Solves, IsLeastSolution, raised, raised_all, IsArc, AreSmall, zeros};
+ghost use Rattle.av_sched.specs.Arcs.{IsLate, Solves, IsLeastSolution, IsArc, AreSmall};
+ghost use Rattle.av_sched.specs.inner.Rounds.{raised, raised_all, zeros};
 
 use av_base::{List, Memory};
 use std::alloc::Global;
 
-// The reader's offset is at least that of what it reads and the weight.
+/// The reader's offset is at least that of what it reads and the weight.
 #[derive(Clone, Copy, Debug)]
-pub(crate) struct Arc {
+pub struct Arc {
     pub reader: usize,
     pub read: usize,
     pub weight: i64,
@@ -62,6 +63,28 @@ fn raise_all(off: &mut Vec<i64>, old: &[i64], arcs: &[Arc])
     }
 }
 
+/// Raises offsets to the least that are no less and have each reader late enough; answers false where there are none. `old` is
+/// room for the offsets of the round before.
+pub fn raise_to_least(arcs: &[Arc], off: &mut Vec<i64>, old: &mut Vec<i64>) -> Result<bool, Memory>
+    requires arcs { All (IsArc (length off.old.items)) arcs.now }
+    requires low { AreSmall 1073741824 off.old.items }
+    requires few { length off.old.items ≤ 1073741824 }
+    ensures some { IfOk result (λ settled. IsTrue settled → IsLeastSolution arcs.now off.old.items off.new.items) }
+    ensures none { IfOk result (λ settled. (IsTrue settled → ⊥) → (x : Items ℤ) → Solves arcs.now off.old.items x → ⊥) }
+{
+    let many = off.len();
+    old.clear();
+    old.extend_from_slice(off)?;
+    for round in 0..many + 1 {
+        if all_late(off, arcs) {
+            return Ok(true);
+        }
+        old.copy_from_slice(off);
+        raise_all(off, old, arcs);
+    }
+    Ok(false)
+}
+
 /// The least offsets that are at least `low` and have each reader late enough, if there are any.
 pub(crate) fn least(
     alloc: Global,
@@ -73,16 +96,13 @@ pub(crate) fn least(
     ensures some { IfOk result (λ r. IfSome r (λ off. IsLeastSolution arcs.now low.now off.items)) }
     ensures none { IfOk result (λ r. IfNone r ((x : Items ℤ) → Solves arcs.now low.now x → ⊥)) }
 {
-    let count = low.len();
     let mut off = low.as_slice().to_vec(alloc)?;
-    for round in 0..count + 1 {
-        if all_late(&off, arcs) {
-            return Ok(Some(off));
-        }
-        let old = off.to_vec(alloc)?;
-        raise_all(&mut off, &old, arcs);
+    let mut old = Vec::with_capacity(alloc, low.len())?;
+    if raise_to_least(arcs, &mut off, &mut old)? {
+        Ok(Some(off))
+    } else {
+        Ok(None)
     }
-    Ok(None)
 }
 
 // Makes them so many zeros.
@@ -113,13 +133,5 @@ pub(crate) fn settles(
         return Ok(true);
     }
     clear(off, many)?;
-    clear(old, many)?;
-    for round in 0..many + 1 {
-        if all_late(off, arcs) {
-            return Ok(true);
-        }
-        old.copy_from_slice(off);
-        raise_all(off, old, arcs);
-    }
-    Ok(false)
+    raise_to_least(arcs, off, old)
 }

@@ -9,8 +9,8 @@ ghost use Rattle.av_flat.specs.Proper.{IsProper};
 ghost use Rattle.av_depend.specs.Edges.{AreEdgesOf};
 ghost use Rattle.av_depend.specs.Components.{ReadsNode, AreComponents};
 ghost use Rattle.av_sched.specs.Choices.{AreLinearParts, IsFeasible};
-ghost use Rattle.av_sched.specs.inner.Walk.{AreAllParts};
-ghost use Rattle.av_sched.specs.inner.Prices.{ArePricesTo, AreFloorsTo};
+ghost use Rattle.av_sched.specs.Parts.{AreAllParts};
+ghost use Rattle.av_sched.specs.Prices.{ArePricesTo, AreFloorsTo};
 ghost use Rattle.av_sched.specs.inner.FirstChoices.{IsBestChoice, IsSearchOutcome, HasNone};
 
 use crate::cost::{floors_of, prices_of};
@@ -32,8 +32,8 @@ pub(crate) enum SearchOutcome {
     Infeasible(usize),
 }
 
-// What the walk through the choices of a component needs to know before.
-fn plan_of(alloc: Global, flat: &Flat, reach: Reach, component: &[u32]) -> Result<Plan, Memory>
+/// What the walk through the choices of a component needs to know before.
+pub fn plan_of(alloc: Global, flat: &Flat, reach: Reach, component: &[u32]) -> Result<Plan, Memory>
     requires chained { IsChained (view_system flat.now) }
     requires within { All (λ n. n < length (nodes (view_system flat.now))) component.now }
     ensures lists { IfOk result (λ plan. AreAllParts (view_system flat.now) reach.size component.now plan.lists) }

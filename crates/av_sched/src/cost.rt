@@ -10,8 +10,9 @@ ghost use Rattle.av_flat.specs.Chained.{IsChained};
 ghost use Rattle.av_flat.specs.Broadcasts.{references};
 ghost use Rattle.av_sched.specs.Offsets.{part};
 ghost use Rattle.av_sched.specs.Order.{entry_rank, references_of};
-ghost use Rattle.av_sched.specs.inner.Prices.{HasSmallReferences, IsSmallDirection, ways_of, still_among, ArePricesAt, ArePricesTo, AreFloorsTo};
-ghost use Rattle.av_sched.specs.inner.Walk.{AreAllParts};
+ghost use Rattle.av_sched.specs.inner.Ways.{HasSmallReferences, IsSmallDirection, ways_of, still_among};
+ghost use Rattle.av_sched.specs.Prices.{ArePricesAt, ArePricesTo, AreFloorsTo};
+ghost use Rattle.av_sched.specs.Parts.{AreAllParts};
 
 use crate::direction::{along_of, moves_some};
 use crate::node::place_of;

@@ -5,7 +5,7 @@ ghost use Rattle.std.specs.List.{flat_map, list_any};
 ghost use Rattle.av_affine.specs.Forms.{IsWithinLimits};
 ghost use Rattle.av_affine.specs.Numbers.{AtMost};
 ghost use Rattle.av_flat.specs.Broadcasts.{lists_of, directions, along, is_zero, stays, moves};
-ghost use Rattle.av_sched.specs.inner.Prices.{IsSmallDirection};
+ghost use Rattle.av_sched.specs.inner.Ways.{IsSmallDirection};
 
 use crate::vector::prepend_all;
 use av_affine::{Map, dot};

@@ -3,7 +3,7 @@
 ghost use Rattle.std.specs.Prelude.{◌≡◌, ◌≤◌, ◌<◌, ◌*◌, ◌^◌, pos, ◌*ℤ◌, ◌-ℤ◌, length, unsigned_abs, All};
 ghost use Rattle.av_affine.specs.Numbers.{dot, AtMost};
 ghost use Rattle.av_sched.specs.Offsets.{part};
-ghost use Rattle.av_sched.specs.inner.Leads.{lead, IsLeastLead, IsSmallPoint, IsSmallPart, IsSmallMap, IsUsable, IsArcOf};
+ghost use Rattle.av_sched.specs.Leads.{lead, IsLeastLead, IsSmallPoint, IsSmallPart, IsSmallMap, IsUsable, IsArcOf};
 
 use crate::arc::Arc;
 use av_affine::Map;
@@ -21,7 +21,7 @@ fn product(a: i64, b: i64) -> i64
 }
 
 /// The sum of the products of numbers.
-pub(crate) fn products(linear: &[i64], z: &[i64]) -> i64
+pub fn products(linear: &[i64], z: &[i64]) -> i64
     requires linear { AtMost 4 linear.now }
     requires z { AtMost (2 ^ 25) z.now }
     requires fits { length z.now ≤ 4 }

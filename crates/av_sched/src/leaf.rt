@@ -5,8 +5,8 @@ ghost use Rattle.av_flat.specs.Trees.{view_system};
 ghost use Rattle.av_flat.specs.Chained.{IsChained};
 ghost use Rattle.av_flat.specs.Proper.{IsProper};
 ghost use Rattle.av_depend.specs.Edges.{AreEdgesOf};
-ghost use Rattle.av_sched.specs.inner.Arcs.{zeros};
-ghost use Rattle.av_sched.specs.inner.Leads.{IsUsable};
+ghost use Rattle.av_sched.specs.inner.Rounds.{zeros};
+ghost use Rattle.av_sched.specs.Leads.{IsUsable};
 ghost use Rattle.av_sched.specs.Choices.{AreLinearParts, IsFeasible};
 ghost use Rattle.av_sched.specs.inner.Walk.{AreArcsInside};
 

@@ -4,7 +4,7 @@ ghost use Rattle.std.specs.Prelude.{◌≡◌, ◌≤◌, ◌<◌, length, map, 
 ghost use Rattle.av_flat.specs.Trees.{view_system};
 ghost use Rattle.av_flat.specs.Nodes.{nodes};
 ghost use Rattle.av_flat.specs.Chained.{IsChained};
-ghost use Rattle.av_sched.specs.inner.Walk.{AreAllParts};
+ghost use Rattle.av_sched.specs.Parts.{AreAllParts};
 
 use crate::vector::vectors;
 use av_base::{List, Memory, Point};
@@ -12,7 +12,7 @@ use av_flat::{Flat, Reach};
 use std::alloc::Global;
 
 /// How many indices each node has.
-pub(crate) fn dimensions(alloc: Global, flat: &Flat) -> Result<Vec<u8>, Memory>
+pub fn dimensions(alloc: Global, flat: &Flat) -> Result<Vec<u8>, Memory>
     ensures { IfOk result (λ dims. dims.items ≡ map (λ v. v.domain.dim) (nodes (view_system flat.now))) }
 {
     let mut dims = Vec::new(alloc);
@@ -46,7 +46,7 @@ pub(crate) fn lists_of(
 }
 
 /// The place of a node among the variables.
-pub(crate) fn place_of(flat: &Flat, node: usize) -> usize
+pub fn place_of(flat: &Flat, node: usize) -> usize
     requires { node < length (nodes (view_system flat.now)) }
     ensures fits { result < length flat.now.vars }
     ensures is { slice_get (nodes (view_system flat.now)) node ≡ slice_get (view_system flat.now).variables result }

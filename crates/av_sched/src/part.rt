@@ -7,7 +7,7 @@ ghost use Rattle.av_flat.specs.Schedules.{IsLinearPart};
 ghost use Rattle.av_flat.specs.Chained.{IsChained};
 ghost use Rattle.av_sched.specs.Choices.{AreLinearParts, candidates};
 ghost use Rattle.av_sched.specs.Order.{IsLess};
-ghost use Rattle.av_sched.specs.inner.Vectors.{indices_of};
+ghost use Rattle.av_sched.specs.Parts.{indices_of};
 
 use crate::node::dimensions;
 use av_base::{Memory, Point};
@@ -33,7 +33,7 @@ fn unit(dim: u8) -> Point
 }
 
 /// A linear part for each node.
-pub(crate) fn first_parts(alloc: Global, flat: &Flat, _reach: Reach) -> Result<Vec<Point>, Memory>
+pub fn first_parts(alloc: Global, flat: &Flat, _reach: Reach) -> Result<Vec<Point>, Memory>
     requires { IsChained (view_system flat.now) }
     ensures { IfOk result (λ parts. AreLinearParts (view_system flat.now) _reach.size parts.items) }
 {
@@ -65,7 +65,7 @@ pub(crate) fn is_less(a: &[u64], b: &[u64]) -> bool
 }
 
 /// How many candidates the component has, and at most the greatest number.
-pub(crate) fn candidates_of(component: &[u32], dims: &[u8], base: u128) -> u128
+pub fn candidates_of(component: &[u32], dims: &[u8], base: u128) -> u128
     requires within { All (λ n. n < length dims.now) component.now }
     requires base { 1 ≤ base }
     ensures { result ≡ min (base ^ indices_of dims.now component.now) (2 ^ 128 - 1) }

@@ -11,8 +11,8 @@ ghost use Rattle.av_poly.specs.Points.{Has};
 ghost use Rattle.av_depend.specs.Edges.{AreEdgesOf};
 ghost use Rattle.av_elim.specs.Extents.{IsOrdinary};
 ghost use Rattle.av_sched.specs.inner.Starts.{IsSpanned};
-ghost use Rattle.av_sched.specs.inner.Arcs.{AreSmall};
-ghost use Rattle.av_sched.specs.inner.Leads.{IsUsable, IsArcOf, AreStarts};
+ghost use Rattle.av_sched.specs.Arcs.{AreSmall};
+ghost use Rattle.av_sched.specs.Leads.{IsUsable, IsArcOf, AreStarts};
 ghost use Rattle.av_sched.specs.Offsets.{AreVectors, AreOffsets, AreLeastOffsets};
 
 use crate::arc::{Arc, least};
@@ -24,7 +24,7 @@ use av_flat::{Flat, Var};
 use std::alloc::Global;
 
 /// The edges as differences of offsets.
-pub(crate) fn arcs_of(alloc: Global, edges: &[Edge], linear: &[Point]) -> Result<Vec<Arc>, Memory>
+pub fn arcs_of(alloc: Global, edges: &[Edge], linear: &[Point]) -> Result<Vec<Arc>, Memory>
     requires { All (IsUsable linear.now) edges.now }
     ensures { IfOk result (λ arcs. AllZip (IsArcOf linear.now) edges.now arcs.items) }
 {

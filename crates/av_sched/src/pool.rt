@@ -5,9 +5,10 @@ ghost use Rattle.av_flat.specs.Trees.{view_system};
 ghost use Rattle.av_flat.specs.Chained.{IsChained};
 ghost use Rattle.av_flat.specs.Proper.{IsProper};
 ghost use Rattle.av_depend.specs.Edges.{AreEdgesOf};
-ghost use Rattle.av_sched.specs.inner.Leads.{IsUsable};
+ghost use Rattle.av_sched.specs.Leads.{IsUsable};
 ghost use Rattle.av_sched.specs.Choices.{AreLinearParts};
-ghost use Rattle.av_sched.specs.inner.Walk.{IsPlace, IsUsablePlace, IsArcAt, IsWitnessAt, IsForbidden};
+ghost use Rattle.av_sched.specs.Places.{IsPlace, IsUsablePlace, IsArcAt, IsWitnessAt};
+ghost use Rattle.av_sched.specs.inner.Walk.{IsForbidden};
 
 use crate::arc::{Arc, settles};
 use crate::lead::{lead_at, products};
@@ -18,9 +19,9 @@ use av_depend::Edge;
 use av_flat::{Flat, Reach};
 use std::alloc::Global;
 
-// Memory that the tests use again and again.
+/// Memory that the tests use again and again.
 #[derive(Debug, Drop)]
-pub(crate) struct Room {
+pub struct Room {
     pub arcs: Vec<Arc>,
     pub off: Vec<i64>,
     pub old: Vec<i64>,
@@ -42,8 +43,8 @@ fn arc_at(component: &[u32], linear: &[Point], place: &Place) -> Arc
     }
 }
 
-// What the witnesses ask for whose nodes are all among the first.
-fn witness_arcs(
+/// What the witnesses ask for whose nodes are all among the first.
+pub fn witness_arcs(
     _edges: &[Edge],
     component: &[u32],
     level: usize,
@@ -124,8 +125,8 @@ fn least_place(edge: &Edge, linear: &[Point]) -> usize
     place
 }
 
-// A place of the edge between these nodes of the component.
-fn place_of_edge(
+/// A place of the edge between these nodes of the component.
+pub fn place_of_edge(
     _edges: &[Edge],
     edge: &Edge,
     _component: &[u32],
@@ -168,8 +169,8 @@ fn is_outdone(arcs: &[Arc], k: usize) -> bool
     false
 }
 
-// Whether the place is among them. Nothing is told of it.
-fn is_listed(pool: &[Place], place: &Place) -> bool {
+/// Whether the place is among them. Nothing is told of it.
+pub fn is_listed(pool: &[Place], place: &Place) -> bool {
     for other in pool {
         if other.reader == place.reader
             && other.read == place.read

@@ -1,13 +1,13 @@
 //! What linear parts cost: the first two numbers that choices are compared by.
 
 ghost use Rattle.std.specs.Prelude.{◌≡◌, ◌+◌, ◌≤◌, ◌<◌, ◌^◌, ◌⊎◌, All, IsTrue};
-ghost use Rattle.av_sched.specs.inner.Prices.{IsAbove};
+ghost use Rattle.av_sched.specs.inner.Walk.{IsAbove};
 
 use av_base::Point;
 
-// Broadcasts that are not moved, and the sum of absolute entries.
+/// Broadcasts that are not moved, and the sum of absolute entries.
 #[derive(Clone, Copy, Debug)]
-pub(crate) struct Price {
+pub struct Price {
     pub left: u128,
     pub size: u128,
 }
@@ -20,7 +20,7 @@ pub(crate) struct Best {
 }
 
 /// What nodes and one more cost together.
-pub(crate) fn with_more(spent: Price, more: Price) -> Price
+pub fn with_more(spent: Price, more: Price) -> Price
     requires left { spent.left + more.left < 2 ^ 128 }
     requires size { spent.size + more.size < 2 ^ 128 }
     ensures left { result.left ≡ spent.left + more.left }
@@ -33,7 +33,7 @@ pub(crate) fn with_more(spent: Price, more: Price) -> Price
 }
 
 /// No more than both together.
-pub(crate) fn at_least(a: Price, b: Price) -> Price
+pub fn at_least(a: Price, b: Price) -> Price
     ensures left { result.left ≤ a.left + b.left }
     ensures size { result.size ≤ a.size + b.size }
 {
@@ -57,8 +57,8 @@ pub(crate) fn least_of(prices: &[Price]) -> Price
     Price { left, size }
 }
 
-// Whether the first price is above the second.
-fn is_above(a: Price, b: Price) -> bool
+/// Whether the first price is above the second.
+pub fn is_above(a: Price, b: Price) -> bool
     ensures { IsTrue result → (b.left < a.left) ⊎ ((b.left ≤ a.left) × (b.size < a.size)) }
 {
     if a.left > b.left {

@@ -12,8 +12,10 @@ ghost use Rattle.av_affine.specs.Numbers.{AtMost};
 ghost use Rattle.av_sched.specs.Offsets.{part};
 ghost use Rattle.av_sched.specs.Choices.{AreLinearParts};
 ghost use Rattle.av_sched.specs.Order.{entry_rank, IsLess};
-ghost use Rattle.av_sched.specs.inner.Walk.{known, IsSound, HasWalked, AreAllParts, IsPlace, IsBarred, IsAhead, IsLike};
-ghost use Rattle.av_sched.specs.inner.Prices.{IsSpent, IsFloor, IsRated, ArePricesTo, AreFloorsTo};
+ghost use Rattle.av_sched.specs.inner.Walk.{known, IsSound, HasWalked, IsBarred, IsAhead, IsLike, IsRated};
+ghost use Rattle.av_sched.specs.Parts.{AreAllParts};
+ghost use Rattle.av_sched.specs.Places.{IsPlace};
+ghost use Rattle.av_sched.specs.Prices.{IsSpent, IsFloor, ArePricesTo, AreFloorsTo};
 
 use crate::cost::ranks_of;
 use crate::leaf::is_feasible;
@@ -26,16 +28,17 @@ use av_depend::{Edge, copy_point};
 use av_flat::{Flat, Reach};
 use std::alloc::Global;
 
-// What is known of a component before the walk: the linear parts that each node can have and what each costs, and the least
-// that the last nodes can cost, for each number of them.
+/// What is known of a component before the walk: the linear parts that each node can have and what each costs, and the least
+/// that the last nodes can cost, for each number of them.
 #[derive(Debug, Drop)]
-pub(crate) struct Plan {
+pub struct Plan {
     pub lists: List<List<Point>>,
     pub prices: List<List<Price>>,
     pub floors: Vec<Price>,
 }
 
-fn copy_points(alloc: Global, points: &[Point]) -> Result<Vec<Point>, Memory>
+/// The same points.
+pub fn copy_points(alloc: Global, points: &[Point]) -> Result<Vec<Point>, Memory>
     ensures { IfOk result (λ to. to.items ≡ points.now) }
 {
     let mut to = Vec::new(alloc);
@@ -76,8 +79,8 @@ fn is_barred(
     is_forbidden(flat, edges, reach, component, level, linear, pool, room)
 }
 
-// Whether the entries of the component's linear parts come before those of the others.
-fn is_earlier(
+/// Whether the entries of the component's linear parts come before those of the others.
+pub fn is_earlier(
     alloc: Global,
     component: &[u32],
     linear: &[Point],

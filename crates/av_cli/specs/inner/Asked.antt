@@ -2,23 +2,25 @@
 use Rattle.std.specs.Prelude.{ℕ, List}
 use Rattle.av_names.specs.declared.size.Size.{Size}
 use Rattle.av_cli.specs.declared.words.Command.{Command}
-use Rattle.av_cli.specs.declared.words.Command.TheVariants.{Check, Schedule, Table, Emit, Run, Trace, Sim, Demo}
-use Rattle.av_cli.specs.Commands.{IsCheck, IsSchedule, IsTable, IsEmit, IsRun, IsTrace}
+use Rattle.av_cli.specs.declared.words.Command.TheVariants.{Check, Schedule, Table, Emit, Run, Trace, Best, Sim, Demo}
+use Rattle.av_cli.specs.Commands.{IsCheck, IsSchedule, IsTable, IsEmit, IsRun, IsTrace, IsBest}
 use Rattle.av_cli.specs.Checks.{RefusesCheck, GivesCheck}
 use Rattle.av_cli.specs.Schedules.{RefusesSchedule, GivesSchedule}
 use Rattle.av_cli.specs.Tables.{RefusesTable, GivesTable}
-use Rattle.av_cli.specs.Emits.{RefusesEmit, GivesEmit}
+use Rattle.av_cli.specs.Emits.{GivesEmit}
 use Rattle.av_cli.specs.Sims.{RefusesSim, GivesSim}
 use Rattle.av_cli.specs.Runs.{RefusesRun, GivesResults, GivesTrace}
+use Rattle.av_cli.specs.Bests.{RefusesBest, GivesBest}
 use Rattle.av_cli.specs.Demos.{GivesDemo}
 
 abbrev pub Refuses : Command → List (List ℕ) → List ℕ → List ℕ → Type 0
 Refuses (Check width) words bytes reason = (sizes : List Size) × IsCheck words width.bits sizes × RefusesCheck sizes width.bits bytes reason
 Refuses (Schedule width reach) words bytes reason = (sizes : List Size) × IsSchedule words width.bits reach.size sizes × RefusesSchedule sizes width.bits reach.size bytes reason
 Refuses (Table width reach) words bytes reason = (sizes : List Size) × IsTable words width.bits reach.size sizes × RefusesTable sizes width.bits reach.size bytes reason
-Refuses (Emit width reach) words bytes reason = (sizes : List Size) × IsEmit words width.bits reach.size sizes × RefusesEmit sizes width.bits reach.size bytes reason
+Refuses (Emit width reach) words bytes reason = (sizes : List Size) × IsEmit words width.bits reach.size sizes × RefusesTable sizes width.bits reach.size bytes reason
 Refuses (Run width reach) words bytes reason = (sizes : List Size) × IsRun words width.bits reach.size sizes × RefusesRun sizes width.bits reach.size bytes reason
 Refuses (Trace width reach) words bytes reason = (sizes : List Size) × IsTrace words width.bits reach.size sizes × RefusesRun sizes width.bits reach.size bytes reason
+Refuses (Best width reach) words bytes reason = (sizes : List Size) × IsBest words width.bits reach.size sizes × RefusesBest sizes width.bits reach.size bytes reason
 Refuses (Demo width reach k) words bytes reason = ⊥
 Refuses Sim words bytes reason = RefusesSim bytes reason
 
@@ -29,5 +31,6 @@ Gives (Table width reach) words bytes out = (sizes : List Size) × IsTable words
 Gives (Emit width reach) words bytes out = (sizes : List Size) × IsEmit words width.bits reach.size sizes × GivesEmit sizes width.bits reach.size bytes out
 Gives (Run width reach) words bytes out = (sizes : List Size) × IsRun words width.bits reach.size sizes × GivesResults sizes width.bits reach.size bytes out
 Gives (Trace width reach) words bytes out = (sizes : List Size) × IsTrace words width.bits reach.size sizes × GivesTrace sizes width.bits reach.size bytes out
+Gives (Best width reach) words bytes out = (sizes : List Size) × IsBest words width.bits reach.size sizes × GivesBest sizes width.bits reach.size bytes out
 Gives (Demo width reach k) words bytes out = GivesDemo k width.bits reach.size out
 Gives Sim words bytes out = GivesSim bytes out

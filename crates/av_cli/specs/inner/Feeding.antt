@@ -1,15 +1,11 @@
 -- The values that the `in` lines of a design give its ports, by cycle and port.
-use Rattle.std.specs.Prelude.{◌≡◌, ℕ, ◌<◌, ◌≤◌, ℤ, nat_abs, List, length, Some, slice_get, All, AllPairs, Contains}
+use Rattle.std.specs.Prelude.{◌≡◌, ℕ, ◌<◌, List, length, Some, slice_get, All, AllPairs, Contains}
 use Rattle.av_net.specs.declared.design.Entry.{Entry}
 use Rattle.av_net.specs.declared.design.Design.{Design}
 use Rattle.av_net.specs.Names.{names_of}
 use Rattle.av_net.specs.Shown.{Values}
 use Rattle.av_data.specs.declared.stimulus.Given.{Given}
 use Rattle.av_data.specs.Stimuli.{IsBefore}
-
--- the entries of a point that may be listed
-abbrev pub AreSmall : List ℤ → Type 0
-AreSmall point = All (λ i. nat_abs i ≤ 4095) point
 
 -- the value that a line gives: the word of its point, at its port in its cycle
 pub record IsOfLine (d : Design) (x : Values) (line : Entry) (g : Given) : Type 0 where

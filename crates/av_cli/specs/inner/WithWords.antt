@@ -6,6 +6,7 @@ use Rattle.av_cli.specs.Checks.{RefusesCheck, GivesCheck}
 use Rattle.av_cli.specs.Schedules.{RefusesSchedule, GivesSchedule}
 use Rattle.av_cli.specs.Tables.{RefusesTable, GivesTable}
 use Rattle.av_cli.specs.Emits.{GivesEmit}
+use Rattle.av_cli.specs.Bests.{RefusesBest, GivesBest}
 
 pub record RefusesWith (words : List (List ℕ)) (bits : ℕ) (bytes reason : List ℕ) : Type 0 where
   pub sizes : List Size
@@ -44,3 +45,13 @@ pub record GivesEmitWith (words : List (List ℕ)) (bits box : ℕ) (bytes out :
   pub sizes : List Size
   pub give : GiveSizes words sizes
   pub gives : GivesEmit sizes bits box bytes out
+
+pub record RefusesBestWith (words : List (List ℕ)) (bits box : ℕ) (bytes reason : List ℕ) : Type 0 where
+  pub sizes : List Size
+  pub give : GiveSizes words sizes
+  pub refuses : RefusesBest sizes bits box bytes reason
+
+pub record GivesBestWith (words : List (List ℕ)) (bits box : ℕ) (bytes out : List ℕ) : Type 0 where
+  pub sizes : List Size
+  pub give : GiveSizes words sizes
+  pub gives : GivesBest sizes bits box bytes out

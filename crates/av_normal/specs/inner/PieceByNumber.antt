@@ -9,6 +9,10 @@ use Rattle.av_flat.specs.Quantities.{piece_count, piece_count_of_all}
 use Rattle.av_normal.specs.inner.Numbered.{part_at}
 use Rattle.av_normal.specs.inner.UnderMaps.{AreReadable}
 
+-- there is a part with this number, from 0, and there are few
+abbrev pub HasPart : Tree → ℕ → Type 0
+HasPart t number = (number < piece_count t) × (piece_count t ≤ 256)
+
 -- where there is a part with this number, its rows were put behind the old ones, and its tree was made
 abbrev pub IsPartAt : List Signature → List Map → Tree → ℕ → List Form → List Form → Tree → Type 0
 IsPartAt vs ds t number old new made =
@@ -18,6 +22,7 @@ IsPartAt vs ds t number old new made =
 pub record AreLeft (vs : List Signature) (ds : List Map) (all rest : Trees) (number left : ℕ) : Type 0 where
   pub readable : AreReadable vs ds rest
   pub few : piece_count_of_all rest ≤ piece_count_of_all all
+  pub there : number < piece_count_of_all all → piece_count_of_all all ≤ 256 → left < piece_count_of_all rest
   pub same : piece_count_of_all all ≤ 256 → part_at (parts_of_all vs ds all) number ≡ part_at (parts_of_all vs ds rest) left
 
 -- the numbers of four operands, of which the last is fastest, by how many parts those behind each of them have

@@ -1,25 +1,18 @@
 -- What a walk through the choices of a component knows. Only private contracts cite this.
-use Rattle.std.specs.Prelude.{◌≡◌, ℕ, ℤ, pos, ◌-ℤ◌, ◌<◌, ◌≤◌, ◌^◌, unsigned_abs, List, [], length, All, Contains, Option, Some, None, slice_index_or, slice_get}
+use Rattle.std.specs.Prelude.{◌≡◌, ℕ, ◌<◌, ◌≤◌, List, [], length, slice_index_or, Contains, Option, Some, None, ◌+◌, ◌⊎◌}
 use Rattle.std.specs.List.{AllZip}
-use Rattle.av_flat.specs.Trees.{Variable}
-use Rattle.av_flat.specs.Nodes.{nodes}
-use Rattle.av_flat.specs.Schedules.{IsLinearPart}
-use Rattle.av_sched.specs.declared.place.Place.{Place}
-use Rattle.av_sched.specs.declared.price.Best.{Best}
-use Rattle.av_affine.specs.Numbers.{dot, AtMost}
-use Rattle.av_affine.specs.Maps.{image}
-use Rattle.av_tree.specs.Points.{Point}
-use Rattle.av_flat.specs.Trees.{FlatSystem}
-use Rattle.av_depend.specs.declared.edge.Edge.{Edge}
 use Rattle.av_sched.specs.declared.arc.Arc.{Arc}
+use Rattle.av_tree.specs.Points.{Point}
+use Rattle.av_depend.specs.declared.edge.Edge.{Edge}
+use Rattle.av_flat.specs.Trees.{FlatSystem}
 use Rattle.av_sched.specs.Offsets.{part}
-use Rattle.av_sched.specs.inner.Leads.{IsSmallPart, IsArcOf}
+use Rattle.av_sched.specs.declared.price.Best.{Best}
 use Rattle.av_sched.specs.Choices.{AreLinearParts, IsFeasible}
 use Rattle.av_sched.specs.Order.{cost, IsLess}
-
--- the other choice has the same linear parts for the first k nodes of the component
-abbrev pub Agrees : List ℕ → ℕ → List Point → List Point → Type 0
-Agrees component k linear other = (j : ℕ) → j < k → part other (slice_index_or component j 0) ≡ part linear (slice_index_or component j 0)
+use Rattle.av_sched.specs.declared.price.Price.{Price}
+use Rattle.av_sched.specs.Leads.{IsArcOf}
+use Rattle.av_sched.specs.Parts.{Agrees, AreParts}
+use Rattle.av_sched.specs.Prices.{IsSpent}
 
 -- a best choice is known, and the other one does not come before it
 abbrev pub IsMet : FlatSystem → List ℕ → Option (List Point) → List Point → Type 0
@@ -48,62 +41,10 @@ abbrev pub known : Option Best → Option (List Point)
 known None = None
 known (Some best) = Some best.parts.items
 
--- the linear parts that a node can have
-pub record AreParts (s : FlatSystem) (c n : ℕ) (parts : List Point) : Type 0 where
-  pub valid : (v : Variable) → slice_get (nodes s) n ≡ Some v → All (IsLinearPart c v.domain.dim) parts
-  pub all : (v : Variable) → slice_get (nodes s) n ≡ Some v → (a : Point) → IsLinearPart c v.domain.dim a → Contains parts a
-
--- for each node of the component in turn
-pub record AreAllParts (s : FlatSystem) (c : ℕ) (component : List ℕ) (lists : List (List Point)) : Type 0 where
-  pub one_each : length lists ≡ length component
-  pub each : (k : ℕ) → k < length component → AreParts s c (slice_index_or component k 0) (slice_index_or lists k [])
-
 -- for its first k nodes
 pub record AreAllPartsTo (s : FlatSystem) (c : ℕ) (component : List ℕ) (k : ℕ) (lists : List (List Point)) : Type 0 where
   pub one_each : length lists ≡ k
   pub each : (j : ℕ) → j < k → AreParts s c (slice_index_or component j 0) (slice_index_or lists j [])
-
--- a listed point of an edge inside the component, with its image, of small entries; the edge's ends are identified by their places in the component
-pub record IsPlace (edges : List Edge) (component : List ℕ) (place : Place) : Type 0 where
-  pub edge : Edge
-  pub among : Contains edges edge
-  pub reader_within : place.reader < length component
-  pub read_within : place.read < length component
-  pub reader_is : slice_index_or component place.reader 0 ≡ edge.consumer
-  pub read_is : slice_index_or component place.read 0 ≡ edge.producer
-  pub listed : Contains edge.points place.point
-  pub image_is : place.image ≡ image edge.map.rows place.point
-  pub small : AtMost (2 ^ 25) place.image
-
--- how far the reader is ahead there, before offsets are added
-abbrev pub lead_of : List ℕ → List Point → Place → ℤ
-lead_of component linear place = dot (part linear (slice_index_or component place.reader 0)) place.point -ℤ dot (part linear (slice_index_or component place.read 0)) place.image
-
--- the place can be used with linear parts, by small numbers
-pub record IsUsablePlace (component : List ℕ) (linear : List Point) (place : Place) : Type 0 where
-  pub reader_within : place.reader < length component
-  pub read_within : place.read < length component
-  pub consumer_within : slice_index_or component place.reader 0 < length linear
-  pub producer_within : slice_index_or component place.read 0 < length linear
-  pub reader : IsSmallPart (length place.point) (part linear (slice_index_or component place.reader 0))
-  pub read : IsSmallPart (length place.image) (part linear (slice_index_or component place.read 0))
-  pub point : AtMost (2 ^ 25) place.point
-  pub image : AtMost (2 ^ 25) place.image
-
--- the arc is what the place asks for
-pub record IsArcAt (component : List ℕ) (linear : List Point) (place : Place) (arc : Arc) : Type 0 where
-  pub reader : arc.reader ≡ place.reader
-  pub read : arc.read ≡ place.read
-  pub weight : arc.weight ≡ pos 1 -ℤ lead_of component linear place
-  pub small : unsigned_abs arc.weight ≤ 1073741825
-
--- the arc of a place whose nodes are among the first k
-pub record IsWitnessAt (edges : List Edge) (component : List ℕ) (k : ℕ) (linear : List Point) (arc : Arc) : Type 0 where
-  pub place : Place
-  pub is_place : IsPlace edges component place
-  pub is : IsArcAt component linear place arc
-  pub reader_first : place.reader < k
-  pub read_first : place.read < k
 
 -- no choice that agrees with the first k parts is feasible
 abbrev pub IsForbidden : FlatSystem → List ℕ → ℕ → List Point → Type 0
@@ -131,3 +72,13 @@ AreArcsInside linear edges component arcs = (inner : List Edge) × AreInside edg
 abbrev pub IsLike : List ℕ → List Point → Option (List Point) → Type 0
 IsLike component linear None = Unit {0}
 IsLike component linear (Some best) = (n : ℕ) → (Contains component n → ⊥) → part best n ≡ part linear n
+
+-- the price that is told of the best choice is what it costs
+abbrev pub IsRated : FlatSystem → List ℕ → Option Best → Type 0
+IsRated s component None = Unit {0}
+IsRated s component (Some best) = IsSpent s best.parts.items component best.price
+
+-- what was spent, and the least of the rest, is above the price of the best choice
+abbrev pub IsAbove : Price → Price → Option Best → Type 0
+IsAbove spent rest None = ⊥
+IsAbove spent rest (Some best) = (best.price.left < spent.left + rest.left) ⊎ ((best.price.left ≤ spent.left + rest.left) × (best.price.size < spent.size + rest.size))

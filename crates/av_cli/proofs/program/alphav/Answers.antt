@@ -1,6 +1,7 @@
 use Rattle.std.proofs.Common.{◌≡◌, ℕ, List, Option, Err, true, false, ap, refl, sym, inr}
-use Rattle.av_cli.specs.Commands.{AreRead}
-use Rattle.av_cli.specs.inner.CommandsSeen.{takes_input}
+use Rattle.av_cli.specs.Commands.{AreRead, TakeInput}
+use Rattle.av_cli.specs.declared.words.Command.{Command}
+use Rattle.av_cli.specs.inner.CommandsSeen.{Are, takes_input}
 use Rattle.av_cli.specs.Program.{IsComplete}
 use Rattle.av_cli.specs.declared.status.Status.{Status}
 use Rattle.av_cli.specs.declared.status.Status.TheVariants.{Refused, Words}
@@ -19,6 +20,24 @@ complete_words words left status none is = record {
 
 pub returns-in_default-clause-complete : goal.returns-in_default-clause-complete
 returns-in_default-clause-complete g c = λ _ no_fault. complete_words _ _ _ c.in_default.ensures.unread (as_wanted c.put.ensures no_fault)
+
+-- ---- a source is read
+
+-- only words that take an input are answered from one
+taking : (command : Command) (words : List (List ℕ)) (X : Type 0) → Are command words → takes_input command ≡ true → (TakeInput words → ⊥) → X
+taking command words X are takes none = absurd (none (input_of command words are takes))
+
+pub returns-in-Err-ReadFault-clause-untouched : goal.returns-in-Err-ReadFault-clause-untouched
+returns-in-Err-ReadFault-clause-untouched g c = taking c.in-Some.command _ _ c.in-Some.ensures.read (sym c.if-not-takes_input.ensures)
+
+pub returns-in-Err-Memory-clause-untouched : goal.returns-in-Err-Memory-clause-untouched
+returns-in-Err-Memory-clause-untouched g c = taking c.in-Some.command _ _ c.in-Some.ensures.read (sym c.if-not-takes_input.ensures)
+
+pub returns-in-Err-TooLong-clause-untouched : goal.returns-in-Err-TooLong-clause-untouched
+returns-in-Err-TooLong-clause-untouched g c = taking c.in-Some.command _ _ c.in-Some.ensures.read (sym c.if-not-takes_input.ensures)
+
+pub returns-in-Ok-clause-untouched : goal.returns-in-Ok-clause-untouched
+returns-in-Ok-clause-untouched g c = taking c.in-Some.command _ _ c.in-Some.ensures.read (sym c.if-not-takes_input.ensures)
 
 -- ---- no source is read
 

@@ -5,12 +5,16 @@ use Rattle.av_net.specs.Names.{names_of, AreDistinct}
 use Rattle.av_net.specs.Presented.{HasFittingWord}
 use Rattle.av_cli.specs.inner.Feeding.{IsOfLine, AreOfLines}
 use Rattle.av_cli.proofs.Presenting.{inputs_apart}
+use Rattle.av_cli.proofs.Targets.{few_names}
 use Rattle.av_cli.proofs.Fed.{at_index, some_there, given_more}
 use Rattle.av_cli.proofs.showing.feed.Goals as goal
 use Rattle.av_base.proofs.Lists.{all_at}
 
 pub port_places-requires : goal.port_places-requires
 port_places-requires g c = subst (λ (ps : List Port). AreDistinct (names_of ps)) (sym c.as_slice.ensures) (inputs_apart c.args.design.now.module c.requires.sound.sound)
+
+pub given_of-requires-clause-few : goal.given_of-requires-clause-few
+given_of-requires-clause-few g c = few_names c.args.design.now.module.inputs c.in_ok-ports.ports (c.in_ok-ports.ensures ∙ ap names_of c.as_slice.ensures) c.are_numbered.ensures
 
 pub given_of-requires-clause-some : goal.given_of-requires-clause-some
 given_of-requires-clause-some g c =
@@ -28,11 +32,11 @@ loop-line-preserved g c =
     let line = c.line-item.result in
     let n = c.loop-line.line-index in
     let there : slice_get d.listing.ins n ≡ Some line = ap (λ (ls : List Entry). slice_get ls n) (sym c.as_slice-line-items.ensures) ∙ at_index c.as_slice-line-items.result.now n line c.loop-line-test.true c.line-item.is in
-    let given = c.in_ok-given.given in
+    let given = c.given_of.result in
     let of_line : IsOfLine d x line given = record {
-      cycle = c.in_ok-given.ensures.cycle;
-      port = subst (λ (names : List (List ℕ)). slice_get names given.port ≡ Some line.wire) (c.in_ok-ports.ensures ∙ ap names_of c.as_slice.ensures) c.in_ok-given.ensures.port;
-      word = c.in_ok-given.ensures.word;
+      cycle = c.given_of.ensures.cycle;
+      port = subst (λ (names : List (List ℕ)). slice_get names given.port ≡ Some line.wire) (c.in_ok-ports.ensures ∙ ap names_of c.as_slice.ensures) c.given_of.ensures.port;
+      word = c.given_of.ensures.word;
     } in
     given_more d x n c.loop-line.timeline line given c.loop-line.invariant of_line there c.requires.apart c.give.new.self c.in_ok-give.ensures.all
 

@@ -4,12 +4,16 @@ use Rattle.std.proofs.lemmas.List.Elements.{All-contains}
 use Rattle.av_net.specs.declared.design.Entry.{Entry}
 use Rattle.av_net.specs.Names.{targets_of, wire_names}
 use Rattle.av_cli.proofs.Fed.{at_index}
+use Rattle.av_cli.proofs.Targets.{few_targets}
 use Rattle.av_cli.proofs.Watched.{taps_more}
 use Rattle.av_cli.proofs.showing.taps.Goals as goal
 use Rattle.av_base.proofs.Lists.{all_at}
 
-pub place_of-requires : goal.place_of-requires
-place_of-requires c =
+pub place_of-requires-clause-few : goal.place_of-requires-clause-few
+place_of-requires-clause-few c = few_targets c.args.of.now.drives c.in_ok-targets.targets (c.in_ok-targets.ensures ∙ ap targets_of c.as_slice.ensures) c.are_numbered.ensures
+
+pub place_of-requires-clause-among : goal.place_of-requires-clause-among
+place_of-requires-clause-among c =
     let line = c.line-item.result in
     let there : slice_get c.args.lines.now c.loop-line.line-index ≡ Some line = at_index c.args.lines.now c.loop-line.line-index line c.loop-line-test.true c.line-item.is in
     let wire = all_at (λ (l : Entry). Contains (wire_names c.args.of.now) l.wire) c.args.lines.now c.loop-line.line-index line c.requires.wires there in
@@ -19,6 +23,6 @@ pub loop-line-preserved : goal.loop-line-preserved
 loop-line-preserved c =
     let line = c.line-item.result in
     let there : slice_get c.args.lines.now c.loop-line.line-index ≡ Some line = at_index c.args.lines.now c.loop-line.line-index line c.loop-line-test.true c.line-item.is in
-    let here : slice_get (targets_of c.args.of.now.drives) c.in_ok-place_of.field-0 ≡ Some line.wire =
-    ap (λ ts. slice_get ts c.in_ok-place_of.field-0) (sym (c.in_ok-targets.ensures ∙ ap targets_of c.as_slice.ensures)) ∙ c.in_ok-place_of.ensures in
-    taps_more c.args.of.now c.args.lines.now c.loop-line.line-index c.loop-line.taps c.push.new.self c.in_ok-place_of.field-0 line c.loop-line.invariant there here c.in_ok-push.ensures.ok
+    let here : slice_get (targets_of c.args.of.now.drives) c.place_of.result ≡ Some line.wire =
+    ap (λ ts. slice_get ts c.place_of.result) (sym (c.in_ok-targets.ensures ∙ ap targets_of c.as_slice.ensures)) ∙ c.place_of.ensures in
+    taps_more c.args.of.now c.args.lines.now c.loop-line.line-index c.loop-line.taps c.push.new.self c.place_of.result line c.loop-line.invariant there here c.in_ok-push.ensures.ok

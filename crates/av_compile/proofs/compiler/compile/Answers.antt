@@ -2,6 +2,8 @@ use Rattle.std.proofs.Common.{◌≡◌, refl}
 use Rattle.std.specs.Prelude.{Err}
 use Rattle.av_compile.specs.declared.refusal.Refusal.TheVariants as refusal
 use Rattle.av_compile.proofs.FirstFaults.{told, memory_only}
+use Rattle.av_compile.specs.Mapped.{IsUnmapped}
+use Rattle.av_compile.proofs.OneUnmapped.{one_unmapped, not_mapped, answered_error, answered_memory}
 use Rattle.av_compile.proofs.Promised.{headline}
 use Rattle.av_compile.proofs.compiler.compile.Goals as goal
 
@@ -23,3 +25,20 @@ returns-clause-headline c =
     let array = c.in_ok-timed.field-0 in
     headline c.args.bytes.now c.args.sizes.now c.args.width.bits c.args.reach.size array.timed array.cells c.in_ok-design.design c.requires.short c.args.width.least
     c.in_ok-timed.ensures.found c.in_ok-design.ensures c.in_ok-timed.ensures.one_solution
+
+-- ---- each cause has its answer
+
+pub returns-in_err-timed-clause-cause : goal.returns-in_err-timed-clause-cause
+returns-in_err-timed-clause-cause c =
+    answered_error (IsUnmapped c.args.bytes.now c.args.sizes.now c.args.width.bits c.args.reach.size) (one_unmapped c.args.bytes.now c.args.sizes.now c.args.width.bits c.args.reach.size) c.from_residual.result c.in_err-timed.field-0.0 c.from_residual.ensures.1 (returns-in_err-timed-clause-refused c)
+
+pub returns-in_err-design-clause-cause : goal.returns-in_err-design-clause-cause
+returns-in_err-design-clause-cause c = answered_memory (IsUnmapped c.args.bytes.now c.args.sizes.now c.args.width.bits c.args.reach.size) (one_unmapped c.args.bytes.now c.args.sizes.now c.args.width.bits c.args.reach.size) c.from_residual-in_err-design.result c.from_residual-in_err-design.ensures.1
+
+pub returns-in_err-flat-clause-cause : goal.returns-in_err-flat-clause-cause
+returns-in_err-flat-clause-cause c = answered_memory (IsUnmapped c.args.bytes.now c.args.sizes.now c.args.width.bits c.args.reach.size) (one_unmapped c.args.bytes.now c.args.sizes.now c.args.width.bits c.args.reach.size) c.from_residual-in_err-flat.result c.from_residual-in_err-flat.ensures.1
+
+pub returns-clause-cause : goal.returns-clause-cause
+returns-clause-cause c = λ f is some.
+    let array = c.in_ok-timed.field-0 in
+    absurd (not_mapped c.args.bytes.now c.args.sizes.now c.args.width.bits c.args.reach.size array.timed f c.in_ok-timed.ensures.found.pipelined c.in_ok-timed.ensures.found.no_cause is some)

@@ -2,8 +2,9 @@ use Rattle.std.proofs.Common.{◌≡◌, ap}
 use Rattle.std.specs.Prelude.{Err}
 use Rattle.av_flat.specs.Trees.{view_system}
 use Rattle.av_compile.specs.Refusals.{of_space}
-use Rattle.av_compile.specs.Mapped.{in_schedule, in_array}
+use Rattle.av_compile.specs.Mapped.{IsUnmapped, in_schedule, in_array}
 use Rattle.av_compile.proofs.FirstFaults.{told, memory_only}
+use Rattle.av_compile.proofs.OneUnmapped.{one_unmapped, not_mapped, answered_error, answered_memory}
 use Rattle.av_compile.proofs.Pipelined.{pipelined, array_of}
 use Rattle.av_compile.proofs.mapping.mapped.Goals as goal
 
@@ -45,3 +46,21 @@ returns-clause-found c = record {
   whole = c.in_ok-cells.ensures.whole;
   no_cause = c.in_ok-cells.ensures.complete;
 }
+
+-- ---- each cause has its answer
+
+pub returns-in_err-found-clause-cause : goal.returns-in_err-found-clause-cause
+returns-in_err-found-clause-cause c =
+    answered_error (IsUnmapped c.args.bytes.now c.args.sizes.now c.args.width.bits c.args.reach.size) (one_unmapped c.args.bytes.now c.args.sizes.now c.args.width.bits c.args.reach.size) c.from_residual.result c.in_err-found.field-0.0 c.from_residual.ensures.1 (returns-in_err-found-clause-refused c)
+
+pub returns-in_err-timed-clause-cause : goal.returns-in_err-timed-clause-cause
+returns-in_err-timed-clause-cause c = answered_memory (IsUnmapped c.args.bytes.now c.args.sizes.now c.args.width.bits c.args.reach.size) (one_unmapped c.args.bytes.now c.args.sizes.now c.args.width.bits c.args.reach.size) c.from_residual-in_err-timed.result c.from_residual-in_err-timed.ensures.1
+
+pub returns-in_err-cells-clause-cause : goal.returns-in_err-cells-clause-cause
+returns-in_err-cells-clause-cause c =
+    answered_error (IsUnmapped c.args.bytes.now c.args.sizes.now c.args.width.bits c.args.reach.size) (one_unmapped c.args.bytes.now c.args.sizes.now c.args.width.bits c.args.reach.size) c.from_residual-in_err-cells.result (of_space c.in_err-cells.field-0.0) c.from_residual-in_err-cells.ensures.1 (returns-in_err-cells-clause-refused c)
+
+pub returns-clause-cause : goal.returns-clause-cause
+returns-clause-cause c = λ f is some.
+    let found = returns-clause-found c in
+    absurd (not_mapped c.args.bytes.now c.args.sizes.now c.args.width.bits c.args.reach.size c.in_ok-timed.timed f found.pipelined found.no_cause is some)

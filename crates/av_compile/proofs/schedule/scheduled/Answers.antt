@@ -3,10 +3,12 @@ use Rattle.std.specs.Prelude.{Err}
 use Rattle.av_flat.specs.Trees.{FlatSystem, view_system}
 use Rattle.av_sched.specs.First.{IsFirstSchedule}
 use Rattle.av_compile.specs.Refusals.{of_sched}
-use Rattle.av_compile.specs.Scheduled.{Serialises, HasFirstSchedule, in_text, in_search}
+use Rattle.av_compile.specs.Scheduled.{Serialises, HasFirstSchedule, IsUnscheduled, in_text, in_search}
 use Rattle.av_compile.proofs.FirstFaults.{told, memory_only}
 use Rattle.av_compile.proofs.OneChain.{chain_of, one_chained}
 use Rattle.av_compile.proofs.OnlySolution.{one_solution_each}
+use Rattle.av_compile.proofs.OneUnscheduled.{one_unscheduled, not_scheduled}
+use Rattle.av_compile.proofs.OneUnmapped.{answered_error, answered_memory}
 use Rattle.av_compile.proofs.Unscheduled.{serialises, unchained, none_where_found}
 use Rattle.av_compile.proofs.schedule.scheduled.Goals as goal
 
@@ -86,3 +88,25 @@ returns-clause-found c =
 pub returns-clause-one_solution : goal.returns-clause-one_solution
 returns-clause-one_solution c =
     one_solution_each c.args.bytes.now c.args.sizes.now c.args.width.bits c.args.reach.size c.in_ok-search.field-0 c.requires.short c.args.width.least (returns-clause-found c)
+
+-- ---- each cause has its answer
+
+pub returns-in_err-flat-clause-cause : goal.returns-in_err-flat-clause-cause
+returns-in_err-flat-clause-cause c =
+    answered_error (IsUnscheduled c.args.bytes.now c.args.sizes.now c.args.width.bits c.args.reach.size) (one_unscheduled c.args.bytes.now c.args.sizes.now c.args.width.bits c.args.reach.size) c.from_residual.result c.in_err-flat.field-0.0 c.from_residual.ensures.1 (returns-in_err-flat-clause-refused c)
+
+pub returns-in_err-serial-clause-cause : goal.returns-in_err-serial-clause-cause
+returns-in_err-serial-clause-cause c =
+    answered_error (IsUnscheduled c.args.bytes.now c.args.sizes.now c.args.width.bits c.args.reach.size) (one_unscheduled c.args.bytes.now c.args.sizes.now c.args.width.bits c.args.reach.size) c.from_residual-in_err-serial.result c.in_err-serial.field-0.0 c.from_residual-in_err-serial.ensures.1 (returns-in_err-serial-clause-refused c)
+
+pub returns-in_err-edges-clause-cause : goal.returns-in_err-edges-clause-cause
+returns-in_err-edges-clause-cause c = answered_memory (IsUnscheduled c.args.bytes.now c.args.sizes.now c.args.width.bits c.args.reach.size) (one_unscheduled c.args.bytes.now c.args.sizes.now c.args.width.bits c.args.reach.size) c.from_residual-in_err-edges.result c.from_residual-in_err-edges.ensures.1
+
+pub returns-in_err-search-clause-cause : goal.returns-in_err-search-clause-cause
+returns-in_err-search-clause-cause c =
+    answered_error (IsUnscheduled c.args.bytes.now c.args.sizes.now c.args.width.bits c.args.reach.size) (one_unscheduled c.args.bytes.now c.args.sizes.now c.args.width.bits c.args.reach.size) c.from_residual-in_err-search.result (of_sched c.in_err-search.field-0.0) c.from_residual-in_err-search.ensures.1 (returns-in_err-search-clause-refused c)
+
+pub returns-clause-cause : goal.returns-clause-cause
+returns-clause-cause c = λ f is some.
+    let found = returns-clause-found c in
+    absurd (not_scheduled c.args.bytes.now c.args.sizes.now c.args.width.bits c.args.reach.size (view_system c.in_ok-search.field-0.flat) f found.serialises found.no_cause is some)

@@ -11,7 +11,7 @@ pub loop-var-init : goal.loop-var-init
 loop-var-init c =
     let s = view_system c.args.flat.now in
     let start : AreWalked s c.as_slice-var-items.result.now 0 0 [] = record { number = refl; added = added_nothing s [] } in
-    subst (AreWalked s c.as_slice-var-items.result.now 0 0) (sym c.new-list.ensures) start
+    (subst (AreWalked s c.as_slice-var-items.result.now 0 0) (sym c.new-list.ensures) start, omega arith)
 
 pub add_variable-requires : goal.add_variable-requires
 add_variable-requires c =
@@ -30,6 +30,5 @@ loop-var-preserved c =
     let l : c.loop-var.var-index < length vars = search rules in
     let t : IsTrue c.is_node.result = search rules in
     let own : IsTrue (is_node (view_variable x)) = sym c.is_node.ensures ∙ t in
-    let next : c.in-Some.next ≡ c.loop-var.node + 1 = search rules in
-    subst (λ (n : _). AreWalked s vars (c.loop-var.var-index + 1) n c.add_variable.new.edges) (sym next)
-    (walked_more s vars c.loop-var.var-index c.loop-var.node x c.loop-var.list c.add_variable.new.edges l c.var-item.is own c.loop-var.invariant c.in_ok-add_variable.ensures)
+    let few = c.loop-var.invariant.1 in
+    (walked_more s vars c.loop-var.var-index c.loop-var.node x c.loop-var.list c.add_variable.new.edges l c.var-item.is own c.loop-var.invariant.0 c.in_ok-add_variable.ensures, omega (arith, few))

@@ -1,8 +1,10 @@
-use Rattle.std.proofs.Common.{sym, subst, List, ◌∙◌}
+use Rattle.std.proofs.Common.{sym, subst, List, map, ◌∙◌}
 use Rattle.std.specs.List.{All}
 use Rattle.std.proofs.lemmas.List.Elements.{All-append}
 use Rattle.av_affine.specs.declared.form.Form.{Form}
 use Rattle.av_poly.specs.Points.{IsSmall}
+use Rattle.av_flat.specs.Quantities.{of_map, steps_under}
+use Rattle.av_normal.proofs.NeverWide.{never_wide}
 use Rattle.av_normal.proofs.Outcomes.{on_ok}
 use Rattle.av_normal.proofs.Reading.{fits_under}
 use Rattle.av_normal.proofs.distribute.append_under.Goals as goal
@@ -16,3 +18,6 @@ returns-in-Ok-None-clause-small c =
     let P : List Form → Type 0 = λ (rows : List Form). All IsSmall rows in
     let small = subst P (sym c.as_slice.ensures) c.domain.invariant in
     on_ok c.append_rows.result c.append_rows.ensures (λ e h. subst P (sym e) (All-append IsSmall c.args.rows.now c.as_slice.result.now h small))
+
+pub unreachable-requires : goal.unreachable-requires
+unreachable-requires c = never_wide (map of_map (steps_under c.args.under.now)) c.in-Err._fault c.requires.narrow c.in-Err.ensures.first c.in-Err.ensures.over

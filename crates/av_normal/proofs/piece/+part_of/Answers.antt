@@ -1,4 +1,4 @@
-use Rattle.std.proofs.Common.{◌≡◌, ◌<◌, ◌+◌, length, map, drop, arith, rules, ap, sym, subst, ◌∙◌, List, refl, OnOk, All}
+use Rattle.std.proofs.Common.{◌≡◌, ◌<◌, ◌≤◌, ◌+◌, [], length, map, drop, arith, rules, ap, sym, subst, ◌∙◌, List, refl, OnOk, All}
 use Rattle.av_affine.specs.declared.form.Form.{Form}
 use Rattle.av_poly.specs.Points.{IsSmall}
 use Rattle.av_flat.specs.declared.tree.Tree.{Tree as TreeMade}
@@ -9,21 +9,26 @@ use Rattle.av_normal.specs.inner.UnderMaps.{IsReading}
 use Rattle.av_normal.specs.inner.PieceByNumber.{IsPartAt}
 use Rattle.av_normal.proofs.Outcomes.{on_ok, if_ok}
 use Rattle.av_normal.proofs.Reading.{fits_read}
-use Rattle.av_normal.proofs.Depths.{less_deep}
-use Rattle.av_normal.proofs.PieceByNumber.{case_readable, next_branch_left, one_branch_more, branch_found, binary_part, choice_part, restriction_part, leaf_part}
+use Rattle.av_normal.proofs.Depths.{less_deep, right_falls, first_falls, second_falls, third_falls, fourth_falls}
+use Rattle.av_normal.proofs.PieceByNumber.{case_readable, case_has_part, has_left, has_right, has_one, has_two, has_three, has_four, next_branch_left, one_branch_more, branch_found, binary_part, choice_part, restriction_part, leaf_part}
+use Rattle.av_flat.specs.Quantities.{piece_count_of_all}
+use Rattle.av_base.proofs.Lists.{nothing_left}
 use Rattle.av_normal.proofs.piece.+part_of.Goals as goal
 
 pub part_of-append_read-requires-clause-fits : goal.part_of-append_read-requires-clause-fits
 part_of-append_read-requires-clause-fits t c =
-    let h : IsReading (signatures_of c.args.vars.now) c.args.under.now c.in-Ref.var c.in-Ref.map = rw c.in-Ref.is at c.requires in
-    fits_read (signatures_of c.args.vars.now) c.args.under.now c.in-Ref.var c.in-Ref.map c.in_ok-map-in-Ref.map c.in_ok-map-in-Ref.ensures.composed h.results
+    let h : IsReading (signatures_of c.args.vars.now) c.args.under.now c.in-Ref.var c.in-Ref.map = rw c.in-Ref.is at c.requires.readable in
+    fits_read (signatures_of c.args.vars.now) c.args.under.now c.in-Ref.var c.in-Ref.map c.composed_map-map.result c.composed_map-map.ensures.composed h.results
 
 -- ---- branches
 
 pub part_of-part_of_case-requires : goal.part_of-part_of_case-requires
 part_of-part_of_case-requires t c = (
   less_deep t c.args.tree.now c.in-Case.branches c.as_slice.result.now c.in-Case.is c.as_slice.ensures c.decreases,
-  case_readable (signatures_of c.args.vars.now) c.args.under.now c.args.tree.now c.in-Case.branches c.as_slice.result.now c.in-Case.is c.as_slice.ensures c.requires,
+  (
+    case_readable (signatures_of c.args.vars.now) c.args.under.now c.args.tree.now c.in-Case.branches c.as_slice.result.now c.in-Case.is c.as_slice.ensures c.requires.readable,
+    case_has_part c.args.tree.now c.in-Case.branches c.as_slice.result.now c.args.number c.in-Case.is c.as_slice.ensures c.requires.number,
+  ),
 )
 
 pub part_of-returns-in-Case-clause-part : goal.part_of-returns-in-Case-clause-part
@@ -32,7 +37,7 @@ part_of-returns-in-Case-clause-part t c =
     rw e c.part_of_case.ensures.part
 
 pub part_of_case-loop-branch-init : goal.part_of_case-loop-branch-init
-part_of_case-loop-branch-init t c = (record { readable = c.requires; few = omega arith; same = λ few. refl }, refl)
+part_of_case-loop-branch-init t c = (record { readable = c.requires.readable; few = omega arith; there = λ less few. less; same = λ few. refl }, refl)
 
 pub part_of_case-loop-branch-preserved : goal.part_of_case-loop-branch-preserved
 part_of_case-loop-branch-preserved t c =
@@ -58,7 +63,69 @@ pub part_of_case-returns-then-left-count-clause-small : goal.part_of_case-return
 part_of_case-returns-then-left-count-clause-small t c =
     subst (λ (rows : List Form). OnOk c.part_of.result (All IsSmall rows → All IsSmall c.part_of.new.rows)) c.loop-branch.invariant.1 c.part_of.ensures.small
 
+pub part_of_case-unreachable-requires : goal.part_of_case-unreachable-requires
+part_of_case-unreachable-requires t c =
+    let l : length c.args.branches.now ≤ c.loop-branch.branch-index = search rules in
+    let h = subst (λ (ts : List TreeMade). c.loop-branch.left < piece_count_of_all (trees_of (map view ts))) (nothing_left c.args.branches.now c.loop-branch.branch-index l)
+    (c.loop-branch.invariant.0.there c.requires.number.0 c.requires.number.1)
+    in
+    omega (arith, h)
+
 -- ---- operands
+
+pub part_of-boxed_part-requires-in-Binary : goal.part_of-boxed_part-requires-in-Binary
+part_of-boxed_part-requires-in-Binary t c = (
+  right_falls t c.args.tree.now c.deref-in-Binary-2.result.now c.decreases c.in-Binary.sign c.in-Binary.left c.in-Binary.right c.in-Binary.is c.deref-in-Binary-2.ensures,
+  (
+    search rules,
+    rw c.deref-in-Binary-2.ensures (has_right c.in-Binary.sign (view c.in-Binary.left.value) (view c.in-Binary.right.value) c.args.number c.two_numbers-first.result.0 c.two_numbers-first.result.1
+        (rw c.deref.ensures at c.two_numbers-first.ensures) (rw c.in-Binary.is at c.requires.number)),
+  ),
+)
+
+pub part_of-boxed_part-requires-in-Choose : goal.part_of-boxed_part-requires-in-Choose
+part_of-boxed_part-requires-in-Choose t c = (
+  first_falls t c.args.tree.now c.deref-in-Choose-4.result.now c.decreases c.in-Choose.compare c.in-Choose.left c.in-Choose.right c.in-Choose.yes c.in-Choose.no c.in-Choose.is c.deref-in-Choose-4.ensures,
+  (
+    search rules,
+    rw c.deref-in-Choose-4.ensures (has_one c.in-Choose.compare (view c.in-Choose.left.value) (view c.in-Choose.right.value) (view c.in-Choose.yes.value) (view c.in-Choose.no.value) c.args.number
+        c.four_numbers-first.result.0 c.four_numbers-first.result.1 c.four_numbers-first.result.2 c.four_numbers-first.result.3
+        (rw (c.deref-in-Choose.ensures, c.deref-in-Choose-2.ensures, c.deref-in-Choose-3.ensures) at c.four_numbers-first.ensures) (rw c.in-Choose.is at c.requires.number)),
+  ),
+)
+
+pub part_of-boxed_part-requires-in-Choose-2 : goal.part_of-boxed_part-requires-in-Choose-2
+part_of-boxed_part-requires-in-Choose-2 t c = (
+  second_falls t c.args.tree.now c.deref-in-Choose-5.result.now c.decreases c.in-Choose.compare c.in-Choose.left c.in-Choose.right c.in-Choose.yes c.in-Choose.no c.in-Choose.is c.deref-in-Choose-5.ensures,
+  (
+    search rules,
+    rw c.deref-in-Choose-5.ensures (has_two c.in-Choose.compare (view c.in-Choose.left.value) (view c.in-Choose.right.value) (view c.in-Choose.yes.value) (view c.in-Choose.no.value) c.args.number
+        c.four_numbers-first.result.0 c.four_numbers-first.result.1 c.four_numbers-first.result.2 c.four_numbers-first.result.3
+        (rw (c.deref-in-Choose.ensures, c.deref-in-Choose-2.ensures, c.deref-in-Choose-3.ensures) at c.four_numbers-first.ensures) (rw c.in-Choose.is at c.requires.number)),
+  ),
+)
+
+pub part_of-boxed_part-requires-in-Choose-3 : goal.part_of-boxed_part-requires-in-Choose-3
+part_of-boxed_part-requires-in-Choose-3 t c = (
+  third_falls t c.args.tree.now c.deref-in-Choose-6.result.now c.decreases c.in-Choose.compare c.in-Choose.left c.in-Choose.right c.in-Choose.yes c.in-Choose.no c.in-Choose.is c.deref-in-Choose-6.ensures,
+  (
+    search rules,
+    rw c.deref-in-Choose-6.ensures (has_three c.in-Choose.compare (view c.in-Choose.left.value) (view c.in-Choose.right.value) (view c.in-Choose.yes.value) (view c.in-Choose.no.value) c.args.number
+        c.four_numbers-first.result.0 c.four_numbers-first.result.1 c.four_numbers-first.result.2 c.four_numbers-first.result.3
+        (rw (c.deref-in-Choose.ensures, c.deref-in-Choose-2.ensures, c.deref-in-Choose-3.ensures) at c.four_numbers-first.ensures) (rw c.in-Choose.is at c.requires.number)),
+  ),
+)
+
+pub part_of-boxed_part-requires-in-Choose-4 : goal.part_of-boxed_part-requires-in-Choose-4
+part_of-boxed_part-requires-in-Choose-4 t c = (
+  fourth_falls t c.args.tree.now c.deref-in-Choose-7.result.now c.decreases c.in-Choose.compare c.in-Choose.left c.in-Choose.right c.in-Choose.yes c.in-Choose.no c.in-Choose.is c.deref-in-Choose-7.ensures,
+  (
+    search rules,
+    rw c.deref-in-Choose-7.ensures (has_four c.in-Choose.compare (view c.in-Choose.left.value) (view c.in-Choose.right.value) (view c.in-Choose.yes.value) (view c.in-Choose.no.value) c.args.number
+        c.four_numbers-first.result.0 c.four_numbers-first.result.1 c.four_numbers-first.result.2 c.four_numbers-first.result.3
+        (rw (c.deref-in-Choose.ensures, c.deref-in-Choose-2.ensures, c.deref-in-Choose-3.ensures) at c.four_numbers-first.ensures) (rw c.in-Choose.is at c.requires.number)),
+  ),
+)
 
 pub part_of-returns-in_ok-right-in-Binary-clause-part : goal.part_of-returns-in_ok-right-in-Binary-clause-part
 part_of-returns-in_ok-right-in-Binary-clause-part t c =

@@ -1,6 +1,6 @@
 use Rattle.std.proofs.Common.{◌≡◌, ◌+◌, ◌<◌, length, arith, pos, drop, drop-cons, add-one, get_or, ◌∙◌, ap, refl}
 use Rattle.av_sched.specs.declared.arc.Arc.{Arc}
-use Rattle.av_sched.specs.inner.Arcs.{raised, raised_all}
+use Rattle.av_sched.specs.inner.Rounds.{raised, raised_all}
 use Rattle.av_sched.proofs.Rounds.{length_raised}
 use Rattle.av_sched.proofs.arc.raise_all.Goals as goal
 

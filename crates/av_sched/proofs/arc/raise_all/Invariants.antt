@@ -1,5 +1,5 @@
 use Rattle.std.proofs.Common.{◌≡◌, drop, length}
-use Rattle.av_sched.specs.inner.Arcs.{raised_all}
+use Rattle.av_sched.specs.inner.Rounds.{raised_all}
 use Rattle.av_sched.proofs.arc.raise_all.Given as goal
 
 -- the arcs that are left make of the offsets what all make of the first ones

@@ -1,7 +1,7 @@
 use Rattle.std.proofs.Common.{sym, subst}
 use Rattle.av_flat.specs.declared.tree.Tree.{Tree as TreeMade}
 use Rattle.av_flat.specs.Trees.{view}
-use Rattle.av_sched.specs.inner.Prices.{HasSmallReferences}
+use Rattle.av_sched.specs.inner.Ways.{HasSmallReferences}
 use Rattle.av_flat.proofs.Falling.{left_falls, right_falls, first_falls, second_falls, third_falls, fourth_falls}
 use Rattle.av_sched.proofs.cost.+add_ways.Goals as goal
 

@@ -1,7 +1,7 @@
 use Rattle.std.proofs.Common.{rules, ◌≡◌, ◌<◌, ◌≤◌, ◌∙◌, refl, sym, ap, subst, length, List, ℕ, arith, ◌+◌, ◌++◌, ◌∷◌, [], All}
 use Rattle.av_flat.specs.Trees.{view_system}
 use Rattle.av_sched.specs.declared.price.Price.{Price}
-use Rattle.av_sched.specs.inner.Prices.{AreFloorsTo}
+use Rattle.av_sched.specs.Prices.{AreFloorsTo}
 use Rattle.av_sched.proofs.Pricing.{floors_first, floors_one, floors_push, floors_next}
 use Rattle.av_sched.proofs.cost.floors_of.Goals as goal
 

@@ -1,6 +1,6 @@
 use Rattle.std.proofs.Common.{drop, length, ◌-◌}
 use Rattle.av_flat.specs.Trees.{view_system}
-use Rattle.av_sched.specs.inner.Prices.{AreFloorsTo, IsFloor}
+use Rattle.av_sched.specs.Prices.{AreFloorsTo, IsFloor}
 use Rattle.av_sched.proofs.cost.floors_of.Given as goal
 
 abbrev pub invariant-loop-k : goal.invariant-loop-k

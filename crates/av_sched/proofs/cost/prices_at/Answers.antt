@@ -2,7 +2,8 @@ use Rattle.std.proofs.Common.{rules, ◌<◌, ◌^◌, sym, subst, length, All, 
 use Rattle.av_flat.specs.Trees.{view_system}
 use Rattle.av_tree.specs.Points.{Point}
 use Rattle.av_sched.specs.declared.price.Price.{Price}
-use Rattle.av_sched.specs.inner.Prices.{IsSmallDirection, ArePricesAt}
+use Rattle.av_sched.specs.inner.Ways.{IsSmallDirection}
+use Rattle.av_sched.specs.Prices.{ArePricesAt}
 use Rattle.av_sched.proofs.Pricing.{price_at, prices_more}
 use Rattle.av_sched.proofs.cost.prices_at.Goals as goal
 

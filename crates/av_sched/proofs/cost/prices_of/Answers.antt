@@ -2,7 +2,7 @@ use Rattle.std.proofs.Common.{◌<◌, ◌∙◌, sym, subst, length, List, get_
 use Rattle.av_flat.specs.Trees.{view_system}
 use Rattle.av_flat.specs.Nodes.{nodes}
 use Rattle.av_tree.specs.Points.{Point}
-use Rattle.av_sched.specs.inner.Prices.{ArePricesAt, ArePricesTo}
+use Rattle.av_sched.specs.Prices.{ArePricesAt, ArePricesTo}
 use Rattle.av_sched.proofs.Steps.{parts_at}
 use Rattle.av_sched.proofs.Pricing.{directions_fit, lists_priced}
 use Rattle.av_sched.proofs.cost.prices_of.Goals as goal

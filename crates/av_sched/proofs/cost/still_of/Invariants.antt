@@ -1,5 +1,5 @@
 use Rattle.std.proofs.Common.{◌≡◌, ◌≤◌, take}
-use Rattle.av_sched.specs.inner.Prices.{still_among}
+use Rattle.av_sched.specs.inner.Ways.{still_among}
 use Rattle.av_sched.proofs.cost.still_of.Given as goal
 
 abbrev pub invariant-loop-k : goal.invariant-loop-k

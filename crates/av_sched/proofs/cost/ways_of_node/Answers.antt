@@ -9,7 +9,7 @@ use Rattle.av_flat.specs.Trees.{Variable, view, view_variable, view_system}
 use Rattle.av_flat.specs.Nodes.{nodes}
 use Rattle.av_flat.specs.Broadcasts.{references}
 use Rattle.av_sched.specs.Order.{references_of}
-use Rattle.av_sched.specs.inner.Prices.{HasSmallReferences, ways_of}
+use Rattle.av_sched.specs.inner.Ways.{HasSmallReferences, ways_of}
 use Rattle.av_sched.proofs.Starting.{at_view}
 use Rattle.av_sched.proofs.Ways.{chained_node, small_seen, pieces_seen}
 use Rattle.av_sched.proofs.cost.ways_of_node.Goals as goal

@@ -2,7 +2,7 @@ use Rattle.std.proofs.Common.{◌≡◌, ◌∙◌, rules, arith, w64, FitsSigne
 use Rattle.std.proofs.lemmas.Int.{ints}
 use Rattle.av_tree.specs.Points.{Point}
 use Rattle.av_sched.specs.Offsets.{part}
-use Rattle.av_sched.specs.inner.Leads.{IsLeastLead}
+use Rattle.av_sched.specs.Leads.{IsLeastLead}
 use Rattle.av_sched.proofs.lead.arc_of.Goals as goal
 use Rattle.av_base.proofs.Lists.{same_default}
 

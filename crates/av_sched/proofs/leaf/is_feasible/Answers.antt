@@ -1,7 +1,7 @@
 use Rattle.std.proofs.Common.{refl, sym, subst, List, Vec, Global, Option, IfSome, IfNone, ℤ, length}
 use Rattle.av_flat.specs.Trees.{view_system}
 use Rattle.av_sched.specs.declared.arc.Arc.{Arc}
-use Rattle.av_sched.specs.inner.Arcs.{Solves, IsLeastSolution}
+use Rattle.av_sched.specs.Arcs.{Solves, IsLeastSolution}
 use Rattle.av_sched.specs.inner.Walk.{AreArcsInside}
 use Rattle.av_sched.proofs.Usable.{usable}
 use Rattle.av_sched.proofs.Inside.{vectors_of, inner_fit, zeros_small, solved_here, unsolved_here}

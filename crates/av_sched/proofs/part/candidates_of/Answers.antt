@@ -1,5 +1,5 @@
 use Rattle.std.proofs.Common.{◌≡◌, ◌∙◌, ◌+◌, ◌-◌, ◌^◌, min, ap, take, arith}
-use Rattle.av_sched.specs.inner.Vectors.{indices_of}
+use Rattle.av_sched.specs.Parts.{indices_of}
 use Rattle.av_sched.proofs.Counting.{capped_power}
 use Rattle.av_sched.proofs.part.candidates_of.Goals as goal
 

@@ -1,5 +1,5 @@
 use Rattle.std.proofs.Common.{◌≡◌, ◌^◌, ◌+◌, ◌-◌, min, take}
-use Rattle.av_sched.specs.inner.Vectors.{indices_of}
+use Rattle.av_sched.specs.Parts.{indices_of}
 use Rattle.av_sched.proofs.part.candidates_of.Given as goal
 
 abbrev pub invariant-loop-k : goal.invariant-loop-k

@@ -1,6 +1,6 @@
 use Rattle.std.proofs.Common.{◌<◌, length, rules}
 use Rattle.av_sched.proofs.Settling.{zip_more}
-use Rattle.av_sched.specs.inner.Leads.{IsArcOf}
+use Rattle.av_sched.specs.Leads.{IsArcOf}
 use Rattle.av_sched.proofs.placing.arcs_of.Goals as goal
 
 pub loop-edge-preserved : goal.loop-edge-preserved

@@ -2,7 +2,7 @@ use Rattle.std.proofs.Common.{◌∙◌, sym, subst, List, ℤ, length, Vec, Glo
 use Rattle.std.specs.List.{AllZip}
 use Rattle.av_flat.specs.Trees.{view_system}
 use Rattle.av_sched.specs.declared.arc.Arc.{Arc}
-use Rattle.av_sched.specs.inner.Leads.{IsArcOf}
+use Rattle.av_sched.specs.Leads.{IsArcOf}
 use Rattle.av_sched.proofs.Usable.{usable}
 use Rattle.av_sched.proofs.Bridge.{arcs_fit}
 use Rattle.av_sched.proofs.Settling.{settled_some, settled_none}

@@ -1,7 +1,8 @@
 use Rattle.std.proofs.Common.{sym, subst, List, All}
 use Rattle.av_flat.specs.Trees.{view_system}
 use Rattle.av_sched.specs.declared.arc.Arc.{Arc}
-use Rattle.av_sched.specs.inner.Arcs.{IsArc, Solves, zeros}
+use Rattle.av_sched.specs.Arcs.{IsArc, Solves}
+use Rattle.av_sched.specs.inner.Rounds.{zeros}
 use Rattle.av_sched.proofs.Inside.{vectors_of}
 use Rattle.av_sched.proofs.Witnesses.{never, usable_places, witnesses_fit, forbidden_here}
 use Rattle.av_sched.proofs.pool.is_forbidden.Goals as goal

@@ -1,6 +1,6 @@
 use Rattle.std.proofs.Common.{◌<◌, ◌≡◌, ◌∙◌, ◌++◌, ◌∷◌, [], sym, ap, subst, length, arith, All}
 use Rattle.std.proofs.lemmas.List.Elements.{All-push}
-use Rattle.av_sched.specs.inner.Walk.{IsPlace}
+use Rattle.av_sched.specs.Places.{IsPlace}
 use Rattle.av_sched.proofs.Bridge.{arcs_length}
 use Rattle.av_sched.proofs.pool.learn.Goals.{then-not-is_listed+in_ok-push, else-not-is_listed}
 use Rattle.av_sched.proofs.pool.learn.Goals as goal

@@ -1,5 +1,5 @@
 use Rattle.std.proofs.Common.{All}
-use Rattle.av_sched.specs.inner.Walk.{IsPlace}
+use Rattle.av_sched.specs.Places.{IsPlace}
 use Rattle.av_sched.proofs.pool.learn.Given as goal
 
 abbrev pub invariant-loop-k : goal.invariant-loop-k

@@ -1,6 +1,6 @@
 use Rattle.std.proofs.Common.{rules, ◌<◌, sym, subst, length}
 use Rattle.std.proofs.lemmas.List.Elements.{All-push}
-use Rattle.av_sched.specs.inner.Walk.{IsPlace, IsWitnessAt}
+use Rattle.av_sched.specs.Places.{IsPlace, IsWitnessAt}
 use Rattle.av_sched.proofs.pool.witness_arcs.Goals as goal
 
 pub loop-place-preserved : goal.loop-place-preserved

@@ -1,5 +1,5 @@
 use Rattle.std.proofs.Common.{All}
-use Rattle.av_sched.specs.inner.Walk.{IsWitnessAt}
+use Rattle.av_sched.specs.Places.{IsWitnessAt}
 use Rattle.av_sched.proofs.pool.witness_arcs.Given as goal
 
 abbrev pub invariant-loop-place : goal.invariant-loop-place

@@ -1,15 +1,29 @@
-use Rattle.std.proofs.Common.{◌<◌, subst, ℕ, length, IfOk}
+use Rattle.std.proofs.Common.{◌≡◌, ◌<◌, ◌≤◌, refl, subst, ℕ, length, map, not, IfOk, arith, rules}
+use Rattle.std.proofs.lemmas.List.{length-map}
+use Rattle.std.proofs.lemmas.List.Filters.{length-filter_both}
 use Rattle.std.proofs.lemmas.Result.{IfOk-weaker}
 use Rattle.std.proofs.lemmas.List.Elements.{All-weaker}
-use Rattle.av_flat.specs.Trees.{view_system}
-use Rattle.av_flat.specs.Nodes.{nodes}
+use Rattle.av_flat.specs.Trees.{Variable, view_variable, view_system}
+use Rattle.av_flat.specs.Nodes.{is_node, nodes}
 use Rattle.av_depend.specs.declared.edge.Edge.{Edge}
 use Rattle.av_depend.specs.Components.{ReadsNode, IsJoined, AreComponents}
 use Rattle.av_depend.proofs.Unique.{components_so}
-use Rattle.av_sched.specs.inner.Leads.{IsUsable}
+use Rattle.av_sched.specs.Leads.{IsUsable}
 use Rattle.av_sched.proofs.Usable.{usable}
 use Rattle.av_sched.proofs.Inside.{vectors_of}
 use Rattle.av_sched.proofs.searching.components_of.Goals as goal
+
+-- nodes are variables, and these stand in a list
+pub overflow_cast-linear : goal.overflow_cast-linear
+overflow_cast-linear c =
+    let s = view_system c.args.flat.now in
+    let kept = length-filter_both is_node (λ (v : Variable). not (is_node v)) (λ v. refl) s.variables in
+    let all : length s.variables ≡ length c.args.flat.now.vars = length-map c.args.flat.now.vars view_variable in
+    let most = c.len-most.ensures.most in
+    let few : length (nodes s) ≤ 1073741824 = omega (arith, kept, all, most) in
+    let each = c.requires.linear.one_each in
+    let small : length c.args.linear.now ≤ 1073741824 = omega (arith, each, few) in
+    search (rules, small)
 
 pub components-requires-clause-consumers : goal.components-requires-clause-consumers
 components-requires-clause-consumers c =

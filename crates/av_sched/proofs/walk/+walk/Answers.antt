@@ -2,7 +2,8 @@ use Rattle.std.proofs.Common.{rules, ◌≡◌, ◌<◌, ◌≤◌, ◌∙◌, s
 use Rattle.std.specs.Prelude.{List, slice_set, slice_index_or, ℕ}
 use Rattle.av_flat.specs.Trees.{view_system}
 use Rattle.av_tree.specs.Points.{Point}
-use Rattle.av_sched.specs.inner.Walk.{known, HasWalked, IsPlace}
+use Rattle.av_sched.specs.inner.Walk.{known, HasWalked}
+use Rattle.av_sched.specs.Places.{IsPlace}
 use Rattle.av_sched.proofs.Steps.{IsWalking, node_at_level, walking_more, walking_done, next_like, same_next, node_within, before_apart, set_valid, parts_at, part_is_valid, take_more}
 use Rattle.av_sched.specs.declared.price.Price.{Price}
 use Rattle.av_sched.proofs.Walking.{nothing_there}

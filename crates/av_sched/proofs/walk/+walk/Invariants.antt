@@ -1,7 +1,6 @@
 use Rattle.std.proofs.Common.{take, length, ◌-◌, ◌+◌}
 use Rattle.av_flat.specs.Trees.{view_system}
-use Rattle.av_sched.specs.inner.Walk.{known}
-use Rattle.av_sched.specs.inner.Prices.{IsRated}
+use Rattle.av_sched.specs.inner.Walk.{known, IsRated}
 use Rattle.av_sched.proofs.Steps.{IsWalking}
 use Rattle.av_sched.proofs.walk.+walk.Given as goal
 

@@ -10,7 +10,7 @@ use Rattle.av_serial.specs.inner.Tries.{IsDomainOf}
 use Rattle.av_serial.specs.inner.Premises.{HasPremises}
 use Rattle.av_serial.specs.inner.Building.{AreMade}
 use Rattle.av_serial.proofs.Building.{made_two, made_four, made_empty, made_within, made_reduction, made_grows}
-use Rattle.av_serial.proofs.Falling.{left_falls, right_falls, first_falls, second_falls, third_falls, fourth_falls, body_falls}
+use Rattle.av_normal.proofs.Depths.{left_falls, right_falls, first_falls, second_falls, third_falls, fourth_falls, body_falls}
 use Rattle.av_serial.proofs.Finding.{set_point}
 use Rattle.av_serial.proofs.Premises.{ready_left, ready_right, ready_first, ready_second, ready_third, ready_fourth, ready_inside}
 use Rattle.av_serial.proofs.build.+chained.Goals as goal

@@ -1,0 +1,78 @@
+-- All nodes together as a component: their numbers are their places.
+use Rattle.std.proofs.Common.{◌≡◌, ℕ, zero, suc, ◌+◌, ◌<◌, ◌≤◌, Bool, true, false, cond, List, [], ◌∷◌, ◌++◌, length, take, get_or, add-one, sym, ap, ap₂, subst, ◌∙◌, arith, zero-add, add-zero, All}
+use Rattle.std.specs.Prelude.{AllPairs, filter}
+use Rattle.std.specs.List.{range_with_len}
+use Rattle.std.proofs.lemmas.List.FromFn.{length-range_with_len, get_or-range_with_len}
+use Rattle.std.proofs.lemmas.List.Filters.{length-filter_more}
+use Rattle.av_tree.specs.Points.{Point}
+use Rattle.av_flat.specs.Trees.{Variable, FlatSystem}
+use Rattle.av_flat.specs.Nodes.{is_node, nodes}
+use Rattle.av_sched.specs.Offsets.{part}
+use Rattle.av_sched.specs.Choices.{AreLinearParts}
+use Rattle.av_sched.specs.Parts.{Agrees}
+use Rattle.av_sched.proofs.OneSchedule.{list_is}
+use Rattle.av_best.specs.Least.{all_nodes}
+
+pub as_many : (s : FlatSystem) → length (all_nodes s) ≡ length (nodes s)
+as_many s = length-range_with_len 0 (length (nodes s))
+
+pub node_there : (s : FlatSystem) (k d : ℕ) → k < length (nodes s) → get_or (all_nodes s) k d ≡ k
+node_there s k d l = get_or-range_with_len 0 (length (nodes s)) k d l ∙ zero-add k
+
+pub all_within : (s : FlatSystem) → All (λ n. n < length (nodes s)) (all_nodes s)
+all_within s = λ k d l.
+    let m : k < length (nodes s) = (let e = as_many s in omega (arith, l, e)) in
+    subst (λ (n : ℕ). n < length (nodes s)) (sym (node_there s k d m)) m
+
+pub all_apart : (s : FlatSystem) → AllPairs (λ m n. m < n) (all_nodes s)
+all_apart s = λ i j d l m.
+    let e = as_many s in
+    let p = node_there s i d (omega (arith, l, m, e)) in
+    let q = node_there s j d (omega (arith, m, e)) in
+    omega (arith, p, q, l)
+
+pub range_push : (a n j : ℕ) → a + n ≡ j → range_with_len a (n + 1) ≡ range_with_len a n ++ j ∷ []
+range_push a zero j e = ap (λ i. i ∷ []) (let q : a ≡ j = omega (arith, e) in q)
+range_push a (suc n) j e = rw add-one (ap (λ xs. a ∷ xs) (subst (λ (k : ℕ). range_with_len (a + 1) k ≡ range_with_len (a + 1) n ++ j ∷ []) (add-one n) (range_push (a + 1) n j (omega (arith, e)))))
+
+-- ---- numbering the nodes among variables
+
+abbrev one_if : Bool → ℕ
+one_if b = cond b 1 0
+
+-- a variable that is a node takes the next number
+pub numbered_more : (vs : List Variable) (k : ℕ) (v : Variable) (ns : List ℕ) → k < length vs → v ≡ get_or vs k v → is_node v ≡ true → ns ≡ range_with_len 0 (length (filter is_node (take k vs)))
+    → ns ++ length ns ∷ [] ≡ range_with_len 0 (length (filter is_node (take (k + 1) vs)))
+numbered_more vs k v ns l is node e =
+    let n = length (filter is_node (take k vs)) in
+    let one : one_if (is_node (get_or vs k v)) ≡ 1 = ap (λ (w : Variable). one_if (is_node w)) (sym is) ∙ ap one_if node in
+    let more : length (filter is_node (take (k + 1) vs)) ≡ n + 1 = length-filter_more is_node vs k v l ∙ ap (λ (m : ℕ). n + m) one in
+    let many : length ns ≡ n = ap length e ∙ length-range_with_len 0 n in
+    ap₂ (λ (xs : List ℕ) (m : ℕ). xs ++ m ∷ []) e many ∙ sym (range_push 0 n n (zero-add n)) ∙ ap (range_with_len 0) (sym more)
+
+-- another one takes none
+pub numbered_same : (vs : List Variable) (k : ℕ) (v : Variable) (ns : List ℕ) → k < length vs → v ≡ get_or vs k v → is_node v ≡ false → ns ≡ range_with_len 0 (length (filter is_node (take k vs)))
+    → ns ≡ range_with_len 0 (length (filter is_node (take (k + 1) vs)))
+numbered_same vs k v ns l is other e =
+    let n = length (filter is_node (take k vs)) in
+    let none : one_if (is_node (get_or vs k v)) ≡ 0 = ap (λ (w : Variable). one_if (is_node w)) (sym is) ∙ ap one_if other in
+    let same : length (filter is_node (take (k + 1) vs)) ≡ n = length-filter_more is_node vs k v l ∙ ap (λ (m : ℕ). n + m) none ∙ add-zero n in
+    e ∙ ap (range_with_len 0) (sym same)
+
+-- ---- choices
+
+-- choices that agree have the same parts
+pub agreed : (s : FlatSystem) (k : ℕ) (linear other : List Point) → k ≤ length (nodes s) → Agrees (all_nodes s) k linear other → (j : ℕ) → j < k → part other j ≡ part linear j
+agreed s k linear other few agrees j l = subst (λ (n : ℕ). part other n ≡ part linear n) (node_there s j 0 (omega (arith, few, l))) (agrees j l)
+
+-- those that agree in all nodes are the same
+pub same_choice : (s : FlatSystem) (c : ℕ) (linear other : List Point) → AreLinearParts s c linear → AreLinearParts s c other → Agrees (all_nodes s) (length (all_nodes s)) linear other → other ≡ linear
+same_choice s c linear other are parts agrees =
+    let a = are.one_each in
+    let b = parts.one_each in
+    let e = as_many s in
+    list_is [] other linear (b ∙ sym a) (λ i l. agreed s (length (all_nodes s)) linear other (omega (arith, e)) agrees i (omega (arith, l, a, e)))
+
+-- a choice has a part for each of all nodes
+pub parts_within : (s : FlatSystem) (c : ℕ) (linear : List Point) (ns : List ℕ) → ns ≡ all_nodes s → AreLinearParts s c linear → All (λ n. n < length linear) ns
+parts_within s c linear ns e are = subst (All (λ n. n < length linear)) (sym e) (λ k d l. let w = all_within s k d l in let one = are.one_each in omega (arith, w, one))

@@ -1,0 +1,88 @@
+use Rattle.std.proofs.Common.{◌≡◌, ◌<◌, ◌∙◌, ◌++◌, ◌∷◌, [], ℕ, List, sym, ap, subst, length, get_or, arith, rules, All}
+use Rattle.std.specs.Prelude.{slice_index_or}
+use Rattle.std.proofs.lemmas.List.Elements.{All-push}
+use Rattle.av_flat.specs.Trees.{view_system}
+use Rattle.av_flat.specs.Nodes.{nodes}
+use Rattle.av_sched.specs.Leads.{IsUsable}
+use Rattle.av_sched.specs.Places.{IsPlace}
+use Rattle.av_sched.proofs.Bridge.{arcs_length}
+use Rattle.av_best.proofs.Every.{as_many, node_there}
+use Rattle.av_best.proofs.learn.learn.Goals.{then-not-is_listed+in_ok-push, else-not-is_listed}
+use Rattle.av_best.proofs.learn.learn.Goals as goal
+
+pub bounds-edges-k : goal.bounds-edges-k
+bounds-edges-k c =
+    let items = c.deref-k-items.result.now in
+    let l : c.loop-k.k-index < length items = search rules in
+    let each = subst (All (λ (j : ℕ). j < length c.args.arcs.now)) (sym c.deref-k-items.ensures.value) c.in_ok-chosen.ensures in
+    let own = each c.loop-k.k-index 0 l in
+    let same = arcs_length c.args.linear.now c.args.edges.now c.args.arcs.now c.requires.arcs in
+    omega (arith, own, same)
+
+pub offset_bounds-edges-k : goal.offset_bounds-edges-k
+offset_bounds-edges-k c =
+    let items = c.deref-k-items.result.now in
+    let l : c.loop-k.k-index < length items = search rules in
+    let each = subst (All (λ (j : ℕ). j < length c.args.arcs.now)) (sym c.deref-k-items.ensures.value) c.in_ok-chosen.ensures in
+    let own = each c.loop-k.k-index 0 l in
+    let same = arcs_length c.args.linear.now c.args.edges.now c.args.arcs.now c.requires.arcs in
+    let within : get_or items c.loop-k.k-index 0 < length c.args.edges.now = omega (arith, own, same) in
+    omega arith
+
+pub place_of_edge-place-requires-clause-usable : goal.place_of_edge-place-requires-clause-usable
+place_of_edge-place-requires-clause-usable c =
+    let items = c.deref-k-items.result.now in
+    let l : c.loop-k.k-index < length items = search rules in
+    let each = subst (All (λ (j : ℕ). j < length c.args.arcs.now)) (sym c.deref-k-items.ensures.value) c.in_ok-chosen.ensures in
+    let own = each c.loop-k.k-index 0 l in
+    let same = arcs_length c.args.linear.now c.args.edges.now c.args.arcs.now c.requires.arcs in
+    let within : get_or items c.loop-k.k-index 0 < length c.args.edges.now = omega (arith, own, same) in
+    subst (IsUsable c.args.linear.now) (sym c.index-edges-k.is) (c.requires.usable (get_or items c.loop-k.k-index 0) c.index-edges-k.result within)
+
+pub place_of_edge-place-requires-clause-among : goal.place_of_edge-place-requires-clause-among
+place_of_edge-place-requires-clause-among c =
+    let items = c.deref-k-items.result.now in
+    let l : c.loop-k.k-index < length items = search rules in
+    let each = subst (All (λ (j : ℕ). j < length c.args.arcs.now)) (sym c.deref-k-items.ensures.value) c.in_ok-chosen.ensures in
+    let own = each c.loop-k.k-index 0 l in
+    let same = arcs_length c.args.linear.now c.args.edges.now c.args.arcs.now c.requires.arcs in
+    let within : get_or items c.loop-k.k-index 0 < length c.args.edges.now = omega (arith, own, same) in
+    (get_or items c.loop-k.k-index 0, within, sym c.index-edges-k.is)
+
+pub place_of_edge-place-requires-clause-reader_within : goal.place_of_edge-place-requires-clause-reader_within
+place_of_edge-place-requires-clause-reader_within c = let u = (place_of_edge-place-requires-clause-usable c).consumer_within in let m = c.requires.many in omega (arith, u, m)
+
+pub place_of_edge-place-requires-clause-read_within : goal.place_of_edge-place-requires-clause-read_within
+place_of_edge-place-requires-clause-read_within c = let u = (place_of_edge-place-requires-clause-usable c).producer_within in let m = c.requires.many in omega (arith, u, m)
+
+pub place_of_edge-place-requires-clause-reader : goal.place_of_edge-place-requires-clause-reader
+place_of_edge-place-requires-clause-reader c =
+    let s = view_system c.args._flat.now in
+    let n = c.index-edges-k.result.consumer in
+    let u = (place_of_edge-place-requires-clause-usable c).consumer_within in
+    let m = c.requires.many in
+    let e = ap length c.requires.nodes ∙ as_many s in
+    let l : n < length (nodes s) = omega (arith, u, m, e) in
+    ap (λ (xs : List ℕ). slice_index_or xs n 0) c.requires.nodes ∙ node_there s n 0 l
+
+pub place_of_edge-place-requires-clause-read : goal.place_of_edge-place-requires-clause-read
+place_of_edge-place-requires-clause-read c =
+    let s = view_system c.args._flat.now in
+    let n = c.index-edges-k.result.producer in
+    let u = (place_of_edge-place-requires-clause-usable c).producer_within in
+    let m = c.requires.many in
+    let e = ap length c.requires.nodes ∙ as_many s in
+    let l : n < length (nodes s) = omega (arith, u, m, e) in
+    ap (λ (xs : List ℕ). slice_index_or xs n 0) c.requires.nodes ∙ node_there s n 0 l
+
+pub loop-k-preserved : goal.loop-k-preserved
+loop-k-preserved c =
+    let P = IsPlace c.args.edges.now c.args.nodes.now in
+    elim c.if-not-is_listed.branch [
+      | then-not-is_listed+in_ok-push w ↦
+          let e : c.if-not-is_listed.pool.items ≡ c.loop-k.pool.items ++ c.place_of_edge-place.result ∷ [] = ap (λ v. v.items) w.pool-is ∙ w.in_ok-push.ensures.items in
+          subst (All P) (sym e) (All-push P c.loop-k.pool.items c.place_of_edge-place.result c.loop-k.invariant c.place_of_edge-place.ensures)
+      | else-not-is_listed w ↦
+          let e : c.if-not-is_listed.pool.items ≡ c.loop-k.pool.items = ap (λ v. v.items) w.pool-is in
+          subst (All P) (sym e) c.loop-k.invariant
+    ]

@@ -1,0 +1,94 @@
+//! A number of cycles that no schedule with given first parts is below.
+
+ghost use Rattle.std.specs.Prelude.{◌≡◌, ◌≤◌, ◌<◌, ◌⊎◌, ◌^◌, pos, ◌+ℤ◌, ◌<ℤ◌, unsigned_abs, length, All, IfOk};
+ghost use Rattle.std.proofs.Math.IntN.{neg_ℤ};
+ghost use Rattle.av_flat.specs.Trees.{view_system};
+ghost use Rattle.av_flat.specs.Chained.{IsChained};
+ghost use Rattle.av_flat.specs.Proper.{IsProper};
+ghost use Rattle.av_depend.specs.Edges.{AreEdgesOf};
+ghost use Rattle.av_sched.specs.Choices.{AreLinearParts};
+ghost use Rattle.av_sched.specs.Places.{IsPlace};
+ghost use Rattle.av_best.specs.Least.{all_nodes};
+ghost use Rattle.av_best.specs.inner.Spans.{AreSpanned, IsLeastAbove, AreLows, AreSmallSpans};
+ghost use Rattle.av_best.specs.inner.Joint.{IsBounded};
+
+use crate::span::Span;
+use av_base::{Memory, Point};
+use av_depend::Edge;
+use av_flat::{Flat, Reach};
+use av_sched::{Place, Room, raise_to_least, witness_arcs};
+
+// The number of cycles up to the last one of a node.
+fn through(offset: i64, high: i64) -> u64
+    ensures above { (offset +ℤ high) <ℤ pos result }
+    ensures reached { (result ≡ 0) ⊎ ((offset +ℤ high) +ℤ pos 1 ≡ pos result) }
+{
+    let next = i128::from(offset) + i128::from(high) + 1;
+    if next > 0 { next as u64 } else { 0 }
+}
+
+/// The least number above the last cycles of the first nodes.
+pub(crate) fn least_above(offsets: &[i64], spans: &[Span], many: usize) -> u64
+    requires offsets { many ≤ length offsets.now }
+    requires spans { many ≤ length spans.now }
+    ensures { IsLeastAbove offsets.now spans.now many result }
+{
+    let mut cycles: u64 = 0;
+    for j in 0..many {
+        cycles = cycles.max(through(offsets[j], spans[j].high));
+    }
+    cycles
+}
+
+// The number with its sign turned.
+fn turned(low: i64) -> i64
+    requires { unsigned_abs low ≤ 2 ^ 29 }
+    ensures { result ≡ neg_ℤ low }
+{
+    -low
+}
+
+/// Sets the offsets with which the first cycles of the first nodes are 0.
+pub(crate) fn set_starts(spans: &[Span], many: usize, offsets: &mut Vec<i64>) -> Result<(), Memory>
+    requires spans { many ≤ length spans.now }
+    requires small { AreSmallSpans many spans.now }
+    ensures { IfOk result (λ done. AreLows many spans.now offsets.new.items) }
+{
+    offsets.clear();
+    for j in 0..many {
+        offsets.push(turned(spans[j].low))?;
+    }
+    Ok(())
+}
+
+/// No schedule with these parts for the first nodes is shorter; None where there is no schedule with them. It is judged by the
+/// places of the pool alone.
+pub(crate) fn bound(
+    _flat: &Flat,
+    edges: &[Edge],
+    _reach: Reach,
+    nodes: &[u32],
+    level: usize,
+    linear: &[Point],
+    spans: &[Span],
+    pool: &[Place],
+    room: &mut Room,
+) -> Result<Option<u64>, Memory>
+    requires chained { IsChained (view_system _flat.now) }
+    requires proper { IsProper (view_system _flat.now) }
+    requires edges { AreEdgesOf (view_system _flat.now) edges.now }
+    requires nodes { nodes.now ≡ all_nodes (view_system _flat.now) }
+    requires few { length nodes.now ≤ 1073741824 }
+    requires level { level ≤ length nodes.now }
+    requires linear { AreLinearParts (view_system _flat.now) _reach.size linear.now }
+    requires spans { AreSpanned (view_system _flat.now) level linear.now spans.now }
+    requires pool { All (IsPlace edges.now nodes.now) pool.now }
+    ensures { IfOk result (IsBounded (view_system _flat.now) _reach.size level linear.now) }
+{
+    witness_arcs(edges, nodes, level, linear, pool, &mut room.arcs)?;
+    set_starts(spans, level, &mut room.off)?;
+    if !raise_to_least(&room.arcs, &mut room.off, &mut room.old)? {
+        return Ok(None);
+    }
+    Ok(Some(least_above(&room.off, spans, level)))
+}

@@ -1,0 +1,100 @@
+//! How far the values of linear parts reach over the points of nodes.
+
+ghost use Rattle.std.specs.Prelude.{◌≡◌, ◌≤◌, ◌<◌, length, map, All, IfOk};
+ghost use Rattle.av_affine.specs.Numbers.{AtMost};
+ghost use Rattle.av_flat.specs.Trees.{view_system};
+ghost use Rattle.av_flat.specs.Nodes.{nodes};
+ghost use Rattle.av_flat.specs.Chained.{IsChained};
+ghost use Rattle.av_flat.specs.Proper.{IsProper};
+ghost use Rattle.av_sched.specs.Leads.{IsSmallPoint, IsSmallPart};
+ghost use Rattle.av_sched.specs.Parts.{AreAllParts};
+ghost use Rattle.av_best.specs.Least.{all_nodes};
+ghost use Rattle.av_best.specs.inner.Spans.{IsSpanOver, ArePointsOf, AreSpansAt, AreSpansTo};
+
+use av_base::{List, Memory, Point};
+use av_depend::generating_points;
+use av_elim::box_of;
+use av_flat::{Flat, Reach};
+use av_sched::{place_of, products};
+use std::alloc::Global;
+
+// The least and the greatest value of a linear part over the points of a node.
+#[derive(Clone, Copy, Debug)]
+pub(crate) struct Span {
+    pub low: i64,
+    pub high: i64,
+}
+
+/// The span of a part over listed points.
+pub(crate) fn span_over(points: &[Point], part: &Point) -> Span
+    requires some { 0 < length points.now }
+    requires part { IsSmallPart (length part.now) part.now }
+    requires points { All (IsSmallPoint (length part.now)) points.now }
+    ensures { IsSpanOver points.now part.now result }
+{
+    let first = products(part.as_slice(), points[0].as_slice());
+    let mut low = first;
+    let mut high = first;
+    for k in 1..points.len() {
+        let value = products(part.as_slice(), points[k].as_slice());
+        low = low.min(value);
+        high = high.max(value);
+    }
+    Span { low, high }
+}
+
+/// Points of a node by which every linear part can be judged.
+pub(crate) fn points_of(alloc: Global, flat: &Flat, node: usize) -> Result<List<Point>, Memory>
+    requires chained { IsChained (view_system flat.now) }
+    requires within { node < length (nodes (view_system flat.now)) }
+    ensures { IfOk result (ArePointsOf (view_system flat.now) node) }
+{
+    let vars = flat.vars.as_slice();
+    let domain = &vars[place_of(flat, node)].domain;
+    match box_of(alloc, domain)? {
+        Some(extent) => generating_points(alloc, domain, &extent),
+        None => unreachable!(),
+    }
+}
+
+// The span of each part over the points of a node.
+fn spans_at(
+    alloc: Global,
+    _flat: &Flat,
+    _node: usize,
+    points: &[Point],
+    parts: &[Point],
+) -> Result<List<Span>, Memory>
+    requires points { ArePointsOf (view_system _flat.now) _node points.now }
+    requires parts { All (λ a. IsSmallPart (length a) a) parts.now }
+    requires fits { All (λ a. All (IsSmallPoint (length a)) points.now) parts.now }
+    ensures { IfOk result (AreSpansAt (view_system _flat.now) _node parts.now) }
+{
+    let mut spans = List::new(alloc);
+    for part in parts {
+        spans.push(span_over(points, part))?;
+    }
+    Ok(spans)
+}
+
+/// The span of each linear part that a node can have, node by node.
+pub(crate) fn spans_of(
+    alloc: Global,
+    flat: &Flat,
+    _reach: Reach,
+    nodes: &[u32],
+    lists: &[List<Point>],
+) -> Result<List<List<Span>>, Memory>
+    requires chained { IsChained (view_system flat.now) }
+    requires proper { IsProper (view_system flat.now) }
+    requires nodes { nodes.now ≡ all_nodes (view_system flat.now) }
+    requires lists { AreAllParts (view_system flat.now) _reach.size nodes.now lists.now }
+    ensures { IfOk result (AreSpansTo (view_system flat.now) (length nodes.now) lists.now) }
+{
+    let mut spans = List::new(alloc);
+    for k in 0..lists.len() {
+        let points = points_of(alloc, flat, k)?;
+        spans.push(spans_at(alloc, flat, k, points.as_slice(), lists[k].as_slice())?)?;
+    }
+    Ok(spans)
+}

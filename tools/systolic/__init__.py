@@ -1,0 +1,19 @@
+"""What `tools/picture`, `tools/play`, `tools/testbench` and the checks beside them share.
+
+They read what the program writes and prove nothing.
+
+| Module | Has |
+|---|---|
+| `command` | the words and the text that a tool is given, and the program's answers |
+| `verilog` | an emitted module, read line by line, and its clocked run |
+| `listing` | the listing before a module, and the lines of `table` and `schedule` |
+| `array` | the array: cells, what they compute when, links and ports |
+| `formula` | what a cell computes, as a formula |
+| `layout` | where each cell, link and port stands in the picture |
+| `svg` | colours, and the few shapes that the pictures are made of |
+| `picture`, `spacetime` | the two pictures |
+| `clocked` | a run on data, compared with what `run` and `trace` write |
+| `bench` | a test bench in Verilog |
+| `page` | the page that plays a run; `page.html` is its frame |
+| `examples` | the texts in examples/ |
+"""
