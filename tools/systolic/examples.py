@@ -19,11 +19,23 @@ def variants(folder):
     return sorted({re.sub(r"[^.]+\.expected$", "", name) for name in os.listdir(folder) if name.endswith(".expected")})
 
 
+def folders(names):
+    return [(name, f"{TOP}/examples/{name}") for name in names or sorted(entry.name for entry in os.scandir(f"{TOP}/examples") if entry.is_dir())]
+
+
+def sims(names=()):
+    """Gives each stored run of `sim`: its name, the Verilog text, the stimulus behind it, and what it writes."""
+    for name, folder in folders(names):
+        for variant in variants(folder):
+            if os.path.exists(f"{folder}/{variant}sim.expected"):
+                text = held(folder, variant, "text.v") or held(folder, "", "emit.expected")
+                yield f"{name}/{variant}".rstrip("/."), text, held(folder, variant, "stimulus"), held(folder, variant, "sim.expected")
+
+
 def examples(kernels=()):
     """Gives each text with its sizes once, by name: those of some kernels, or of all. A text has its data where it has any."""
     seen = set()
-    for kernel in kernels or sorted(entry.name for entry in os.scandir(f"{TOP}/examples") if entry.is_dir()):
-        folder = f"{TOP}/examples/{kernel}"
+    for kernel, folder in folders(kernels):
         for variant in variants(folder):
             text, words, data = (held(folder, variant, name) for name in ("text.alpha", "words", "data"))
             if text and (text, words) not in seen:
