@@ -468,15 +468,21 @@ def meaning(operation, words, width):
     return int(getattr(words[0], tests[form])(words[1])) if form else first
 
 
-def simulated(text, stimulus):
-    """Gives what `alphav sim` is to write for a text and a stimulus that is well formed: the lines of the run, or a refusal."""
-    try:
-        design = Design(text)
-    except Fault as fault:
-        return f"refused: verilog {fault}\n"
+def read_stimulus(design, stimulus):
+    """Gives the words of the input ports in each cycle, of a stimulus that is well formed."""
     lines = [line.split() for line in re.sub(r"--.*", "", stimulus).splitlines() if line.split() not in ([], ["%%"])]
     ports = [dict.fromkeys(design.top.inputs, 0) for _ in range(int(lines[0][1]))]
     for _, cycle, port, value in lines[1:]:
         ports[int(cycle)][port] = int(value)
+    return ports
+
+
+def simulated(text, stimulus):
+    """Gives what `alphav sim` is to write for a text and a stimulus: the lines of the run, or the text's refusal."""
+    try:
+        design = Design(text)
+    except Fault as fault:
+        return f"refused: verilog {fault}\n"
     shown = [*design.top.inputs, *design.top.outputs]
-    return "".join(" ".join([str(cycle), *[f"{port}={words[port]}" for port in shown]]) + "\n" for cycle, words in enumerate(design.run(ports)))
+    lines = enumerate(design.run(read_stimulus(design, stimulus)))
+    return "".join(" ".join([str(cycle), *[f"{port}={words[port]}" for port in shown]]) + "\n" for cycle, words in lines)

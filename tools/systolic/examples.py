@@ -32,6 +32,17 @@ def sims(names=()):
                 yield f"{name}/{variant}".rstrip("/."), text, held(folder, variant, "stimulus"), held(folder, variant, "sim.expected")
 
 
+def constants():
+    """Gives each module text that stands as a constant in a test of designs: where it stands, and the text."""
+    folder = "crates/av_verilog_tests/src"
+    for file in sorted(os.listdir(f"{TOP}/{folder}")):
+        with open(f"{TOP}/{folder}/{file}", encoding="utf-8") as it:
+            source = it.read()
+        for name, text in re.findall(r'(?s)const (\w+): &str\s*=\s*"((?:[^"\\]|\\.)*)"', source):
+            if "endmodule" in text:
+                yield f"{folder}/{file} {name}", text.replace("\\n", "\n")
+
+
 def examples(kernels=()):
     """Gives each text with its sizes once, by name: those of some kernels, or of all. A text has its data where it has any."""
     seen = set()
