@@ -13,9 +13,9 @@ INDEX = r"(?:0|-?[1-9]\d*)"
 LISTED = re.compile(rf"// (in|at) ([A-Za-z]\w*) \(((?:{INDEX}(?:,{INDEX})*)?)\) (\w+) (0|[1-9]\d*)", re.ASCII)
 ALPHA_WORDS = set("system returns var let tel case esac if then else reduce min max of integer word".split())
 
-Token = namedtuple("Token", "kind text place")            # the place is the line and the column
+Token = namedtuple("Token", "kind text at")
 Literal = namedtuple("Literal", "width value")
-Operation = namedtuple("Operation", "form operands numbers")    # an operator, `$signed` and an operator, "" for an operand alone, "?", "part" or "widen"
+Operation = namedtuple("Operation", "form operands numbers")      # the form is an operator, `$signed` with one, "", "?", "part" or "widen"
 Assign = namedtuple("Assign", "target operation")
 Always = namedtuple("Always", "target reset operand")
 Instance = namedtuple("Instance", "target kind links")    # the target is the instance's own name, and a link is a port and an operand
@@ -25,18 +25,21 @@ class Fault(Exception):
     """The text is refused for this."""
 
 
+def place(text, at):
+    """Gives the line and the column of a byte."""
+    return f"{text.count(chr(10), 0, at) + 1}:{at - text.rfind(chr(10), 0, at)}"
+
+
 def tokens(text):
     """Gives the tokens of a text, or its first byte that begins none."""
     found, at = [], SKIPPED.match(text).end()
     while at < len(text):
-        place = (text.count("\n", 0, at) + 1, at - text.rfind("\n", 0, at))
         here = TOKEN.match(text, at)
         if not here:
-            raise Fault("bad byte {}:{}".format(*place))
-        kind = "word" if here.group() in RESERVED else here.lastgroup
-        found.append(Token(kind, here.group(), place))
+            raise Fault(f"bad byte {place(text, at)}")
+        found.append(Token("word" if here.group() in RESERVED else here.lastgroup, here.group(), at))
         at = SKIPPED.match(text, here.end()).end()
-    return [*found, Token("end", "", (text.count("\n") + 1, len(text) - text.rfind("\n")))]
+    return [*found, Token("end", "", len(text))]
 
 
 class ModuleText:
@@ -54,6 +57,9 @@ class ModuleText:
         if sort != "inputs":
             self.undriven.append(name)
 
+    def has(self, name):
+        return any(name in ports for ports in (self.inputs, self.outputs, self.wires, self.registers))
+
     def is_wire(self, name):
         return name in self.outputs or name in self.wires
 
@@ -67,20 +73,18 @@ class ModuleText:
 class Reader:
     """Reads the tokens of a text one after another; the first that does not fit is the place of a `syntax`."""
 
-    def __init__(self, found):
-        self.tokens, self.at = found, 0
+    def __init__(self, text):
+        self.whole, self.tokens, self.at = text, tokens(text), 0
 
-    def fail(self):
-        raise Fault("syntax {}:{}".format(*self.tokens[self.at].place))
-
-    def text(self, ahead=0):
-        token = self.tokens[min(self.at + ahead, len(self.tokens) - 1)]
+    def text(self):
+        """Gives the next token where it is no name and no number."""
+        token = self.tokens[self.at]
         return token.text if token.kind == "word" else None
 
     def take(self, kind, is_right=lambda _: True):
         token = self.tokens[self.at]
         if token.kind != kind or not is_right(token.text):
-            self.fail()
+            raise Fault(f"syntax {place(self.whole, token.at)}")
         self.at += 1
         return token.text
 
@@ -262,12 +266,13 @@ class Design:
     """The text of a design: its modules, of which the last is the top, and its flat module. A text with a fault raises that."""
 
     def __init__(self, text):
-        found = tokens(text)
-        self.modules = Reader(found).modules()
+        reader = Reader(text)
+        self.modules = reader.modules()
         self.top = self.modules[-1]
         self.kinds = {kind.name: kind for kind in reversed(self.modules[:-1])}     # of two kinds with one name the first one counts
-        self.look_at_listing(text.split("\n")[:found[0].place[0] - 1])
-        for fault, row in (("twice", self.twice), ("unknown", self.unknown), ("unassigned", self.unassigned), ("order", self.early), ("width", self.unsuited)):
+        self.look_at_listing(text[:reader.tokens[0].at].split("\n")[:-1])
+        rows = {"twice": self.twice, "unknown": self.unknown, "unassigned": self.unassigned, "order": self.early, "width": self.unsuited}
+        for fault, row in rows.items():
             for name in row():
                 raise Fault(f"{fault} {name}")
 
@@ -347,7 +352,7 @@ class Design:
 
     def unknown_in(self, module, item):
         def wrong(operands):
-            return [it for it in operands if isinstance(it, str) and it not in module.declared]
+            return [it for it in operands if isinstance(it, str) and not module.has(it)]
         if isinstance(item, Assign):
             yield from [] if module.is_wire(item.target) else [item.target]
             yield from wrong(item.operation.operands)
