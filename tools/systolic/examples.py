@@ -32,6 +32,16 @@ def sims(names=()):
                 yield f"{name}/{variant}".rstrip("/."), text, held(folder, variant, "stimulus"), held(folder, variant, "sim.expected")
 
 
+def unescaped(text):
+    """Gives what a literal of Rust says."""
+    letters = {"n": "\n", "r": "\r", "t": "\t", "0": "\0"}
+
+    def said(found):
+        code, letter = found.groups(default="")
+        return chr(int(code, 16)) if code else letters.get(letter, letter)
+    return re.sub(r"\\(?:\n\s*|u\{(\w+)\}|(.))", said, text)
+
+
 def constants():
     """Gives each module text that stands as a constant in a test of designs: where it stands, and the text."""
     folder = "crates/av_verilog_tests/src"
@@ -40,7 +50,7 @@ def constants():
             source = it.read()
         for name, text in re.findall(r'(?s)const (\w+): &str\s*=\s*"((?:[^"\\]|\\.)*)"', source):
             if "endmodule" in text:
-                yield f"{folder}/{file} {name}", text.replace("\\n", "\n")
+                yield f"{folder}/{file} {name}", unescaped(text)
 
 
 def examples(kernels=()):

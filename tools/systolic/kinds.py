@@ -1,8 +1,8 @@
 """An emitted module with its cells as instances of kinds, in the second version of the text (docs/VERILOG.md).
 
-The wires `cP` and `cP_N` of cell P become an instance `uP` of a kind: what it reads of ports and registers becomes an input port `i` or `t` of the kind,
-a number that is compared with `cyc` a port `b`, its value the output port `v`, and any other wire that is read outside of the cell an output port `p`.
-Cells whose wires are then equal share a kind. Registers, `cyc_next` and the outputs stay in the top.
+The wires `cP` and `cP_N` of cell P become an instance `uP` of a kind: what it reads of ports and registers becomes an input port `i` or `t` of the
+kind, a number that is compared with `cyc` a port `b`, its value the output port `v`, and any other wire that is read outside of the cell an output
+port `p`. Cells whose wires are then equal share a kind. Registers, `cyc_next` and the outputs stay in the top.
 """
 import re
 
@@ -65,7 +65,9 @@ class Cell:
 
     def text(self, name):
         """Gives the text of the kind of this name; two cells with equal ones share a kind."""
-        ports = [f"{way} {range_of(width)} {port}" for way, ports in (("input", self.inputs), ("output", self.outputs)) for port, (width, _) in ports.items()]
+        directed = [("input", port, width) for port, (width, _) in self.inputs.items()]
+        directed += [("output", port, width) for port, (width, _) in self.outputs.items()]
+        ports = [f"{way} {range_of(width)} {port}" for way, port, width in directed]
         return "\n".join([f"module {name}({', '.join(ports)});", *self.wires, *self.lines, "endmodule", ""])
 
     def instance(self, kind):
