@@ -155,7 +155,7 @@ fn a_register_that_takes_itself_is_no_work(rt: HostRuntime) -> Result<(), Fail> 
 }
 
 // The word of this drive in one cycle.
-fn word(clock: &mut Clock<'_>, drive: u32) -> u64
+fn word_of_cycle(clock: &mut Clock<'_>, drive: u32) -> u64
     requires { drive < length clock.old.of.drives }
     ensures { clock.new.of ≡ clock.old.of }
 {
@@ -174,8 +174,8 @@ pub(crate) fn words_of(alloc: Global, text: &str, drive: u32) -> Result<[u64; 3]
     let mut clock = Clock::new(alloc, &read.module)?;
     clock.reset();
     Ok([
-        word(&mut clock, drive),
-        word(&mut clock, drive),
-        word(&mut clock, drive),
+        word_of_cycle(&mut clock, drive),
+        word_of_cycle(&mut clock, drive),
+        word_of_cycle(&mut clock, drive),
     ])
 }
