@@ -1,0 +1,101 @@
+-- Instances of a text, whose kinds and links are found by their names.
+use Rattle.std.proofs.Common.{◌≡◌, ℕ, zero, suc, ◌+◌, ◌<◌, Bool, true, false, cond, List, [], ◌∷◌, ◌++◌, map, length, get_or, Option, Some, None, refl, sym, ap, ◌∙◌, arith}
+use Rattle.std.specs.Prelude.{option_map, find, if◌then◌else◌}
+use Rattle.std.specs.List.{flat_map}
+use Rattle.std.specs.Str.{bytes_eq}
+use Rattle.std.proofs.lemmas.List.{append-nil}
+use Rattle.av_base.proofs.Lists.{some_is, same_default}
+use Rattle.av_net.specs.declared.operation.Operand.{Operand}
+use Rattle.av_net.specs.declared.netlist.Port.{Port}
+use Rattle.av_net.specs.declared.plan.CellKind.{CellKind}
+use Rattle.av_net.specs.Flat.{no_kind, kind_of, part_wires, part_drives, instance_wires, instance_drives}
+use Rattle.av_net.specs.Grammar.{Link, Instantiation, Item, instance}
+use Rattle.av_net.specs.Rows.{kind_from, kind_or, kind_for, kind_number, kind_named, linked_to, instance_by, instance_of, instances_in}
+use Rattle.av_vread.specs.declared.parsed.ModuleText.{ModuleText as FoundModule}
+use Rattle.av_vread.specs.declared.parsed.Link.{Link as FoundLink}
+use Rattle.av_vread.specs.inner.Reading.{said_link, said_module}
+use Rattle.av_vread.specs.inner.Numbered.{place_among, number_of, place_of}
+use Rattle.av_vread.specs.inner.Scoped.{Bytes}
+use Rattle.av_vread.proofs.KindTables.{place_within, number_item, number_none, number_below}
+
+-- ---- links
+
+link_step : (link : FoundLink) (links : List FoundLink) (q : Bytes) (t : Bool) (a : Option ℕ) (n : ℕ) (at : FoundLink) → cond t (Some 0) (option_map suc a) ≡ Some n → at ≡ get_or (link ∷ links) n at
+    → ((m : ℕ) → a ≡ Some m → at ≡ get_or links m at → linked_to (map said_link links) q ≡ Some at.operand)
+    → option_map (λ (l : Link). l.operand) (cond t (Some (said_link link)) (find (λ (l : Link). bytes_eq l.port q) (map said_link links))) ≡ Some at.operand
+link_step link links q true a zero at e is ih = ap (λ (l : FoundLink). Some l.operand) (sym is)
+link_step link links q true a (suc n) at e is ih = absurd cc
+link_step link links q false None n at e is ih = absurd cc
+link_step link links q false (Some m) zero at e is ih = absurd cc
+link_step link links q false (Some m) (suc n) at e is ih = let same : n ≡ m = cc in ih m refl (is ∙ ap (λ k. get_or links k at) same)
+
+pub link_there : (links : List FoundLink) (q : Bytes) (n : ℕ) (at : FoundLink) → place_of q (map said_link links) ≡ Some n → at ≡ get_or links n at → linked_to (map said_link links) q ≡ Some at.operand
+link_there [] q n at e is = absurd cc
+link_there (link ∷ links) q n at e is = link_step link links q (bytes_eq link.port q) (place_of q (map said_link links)) n at e is (λ m f here. link_there links q m at f here)
+
+no_link_step : (link : Link) (found : Option Link) (t : Bool) (a : Option ℕ) → cond t (Some 0) (option_map suc a) ≡ None → (a ≡ None → option_map (λ (l : Link). l.operand) found ≡ None)
+    → option_map (λ (l : Link). l.operand) (cond t (Some link) found) ≡ None
+no_link_step link found true a e ih = absurd cc
+no_link_step link found false None e ih = ih refl
+no_link_step link found false (Some m) e ih = absurd cc
+
+pub link_none : (links : List Link) (q : Bytes) → place_of q links ≡ None → linked_to links q ≡ None
+link_none [] q e = refl
+link_none (link ∷ links) q e = no_link_step link (find (λ l. bytes_eq l.port q) links) (bytes_eq link.port q) (place_of q links) e (λ f. link_none links q f)
+
+-- ---- kinds
+
+number_is : (kinds : List CellKind) (q : Bytes) (n : ℕ) → number_of kinds q ≡ Some n → kind_number kinds q ≡ n
+number_is [] q n e = absurd cc
+number_is (kind ∷ kinds) q n e = step (bytes_eq kind.name q) (number_of kinds q) n e (λ m f. number_is kinds q m f)
+  where
+    step : (t : Bool) (a : Option ℕ) (n : ℕ) → cond t (Some 0) (option_map suc a) ≡ Some n → ((m : ℕ) → a ≡ Some m → kind_number kinds q ≡ m) → (if t then 0 else 1 + kind_number kinds q) ≡ n
+    step true a zero e ih = refl
+    step true a (suc n) e ih = absurd cc
+    step false None n e ih = absurd cc
+    step false (Some m) zero e ih = absurd cc
+    step false (Some m) (suc n) e ih = let same : m ≡ n = cc in let at = ih m refl in omega (arith, same, at)
+
+number_past : (kinds : List CellKind) (q : Bytes) → number_of kinds q ≡ None → kind_number kinds q ≡ length kinds
+number_past [] q e = refl
+number_past (kind ∷ kinds) q e = step (bytes_eq kind.name q) (number_of kinds q) e (λ f. number_past kinds q f)
+  where
+    step : (t : Bool) (a : Option ℕ) → cond t (Some 0) (option_map suc a) ≡ None → (a ≡ None → kind_number kinds q ≡ length kinds) → (if t then 0 else 1 + kind_number kinds q) ≡ length (kind ∷ kinds)
+    step true a e ih = absurd cc
+    step false None e ih = let at = ih refl in omega (arith, at)
+    step false (Some m) e ih = absurd cc
+
+past_all : {X : Type 0} (xs : List X) (d : X) → get_or xs (length xs) d ≡ d
+past_all [] d = refl
+past_all (x ∷ xs) d = past_all xs d
+
+module _ (cells : List CellKind) (x : Instantiation) where
+  module _ (n : ℕ) (kind : CellKind) (e : number_of cells x.kind ≡ Some n) (is : kind ≡ get_or cells n kind) where
+    kind_is : kind_for cells x ≡ kind
+    kind_is = ap kind_or (sym (number_item cells x.kind n kind e)) ∙ sym is
+
+    of_kind : kind_of cells (instance_of cells x) ≡ kind
+    of_kind = ap (λ m. get_or cells m no_kind) (number_is cells x.kind n e) ∙ same_default cells n no_kind kind (number_below cells x.kind n e) ∙ sym is
+
+    pub wires_there : part_wires kind x.name ≡ instance_wires cells (instance_of cells x)
+    wires_there = ap (λ k. part_wires k x.name) (sym of_kind)
+
+    pub drives_there : part_drives kind (instance_by kind n x) ≡ instance_drives cells (instance_of cells x)
+    drives_there =
+        ap (λ k. part_drives kind (instance_by k n x)) (sym kind_is) ∙ ap (λ m. part_drives kind (instance_by (kind_for cells x) m x)) (sym (number_is cells x.kind n e))
+        ∙ ap (λ k. part_drives k (instance_of cells x)) (sym of_kind)
+
+  module _ (e : number_of cells x.kind ≡ None) where
+    of_none : kind_of cells (instance_of cells x) ≡ no_kind
+    of_none = ap (λ m. get_or cells m no_kind) (number_past cells x.kind e) ∙ past_all cells no_kind
+
+    pub wires_nowhere : instance_wires cells (instance_of cells x) ≡ []
+    wires_nowhere = ap (λ k. part_wires k x.name) of_none
+
+    pub drives_nowhere : instance_drives cells (instance_of cells x) ≡ []
+    drives_nowhere = ap (λ k. part_drives k (instance_of cells x)) of_none
+
+-- the kinds of a text, of what the reader keeps
+pub kinds_said : (kinds : List FoundModule) → map (λ text. kind_from (said_module text)) kinds ≡ map kind_from (map said_module kinds)
+kinds_said [] = refl
+kinds_said (kind ∷ kinds) = ap (λ cells. kind_from (said_module kind) ∷ cells) (kinds_said kinds)
