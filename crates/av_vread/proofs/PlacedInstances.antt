@@ -1,19 +1,16 @@
 -- Instances of a text, whose kinds and links are found by their names.
 use Rattle.std.proofs.Common.{◌≡◌, ℕ, zero, suc, ◌+◌, ◌<◌, Bool, true, false, cond, List, [], ◌∷◌, ◌++◌, map, length, get_or, Option, Some, None, refl, sym, ap, ◌∙◌, arith}
 use Rattle.std.specs.Prelude.{option_map, find, if◌then◌else◌}
-use Rattle.std.specs.List.{flat_map}
 use Rattle.std.specs.Str.{bytes_eq}
-use Rattle.std.proofs.lemmas.List.{append-nil}
 use Rattle.av_base.proofs.Lists.{some_is, same_default}
 use Rattle.av_net.specs.declared.operation.Operand.{Operand}
 use Rattle.av_net.specs.declared.netlist.Port.{Port}
 use Rattle.av_net.specs.declared.plan.CellKind.{CellKind}
 use Rattle.av_net.specs.Flat.{no_kind, kind_of, part_wires, part_drives, instance_wires, instance_drives}
 use Rattle.av_net.specs.Grammar.{Link, Instantiation, Item, instance}
-use Rattle.av_net.specs.Rows.{kind_from, kind_or, kind_for, kind_number, kind_named, linked_to, instance_by, instance_of, instances_in}
-use Rattle.av_vread.specs.declared.parsed.ModuleText.{ModuleText as FoundModule}
+use Rattle.av_net.specs.Rows.{kind_or, kind_for, kind_number, kind_named, linked_to, instance_by, instance_of, instances_in}
 use Rattle.av_vread.specs.declared.parsed.Link.{Link as FoundLink}
-use Rattle.av_vread.specs.inner.Reading.{said_link, said_module}
+use Rattle.av_vread.specs.inner.Reading.{said_link}
 use Rattle.av_vread.specs.inner.Numbered.{place_among, number_of, place_of}
 use Rattle.av_vread.specs.inner.Scoped.{Bytes}
 use Rattle.av_vread.proofs.KindTables.{place_within, number_item, number_none, number_below}
@@ -94,8 +91,3 @@ module _ (cells : List CellKind) (x : Instantiation) where
 
     pub drives_nowhere : instance_drives cells (instance_of cells x) ≡ []
     drives_nowhere = ap (λ k. part_drives k (instance_of cells x)) of_none
-
--- the kinds of a text, of what the reader keeps
-pub kinds_said : (kinds : List FoundModule) → map (λ text. kind_from (said_module text)) kinds ≡ map kind_from (map said_module kinds)
-kinds_said [] = refl
-kinds_said (kind ∷ kinds) = ap (λ cells. kind_from (said_module kind) ∷ cells) (kinds_said kinds)

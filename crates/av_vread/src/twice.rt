@@ -3,8 +3,9 @@
 ghost use Rattle.std.specs.Prelude.{◌≡◌, ◌++◌, ◌∷◌, [], None, map, option_map, IfOk};
 ghost use Rattle.std.specs.List.{flat_map};
 ghost use Rattle.av_net.specs.Grammar.{instance};
-ghost use Rattle.av_net.specs.Names.{clk, rst, names_of};
-ghost use Rattle.av_net.specs.Rows.{is_in, kind_or, kinds_of, modules_of, declares, drives, first_again, driven_by_link, link_mentions, item_mentions, mentions_of, twice_from, first_repeated};
+ghost use Rattle.av_net.specs.Flat.{instance_wires};
+ghost use Rattle.av_net.specs.Names.{clk, rst};
+ghost use Rattle.av_net.specs.Rows.{is_in, kind_or, kinds_of, modules_of, declares, drives, first_again, driven_by_link, link_mentions, item_mentions, mentions_of, instances_in, twice_from, part_twice};
 ghost use Rattle.av_vread.specs.inner.Reading.{said_link, said_instance, said_item, said_module, said};
 ghost use Rattle.av_vread.specs.inner.Scoped.{texts, listed, own_names, Bytes};
 ghost use Rattle.av_vread.specs.inner.Seen.{IsPut, Stands, StandsIn, Tells, standing};
@@ -190,7 +191,7 @@ pub(crate) fn twice_name<'a>(
     text: &'a Text,
 ) -> Result<Option<&'a str>, Memory>
     requires { kinds.now ≡ kinds_of (said text.now) }
-    ensures { IfOk result (λ r. option_map (λ name. name.now) r ≡ twice_from kinds.now [] (modules_of (said text.now))) }
+    ensures { IfOk result (λ r. option_map (λ name. name.now) r ≡ twice_from (kinds_of (said text.now)) [] (modules_of (said text.now))) }
 {
     let mut modules = NameSet::new(alloc);
     for kind in text.kinds.as_slice() {
@@ -216,9 +217,10 @@ fn top_names<'a>(alloc: Global, top: &'a ModuleText) -> Result<NameSet<'a>, Memo
     set_of(alloc, names.as_slice())
 }
 
-/// The first name of the flat wires of instances that the top declares or that stands there before.
+/// The first name of these flat wires of instances that the top declares or that stands there before.
 pub(crate) fn part_twice(alloc: Global, text: &Text, parts: &[Port]) -> Result<Option<Name>, Memory>
-    ensures { IfOk result (λ r. r ≡ first_repeated (own_names (said_module text.now.top)) (names_of parts.now)) }
+    requires { parts.now ≡ flat_map (instance_wires (kinds_of (said text.now))) (instances_in (kinds_of (said text.now)) (said text.now).top.items) }
+    ensures { IfOk result (λ r. r ≡ part_twice (said text.now)) }
 {
     let mut seen = top_names(alloc, &text.top)?;
     for part in parts {

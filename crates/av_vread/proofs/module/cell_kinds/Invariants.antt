@@ -4,4 +4,4 @@ use Rattle.av_vread.specs.inner.Reading.{said_module}
 use Rattle.av_vread.proofs.module.cell_kinds.Given as goal
 
 abbrev pub invariant-loop-module : goal.invariant-loop-module
-invariant-loop-module l = l.kinds ++ map (λ text. kind_from (said_module text)) (drop l.module-index l.of) ≡ map (λ text. kind_from (said_module text)) l.of
+invariant-loop-module l = l.kinds ++ map kind_from (map said_module (drop l.module-index l.of)) ≡ map kind_from (map said_module l.of)
