@@ -1,19 +1,20 @@
 -- Names that stand a second time, mention by mention.
 use Rattle.std.proofs.Common.{◌≡◌, ℕ, ◌+◌, ◌<◌, ◌≤◌, Bool, true, false, true≢false, List, [], ◌∷◌, ◌++◌, map, length, get_or, drop, Option, Some, None, refl, sym, ap, subst, ◌∙◌, append_assoc}
-use Rattle.std.specs.Prelude.{◌||◌, ◌&&◌, if◌then◌else◌}
-use Rattle.std.specs.List.{list_any}
+use Rattle.std.specs.Prelude.{◌||◌, ◌&&◌, option_map, if◌then◌else◌}
+use Rattle.std.specs.List.{list_any, flat_map}
 use Rattle.std.specs.Str.{bytes_eq}
 use Rattle.std.proofs.lemmas.List.{append-nil}
 use Rattle.std.proofs.lemmas.List.Folds.{list_any-append}
 use Rattle.std.proofs.lemmas.Slice.Eq.{bytes_eq-Decides}
-use Rattle.av_base.proofs.Lists.{next_item, nothing_left}
+use Rattle.av_base.proofs.Lists.{next_item, nothing_left, same_default}
 use Rattle.av_net.specs.declared.plan.CellKind.{CellKind}
-use Rattle.av_net.specs.Names.{clk, rst}
+use Rattle.av_net.specs.Names.{clk, rst, names_of}
 use Rattle.av_net.specs.Grammar.{Link, ModuleText}
-use Rattle.av_net.specs.Rows.{is_in, first_from, Mention, of_module, declares, drives, links, mentioned, is_same, first_again, driven_by_link, link_mentions, mentions_of, twice_from}
+use Rattle.av_net.specs.Rows.{is_in, first_from, Mention, of_module, declares, drives, links, mentioned, is_same, first_again, declared_names, driven_by_link, link_mentions, item_mentions}
 use Rattle.av_vread.specs.declared.twice.Seen.{Seen as FoundSeen}
-use Rattle.av_vread.specs.inner.Scoped.{Bytes, listed}
+use Rattle.av_vread.specs.inner.Scoped.{Bytes, texts}
 use Rattle.av_vread.specs.inner.Seen.{IsPut, Stands, StandsIn, Tells, standing}
+use denote.Ref.{Bor}
 
 -- ---- mentions one after the other
 
@@ -65,6 +66,41 @@ module _ {S : Type 0} (Stand : List Mention → S → Type 0) where
     pub goes_over : (start at : S) (total : List Mention) (xs : List X) (i : ℕ) → F [] ≡ [] → GoesOn Stand start at (F (drop i xs)) total → length xs ≤ i → Tells Stand start at total None
     goes_over start at total xs i none so past =
         so at None (subst (λ z. Tells Stand at at z None) (sym (ap F (nothing_left xs i past) ∙ none)) (tells_nothing at))
+
+-- ---- what a call told
+
+abbrev nows : Option (Bor Bytes) → Option Bytes
+nows o = option_map (λ name. name.now) o
+
+pub untold : (o : Option (Bor Bytes)) → ((name : Bor Bytes) → o ≡ Some name → ⊥) → o ≡ None
+untold None none = refl
+untold (Some name) none = absurd (none name refl)
+
+module _ {S : Type 0} (Stand : List Mention → S → Type 0) (old new : S) (ms : List Mention) (o : Option (Bor Bytes)) (tells : Tells Stand old new ms (nows o)) where
+  pub told_some : (name : Bor Bytes) → o ≡ Some name → Tells Stand old new ms (Some name.now)
+  told_some name is = subst (λ (z : Option (Bor Bytes)). Tells Stand old new ms (nows z)) is tells
+
+  pub told_none : ((name : Bor Bytes) → o ≡ Some name → ⊥) → Tells Stand old new ms None
+  told_none none = subst (λ (z : Option (Bor Bytes)). Tells Stand old new ms (nows z)) (untold o none) tells
+
+module _ (old new : List Bytes) (key name : Bytes) (o : Option (Bor Bytes)) (put : IsPut old new key (nows o)) (is : key ≡ name) where
+  pub put_some : (y : Bor Bytes) → o ≡ Some y → IsPut old new name (Some y.now)
+  put_some y e = subst (λ (z : Option (Bor Bytes)). IsPut old new name (nows z)) e (subst (λ (z : Bytes). IsPut old new z (nows o)) is put)
+
+  pub put_none : ((y : Bor Bytes) → o ≡ Some y → ⊥) → IsPut old new name None
+  put_none none = subst (λ (z : Option (Bor Bytes)). IsPut old new name (nows z)) (untold o none) (subst (λ (z : Bytes). IsPut old new z (nows o)) is put)
+
+-- names that are declared one after the other
+module _ (start at new : FoundSeen) (names : List (Bor Bytes)) (i : ℕ) (d : Bor Bytes) (so : GoesOn Stands start at (map declares (texts (drop i names))) (map declares (texts names))) where
+  pub names_more : i < length names → Tells Stands at new (declares (get_or names i d).now ∷ []) None → GoesOn Stands start new (map declares (texts (drop (i + 1) names))) (map declares (texts names))
+  names_more lt here =
+      goes_more Stands (λ (x : Bor Bytes). declares x.now ∷ []) (λ xs. map declares (texts xs)) (λ x xs. refl) start at new (map declares (texts names)) names i (get_or names i d) so lt
+      (same_default names i d (get_or names i d) lt) here
+
+  pub names_found : (y : Bytes) → i < length names → Tells Stands at new (declares (get_or names i d).now ∷ []) (Some y) → Tells Stands start new (map declares (texts names)) (Some y)
+  names_found y lt here =
+      goes_found Stands (λ (x : Bor Bytes). declares x.now ∷ []) (λ xs. map declares (texts xs)) (λ x xs. refl) start at new (map declares (texts names)) names i (get_or names i d) y so lt
+      (same_default names i d (get_or names i d) lt) here
 
 -- ---- one mention
 
@@ -187,20 +223,21 @@ not_told : (t : Bool) (y : Bytes) → None ≡ (if t then Some y else None) → 
 not_told true y e = absurd cc
 not_told false y e = refl
 
-pub instance_told : (u : Bytes) (old mid new : FoundSeen) (linked : List Bytes) (ms : List Mention) (found : Option Bytes) → Tells Stands old mid (declares u ∷ []) None
-    → Tells (StandsIn u) (mid, []) (new, linked) ms found → Tells Stands old new (declares u ∷ ms) found
-instance_told u old mid new linked ms found first second = λ earlier h.
-    let (none, after) = first earlier h in
+pub instance_told : (u : Bytes) (old mid new : FoundSeen) (linked : List Bytes) (found kind : CellKind) (ls : List Link) (told : Option Bytes) → found ≡ kind → Tells Stands old mid (declares u ∷ []) None
+    → (none : List Bytes) → none ≡ [] → Tells (StandsIn u) (mid, none) (new, linked) (flat_map (link_mentions found u) ls) told → Tells Stands old new (declares u ∷ flat_map (link_mentions kind u) ls) told
+instance_told u old mid new linked found kind ls told same first none empty second = λ earlier h.
+    let ms : List Mention = flat_map (link_mentions kind u) ls in
+    let (alone, after) = first earlier h in
     let mid_stands = after refl in
-    let apart : list_any (is_same (declares u)) earlier ≡ false = not_told (list_any (is_same (declares u)) earlier) u none in
+    let apart : list_any (is_same (declares u)) earlier ≡ false = not_told (list_any (is_same (declares u)) earlier) u alone in
     let own : bytes_eq u u ≡ true = (bytes_eq-Decides u u).1 refl in
     let no_links : (q : Bytes) → list_any (is_same (links u q)) earlier ≡ false = λ q. h.linked u q (h.declared u ∙ apart) in
-    let begins : StandsIn u (earlier ++ declares u ∷ []) (mid, []) = record {
+    let begins : StandsIn u (earlier ++ declares u ∷ []) (mid, none) = record {
       names = mid_stands;
       declared = mid_stands.declared u ∙ any_more (is_same (declares u)) earlier (declares u) ∙ ap (λ b. b || bytes_eq u u) apart ∙ own;
-      ports = λ q. sym (any_other (is_same (links u q)) earlier (declares u) refl ∙ no_links q);
+      ports = λ q. ap (λ z. is_in z q) empty ∙ sym (any_other (is_same (links u q)) earlier (declares u) refl ∙ no_links q);
     } in
-    let (is, ends) = second (earlier ++ declares u ∷ []) begins in (
+    let (is, ends) = (subst (λ k. Tells (StandsIn u) (mid, none) (new, linked) (flat_map (link_mentions k u) ls) told) same second) (earlier ++ declares u ∷ []) begins in (
       is ∙ ap (λ (t : Bool). if t then Some u else first_again (earlier ++ declares u ∷ []) ms) (sym apart),
       λ e. subst (λ z. Stands z new) (append_assoc earlier (declares u ∷ []) ms) (ends e).names,
     )
@@ -234,6 +271,10 @@ behind_modules modules name seen h = record {
   linked = λ u q none. sym (any_standing modules name (is_same (links u q)) (λ n. refl)) ∙ h.linked u q none;
 }
 
+-- what is mentioned behind the name of a module
+abbrev pub own_mentions : List CellKind → ModuleText → List Mention
+own_mentions kinds x = map declares (names_of x.inputs ++ names_of x.outputs ++ declared_names x.declarations) ++ flat_map (item_mentions kinds) x.items
+
 -- the name of a module that is told
 pub module_told : (modules new : List Bytes) (name : Bytes) (ms : List Mention) (y : Bytes) → IsPut modules new name (Some y) → Some y ≡ first_again (standing modules) (of_module name ∷ ms)
 module_told modules new name ms y put = go (is_in modules name) put.told ∙ ap (λ (t : Bool). if t then Some name else first_again (standing modules ++ of_module name ∷ []) ms) (sym (module_named modules name))
@@ -249,20 +290,3 @@ within_told modules names name seen new ms found put begins tells =
     let apart : is_in modules name ≡ false = (new_name modules names name None put refl).0 in
     (tells (standing modules ++ of_module name ∷ []) (behind_modules modules name seen begins)).0
     ∙ ap (λ (t : Bool). if t then Some name else first_again (standing modules ++ of_module name ∷ []) ms) (sym (module_named modules name ∙ apart))
-
--- ---- one module after the other
-
-pub twice_later : (kinds : List CellKind) (modules : List Bytes) (x : ModuleText) (xs : List ModuleText) → None ≡ first_again (standing modules) (mentions_of kinds x)
-    → twice_from kinds modules (x ∷ xs) ≡ twice_from kinds (modules ++ x.name ∷ []) xs
-twice_later kinds modules x xs none = ap (λ o. first_from o (twice_from kinds (modules ++ x.name ∷ []) xs)) (sym none)
-
-pub twice_here : (kinds : List CellKind) (modules : List Bytes) (x : ModuleText) (xs : List ModuleText) (y : Bytes) → Some y ≡ first_again (standing modules) (mentions_of kinds x)
-    → Some y ≡ twice_from kinds modules (x ∷ xs)
-twice_here kinds modules x xs y told = ap (λ o. first_from o (twice_from kinds (modules ++ x.name ∷ []) xs)) told
-
-pub twice_last : (kinds : List CellKind) (modules : List Bytes) (x : ModuleText) → first_again (standing modules) (mentions_of kinds x) ≡ twice_from kinds modules (x ∷ [])
-twice_last kinds modules x = sym (alone (first_again (standing modules) (mentions_of kinds x)))
-  where
-    alone : (o : Option Bytes) → first_from o None ≡ o
-    alone None = refl
-    alone (Some y) = refl
