@@ -1,10 +1,11 @@
 -- Instances of a text, whose kinds and links are found by their names.
-use Rattle.std.proofs.Common.{◌≡◌, ℕ, zero, suc, ◌+◌, ◌<◌, Bool, true, false, cond, List, [], ◌∷◌, ◌++◌, map, length, get_or, Option, Some, None, refl, sym, ap, ◌∙◌, arith}
-use Rattle.std.specs.Prelude.{option_map, find, if◌then◌else◌}
+use Rattle.std.proofs.Common.{◌≡◌, ℕ, zero, suc, ◌+◌, ◌<◌, Bool, true, false, cond, List, [], ◌∷◌, ◌++◌, map, length, take, get_or, Option, Some, None, refl, sym, ap, subst, ◌∙◌, arith}
+use Rattle.std.specs.Prelude.{option_map, is_some, find, if◌then◌else◌}
+use Rattle.std.specs.List.{flat_map}
+use Rattle.std.specs.Map.{lookup}
 use Rattle.std.specs.Str.{bytes_eq}
-use Rattle.av_base.proofs.Lists.{some_is, same_default}
-use Rattle.av_net.specs.declared.operation.Operand.{Operand}
-use Rattle.av_net.specs.declared.netlist.Port.{Port}
+use Rattle.std.proofs.lemmas.List.{append-nil, length-map, map_push}
+use Rattle.av_base.proofs.Lists.{same_default}
 use Rattle.av_net.specs.declared.plan.CellKind.{CellKind}
 use Rattle.av_net.specs.Flat.{no_kind, kind_of, part_wires, part_drives, instance_wires, instance_drives}
 use Rattle.av_net.specs.Grammar.{Link, Instantiation, Item, instance}
@@ -13,7 +14,7 @@ use Rattle.av_vread.specs.declared.parsed.Link.{Link as FoundLink}
 use Rattle.av_vread.specs.inner.Reading.{said_link}
 use Rattle.av_vread.specs.inner.Numbered.{place_among, number_of, place_of}
 use Rattle.av_vread.specs.inner.Scoped.{Bytes}
-use Rattle.av_vread.proofs.KindTables.{place_within, number_item, number_none, number_below}
+use Rattle.av_vread.proofs.KindTables.{place_within, more_places, taken_map, number_item, number_below}
 
 -- ---- links
 
@@ -39,6 +40,21 @@ no_link_step link found false (Some m) e ih = absurd cc
 pub link_none : (links : List Link) (q : Bytes) → place_of q links ≡ None → linked_to links q ≡ None
 link_none [] q e = refl
 link_none (link ∷ links) q e = no_link_step link (find (λ l. bytes_eq l.port q) links) (bytes_eq link.port q) (place_of q links) e (λ f. link_none links q f)
+
+pub link_within : (links : List FoundLink) (q : Bytes) (n : ℕ) → place_of q (map said_link links) ≡ Some n → n < length links
+link_within links q n e =
+    let size : length (map (λ (l : Link). l.port) (map said_link links)) ≡ length links = length-map (map said_link links) (λ (l : Link). l.port) ∙ length-map links said_link in
+    subst (λ m. n < m) size (place_within (map (λ (l : Link). l.port) (map said_link links)) q n e)
+
+-- a link more of those that were gone over
+pub links_more : (links : List FoundLink) (i : ℕ) (link : FoundLink) (found found' : List (Bytes × ℕ)) (key : Bytes) → ((q : Bytes) → lookup (bytes_eq q) found ≡ place_of q (map said_link (take i links))) → i < length links → link ≡ get_or links i link
+    → key ≡ link.port → found' ≡ (if is_some (lookup (bytes_eq key) found) then found else (found ++ (key, i) ∷ [])) → (q : Bytes) → lookup (bytes_eq q) found' ≡ place_of q (map said_link (take (i + 1) links))
+links_more links i link found found' key so lt is name put q =
+    let before : List Bytes = map (λ (l : Link). l.port) (map said_link (take i links)) in
+    let taken : length (take i links) ≡ i = length-take-le i links (omega (arith, lt)) in
+    let size : i ≡ length before = sym (length-map (map said_link (take i links)) (λ (l : Link). l.port) ∙ length-map (take i links) said_link ∙ taken) in
+    more_places found found' before key i so size put q ∙ ap (λ k. place_among (before ++ k ∷ []) q) name
+    ∙ ap (λ names. place_among names q) (sym (map_push (λ (l : Link). l.port) (map said_link (take i links)) (said_link link)) ∙ ap (map (λ (l : Link). l.port)) (taken_map said_link links i link lt is))
 
 -- ---- kinds
 
@@ -74,8 +90,11 @@ module _ (cells : List CellKind) (x : Instantiation) where
     of_kind : kind_of cells (instance_of cells x) ≡ kind
     of_kind = ap (λ m. get_or cells m no_kind) (number_is cells x.kind n e) ∙ same_default cells n no_kind kind (number_below cells x.kind n e) ∙ sym is
 
-    pub wires_there : part_wires kind x.name ≡ instance_wires cells (instance_of cells x)
+    wires_there : part_wires kind x.name ≡ instance_wires cells (instance_of cells x)
     wires_there = ap (λ k. part_wires k x.name) (sym of_kind)
+
+    pub parts_there : part_wires kind x.name ≡ flat_map (instance_wires cells) (instances_in cells (instance x ∷ []))
+    parts_there = wires_there ∙ sym (append-nil (instance_wires cells (instance_of cells x)))
 
     pub drives_there : part_drives kind (instance_by kind n x) ≡ instance_drives cells (instance_of cells x)
     drives_there =
@@ -86,8 +105,11 @@ module _ (cells : List CellKind) (x : Instantiation) where
     of_none : kind_of cells (instance_of cells x) ≡ no_kind
     of_none = ap (λ m. get_or cells m no_kind) (number_past cells x.kind e) ∙ past_all cells no_kind
 
-    pub wires_nowhere : instance_wires cells (instance_of cells x) ≡ []
+    wires_nowhere : instance_wires cells (instance_of cells x) ≡ []
     wires_nowhere = ap (λ k. part_wires k x.name) of_none
+
+    pub parts_nowhere : flat_map (instance_wires cells) (instances_in cells (instance x ∷ [])) ≡ []
+    parts_nowhere = ap (λ z. z ++ []) wires_nowhere
 
     pub drives_nowhere : instance_drives cells (instance_of cells x) ≡ []
     drives_nowhere = ap (λ k. part_drives k (instance_of cells x)) of_none

@@ -1,9 +1,7 @@
 -- Names of the flat wires of instances that stand a second time.
-use Rattle.std.proofs.Common.{◌≡◌, ℕ, ◌+◌, ◌<◌, ◌≤◌, Bool, true, false, cond, List, [], ◌∷◌, ◌++◌, map, length, get_or, drop, Option, Some, None, refl, sym, ap, ◌∙◌}
-use Rattle.std.specs.Prelude.{◌||◌, if◌then◌else◌}
+use Rattle.std.proofs.Common.{◌≡◌, Bool, true, false, cond, List, [], ◌∷◌, ◌++◌, map, Some, refl, sym, ap, ◌∙◌}
+use Rattle.std.specs.Prelude.{◌||◌}
 use Rattle.std.specs.Str.{bytes_eq}
-use Rattle.av_base.proofs.Lists.{next_item, nothing_left}
-use Rattle.av_net.specs.declared.netlist.Port.{Port}
 use Rattle.av_net.specs.declared.plan.CellKind.{CellKind}
 use Rattle.av_net.specs.Names.{clk, rst, names_of}
 use Rattle.av_net.specs.Grammar.{ModuleText, Text, Item, drive, widening, step, instance}
@@ -17,23 +15,6 @@ repeated_same a b [] h = refl
 repeated_same a b (name ∷ names) h =
     ap (λ (t : Among). cond (t name) (Some name) (first_repeated (a ++ name ∷ []) names)) (same_test a b h)
     ∙ ap (λ z. cond (is_in b name) (Some name) z) (repeated_same (a ++ name ∷ []) (b ++ name ∷ []) names (λ q. more_names a b (name ∷ []) q (h q)))
-
--- a wire whose name is there
-pub repeated_here : (seen : List Bytes) (parts : List Port) (i : ℕ) (part : Port) (total : Option Bytes) → first_repeated seen (names_of (drop i parts)) ≡ total → i < length parts → part ≡ get_or parts i part → is_in seen part.name ≡ true
-    → Some part.name ≡ total
-repeated_here seen parts i part total so lt is there =
-    sym (ap (λ z. first_repeated seen (names_of z)) (next_item parts i part lt is) ∙ ap (λ t. cond t (Some part.name) (first_repeated (seen ++ part.name ∷ []) (names_of (drop (i + 1) parts)))) there) ∙ so
-
--- and one whose name is new
-pub repeated_later : (seen seen' : List Bytes) (parts : List Port) (i : ℕ) (part : Port) (total : Option Bytes) → first_repeated seen (names_of (drop i parts)) ≡ total → i < length parts → part ≡ get_or parts i part → is_in seen part.name ≡ false
-    → seen' ≡ (if is_in seen part.name then seen else (seen ++ part.name ∷ [])) → first_repeated seen' (names_of (drop (i + 1) parts)) ≡ total
-repeated_later seen seen' parts i part total so lt is apart e =
-    let put : seen' ≡ seen ++ part.name ∷ [] = e ∙ ap (λ (t : Bool). if t then seen else (seen ++ part.name ∷ [])) apart in
-    ap (λ z. first_repeated z (names_of (drop (i + 1) parts))) put
-    ∙ sym (ap (λ z. first_repeated seen (names_of z)) (next_item parts i part lt is) ∙ ap (λ t. cond t (Some part.name) (first_repeated (seen ++ part.name ∷ []) (names_of (drop (i + 1) parts)))) apart) ∙ so
-
-pub repeated_nowhere : (seen : List Bytes) (parts : List Port) (i : ℕ) (total : Option Bytes) → first_repeated seen (names_of (drop i parts)) ≡ total → length parts ≤ i → None ≡ total
-repeated_nowhere seen parts i total so past = sym (ap (λ z. first_repeated seen (names_of z)) (nothing_left parts i past)) ∙ so
 
 -- ---- the names of the top
 

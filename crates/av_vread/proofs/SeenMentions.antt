@@ -199,11 +199,6 @@ drives_in u old new linked q found tells = λ earlier h.
       },
     )
 
--- a link whose port is told
-pub port_told : (kind : CellKind) (u : Bytes) (seen new : FoundSeen) (old linked : List Bytes) (link : Link) (y : Bytes) → IsPut old linked link.port (Some y) → Tells (StandsIn u) (seen, old) (new, linked) (link_mentions kind u link) (Some y)
-port_told kind u seen new old linked link y put =
-    tells_some (StandsIn u) (seen, old) (seen, linked) (new, linked) (links u link.port ∷ []) (map drives (driven_by_link kind link)) y (put_linked u seen old linked link.port (Some y) put)
-
 -- a link that drives a name
 pub name_told : (kind : CellKind) (u : Bytes) (seen new : FoundSeen) (old linked : List Bytes) (link : Link) (q : Bytes) (found : Option Bytes) → IsPut old linked link.port None → q ∷ [] ≡ driven_by_link kind link
     → Tells Stands seen new (drives q ∷ []) found → Tells (StandsIn u) (seen, old) (new, linked) (link_mentions kind u link) found
@@ -243,13 +238,6 @@ instance_told u old mid new linked found kind ls told same first none empty seco
     )
 
 -- ---- a module
-
-pub both_declared : (declared driven : List Bytes) → declared ≡ clk ∷ rst ∷ [] → driven ≡ [] → Stands (declares clk ∷ declares rst ∷ []) (record { declared = declared; driven = driven })
-both_declared declared driven e f = record {
-  declared = λ q. ap (λ z. is_in z q) e;
-  driven = λ q. ap (λ z. is_in z q) f;
-  linked = λ u q none. refl;
-}
 
 any_behind : (test : Mention → Bool) → ((name : Bytes) → test (of_module name) ≡ false) → (modules : List Bytes) (rest : List Mention) → list_any test (map of_module modules ++ rest) ≡ list_any test rest
 any_behind test other [] rest = refl

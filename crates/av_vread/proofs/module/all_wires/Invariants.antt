@@ -4,4 +4,4 @@ use Rattle.av_vread.specs.inner.Reading.{said_declaration}
 use Rattle.av_vread.proofs.module.all_wires.Given as goal
 
 abbrev pub invariant-loop-part : goal.invariant-loop-part
-invariant-loop-part l = l.all ++ drop l.part-index l.parts ≡ wires_of (map said_declaration l.top.declarations) ++ l.parts
+invariant-loop-part l = l.all ++ drop l.part-index l.fn.parts ≡ wires_of (map said_declaration l.top.declarations) ++ l.fn.parts
