@@ -35,5 +35,5 @@ loop-text-preserved c =
     record {
       made = made_more cells (λ x xs. refl) before c.push.new.self.items (cells texts) texts at text c.loop-text.invariant.made lt is pushed;
       numbered = λ q. more_places numbers c.insert.new.self (map (λ k. k.name) before) kind.name c.len-in-loop-text.result c.loop-text.invariant.numbered count put q
-        ∙ ap (λ names. place_among names q) (sym (map_push (λ (k : CellKind). k.name) before kind)) ∙ ap (λ kinds. number_of kinds q) (sym pushed);
+          ∙ ap (λ names. place_among names q) (sym (map_push (λ (k : CellKind). k.name) before kind)) ∙ ap (λ kinds. number_of kinds q) (sym pushed);
     }
