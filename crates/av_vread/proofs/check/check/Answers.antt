@@ -1,4 +1,4 @@
-use Rattle.std.proofs.Common.{◌≡◌, List, Option, Some, None, ℕ}
+use Rattle.std.proofs.Common.{List, Option, Some, None, ℕ}
 use Rattle.std.proofs.lemmas.Result.{err_from_is_err_and}
 use Rattle.av_net.specs.Rows.{twice_name, wrong_name, undriven_name, early_name, unsuited_name}
 use Rattle.av_vread.specs.declared.fault.VFault.{VFault}

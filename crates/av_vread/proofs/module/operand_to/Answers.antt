@@ -1,7 +1,7 @@
 use Rattle.std.proofs.Common.{◌≡◌, Some, None, map, sym, ap, subst, ◌∙◌, arith}
 use Rattle.std.specs.Prelude.{IfOk}
 use Rattle.av_net.specs.declared.operation.Operand.TheVariants.{Name}
-use Rattle.av_net.specs.Rows.{operand_or, operand_to}
+use Rattle.av_net.specs.Rows.{operand_or}
 use Rattle.av_vread.specs.declared.parsed.Link.{Link}
 use Rattle.av_vread.specs.inner.Reading.{said_link}
 use Rattle.av_vread.specs.inner.Numbered.{place_of}

@@ -1,4 +1,4 @@
-use Rattle.std.proofs.Common.{◌≡◌, ◌≤◌, ◌<◌, ◌++◌, [], ◌∷◌, List, map, length, get_or, refl, if◌then◌else◌, sym, ap, subst, ◌∙◌, arith}
+use Rattle.std.proofs.Common.{◌≡◌, ◌<◌, ◌++◌, [], ◌∷◌, List, map, length, get_or, refl, if◌then◌else◌, sym, ap, subst, ◌∙◌, arith}
 use Rattle.std.specs.Prelude.{is_some}
 use Rattle.std.specs.Map.{lookup}
 use Rattle.std.specs.Str.{bytes_eq}
@@ -8,7 +8,7 @@ use Rattle.av_net.specs.Rows.{kind_from}
 use Rattle.av_vread.specs.declared.parsed.ModuleText.{ModuleText}
 use Rattle.av_vread.specs.inner.Reading.{said_module}
 use Rattle.av_vread.specs.inner.Numbered.{place_among, number_of}
-use Rattle.av_vread.proofs.Walks.{made_more, made_all}
+use Rattle.av_vread.proofs.Walks.{made_more}
 use Rattle.av_vread.proofs.KindTables.{more_places}
 use Rattle.av_vread.proofs.kinds.Kinds.new.Goals as goal
 
