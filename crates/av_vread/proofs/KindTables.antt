@@ -1,6 +1,6 @@
 -- What kinds of cells found by their names tell.
 use Rattle.std.proofs.Common.{◌≡◌, ℕ, zero, suc, ◌++◌, Bool, true, false, true≢false, cond, List, [], ◌∷◌, map, length, get_or, take, drop, ◌+◌, ◌≤◌, Option, Some, None, refl, sym, ap, subst, ◌∙◌, arith}
-use Rattle.std.specs.Prelude.{◌||◌, ◌<◌, is_some, option_map, slice_get, find, not, IfSome, if◌then◌else◌}
+use Rattle.std.specs.Prelude.{◌<◌, is_some, option_map, slice_get, find, not, IfSome, if◌then◌else◌}
 use Rattle.std.specs.Map.{lookup}
 use Rattle.std.proofs.lemmas.List.{length-map}
 use Rattle.std.proofs.lemmas.Slice.Eq.{bytes_eq-Decides}

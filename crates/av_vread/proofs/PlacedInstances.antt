@@ -4,12 +4,12 @@ use Rattle.std.specs.Prelude.{option_map, is_some, find, if◌then◌else◌}
 use Rattle.std.specs.List.{flat_map}
 use Rattle.std.specs.Map.{lookup}
 use Rattle.std.specs.Str.{bytes_eq}
-use Rattle.std.proofs.lemmas.List.{append-nil, length-map, map_push}
+use Rattle.std.proofs.lemmas.List.{append-nil, length-map, length-take-le, map_push}
 use Rattle.av_base.proofs.Lists.{same_default}
 use Rattle.av_net.specs.declared.plan.CellKind.{CellKind}
 use Rattle.av_net.specs.Flat.{no_kind, kind_of, part_wires, part_drives, instance_wires, instance_drives}
-use Rattle.av_net.specs.Grammar.{Link, Instantiation, Item, instance}
-use Rattle.av_net.specs.Rows.{kind_or, kind_for, kind_number, kind_named, linked_to, instance_by, instance_of, instances_in}
+use Rattle.av_net.specs.Grammar.{Link, Instantiation, instance}
+use Rattle.av_net.specs.Rows.{kind_or, kind_for, kind_number, linked_to, instance_by, instance_of, instances_in}
 use Rattle.av_vread.specs.declared.parsed.Link.{Link as FoundLink}
 use Rattle.av_vread.specs.inner.Reading.{said_link}
 use Rattle.av_vread.specs.inner.Numbered.{place_among, number_of, place_of}

@@ -4,7 +4,7 @@ use Rattle.std.specs.Prelude.{◌||◌}
 use Rattle.std.specs.Str.{bytes_eq}
 use Rattle.av_net.specs.declared.plan.CellKind.{CellKind}
 use Rattle.av_net.specs.Names.{clk, rst, names_of}
-use Rattle.av_net.specs.Grammar.{ModuleText, Text, Item, drive, widening, step, instance}
+use Rattle.av_net.specs.Grammar.{Text, Item, drive, widening, step, instance}
 use Rattle.av_net.specs.Rows.{Among, is_in, kinds_of, instances_in, declared_names, first_repeated, top_names}
 use Rattle.av_vread.specs.inner.Scoped.{Bytes, instances_named, own_names}
 use Rattle.av_vread.proofs.Walks.{any_or_of}

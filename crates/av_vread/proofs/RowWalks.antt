@@ -2,7 +2,6 @@
 use Rattle.std.proofs.Common.{◌≡◌, ℕ, suc, ◌+◌, ◌<◌, Bool, false, cond, not, List, [], ◌∷◌, ◌++◌, length, drop, get_or, map, Option, Some, refl, sym, ap, subst, ◌∙◌, arith, append_assoc, drop-cons}
 use Rattle.std.specs.Prelude.{◌||◌, OnOk, Result, Ok, Err, find, if◌then◌else◌}
 use Rattle.std.proofs.Math.Path.{fun_ext}
-use Rattle.std.proofs.lemmas.List.{append-nil}
 use Rattle.av_net.specs.declared.netlist.Port.{Port}
 use Rattle.av_net.specs.declared.plan.CellKind.{CellKind}
 use Rattle.av_net.specs.Names.{width_in}

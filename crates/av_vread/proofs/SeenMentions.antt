@@ -135,25 +135,25 @@ pub put_declared : (old new : FoundSeen) (q : Bytes) (found : Option Bytes) → 
 put_declared old new q found put kept = λ earlier h. (
   put.told ∙ ap (λ (t : Bool). if t then Some q else None) (h.declared q),
   λ none.
-  let names : new.declared ≡ old.declared ++ q ∷ [] = (new_name old.declared new.declared q found put none).1 in
-  let more : (p : Bytes) → is_in new.declared p ≡ (is_in old.declared p || bytes_eq p q) = λ p. ap (λ z. is_in z p) names ∙ name_more old.declared q p in
-  record {
-    declared = λ p. more p ∙ ap (λ b. b || bytes_eq p q) (h.declared p) ∙ sym (any_more (is_same (declares p)) earlier (declares q));
-    driven = λ p. ap (λ z. is_in z p) kept ∙ h.driven p ∙ sym (any_other (is_same (drives p)) earlier (declares q) refl);
-    linked = λ u p e. any_other (is_same (links u p)) earlier (declares q) refl ∙ h.linked u p (left_false (is_in old.declared u) (bytes_eq u q) (sym (more u) ∙ e));
-  },
+      let names : new.declared ≡ old.declared ++ q ∷ [] = (new_name old.declared new.declared q found put none).1 in
+      let more : (p : Bytes) → is_in new.declared p ≡ (is_in old.declared p || bytes_eq p q) = λ p. ap (λ z. is_in z p) names ∙ name_more old.declared q p in
+      record {
+        declared = λ p. more p ∙ ap (λ b. b || bytes_eq p q) (h.declared p) ∙ sym (any_more (is_same (declares p)) earlier (declares q));
+        driven = λ p. ap (λ z. is_in z p) kept ∙ h.driven p ∙ sym (any_other (is_same (drives p)) earlier (declares q) refl);
+        linked = λ u p e. any_other (is_same (links u p)) earlier (declares q) refl ∙ h.linked u p (left_false (is_in old.declared u) (bytes_eq u q) (sym (more u) ∙ e));
+      },
 )
 
 pub put_driven : (old new : FoundSeen) (q : Bytes) (found : Option Bytes) → IsPut old.driven new.driven q found → new.declared ≡ old.declared → Tells Stands old new (drives q ∷ []) found
 put_driven old new q found put kept = λ earlier h. (
   put.told ∙ ap (λ (t : Bool). if t then Some q else None) (h.driven q),
   λ none.
-  let names : new.driven ≡ old.driven ++ q ∷ [] = (new_name old.driven new.driven q found put none).1 in
-  record {
-    declared = λ p. ap (λ z. is_in z p) kept ∙ h.declared p ∙ sym (any_other (is_same (declares p)) earlier (drives q) refl);
-    driven = λ p. ap (λ z. is_in z p) names ∙ name_more old.driven q p ∙ ap (λ b. b || bytes_eq p q) (h.driven p) ∙ sym (any_more (is_same (drives p)) earlier (drives q));
-    linked = λ u p e. any_other (is_same (links u p)) earlier (drives q) refl ∙ h.linked u p (ap (λ z. is_in z u) (sym kept) ∙ e);
-  },
+      let names : new.driven ≡ old.driven ++ q ∷ [] = (new_name old.driven new.driven q found put none).1 in
+      record {
+        declared = λ p. ap (λ z. is_in z p) kept ∙ h.declared p ∙ sym (any_other (is_same (declares p)) earlier (drives q) refl);
+        driven = λ p. ap (λ z. is_in z p) names ∙ name_more old.driven q p ∙ ap (λ b. b || bytes_eq p q) (h.driven p) ∙ sym (any_more (is_same (drives p)) earlier (drives q));
+        linked = λ u p e. any_other (is_same (links u p)) earlier (drives q) refl ∙ h.linked u p (ap (λ z. is_in z u) (sym kept) ∙ e);
+      },
 )
 
 -- ---- the links of an instance
@@ -169,20 +169,20 @@ pub put_linked : (u : Bytes) (seen : FoundSeen) (old new : List Bytes) (port : B
 put_linked u seen old new port found put = λ earlier h. (
   put.told ∙ ap (λ (t : Bool). if t then Some port else None) (h.ports port),
   λ none.
-  let names : new ≡ old ++ port ∷ [] = (new_name old new port found put none).1 in
-  let own : bytes_eq u u ≡ true = (bytes_eq-Decides u u).1 refl in
-  record {
-    names = record {
-      declared = λ p. h.names.declared p ∙ sym (any_other (is_same (declares p)) earlier (links u port) refl);
-      driven = λ p. h.names.driven p ∙ sym (any_other (is_same (drives p)) earlier (links u port) refl);
-      linked = λ v p e.
-        any_other (is_same (links v p)) earlier (links u port) (ap (λ b. b && bytes_eq p port) (apart_names seen.declared u v h.declared e)) ∙ h.names.linked v p e;
-    };
-    declared = h.declared;
-    ports = λ p.
-      ap (λ z. is_in z p) names ∙ name_more old port p ∙ ap (λ b. b || bytes_eq p port) (h.ports p) ∙ ap (λ b. list_any (is_same (links u p)) earlier || (b && bytes_eq p port)) (sym own)
-      ∙ sym (any_more (is_same (links u p)) earlier (links u port));
-  },
+      let names : new ≡ old ++ port ∷ [] = (new_name old new port found put none).1 in
+      let own : bytes_eq u u ≡ true = (bytes_eq-Decides u u).1 refl in
+      record {
+        names = record {
+          declared = λ p. h.names.declared p ∙ sym (any_other (is_same (declares p)) earlier (links u port) refl);
+          driven = λ p. h.names.driven p ∙ sym (any_other (is_same (drives p)) earlier (links u port) refl);
+          linked = λ v p e.
+              any_other (is_same (links v p)) earlier (links u port) (ap (λ b. b && bytes_eq p port) (apart_names seen.declared u v h.declared e)) ∙ h.names.linked v p e;
+        };
+        declared = h.declared;
+        ports = λ p.
+            ap (λ z. is_in z p) names ∙ name_more old port p ∙ ap (λ b. b || bytes_eq p port) (h.ports p) ∙ ap (λ b. list_any (is_same (links u p)) earlier || (b && bytes_eq p port)) (sym own)
+            ∙ sym (any_more (is_same (links u p)) earlier (links u port));
+      },
 )
 
 -- a name that a link drives
@@ -191,12 +191,12 @@ drives_in u old new linked q found tells = λ earlier h.
     let (is, after) = tells earlier h.names in (
       is,
       λ none.
-      let stands = after none in
-      record {
-        names = stands;
-        declared = stands.declared u ∙ any_other (is_same (declares u)) earlier (drives q) refl ∙ sym (h.names.declared u) ∙ h.declared;
-        ports = λ p. h.ports p ∙ sym (any_other (is_same (links u p)) earlier (drives q) refl);
-      },
+          let stands = after none in
+          record {
+            names = stands;
+            declared = stands.declared u ∙ any_other (is_same (declares u)) earlier (drives q) refl ∙ sym (h.names.declared u) ∙ h.declared;
+            ports = λ p. h.ports p ∙ sym (any_other (is_same (links u p)) earlier (drives q) refl);
+          },
     )
 
 -- a link that drives a name

@@ -1,5 +1,5 @@
 -- What stands before in a module, as far as its names are looked for a second time.
-use Rattle.std.specs.Prelude.{◌≡◌, List, [], ◌∷◌, ◌++◌, map, Bool, true, false, Option, Some, None, if◌then◌else◌}
+use Rattle.std.specs.Prelude.{◌≡◌, List, [], ◌∷◌, ◌++◌, map, true, false, Option, Some, None, if◌then◌else◌}
 use Rattle.std.specs.List.{list_any}
 use Rattle.av_net.specs.Names.{clk, rst}
 use Rattle.av_net.specs.Rows.{is_in, Mention, of_module, declares, drives, links, is_same, first_again}

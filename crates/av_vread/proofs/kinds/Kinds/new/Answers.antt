@@ -1,4 +1,4 @@
-use Rattle.std.proofs.Common.{◌≡◌, ◌≤◌, ◌<◌, ◌++◌, [], ◌∷◌, List, map, length, get_or, refl, if◌then◌else◌, sym, ap, subst, ◌∙◌, arith}
+use Rattle.std.proofs.Common.{◌≡◌, ◌<◌, ◌++◌, [], ◌∷◌, List, map, length, get_or, refl, if◌then◌else◌, sym, ap, subst, ◌∙◌, arith}
 use Rattle.std.specs.Prelude.{is_some}
 use Rattle.std.specs.Map.{lookup}
 use Rattle.std.specs.Str.{bytes_eq}
@@ -8,7 +8,7 @@ use Rattle.av_net.specs.Rows.{kind_from}
 use Rattle.av_vread.specs.declared.parsed.ModuleText.{ModuleText}
 use Rattle.av_vread.specs.inner.Reading.{said_module}
 use Rattle.av_vread.specs.inner.Numbered.{place_among, number_of}
-use Rattle.av_vread.proofs.Walks.{made_more, made_all}
+use Rattle.av_vread.proofs.Walks.{made_more}
 use Rattle.av_vread.proofs.KindTables.{more_places}
 use Rattle.av_vread.proofs.kinds.Kinds.new.Goals as goal
 
@@ -35,5 +35,5 @@ loop-text-preserved c =
     record {
       made = made_more cells (λ x xs. refl) before c.push.new.self.items (cells texts) texts at text c.loop-text.invariant.made lt is pushed;
       numbered = λ q. more_places numbers c.insert.new.self (map (λ k. k.name) before) kind.name c.len-in-loop-text.result c.loop-text.invariant.numbered count put q
-        ∙ ap (λ names. place_among names q) (sym (map_push (λ (k : CellKind). k.name) before kind)) ∙ ap (λ kinds. number_of kinds q) (sym pushed);
+          ∙ ap (λ names. place_among names q) (sym (map_push (λ (k : CellKind). k.name) before kind)) ∙ ap (λ kinds. number_of kinds q) (sym pushed);
     }

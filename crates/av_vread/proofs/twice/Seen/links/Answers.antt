@@ -1,4 +1,4 @@
-use Rattle.std.proofs.Common.{◌∷◌, [], None, sym, ap, ◌∙◌}
+use Rattle.std.proofs.Common.{◌∷◌, []}
 use Rattle.std.specs.Prelude.{option_map}
 use Rattle.std.proofs.lemmas.Result.{IfOk-weaker}
 use Rattle.av_net.specs.Rows.{kind_or, drives, link_mentions}
