@@ -165,17 +165,31 @@ fn word_of_cycle(clock: &mut Clock<'_>, drive: u32) -> u64
     word
 }
 
-/// The words of this drive of a text in three cycles from a reset.
-pub(crate) fn words_of(alloc: Global, text: &str, drive: u32) -> Result<[u64; 3], Fail> {
-    let read = design(alloc, text)?;
-    if drive as usize >= read.module.drives.as_slice().len() {
+// The words of this drive in three cycles from a reset.
+fn words(alloc: Global, of: &Module, drive: u32) -> Result<[u64; 3], Fail>
+    requires { IsSound of.now }
+{
+    if drive as usize >= of.drives.as_slice().len() {
         return Err(Fail::new("a drive"));
     }
-    let mut clock = Clock::new(alloc, &read.module)?;
+    let mut clock = Clock::new(alloc, of)?;
     clock.reset();
     Ok([
         word_of_cycle(&mut clock, drive),
         word_of_cycle(&mut clock, drive),
         word_of_cycle(&mut clock, drive),
     ])
+}
+
+/// This drive of a text has these words in three cycles from a reset.
+pub(crate) fn assert_words(
+    rt: &impl Abort,
+    alloc: Global,
+    text: &str,
+    drive: u32,
+    wanted: [u64; 3],
+) -> Result<(), Fail> {
+    let read = design(alloc, text)?;
+    assert_eq!(rt; words(alloc, &read.module, drive)?, wanted);
+    Ok(())
 }

@@ -1,6 +1,6 @@
 //! Texts with part selects and widenings.
 
-use crate::clock::words_of;
+use crate::clock::assert_words;
 use crate::designs::{around, assert_told, assert_written};
 use std::test::Fail;
 
@@ -67,10 +67,9 @@ endmodule
 #[test]
 fn words_of_other_widths(rt: HostRuntime) -> Result<(), Fail> {
     let alloc = rt.alloc();
-    assert_eq!(rt; words_of(alloc, WIDER, 1)?, [0, 128, 65_409]);
-    assert_eq!(rt; words_of(alloc, NARROWER, 1)?, [0, 0, 1]);
-    assert_eq!(rt; words_of(alloc, TWICE_WIDER, 3)?, [3, 65_535, 3]);
-    Ok(())
+    assert_words(&rt, alloc, WIDER, 1, [0, 128, 65_409])?;
+    assert_words(&rt, alloc, NARROWER, 1, [0, 0, 1])?;
+    assert_words(&rt, alloc, TWICE_WIDER, 3, [3, 65_535, 3])
 }
 
 // Ports and bodies of modules with what the reader answers.
