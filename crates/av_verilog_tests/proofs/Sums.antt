@@ -3,7 +3,9 @@ use Rattle.std.proofs.Common.{◌≡◌, ℕ, ◌≤◌, true, List, [], ◌∷�
 use Rattle.std.specs.Prelude.{All, Contains, codes, negsuc, nat_abs}
 use Rattle.std.specs.List.{list_all}
 use Rattle.std.proofs.lemmas.Bool.{leb-true, ltb-true}
+use Rattle.av_base.specs.Tokens.{reserved_words}
 use Rattle.av_base.specs.Words.{IsWord}
+use Rattle.av_base.proofs.Tables.{none_there}
 use Rattle.av_net.specs.declared.operation.Symbol.TheVariants.{Add}
 use Rattle.av_net.specs.declared.operation.Operand.TheVariants.{Name, Literal}
 use Rattle.av_net.specs.declared.operation.Operation.{Operation}
@@ -135,7 +137,7 @@ top_spelled = record {
 
 input_listed : MayBeListed (names_of sums_top.inputs) input_entry
 input_listed = record {
-  variable = named (codes "X") refl;
+  variable = ((refl, λ i d lt. absurd (omega arith)), none_there (codes "X") reserved_words refl);
   indices = leb-true 0 4 refl;
   index = λ i d lt. absurd (omega arith);
   wire = contains_tested (names_of sums_top.inputs) (codes "i") refl;
@@ -144,7 +146,7 @@ input_listed = record {
 
 output_listed : MayBeListed (wire_names sums_top) output_entry
 output_listed = record {
-  variable = named (codes "Y") refl;
+  variable = ((refl, λ i d lt. absurd (omega arith)), none_there (codes "Y") reserved_words refl);
   indices = leb-true 1 4 refl;
   index = all_one (λ i. nat_abs i ≤ 4095) (negsuc 0) (leb-true 1 4095 refl);
   wire = contains_tested (wire_names sums_top) (codes "o") refl;
