@@ -50,7 +50,7 @@ fn within_limits(
     if stretches.len() > MOST_LINKS {
         return Err(SpaceFault::Links(stretches.len() as u128));
     }
-    let operators = operators(timed, layout);
+    let operators = operators(alloc, timed, layout)?;
     if operators > MOST_OPERATORS {
         return Err(SpaceFault::Operators(operators));
     }
