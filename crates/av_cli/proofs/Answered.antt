@@ -86,7 +86,7 @@ writes_output (Trace w r) words left left' bytes out are t takes end within (siz
 writes_output (Best w r) words left left' bytes out are t takes end within (sizes, is, g) =
     inr (inr (inr (inr (inr (inr (inr (inl (record { bits = w.bits; box = r.size; sizes = sizes; read = is; taken = bytes; takes = takes; whole = end; within = within; gives = g }))))))))
 writes_output (Emit w r) words left left' bytes out are t takes end within (sizes, is, g) =
-    inl (record { bits = w.bits; box = r.size; sizes = sizes; read = is; taken = bytes; takes = takes; whole = end; within = within; gives = g.gives })
+    inl (record { bits = w.bits; box = r.size; sizes = sizes; read = is; taken = bytes; takes = takes; whole = end; within = within; gives = g.gives; mapped = g.mapped })
 writes_output Sim words left left' bytes out are t takes end within g = inr (inl (record { read = are; taken = bytes; takes = takes; whole = end; within = within; gives = g }))
 writes_output (Demo w r k) words left left' bytes out are t takes end within g = absurd (true≢false (sym t))
 
