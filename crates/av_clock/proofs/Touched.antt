@@ -27,7 +27,7 @@ use Rattle.av_clock.proofs.Reading.{name_at}
 
 both : (a b : Bool) → (a && b) ≡ true → (a ≡ true) × (b ≡ true)
 both true b e = (refl, e)
-both false b e = cc
+both false b e = absurd cc
 
 kept : (v w : Words) (a : Operand) → has_kept v w a ≡ true → KeepsWord v w a
 kept v w a e = eqb-true (word_of v a) (word_of w a) e
@@ -43,18 +43,18 @@ each_kept v w (Choose c a b) e =
 each_kept v w (Part name high low) e = kept v w (Name name) e
 each_kept v w (Widen name by) e = kept v w (Name name) e
 
+joined : (a b : Bool) → a ≡ true → b ≡ true → (a && b) ≡ true
+joined true b e f = f
+joined false b e f = absurd cc
+
 keeps : (v w : Words) (a : Operand) → KeepsWord v w a → has_kept v w a ≡ true
 keeps v w a e = eq-eqb (word_of v a) (word_of w a) e
 
 same_read : (v w : Words) (operation : Operation) → EachOperand (KeepsWord v w) operation → reads_same v w operation ≡ true
 same_read v w (Plain a) h = keeps v w a h
-same_read v w (Binary a symbol b) h = let x : has_kept v w a ≡ true = keeps v w a h.0 in let y : has_kept v w b ≡ true = keeps v w b h.1 in rw (x, y) refl
-same_read v w (Signed a symbol b) h = let x : has_kept v w a ≡ true = keeps v w a h.0 in let y : has_kept v w b ≡ true = keeps v w b h.1 in rw (x, y) refl
-same_read v w (Choose c a b) h =
-    let z : has_kept v w c ≡ true = keeps v w c h.0 in
-    let x : has_kept v w a ≡ true = keeps v w a h.1 in
-    let y : has_kept v w b ≡ true = keeps v w b h.2 in
-    rw (z, x, y) refl
+same_read v w (Binary a symbol b) h = joined (has_kept v w a) (has_kept v w b) (keeps v w a h.0) (keeps v w b h.1)
+same_read v w (Signed a symbol b) h = joined (has_kept v w a) (has_kept v w b) (keeps v w a h.0) (keeps v w b h.1)
+same_read v w (Choose c a b) h = joined (has_kept v w c) (has_kept v w a && has_kept v w b) (keeps v w c h.0) (joined (has_kept v w a) (has_kept v w b) (keeps v w a h.1) (keeps v w b h.2))
 same_read v w (Part name high low) h = keeps v w (Name name) h
 same_read v w (Widen name by) h = keeps v w (Name name) h
 
@@ -135,7 +135,7 @@ one_touched false false h = refl
 
 -- one more, where the next one is touched
 seen_next : (v w : Words) (drives : List Drive) (marks : List Bool) (n : ℕ) (d : Drive) → n < length drives → n < length marks
-    → (IsClear marks n → reads_same v w (get_or drives n d).operation ≡ true → ⊥) → seen v w drives marks n + 1 ≤ seen v w drives marks (n + 1)
+    → (IsClear marks n → reads_same v w (get_or drives n d).operation ≡ true → ⊥) → seen v w drives marks n + 1 ≤ seen v w drives marks (suc n)
 seen_next v w [] marks n d lt few h = absurd (omega (arith, lt))
 seen_next v w (drive ∷ drives) [] n d lt few h = absurd (omega (arith, few))
 seen_next v w (drive ∷ drives) (mark ∷ marks) zero d lt few h = let e = one_touched mark (reads_same v w drive.operation) h in omega (arith, e)
@@ -148,8 +148,8 @@ all_touched v w (drive ∷ drives) = let rest = all_touched v w drives in omega 
 
 -- ---- drive by drive
 
--- the drives from this one on are not written yet, those that are not touched are clear, and of those before it no more are computed than
--- are touched
+-- the drives from this one on are not written yet, those that are not touched are clear, and no more are computed than are touched
+-- before it
 pub record SettlesTouched (m : Module) (before words : List ℕ) (old stale : List Bool) (drive count : ℕ) : Type 0 where
   pub ahead : (k : ℕ) (d : Drive) → drive ≤ k → k < length m.drives → named m words (get_or m.drives k d).target ≡ named m before (get_or m.drives k d).target
   pub clear : AreTouched m before words old stale
@@ -158,49 +158,51 @@ pub record SettlesTouched (m : Module) (before words : List ℕ) (old stale : Li
 pub touch_none : (m : Module) (words : List ℕ) (marks : List Bool) (drive : ℕ) → SettlesTouched m words words marks marks drive 0
 touch_none m words marks drive = record { ahead = λ k d le lt. refl; clear = λ k d lt clear same. clear; few = omega arith }
 
-pub touch_more : (m : Module) (before words words' : List ℕ) (old stale stale' : List Bool) (drive next count : ℕ) → IsSound m → drive < length m.drives → drive < length stale → length old ≡ length m.drives → IsSet stale drive
-    → AreTouched m words words' stale stale' → ((d : Drive) (name : List ℕ) → name ≢ (get_or m.drives drive d).target → named m words' name ≡ named m words name) → drive + 1 ≤ next
-    → SettlesTouched m before words old stale drive count → SettlesTouched m before words' old stale' next (count + 1)
-touch_more m before words words' old stale stale' drive next count sound lt there marks marked are others later so_far = elim (slice_get_cases m.drives drive).1 [
-  | inl (own, within, found, here) ↦ record { ahead = ahead own (sym here); clear = clear own (sym here); few = few own (sym here) }
-  | inr (past, none) ↦ absurd (omega (arith, past, lt))
-]
-  where
-    abbrev v : Words
-    v = named m before
+module _ (m : Module) (before words words' : List ℕ) (old stale stale' : List Bool) (drive next count : ℕ) (sound : IsSound m) (lt : drive < length m.drives) (there : drive < length stale) (marks : length old ≡ length m.drives)
+    (marked : IsSet stale drive) (are : AreTouched m words words' stale stale') (others : (d : Drive) (name : List ℕ) → name ≢ (get_or m.drives drive d).target → named m words' name ≡ named m words name) (later : drive + 1 ≤ next)
+    (so_far : SettlesTouched m before words old stale drive count) where
+  abbrev v : Words
+  v = named m before
 
-    abbrev w : Words
-    w = named m words
+  abbrev w : Words
+  w = named m words
 
-    abbrev w' : Words
-    w' = named m words'
+  abbrev w' : Words
+  w' = named m words'
 
-    more : (own : Drive) → own ≡ get_or m.drives drive own → Extends v w w'
-    more own at name e = elim (same_or_not name own.target) [
-      | inl same ↦ ap v same ∙ sym (ap (λ (d : Drive). w d.target) at ∙ so_far.ahead drive own (omega arith) lt ∙ ap (λ (d : Drive). v d.target) (sym at)) ∙ ap w (sym same)
-      | inr other ↦ e ∙ others own name (λ same. other (same ∙ ap (λ (d : Drive). d.target) (sym at)))
-    ]
+  -- a name that is written now was not written before
+  once : (own : Drive) → own ≡ get_or m.drives drive own → Extends v w w'
+  once own at name e = elim (same_or_not name own.target) [
+    | inl same ↦ ap v same ∙ sym (ap (λ (d : Drive). w d.target) at ∙ so_far.ahead drive own (omega arith) lt ∙ ap (λ (d : Drive). v d.target) (sym at)) ∙ ap w (sym same)
+    | inr other ↦ e ∙ others own name (λ same. other (same ∙ ap (λ (d : Drive). d.target) (sym at)))
+  ]
 
-    ahead : (own : Drive) → own ≡ get_or m.drives drive own → (k : ℕ) (d : Drive) → next ≤ k → k < length m.drives → w' (get_or m.drives k d).target ≡ v (get_or m.drives k d).target
-    ahead own at k d le below =
-        let other : (get_or m.drives k d).target ≢ own.target = targets_apart m k drive d own sound below lt at (λ e. absurd (omega (arith, e, le, later))) in
-        others own (get_or m.drives k d).target (λ same. other (same ∙ ap (λ (x : Drive). x.target) (sym at))) ∙ so_far.ahead k d (omega (arith, le, later)) below
+  ahead_still : (own : Drive) → own ≡ get_or m.drives drive own → (k : ℕ) (d : Drive) → next ≤ k → k < length m.drives → w' (get_or m.drives k d).target ≡ v (get_or m.drives k d).target
+  ahead_still own at k d le below =
+      let other : (get_or m.drives k d).target ≢ own.target = targets_apart m k drive d own sound below lt at (λ e. absurd (omega (arith, e, le, later))) in
+      others own (get_or m.drives k d).target (λ same. other (same ∙ ap (λ (x : Drive). x.target) (sym at))) ∙ so_far.ahead k d (omega (arith, le, later)) below
 
-    clear : (own : Drive) → own ≡ get_or m.drives drive own → AreTouched m before words' old stale'
-    clear own at k d below was same =
-        let operation = (get_or m.drives k d).operation in
-        are k d below (so_far.clear k d below was (kept_before v w w' (more own at) operation same)) (kept_between v w w' (more own at) operation same)
+  clear_still : (own : Drive) → own ≡ get_or m.drives drive own → AreTouched m before words' old stale'
+  clear_still own at k d below was same =
+      let operation = (get_or m.drives k d).operation in
+      are k d below (so_far.clear k d below was (kept_before v w w' (once own at) operation same)) (kept_between v w w' (once own at) operation same)
 
-    few : (own : Drive) → own ≡ get_or m.drives drive own → count + 1 ≤ seen v w' m.drives old next
-    few own at =
-        let operation = (get_or m.drives drive own).operation in
-        let before_it = so_far.few in
-        let a = seen_later v w w' (more own at) m.drives old drive in
-        let b = seen_next v w' m.drives old drive own lt (omega (arith, lt, marks)) (λ was same.
-            never (sym marked ∙ get_or_default stale drive false true there
-            ∙ so_far.clear drive own lt was (kept_before v w w' (more own at) operation (each_kept v w' operation same)))) in
-        let c = seen_longer v w' m.drives old (drive + 1) next later in
-        omega (arith, before_it, a, b, c)
+  few_still : (own : Drive) → own ≡ get_or m.drives drive own → count + 1 ≤ seen v w' m.drives old next
+  few_still own at =
+      let operation = (get_or m.drives drive own).operation in
+      let before_it = so_far.few in
+      let a = seen_later v w w' (once own at) m.drives old drive in
+      let b = seen_next v w' m.drives old drive own lt (omega (arith, lt, marks)) (λ was same.
+          never (sym marked ∙ get_or_default stale drive false true there
+          ∙ so_far.clear drive own lt was (kept_before v w w' (once own at) operation (each_kept v w' operation same)))) in
+      let c = seen_longer v w' m.drives old (suc drive) next (omega (arith, later)) in
+      omega (arith, before_it, a, b, c)
+
+  pub touch_more : SettlesTouched m before words' old stale' next (count + 1)
+  touch_more = elim (slice_get_cases m.drives drive).1 [
+    | inl (own, within, found, here) ↦ record { ahead = ahead_still own (sym here); clear = clear_still own (sym here); few = few_still own (sym here) }
+    | inr (past, none) ↦ absurd (omega (arith, past, lt))
+  ]
 
 -- ---- one write
 
