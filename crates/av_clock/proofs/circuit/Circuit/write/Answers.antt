@@ -1,4 +1,3 @@
-use Rattle.std.proofs.Common.{sym}
 use Rattle.av_clock.proofs.Held.{written_read}
 use Rattle.av_clock.proofs.Touched.{written_touched}
 use Rattle.av_clock.proofs.circuit.Circuit.write.Goals as goal
@@ -11,4 +10,4 @@ returns-then-words-place-clause-same c =
 pub returns-then-words-place-clause-touched : goal.returns-then-words-place-clause-touched
 returns-then-words-place-clause-touched c =
     written_touched c.args.self.now c.args.words.now c.args.place c.args.word c.args.stale.now c.mark_readers.new.stale c.requires.sound c.requires.size c.requires.place
-    (λ e. c.if-words-place.true (sym e)) c.mark_readers.ensures.others
+    c.if-words-place.true c.mark_readers.ensures.others
