@@ -20,7 +20,7 @@ loop-node-preserved c =
 pub returns : goal.returns
 returns c =
     let s = view_system c.args.timed.now.flat in
-    let e = ap (λ (ns : List ℕ). length ns) (c.as_slice-places.ensures ∙ c.requires.places) in
+    let e = ap (λ (ns : List ℕ). length ns) (c.as_slice-places.ensures ∙ c.requires.layout.places) in
     let many = length-map-range_with_len (node_place s) 0 (length (nodes s)) in
     let past : length c.as_slice-places.result.now ≤ c.loop-node.node = search rules in
     c.loop-node.invariant ∙ ap (map piece_sizes) (take_all c.loop-node.node (nodes s) (omega (arith, e, many, past)))

@@ -125,7 +125,7 @@ loop-number-preserved c =
           let new : c.if-is_used.sum ≡ c.loop-number.sum + made_size piece = w.sum-is ∙ ap (λ (n : ℕ). c.loop-number.sum + n) size_is in record {
             counted = subst (λ (n : ℕ). IsCountOf s l.placements l.cells (λ u. (u.cell ≡ p) × (u.piece < j + 1)) n) (sym new)
                 (one_more s l.placements l.cells p j c.loop-number.sum (view_piece piece) so_far.counted (use_of s l.placements l.cells p (view_variable v) slots on j (view_piece piece) is (used.0 w.if-is_used.true)));
-            most = (let a = so_far.most in let b = w.sum-is in let f = c.as_slice-own.type_inv.0 j in omega (arith, a, b, f));
+            most = (let a = so_far.most in let b = w.sum-is in let f = c.type_inv.own j in omega (arith, a, b, f));
           })
       | else-is_used w ↦ (
           let same : c.if-is_used.sum ≡ c.loop-number.sum = w.sum-is in record {

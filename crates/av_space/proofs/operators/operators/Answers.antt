@@ -15,8 +15,8 @@ pub loop-cell-preserved : goal.loop-cell-preserved
 loop-cell-preserved c =
     let l = c.args.layout.now in
     let so_far = c.loop-cell.invariant in
-    let own = c.cell_operators.ensures in record {
-      counted = next_cell (view_system c.args.timed.now.flat) l.placements l.cells c.loop-cell.cell c.loop-cell.sum c.cell_operators.result so_far.counted own.count;
+    let own = c.cell_operators-sum.ensures in record {
+      counted = next_cell (view_system c.args.timed.now.flat) l.placements l.cells c.loop-cell.cell c.loop-cell.sum c.cell_operators-sum.result so_far.counted own.count;
       most = (let a = so_far.most in let b = own.most in omega (arith, a, b));
     }
 
