@@ -35,7 +35,7 @@ residue_fits bits a = mod-lt a (one-le-pow bits 2 (omega arith))
 
 pub entered : (bytes : List ℕ) (sizes : List Size) (bits box : ℕ) (t : Timed) (a : Cells) (d : Design) → length bytes < 4294967295 → Headline bytes sizes bits box t a d → IsMapped bytes sizes bits box t a → IsEntered d bits
 entered bytes sizes bits box t a d short h m =
-    let ready = clockable bytes sizes bits box t a d h in
+    let ready = clockable bytes sizes bits box t a d h m in
     record {
       sound = ready.sound;
       apart = ready.apart;

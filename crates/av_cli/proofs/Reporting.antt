@@ -83,12 +83,12 @@ fitting_words t a d x declared presented widths inputs =
           (λ p is wire. subst (λ (n : ℕ). IsWord n w) (sym is) (inputs.words line.variable line.point w e)) d.module.inputs widths,
     )
 
-pub clockable : (bytes : List ℕ) (sizes : List Size) (bits box : ℕ) (t : Timed) (a : Cells) (d : Design) → Headline bytes sizes bits box t a d → IsClockable t d
-clockable bytes sizes bits box t a d h =
+pub clockable : (bytes : List ℕ) (sizes : List Size) (bits box : ℕ) (t : Timed) (a : Cells) (d : Design) → Headline bytes sizes bits box t a d → IsMapped bytes sizes bits box t a → IsClockable t d
+clockable bytes sizes bits box t a d h m =
     let carries = h.design.carries in
     let whole = carries.whole in
     record {
-      chained = whole.legal.chained;
+      chained = m.pipelined.legal.chained;
       sound = h.design.sound;
       apart = subst (λ (l : Listing). AreApart l.ins) (sym carries.listing) whole.apart;
       fitting = λ x inputs. fitting_words t a d x (λ line is. is.0) (subst (λ (l : Listing). All (IsPresented (view_system t.flat) a) l.ins) (sym carries.listing) whole.presented) carries.inputs.widths inputs;
@@ -216,7 +216,7 @@ module _ (bytes : List ℕ) (sizes : List Size) (bits box : ℕ) (t : Timed) (a 
   same_line i line e = same_truth (names_output own line.variable) (is_result (instance_of h.system sizes bits) line) into back
     where
       names : AllPairs (λ (a b : Variable). a.name ≢ b.name) own.variables
-      names = h.design.carries.whole.legal.chained.names
+      names = m.pipelined.legal.chained.names
 
       into : names_output own line.variable ≡ true → is_result (instance_of h.system sizes bits) line ≡ true
       into is =
@@ -240,7 +240,7 @@ module _ (bytes : List ℕ) (sizes : List Size) (bits box : ℕ) (t : Timed) (a 
       let i = instance_of h.system sizes bits in
       let tree_is = tree_inputs x inputs in
       let one = h.computes.one_solution x tree_is in
-      let fits = (clockable bytes sizes bits box t a d h).fitting x inputs in
+      let fits = (clockable bytes sizes bits box t a d h m).fitting x inputs in
       let lines_same : All (λ (l : Entry). names_output own l.variable ≡ is_result i l) d.listing.ats =
       subst (λ (l : Listing). All (λ (e : Entry). names_output own e.variable ≡ is_result i e) l.ats) (sym h.design.carries.listing) (all_by_place (λ (e : Entry). names_output own e.variable ≡ is_result i e) a.listing.ats same_line) in
       record {

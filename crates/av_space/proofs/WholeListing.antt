@@ -20,7 +20,7 @@ use Rattle.av_flat.specs.Signatures.{Signature, signature, signatures, is_input,
 use Rattle.av_flat.specs.Chained.{IsChainedPiece, IsChainedVariable}
 use Rattle.av_flat.specs.Nodes.{is_node, nodes, IsComputation}
 use Rattle.av_flat.specs.Schedules.{cycle}
-use Rattle.av_flat.specs.Legal.{IsLegal, HasAllHelpers}
+use Rattle.av_flat.specs.Legal.{IsLegal}
 use Rattle.av_flat.proofs.Solving.{declares, read_declared}
 use Rattle.av_flat.proofs.Sets.{has_is}
 use Rattle.av_flat.specs.Reads.{IsRead}
@@ -399,10 +399,8 @@ module _ (t : Timed) (a : Cells) (legal : IsLegal t) (list : IsArrayOf t a) (few
             ]
           ]
 
-pub whole_listing : (t : Timed) (a : Cells) → IsLegal t → HasAllHelpers t → IsArrayOf t a → length a.inputs ≤ 2 ^ 64 → length a.outputs ≤ 2 ^ 64 → length a.cells ≤ 2 ^ 64 → IsWhole t a
-whole_listing t a legal helped list few_inputs few_outputs few_cells = record {
-  legal = legal;
-  helped = helped;
+pub whole_listing : (t : Timed) (a : Cells) → IsLegal t → IsArrayOf t a → length a.inputs ≤ 2 ^ 64 → length a.outputs ≤ 2 ^ 64 → length a.cells ≤ 2 ^ 64 → IsWhole t a
+whole_listing t a legal list few_inputs few_outputs few_cells = record {
   list = list;
   apart = ins_apart t a legal list few_inputs few_outputs few_cells;
   each = listed t a legal list few_inputs few_outputs few_cells;

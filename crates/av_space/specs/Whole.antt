@@ -13,7 +13,6 @@ use Rattle.av_flat.specs.Points.{has}
 use Rattle.av_flat.specs.Signatures.{signatures, is_shown, is_input, is_kind, is_declared}
 use Rattle.av_flat.specs.Nodes.{nodes}
 use Rattle.av_flat.specs.Schedules.{cycle}
-use Rattle.av_flat.specs.Legal.{IsLegal, HasAllHelpers}
 use Rattle.av_net.specs.declared.netlist.Port.{Port}
 use Rattle.av_net.specs.declared.design.Entry.{Entry}
 use Rattle.av_net.specs.declared.design.Design.{Design}
@@ -64,10 +63,8 @@ IsPresented s a line = IsTrue (is_declared is_input (signatures s) line.variable
 
 -- ---- the whole
 
--- the listing of a legal system with one helper for each reference that is moved
+-- the array of a system, with a whole listing
 pub record IsWhole (t : Timed) (a : Cells) : Type 0 where
-  pub legal : IsLegal t
-  pub helped : HasAllHelpers t
   pub list : IsArrayOf t a
   pub apart : AreApart a.listing.ins
   pub each : (n : ℕ) (v : Variable) (z : Point) → slice_get (nodes (view_system t.flat)) n ≡ Some v → IsTrue (is_shown v.kind) → IsTrue (has v.domain z)

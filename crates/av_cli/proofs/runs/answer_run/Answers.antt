@@ -11,7 +11,7 @@ use Rattle.av_cli.proofs.runs.answer_run.Goals as goal
 pub report_on-requires-clause-clockable : goal.report_on-requires-clause-clockable
 report_on-requires-clause-clockable g c =
     let made = c.in-Ok-compile.compiled in
-    clockable c.in-Some.parts.text.now c.as_slice.result.now c.args.width.bits c.args.reach.size made.timed made.cells made.design c.in-Ok-compile.ensures.headline
+    clockable c.in-Some.parts.text.now c.as_slice.result.now c.args.width.bits c.args.reach.size made.timed made.cells made.design c.in-Ok-compile.ensures.headline c.in-Ok-compile.ensures.mapped
 
 pub returns-in_default : goal.returns-in_default
 returns-in_default g c = refused (record { sizes = c.in-Ok.sizes; give = c.in-Ok.ensures.given; refuses = no_mark c.in_default.ensures.none refl }) c.put.ensures
