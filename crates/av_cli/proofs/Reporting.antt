@@ -83,12 +83,12 @@ fitting_words t a d x declared presented widths inputs =
           (λ p is wire. subst (λ (n : ℕ). IsWord n w) (sym is) (inputs.words line.variable line.point w e)) d.module.inputs widths,
     )
 
-pub clockable : (bytes : List ℕ) (sizes : List Size) (bits box : ℕ) (t : Timed) (a : Cells) (d : Design) → Headline bytes sizes bits box t a d → IsClockable t d
-clockable bytes sizes bits box t a d h =
+pub clockable : (bytes : List ℕ) (sizes : List Size) (bits box : ℕ) (t : Timed) (a : Cells) (d : Design) → Headline bytes sizes bits box t a d → IsMapped bytes sizes bits box t a → IsClockable t d
+clockable bytes sizes bits box t a d h m =
     let carries = h.design.carries in
     let whole = carries.whole in
     record {
-      chained = whole.legal.chained;
+      chained = m.pipelined.legal.chained;
       sound = h.design.sound;
       apart = subst (λ (l : Listing). AreApart l.ins) (sym carries.listing) whole.apart;
       fitting = λ x inputs. fitting_words t a d x (λ line is. is.0) (subst (λ (l : Listing). All (IsPresented (view_system t.flat) a) l.ins) (sym carries.listing) whole.presented) carries.inputs.widths inputs;
@@ -160,17 +160,16 @@ one_variable vs apart i j v w at there same = elim (cases_lt i j) [
   ]
 ]
 
-module _ (bytes : List ℕ) (sizes : List Size) (bits box : ℕ) (t : Timed) (a : Cells) (d : Design) (short : length bytes < 4294967295) (h : Headline bytes sizes bits box t a d) where
+module _ (bytes : List ℕ) (sizes : List Size) (bits box : ℕ) (t : Timed) (a : Cells) (d : Design) (short : length bytes < 4294967295) (h : Headline bytes sizes bits box t a d)
+    (m : IsMapped bytes sizes bits box t a) where
   abbrev own : FlatSystem
   own = view_system t.flat
 
   same : SameMeaning (shows_in (instance_of h.system sizes bits)) (declares_in (instance_of h.system sizes bits)) (shows_of own) (declares_of own)
-  same = meaning bytes sizes bits own short h.mapped.pipelined.serialises h.system h.program
+  same = meaning bytes sizes bits own short m.pipelined.serialises h.system h.program
 
   width_is : own.width ≡ bits
-  width_is =
-      let chain = h.mapped.pipelined.serialises in
-      chain.given.form.width ∙ chain.normalises.given.form.width ∙ ap (λ (f : FlatSystem). f.width) chain.normalises.flattens.flat
+  width_is = h.chains.width ∙ h.form.width
 
   -- ---- inputs of the chained system are inputs of the text
 
@@ -202,7 +201,7 @@ module _ (bytes : List ℕ) (sizes : List Size) (bits box : ℕ) (t : Timed) (a 
 
   line_there : (i : ℕ) (line : Entry) → slice_get a.listing.ats i ≡ Some line → IsTrue (flat.is_declared is_shown (signatures own) line.variable line.point)
   line_there i line e =
-      let list = h.mapped.whole.list in
+      let list = h.design.carries.whole.list in
       let b = from_map (λ (l : AtLine). l.entry) list.ats.lines i line (sym (ap (λ (es : List Entry). slice_get es i) list.ats.entries) ∙ e) in
       let is = all_at (IsAtLine own list.placings a.cells a.outputs) list.ats.lines i b.0 list.ats.each b.1 in
       let computation = is.computes.stands.computation in
@@ -217,7 +216,7 @@ module _ (bytes : List ℕ) (sizes : List Size) (bits box : ℕ) (t : Timed) (a 
   same_line i line e = same_truth (names_output own line.variable) (is_result (instance_of h.system sizes bits) line) into back
     where
       names : AllPairs (λ (a b : Variable). a.name ≢ b.name) own.variables
-      names = h.mapped.pipelined.legal.chained.names
+      names = m.pipelined.legal.chained.names
 
       into : names_output own line.variable ≡ true → is_result (instance_of h.system sizes bits) line ≡ true
       into is =
@@ -241,7 +240,7 @@ module _ (bytes : List ℕ) (sizes : List Size) (bits box : ℕ) (t : Timed) (a 
       let i = instance_of h.system sizes bits in
       let tree_is = tree_inputs x inputs in
       let one = h.computes.one_solution x tree_is in
-      let fits = (clockable bytes sizes bits box t a d h).fitting x inputs in
+      let fits = (clockable bytes sizes bits box t a d h m).fitting x inputs in
       let lines_same : All (λ (l : Entry). names_output own l.variable ≡ is_result i l) d.listing.ats =
       subst (λ (l : Listing). All (λ (e : Entry). names_output own e.variable ≡ is_result i e) l.ats) (sym h.design.carries.listing) (all_by_place (λ (e : Entry). names_output own e.variable ≡ is_result i e) a.listing.ats same_line) in
       record {
@@ -249,7 +248,7 @@ module _ (bytes : List ℕ) (sizes : List Size) (bits box : ℕ) (t : Timed) (a 
         cells = a;
         design = d;
         inputs = x;
-        has = record { before = bytes; rest = rest; first = first; divided = divided; computes = h; spelled = spelled; are_inputs = tree_is };
+        has = record { before = bytes; rest = rest; first = first; divided = divided; mapped = m; computes = h; spelled = spelled; are_inputs = tree_is };
         solution = one.solution;
         solves = one.solves;
         words = shows.words;
@@ -263,7 +262,7 @@ module _ (bytes : List ℕ) (sizes : List Size) (bits box : ℕ) (t : Timed) (a 
     cells = a;
     design = d;
     inputs = x;
-    has = record { before = bytes; rest = rest; first = first; divided = divided; computes = h; spelled = spelled; are_inputs = tree_inputs x inputs };
+    has = record { before = bytes; rest = rest; first = first; divided = divided; mapped = m; computes = h; spelled = spelled; are_inputs = tree_inputs x inputs };
     run = shows.run;
     clocked = shows.clocked;
     lines = shows.lines;
@@ -277,7 +276,7 @@ module _ (bytes : List ℕ) (sizes : List Size) (bits box : ℕ) (t : Timed) (a 
   pub report_answered : (words : List (List ℕ)) (report : Report) (rest whole : List ℕ) (first : ℕ) {sink sink' : SinkState} {status : Status} → IsDivided whole bytes rest first → GiveSizes words sizes
       → IsAnswered (RefusesLines t first rest) (GivesReported report t a d rest) sink sink' status
       → IsAnswered (RefusesRunWith words bits box whole) (GivesReportWith report words bits box whole) sink sink' status
-  report_answered words report rest whole first divided give (refused r put) = refused (record { sizes = sizes; give = give; refuses = bad_data r.fault divided h.mapped r.is r.told }) put
+  report_answered words report rest whole first divided give (refused r put) = refused (record { sizes = sizes; give = give; refuses = bad_data r.fault divided m r.is r.told }) put
   report_answered words report rest whole first divided give (given {out} g put) = given (record { sizes = sizes; give = give; gives = report_given report out rest whole first divided g }) put
   report_answered words report rest whole first divided give (no_memory x y) = no_memory x y
 
@@ -299,11 +298,11 @@ pub exclusive_run : (sizes : List Size) (bits box : ℕ) (bytes reason : List �
 exclusive_run sizes bits box bytes reason t a d x (no_mark none e) has = let marked = has.divided.marked in omega (arith, none, marked)
 exclusive_run sizes bits box bytes reason t a d x (bad_system {before} divided r) has =
     let same : has.before ≡ before = has.divided.text_is ∙ sym divided.text_is in
-    not_unmapped sizes bits box before reason t a r (subst (λ b. IsMapped b sizes bits box t a) same has.computes.mapped)
+    not_unmapped sizes bits box before reason t a r (subst (λ b. IsMapped b sizes bits box t a) same has.mapped)
 exclusive_run sizes bits box bytes reason t a d x (bad_data {before} {rest} {first} {timed} {cells} fault divided mapped is e) has =
     let same : has.before ≡ before = has.divided.text_is ∙ sym divided.text_is in
     let behind : has.rest ≡ rest = has.divided.rest_is ∙ sym divided.rest_is in
-    let own = subst (λ b. IsMapped b sizes bits box t a) same has.computes.mapped in
+    let own = subst (λ b. IsMapped b sizes bits box t a) same has.mapped in
     let one : view_system t.flat ≡ view_system timed.flat = one_chained before sizes bits (view_system t.flat) (view_system timed.flat) own.pipelined.serialises mapped.pipelined.serialises in
     let spelled : SpellsInputs (view_system timed.flat) rest x = subst (λ (s : FlatSystem). SpellsInputs s rest x) one (subst (λ r. SpellsInputs (view_system t.flat) r x) behind has.spelled) in
     not_both (view_system timed.flat) (readable (view_system timed.flat) (inr mapped.pipelined.legal.chained)) first rest x fault spelled is

@@ -42,6 +42,7 @@ pub record HasData (sizes : List Size) (bits box : ℕ) (bytes : List ℕ) (time
   pub rest : List ℕ
   pub first : ℕ
   pub divided : IsDivided bytes before rest first
+  pub mapped : IsMapped before sizes bits box timed cells
   pub computes : Headline before sizes bits box timed cells design
   pub spelled : SpellsInputs (view_system timed.flat) rest inputs
   pub are_inputs : AreInputs (instance_of computes.system sizes bits) inputs

@@ -1,4 +1,4 @@
-ghost use Rattle.std.specs.Prelude.{◌≡◌, ◌<◌, ◌≤◌, ◌+◌, ℕ, List as Items, length, false, true, slice_get, slice_set, slice_index, slice_index_or, Some, Contains, IfOk, All};
+ghost use Rattle.std.specs.Prelude.{◌≡◌, ◌≢◌, ◌<◌, ◌≤◌, ◌+◌, ℕ, List as Items, length, false, true, slice_get, slice_set, slice_index, slice_index_or, Some, Contains, IfOk, All};
 ghost use Rattle.av_base.specs.Words.{IsWord};
 ghost use Rattle.av_net.specs.Meaning.{Words};
 ghost use Rattle.av_net.specs.Names.{all_names, given_names, names_of, registers_of, width_of};
@@ -7,8 +7,8 @@ ghost use Rattle.av_net.specs.Clocked.{Edge};
 ghost use Rattle.av_net.specs.Sound.{IsSound};
 ghost use Rattle.av_net.specs.Meaning.{word_of, EachOperand};
 ghost use Rattle.av_clock.specs.Named.{named, AllFit};
-ghost use Rattle.av_clock.specs.Marked.{IsClear, AreHeld};
-ghost use Rattle.av_clock.specs.inner.Marking.{IsSet, ReadTheSame, AreAhead, AreDue};
+ghost use Rattle.av_clock.specs.Marked.{IsClear, AreHeld, touched};
+ghost use Rattle.av_clock.specs.inner.Marking.{IsSet, ReadTheSame, AreAhead, AreTouched, AreDue};
 ghost use Rattle.av_clock.specs.inner.Readers.{IsOther};
 
 use crate::gate::{Assignment, FlipFlop};
@@ -118,6 +118,8 @@ impl<'a> Circuit<'a> {
         ensures steps { (name : Items ℕ) → slice_get (all_names self.now) place ≡ Some name → (k : ℕ) (d : _) → k < length self.now.steps → IsClear due.new k
             → IsClear due.old k × IsOther name (slice_index_or self.now.steps k d).next }
         ensures ahead { (name : Items ℕ) → slice_get (all_names self.now) place ≡ Some name → AreAhead self.now name stale.old stale.new }
+        ensures others { (name : Items ℕ) → slice_get (all_names self.now) place ≡ Some name → (k : ℕ) (d : _) → k < length self.now.drives → IsClear stale.old k
+            → EachOperand (IsOther name) (slice_index_or self.now.drives k d).operation → IsClear stale.new k }
     {
         set_all(self.drives_reading[place].as_slice(), stale);
         set_all(self.steps_reading[place].as_slice(), due);
@@ -137,6 +139,8 @@ impl<'a> Circuit<'a> {
         ensures held { AreHeld self.now words.new stale.new due.new }
         ensures given { Agree (given_names self.now) (named self.now words.old) (named self.now words.new) }
         ensures clear { ((k : ℕ) → k < drive → IsClear stale.old k) → (k : ℕ) → k < drive + 1 → IsClear stale.new k }
+        ensures touched { AreTouched self.now words.old words.new stale.old stale.new }
+        ensures others { (d : _) (name : Items ℕ) → name ≢ (slice_index_or self.now.drives drive d).target → named self.now words.new name ≡ named self.now words.old name }
     {
         let assignment = &self.assignments[drive];
         let word = assignment.gate.word(words);
@@ -164,6 +168,7 @@ impl<'a> Circuit<'a> {
         ensures held { AreHeld self.now words.new stale.new due.new }
         ensures most { result ≤ length self.now.drives }
         ensures alone { (k : ℕ) → k ≤ length self.now.drives → ((j : ℕ) → j < k → IsClear stale.old j) → result + k ≤ length self.now.drives }
+        ensures touched { result ≤ touched (named self.now words.old) (named self.now words.new) self.now.drives stale.old }
     {
         let mut computed = 0;
         let mut drive = stale.next(0);
@@ -195,6 +200,7 @@ impl<'a> Circuit<'a> {
         ensures due { length due.new ≡ length due.old }
         ensures same { ReadTheSame self.now words.old words.new stale.old stale.new due.old due.new }
         ensures ahead { (name : Items ℕ) → slice_get (all_names self.now) place ≡ Some name → AreAhead self.now name stale.old stale.new }
+        ensures touched { AreTouched self.now words.old words.new stale.old stale.new }
     {
         if words[place] != word {
             words[place] = word;

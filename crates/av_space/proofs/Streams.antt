@@ -9,6 +9,7 @@ use Rattle.av_flat.specs.declared.timed.Timed.{Timed}
 use Rattle.av_flat.specs.Trees.{Variable, FlatSystem, view_system}
 use Rattle.av_flat.specs.Signatures.{is_input}
 use Rattle.av_flat.specs.Chained.{IsChainedVariable}
+use Rattle.av_flat.specs.Legal.{IsLegal}
 use Rattle.av_flat.specs.OneSolution.{AreInputs}
 use Rattle.av_flat.proofs.Solving.{declared_from, some_of}
 use Rattle.av_net.specs.declared.netlist.Port.{Port}
@@ -21,14 +22,14 @@ use Rattle.av_space.specs.declared.cells.Cells.{Cells}
 use Rattle.av_space.specs.Whole.{IsPresented, HasWholeListing}
 use Rattle.av_base.proofs.Lists.{each_at}
 
-module _ (t : Timed) (a : Cells) (d : Design) (h : HasWholeListing t a d) (x : Assignment) (inputs : AreInputs (view_system t.flat) x) where
+module _ (t : Timed) (a : Cells) (d : Design) (legal : IsLegal t) (h : HasWholeListing t a d) (x : Assignment) (inputs : AreInputs (view_system t.flat) x) where
   abbrev own : FlatSystem
   own = view_system t.flat
 
   -- a word of a declared input point fits the width of the system
   fits : (v : Variable) (p : ℕ) → slice_get own.variables p ≡ Some v → (z : Point) (w : ℕ) → x v.name z ≡ Some w → IsWord own.width w
   fits v p at z w e =
-      let width : v.width ≡ own.width = (each_at (IsChainedVariable own) own.variables p v (recursion_from_All (IsChainedVariable own) own.variables h.whole.legal.chained.each) at).width in
+      let width : v.width ≡ own.width = (each_at (IsChainedVariable own) own.variables p v (recursion_from_All (IsChainedVariable own) own.variables legal.chained.each) at).width in
       subst (λ (n : ℕ). IsWord n w) width
       (each_at (λ (y : Variable). (k : Point) (m : ℕ) → x y.name k ≡ Some m → IsWord y.width m) own.variables p v
       (recursion_from_All (λ (y : Variable). (k : Point) (m : ℕ) → x y.name k ≡ Some m → IsWord y.width m) own.variables inputs.words) at z w e)
