@@ -3,5 +3,5 @@ use Rattle.av_parse.proofs.program.declare.Goals as goal
 
 pub loop-token-preserved : goal.loop-token-preserved
 loop-token-preserved c =
-    let made = rw (c.in_ok-from_bytes.ensures, c.in_ok-domain.ensures) at c.in_ok-push.ensures.ok in
+    let made = rw (c.in_ok-from_ascii.ensures, c.in_ok-domain.ensures) at c.in_ok-push.ensures.ok in
     declared_step c.args.found.now c.loop-token.found c.push.new.self c.args.domain.now c.args.names.now c.loop-token.token-index _ c.loop-token-test.true c.loop-token.invariant made
