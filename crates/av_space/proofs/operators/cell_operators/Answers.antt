@@ -7,7 +7,7 @@ use Rattle.av_flat.specs.declared.flat.Var.{Var}
 use Rattle.av_flat.specs.declared.timed.Timed.{Timed}
 use Rattle.av_flat.specs.Nodes.{nodes}
 use Rattle.av_flat.specs.Points.{has}
-use Rattle.av_flat.specs.Trees.{Piece, Variable, FlatSystem, view, view_piece, view_variable, view_system}
+use Rattle.av_flat.specs.Trees.{Piece, Variable, FlatSystem, view_piece, view_variable, view_system}
 use Rattle.av_space.specs.declared.cells.Cell.{Cell}
 use Rattle.av_space.specs.declared.layout.Slot.{Slot}
 use Rattle.av_space.specs.declared.layout.Layout.{Layout}

@@ -1,7 +1,6 @@
-use Rattle.std.proofs.Common.{◌≡◌, ◌∙◌, ◌++◌, ◌∷◌, [], ℕ, List, map, take, sym, ap}
+use Rattle.std.proofs.Common.{◌∙◌, ◌++◌, ◌∷◌, [], ℕ, List, map, take, sym, ap}
 use Rattle.std.proofs.lemmas.List.{take_all}
 use Rattle.av_depend.proofs.Adds.{map_take_more}
-use Rattle.av_flat.specs.declared.flat.Piece.{Piece as PieceMade}
 use Rattle.av_space.proofs.TreeSizes.{made_size, sizes_viewed}
 use Rattle.av_space.proofs.operators.sizes_of.Goals as goal
 
