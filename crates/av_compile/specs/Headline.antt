@@ -11,7 +11,7 @@ use Rattle.av_tree.specs.Solutions.{AreInputs, IsSolution, HasOneSolution}
 use Rattle.av_flat.specs.declared.timed.Timed.{Timed}
 use Rattle.av_flat.specs.Trees.{FlatSystem, view_system}
 use Rattle.av_names.specs.declared.size.Size.{Size}
-use Rattle.av_names.specs.Accepted.{instance_of}
+use Rattle.av_names.specs.Sizes.{instance_of}
 use Rattle.av_names.specs.Flattened.{flat_of}
 use Rattle.av_normal.specs.NormalForm.{IsNormalForm}
 use Rattle.av_serial.specs.SerialForm.{IsSerialForm}
