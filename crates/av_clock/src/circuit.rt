@@ -13,6 +13,7 @@ ghost use Rattle.av_clock.specs.inner.Readers.{IsOther};
 
 use crate::gate::{Assignment, FlipFlop};
 use crate::marks::{Marks, set_all};
+use crate::readers::{drives_reading, steps_reading};
 use crate::resolver::{Resolver, size_of_module};
 use av_base::{List, Memory};
 use av_net::Module;
@@ -53,8 +54,8 @@ impl<'a> Circuit<'a> {
         let resolver = Resolver::new(alloc, of)?;
         let assignments = resolver.assignments(alloc)?;
         let flip_flops = resolver.flip_flops(alloc)?;
-        let drives_reading = resolver.drives_reading(alloc)?;
-        let steps_reading = resolver.steps_reading(alloc)?;
+        let drives_reading = drives_reading(alloc, of, &assignments)?;
+        let steps_reading = steps_reading(alloc, of, &flip_flops)?;
         Ok(Circuit {
             of,
             assignments,
