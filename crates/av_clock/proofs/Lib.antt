@@ -11,3 +11,4 @@ pub mod Held
 pub mod Taking
 pub mod Extended
 pub mod Touched
+pub mod Rooted

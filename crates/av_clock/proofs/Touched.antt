@@ -193,8 +193,8 @@ module _ (m : Module) (before words words' : List ℕ) (old stale stale' : List 
       let before_it = so_far.few in
       let a = seen_later v w w' (once own at) m.drives old drive in
       let b = seen_next v w' m.drives old drive own lt (omega (arith, lt, marks)) (λ was same.
-          never (sym marked ∙ get_or_default stale drive false true there
-          ∙ so_far.clear drive own lt was (kept_before v w w' (once own at) operation (each_kept v w' operation same)))) in
+      never (sym marked ∙ get_or_default stale drive false true there
+      ∙ so_far.clear drive own lt was (kept_before v w w' (once own at) operation (each_kept v w' operation same)))) in
       let c = seen_longer v w' m.drives old (suc drive) next (omega (arith, later)) in
       omega (arith, before_it, a, b, c)
 

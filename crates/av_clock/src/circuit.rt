@@ -13,6 +13,8 @@ ghost use Rattle.av_clock.specs.inner.Readers.{IsOther};
 
 use crate::gate::{Assignment, FlipFlop};
 use crate::marks::{Marks, set_all};
+use crate::passes::Passes;
+use crate::readers::{drives_reading, steps_reading};
 use crate::resolver::{Resolver, size_of_module};
 use av_base::{List, Memory};
 use av_net::Module;
@@ -26,6 +28,7 @@ pub(crate) struct Circuit<'a> {
     of: &'a Module,
     assignments: Vec<Assignment>,
     flip_flops: Vec<FlipFlop>,
+    passes: Passes,
     drives_reading: Vec<List<usize>>,
     steps_reading: Vec<List<usize>>,
 }
@@ -53,12 +56,14 @@ impl<'a> Circuit<'a> {
         let resolver = Resolver::new(alloc, of)?;
         let assignments = resolver.assignments(alloc)?;
         let flip_flops = resolver.flip_flops(alloc)?;
-        let drives_reading = resolver.drives_reading(alloc)?;
-        let steps_reading = resolver.steps_reading(alloc)?;
+        let passes = Passes::new(alloc, of, &assignments)?;
+        let drives_reading = drives_reading(alloc, of, &assignments)?;
+        let steps_reading = steps_reading(alloc, of, &flip_flops)?;
         Ok(Circuit {
             of,
             assignments,
             flip_flops,
+            passes,
             drives_reading,
             steps_reading,
         })
@@ -93,7 +98,7 @@ impl<'a> Circuit<'a> {
         self.assignments[drive].target
     }
 
-    /// All drives, in order.
+    /// All drives: those that compute, in order, and then those that copy.
     pub(crate) fn settle(&self, words: &mut [u64])
         requires size { length words.old ≡ length (all_names self.now) }
         requires fit { AllFit self.now words.old }
@@ -101,8 +106,11 @@ impl<'a> Circuit<'a> {
         ensures given { Agree (given_names self.now) (named self.now words.old) (named self.now words.new) }
         ensures fit { AllFit self.now words.new }
     {
-        for assignment in &self.assignments {
+        for assignment in &self.passes.computed {
             words[assignment.target] = assignment.gate.word(words);
+        }
+        for alias in &self.passes.copied {
+            words[alias.target] = alias.root.word(words);
         }
     }
 

@@ -18,7 +18,7 @@ loop-drive-preserved c =
       search rules,
       λ k few clear. let h = c.loop-drive.invariant.1 k few clear in omega (arith, h, later),
       touch_more c.args.self.now c.args.words.now c.loop-drive.words c.compute.new.words c.args.stale.now c.loop-drive.stale c.compute.new.stale c.loop-drive.drive c.next-drive-in-loop-drive.result c.loop-drive.computed
-      (subst IsSound c.self.view_is c.self.invariant.sound) within there c.requires.stale (so_far.marked within) c.compute.ensures.touched c.compute.ensures.others later c.loop-drive.invariant.2,
+          (subst IsSound c.self.view_is c.self.invariant.sound) within there c.requires.stale (so_far.marked within) c.compute.ensures.touched c.compute.ensures.others later c.loop-drive.invariant.2,
     )
 
 pub returns-clause-touched : goal.returns-clause-touched
