@@ -1,5 +1,5 @@
 -- Declarations found by name.
-use Rattle.std.proofs.Common.{◌≡◌, ◌≢◌, ℕ, ◌+◌, ◌<◌, ◌≤◌, List, [], ◌∷◌, ◌++◌, length, get_or, take, drop, slice_get, Option, Some, None, IsSome, cond, Bool, rules, refl, sym, ◌∙◌, ap, subst, arith, true, false, inl, inr, append_assoc, length-append, add-one, take-suc}
+use Rattle.std.proofs.Common.{◌≡◌, ℕ, ◌+◌, ◌<◌, ◌≤◌, List, [], ◌∷◌, ◌++◌, length, get_or, take, drop, slice_get, Option, Some, None, IsSome, cond, Bool, rules, refl, sym, ◌∙◌, ap, subst, arith, true, false, inl, inr, append_assoc, length-append, add-one, take-suc}
 use Rattle.std.specs.Prelude.{Contains, is_some, if◌then◌else◌}
 use Rattle.std.specs.Str.{bytes_eq}
 use Rattle.std.specs.Map.{lookup}

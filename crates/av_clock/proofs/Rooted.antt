@@ -4,7 +4,7 @@ use Rattle.std.specs.Prelude.{Contains}
 use Rattle.std.proofs.Math.ListN.{get_or-append, length-set}
 use Rattle.std.proofs.lemmas.Bool.{cases_eq, cases_lt}
 use Rattle.std.proofs.lemmas.List.{get_or-map, length-map, get_or_default, get_or-set_same, get_or-set_other, get_or_push, map-append, take-append-le, take_all, append-nil, ext_get_or}
-use Rattle.std.proofs.lemmas.List.Elements.{All-contains, All-weaker, All-contains_itself, Contains-push, Contains-push_cases, Contains-append_left, Contains-append_right, Contains-append_cases}
+use Rattle.std.proofs.lemmas.List.Elements.{All-contains, All-weaker, All-contains_itself, Contains-push, Contains-push_cases, Contains-append_left, Contains-append_cases}
 use Rattle.std.proofs.lemmas.Option.{slice_get-get_or, slice_get_within, get_or_from_slice_get}
 use Rattle.av_base.specs.Words.{IsWord}
 use Rattle.av_base.specs.declared.width.Width.{Width}
@@ -15,8 +15,8 @@ use Rattle.av_net.specs.declared.operation.Operation.{Operation}
 use Rattle.av_net.specs.declared.operation.Operation.TheVariants.{Plain, Binary, Signed, Choose, Part, Widen}
 use Rattle.av_net.specs.declared.netlist.Drive.{Drive}
 use Rattle.av_net.specs.declared.netlist.Module.{Module}
-use Rattle.av_net.specs.Meaning.{Words, Widths, result_of, EachOperand}
-use Rattle.av_net.specs.Names.{AreDistinct, IsAmong, given_names, wire_names, all_names, targets_of, width_of}
+use Rattle.av_net.specs.Meaning.{Words, Widths, EachOperand}
+use Rattle.av_net.specs.Names.{IsAmong, given_names, wire_names, all_names, targets_of, width_of}
 use Rattle.av_net.specs.Settled.{Settled, Agree, Holds, FitAt}
 use Rattle.av_net.specs.Sound.{IsSound}
 use Rattle.av_net.proofs.Fits.{settled_fit}
@@ -28,10 +28,10 @@ use Rattle.av_clock.specs.declared.gate.Gate.{Gate}
 use Rattle.av_clock.specs.declared.gate.Gate.TheVariants.{Buffer, Operator, Comparator, Multiplexer, Slice, Extender}
 use Rattle.av_clock.specs.declared.gate.Assignment.{Assignment}
 use Rattle.av_clock.specs.declared.passes.Alias.{Alias}
-use Rattle.av_clock.specs.Named.{named, looked_up, AllFit}
+use Rattle.av_clock.specs.Named.{named, AllFit}
 use Rattle.av_clock.specs.inner.Gates.{reading_word, IsWithin, EachReading, Takes, CanTake, gate_word, IsRead, IsResolved, AreAssigned}
 use Rattle.av_clock.specs.inner.Passes.{IsRoot, IsRooted, IsFinal, IsKnown, IsKnownReading, IsComputed, IsCopied, ArePasses}
-use Rattle.av_clock.proofs.Lookup.{look_at, contains_at}
+use Rattle.av_clock.proofs.Lookup.{look_at}
 use Rattle.av_clock.proofs.Reading.{one_place, in_order_at}
 use Rattle.av_clock.proofs.Resolved.{at_item, target_declared}
 use Rattle.av_clock.proofs.Settling.{gate_within, gate_gives, IsFor, assignment_takes}

@@ -1,5 +1,5 @@
 -- What a settle computes is marked, or reads a word that changes.
-use Rattle.std.proofs.Common.{◌≡◌, ◌≢◌, ℕ, zero, suc, ◌+◌, ◌<◌, ◌≤◌, Bool, true, false, not, ◌&&◌, ◌||◌, nat_eq, if◌then◌else◌, List, [], ◌∷◌, length, get_or, set, replicate, slice_get, Some, refl, sym, ap, ◌∙◌, subst, arith, inl, inr}
+use Rattle.std.proofs.Common.{◌≡◌, ◌≢◌, ℕ, zero, suc, ◌+◌, ◌<◌, ◌≤◌, Bool, true, false, not, ◌&&◌, ◌||◌, if◌then◌else◌, List, [], ◌∷◌, length, get_or, set, replicate, slice_get, Some, refl, sym, ap, ◌∙◌, subst, arith, inl, inr}
 use Rattle.std.proofs.lemmas.Bool.{eqb-true, eq-eqb, cases_eq}
 use Rattle.std.proofs.lemmas.List.{get_or_default}
 use Rattle.std.proofs.lemmas.Option.{slice_get_cases}
@@ -13,7 +13,7 @@ use Rattle.av_net.specs.Meaning.{Words, word_of, EachOperand}
 use Rattle.av_net.specs.Names.{all_names}
 use Rattle.av_net.specs.Sound.{IsSound}
 use Rattle.av_net.proofs.Ordered.{each_weaker}
-use Rattle.av_net.proofs.Settles.{with_word, with_word_same, with_word_other, names_distinct}
+use Rattle.av_net.proofs.Settles.{with_word, with_word_same, names_distinct}
 use Rattle.av_clock.specs.Named.{named}
 use Rattle.av_clock.specs.Marked.{IsClear, has_kept, reads_same, touched}
 use Rattle.av_clock.specs.inner.Marking.{IsSet, KeepsWord, AreTouched}

@@ -1,5 +1,4 @@
-use Rattle.std.proofs.Common.{rules, ◌≡◌, ◌<◌, ◌≤◌, ◌∙◌, length, ap, subst, arith}
-use Rattle.av_net.specs.declared.netlist.Module.{Module}
+use Rattle.std.proofs.Common.{rules, ◌≡◌, ◌<◌, ◌≤◌, ◌∙◌, length, subst, arith}
 use Rattle.av_net.specs.Sound.{IsSound}
 use Rattle.av_clock.specs.Named.{named}
 use Rattle.av_clock.proofs.Touched.{touch_none, touch_more, seen_all}

@@ -1,4 +1,4 @@
-use Rattle.std.proofs.Common.{rules, ◌<◌, ◌∙◌, List, Vec, length, ap, sym, subst, refl}
+use Rattle.std.proofs.Common.{rules, ◌<◌, ◌∙◌, List, Vec, length, ap, sym, subst}
 use Rattle.std.specs.declared.alloc.Global.{Global}
 use Rattle.av_net.specs.Names.{all_names, width_of}
 use Rattle.av_clock.specs.declared.gate.Reading.{Reading}
