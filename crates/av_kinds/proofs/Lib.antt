@@ -1,0 +1,17 @@
+pub mod Works
+pub mod Trees
+pub mod Choices
+pub mod Cells
+pub mod Fed
+pub mod Taken
+pub mod Wide
+pub mod Uncounted
+pub mod Shown
+pub mod Counted
+pub mod Chosen
+pub mod OneCell
+pub mod Shared
+pub mod Added
+pub mod Steps
+pub mod PlanShown
+pub mod InterfaceSteps
