@@ -100,7 +100,7 @@ tap_gives widths v name cw c counter count n tap fits works = options_give width
 choice_named : (name : Naming) (n : ℕ) (counter : Operand) (w : Width) (guard : Guard) (first second : Named) → IsNamed (named name n w (either_built name n counter guard first second)).operand
 choice_named name n counter w guard first second = tt
 
-tap_named : (name : Naming) (n : ℕ) (counter : Operand) (w : Width) (otherwise : Operand) (options : List Arm) → IsNamed otherwise → IsNamed (named name n w (options_built name w counter n otherwise options)).operand
+pub tap_named : (name : Naming) (n : ℕ) (counter : Operand) (w : Width) (otherwise : Operand) (options : List Arm) → IsNamed otherwise → IsNamed (named name n w (options_built name w counter n otherwise options)).operand
 tap_named name n counter w otherwise [] h = h
 tap_named name n counter w otherwise (o ∷ options) h = tt
 

@@ -15,3 +15,16 @@ pub mod Added
 pub mod Steps
 pub mod PlanShown
 pub mod InterfaceSteps
+pub mod Fine
+pub mod FineCells
+pub mod FinePorts
+pub mod NameParts
+pub mod PortNames
+pub mod SpelledNames
+pub mod ModuleWidths
+pub mod KindDrives
+pub mod KindNames
+pub mod KindSound
+pub mod TopNames
+pub mod Residues
+pub mod Lines

@@ -1,11 +1,11 @@
 -- In settled words of a plan each cell shows what its program says.
-use Rattle.std.proofs.Common.{◌≡◌, ℕ, zero, suc, List, [], ◌∷◌, length, get_or, Some, refl, subst, ap, sym}
+use Rattle.std.proofs.Common.{◌≡◌, ℕ, zero, suc, ◌+◌, List, [], ◌∷◌, length, get_or, Some, refl, subst, ap, sym, ◌∙◌, arith}
 use Rattle.std.specs.Prelude.{slice_get, All}
 use Rattle.std.specs.List.{AllByRecursion}
 use Rattle.std.proofs.lemmas.List.Elements.{recursion_from_All}
 use Rattle.av_base.proofs.Lists.{each_at, some_is}
 use Rattle.av_net.specs.declared.operation.Operand.TheVariants.{Name}
-use Rattle.av_net.specs.declared.netlist.Module.{Module}
+use Rattle.av_kinds.specs.declared.planning.Modules.{Modules}
 use Rattle.av_net.specs.declared.plan.CellKind.{CellKind}
 use Rattle.av_net.specs.declared.plan.Instance.{Instance}
 use Rattle.av_net.specs.Meaning.{Words, Widths}
@@ -20,7 +20,7 @@ use Rattle.av_kinds.specs.Counters.{counter_name}
 use Rattle.av_kinds.specs.inner.Shapes.{LaneShape}
 use Rattle.av_kinds.specs.inner.Kinds.{no_ports, lanes_wires, kind_inputs, kind_by}
 use Rattle.av_kinds.specs.inner.Instances.{instance_by}
-use Rattle.av_kinds.specs.inner.Planned.{AreModulesOf}
+use Rattle.av_kinds.specs.inner.Modules.{kinds_by, AreModulesOf}
 use Rattle.av_kinds.proofs.Wide.{IsWide}
 use Rattle.av_kinds.proofs.Shown.{LanesShow, LanesPipesWide}
 use Rattle.av_kinds.proofs.OneCell.{LanesOfPipes, instance_shows}
@@ -36,17 +36,26 @@ pub record IsWideKind (number : ℕ) (shape : List LaneShape) : Type 0 where
   pub wires : AllByRecursion (IsWide (width_of (kind_module (kind_by number shape)))) (lanes_wires (Name kind_counter) no_ports 0 shape)
   pub pipes : LanesPipesWide (width_of (kind_module (kind_by number shape))) shape
 
+-- the kind of a shape is that of its number
+kind_there : (n : ℕ) (shapes : List (List LaneShape)) (k : ℕ) (shape : List LaneShape) → slice_get shapes k ≡ Some shape → (j : ℕ) → n + k ≡ j → slice_get (kinds_by n shapes) k ≡ Some (kind_by j shape)
+kind_there n [] k shape is j at = absurd cc
+kind_there n (first ∷ shapes) zero shape is j at =
+    let e : n ≡ j = omega arith in
+    ap (λ (s : List LaneShape). Some (kind_by n s)) (some_is first shape is) ∙ ap (λ i. Some (kind_by i shape)) e
+kind_there n (first ∷ shapes) (suc k) shape is j at = kind_there (n + 1) shapes k shape is j (omega arith)
+
 -- The wires of a cell's lanes have the words of their works.
-pub cell_shows : (counter : Counter) (program : Program) (kinds : List CellKind) (top : Module) (instances : List Instance) (made : AreModulesOf counter program kinds top instances) (v : Words) (c : ℕ)
-    → All (λ instance. IsSettledIn (kind_of kinds instance) instance v) instances → v (counter_name counter) ≡ c
+pub cell_shows : (counter : Counter) (program : Program) (m : Modules) (made : AreModulesOf counter program m) (v : Words) (c : ℕ)
+    → All (λ instance. IsSettledIn (kind_of m.kinds instance) instance v) m.instances → v (counter_name counter) ≡ c
     → (p k : ℕ) (own : CellLanes) (shape : List LaneShape) → slice_get program.cells p ≡ Some own → slice_get program.kinds p ≡ Some k → slice_get made.shapes k ≡ Some shape
     → IsWideKind k shape → LanesOfPipes own.first (length shape) c shape (lanes_of program own)
     → LanesShow (labels program) v c own.first shape (lanes_of program own)
-cell_shows counter program kinds top instances made v c settled count p k own shape is_cell is_kind is_shape wide pipes =
+cell_shows counter program m made v c settled count p k own shape is_cell is_kind is_shape wide pipes =
     let i = instance_by (labels program) (counter_name counter) p k own.first shape (lanes_of program own) in
-    let P : Instance → Type 0 = λ instance. IsSettledIn (kind_of kinds instance) instance v in
-    let here : IsSettledIn (kind_of kinds i) i v = each_at P instances p i (recursion_from_All P instances settled) (made.instances_are p k own shape is_cell is_kind is_shape) in
-    let kind : kind_of kinds i ≡ kind_by k shape = got kinds k no_kind (kind_by k shape) (made.kinds_are k shape is_shape) in
+    let P : Instance → Type 0 = λ instance. IsSettledIn (kind_of m.kinds instance) instance v in
+    let here : IsSettledIn (kind_of m.kinds i) i v = each_at P m.instances p i (recursion_from_All P m.instances settled) (made.are_instances.each p k own shape is_cell is_kind is_shape) in
+    let at : slice_get m.kinds k ≡ Some (kind_by k shape) = ap (λ (ks : List CellKind). slice_get ks k) made.kinds_are ∙ kind_there 0 made.shapes k shape is_shape k (omega arith) in
+    let kind : kind_of m.kinds i ≡ kind_by k shape = got m.kinds k no_kind (kind_by k shape) at in
     let inside : IsSettledIn (kind_by k shape) i v = subst (λ (x : CellKind). IsSettledIn x i v) kind here in
     instance_shows (labels program) (counter_name counter) k p own.first c shape (lanes_of program own) v inside wide.ports wide.wires wide.pipes
-    ((made.are_shapes k shape is_shape).suits p own is_cell is_kind) pipes count
+    (made.are_shapes.suit k shape is_shape p own is_cell is_kind) pipes count

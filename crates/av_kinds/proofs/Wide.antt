@@ -41,7 +41,7 @@ last_fits : (widths : Widths) (name : Naming) (w : Width) (k n : ℕ) → AllByR
 last_fits widths name w k zero words = words.0
 last_fits widths name w k (suc n) words = last_fits widths name w (k + 1) n words.1
 
-last_named : (name : Naming) (k n : ℕ) → IsNamed (last_by name k n)
+pub last_named : (name : Naming) (k n : ℕ) → IsNamed (last_by name k n)
 last_named name k zero = tt
 last_named name k (suc n) = last_named name (k + 1) n
 
