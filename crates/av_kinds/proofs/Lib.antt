@@ -28,3 +28,7 @@ pub mod KindSound
 pub mod TopNames
 pub mod Residues
 pub mod Lines
+pub mod Placing
+pub mod ShapeSuits
+pub mod KindWide
+pub mod RunShown

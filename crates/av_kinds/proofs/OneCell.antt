@@ -104,7 +104,7 @@ pub instance_shows : (names : Labels) (counter : List ℕ) (number p q c : ℕ) 
     → AllByRecursion (IsWide (width_of (kind_module (kind_by number shape)))) (kind_inputs shape)
     → AllByRecursion (IsWide (width_of (kind_module (kind_by number shape)))) (lanes_wires (Name kind_counter) no_ports 0 shape)
     → LanesPipesWide (width_of (kind_module (kind_by number shape))) shape
-    → SuitLanes shape lanes → LanesOfPipes q (length shape) c shape lanes → v counter ≡ c → LanesShow names v c q shape lanes
+    → SuitLanes shape lanes → LanesOfPipes q (length shape) c shape lanes → (counts shape ≡ true → v counter ≡ c) → LanesShow names v c q shape lanes
 instance_shows names counter number p q c shape lanes v settled ports wires pipes suit of_pipes count =
     let kind = kind_by number shape in
     let instance = instance_by names counter p number q shape lanes in
@@ -113,6 +113,6 @@ instance_shows names counter number p q c shape lanes v settled ports wires pipe
     let fed = counter_fed inner v counter (counts shape) (lanes_inputs no_ports shape) (lanes_operands names shape lanes) settled.fed in
     let wide = counter_wide widths (counts shape) (lanes_inputs no_ports shape) ports in
     kind_shows names widths inner v kind_counter c q shape lanes no_ports
-    (λ counted. record { word = fed.0 counted ∙ count; width = wide.0 counted })
+    (λ counted. record { word = fed.0 counted ∙ count counted; width = wide.0 counted })
     suit (lanes_piped names inner v q c shape settled.taken shape lanes of_pipes) pipes
     (recursion_from_All (Holds widths inner) kind.drives settled.inside) wide.1 wires fed.1 settled.taken

@@ -6,7 +6,7 @@ ghost use Rattle.av_kinds.specs.Counters.{IsCounter};
 ghost use Rattle.av_kinds.specs.Netlists.{AreNetlistsOf};
 ghost use Rattle.av_kinds.specs.inner.Shapes.{lane_shape_of};
 ghost use Rattle.av_kinds.specs.inner.Kinds.{counts};
-ghost use Rattle.av_kinds.specs.inner.Modules.{AreShapesOf, AreKindShapes, IsKindCount, kinds_by, AreInstancesOf};
+ghost use Rattle.av_kinds.specs.inner.Modules.{AreShapesOf, AreKindShapes, IsKindCount, kinds_by, instances_by};
 
 use crate::counter::Counter;
 use crate::instance::instance;
@@ -84,7 +84,7 @@ fn instances(
 ) -> Result<List<Instance>, Memory>
     requires program { IsProgram (program_of program.now) }
     requires shapes { AreShapesOf (program_of program.now) (map (map lane_shape_of) shapes.now) }
-    ensures { IfOk result (AreInstancesOf counter (program_of program.now) (map (map lane_shape_of) shapes.now)) }
+    ensures { IfOk result (λ instances. instances ≡ instances_by counter (program_of program.now) (map (map lane_shape_of) shapes.now) 0 program.now.cells program.now.kinds) }
 {
     prove!(shapes.len() <= 1 << 30);
     let mut instances = List::new(alloc);

@@ -1,5 +1,5 @@
 -- The modules of a program: a kind for each shape, an instance for each cell, and the top module, which counts where a kind does.
-use Rattle.std.specs.Prelude.{◌≡◌, ℕ, suc, ◌+◌, ◌<◌, Bool, List, [], ◌∷◌, ◌++◌, Some, slice_get, length, codes, if◌then◌else◌}
+use Rattle.std.specs.Prelude.{◌≡◌, ℕ, suc, ◌+◌, ◌<◌, Bool, List, [], ◌∷◌, ◌++◌, Some, slice_get, get_or, length, codes, if◌then◌else◌}
 use Rattle.std.specs.List.{list_any, AllByRecursion}
 use Rattle.av_net.specs.declared.netlist.Module.{Module}
 use Rattle.av_net.specs.declared.plan.CellKind.{CellKind}
@@ -51,16 +51,17 @@ abbrev pub kinds_by : ℕ → List (List LaneShape) → List CellKind
 kinds_by n [] = []
 kinds_by n (shape ∷ shapes) = kind_by n shape ∷ kinds_by (n + 1) shapes
 
--- an instance for each cell
-pub record AreInstancesOf (counter : Counter) (program : Program) (shapes : List (List LaneShape)) (instances : List Instance) : Type 0 where
-  pub one_each : length instances ≡ length program.cells
-  pub each : (p k : ℕ) (own : CellLanes) (shape : List LaneShape) → slice_get program.cells p ≡ Some own → slice_get program.kinds p ≡ Some k → slice_get shapes k ≡ Some shape
-      → slice_get instances p ≡ Some (instance_by (labels program) (counter_name counter) p k own.first shape (lanes_of program own))
+-- an instance for each cell, with numbers from p on
+abbrev pub instances_by : Counter → Program → List (List LaneShape) → ℕ → List CellLanes → List ℕ → List Instance
+instances_by counter program shapes p [] kinds = []
+instances_by counter program shapes p (own ∷ cells) [] = []
+instances_by counter program shapes p (own ∷ cells) (k ∷ kinds) =
+    instance_by (labels program) (counter_name counter) p k own.first (get_or shapes k []) (lanes_of program own) ∷ instances_by counter program shapes (p + 1) cells kinds
 
 -- a kind for each shape, an instance for each cell, and the top module
 pub record AreModulesOf (counter : Counter) (program : Program) (m : Modules) : Type 0 where
   pub shapes : List (List LaneShape)
   pub are_shapes : AreShapesOf program shapes
   pub kinds_are : m.kinds ≡ kinds_by 0 shapes
-  pub are_instances : AreInstancesOf counter program shapes m.instances
+  pub instances_are : m.instances ≡ instances_by counter program shapes 0 program.cells program.kinds
   pub top_is : m.top ≡ top_by counter (list_any counts shapes) program
