@@ -32,3 +32,5 @@ pub mod Placing
 pub mod ShapeSuits
 pub mod KindWide
 pub mod RunShown
+pub mod PartNames
+pub mod Feeds

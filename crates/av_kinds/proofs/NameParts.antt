@@ -133,7 +133,7 @@ pub numbered_injective : (a : ℕ) (i j : ℕ) → i < 10 ^ 64 → j < 10 ^ 64 �
 numbered_injective a i j si sj e = decimal_once i j si sj (ap tail e)
 
 -- names with a second number
-rest_is : (a : ℕ) (xs ys : List ℕ) → ◌≡◌ {A = List ℕ} (a ∷ xs) (a ∷ ys) → xs ≡ ys
+pub rest_is : (a : ℕ) (xs ys : List ℕ) → ◌≡◌ {A = List ℕ} (a ∷ xs) (a ∷ ys) → xs ≡ ys
 rest_is a xs ys e = cc
 
 pub second_injective : (a p : ℕ) → p < 10 ^ 64 → (i j : ℕ) → i < 10 ^ 64 → j < 10 ^ 64 → ◌≡◌ {A = List ℕ} (a ∷ (decimal p ++ (95 ∷ decimal i))) (a ∷ (decimal p ++ (95 ∷ decimal j))) → i ≡ j
