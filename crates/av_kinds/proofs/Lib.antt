@@ -34,3 +34,5 @@ pub mod KindWide
 pub mod RunShown
 pub mod PartNames
 pub mod Feeds
+pub mod TopGroups
+pub mod TopSound
