@@ -1,5 +1,4 @@
--- The names of the module of a program are names of the subset: a letter, a number, and with it `_` and a second number or not; or
--- one of the names of the counter.
+-- The names of modules are names of the subset: a letter, a number, and with it `_` and a second number or not; or one of the counter's names.
 use Rattle.std.proofs.Common.{◌≡◌, ℕ, suc, ◌+◌, ◌^◌, ◌<◌, ◌≤◌, List, [], ◌∷◌, ◌++◌, length, map, refl, sym, subst, arith, ◌∙◌, Bool, true, false, if◌then◌else◌}
 use Rattle.std.specs.Prelude.{All, Contains, decimal, nat_eq, codes}
 use Rattle.std.specs.List.{AllByRecursion, range_with_len, list_all}
@@ -11,15 +10,14 @@ use Rattle.std.proofs.lemmas.List.Sums.{AllPass-from_list_all}
 use Rattle.av_base.specs.declared.width.Width.{Width}
 use Rattle.av_base.specs.Tokens.{is_word_byte}
 use Rattle.av_net.specs.Lexemes.{IsName, IsIdentifier, reserved_words, begins_name}
-use Rattle.av_net.specs.Names.{names_of, all_names}
+use Rattle.av_net.specs.Names.{names_of}
 use Rattle.av_net.proofs.Distinct.{apart}
 use Rattle.av_net.proofs.Tested.{are_distinct, distinct_tested}
-use Rattle.av_build.specs.inner.Names.{value_name, wire_name, counter_name, next_name}
-use Rattle.av_build.specs.inner.Labels.{number_in, lane_value, lane_wire, lane_register, labels}
-use Rattle.av_build.specs.inner.Programs.{Lane, Program, counts}
-use Rattle.av_build.specs.inner.Modules.{of_lanes, cell_built, if_counted, module_of}
-use Rattle.av_build.proofs.NameParts.{decimal_some, digits_of, each_of_range}
-use Rattle.av_build.proofs.Declared.{Each, later_each, IsSmallLane, AreSmall, own_wires, own_registers, below, below_line, same_wires, same_registers, moved, wires_of, registers_in, wire_list, register_list, inputs_are, outputs_are, wires_are, registers_are}
+use Rattle.av_kinds.specs.declared.counter.Counter.{Counter}
+use Rattle.av_kinds.specs.declared.counter.Counter.TheVariants.{Cycles, Phases}
+use Rattle.av_kinds.specs.Counters.{counter_name}
+use Rattle.av_kinds.specs.inner.Counts.{next_name, last_name, sum_name, counter_wires}
+use Rattle.av_kinds.proofs.NameParts.{decimal_some, digits_of}
 use Rattle.av_base.proofs.Truths.{both}
 use Rattle.av_base.proofs.Lists.{each_append}
 use Rattle.av_base.proofs.Spelled.{digit_word}
@@ -53,16 +51,16 @@ first_digit : (a : ℕ) (digits more : List ℕ) → all_ascii_digits digits ≡
 first_digit a [] more d l = absurd (omega (arith, l))
 first_digit a (x ∷ digits) more d l = (both (is_ascii_digit x) (all_ascii_digits digits) d).0
 
-numbered_name : (a n : ℕ) (more : List ℕ) → begins_name a ≡ true → n < 10 ^ 64 → list_all is_word_byte more ≡ true → IsName (a ∷ (decimal n ++ more))
+pub numbered_name : (a n : ℕ) (more : List ℕ) → begins_name a ≡ true → n < 10 ^ 64 → list_all is_word_byte more ≡ true → IsName (a ∷ (decimal n ++ more))
 numbered_name a n more letter small rest = (
   (letter, AllPass-from_list_all is_word_byte (decimal n ++ more) (words_more (decimal n) more (digits_of n small) rest)),
   no_reserved (a ∷ (decimal n ++ more)) (first_digit a (decimal n) more (digits_of n small) (decimal_some n small)),
 )
 
-one_numbered : (a n : ℕ) → begins_name a ≡ true → n < 10 ^ 64 → IsName (a ∷ decimal n)
+pub one_numbered : (a n : ℕ) → begins_name a ≡ true → n < 10 ^ 64 → IsName (a ∷ decimal n)
 one_numbered a n letter small = subst (λ (xs : List ℕ). IsName (a ∷ xs)) (append-nil (decimal n)) (numbered_name a n [] letter small refl)
 
-twice_numbered : (a m n : ℕ) → begins_name a ≡ true → m < 10 ^ 64 → n < 10 ^ 64 → IsName (a ∷ (decimal m ++ (95 ∷ decimal n)))
+pub twice_numbered : (a m n : ℕ) → begins_name a ≡ true → m < 10 ^ 64 → n < 10 ^ 64 → IsName (a ∷ (decimal m ++ (95 ∷ decimal n)))
 twice_numbered a m n letter few small = numbered_name a m (95 ∷ decimal n) letter few more
   where
     digits : list_all is_word_byte (decimal n) ≡ true
@@ -78,13 +76,16 @@ name_by name spelled distinct = (spelled, λ reserved. apart (name ∷ []) reser
 pub array_name : IsName (codes "array")
 array_name = name_by (codes "array") (refl, AllPass-from_list_all is_word_byte (codes "rray") refl) refl
 
-counter_spelled : IsName counter_name
-counter_spelled = name_by counter_name (refl, AllPass-from_list_all is_word_byte (codes "yc") refl) refl
+pub counter_spelled : (counter : Counter) → IsName (counter_name counter)
+counter_spelled Cycles = name_by (codes "cyc") (refl, AllPass-from_list_all is_word_byte (codes "yc") refl) refl
+counter_spelled (Phases period) = name_by (codes "phase") (refl, AllPass-from_list_all is_word_byte (codes "hase") refl) refl
 
-next_spelled : IsName next_name
-next_spelled = name_by next_name (refl, AllPass-from_list_all is_word_byte (codes "yc_next") refl) refl
-
-if_named : (test : Bool) (x : List ℕ) → IsName x → AllByRecursion IsName (if test then x ∷ [] else [])
-if_named true x h = (h, tt)
-if_named false x h = tt
-
+pub counter_wires_spelled : (counter : Counter) → AllByRecursion IsName (names_of (counter_wires counter))
+counter_wires_spelled Cycles = (name_by (codes "cyc_next") (refl, AllPass-from_list_all is_word_byte (codes "yc_next") refl) refl, tt)
+counter_wires_spelled (Phases period) = (
+  name_by (codes "phase_last") (refl, AllPass-from_list_all is_word_byte (codes "hase_last") refl) refl,
+  (
+    name_by (codes "phase_sum") (refl, AllPass-from_list_all is_word_byte (codes "hase_sum") refl) refl,
+    (name_by (codes "phase_next") (refl, AllPass-from_list_all is_word_byte (codes "hase_next") refl) refl, tt),
+  ),
+)

@@ -58,7 +58,7 @@ pub struct Work<'a> {
 impl<'a> Model for Work<'a> {
     ghost use Rattle.std.specs.Coded.{codes};
     ghost use Rattle.av_flat.specs.contracts.tree.Tree as made;
-    ghost use Rattle.av_kinds.specs.Written.{WorkMade, ModeMade, LaneMade, ProgramMade};
+    ghost use Rattle.av_kinds.specs.Written.{WorkMade};
 
     ghost Value = { WorkMade };
 
@@ -77,6 +77,7 @@ pub struct Mode<'a> {
 impl<'a> Model for Mode<'a> {
     ghost use Rattle.std.specs.Coded.{codes};
     ghost use Rattle.av_flat.specs.contracts.tree.Tree as made;
+    ghost use Rattle.av_kinds.specs.Written.{ModeMade};
 
     ghost Value = { ModeMade };
 
@@ -102,6 +103,7 @@ pub struct Lane<'a> {
 impl<'a> Model for Lane<'a> {
     ghost use Rattle.std.specs.Coded.{codes};
     ghost use Rattle.av_flat.specs.contracts.tree.Tree as made;
+    ghost use Rattle.av_kinds.specs.Written.{LaneMade};
 
     ghost Value = { LaneMade };
 
@@ -136,6 +138,7 @@ pub struct Program<'a> {
 impl<'a> Model for Program<'a> {
     ghost use Rattle.std.specs.Coded.{codes};
     ghost use Rattle.av_flat.specs.contracts.tree.Tree as made;
+    ghost use Rattle.av_kinds.specs.Written.{ProgramMade};
 
     ghost Value = { ProgramMade };
 
