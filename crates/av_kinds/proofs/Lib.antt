@@ -35,4 +35,5 @@ pub mod RunShown
 pub mod PartNames
 pub mod Feeds
 pub mod TopGroups
+pub mod TopInstances
 pub mod TopSound
