@@ -14,6 +14,7 @@ use Rattle.av_net.specs.declared.operation.Operand.TheVariants.{Name, Literal}
 use Rattle.av_net.specs.declared.operation.Operation.{Operation}
 use Rattle.av_net.specs.declared.operation.Operation.TheVariants.{Plain, Binary, Signed, Choose, Part, Widen}
 use Rattle.av_net.specs.Meaning.{Widths, operand_width, EachOperand}
+use Rattle.av_net.specs.Designs.{HasBits}
 use Rattle.av_net.specs.Sound.{SuitsWidth, symbol_width, IsFitting, IsOrder, ComparesByOrder}
 use Rattle.av_flat.specs.Trees.{Tree, reference, constant, binary, choice, pick}
 use Rattle.av_kinds.specs.declared.gates.Gate.{Gate}
@@ -42,6 +43,7 @@ pub record Fine (K : Known) (widths : Widths) (name : Naming) (n w : ℕ) (opera
   pub suits : SuitsWidth widths w operation
   pub fits : EachOperand IsFitting operation
   pub order : ComparesByOrder operation
+  pub bits : HasBits operation
 
 abbrev pub FineGates : Known → Widths → Naming → ℕ → List Gate → Type 0
 FineGates K widths name n [] = Unit {0}
@@ -114,16 +116,16 @@ named_sized widths name n w gates (Widen x by) h = sized_front widths name n gat
 -- ---- operations
 
 pub plain_fine : (K : Known) (widths : Widths) (name : Naming) (n w : ℕ) (a : Operand) → FineOperand K widths name n w a → Fine K widths name n w (Plain a)
-plain_fine K widths name n w a h = record { known = h.known; suits = h.width; fits = h.fits; order = tt }
+plain_fine K widths name n w a h = record { known = h.known; suits = h.width; fits = h.fits; order = tt; bits = tt }
 
 binary_fine : (K : Known) (widths : Widths) (name : Naming) (n w r : ℕ) (a b : Operand) (s : Symbol) → FineOperand K widths name n w a → FineOperand K widths name n w b → symbol_width s w ≡ r → Fine K widths name n r (Binary a s b)
-binary_fine K widths name n w r a b s ha hb is = record { known = (ha.known, hb.known); suits = (ha.width ∙ sym hb.width, ap (symbol_width s) ha.width ∙ is); fits = (ha.fits, hb.fits); order = tt }
+binary_fine K widths name n w r a b s ha hb is = record { known = (ha.known, hb.known); suits = (ha.width ∙ sym hb.width, ap (symbol_width s) ha.width ∙ is); fits = (ha.fits, hb.fits); order = tt; bits = tt }
 
 signed_fine : (K : Known) (widths : Widths) (name : Naming) (n w : ℕ) (a b : Operand) (s : Symbol) → IsOrder s → FineOperand K widths name n w a → FineOperand K widths name n w b → Fine K widths name n 1 (Signed a s b)
-signed_fine K widths name n w a b s o ha hb = record { known = (ha.known, hb.known); suits = (ha.width ∙ sym hb.width, refl); fits = (ha.fits, hb.fits); order = o }
+signed_fine K widths name n w a b s o ha hb = record { known = (ha.known, hb.known); suits = (ha.width ∙ sym hb.width, refl); fits = (ha.fits, hb.fits); order = o; bits = tt }
 
 choose_fine : (K : Known) (widths : Widths) (name : Naming) (n w : ℕ) (c a b : Operand) → FineOperand K widths name n 1 c → FineOperand K widths name n w a → FineOperand K widths name n w b → Fine K widths name n w (Choose c a b)
-choose_fine K widths name n w c a b hc ha hb = record { known = (hc.known, ha.known, hb.known); suits = (hc.width, ha.width, hb.width); fits = (hc.fits, ha.fits, hb.fits); order = tt }
+choose_fine K widths name n w c a b hc ha hb = record { known = (hc.known, ha.known, hb.known); suits = (hc.width, ha.width, hb.width); fits = (hc.fits, ha.fits, hb.fits); order = tt; bits = tt }
 
 -- a test on a wire, and the choice by it
 chosen_fine : (K : Known) (widths : Widths) (name : Naming) (n w : ℕ) (gates : List Gate) (test : Operation) (a b : Operand) → FineGates K widths name n gates → Fine K widths name (n + length gates) 1 test
@@ -164,7 +166,7 @@ comparison_fine K widths name n w relation.Unequal a b ha hb = binary_fine K wid
 pub tree_fine : (K : Known) (widths : Widths) (name : Naming) (w : Width) (taps : ℕ → Operand) (low : ℕ) → ((s : ℕ) → FineOperand K widths name low w.bits (taps s)) → (n s : ℕ) (t : Tree) → low ≤ n → FitsTree w.bits t
     → Sized widths name n (tree_built name w taps n s t).gates → FineBuilt K widths name n w.bits (tree_built name w taps n s t)
 tree_fine K widths name w taps low fine n s (reference place m) le fits sized = record { gates = tt; root = plain_fine K widths name (n + 0) w.bits (taps s) (later K widths name low (n + 0) w.bits (taps s) (omega arith) (fine s)) }
-tree_fine K widths name w taps low fine n s (constant k) le fits sized = record { gates = tt; root = record { known = tt; suits = refl; fits = fits; order = tt } }
+tree_fine K widths name w taps low fine n s (constant k) le fits sized = record { gates = tt; root = record { known = tt; suits = refl; fits = fits; order = tt; bits = tt } }
 tree_fine K widths name w taps low fine n s (binary g l r) le fits sized =
     let left = tree_built name w taps n s l in
     let a = named name n w left in
@@ -217,4 +219,4 @@ tree_fine K widths name w taps low fine n s (choice l c r x y) le fits sized =
     (gates_append K widths name n nb a.gates _ refl fa.gates (gates_append K widths name nb nx b.gates _ refl fb.gates (gates_append K widths name nx ny d.gates e.gates refl fd.gates fe.gates)))
     (comparison_fine K widths name end w.bits c a.operand b.operand ha hb) hd he sized
 tree_fine K widths name w taps low fine n s (pick place choices k) le fits sized = record { gates = tt; root = plain_fine K widths name (n + 0) w.bits (taps s) (later K widths name low (n + 0) w.bits (taps s) (omega arith) (fine s)) }
-tree_fine K widths name w taps low fine n s _ le fits sized = record { gates = tt; root = record { known = tt; suits = refl; fits = pow_pos w.bits; order = tt } }
+tree_fine K widths name w taps low fine n s _ le fits sized = record { gates = tt; root = record { known = tt; suits = refl; fits = pow_pos w.bits; order = tt; bits = tt } }

@@ -39,20 +39,20 @@ compare_fine : (K : Known) (widths : Widths) (name : Naming) (n : ℕ) (a b : Op
 compare_fine K widths name n a b ha hb =
     let fa = later K widths name 0 n 12 a (omega arith) ha in
     let fb = later K widths name 0 n 12 b (omega arith) hb in
-    record { known = (fa.known, fb.known); suits = (ha.width ∙ sym hb.width, refl); fits = (fa.fits, fb.fits); order = tt }
+    record { known = (fa.known, fb.known); suits = (ha.width ∙ sym hb.width, refl); fits = (fa.fits, fb.fits); order = tt; bits = tt }
 
 compare_fine_from : (K : Known) (widths : Widths) (name : Naming) (n : ℕ) (a b : Operand) → FineAt K widths name 12 a → FineAt K widths name 12 b → Fine K widths name n 1 (Binary a GreaterEqual b)
 compare_fine_from K widths name n a b ha hb =
     let fa = later K widths name 0 n 12 a (omega arith) ha in
     let fb = later K widths name 0 n 12 b (omega arith) hb in
-    record { known = (fa.known, fb.known); suits = (ha.width ∙ sym hb.width, refl); fits = (fa.fits, fb.fits); order = tt }
+    record { known = (fa.known, fb.known); suits = (ha.width ∙ sym hb.width, refl); fits = (fa.fits, fb.fits); order = tt; bits = tt }
 
 guard_fine : (K : Known) (widths : Widths) (name : Naming) (n : ℕ) (counter : Operand) (guard : Guard) → FineAt K widths name 12 counter → FineGuard K widths name guard
     → Sized widths name n (guard_built name n counter guard).gates → FineBuilt K widths name n 1 (guard_built name n counter guard)
 guard_fine K widths name n counter (UpTo last) count fine sized = record { gates = tt; root = compare_fine K widths name (n + 0) counter last count fine }
 guard_fine K widths name n counter (Within first last) count fine sized = record {
   gates = (compare_fine_from K widths name n counter first count fine.0, (compare_fine K widths name (n + 1) counter last count fine.1, tt));
-  root = record { known = (inr (n, omega arith, refl), inr (n + 1, omega arith, refl)); suits = (sized.0 ∙ sym sized.1.0, sized.0); fits = (tt, tt); order = tt };
+  root = record { known = (inr (n, omega arith, refl), inr (n + 1, omega arith, refl)); suits = (sized.0 ∙ sym sized.1.0, sized.0); fits = (tt, tt); order = tt; bits = tt };
 }
 
 either_fine : (K : Known) (widths : Widths) (name : Naming) (n w : ℕ) (counter : Operand) (guard : Guard) (first second : Named) → FineAt K widths name 12 counter → FineGuard K widths name guard
@@ -73,7 +73,7 @@ either_fine K widths name n w counter guard first second count fine hs hf sized 
     let b = later K widths name k end w second.operand (omega (arith, is)) hs.operand in
     record {
       gates = gates_append K widths name n k second.gates (first.gates ++ t.gates) refl hs.gates (gates_append K widths name k m first.gates t.gates refl hf.gates ft.gates);
-      root = record { known = (c.known, a.known, b.known); suits = (c.width, a.width, b.width); fits = (c.fits, a.fits, b.fits); order = tt };
+      root = record { known = (c.known, a.known, b.known); suits = (c.width, a.width, b.width); fits = (c.fits, a.fits, b.fits); order = tt; bits = tt };
     }
 
 -- ---- taps
@@ -114,8 +114,8 @@ fitting_fine K widths name n from to (Literal width value) is some differs fine 
 fitting_fine K widths name n from to (Name x) is some differs fine = by_case (nat_lt from to) refl
   where
     by_case : (test : Bool) → nat_lt from to ≡ test → Fine K widths name n to (if test then Widen x (to - from) else Part x (to - 1) 0)
-    by_case true e = record { known = fine.known; suits = rw fine.width (grind arith); fits = tt; order = tt }
-    by_case false e = record { known = fine.known; suits = (let f : to - 1 < from = grind arith in rw fine.width f, omega (arith, some)); fits = tt; order = tt }
+    by_case true e = record { known = fine.known; suits = rw fine.width (grind arith); fits = tt; order = tt; bits = grind arith }
+    by_case false e = record { known = fine.known; suits = (let f : to - 1 < from = grind arith in rw fine.width f, omega (arith, some)); fits = tt; order = tt; bits = tt }
 
 fit_fine : (K : Known) (widths : Widths) (name : Naming) (w : Width) (counter : Operand) → FineAt K widths name 12 counter → (n : ℕ) (tap : Tap) → FineTap K widths name tap
     → Sized widths name n (fit_built name w counter n tap).gates → FineBuilt K widths name n w.bits (fit_built name w counter n tap)

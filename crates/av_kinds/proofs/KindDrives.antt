@@ -13,6 +13,7 @@ use Rattle.av_net.specs.declared.netlist.Port.{Port}
 use Rattle.av_net.specs.declared.netlist.Drive.{Drive}
 use Rattle.av_net.specs.Meaning.{Widths, EachOperand}
 use Rattle.av_net.specs.Names.{IsAmong, targets_of}
+use Rattle.av_net.specs.Designs.{HasBits}
 use Rattle.av_net.specs.Sound.{IsInOrder, SuitsWidth, IsFitting, ComparesByOrder}
 use Rattle.av_net.proofs.Ordered.{each_weaker as each_operand}
 use Rattle.av_kinds.specs.declared.gates.Gate.{Gate}
@@ -35,6 +36,7 @@ pub record Keeps (widths : Widths) (names : List (List ℕ)) (d : Drive) : Type 
   pub suits : SuitsWidth widths (widths d.target) d.operation
   pub fits : EachOperand IsFitting d.operation
   pub order : ComparesByOrder d.operation
+  pub bits : HasBits d.operation
 
 -- each reads what is known at first, or driven before
 abbrev pub AreGood : Widths → List (List ℕ) → List Drive → Type 0
@@ -54,7 +56,7 @@ pub good_keep : (widths : Widths) (known names : List (List ℕ)) (drives : List
     → AreGood widths known drives → AllByRecursion (Keeps widths names) drives
 good_keep widths known names [] grows targets good = tt
 good_keep widths known names (d ∷ drives) grows targets good =
-    (record { read = each_operand (IsAmong known) (IsAmong names) (more_among known names grows) d.operation good.0.read; suits = good.0.suits; fits = good.0.fits; order = good.0.order },
+    (record { read = each_operand (IsAmong known) (IsAmong names) (more_among known names grows) d.operation good.0.read; suits = good.0.suits; fits = good.0.fits; order = good.0.order; bits = good.0.bits },
      good_keep widths (known ++ d.target ∷ []) names drives (λ x at. elim (Contains-append_cases known (d.target ∷ []) x at) [ | inl here ↦ grows x here | inr there ↦ only x there ]) targets.1 good.1)
   where
     only : (x : List ℕ) → Contains (d.target ∷ []) x → Contains names x
@@ -95,6 +97,7 @@ gates_good K widths name n m (g ∷ gates) names more h fine sized e next = (
     suits = subst (λ k. SuitsWidth widths k g.operation) (sym sized.0) fine.0.suits;
     fits = fine.0.fits;
     order = fine.0.order;
+    bits = fine.0.bits;
   },
   gates_good K widths name (n + 1) m gates (names ++ name n ∷ []) more (one_more K name n names h) fine.1 sized.1 (omega arith)
       (λ known wires grows. next known wires (λ x at. grows x (Contains-append_left names (name n ∷ []) x at))),
@@ -152,6 +155,7 @@ lanes_good widths counter all at n k (lane ∷ lanes) known are count pipes port
        suits = subst (λ w. SuitsWidth widths w b.root) (sym outputs.0) fine.root.suits;
        fits = fine.root.fits;
        order = fine.root.order;
+       bits = fine.root.bits;
      },
      lanes_good widths counter all mid (n + length gates) (k + 1) lanes after are.2 (counter_later known after widths more counter count)
          (λ h other is lt some. later_pipe now h other is lt some more)

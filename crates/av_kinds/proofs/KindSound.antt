@@ -14,6 +14,7 @@ use Rattle.av_net.specs.declared.netlist.Module.{Module}
 use Rattle.av_net.specs.Meaning.{Widths, EachOperand}
 use Rattle.av_net.specs.Names.{AreDistinct, clk, rst, names_of, targets_of, given_names, wire_names, all_names, IsAmong, width_of}
 use Rattle.av_net.specs.Sound.{IsInOrder, SuitsWidth, IsFitting, ComparesByOrder, IsSound}
+use Rattle.av_net.specs.Designs.{HasBits}
 use Rattle.av_net.specs.Flat.{kind_module}
 use Rattle.av_kinds.specs.declared.gates.Gate.{Gate}
 use Rattle.av_kinds.specs.Names.{Naming, inner_name, kind_counter}
@@ -211,6 +212,9 @@ module _ (number : ℕ) (shape : List LaneShape) (is : IsKindShape shape) (few :
 
   each_drive : (P : Drive → Type 0) → ((d : Drive) → Keeps W (all_names m) d → P d) → All P m.drives
   each_drive P f = All-from_recursion P m.drives (each_weaker (Keeps W (all_names m)) P f m.drives keep)
+
+  pub kind_bits : All (λ d. HasBits d.operation) m.drives
+  kind_bits = each_drive (λ d. HasBits d.operation) (λ d k. k.bits)
 
   pub kind_sound : IsSound m
   kind_sound = record {

@@ -37,3 +37,5 @@ pub mod Feeds
 pub mod TopGroups
 pub mod TopInstances
 pub mod TopSound
+pub mod Spelled
+pub mod NetlistsMade

@@ -109,7 +109,7 @@ parts_named kinds p (i ∷ instances) are few =
       each = each_append (IsPart p high) mine tail (each_weaker (IsPart p (p + 1)) (IsPart p high) (part_wider p (p + 1) p high (omega arith) (omega arith)) mine (own_parts p small names)) (each_weaker (IsPart (p + 1) high) (IsPart p high) (part_wider (p + 1) high p high (omega arith) (omega arith)) tail rest.each);
     })
 
-names_of_instances : (kinds : List CellKind) (p : ℕ) (instances : List Instance) → AreNamed kinds p instances → instance_names instances ≡ map instance_name (range_with_len p (length instances))
+pub names_of_instances : (kinds : List CellKind) (p : ℕ) (instances : List Instance) → AreNamed kinds p instances → instance_names instances ≡ map instance_name (range_with_len p (length instances))
 names_of_instances kinds p [] are = refl
 names_of_instances kinds p (i ∷ instances) are = ap (λ u. u ∷ instance_names instances) are.0 ∙ ap (λ (ys : List (List ℕ)). instance_name p ∷ ys) (names_of_instances kinds (p + 1) instances are.2)
 

@@ -37,7 +37,7 @@ pub record IsWideKind (number : ℕ) (shape : List LaneShape) : Type 0 where
   pub pipes : LanesPipesWide (width_of (kind_module (kind_by number shape))) shape
 
 -- the kind of a shape is that of its number
-kind_there : (n : ℕ) (shapes : List (List LaneShape)) (k : ℕ) (shape : List LaneShape) → slice_get shapes k ≡ Some shape → (j : ℕ) → n + k ≡ j → slice_get (kinds_by n shapes) k ≡ Some (kind_by j shape)
+pub kind_there : (n : ℕ) (shapes : List (List LaneShape)) (k : ℕ) (shape : List LaneShape) → slice_get shapes k ≡ Some shape → (j : ℕ) → n + k ≡ j → slice_get (kinds_by n shapes) k ≡ Some (kind_by j shape)
 kind_there n [] k shape is j at = absurd cc
 kind_there n (first ∷ shapes) zero shape is j at =
     let e : n ≡ j = omega arith in

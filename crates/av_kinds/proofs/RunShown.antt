@@ -177,7 +177,7 @@ module _ (program : Program) (n : ℕ) (in_cycle : ℕ → Words)
 
   -- ---- a lane
 
-  lane_done : (c : ℕ) → c < n → (count first p q : ℕ) (lane : Lane) → IsLaneOf program first p q lane → (shape : LaneShape) → SuitsLane shape lane
+  pub lane_done : (c : ℕ) → c < n → (count first p q : ℕ) (lane : Lane) → IsLaneOf program first p q lane → (shape : LaneShape) → SuitsLane shape lane
       → values c q ≡ work_value N shape.width.bits (in_cycle c) count (work_for count shape.modes lane.modes) → (m : Mode) → mode_by count lane.modes ≡ Some m → IsDone ports values c q (task_of lane.width.bits count m.work)
   lane_done c lt count first p q lane is shape suit shown m here =
       let on = active_mode count lane.modes m here in
@@ -191,7 +191,7 @@ module _ (program : Program) (n : ℕ) (in_cycle : ℕ → Words)
 
 -- ---- pipelines of a cell
 
-abbrev IsPlacedAt : Program → ℕ → ℕ → List Lane → Type 0
+abbrev pub IsPlacedAt : Program → ℕ → ℕ → List Lane → Type 0
 IsPlacedAt program first k [] = Unit {0}
 IsPlacedAt program first k (lane ∷ lanes) = AllByRecursion (λ (m : Mode). AllByRecursion (IsSite program first (first + k)) m.work.sites) lane.modes × IsPlacedAt program first (k + 1) lanes
 

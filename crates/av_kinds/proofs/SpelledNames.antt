@@ -76,6 +76,9 @@ name_by name spelled distinct = (spelled, λ reserved. apart (name ∷ []) reser
 pub array_name : IsName (codes "array")
 array_name = name_by (codes "array") (refl, AllPass-from_list_all is_word_byte (codes "rray") refl) refl
 
+pub value_spelled : IsName (codes "v")
+value_spelled = name_by (codes "v") (refl, AllPass-from_list_all is_word_byte [] refl) refl
+
 pub counter_spelled : (counter : Counter) → IsName (counter_name counter)
 counter_spelled Cycles = name_by (codes "cyc") (refl, AllPass-from_list_all is_word_byte (codes "yc") refl) refl
 counter_spelled (Phases period) = name_by (codes "phase") (refl, AllPass-from_list_all is_word_byte (codes "hase") refl) refl

@@ -19,6 +19,7 @@ use Rattle.av_net.specs.declared.plan.Instance.{Instance}
 use Rattle.av_net.specs.Meaning.{Widths, operand_width, EachOperand}
 use Rattle.av_net.specs.Names.{AreDistinct, clk, rst, names_of, targets_of, registers_of, given_names, wire_names, all_names, IsAmong, width_of}
 use Rattle.av_net.specs.Sound.{IsFitting, SuitsWidth, ComparesByOrder}
+use Rattle.av_net.specs.Designs.{HasBits}
 use Rattle.av_net.specs.Plans.{instance_names, linked_names, part_names, IsPlaced, IsSoundTop}
 use Rattle.av_net.proofs.Distinct.{front_distinct}
 use Rattle.av_kinds.specs.declared.counter.Counter.{Counter}
@@ -64,7 +65,7 @@ at_ports P name a (v ∷ widths) h zero w is j at =
     subst (λ i. P (port w (name i))) e (subst (λ (u : Width). P (port u (name a))) (some_is v w is) h.0)
 at_ports P name a (v ∷ widths) h (suc k) w is j at = at_ports P name (a + 1) widths h.1 k w is j (omega arith)
 
-at_wires : (P : Port → Type 0) (names : Labels) (a : ℕ) (lanes : List Lane) → AllByRecursion P (lane_wires names a lanes) → (k : ℕ) (lane : Lane) → slice_get lanes k ≡ Some lane → (j : ℕ) → a + k ≡ j → P (port lane.width (names.value j))
+pub at_wires : (P : Port → Type 0) (names : Labels) (a : ℕ) (lanes : List Lane) → AllByRecursion P (lane_wires names a lanes) → (k : ℕ) (lane : Lane) → slice_get lanes k ≡ Some lane → (j : ℕ) → a + k ≡ j → P (port lane.width (names.value j))
 at_wires P names a [] h k lane is j at = absurd cc
 at_wires P names a (l ∷ lanes) h zero lane is j at =
     let e : a ≡ j = omega arith in
@@ -103,20 +104,20 @@ module _ (W : Widths) (base : List (List ℕ)) where
   outputs_good names known k [] more grows each next = next known grows
   outputs_good names known k (q ∷ outputs) more grows each next =
       let here = each 0 q refl k (omega arith) in
-      (record { read = grows (names.value q) here.0; suits = here.1; fits = tt; order = tt },
+      (record { read = grows (names.value q) here.0; suits = here.1; fits = tt; order = tt; bits = tt },
        outputs_good names (known ++ output_name k ∷ []) (k + 1) outputs more (λ x at. Contains-append_left known (output_name k ∷ []) x (grows x at)) (λ i r at j e. each (suc i) r at j (omega (arith, e))) next)
 
   last_of : (known : List (List ℕ)) (x : List ℕ) → Contains (known ++ x ∷ []) x
   last_of known x = Contains-append_right known (x ∷ []) x (0, omega arith, refl)
 
   counter_good : (counter : Counter) → IsCounter counter → (known : List (List ℕ)) → Contains known (counter_name counter) → W (counter_name counter) ≡ 12 → AllByRecursion (IsWide W) (counter_wires counter) → AreGood W known (counter_drives counter)
-  counter_good Cycles ok known has wide wires = (record { read = (has, tt); suits = (wide, wide ∙ sym wires.0); fits = (tt, omega arith); order = tt }, tt)
+  counter_good Cycles ok known has wide wires = (record { read = (has, tt); suits = (wide, wide ∙ sym wires.0); fits = (tt, omega arith); order = tt; bits = tt }, tt)
   counter_good (Phases period) ok known has wide wires =
       let one = known ++ last_name ∷ [] in
       let two = one ++ sum_name ∷ [] in
-      (record { read = (has, tt); suits = (wide, sym wires.0); fits = (tt, omega (arith, ok.0, ok.1)); order = tt },
-       (record { read = (Contains-append_left known (last_name ∷ []) (counter_name (Phases period)) has, tt); suits = (wide, wide ∙ sym wires.1.0); fits = (tt, omega arith); order = tt },
-        (record { read = (Contains-append_left one (sum_name ∷ []) last_name (last_of known last_name), (tt, last_of one sum_name)); suits = (wires.0, (sym wires.1.1.0, wires.1.0 ∙ sym wires.1.1.0)); fits = (tt, (omega arith, tt)); order = tt }, tt)))
+      (record { read = (has, tt); suits = (wide, sym wires.0); fits = (tt, omega (arith, ok.0, ok.1)); order = tt; bits = tt },
+       (record { read = (Contains-append_left known (last_name ∷ []) (counter_name (Phases period)) has, tt); suits = (wide, wide ∙ sym wires.1.0); fits = (tt, omega arith); order = tt; bits = tt },
+        (record { read = (Contains-append_left one (sum_name ∷ []) last_name (last_of known last_name), (tt, last_of one sum_name)); suits = (wires.0, (sym wires.1.1.0, wires.1.0 ∙ sym wires.1.1.0)); fits = (tt, (omega arith, tt)); order = tt; bits = tt }, tt)))
 
   if_counted : (counter : Counter) (counted : Bool) → IsCounter counter → (known : List (List ℕ)) → (counted ≡ true → Contains known (counter_name counter)) → (counted ≡ true → W (counter_name counter) ≡ 12)
       → AllByRecursion (IsWide W) (if counted then counter_wires counter else []) → AreGood W known (if counted then counter_drives counter else [])
@@ -169,16 +170,16 @@ module _ (counter : Counter) (program : Program) (is : IsProgram program) (ok : 
   W = width_of top
 
   -- the groups of names: input ports, registers, output ports, wires, and what instances bring
-  abbrev I : List (List ℕ)
+  abbrev pub I : List (List ℕ)
   I = map input_name (range_with_len 0 (length program.inputs))
 
-  abbrev R : List (List ℕ)
+  abbrev pub R : List (List ℕ)
   R = of_lanes (registers_in names) 0 program.lanes
 
-  abbrev O : List (List ℕ)
+  abbrev pub O : List (List ℕ)
   O = map output_name (range_with_len 0 (length program.outputs))
 
-  abbrev V : List (List ℕ)
+  abbrev pub V : List (List ℕ)
   V = of_lanes (wires_of names) 0 program.lanes
 
   abbrev U : List (List ℕ)
@@ -207,7 +208,7 @@ module _ (counter : Counter) (program : Program) (is : IsProgram program) (ok : 
   wire_names_are : wire_names top ≡ O ++ (V ++ N)
   wire_names_are = ap (λ (ys : List (List ℕ)). ys ++ names_of top.wires) outputs_names ∙ ap (λ (ys : List (List ℕ)). O ++ ys) wires_names
 
-  all_are : all_names top ≡ (I ++ (R ++ C)) ++ (O ++ (V ++ N))
+  pub all_are : all_names top ≡ (I ++ (R ++ C)) ++ (O ++ (V ++ N))
   all_are = ap (λ (ys : List (List ℕ)). ys ++ wire_names top) given_are ∙ ap (λ (ys : List (List ℕ)). (I ++ (R ++ C)) ++ ys) wire_names_are
 
   linked : linked_names instances ≡ V
@@ -421,6 +422,9 @@ module _ (counter : Counter) (program : Program) (is : IsProgram program) (ok : 
   given_all : (a : Operand) → IsAmong (given_names top) a → IsAmong (all_names top) a
   given_all (Name x) h = Contains-append_left (given_names top) (wire_names top) x h
   given_all (Literal w value) h = tt
+
+  pub top_bits : All (λ d. HasBits d.operation) top.drives
+  top_bits = each_drive (λ d. HasBits d.operation) (λ d k. k.bits)
 
   pub top_sound : IsSoundTop kinds top instances
   top_sound = record {

@@ -38,7 +38,7 @@ pub(crate) struct Datapath<'a> {
 impl<'a> Model for Datapath<'a> {
     ghost use Rattle.std.specs.Coded.{codes};
     ghost use Rattle.av_flat.specs.contracts.tree.Tree as made;
-    ghost use Rattle.av_kinds.specs.inner.Added.{DatapathMade, GuardedDatapathMade, LaneDatapathsMade};
+    ghost use Rattle.av_kinds.specs.inner.Added.{DatapathMade};
 
     ghost Value = { DatapathMade };
 
@@ -57,6 +57,7 @@ pub(crate) struct GuardedDatapath<'a> {
 impl<'a> Model for GuardedDatapath<'a> {
     ghost use Rattle.std.specs.Coded.{codes};
     ghost use Rattle.av_flat.specs.contracts.tree.Tree as made;
+    ghost use Rattle.av_kinds.specs.inner.Added.{GuardedDatapathMade};
 
     ghost Value = { GuardedDatapathMade };
 
@@ -75,6 +76,7 @@ pub(crate) struct LaneDatapaths<'a> {
 impl<'a> Model for LaneDatapaths<'a> {
     ghost use Rattle.std.specs.Coded.{codes};
     ghost use Rattle.av_flat.specs.contracts.tree.Tree as made;
+    ghost use Rattle.av_kinds.specs.inner.Added.{LaneDatapathsMade};
 
     ghost Value = { LaneDatapathsMade };
 

@@ -142,9 +142,10 @@ fn add_lane_of(
     requires few { interfaces.AreFew interface.old }
     ensures { OnOk result (AddsLaneOf counter.now (map lane_shape_of shape.now) number interface.old interface.new parts.old parts.new) }
 {
-    let own = interface.add_lane(alloc, &shape[number])?;
+    let lane = &shape[number];
+    let own = interface.add_lane(alloc, lane)?;
     let name = lane_output(alloc, number, shape.len())?;
-    add_lane(alloc, counter, name, shape[number].width, &own, parts)
+    add_lane(alloc, counter, name, lane.width, &own, parts)
 }
 
 // The interface of a shape without its lanes: the port of the counter, where it tests it.

@@ -93,7 +93,7 @@ fn mode_shape<'a>(
     number: usize,
     mode: &Mode<'a>,
 ) -> Result<ModeShape<'a>, Memory>
-    ensures { IfOk result (λ shape. mode_shape_of shape ≡ shaped.mode_shape_by (option_map (λ m. mode_shape_of m.now) before) number (mode_of mode.now)) }
+    ensures { IfOk result (λ shape. mode_shape_of shape ≡ shaped.mode_shape_by (option_map (λ m. mode_shape_of m.now) before.entry) number (mode_of mode.now)) }
 {
     let sites = mode.work.sites.as_slice();
     let own = mode.intervals.len() as u32;
@@ -128,18 +128,24 @@ fn mode_shapes<'a>(
     Ok(shapes)
 }
 
-// A lane with room for the modes before.
+// A lane with room for those before.
 fn lane_shape<'a>(
     alloc: Global,
-    before: &[ModeShape<'a>],
+    before: Option<&LaneShape<'a>>,
     lane: &Lane<'a>,
 ) -> Result<LaneShape<'a>, Memory>
-    ensures { IfOk result (λ shape. lane_shape_of shape ≡ shaped.lane_shape (map mode_shape_of before.now) (lane_of lane.now)) }
+    ensures { IfOk result (λ shape. lane_shape_of shape ≡ shaped.lane_shape_by (option_map (λ m. lane_shape_of m.now) before.entry) (lane_of lane.now)) }
 {
-    Ok(LaneShape {
-        width: lane.width,
-        modes: mode_shapes(alloc, before, lane.modes.as_slice())?,
-    })
+    match before {
+        Some(shape) => Ok(LaneShape {
+            width: lane.width,
+            modes: mode_shapes(alloc, shape.modes.as_slice(), lane.modes.as_slice())?,
+        }),
+        None => Ok(LaneShape {
+            width: lane.width,
+            modes: mode_shapes(alloc, &[], lane.modes.as_slice())?,
+        }),
+    }
 }
 
 // The lanes of a cell, with room for those of cells before, where there are some.
@@ -152,11 +158,7 @@ fn lane_shapes<'a>(
 {
     let mut shapes = List::new(alloc);
     for (k, lane) in lanes.iter().enumerate() {
-        let modes = match before.get(k) {
-            Some(shape) => shape.modes.as_slice(),
-            None => &[],
-        };
-        shapes.push(lane_shape(alloc, modes, lane)?)?;
+        shapes.push(lane_shape(alloc, before.get(k), lane)?)?;
     }
     Ok(shapes)
 }

@@ -48,8 +48,9 @@ fn output_widths(alloc: Global, program: &Program<'_>) -> Result<List<Width>, Me
 {
     let lanes = program.lanes.as_slice();
     let mut widths = List::new(alloc);
-    for lane in program.outputs.as_slice() {
-        widths.push(lanes[*lane].width)?;
+    for number in program.outputs.as_slice() {
+        let lane = &lanes[*number];
+        widths.push(lane.width)?;
     }
     Ok(widths)
 }

@@ -32,6 +32,10 @@ mode_shapes (f ∷ before) k (mode ∷ modes) = mode_shape f.intervals f.sites k
 abbrev pub lane_shape : List ModeShape → Lane → LaneShape
 lane_shape before lane = record { width = lane.width; modes = mode_shapes before 0 lane.modes }
 
+abbrev pub lane_shape_by : Option LaneShape → Lane → LaneShape
+lane_shape_by None lane = lane_shape [] lane
+lane_shape_by (Some f) lane = lane_shape f.modes lane
+
 abbrev pub lane_shapes : List LaneShape → List Lane → List LaneShape
 lane_shapes before [] = []
 lane_shapes [] (lane ∷ lanes) = lane_shape [] lane ∷ lane_shapes [] lanes
