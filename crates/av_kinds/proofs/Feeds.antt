@@ -39,11 +39,11 @@ module _ (given : List (List ℕ)) (W : Widths) (names : Labels) where
   Feed [] (p ∷ ports) = ⊥
   Feed (a ∷ operands) [] = ⊥
 
-  feed_joined : (as bs : List Operand) (ps qs : List Port) → Feed as ps → Feed bs qs → Feed (as ++ bs) (ps ++ qs)
+  feed_joined : (xs bs : List Operand) (ps qs : List Port) → Feed xs ps → Feed bs qs → Feed (xs ++ bs) (ps ++ qs)
   feed_joined [] bs [] qs h k = k
-  feed_joined (a ∷ as) bs (p ∷ ps) qs h k = (h.0, feed_joined as bs ps qs h.1 k)
+  feed_joined (a ∷ xs) bs (p ∷ ps) qs h k = (h.0, feed_joined xs bs ps qs h.1 k)
   feed_joined [] bs (p ∷ ps) qs h k = absurd h
-  feed_joined (a ∷ as) bs [] qs h k = absurd h
+  feed_joined (a ∷ xs) bs [] qs h k = absurd h
 
   pub feed_suits : (operands : List Operand) (ports : List Port) → Feed operands ports → SuitPorts W operands ports
   feed_suits [] [] h = tt

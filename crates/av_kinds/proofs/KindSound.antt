@@ -4,15 +4,17 @@ use Rattle.std.specs.Prelude.{All, Contains, slice_get}
 use Rattle.std.specs.List.{AllByRecursion}
 use Rattle.std.proofs.lemmas.List.{map-append, append-nil}
 use Rattle.std.proofs.lemmas.List.Elements.{All-from_recursion, All-contains_itself, recursion_from_All, Contains-append_left, Contains-append_right, Contains-append_cases}
+use Rattle.av_base.specs.Words.{IsWord}
 use Rattle.av_base.proofs.Truths.{by_test}
 use Rattle.av_base.proofs.Lists.{each_first, each_second, each_weaker, each_append}
 use Rattle.av_net.specs.declared.operation.Operand.{Operand}
 use Rattle.av_net.specs.declared.operation.Operand.TheVariants.{Name, Literal}
 use Rattle.av_net.specs.declared.netlist.Port.{Port}
 use Rattle.av_net.specs.declared.netlist.Drive.{Drive}
+use Rattle.av_net.specs.declared.netlist.Step.{Step}
 use Rattle.av_net.specs.declared.netlist.Module.{Module}
-use Rattle.av_net.specs.Meaning.{Widths, EachOperand}
-use Rattle.av_net.specs.Names.{AreDistinct, clk, rst, names_of, targets_of, given_names, wire_names, all_names, IsAmong, width_of}
+use Rattle.av_net.specs.Meaning.{Widths, operand_width, EachOperand}
+use Rattle.av_net.specs.Names.{AreDistinct, clk, rst, names_of, targets_of, registers_of, given_names, wire_names, all_names, IsAmong, width_of}
 use Rattle.av_net.specs.Sound.{IsInOrder, SuitsWidth, IsFitting, ComparesByOrder, IsSound}
 use Rattle.av_net.specs.Designs.{HasBits}
 use Rattle.av_net.specs.Flat.{kind_module}
@@ -43,13 +45,13 @@ itself names = recursion_from_All (Contains names) names (All-contains_itself na
 
 -- the targets of the lanes are among their outputs and wires, and the other way
 module _ (c : Operand) where
-  abbrev outs : ℕ → List LaneShape → List (List ℕ)
+  abbrev pub outs : ℕ → List LaneShape → List (List ℕ)
   outs k lanes = names_of (lanes_outputs k lanes)
 
-  abbrev wires : PortCounts → ℕ → List LaneShape → List (List ℕ)
+  abbrev pub wires : PortCounts → ℕ → List LaneShape → List (List ℕ)
   wires at n lanes = names_of (lanes_wires c at n lanes)
 
-  abbrev targets : PortCounts → ℕ → ℕ → List LaneShape → List (List ℕ)
+  abbrev pub targets : PortCounts → ℕ → ℕ → List LaneShape → List (List ℕ)
   targets at n k lanes = targets_of (lanes_drives c at n k lanes)
 
   split_wires : (at : PortCounts) (n : ℕ) (lane : LaneShape) (lanes : List LaneShape)
@@ -140,16 +142,16 @@ wide_if widths true ports wide e = wide.0
 wide_if widths false ports wide e = absurd cc
 
 module _ (number : ℕ) (shape : List LaneShape) (is : IsKindShape shape) (few : IsFewKind shape) where
-  abbrev m : Module
+  abbrev pub m : Module
   m = kind_module (kind_by number shape)
 
-  abbrev W : Widths
+  abbrev pub W : Widths
   W = width_of m
 
-  abbrev counter : Operand
+  abbrev pub counter : Operand
   counter = Name kind_counter
 
-  abbrev ports : List Port
+  abbrev pub ports : List Port
   ports = lanes_inputs no_ports shape
 
   wide : AreWide m
@@ -223,14 +225,14 @@ module _ (number : ℕ) (shape : List LaneShape) (is : IsKindShape shape) (few :
     drives_wires = all_to (Contains (wire_names m)) (targets_of m.drives) targets_among;
     steps_registers = All-from_recursion (Contains (names_of m.registers)) [] tt;
     drives_read = each_drive (λ d. EachOperand (IsAmong (all_names m)) d.operation) (λ d k. k.read);
-    steps_read = All-from_recursion _ [] tt;
+    steps_read = All-from_recursion (λ (s : Step). IsAmong (all_names m) s.next) [] tt;
     wires_driven = all_to (Contains (targets_of m.drives)) (wire_names m) wires_among;
-    registers_stepped = All-from_recursion _ [] tt;
+    registers_stepped = All-from_recursion (Contains (registers_of m.steps)) [] tt;
     in_order = good_in_order W (given_names m) m.drives good;
     drive_widths = each_drive (λ d. SuitsWidth W (W d.target) d.operation) (λ d k. k.suits);
-    step_widths = All-from_recursion _ [] tt;
+    step_widths = All-from_recursion (λ (s : Step). operand_width W s.next ≡ W s.register) [] tt;
     drives_fit = each_drive (λ d. EachOperand IsFitting d.operation) (λ d k. k.fits);
-    steps_fit = All-from_recursion _ [] tt;
-    resets_fit = All-from_recursion _ [] tt;
+    steps_fit = All-from_recursion (λ (s : Step). IsFitting s.next) [] tt;
+    resets_fit = All-from_recursion (λ (s : Step). IsWord (W s.register) s.reset) [] tt;
     orders = each_drive (λ d. ComparesByOrder d.operation) (λ d k. k.order);
   }

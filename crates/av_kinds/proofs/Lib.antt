@@ -35,6 +35,7 @@ pub mod RunShown
 pub mod PartNames
 pub mod Feeds
 pub mod TopGroups
+pub mod FewKinds
 pub mod TopInstances
 pub mod TopSound
 pub mod Spelled

@@ -36,8 +36,9 @@ use Rattle.av_kinds.specs.inner.Counts.{counter_wires, counter_drives, counter_s
 use Rattle.av_kinds.specs.inner.Shapes.{LaneShape, IsKindShape}
 use Rattle.av_kinds.specs.inner.Kinds.{counts}
 use Rattle.av_kinds.specs.inner.Instances.{outputs_from, instance_by}
-use Rattle.av_kinds.specs.inner.Modules.{AreShapesOf, top_by, kinds_by, instances_by, AreModulesOf}
+use Rattle.av_kinds.specs.inner.Modules.{AreShapesOf, top_by, kinds_by, instances_by, IsSmallKind, AreModulesOf}
 use Rattle.av_kinds.proofs.KindNames.{IsFewKind}
+use Rattle.av_kinds.proofs.FewKinds.{few_kinds, kinds_many}
 use Rattle.av_kinds.proofs.KindWide.{wide_kind}
 use Rattle.av_kinds.proofs.Shown.{LanesShow}
 use Rattle.av_kinds.proofs.Lines.{line_has, counter_has}
@@ -67,16 +68,16 @@ placed_at program first p k (lane ∷ lanes) each =
      placed_at program first p (k + 1) lanes (λ i l there. let f : k + suc i ≡ k + 1 + i = omega arith in subst (λ j. IsLaneOf program first p (first + j) l) f (each (suc i) l there)))
 
 module _ (counter : Counter) (program : Program) (is : IsProgram program) (ok : IsCounter counter) (shapes : List (List LaneShape)) (are : AreShapesOf program shapes) (few : AllByRecursion IsFewKind shapes) (many : length shapes ≤ 10 ^ 64) where
-  abbrev names : Labels
+  abbrev pub names : Labels
   names = labels program
 
-  abbrev counted : Bool
+  abbrev pub counted : Bool
   counted = list_any counts shapes
 
-  abbrev top : Module
+  abbrev pub top : Module
   top = top_by counter counted program
 
-  abbrev modules : Modules
+  abbrev pub modules : Modules
   modules = record { kinds = kinds_by 0 shapes; top = top; instances = instances_by counter program shapes 0 program.cells program.kinds }
 
   made : AreModulesOf counter program modules
@@ -98,10 +99,10 @@ module _ (counter : Counter) (program : Program) (is : IsProgram program) (ok : 
     lines : (q : ℕ) (lane : Lane) → slice_get program.lanes q ≡ Some lane → (d : ℕ) → d ≤ lane.length → (j : ℕ) → j + d < n → run.in_cycle (j + d) (line_name names q d) ≡ run.in_cycle j (names.value q)
     lines = line_has program (flat_module (plan_of l modules)) (if counted then counter_step counter ∷ [] else []) refl n stream run is_run
 
-    abbrev ports : Signals
+    abbrev pub ports : Signals
     ports c k = run.in_cycle c (input_name k)
 
-    abbrev values : Signals
+    abbrev pub values : Signals
     values c q = run.in_cycle c (names.value q)
 
     -- the lanes of a cell show the words of their works
@@ -170,9 +171,12 @@ module _ (counter : Counter) (program : Program) (is : IsProgram program) (ok : 
     shown = output_shown;
   }
 
--- Modules that are those of a program are netlists of it.
-pub made_netlists : (counter : Counter) (program : Program) → IsProgram program → IsCounter counter → (m : Modules) → (made : AreModulesOf counter program m) → AllByRecursion IsFewKind made.shapes → length made.shapes ≤ 10 ^ 64 → AreNetlistsOf counter program m
-made_netlists counter program is ok m made few many =
+-- Modules that are those of a program, with no more kinds than lists have items, are netlists of it.
+pub made_netlists : (counter : Counter) (program : Program) → IsProgram program → IsCounter counter → (m : Modules) → (made : AreModulesOf counter program m) → AllByRecursion IsSmallKind m.kinds → length m.kinds ≤ 2 ^ 30 → AreNetlistsOf counter program m
+made_netlists counter program is ok m made small some =
+    let few : AllByRecursion IsFewKind made.shapes = few_kinds 0 made.shapes (subst (AllByRecursion IsSmallKind) made.kinds_are small) in
+    let total : length m.kinds ≡ length made.shapes = ap length made.kinds_are ∙ kinds_many 0 made.shapes in
+    let many : length made.shapes ≤ 10 ^ 64 = omega (arith, total, some) in
     let same : modules counter program is ok made.shapes made.are_shapes few many ≡ m =
     sym (ap (λ ks. let x : Modules = record { kinds = ks; top = m.top; instances = m.instances } in x) made.kinds_are
     ∙ ap (λ t. let x : Modules = record { kinds = kinds_by 0 made.shapes; top = t; instances = m.instances } in x) made.top_is

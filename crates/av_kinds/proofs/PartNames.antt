@@ -78,7 +78,7 @@ AreNamed kinds p (i ∷ instances) = (i.name ≡ instance_name p) × IsSound (ki
 
 kind_names : (kind : CellKind) → IsSound (kind_module kind) → AreDistinct (names_of (kind_ports kind))
 kind_names kind sound =
-    let e : all_names (kind_module kind) ≡ names_of (kind_ports kind) =
+    let e : all_names (kind_module kind) ≡ names_of (kind.inputs ++ (kind.outputs ++ kind.wires)) =
     ap (λ (ys : List (List ℕ)). ys ++ (names_of kind.outputs ++ names_of kind.wires)) (append-nil (names_of kind.inputs))
     ∙ ap (λ (ys : List (List ℕ)). names_of kind.inputs ++ ys) (sym (map-append (λ (p : Port). p.name) kind.outputs kind.wires)) ∙ sym (map-append (λ (p : Port). p.name) kind.inputs (kind.outputs ++ kind.wires)) in
     let f : kind_ports kind ≡ kind.inputs ++ (kind.outputs ++ kind.wires) = append_assoc kind.inputs kind.outputs kind.wires in

@@ -60,6 +60,10 @@ drives_more : (name : Naming) (n : ℕ) (gates : List Gate) (g : Gate) (k : ℕ)
 drives_more name n [] g k at = let e : n ≡ k = omega arith in ap (λ i. drive_of (name i) g.operation ∷ []) e
 drives_more name n (f ∷ gates) g k at = let e : n + 1 + length gates ≡ k = omega arith in ap (λ (ds : List Drive). drive_of (name n) f.operation ∷ ds) (drives_more name (n + 1) gates g k e)
 
+pub gates_many : (name : Naming) (n : ℕ) (gates : List Gate) → length (ports_from name n gates) ≡ length gates
+gates_many name n [] = refl
+gates_many name n (g ∷ gates) = ap suc (gates_many name (n + 1) gates)
+
 -- the number of an item is how many came before
 pub number_is : (gates : List Gate) (i n : ℕ) (g : Gate) → (i < length (enumerate_from 0 gates)) × (◌≡◌ {A = ℕ × Gate} (n, g) (get_or (enumerate_from 0 gates) i (n, g))) → n ≡ i
 number_is gates i n g h =

@@ -102,11 +102,11 @@ pub record IsActive (c : ℕ) (modes : List Mode) (m : Mode) : Type 0 where
 
 pub active_mode : (c : ℕ) (modes : List Mode) (m : Mode) → mode_by c modes ≡ Some m → IsActive c modes m
 active_mode c [] m is = absurd cc
-active_mode c (n ∷ modes) m = by_test (is_active c n) refl
+active_mode c (n ∷ modes) m = by_test (is_active c n) refl (active_mode c modes m)
   where
-    by_test : (b : Bool) → is_active c n ≡ b → (if b then Some n else mode_by c modes) ≡ Some m → IsActive c (n ∷ modes) m
-    by_test true e is = let same : n ≡ m = some_is n m is in record { number = 0; is_mode = is; active = subst (λ (x : Mode). is_active c x ≡ true) same e }
-    by_test false e is = let h = active_mode c modes m is in record { number = suc h.number; is_mode = h.is_mode; active = h.active }
+    by_test : (b : Bool) → is_active c n ≡ b → (mode_by c modes ≡ Some m → IsActive c modes m) → (if b then Some n else mode_by c modes) ≡ Some m → IsActive c (n ∷ modes) m
+    by_test true e later is = let same : n ≡ m = some_is n m is in record { number = 0; is_mode = is; active = subst (λ (x : Mode). is_active c x ≡ true) same e }
+    by_test false e later is = let h = later is in record { number = suc h.number; is_mode = h.is_mode; active = h.active }
 
 -- a mode that is active has an interval
 some_of : {X : Type 0} (test : X → Bool) (xs : List X) → list_any test xs ≡ true → 0 < length xs
@@ -117,13 +117,13 @@ some_of test (x ∷ xs) h = omega arith
 
 module _ (program : Program) (n : ℕ) (in_cycle : ℕ → Words)
     (lines : (q : ℕ) (lane : Lane) → slice_get program.lanes q ≡ Some lane → (d : ℕ) → d ≤ lane.length → (j : ℕ) → j + d < n → in_cycle (j + d) (line_name (labels program) q d) ≡ in_cycle j ((labels program).value q)) where
-  abbrev N : Labels
+  abbrev pub N : Labels
   N = labels program
 
-  abbrev ports : Signals
+  abbrev pub ports : Signals
   ports c k = in_cycle c (input_name k)
 
-  abbrev values : Signals
+  abbrev pub values : Signals
   values c q = in_cycle c (N.value q)
 
   line_word : (c : ℕ) → c < n → (q d : ℕ) (lane : Lane) → slice_get program.lanes q ≡ Some lane → d ≤ lane.length → (b : ℕ) → b + d ≡ c → in_cycle c (line_name N q d) ≡ values b q
@@ -136,11 +136,11 @@ module _ (program : Program) (n : ℕ) (in_cycle : ℕ → Words)
 
   chosen_source : (count : ℕ) (w : Width) (otherwise : Source) (links : List Link) → AllByRecursion (λ (l : Link). (l.last < 2 ^ 12) × IsSource program w l.source) links → IsSource program w otherwise → IsSource program w (source_by count otherwise links)
   chosen_source count w otherwise [] each last = last
-  chosen_source count w otherwise (l ∷ links) each last = by_test (nat_le count l.last)
+  chosen_source count w otherwise (l ∷ links) each last = by_test (nat_le count l.last) (chosen_source count w otherwise links each.1 last)
     where
-      by_test : (b : Bool) → IsSource program w (if b then l.source else source_by count otherwise links)
-      by_test true = each.0.1
-      by_test false = chosen_source count w otherwise links each.1 last
+      by_test : (b : Bool) → IsSource program w (source_by count otherwise links) → IsSource program w (if b then l.source else source_by count otherwise links)
+      by_test true later = each.0.1
+      by_test false later = later
 
   site_has : (c : ℕ) → c < n → (count first q : ℕ) (site : Site) → IsSite program first q site → HasWord ports values c (source_in count site) (word_of (in_cycle c) (operand_of N site.width (source_in count site)))
   site_has c lt count first q site = by_inlet site.inlet
@@ -154,7 +154,7 @@ module _ (program : Program) (n : ℕ) (in_cycle : ℕ → Words)
 
   -- ---- a work
 
-  abbrev words : ℕ → ℕ → List Site → ℕ → ℕ
+  abbrev pub words : ℕ → ℕ → List Site → ℕ → ℕ
   words c count sites k = slice_index_or (map (λ (s : Site). word_of (in_cycle c) (operand_of N s.width (source_in count s))) sites) k 0
 
   words_have : (c : ℕ) → c < n → (count first q : ℕ) (sites : List Site) → AllByRecursion (IsSite program first q) sites → (k : ℕ) → HasWord ports values c (slice_index_or (map (source_in count) sites) k (Word 0)) (words c count sites k)

@@ -13,17 +13,17 @@ use Rattle.av_kinds.specs.inner.Shaped.{site_shape, site_shapes, mode_shape, mod
 
 -- ---- the shape with all modes, by number
 
-abbrev FitModes : ℕ → List ModeShape → List Mode → Type 0
+abbrev pub FitModes : ℕ → List ModeShape → List Mode → Type 0
 FitModes k [] [] = Unit {0}
 FitModes k (f ∷ shapes) (m ∷ modes) = (f.number ≡ k) × SuitsMode f m × FitModes (k + 1) shapes modes
 FitModes k [] (m ∷ modes) = ⊥
 FitModes k (f ∷ shapes) [] = ⊥
 
-record FitsLane (shape : LaneShape) (lane : Lane) : Type 0 where
+pub record FitsLane (shape : LaneShape) (lane : Lane) : Type 0 where
   width : lane.width ≡ shape.width
   modes : FitModes 0 shape.modes lane.modes
 
-abbrev FitLanes : List LaneShape → List Lane → Type 0
+abbrev pub FitLanes : List LaneShape → List Lane → Type 0
 FitLanes [] [] = Unit {0}
 FitLanes (shape ∷ shapes) (lane ∷ lanes) = FitsLane shape lane × FitLanes shapes lanes
 FitLanes [] (lane ∷ lanes) = ⊥
@@ -133,11 +133,11 @@ is_used m = nat_lt 0 m.intervals
 
 kept : (modes : List Mode) (all : List ModeShape) → AllByRecursion (FitsAt modes) all → AllByRecursion (FitsAt modes) (filter is_used all)
 kept modes [] each = tt
-kept modes (f ∷ all) each = by_use (is_used f)
+kept modes (f ∷ all) each = by_use (is_used f) (kept modes all each.1)
   where
-    by_use : (b : Bool) → AllByRecursion (FitsAt modes) (if b then f ∷ filter is_used all else filter is_used all)
-    by_use true = (each.0, kept modes all each.1)
-    by_use false = kept modes all each.1
+    by_use : (b : Bool) → AllByRecursion (FitsAt modes) (filter is_used all) → AllByRecursion (FitsAt modes) (if b then f ∷ filter is_used all else filter is_used all)
+    by_use true later = (each.0, later)
+    by_use false later = later
 
 suit_of : (modes : List Mode) (shapes : List ModeShape) → AllByRecursion (FitsAt modes) shapes → SuitModes shapes modes
 suit_of modes [] each = tt
@@ -204,19 +204,23 @@ keeps_old : (program : Program) (kind : ℕ) (before : List LaneShape) (cells : 
     → ((p : ℕ) (own : CellLanes) → slice_get kinds p ≡ Some kind → slice_get cells p ≡ Some own → Paired AreAlikeLanes old (lanes_of program own)) → FitLanes (shapes_by program kind before cells kinds) old
 keeps_old program kind before [] kinds old fit alike = fit
 keeps_old program kind before (own ∷ cells) [] old fit alike = fit
-keeps_old program kind before (own ∷ cells) (k ∷ kinds) old fit alike = by_kind (nat_eq k kind) refl
+keeps_old program kind before (own ∷ cells) (k ∷ kinds) old fit alike =
+    by_kind (nat_eq k kind) refl
+    (λ same. keeps_old program kind (lane_shapes before (lanes_of program own)) cells kinds old (old_lanes before old (lanes_of program own) fit (alike 0 own (ap Some same) refl)) (λ p o kp cp. alike (suc p) o kp cp))
+    (keeps_old program kind before cells kinds old fit (λ p o kp cp. alike (suc p) o kp cp))
   where
-    by_kind : (b : Bool) → nat_eq k kind ≡ b → FitLanes (if b then shapes_by program kind (lane_shapes before (lanes_of program own)) cells kinds else shapes_by program kind before cells kinds) old
-    by_kind true e =
-        let same : k ≡ kind = grind arith in
-        keeps_old program kind (lane_shapes before (lanes_of program own)) cells kinds old (old_lanes before old (lanes_of program own) fit (alike 0 own (ap Some same) refl)) (λ p o kp cp. alike (suc p) o kp cp)
-    by_kind false e = keeps_old program kind before cells kinds old fit (λ p o kp cp. alike (suc p) o kp cp)
+    by_kind : (b : Bool) → nat_eq k kind ≡ b → (k ≡ kind → FitLanes (shapes_by program kind (lane_shapes before (lanes_of program own)) cells kinds) old) → FitLanes (shapes_by program kind before cells kinds) old
+        → FitLanes (if b then shapes_by program kind (lane_shapes before (lanes_of program own)) cells kinds else shapes_by program kind before cells kinds) old
+    by_kind true e taken passed = let same : k ≡ kind = grind arith in taken same
+    by_kind false e taken passed = passed
 
 room_for : (program : Program) (kind : ℕ) (before : List LaneShape) (cells : List CellLanes) (kinds : List ℕ) → AreAlike program kind cells kinds
     → (p : ℕ) (own : CellLanes) → slice_get kinds p ≡ Some kind → slice_get cells p ≡ Some own → FitLanes (shapes_by program kind before cells kinds) (lanes_of program own)
 room_for program kind before [] kinds alike p own kp cp = absurd cc
 room_for program kind before (o ∷ cells) [] alike p own kp cp = absurd cc
-room_for program kind before (o ∷ cells) (k ∷ kinds) alike p own kp cp = by_kind (nat_eq k kind) refl p kp cp
+room_for program kind before (o ∷ cells) (k ∷ kinds) alike p own kp cp =
+    by_kind (nat_eq k kind) refl p kp cp (λ i ki ci. room_for program kind (lane_shapes before (lanes_of program o)) cells kinds (later_alike program kind o cells k kinds alike) i own ki ci)
+    (λ i ki ci. room_for program kind before cells kinds (later_alike program kind o cells k kinds alike) i own ki ci)
   where
     at_first : (j : ℕ) → slice_get (k ∷ kinds) 0 ≡ Some j → k ≡ j
     at_first j e = some_is k j e
@@ -228,14 +232,16 @@ room_for program kind before (o ∷ cells) (k ∷ kinds) alike p own kp cp = by_
     same_test i j e = grind arith
 
     by_kind : (b : Bool) → nat_eq k kind ≡ b → (p : ℕ) → slice_get (k ∷ kinds) p ≡ Some kind → slice_get (o ∷ cells) p ≡ Some own
+        → ((i : ℕ) → slice_get kinds i ≡ Some kind → slice_get cells i ≡ Some own → FitLanes (shapes_by program kind (lane_shapes before (lanes_of program o)) cells kinds) (lanes_of program own))
+        → ((i : ℕ) → slice_get kinds i ≡ Some kind → slice_get cells i ≡ Some own → FitLanes (shapes_by program kind before cells kinds) (lanes_of program own))
         → FitLanes (if b then shapes_by program kind (lane_shapes before (lanes_of program o)) cells kinds else shapes_by program kind before cells kinds) (lanes_of program own)
-    by_kind true e zero kp cp =
+    by_kind true e zero kp cp taken passed =
         let cell : o ≡ own = some_is o own cp in
         let fits : FitLanes (lane_shapes before (lanes_of program o)) (lanes_of program own) = subst (λ (x : CellLanes). FitLanes (lane_shapes before (lanes_of program o)) (lanes_of program x)) cell (own_lanes before (lanes_of program o)) in
         keeps_old program kind (lane_shapes before (lanes_of program o)) cells kinds (lanes_of program own) fits (λ q other kq cq. alike 0 (suc q) own other kp kq cp cq)
-    by_kind true e (suc p) kp cp = room_for program kind (lane_shapes before (lanes_of program o)) cells kinds (later_alike program kind o cells k kinds alike) p own kp cp
-    by_kind false e zero kp cp = absurd (not_both (sym (same_test k kind (at_first kind kp)) ∙ e))
-    by_kind false e (suc p) kp cp = room_for program kind before cells kinds (later_alike program kind o cells k kinds alike) p own kp cp
+    by_kind true e (suc p) kp cp taken passed = taken p kp cp
+    by_kind false e zero kp cp taken passed = absurd (not_both (sym (same_test k kind (at_first kind kp)) ∙ e))
+    by_kind false e (suc p) kp cp taken passed = passed p kp cp
 
 -- The shape of a kind has room for each of its cells.
 pub kind_suits : (program : Program) (kind : ℕ) → AreAlike program kind program.cells program.kinds → (p : ℕ) (own : CellLanes) → slice_get program.kinds p ≡ Some kind → slice_get program.cells p ≡ Some own → SuitLanes (kind_shape program kind) (lanes_of program own)

@@ -31,11 +31,11 @@ use Rattle.av_kinds.specs.Names.{input_name, output_name, instance_name, value_n
 use Rattle.av_kinds.specs.Counters.{IsCounter, counter_name}
 use Rattle.av_kinds.specs.inner.Counts.{counter_wires}
 use Rattle.av_kinds.specs.inner.Shapes.{LaneShape, IsKindShape}
-use Rattle.av_kinds.specs.inner.Interfaces.{PortCounts, past_lanes}
+use Rattle.av_kinds.specs.inner.Interfaces.{PortCounts}
 use Rattle.av_kinds.specs.inner.Kinds.{counts, no_ports, lanes_inputs, lanes_outputs, lanes_wires, kind_inputs, kind_by}
 use Rattle.av_kinds.specs.inner.Modules.{AreShapesOf, top_by, kinds_by, instances_by}
 use Rattle.av_kinds.proofs.NameParts.{IsGroup, joined_distinct, one_distinct, each_of_range}
-use Rattle.av_kinds.proofs.PortNames.{IsIn, IsOf, IsSmall, lanes_named}
+use Rattle.av_kinds.proofs.PortNames.{IsIn, IsOf, IsSmall, past_lanes, lanes_named}
 use Rattle.av_kinds.proofs.KindNames.{IsOut, outs_named, wires_named, wires_end, counter_ports, IsFewKind}
 use Rattle.av_kinds.proofs.KindSound.{kind_sound, kind_bits}
 use Rattle.av_kinds.proofs.SpelledNames.{one_numbered, twice_numbered, value_spelled, array_name, counter_spelled, counter_wires_spelled}
@@ -125,16 +125,16 @@ registers_named : (stride : ℕ) (lane : Lane) → IsSmallLane stride lane → A
 registers_named stride lane h = each_of_range IsName (λ k. lane_register stride k lane) 0 lane.length (λ k le lt. twice_numbered 114 lane.home (number_in stride lane k) refl h.home (below_line stride lane h k (omega (arith, lt))))
 
 module _ (counter : Counter) (program : Program) (is : IsProgram program) (ok : IsCounter counter) (shapes : List (List LaneShape)) (are : AreShapesOf program shapes) (few : AllByRecursion IsFewKind shapes) (many : length shapes ≤ 10 ^ 64) where
-  abbrev counted : Bool
+  abbrev pub counted : Bool
   counted = list_any counts shapes
 
-  abbrev top : Module
+  abbrev pub top : Module
   top = top_by counter counted program
 
-  abbrev kinds : List CellKind
+  abbrev pub kinds : List CellKind
   kinds = kinds_by 0 shapes
 
-  abbrev instances : List Instance
+  abbrev pub instances : List Instance
   instances = instances_by counter program shapes 0 program.cells program.kinds
 
   small : AreSmall program

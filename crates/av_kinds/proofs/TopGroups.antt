@@ -67,7 +67,7 @@ pub values_are : (names : Labels) (q : ℕ) (lanes : List Lane) → of_lanes (wi
 values_are names q [] = refl
 values_are names q (lane ∷ lanes) = ap (λ (ys : List (List ℕ)). names.value q ∷ ys) (values_are names (q + 1) lanes)
 
-outputs_are : (names : Labels) (q n : ℕ) → outputs_from names q n ≡ map names.value (range_with_len q n)
+pub outputs_are : (names : Labels) (q n : ℕ) → outputs_from names q n ≡ map names.value (range_with_len q n)
 outputs_are names q zero = refl
 outputs_are names q (suc n) = ap (λ (ys : List (List ℕ)). names.value q ∷ ys) (outputs_are names (q + 1) n)
 
@@ -114,7 +114,7 @@ linked_are counter program shapes p q (own ∷ cells) (k ∷ kinds) count n turn
 
 -- ---- the groups of names
 
-number_group : (a n : ℕ) → n ≤ 10 ^ 64 → IsGroup (group a (map (λ k. a ∷ decimal k) (range_with_len 0 n)))
+pub number_group : (a n : ℕ) → n ≤ 10 ^ 64 → IsGroup (group a (map (λ k. a ∷ decimal k) (range_with_len 0 n)))
 number_group a n few = record { distinct = letter_distinct a 0 n (omega (arith, few)); sorts = own 0 n (omega (arith, few)) }
   where
     own : (p n : ℕ) → p + n ≤ 10 ^ 64 → AllByRecursion (λ x. sort x ≡ a) (map (λ k. a ∷ decimal k) (range_with_len p n))

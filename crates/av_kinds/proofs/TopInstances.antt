@@ -31,6 +31,7 @@ use Rattle.av_kinds.specs.inner.Kinds.{counts, lanes_outputs, kind_inputs, kind_
 use Rattle.av_kinds.specs.inner.Instances.{outputs_from, cell_operands, instance_by}
 use Rattle.av_kinds.specs.inner.Modules.{AreShapesOf, kinds_by, instances_by}
 use Rattle.av_kinds.proofs.KindNames.{IsFewKind}
+use Rattle.av_kinds.proofs.FewKinds.{kinds_many}
 use Rattle.av_kinds.proofs.KindSound.{kind_sound}
 use Rattle.av_kinds.proofs.PlanShown.{got, kind_there}
 use Rattle.av_kinds.proofs.ShapeSuits.{below_length}
@@ -132,10 +133,10 @@ instances_in_order given known more (i ∷ instances) h =
      instances_in_order given (known ++ i.outputs) (λ x at. Contains-append_left known i.outputs x (more x at)) instances h.1)
 
 module _ (counter : Counter) (program : Program) (is : IsProgram program) (shapes : List (List LaneShape)) (are : AreShapesOf program shapes) (few : AllByRecursion IsFewKind shapes) where
-  abbrev names : Labels
+  abbrev pub names : Labels
   names = labels program
 
-  abbrev kinds : List CellKind
+  abbrev pub kinds : List CellKind
   kinds = kinds_by 0 shapes
 
   -- a cell, with the shape of its kind
@@ -237,16 +238,12 @@ module _ (counter : Counter) (program : Program) (is : IsProgram program) (shape
     outputs_suit q k [] (l ∷ lanes) suit wide = absurd suit
     outputs_suit q k (s ∷ ss) [] suit wide = absurd suit
 
-    kinds_more : (n : ℕ) (ss : List (List LaneShape)) → length (kinds_by n ss) ≡ length ss
-    kinds_more n [] = refl
-    kinds_more n (s ∷ ss) = ap suc (kinds_more (n + 1) ss)
-
     pub placed_suits : (p : ℕ) (own : CellLanes) (k : ℕ) → (h : IsPlacedCell p own k) → IsPlaced kinds W (instance_by names (counter_name counter) p k own.first h.shape (lanes_of program own))
     placed_suits p own k h =
         let below = below_length shapes k h.shape h.is_shape in
         let e = kind_is k h.shape h.is_shape in
         record {
-          kind = omega (arith, below, kinds_more 0 shapes);
+          kind = omega (arith, below, kinds_many 0 shapes);
           inputs = subst (λ (x : CellKind). SuitPorts W (cell_operands names (counter_name counter) h.shape (lanes_of program own)) x.inputs) (sym e)
               (feed_suits given W names (cell_operands names (counter_name counter) h.shape (lanes_of program own)) (kind_inputs h.shape) (placed_feed p own k h));
           outputs = subst (λ (x : CellKind). SuitPorts W (map Name (outputs_from names own.first (length h.shape))) x.outputs) (sym e)

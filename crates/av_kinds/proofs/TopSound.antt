@@ -151,22 +151,22 @@ module _ (counter : Counter) where
 -- ---- the top module
 
 module _ (counter : Counter) (program : Program) (is : IsProgram program) (ok : IsCounter counter) (shapes : List (List LaneShape)) (are : AreShapesOf program shapes) (few : AllByRecursion IsFewKind shapes) where
-  abbrev names : Labels
+  abbrev pub names : Labels
   names = labels program
 
-  abbrev kinds : List CellKind
+  abbrev pub kinds : List CellKind
   kinds = kinds_by 0 shapes
 
-  abbrev counted : Bool
+  abbrev pub counted : Bool
   counted = list_any counts shapes
 
-  abbrev top : Module
+  abbrev pub top : Module
   top = top_by counter counted program
 
-  abbrev instances : List Instance
+  abbrev pub instances : List Instance
   instances = instances_by counter program shapes 0 program.cells program.kinds
 
-  abbrev W : Widths
+  abbrev pub W : Widths
   W = width_of top
 
   -- the groups of names: input ports, registers, output ports, wires, and what instances bring
@@ -182,13 +182,13 @@ module _ (counter : Counter) (program : Program) (is : IsProgram program) (ok : 
   abbrev pub V : List (List ℕ)
   V = of_lanes (wires_of names) 0 program.lanes
 
-  abbrev U : List (List ℕ)
+  abbrev pub U : List (List ℕ)
   U = instance_names instances ++ part_names kinds instances
 
-  abbrev C : List (List ℕ)
+  abbrev pub C : List (List ℕ)
   C = counter_register counter counted
 
-  abbrev N : List (List ℕ)
+  abbrev pub N : List (List ℕ)
   N = counter_wire_names counter counted
 
   registers_names : names_of top.registers ≡ R ++ C
@@ -244,12 +244,11 @@ module _ (counter : Counter) (program : Program) (is : IsProgram program) (ok : 
   declared = subst (λ (ys : List (List ℕ)). AreDistinct (clk ∷ rst ∷ (ys ++ U))) (sym all_are)
       (declared_names I R O V U inputs_group (register_group program small) outputs_group (wire_group program small) groups_named counter counted)
 
-  driven : AreDistinct (linked_names instances ++ (targets_of top.drives ++ registers_of top.steps))
+  driven : AreDistinct ((linked_names instances ++ targets_of top.drives) ++ registers_of top.steps)
   driven =
       let all = driven_names I R O V U inputs_group (register_group program small) outputs_group (wire_group program small) groups_named counter counted in
-      let e : linked_names instances ++ (targets_of top.drives ++ registers_of top.steps) ≡ (V ++ (O ++ N)) ++ (R ++ C) =
-      ap (λ (ys : List (List ℕ)). ys ++ (targets_of top.drives ++ registers_of top.steps)) linked ∙ ap (λ (ys : List (List ℕ)). V ++ (ys ++ registers_of top.steps)) targets ∙ ap (λ (ys : List (List ℕ)). V ++ ((O ++ N) ++ ys)) registers
-      ∙ sym (append_assoc V (O ++ N) (R ++ C)) in
+      let e : (linked_names instances ++ targets_of top.drives) ++ registers_of top.steps ≡ (V ++ (O ++ N)) ++ (R ++ C) =
+      ap (λ (ys : List (List ℕ)). (ys ++ targets_of top.drives) ++ registers_of top.steps) linked ∙ ap (λ (ys : List (List ℕ)). (V ++ ys) ++ registers_of top.steps) targets ∙ ap (λ (ys : List (List ℕ)). (V ++ (O ++ N)) ++ ys) registers in
       subst AreDistinct (sym e) all
 
   wide : AreWide top
@@ -323,7 +322,7 @@ module _ (counter : Counter) (program : Program) (is : IsProgram program) (ok : 
       let e : width_in (slice_get program.lanes q) ≡ lane.width = ap width_in there in
       at_ports (IsWide W) output_name 0 (output_widths program) wide.outputs k lane.width (get_mapped (λ i. width_in (slice_get program.lanes i)) program.outputs k q at ∙ ap Some e) k (omega arith)
 
-  abbrev base : List (List ℕ)
+  abbrev pub base : List (List ℕ)
   base = given_names top ++ linked_names instances
 
   good : AreGood W base top.drives
@@ -370,7 +369,7 @@ module _ (counter : Counter) (program : Program) (is : IsProgram program) (ok : 
     read = line_read d lt;
     suits = line_suits d lt ∙ sym (register_wide q d lane there lt);
     fits = tt;
-    reset = pow_pos 2 (W (names.register q d)) (omega arith);
+    reset = pow_pos (W (names.register q d));
   }
     where
       line_read : (d : ℕ) → d < lane.length → Contains (all_names top) (line_name names q d)
@@ -401,7 +400,7 @@ module _ (counter : Counter) (program : Program) (is : IsProgram program) (ok : 
         read = Contains-append_right (given_names top) (wire_names top) (next_name counter) (Contains-append_right (names_of top.outputs) (names_of top.wires) (next_name counter) next.0);
         suits = next.1 ∙ sym (count_wide e);
         fits = tt;
-        reset = pow_pos 2 (W (counter_name counter)) (omega arith);
+        reset = pow_pos (W (counter_name counter));
       }, tt)
   counter_step_good false e = tt
 
@@ -428,7 +427,7 @@ module _ (counter : Counter) (program : Program) (is : IsProgram program) (ok : 
 
   pub top_sound : IsSoundTop kinds top instances
   top_sound = record {
-    declared_once = declared;
+    declared_once = subst (λ (ys : List (List ℕ)). AreDistinct (clk ∷ rst ∷ ys)) (sym (append_assoc (all_names top) (instance_names instances) (part_names kinds instances))) declared;
     driven_once = driven;
     links_wires = All-from_recursion (Contains (wire_names top)) (linked_names instances) links_among;
     drives_wires = All-from_recursion (Contains (wire_names top)) (targets_of top.drives) drives_among;

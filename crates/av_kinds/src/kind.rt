@@ -5,6 +5,7 @@ ghost use Rattle.std.specs.List.{AllByRecursion};
 ghost use Rattle.av_kinds.specs.Tops.{port};
 ghost use Rattle.av_kinds.specs.inner.Gates.{ports_from, drives_from};
 ghost use Rattle.av_kinds.specs.inner.Kinds.{kind_by};
+ghost use Rattle.av_kinds.specs.inner.Modules.{IsSmallKind};
 ghost use Rattle.av_kinds.specs.inner.Shapes.{lane_shape_of, IsKindShape};
 ghost use Rattle.av_kinds.specs.inner.Numbered.{wire_in};
 ghost use Rattle.av_kinds.specs.inner.Numbers as interfaces;
@@ -166,7 +167,8 @@ pub(crate) fn kind(
     shape: &[LaneShape<'_>],
 ) -> Result<CellKind, Memory>
     requires { IsKindShape (map lane_shape_of shape.now) }
-    ensures { IfOk result (λ kind. kind ≡ kind_by number (map lane_shape_of shape.now)) }
+    ensures is { IfOk result (λ kind. kind ≡ kind_by number (map lane_shape_of shape.now)) }
+    ensures small { IfOk result IsSmallKind }
 {
     let counter = Operand::Name(Name::new(alloc, "cyc")?);
     let mut interface = opened(alloc, shape)?;
@@ -178,6 +180,9 @@ pub(crate) fn kind(
     for lane in 0..shape.len() {
         add_lane_of(alloc, &counter, shape, lane, &mut interface, &mut parts)?;
     }
+    prove!(interface.ports.len() <= 1 << 30);
+    prove!(parts.outputs.len() <= 1 << 30);
+    prove!(parts.wires.len() <= 1 << 30);
     Ok(CellKind {
         name: numbered(alloc, "k", number as u128)?,
         inputs: interface.ports,

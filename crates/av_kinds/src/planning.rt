@@ -1,12 +1,12 @@
-ghost use Rattle.std.specs.Prelude.{◌≡◌, map, IfOk};
-ghost use Rattle.std.specs.List.{list_any};
+ghost use Rattle.std.specs.Prelude.{◌≡◌, ◌≤◌, ◌^◌, length, map, IfOk};
+ghost use Rattle.std.specs.List.{list_any, AllByRecursion};
 ghost use Rattle.av_kinds.specs.Programs.{IsProgram};
 ghost use Rattle.av_kinds.specs.Written.{program_of};
 ghost use Rattle.av_kinds.specs.Counters.{IsCounter};
 ghost use Rattle.av_kinds.specs.Netlists.{AreNetlistsOf};
 ghost use Rattle.av_kinds.specs.inner.Shapes.{lane_shape_of};
 ghost use Rattle.av_kinds.specs.inner.Kinds.{counts};
-ghost use Rattle.av_kinds.specs.inner.Modules.{AreShapesOf, AreKindShapes, IsKindCount, kinds_by, instances_by};
+ghost use Rattle.av_kinds.specs.inner.Modules.{AreShapesOf, AreKindShapes, IsKindCount, IsSmallKind, kinds_by, instances_by};
 
 use crate::counter::Counter;
 use crate::instance::instance;
@@ -54,12 +54,15 @@ fn shapes<'a>(alloc: Global, program: &Program<'a>) -> Result<List<List<LaneShap
 // A kind for each shape.
 fn kinds(alloc: Global, shapes: &[List<LaneShape<'_>>]) -> Result<List<CellKind>, Memory>
     requires { AreKindShapes (map (map lane_shape_of) shapes.now) }
-    ensures { IfOk result (λ kinds. kinds ≡ kinds_by 0 (map (map lane_shape_of) shapes.now)) }
+    ensures are { IfOk result (λ kinds. kinds ≡ kinds_by 0 (map (map lane_shape_of) shapes.now)) }
+    ensures small { IfOk result (λ kinds. AllByRecursion IsSmallKind kinds) }
+    ensures few { IfOk result (λ kinds. length kinds ≤ 2 ^ 30) }
 {
     let mut kinds = List::new(alloc);
     for (number, shape) in shapes.iter().enumerate() {
         kinds.push(kind(alloc, number, shape.as_slice())?)?;
     }
+    prove!(kinds.len() <= 1 << 30);
     Ok(kinds)
 }
 

@@ -1,5 +1,5 @@
 -- The modules of a program: a kind for each shape, an instance for each cell, and the top module, which counts where a kind does.
-use Rattle.std.specs.Prelude.{◌≡◌, ℕ, suc, ◌+◌, ◌<◌, Bool, List, [], ◌∷◌, ◌++◌, Some, slice_get, get_or, length, codes, if◌then◌else◌}
+use Rattle.std.specs.Prelude.{◌≡◌, ℕ, suc, ◌+◌, ◌<◌, ◌≤◌, ◌^◌, Bool, List, [], ◌∷◌, ◌++◌, Some, slice_get, get_or, length, codes, if◌then◌else◌}
 use Rattle.std.specs.List.{list_any, AllByRecursion}
 use Rattle.av_net.specs.declared.netlist.Module.{Module}
 use Rattle.av_net.specs.declared.plan.CellKind.{CellKind}
@@ -50,6 +50,10 @@ pub record IsKindCount (kinds : List ℕ) (count : ℕ) : Type 0 where
 abbrev pub kinds_by : ℕ → List (List LaneShape) → List CellKind
 kinds_by n [] = []
 kinds_by n (shape ∷ shapes) = kind_by n shape ∷ kinds_by (n + 1) shapes
+
+-- no more ports and wires than lists have items
+abbrev pub IsSmallKind : CellKind → Type 0
+IsSmallKind kind = (length kind.inputs ≤ 2 ^ 30) × (length kind.outputs ≤ 2 ^ 30) × (length kind.wires ≤ 2 ^ 30)
 
 -- an instance for each cell, with numbers from p on
 abbrev pub instances_by : Counter → Program → List (List LaneShape) → ℕ → List CellLanes → List ℕ → List Instance

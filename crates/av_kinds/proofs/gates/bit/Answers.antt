@@ -1,6 +1,6 @@
 use Rattle.av_kinds.proofs.KindWide.{wide_kind}
 use Rattle.av_kinds.proofs.RunShown.{lane_shows}
-use Rattle.av_kinds.proofs.TopSound.{top_sound}
+use Rattle.av_kinds.proofs.NetlistsMade.{made_netlists}
 use Rattle.av_kinds.proofs.SpelledNames.{counter_spelled}
 use Rattle.av_kinds.proofs.Steps.{tree_added}
 use Rattle.av_kinds.proofs.Lines.{counter_has}
