@@ -29,6 +29,8 @@ pub mod TopNames
 pub mod Residues
 pub mod Lines
 pub mod Placing
+pub mod Writing
+pub mod Operands
 pub mod ShapeSuits
 pub mod KindWide
 pub mod RunShown
