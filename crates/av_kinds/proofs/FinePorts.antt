@@ -66,9 +66,10 @@ module _ (K : Known) (widths : Widths) (name : Naming) where
 
   sites_fine : (all : List LaneShape) (k : ℕ) → PipesKnown all k → (at : PortCounts) (sites : List SiteShape) → AllByRecursion (IsSiteShape all k) sites → AllByRecursion P (sites_ports at sites) → AllByRecursion (FineTap K widths name) (taps_of at sites)
   sites_fine all k pipes at [] are ports = tt
-  sites_fine all k pipes at (site ∷ sites) are ports =
-      (site_fine all k pipes at site are.0 (each_first P (site_ports at site) (sites_ports (past_site at site) sites) ports),
-       sites_fine all k pipes (past_site at site) sites are.1 (each_second P (site_ports at site) (sites_ports (past_site at site) sites) ports))
+  sites_fine all k pipes at (site ∷ sites) are ports = (
+    site_fine all k pipes at site are.0 (each_first P (site_ports at site) (sites_ports (past_site at site) sites) ports),
+    sites_fine all k pipes (past_site at site) sites are.1 (each_second P (site_ports at site) (sites_ports (past_site at site) sites) ports),
+  )
 
   -- ---- a lane
 
@@ -81,11 +82,13 @@ module _ (K : Known) (widths : Widths) (name : Naming) where
   tested_fine all k w pipes at (t ∷ []) are ports = tt
   tested_fine all k w pipes at (t ∷ u ∷ modes) are ports =
       let bounds = interval_ports (past_sites at t.sites).bounds t.intervals in
-      let here = each_first P (tested_ports at t) (modes_ports (past_tested at t) (u ∷ modes)) ports in
-      (record {
-         guards = guards_fine (past_sites at t.sites).bounds t.intervals (each_second P (sites_ports at t.sites) bounds here);
-         datapath = record { taps = sites_fine all k pipes at t.sites are.0.sites (each_first P (sites_ports at t.sites) bounds here); tree = are.0.fits };
-       }, tested_fine all k w pipes (past_tested at t) (u ∷ modes) are.1 (each_second P (tested_ports at t) (modes_ports (past_tested at t) (u ∷ modes)) ports))
+      let here = each_first P (tested_ports at t) (modes_ports (past_tested at t) (u ∷ modes)) ports in (
+        record {
+          guards = guards_fine (past_sites at t.sites).bounds t.intervals (each_second P (sites_ports at t.sites) bounds here);
+          datapath = record { taps = sites_fine all k pipes at t.sites are.0.sites (each_first P (sites_ports at t.sites) bounds here); tree = are.0.fits };
+        },
+        tested_fine all k w pipes (past_tested at t) (u ∷ modes) are.1 (each_second P (tested_ports at t) (modes_ports (past_tested at t) (u ∷ modes)) ports),
+      )
 
   last_fine : (all : List LaneShape) (k w : ℕ) → PipesKnown all k → (at : PortCounts) (t : ModeShape) (modes : List ModeShape) → AllByRecursion (IsModeShape all k w) (t ∷ modes) → AllByRecursion P (modes_ports at (t ∷ modes)) → FineDatapath K widths name w (last_of at (t ∷ modes))
   last_fine all k w pipes at t [] are ports = record { taps = sites_fine all k pipes at t.sites are.0.sites ports; tree = are.0.fits }

@@ -55,9 +55,10 @@ more_among known names grows (Literal width value) h = tt
 pub good_keep : (widths : Widths) (known names : List (List ℕ)) (drives : List Drive) → ((x : List ℕ) → Contains known x → Contains names x) → AllByRecursion (Contains names) (targets_of drives)
     → AreGood widths known drives → AllByRecursion (Keeps widths names) drives
 good_keep widths known names [] grows targets good = tt
-good_keep widths known names (d ∷ drives) grows targets good =
-    (record { read = each_operand (IsAmong known) (IsAmong names) (more_among known names grows) d.operation good.0.read; suits = good.0.suits; fits = good.0.fits; order = good.0.order; bits = good.0.bits },
-     good_keep widths (known ++ d.target ∷ []) names drives (λ x at. elim (Contains-append_cases known (d.target ∷ []) x at) [ | inl here ↦ grows x here | inr there ↦ only x there ]) targets.1 good.1)
+good_keep widths known names (d ∷ drives) grows targets good = (
+  record { read = each_operand (IsAmong known) (IsAmong names) (more_among known names grows) d.operation good.0.read; suits = good.0.suits; fits = good.0.fits; order = good.0.order; bits = good.0.bits },
+  good_keep widths (known ++ d.target ∷ []) names drives (λ x at. elim (Contains-append_cases known (d.target ∷ []) x at) [ inl here ↦ grows x here | inr there ↦ only x there ]) targets.1 good.1,
+)
   where
     only : (x : List ℕ) → Contains (d.target ∷ []) x → Contains names x
     only x (zero, lt, e) = subst (λ (y : List ℕ). Contains names y) e targets.0
@@ -149,17 +150,18 @@ lanes_good widths counter all at n k (lane ∷ lanes) known are count pipes port
     gates_good K widths name 0 (0 + length gates) gates known (last ∷ lanes_drives counter mid (n + length gates) (k + 1) lanes) (record { before = λ x h. h; wires = λ i lt. absurd (omega (arith, lt)) }) fine.gates sized refl
     (λ now has grows.
     let after = now ++ target ∷ [] in
-    let more : (x : List ℕ) → Contains known x → Contains after x = λ x h. Contains-append_left now (target ∷ []) x (grows x h) in
-    (record {
-       read = each_operand (IsKnown K name (0 + length gates)) (IsAmong now) (among K name (0 + length gates) now has) b.root fine.root.known;
-       suits = subst (λ w. SuitsWidth widths w b.root) (sym outputs.0) fine.root.suits;
-       fits = fine.root.fits;
-       order = fine.root.order;
-       bits = fine.root.bits;
-     },
-     lanes_good widths counter all mid (n + length gates) (k + 1) lanes after are.2 (counter_later known after widths more counter count)
-         (λ h other is lt some. later_pipe now h other is lt some more)
-         (each_weaker (IsPort K widths) (IsPort (Contains after) widths) (port_later known after widths more) (lanes_inputs mid lanes) rest) rest_wires outputs.1))
+    let more : (x : List ℕ) → Contains known x → Contains after x = λ x h. Contains-append_left now (target ∷ []) x (grows x h) in (
+      record {
+        read = each_operand (IsKnown K name (0 + length gates)) (IsAmong now) (among K name (0 + length gates) now has) b.root fine.root.known;
+        suits = subst (λ w. SuitsWidth widths w b.root) (sym outputs.0) fine.root.suits;
+        fits = fine.root.fits;
+        order = fine.root.order;
+        bits = fine.root.bits;
+      },
+      lanes_good widths counter all mid (n + length gates) (k + 1) lanes after are.2 (counter_later known after widths more counter count)
+          (λ h other is lt some. later_pipe now h other is lt some more)
+          (each_weaker (IsPort K widths) (IsPort (Contains after) widths) (port_later known after widths more) (lanes_inputs mid lanes) rest) rest_wires outputs.1,
+    ))
   where
     own_pipe : (ls : List LaneShape) → 0 < length ls → widths (output_of k ls) ≡ lane.width.bits → (now : List (List ℕ)) (other : LaneShape) → slice_get all k ≡ Some other
         → IsPort (Contains (now ++ output_of k ls ∷ [])) widths (port other.width (pipe_name k))

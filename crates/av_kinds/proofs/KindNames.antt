@@ -174,6 +174,7 @@ targets_named c at n k (lane ∷ lanes) few outs =
       each = each_append (IsTarget n m k high) own (target ∷ tail) (each_weaker (IsIn 119 n i) (IsTarget n m k high) (λ x p. inl (wider 119 n i n m (omega arith) later x p)) own mine.each)
           (inr (output_is k high lanes (omega arith)), each_weaker (IsTarget i m (k + 1) high) (IsTarget n m k high) (target_wider n i m k (k + 1) high (omega arith) (omega arith)) tail rest.each);
     })
+
 -- ---- all names of a kind
 
 abbrev pub counter_ports : Bool → List Port
@@ -297,6 +298,6 @@ module _ (number : ℕ) (shape : List LaneShape) (few : IsFewKind shape) where
       ap (λ ys. clk ∷ rst ∷ ys) (sym (ap (λ zs. (zs ++ []) ++ (outs ++ inner)) first ∙ all_parts (names_of (counter_ports counted)) ins (outs ++ inner))) in
       subst AreDistinct e
       (joined_apart IsFixed IsLater fixed_no_later (fixed_names counted) (ins ++ (outs ++ inner)) (fixed_distinct counted)
-          (joined_apart (IsOf no_ports last) IsInner port_no_inner ins (outs ++ inner) ports.distinct distinct_inner ports.each each_inner)
-          (fixed_each counted)
-          (each_append IsLater ins (outs ++ inner) (each_weaker (IsOf no_ports last) IsLater (λ x p. inl p) ins ports.each) (each_weaker IsInner IsLater (λ x p. inr p) (outs ++ inner) each_inner)))
+      (joined_apart (IsOf no_ports last) IsInner port_no_inner ins (outs ++ inner) ports.distinct distinct_inner ports.each each_inner)
+      (fixed_each counted)
+      (each_append IsLater ins (outs ++ inner) (each_weaker (IsOf no_ports last) IsLater (λ x p. inl p) ins ports.each) (each_weaker IsInner IsLater (λ x p. inr p) (outs ++ inner) each_inner)))

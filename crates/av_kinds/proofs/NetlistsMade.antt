@@ -63,9 +63,10 @@ placed_at : (program : Program) (first p k : ℕ) (lanes : List Lane) → ((i : 
 placed_at program first p k [] each = tt
 placed_at program first p k (lane ∷ lanes) each =
     let e : k + 0 ≡ k = omega arith in
-    let here : IsLaneOf program first p (first + k) lane = subst (λ i. IsLaneOf program first p (first + i) lane) e (each 0 lane refl) in
-    (each_weaker (IsModeOf program first (first + k) lane.width.bits) (λ (m : Mode). AllByRecursion (IsSite program first (first + k)) m.work.sites) (λ m h. h.sites) lane.modes here.modes,
-     placed_at program first p (k + 1) lanes (λ i l there. let f : k + suc i ≡ k + 1 + i = omega arith in subst (λ j. IsLaneOf program first p (first + j) l) f (each (suc i) l there)))
+    let here : IsLaneOf program first p (first + k) lane = subst (λ i. IsLaneOf program first p (first + i) lane) e (each 0 lane refl) in (
+      each_weaker (IsModeOf program first (first + k) lane.width.bits) (λ (m : Mode). AllByRecursion (IsSite program first (first + k)) m.work.sites) (λ m h. h.sites) lane.modes here.modes,
+      placed_at program first p (k + 1) lanes (λ i l there. let f : k + suc i ≡ k + 1 + i = omega arith in subst (λ j. IsLaneOf program first p (first + j) l) f (each (suc i) l there)),
+    )
 
 module _ (counter : Counter) (program : Program) (is : IsProgram program) (ok : IsCounter counter) (shapes : List (List LaneShape)) (are : AreShapesOf program shapes) (few : AllByRecursion IsFewKind shapes) (many : length shapes ≤ 10 ^ 64) where
   abbrev pub names : Labels

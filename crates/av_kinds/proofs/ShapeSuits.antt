@@ -65,12 +65,15 @@ old_sites (s ∷ before) (o ∷ old) [] suit alike = absurd alike
 
 old_modes : (k : ℕ) (before : List ModeShape) (old modes : List Mode) → FitModes k before old → Paired AreAlikeModes old modes → FitModes k (mode_shapes before k modes) old
 old_modes k [] [] [] suit alike = tt
-old_modes k (f ∷ before) (o ∷ old) (m ∷ modes) suit alike =
-    (refl, record {
-      sites = old_sites f.sites o.work.sites m.work.sites suit.1.sites alike.0.sites;
-      tree = alike.0.tree;
-      room = omega (arith, suit.1.room, first_most f.intervals (length m.intervals));
-    }, old_modes (k + 1) before old modes suit.2 alike.1)
+old_modes k (f ∷ before) (o ∷ old) (m ∷ modes) suit alike = (
+  refl,
+  record {
+    sites = old_sites f.sites o.work.sites m.work.sites suit.1.sites alike.0.sites;
+    tree = alike.0.tree;
+    room = omega (arith, suit.1.room, first_most f.intervals (length m.intervals));
+  },
+  old_modes (k + 1) before old modes suit.2 alike.1,
+)
 old_modes k [] (o ∷ old) modes suit alike = absurd suit
 old_modes k (f ∷ before) [] modes suit alike = absurd suit
 old_modes k [] [] (m ∷ modes) suit alike = absurd alike

@@ -128,9 +128,10 @@ among_more a b more (Literal width value) h = tt
 
 instances_in_order : (given known : List (List ℕ)) → ((x : List ℕ) → Contains given x → Contains known x) → (instances : List Instance) → AllByRecursion (λ (i : Instance). AllByRecursion (IsAmong given) i.inputs) instances → AreInOrder known instances
 instances_in_order given known more [] h = tt
-instances_in_order given known more (i ∷ instances) h =
-    (All-from_recursion (IsAmong known) i.inputs (each_weaker (IsAmong given) (IsAmong known) (among_more given known more) i.inputs h.0),
-     instances_in_order given (known ++ i.outputs) (λ x at. Contains-append_left known i.outputs x (more x at)) instances h.1)
+instances_in_order given known more (i ∷ instances) h = (
+  All-from_recursion (IsAmong known) i.inputs (each_weaker (IsAmong given) (IsAmong known) (among_more given known more) i.inputs h.0),
+  instances_in_order given (known ++ i.outputs) (λ x at. Contains-append_left known i.outputs x (more x at)) instances h.1,
+)
 
 module _ (counter : Counter) (program : Program) (is : IsProgram program) (shapes : List (List LaneShape)) (are : AreShapesOf program shapes) (few : AllByRecursion IsFewKind shapes) where
   abbrev pub names : Labels

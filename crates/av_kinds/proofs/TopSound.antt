@@ -103,9 +103,10 @@ module _ (W : Widths) (base : List (List ℕ)) where
       → ((later : List (List ℕ)) → ((x : List ℕ) → Contains base x → Contains later x) → AreGood W later more) → AreGood W known (output_drives names k outputs ++ more)
   outputs_good names known k [] more grows each next = next known grows
   outputs_good names known k (q ∷ outputs) more grows each next =
-      let here = each 0 q refl k (omega arith) in
-      (record { read = grows (names.value q) here.0; suits = here.1; fits = tt; order = tt; bits = tt },
-       outputs_good names (known ++ output_name k ∷ []) (k + 1) outputs more (λ x at. Contains-append_left known (output_name k ∷ []) x (grows x at)) (λ i r at j e. each (suc i) r at j (omega (arith, e))) next)
+      let here = each 0 q refl k (omega arith) in (
+        record { read = grows (names.value q) here.0; suits = here.1; fits = tt; order = tt; bits = tt },
+        outputs_good names (known ++ output_name k ∷ []) (k + 1) outputs more (λ x at. Contains-append_left known (output_name k ∷ []) x (grows x at)) (λ i r at j e. each (suc i) r at j (omega (arith, e))) next,
+      )
 
   last_of : (known : List (List ℕ)) (x : List ℕ) → Contains (known ++ x ∷ []) x
   last_of known x = Contains-append_right known (x ∷ []) x (0, omega arith, refl)
@@ -114,10 +115,13 @@ module _ (W : Widths) (base : List (List ℕ)) where
   counter_good Cycles ok known has wide wires = (record { read = (has, tt); suits = (wide, wide ∙ sym wires.0); fits = (tt, omega arith); order = tt; bits = tt }, tt)
   counter_good (Phases period) ok known has wide wires =
       let one = known ++ last_name ∷ [] in
-      let two = one ++ sum_name ∷ [] in
-      (record { read = (has, tt); suits = (wide, sym wires.0); fits = (tt, omega (arith, ok.0, ok.1)); order = tt; bits = tt },
-       (record { read = (Contains-append_left known (last_name ∷ []) (counter_name (Phases period)) has, tt); suits = (wide, wide ∙ sym wires.1.0); fits = (tt, omega arith); order = tt; bits = tt },
-        (record { read = (Contains-append_left one (sum_name ∷ []) last_name (last_of known last_name), (tt, last_of one sum_name)); suits = (wires.0, (sym wires.1.1.0, wires.1.0 ∙ sym wires.1.1.0)); fits = (tt, (omega arith, tt)); order = tt; bits = tt }, tt)))
+      let two = one ++ sum_name ∷ [] in (
+        record { read = (has, tt); suits = (wide, sym wires.0); fits = (tt, omega (arith, ok.0, ok.1)); order = tt; bits = tt },
+        (
+          record { read = (Contains-append_left known (last_name ∷ []) (counter_name (Phases period)) has, tt); suits = (wide, wide ∙ sym wires.1.0); fits = (tt, omega arith); order = tt; bits = tt },
+          (record { read = (Contains-append_left one (sum_name ∷ []) last_name (last_of known last_name), (tt, last_of one sum_name)); suits = (wires.0, (sym wires.1.1.0, wires.1.0 ∙ sym wires.1.1.0)); fits = (tt, (omega arith, tt)); order = tt; bits = tt }, tt),
+        ),
+      )
 
   if_counted : (counter : Counter) (counted : Bool) → IsCounter counter → (known : List (List ℕ)) → (counted ≡ true → Contains known (counter_name counter)) → (counted ≡ true → W (counter_name counter) ≡ 12)
       → AllByRecursion (IsWide W) (if counted then counter_wires counter else []) → AreGood W known (if counted then counter_drives counter else [])
@@ -347,7 +351,7 @@ module _ (counter : Counter) (program : Program) (is : IsProgram program) (ok : 
 
   keep : AllByRecursion (Keeps W (all_names top)) top.drives
   keep = good_keep W base (all_names top) top.drives
-      (λ x at. elim (Contains-append_cases (given_names top) (linked_names instances) x at) [ | inl g ↦ Contains-append_left (given_names top) (wire_names top) x g | inr l ↦ Contains-append_right (given_names top) (wire_names top) x (linked_wire x l) ])
+      (λ x at. elim (Contains-append_cases (given_names top) (linked_names instances) x at) [ inl g ↦ Contains-append_left (given_names top) (wire_names top) x g | inr l ↦ Contains-append_right (given_names top) (wire_names top) x (linked_wire x l) ])
       (each_weaker (Contains (wire_names top)) (Contains (all_names top)) (λ x at. Contains-append_right (given_names top) (wire_names top) x at) (targets_of top.drives) drives_among) good
     where
       linked_wire : (x : List ℕ) → Contains (linked_names instances) x → Contains (wire_names top) x
@@ -385,9 +389,10 @@ module _ (counter : Counter) (program : Program) (is : IsProgram program) (ok : 
   next_wire b e t =
       let on : counted ≡ true = e ∙ t in
       let named : AllByRecursion (λ (p : Port). Contains (names_of top.wires) p.name) (if counted then counter_wires counter else []) = each_second (λ (p : Port). Contains (names_of top.wires) p.name) (lane_wires names 0 program.lanes) (if counted then counter_wires counter else []) (ports_named top.wires) in
-      let sized : AllByRecursion (IsWide W) (if counted then counter_wires counter else []) = each_second (IsWide W) (lane_wires names 0 program.lanes) (if counted then counter_wires counter else []) wide.wires in
-      (last_wire counter (λ (p : Port). Contains (names_of top.wires) p.name) (subst (λ c. AllByRecursion (λ (p : Port). Contains (names_of top.wires) p.name) (if c then counter_wires counter else [])) on named),
-       last_wire counter (IsWide W) (subst (λ c. AllByRecursion (IsWide W) (if c then counter_wires counter else [])) on sized))
+      let sized : AllByRecursion (IsWide W) (if counted then counter_wires counter else []) = each_second (IsWide W) (lane_wires names 0 program.lanes) (if counted then counter_wires counter else []) wide.wires in (
+        last_wire counter (λ (p : Port). Contains (names_of top.wires) p.name) (subst (λ c. AllByRecursion (λ (p : Port). Contains (names_of top.wires) p.name) (if c then counter_wires counter else [])) on named),
+        last_wire counter (IsWide W) (subst (λ c. AllByRecursion (IsWide W) (if c then counter_wires counter else [])) on sized),
+      )
     where
       last_wire : (counter : Counter) (P : Port → Type 0) → AllByRecursion P (counter_wires counter) → P (port counter_width (next_name counter))
       last_wire Cycles P h = h.0
@@ -395,13 +400,15 @@ module _ (counter : Counter) (program : Program) (is : IsProgram program) (ok : 
 
   counter_step_good : (b : Bool) → counted ≡ b → AllByRecursion IsGoodStep (if b then counter_step counter ∷ [] else [])
   counter_step_good true e =
-      let next = next_wire true e refl in
-      (record {
-        read = Contains-append_right (given_names top) (wire_names top) (next_name counter) (Contains-append_right (names_of top.outputs) (names_of top.wires) (next_name counter) next.0);
-        suits = next.1 ∙ sym (count_wide e);
-        fits = tt;
-        reset = pow_pos (W (counter_name counter));
-      }, tt)
+      let next = next_wire true e refl in (
+        record {
+          read = Contains-append_right (given_names top) (wire_names top) (next_name counter) (Contains-append_right (names_of top.outputs) (names_of top.wires) (next_name counter) next.0);
+          suits = next.1 ∙ sym (count_wide e);
+          fits = tt;
+          reset = pow_pos (W (counter_name counter));
+        },
+        tt,
+      )
   counter_step_good false e = tt
 
   good_steps : AllByRecursion IsGoodStep top.steps
