@@ -81,7 +81,7 @@ module _ (counter : Counter) (program : Program) (is : IsProgram program) (ok : 
   abbrev pub modules : Modules
   modules = record { kinds = kinds_by 0 shapes; top = top; instances = instances_by counter program shapes 0 program.cells program.kinds }
 
-  made : AreModulesOf counter program modules
+  abbrev pub made : AreModulesOf counter program modules
   made = record { shapes = shapes; are_shapes = are; kinds_are = refl; instances_are = refl; top_is = refl }
 
   module _ (l : Listing) (n : ℕ) (stream : Stream) (run : Run) (is_run : IsRun (flat_module (plan_of l modules)) n stream run) where
@@ -114,7 +114,7 @@ module _ (counter : Counter) (program : Program) (is : IsProgram program) (ok : 
         (λ counting. count_is (some_counts shapes k shape is_shape counting) c lt)
         (wide_kind k shape (each_at IsKindShape shapes k shape are.each is_shape) (each_at IsFewKind shapes k shape few is_shape))
         (lanes_of_pipes program own.first (count_in counter c) (length shape) 0 shape (lanes_of program own) (omega arith)
-        (placed_at program own.first p 0 (lanes_of program own) (λ i lane there. (lane_of_cell program is p own is_cell i lane there low).1)))
+        (placed_at program own.first p 0 (lanes_of program own) (λ i lane there. let e : i ≡ 0 + i = omega arith in subst (λ j. IsLaneOf program own.first p (own.first + j) lane) e (lane_of_cell program is p own is_cell i lane there low).1)))
 
     mode_done : (c : ℕ) → c < n → (q : ℕ) (lane : Lane) → slice_get program.lanes q ≡ Some lane → (m : Mode) → mode_by (count_in counter c) lane.modes ≡ Some m → IsDone ports values c q (task_of lane.width.bits (count_in counter c) m.work)
     mode_done c lt q lane there m here =

@@ -102,7 +102,7 @@ pub record IsActive (c : ℕ) (modes : List Mode) (m : Mode) : Type 0 where
 
 pub active_mode : (c : ℕ) (modes : List Mode) (m : Mode) → mode_by c modes ≡ Some m → IsActive c modes m
 active_mode c [] m is = absurd cc
-active_mode c (n ∷ modes) m = by_test (is_active c n) refl (active_mode c modes m)
+active_mode c (n ∷ modes) m is = by_test (is_active c n) refl (active_mode c modes m) is
   where
     by_test : (b : Bool) → is_active c n ≡ b → (mode_by c modes ≡ Some m → IsActive c modes m) → (if b then Some n else mode_by c modes) ≡ Some m → IsActive c (n ∷ modes) m
     by_test true e later is = let same : n ≡ m = some_is n m is in record { number = 0; is_mode = is; active = subst (λ (x : Mode). is_active c x ≡ true) same e }

@@ -56,12 +56,12 @@ each_width : (operation : Operation) → EachOperand HasWidth operation
 each_width (Plain a) = has_width a
 each_width (Binary a symbol b) = (has_width a, has_width b)
 each_width (Signed a symbol b) = (has_width a, has_width b)
-each_width (Choose a b c) = (has_width a, (has_width b, has_width c))
+each_width (Choose a b c) = (has_width a, has_width b, has_width c)
 each_width (Part name high low) = tt
 each_width (Widen name by) = tt
 
 for_all : {X : Type 0} (P : X → Type 0) → ((x : X) → P x) → (xs : List X) → All P xs
-for_all P f xs = All-from_recursion P xs (each xs)
+for_all {X = X} P f xs = All-from_recursion P xs (each xs)
   where
     each : (ys : List X) → AllByRecursion P ys
     each [] = tt

@@ -119,7 +119,7 @@ module _ (W : Widths) (base : List (List ℕ)) where
         record { read = (has, tt); suits = (wide, sym wires.0); fits = (tt, omega (arith, ok.0, ok.1)); order = tt; bits = tt },
         (
           record { read = (Contains-append_left known (last_name ∷ []) (counter_name (Phases period)) has, tt); suits = (wide, wide ∙ sym wires.1.0); fits = (tt, omega arith); order = tt; bits = tt },
-          (record { read = (Contains-append_left one (sum_name ∷ []) last_name (last_of known last_name), (tt, last_of one sum_name)); suits = (wires.0, (sym wires.1.1.0, wires.1.0 ∙ sym wires.1.1.0)); fits = (tt, (omega arith, tt)); order = tt; bits = tt }, tt),
+          (record { read = (Contains-append_left one (sum_name ∷ []) last_name (last_of known last_name), tt, last_of one sum_name); suits = (wires.0, sym wires.1.1.0, wires.1.0 ∙ sym wires.1.1.0); fits = (tt, omega arith, tt); order = tt; bits = tt }, tt),
         ),
       )
 
@@ -216,7 +216,7 @@ module _ (counter : Counter) (program : Program) (is : IsProgram program) (ok : 
   all_are = ap (λ (ys : List (List ℕ)). ys ++ wire_names top) given_are ∙ ap (λ (ys : List (List ℕ)). (I ++ (R ++ C)) ++ ys) wire_names_are
 
   linked : linked_names instances ≡ V
-  linked = linked_are counter program shapes 0 0 program.cells program.kinds (length program.lanes) (length program.lanes) is.in_turn (have_room counter program is shapes are few 0 program.cells program.kinds (cells_placed counter program is shapes are few)) refl
+  linked = linked_are counter program shapes 0 0 program.cells program.kinds (length program.lanes) (length program.lanes) is.in_turn (have_room counter program is shapes are few 0 program.cells program.kinds (cells_placed counter program is shapes are few)) (omega arith)
       ∙ sym (values_are names 0 program.lanes)
 
   targets : targets_of top.drives ≡ O ++ N

@@ -1,3 +1,5 @@
+use Rattle.av_kinds.proofs.Writing.{lane_more}
+use Rattle.av_kinds.proofs.Operands.{words_next}
 use Rattle.av_kinds.proofs.KindWide.{wide_kind}
 use Rattle.av_kinds.proofs.RunShown.{lane_shows}
 use Rattle.av_kinds.proofs.NetlistsMade.{made_netlists}
