@@ -77,4 +77,5 @@ pub outputs_more : (names : Labels) (q n : ℕ) → outputs_from names q (n + 1)
 outputs_more names q zero = let e : q ≡ q + 0 = omega arith in ap (λ i. names.value i ∷ []) e
 outputs_more names q (suc n) =
     let e : q + 1 + n ≡ q + suc n = omega arith in
-    ap (λ (ys : List (List ℕ)). names.value q ∷ ys) (outputs_more names (q + 1) n ∙ ap (λ i. outputs_from names (q + 1) n ++ names.value i ∷ []) e)
+    let f : suc n + 1 ≡ suc (n + 1) = omega arith in
+    ap (outputs_from names q) f ∙ ap (λ (ys : List (List ℕ)). names.value q ∷ ys) (outputs_more names (q + 1) n ∙ ap (λ i. outputs_from names (q + 1) n ++ names.value i ∷ []) e)
