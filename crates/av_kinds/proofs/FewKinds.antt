@@ -17,18 +17,11 @@ use Rattle.av_kinds.specs.inner.Kinds.{counts, lane_built, no_ports, lanes_input
 use Rattle.av_kinds.specs.inner.Modules.{kinds_by, IsSmallKind}
 use Rattle.av_kinds.proofs.PortNames.{past_lanes}
 use Rattle.av_kinds.proofs.KindNames.{counter_ports, wires_end, IsFewKind}
+use Rattle.av_kinds.proofs.InterfaceSteps.{by_many, intervals_many}
 use Rattle.av_kinds.proofs.Placing.{gates_many}
 
 abbrev total : PortCounts → ℕ
 total at = at.inputs + at.taps + at.bounds
-
-by_many : (name : Naming) (w : Width) (k n : ℕ) → length (ports_by name w k n) ≡ n
-by_many name w k zero = refl
-by_many name w k (suc n) = ap suc (by_many name w (k + 1) n)
-
-intervals_many : (b n : ℕ) → length (interval_ports b n) ≡ 2 * n
-intervals_many b zero = refl
-intervals_many b (suc n) = let h = intervals_many (b + 2) n in omega (arith, h)
 
 site_total : (at : PortCounts) (site : SiteShape) → total (past_site at site) ≡ total at + length (site_ports at site)
 site_total at site = by_inlet site.inlet

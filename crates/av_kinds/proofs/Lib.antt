@@ -42,3 +42,8 @@ pub mod TopInstances
 pub mod TopSound
 pub mod Spelled
 pub mod NetlistsMade
+pub mod ShapeMade
+pub mod InstanceSteps
+pub mod ShapeSteps
+pub mod TopSteps
+pub mod PlanSteps

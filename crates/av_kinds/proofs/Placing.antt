@@ -3,6 +3,7 @@ use Rattle.std.proofs.Common.{◌≡◌, ℕ, zero, suc, ◌+◌, ◌*◌, ◌<�
 use Rattle.std.specs.Prelude.{slice_get}
 use Rattle.std.specs.List.{AllByRecursion, range_with_len, enumerate_from}
 use Rattle.std.proofs.lemmas.List.{length-map, map-append, append-nil}
+use Rattle.av_base.proofs.Lists.{next_taken}
 use Rattle.std.proofs.lemmas.List.FromFn.{map-range_with_len_more, get_or-enumerate_from, length-enumerate_from}
 use Rattle.av_net.specs.declared.operation.Operand.TheVariants.{Name}
 use Rattle.av_net.specs.declared.operation.Operation.{Operation}
@@ -29,6 +30,16 @@ one_less whole old new x rest later before is split = ap (λ ys. ys ++ later) is
 -- or several
 pub some_less : {X : Type 0} (whole old new own rest later : List X) → old ++ rest ≡ whole → new ≡ old ++ own → rest ≡ own ++ later → new ++ later ≡ whole
 some_less whole old new own rest later before is split = ap (λ ys. ys ++ later) is ∙ append_assoc old own later ∙ ap (λ ys. old ++ ys) (sym split) ∙ before
+
+-- an element is written, of which a view is seen
+pub one_seen : {X Y : Type 0} (f : X → Y) (whole : List Y) (old new : List X) (x : X) (y : Y) (rest later : List Y) → map f old ++ rest ≡ whole → new ≡ old ++ x ∷ [] → f x ≡ y → rest ≡ y ∷ later → map f new ++ later ≡ whole
+one_seen f whole old new x y rest later before put is split =
+    one_less whole (map f old) (map f new) y rest later before (ap (map f) put ∙ map-append f old (x ∷ []) ∙ ap (λ z. map f old ++ z ∷ []) is) split
+
+-- what is written follows the elements that were gone through
+pub next_mapped : {X Y : Type 0} (f : X → Y) (xs : List X) (k : ℕ) (x : X) (old new : List Y) (y : Y) → k < length xs → x ≡ get_or xs k x → old ≡ map f (take k xs) → new ≡ old ++ y ∷ [] → y ≡ f x → new ≡ map f (take (k + 1) xs)
+next_mapped f xs k x old new y lt is before put here =
+    put ∙ ap (λ ys. ys ++ y ∷ []) before ∙ ap (λ z. map f (take k xs) ++ z ∷ []) here ∙ sym (map-append f (take k xs) (x ∷ [])) ∙ ap (map f) (sym (next_taken xs k x lt is))
 
 -- nothing is still to come
 pub none_less : {X : Type 0} (whole old rest : List X) → old ++ rest ≡ whole → rest ≡ [] → old ≡ whole

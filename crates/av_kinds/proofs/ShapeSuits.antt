@@ -9,7 +9,7 @@ use Rattle.av_kinds.specs.declared.program.Site.{Site}
 use Rattle.av_kinds.specs.declared.shape.SiteShape.{SiteShape}
 use Rattle.av_kinds.specs.Programs.{Mode, mode_at, no_mode, Lane, Program, lanes_of, Paired, AreAlikeSites, AreAlikeModes, AreAlikeLanes}
 use Rattle.av_kinds.specs.inner.Shapes.{ModeShape, LaneShape, SuitsSite, SuitSites, SuitsMode, SuitModes, HasModeAt, SuitsLane, SuitLanes}
-use Rattle.av_kinds.specs.inner.Shaped.{site_shape, site_shapes, mode_shape, mode_shapes, lane_shape, lane_shapes, shapes_by, used, kind_shape}
+use Rattle.av_kinds.specs.inner.Shaped.{site_shape, site_shapes, mode_shape, mode_shapes, lane_shape, lane_shapes, shapes_by, is_used, used, kind_shape}
 
 -- ---- the shape with all modes, by number
 
@@ -130,9 +130,6 @@ fits_at shapes modes fit i f is =
 all_fit : (all : List ModeShape) (modes : List Mode) → ((i : ℕ) (f : ModeShape) → slice_get all i ≡ Some f → FitsAt modes f) → AllByRecursion (FitsAt modes) all
 all_fit [] modes each = tt
 all_fit (f ∷ all) modes each = (each 0 f refl, all_fit all modes (λ i g is. each (suc i) g is))
-
-abbrev is_used : ModeShape → Bool
-is_used m = nat_lt 0 m.intervals
 
 kept : (modes : List Mode) (all : List ModeShape) → AllByRecursion (FitsAt modes) all → AllByRecursion (FitsAt modes) (filter is_used all)
 kept modes [] each = tt

@@ -1,5 +1,5 @@
 -- What loops have written so far: what is there and what the elements to come bring are together all that is to be written.
-use Rattle.std.proofs.Common.{◌≡◌, ℕ, zero, suc, ◌+◌, ◌≤◌, List, [], ◌∷◌, ◌++◌, length, map, drop, refl, sym, subst, ap, ◌∙◌, arith, append_assoc, Option, Some, None}
+use Rattle.std.proofs.Common.{◌≡◌, ℕ, zero, suc, ◌+◌, ◌≤◌, List, [], ◌∷◌, ◌++◌, length, map, drop, refl, sym, subst, ap, ◌∙◌, arith, append_assoc, Bool, true, false, if◌then◌else◌, Option, Some, None}
 use Rattle.std.specs.Prelude.{slice_get}
 use Rattle.std.specs.List.{range_with_len}
 use Rattle.std.proofs.lemmas.List.{append-nil, length-append}
@@ -14,12 +14,13 @@ use Rattle.av_kinds.specs.declared.kind.KindParts.{KindParts}
 use Rattle.av_kinds.specs.declared.shape.SiteShape.{SiteShape}
 use Rattle.av_kinds.specs.declared.top.TopParts.{TopParts}
 use Rattle.av_kinds.specs.Programs.{Lane, Program}
-use Rattle.av_kinds.specs.Names.{Labels, labels, inner_name}
-use Rattle.av_kinds.specs.Tops.{lane_wires, lane_registers, line_step, lane_steps}
+use Rattle.av_kinds.specs.Names.{Labels, labels, inner_name, kind_counter}
+use Rattle.av_kinds.specs.Counters.{counter_width}
+use Rattle.av_kinds.specs.Tops.{port, lane_wires, lane_registers, line_step, lane_steps}
 use Rattle.av_kinds.specs.inner.Gates.{ports_from, drives_from}
-use Rattle.av_kinds.specs.inner.Cells.{GuardedDatapath}
+use Rattle.av_kinds.specs.inner.Cells.{Datapath, GuardedDatapath}
 use Rattle.av_kinds.specs.inner.Shapes.{ModeShape, LaneShape}
-use Rattle.av_kinds.specs.inner.Interfaces.{PortCounts, site_ports, past_site, tap_of, sites_ports, past_sites, taps_of, tested_ports, past_tested, guarded_of, modes_ports, past_modes, tested_of, last_of}
+use Rattle.av_kinds.specs.inner.Interfaces.{PortCounts, site_ports, past_site, tap_of, sites_ports, past_sites, taps_of, datapath_of, tested_ports, past_tested, guarded_of, modes_ports, past_modes, tested_of, last_of}
 use Rattle.av_kinds.specs.inner.Kinds.{counts, output_of, lane_built, no_ports, lanes_inputs, lanes_outputs, lanes_wires, lanes_drives, kind_inputs}
 use Rattle.av_kinds.specs.inner.Lanes.{AddsWires, AddsLaneOf, counted}
 use Rattle.av_kinds.specs.inner.Numbers.{counts_of, AreFew, AddsPorts, opened, IsOpened}
@@ -69,6 +70,39 @@ lane_more c all k j own next old new at before adds =
       wires = some_less (lanes_wires c no_ports 0 all) old.wires new.wires (ports_from (inner_name (length old.wires)) 0 b.gates) (lanes_wires c (counts_of own) (length old.wires) (drop k all)) (lanes_wires c (counts_of next) (length new.wires) rest) before.wires adds.wires.wires wires_split;
       drives = some_less (lanes_drives c no_ports 0 0 all) old.drives new.drives own_drives (lanes_drives c (counts_of own) (length old.wires) k (drop k all)) (lanes_drives c (counts_of next) (length new.wires) (suc k) rest) before.drives adds.wires.drives drives_split;
     })
+
+-- at the start there is the counter's port, where it is tested
+pub kind_opened : (c : Operand) (all : List LaneShape) (own : Interface) (parts : KindParts) → IsOpened (counted all) own → parts.outputs ≡ [] → parts.wires ≡ [] → parts.drives ≡ [] → IsKindFrom c all 0 own parts
+kind_opened c all own parts h outputs wires drives =
+    let none : length parts.wires ≡ 0 = ap length wires in
+    record {
+      ports = ap (λ at. own.ports ++ lanes_inputs at all) h.counts_are ∙ ap (λ ps. ps ++ lanes_inputs no_ports all) (h.ports_are ∙ opened_by (counts all));
+      few = h.few;
+      outputs = ap (λ ps. ps ++ lanes_outputs 0 all) outputs;
+      wires = ap (λ at. parts.wires ++ lanes_wires c at (length parts.wires) all) h.counts_are ∙ ap (λ n. parts.wires ++ lanes_wires c no_ports n all) none ∙ ap (λ ps. ps ++ lanes_wires c no_ports 0 all) wires;
+      drives = ap (λ at. parts.drives ++ lanes_drives c at (length parts.wires) 0 all) h.counts_are ∙ ap (λ n. parts.drives ++ lanes_drives c no_ports n 0 all) none ∙ ap (λ ds. ds ++ lanes_drives c no_ports 0 0 all) drives;
+    }
+  where
+    opened_by : (b : Bool) → opened (if b then Some kind_counter else None) ≡ (if b then port counter_width kind_counter ∷ [] else [])
+    opened_by true = refl
+    opened_by false = refl
+
+-- what a whole kind is made of
+pub record IsKindWhole (c : Operand) (all : List LaneShape) (own : Interface) (parts : KindParts) : Type 0 where
+  pub ports : own.ports ≡ kind_inputs all
+  pub outputs : parts.outputs ≡ lanes_outputs 0 all
+  pub wires : parts.wires ≡ lanes_wires c no_ports 0 all
+  pub drives : parts.drives ≡ lanes_drives c no_ports 0 0 all
+
+pub kind_whole : (c : Operand) (all : List LaneShape) (n : ℕ) (own : Interface) (parts : KindParts) → length all ≤ n → IsKindFrom c all n own parts → IsKindWhole c all own parts
+kind_whole c all n own parts most h =
+    let none = nothing_left all n most in
+    record {
+      ports = none_less (kind_inputs all) own.ports (lanes_inputs (counts_of own) (drop n all)) h.ports (ap (lanes_inputs (counts_of own)) none);
+      outputs = none_less (lanes_outputs 0 all) parts.outputs (lanes_outputs n (drop n all)) h.outputs (ap (lanes_outputs n) none);
+      wires = none_less (lanes_wires c no_ports 0 all) parts.wires (lanes_wires c (counts_of own) (length parts.wires) (drop n all)) h.wires (ap (lanes_wires c (counts_of own) (length parts.wires)) none);
+      drives = none_less (lanes_drives c no_ports 0 0 all) parts.drives (lanes_drives c (counts_of own) (length parts.wires) n (drop n all)) h.drives (ap (lanes_drives c (counts_of own) (length parts.wires) n) none);
+    }
 
 -- ---- the top module, lane by lane
 
@@ -142,6 +176,21 @@ site_more first sites i j site own next old new tap split before adds is put =
       few = adds.few;
     }
 
+pub sites_begun : (first : Interface) (sites : List SiteShape) (taps : List Tap) → AreFew first → taps ≡ [] → AreSitesFrom first sites 0 first taps
+sites_begun first sites taps few none = record { taps_are = ap (λ ts. ts ++ taps_of (counts_of first) sites) none; ports_are = refl; counts_are = refl; few = few }
+
+pub sites_whole : (first : Interface) (sites : List SiteShape) (n : ℕ) (own : Interface) (taps : List Tap) → length sites ≤ n → AreSitesFrom first sites n own taps
+    → (taps ≡ taps_of (counts_of first) sites) × AddsPorts first own (sites_ports (counts_of first) sites) (past_sites (counts_of first) sites)
+sites_whole first sites n own taps most h =
+    let none = nothing_left sites n most in (
+      none_less (taps_of (counts_of first) sites) taps (taps_of (counts_of own) (drop n sites)) h.taps_are (ap (taps_of (counts_of own)) none),
+      record {
+        ports_are = none_less (first.ports ++ sites_ports (counts_of first) sites) own.ports (sites_ports (counts_of own) (drop n sites)) h.ports_are (ap (sites_ports (counts_of own)) none);
+        counts_are = sym (ap (past_sites (counts_of own)) none) ∙ h.counts_are;
+        few = h.few;
+      },
+    )
+
 -- ---- the modes of a lane
 
 pub record AreModesFrom (first : Interface) (shapes : List ModeShape) (k : ℕ) (own : Interface) (modes : List GuardedDatapath) : Type 0 where
@@ -166,4 +215,27 @@ mode_more first shapes k j t u rest own next old new g split follows before adds
           (ap (modes_ports at) split ∙ ap (λ a. tested_ports at t ++ modes_ports a (u ∷ rest)) here ∙ ap (λ xs. tested_ports at t ++ modes_ports (counts_of next) xs) later);
       counts_are = sym (ap (past_modes at) split ∙ ap (λ a. past_modes a (u ∷ rest)) here ∙ ap (past_modes (counts_of next)) later) ∙ before.counts_are;
       few = adds.few;
+    }
+
+pub modes_begun : (first : Interface) (shapes : List ModeShape) (modes : List GuardedDatapath) → AreFew first → modes ≡ [] → AreModesFrom first shapes 0 first modes
+modes_begun first shapes modes few none = record { modes_are = ap (λ ms. ms ++ tested_of (counts_of first) shapes) none; last_is = refl; ports_are = refl; counts_are = refl; few = few }
+
+-- the last mode, which is not tested
+pub record AreModesWhole (first : Interface) (shapes : List ModeShape) (own : Interface) (modes : List GuardedDatapath) (last : Datapath) : Type 0 where
+  pub modes_are : modes ≡ tested_of (counts_of first) shapes
+  pub last_is : last ≡ last_of (counts_of first) shapes
+  pub ports : AddsPorts first own (modes_ports (counts_of first) shapes) (past_modes (counts_of first) shapes)
+
+pub modes_whole : (first : Interface) (shapes : List ModeShape) (k : ℕ) (t : ModeShape) (own next : Interface) (modes : List GuardedDatapath) (last : Datapath) → drop k shapes ≡ t ∷ [] → AreModesFrom first shapes k own modes
+    → AddsPorts own next (sites_ports (counts_of own) t.sites) (past_sites (counts_of own) t.sites) → last ≡ datapath_of (counts_of own) t → AreModesWhole first shapes next modes last
+modes_whole first shapes k t own next modes last split before adds is =
+    let at = counts_of own in
+    record {
+      modes_are = none_less (tested_of (counts_of first) shapes) modes (tested_of at (drop k shapes)) before.modes_are (ap (tested_of at) split);
+      last_is = is ∙ sym (ap (last_of at) split) ∙ before.last_is;
+      ports = record {
+        ports_are = adds.ports_are ∙ ap (λ ps. own.ports ++ ps) (sym (ap (modes_ports at) split)) ∙ before.ports_are;
+        counts_are = adds.counts_are ∙ sym (ap (past_modes at) split) ∙ before.counts_are;
+        few = adds.few;
+      };
     }

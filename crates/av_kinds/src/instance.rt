@@ -1,10 +1,11 @@
 //! The instances of cells: what their kinds' ports take, and what they drive.
 
-ghost use Rattle.std.specs.Prelude.{◌≡◌, ◌<◌, ◌≤◌, ◌+◌, ◌++◌, length, map, slice_get, IfOk, OnOk};
+ghost use Rattle.std.specs.Prelude.{◌≡◌, ◌<◌, ◌≤◌, ◌+◌, ◌++◌, length, map, slice_get, slice_index_or, IfOk, OnOk};
 ghost use Rattle.std.specs.List.{AllByRecursion};
 ghost use Rattle.av_kinds.specs.Programs.{IsProgram, lanes_of};
 ghost use Rattle.av_kinds.specs.Written.{program_of, lane_of, mode_of};
 ghost use Rattle.av_kinds.specs.declared.program.CellLanes.{CellLanes};
+ghost use Rattle.av_kinds.specs.declared.program.Link.{Link};
 ghost use Rattle.av_kinds.specs.Names.{labels};
 ghost use Rattle.av_kinds.specs.Counters.{counter_name};
 ghost use Rattle.av_kinds.specs.inner.Shapes.{mode_shape_of, lane_shape_of, SuitSites, SuitsMode, SuitsLane, SuitLanes};
@@ -13,7 +14,9 @@ ghost use Rattle.av_kinds.specs.inner.Reads.{IsThere, SiteThere, ModeThere, Lane
 
 use crate::counter::{Counter, bound};
 use crate::naming::{lane_names, numbered};
-use crate::program::{CellLanes, Inlet, Interval, Lane, Link, Mode, Program, Site, Source};
+use crate::program::{
+    CellLanes, Inlet, Interval, Lane, Link, Mode, Program, Site, Source, cell_lanes,
+};
 use crate::shape::{LaneShape, ModeShape, SiteShape, counts};
 use av_base::{List, Memory, Name, Width};
 use av_net::{Instance, Operand};
@@ -39,6 +42,16 @@ fn operand(
     }
 }
 
+// The source of a link, or the last one where there is no such link.
+fn source_at(site: &Site, k: usize) -> Source
+    ensures { result ≡ slice_index_or (map (λ (l : Link). l.source) site.now.links) k site.now.otherwise }
+{
+    match site.links.as_slice().get(k) {
+        Some(link) => link.source,
+        None => site.otherwise,
+    }
+}
+
 // The words of a place: its sources, the last one once more for each link that it has not.
 fn add_words(
     alloc: Global,
@@ -51,15 +64,21 @@ fn add_words(
     requires { SiteThere (length program.now.lanes) site.now }
     ensures { OnOk result (operands.new ≡ operands.old ++ words_for (operand_of (labels (program_of program.now)) width) count site.now.links site.now.otherwise) }
 {
-    let links = site.links.as_slice();
     for k in 0..count {
-        let source = match links.get(k as usize) {
-            Some(link) => link.source,
-            None => site.otherwise,
-        };
+        let source = source_at(site, k as usize);
         operands.push(operand(alloc, width, program, source)?)?;
     }
     operands.push(operand(alloc, width, program, site.otherwise)?)
+}
+
+// The bound of a link, or 0 where there is no such link.
+fn last_at(links: &[Link], k: usize) -> u32
+    ensures { result ≡ slice_index_or (map (λ (l : Link). l.last) links.now) k 0 }
+{
+    match links.get(k) {
+        Some(link) => link.last,
+        None => 0,
+    }
 }
 
 // And its bounds.
@@ -67,11 +86,7 @@ fn add_bounds(links: &[Link], count: u32, operands: &mut List<Operand>) -> Resul
     ensures { OnOk result (operands.new ≡ operands.old ++ bounds_for count links.now) }
 {
     for k in 0..count {
-        let last = match links.get(k as usize) {
-            Some(link) => link.last,
-            None => 0,
-        };
-        operands.push(bound(last))?;
+        operands.push(bound(last_at(links, k as usize)))?;
     }
     Ok(())
 }
@@ -114,6 +129,16 @@ fn add_sites(
     Ok(())
 }
 
+// An interval, or one from 1 to 0 where there is no such interval.
+fn interval_at(intervals: &[Interval], k: usize) -> Interval
+    ensures { result ≡ slice_index_or intervals.now k (record { first = 1; last = 0 }) }
+{
+    match intervals.get(k) {
+        Some(interval) => *interval,
+        None => Interval { first: 1, last: 0 },
+    }
+}
+
 // The bounds of a mode's intervals; one that it has not goes from 1 to 0.
 fn add_intervals(
     intervals: &[Interval],
@@ -123,12 +148,9 @@ fn add_intervals(
     ensures { OnOk result (operands.new ≡ operands.old ++ intervals_for count intervals.now) }
 {
     for k in 0..count {
-        let (first, last) = match intervals.get(k as usize) {
-            Some(interval) => (interval.first, interval.last),
-            None => (1, 0),
-        };
-        operands.push(bound(first))?;
-        operands.push(bound(last))?;
+        let interval = interval_at(intervals, k as usize);
+        operands.push(bound(interval.first))?;
+        operands.push(bound(interval.last))?;
     }
     Ok(())
 }
@@ -225,7 +247,7 @@ fn cell_operands(
     requires there { AllByRecursion (LaneThere (length program.now.lanes)) (lanes_of (program_of program.now) own) }
     ensures { IfOk result (λ operands. operands ≡ cell_operands (labels (program_of program.now)) (counter_name counter) (map lane_shape_of shape.now) (lanes_of (program_of program.now) own)) }
 {
-    let lanes = &program.lanes.as_slice()[own.first..own.value + 1];
+    let lanes = cell_lanes(program, own);
     let mut inputs = List::new(alloc);
     if counts(shape) {
         inputs.push(Operand::Name(counter.name(alloc)?))?;

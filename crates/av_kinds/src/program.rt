@@ -1,5 +1,9 @@
 //! Programs in space and time: what each cell computes at each number of the counter, without names and without wires.
 
+ghost use Rattle.std.specs.Prelude.{◌≡◌, ◌<◌, ◌≤◌, length, map};
+ghost use Rattle.av_kinds.specs.Programs.{lanes_of};
+ghost use Rattle.av_kinds.specs.Written.{program_of, lane_of};
+
 use av_base::{List, Width};
 use av_flat::Tree;
 use std::marker::Model;
@@ -145,4 +149,13 @@ impl<'a> Model for Program<'a> {
     ghost coded = { Prim.hlevel (codes, made.the_row.coded) };
 
     ghost view = { λ p. record { inputs = p.inputs; lanes = p.lanes; cells = p.cells; kinds = p.kinds; outputs = p.outputs; stride = p.stride } };
+}
+
+/// The lanes of a cell.
+pub(crate) fn cell_lanes<'p, 'a>(program: &'p Program<'a>, own: CellLanes) -> &'p [Lane<'a>]
+    requires bounds { own.first ≤ own.value }
+    requires most { own.value < length program.now.lanes }
+    ensures { map lane_of result.now ≡ lanes_of (program_of program.now) own }
+{
+    &program.lanes.as_slice()[own.first..own.value + 1]
 }

@@ -1,15 +1,17 @@
 //! The shape of a kind: of each of its lanes the modes that some cell of the kind has, and how many links and intervals there
 //! is room for.
 
-ghost use Rattle.std.specs.Prelude.{◌≡◌, [], map, IfOk};
+ghost use Rattle.std.specs.Prelude.{◌≡◌, ◌<◌, ℕ, [], ◌∷◌, ◌++◌, Some, filter, length, map, slice_get, slice_index_or, IfOk, OnOk};
+ghost use Rattle.av_kinds.specs.declared.program.CellLanes.{CellLanes};
 ghost use Rattle.std.specs.Option.{option_map};
 ghost use Rattle.av_kinds.specs.Written.{program_of, lane_of, mode_of};
 ghost use Rattle.av_kinds.specs.Programs as programs;
+ghost use Rattle.av_kinds.specs.declared.shape.SiteShape.{SiteShape};
 ghost use Rattle.av_kinds.specs.inner.Shapes.{mode_shape_of, lane_shape_of};
 ghost use Rattle.av_kinds.specs.inner.Shaped as shaped;
 ghost use Rattle.av_kinds.specs.inner.Kinds.{selects, lane_counts, counts};
 
-use crate::program::{Inlet, Lane, Mode, Program, Site};
+use crate::program::{Inlet, Lane, Mode, Program, Site, cell_lanes};
 use av_base::{List, Memory, Width};
 use av_flat::Tree;
 use std::alloc::Global;
@@ -63,6 +65,16 @@ impl<'a> Model for LaneShape<'a> {
     ghost view = { λ l. record { width = l.width; modes = l.modes } };
 }
 
+// The room for links of a place before, where there is one.
+fn links_before(before: &[SiteShape], k: usize) -> u32
+    ensures { result ≡ slice_index_or (map (λ (s : SiteShape). s.links) before.now) k 0 }
+{
+    match before.get(k) {
+        Some(shape) => shape.links,
+        None => 0,
+    }
+}
+
 // Places with room for the links of places before, where there are some, and for their own.
 fn site_shapes(
     alloc: Global,
@@ -73,14 +85,10 @@ fn site_shapes(
 {
     let mut shapes = List::new(alloc);
     for (k, site) in sites.iter().enumerate() {
-        let least = match before.get(k) {
-            Some(shape) => shape.links,
-            None => 0,
-        };
         shapes.push(SiteShape {
             inlet: site.inlet,
             width: site.width,
-            links: least.max(site.links.len() as u32),
+            links: links_before(before, k).max(site.links.len() as u32),
         })?;
     }
     Ok(shapes)
@@ -179,20 +187,53 @@ fn copied<'a>(alloc: Global, mode: &ModeShape<'a>) -> Result<ModeShape<'a>, Memo
     })
 }
 
+// The same mode behind others, where it has an interval.
+fn add_used<'a>(
+    alloc: Global,
+    mode: &ModeShape<'a>,
+    modes: &mut List<ModeShape<'a>>,
+) -> Result<(), Memory>
+    ensures { OnOk result (map mode_shape_of modes.new ≡ map mode_shape_of modes.old ++ filter shaped.is_used (mode_shape_of mode.now ∷ [])) }
+{
+    if mode.intervals > 0 {
+        modes.push(copied(alloc, mode)?)
+    } else {
+        Ok(())
+    }
+}
+
 // The modes of a lane that have an interval.
 fn used<'a>(alloc: Global, lane: &LaneShape<'a>) -> Result<LaneShape<'a>, Memory>
     ensures { IfOk result (λ shape. lane_shape_of shape ≡ shaped.used (lane_shape_of lane.now)) }
 {
     let mut modes = List::new(alloc);
     for mode in lane.modes.as_slice() {
-        if mode.intervals > 0 {
-            modes.push(copied(alloc, mode)?)?;
-        }
+        add_used(alloc, mode, &mut modes)?;
     }
     Ok(LaneShape {
         width: lane.width,
         modes,
     })
+}
+
+// The lanes of a kind with room for those of one more cell, where it is of the kind.
+fn with_cell<'a>(
+    alloc: Global,
+    program: &Program<'a>,
+    kind: usize,
+    cell: usize,
+    before: List<LaneShape<'a>>,
+) -> Result<List<LaneShape<'a>>, Memory>
+    requires program { programs.IsProgram (program_of program.now) }
+    requires cell { cell < length program.now.kinds }
+    ensures { IfOk result (λ shapes. (own : CellLanes) (of : ℕ) → slice_get program.now.cells cell ≡ Some own → slice_get program.now.kinds cell ≡ Some of
+        → map lane_shape_of shapes ≡ shaped.shapes_by (program_of program.now) kind (map lane_shape_of before) (own ∷ []) (of ∷ [])) }
+{
+    if program.kinds.as_slice()[cell] != kind {
+        return Ok(before);
+    }
+    let own = program.cells.as_slice()[cell];
+    lane_shapes(alloc, before.as_slice(), cell_lanes(program, own))
 }
 
 // The lanes of a kind with all modes, and room for each of its cells.
@@ -204,14 +245,9 @@ fn whole_shape<'a>(
     requires { programs.IsProgram (program_of program.now) }
     ensures { IfOk result (λ shapes. map lane_shape_of shapes ≡ shaped.shapes_by (program_of program.now) kind [] program.now.cells program.now.kinds) }
 {
-    let cells = program.cells.as_slice();
-    let lanes = program.lanes.as_slice();
     let mut shapes = List::new(alloc);
-    for (cell, of) in program.kinds.as_slice().iter().enumerate() {
-        if *of == kind {
-            let own = cells[cell];
-            shapes = lane_shapes(alloc, shapes.as_slice(), &lanes[own.first..own.value + 1])?;
-        }
+    for cell in 0..program.kinds.len() {
+        shapes = with_cell(alloc, program, kind, cell, shapes)?;
     }
     Ok(shapes)
 }

@@ -1,6 +1,6 @@
 -- How the shape of a kind is found: the shape that has room for the cells before, and for the lanes of one more cell; and of it the modes that
 -- some cell has.
-use Rattle.std.specs.Prelude.{ℕ, suc, zero, ◌+◌, nat_lt, nat_eq, List, [], ◌∷◌, filter, length, map, Option, Some, None, slice_get, max, if◌then◌else◌}
+use Rattle.std.specs.Prelude.{ℕ, suc, zero, ◌+◌, nat_lt, nat_eq, Bool, List, [], ◌∷◌, filter, length, map, Option, Some, None, slice_get, max, if◌then◌else◌}
 use Rattle.av_kinds.specs.declared.program.CellLanes.{CellLanes}
 use Rattle.av_kinds.specs.declared.program.Site.{Site}
 use Rattle.av_kinds.specs.declared.shape.SiteShape.{SiteShape}
@@ -49,8 +49,11 @@ shapes_by program kind before [] kinds = before
 shapes_by program kind before (own ∷ cells) [] = before
 
 -- the modes that some cell has
+abbrev pub is_used : ModeShape → Bool
+is_used m = nat_lt 0 m.intervals
+
 abbrev pub used : LaneShape → LaneShape
-used lane = record { width = lane.width; modes = filter (λ m. nat_lt 0 m.intervals) lane.modes }
+used lane = record { width = lane.width; modes = filter is_used lane.modes }
 
 abbrev pub kind_shape : Program → ℕ → List LaneShape
 kind_shape program kind = map used (shapes_by program kind [] program.cells program.kinds)
