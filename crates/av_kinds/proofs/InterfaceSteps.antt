@@ -1,5 +1,5 @@
 -- Ports, arms and guards, one more; and what a place adds to an interface.
-use Rattle.std.proofs.Common.{◌≡◌, ℕ, zero, suc, ◌+◌, ◌*◌, ◌≤◌, List, [], ◌∷◌, ◌++◌, length, refl, sym, arith, ◌∙◌, ap, append_assoc}
+use Rattle.std.proofs.Common.{◌≡◌, ℕ, zero, suc, ◌+◌, ◌*◌, ◌≤◌, List, [], ◌∷◌, ◌++◌, length, refl, sym, subst, arith, ◌∙◌, ap, append_assoc}
 use Rattle.std.proofs.lemmas.List.{length-append, append-nil}
 use Rattle.av_base.specs.declared.width.Width.{Width}
 use Rattle.av_net.specs.declared.operation.Operand.{Operand}
@@ -154,10 +154,10 @@ intervals_many b zero = refl
 intervals_many b (suc n) = let h = intervals_many (b + 2) n in omega (arith, h)
 
 -- the places of a mode, and then its intervals
-pub tested_added : (old mid : Interface) (mode : ModeShape) (ports : List Port) → AddsPorts old mid (sites_ports (counts_of old) mode.sites) (past_sites (counts_of old) mode.sites)
+whole_added : (old mid : Interface) (mode : ModeShape) (ports : List Port) → AddsPorts old mid (sites_ports (counts_of old) mode.sites) (past_sites (counts_of old) mode.sites)
     → ports ≡ mid.ports ++ interval_ports mid.bounds mode.intervals
     → AddsPorts old (interface_of ports mid.inputs mid.taps (mid.bounds + 2 * mode.intervals)) (tested_ports (counts_of old) mode) (past_tested (counts_of old) mode)
-tested_added old mid mode ports h is =
+whole_added old mid mode ports h is =
     let at = counts_of old in
     let to = past_sites at mode.sites in
     let bounds : mid.bounds ≡ to.bounds = ap (λ (c : PortCounts). c.bounds) h.counts_are in
@@ -168,3 +168,9 @@ tested_added old mid mode ports h is =
       counts_are = ap (λ (c : PortCounts). let r : PortCounts = record { inputs = c.inputs; taps = c.taps; bounds = c.bounds + 2 * mode.intervals } in r) h.counts_are;
       few = omega (arith, many, h.few);
     }
+
+pub tested_added : (old mid : Interface) (mode : ModeShape) (n : ℕ) (ports : List Port) → n ≡ mode.intervals → AddsPorts old mid (sites_ports (counts_of old) mode.sites) (past_sites (counts_of old) mode.sites) → ports ≡ mid.ports ++ interval_ports mid.bounds n
+    → AddsPorts old (interface_of ports mid.inputs mid.taps (mid.bounds + 2 * n)) (tested_ports (counts_of old) mode) (past_tested (counts_of old) mode)
+tested_added old mid mode n ports e h is =
+    subst (λ i. ports ≡ mid.ports ++ interval_ports mid.bounds i → AddsPorts old (interface_of ports mid.inputs mid.taps (mid.bounds + 2 * i)) (tested_ports (counts_of old) mode) (past_tested (counts_of old) mode)) (sym e)
+    (whole_added old mid mode ports h) is

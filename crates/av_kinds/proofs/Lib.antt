@@ -47,3 +47,4 @@ pub mod InstanceSteps
 pub mod ShapeSteps
 pub mod TopSteps
 pub mod PlanSteps
+pub mod KindSteps

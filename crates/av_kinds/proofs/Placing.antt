@@ -3,7 +3,7 @@ use Rattle.std.proofs.Common.{◌≡◌, ℕ, zero, suc, ◌+◌, ◌*◌, ◌<�
 use Rattle.std.specs.Prelude.{slice_get}
 use Rattle.std.specs.List.{AllByRecursion, range_with_len, enumerate_from}
 use Rattle.std.proofs.lemmas.List.{length-map, map-append, append-nil}
-use Rattle.av_base.proofs.Lists.{next_taken}
+use Rattle.av_base.proofs.Lists.{some_is, next_taken}
 use Rattle.std.proofs.lemmas.List.FromFn.{map-range_with_len_more, get_or-enumerate_from, length-enumerate_from}
 use Rattle.av_net.specs.declared.operation.Operand.TheVariants.{Name}
 use Rattle.av_net.specs.declared.operation.Operation.{Operation}
@@ -115,3 +115,9 @@ pub read_mapped : {X Y : Type 0} (f : X → Y) (xs : List X) (k : ℕ) (d x : X)
 read_mapped f [] k d x lt is = absurd (omega arith)
 read_mapped f (y ∷ xs) zero d x lt is = ap (λ z. Some (f z)) (sym is)
 read_mapped f (y ∷ xs) (suc k) d x lt is = read_mapped f xs k d x (omega arith) is
+
+-- what begins at the place of an element
+pub from_place : {X : Type 0} (xs : List X) (k : ℕ) (x : X) → slice_get xs k ≡ Some x → drop k xs ≡ x ∷ drop (suc k) xs
+from_place [] k x is = absurd cc
+from_place (y ∷ xs) zero x is = ap (λ z. z ∷ xs) (some_is y x is)
+from_place (y ∷ xs) (suc k) x is = from_place xs k x is

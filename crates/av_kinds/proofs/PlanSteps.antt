@@ -1,7 +1,7 @@
 -- The kinds and instances of a plan, one after another.
 use Rattle.std.proofs.Common.{◌≡◌, ℕ, zero, suc, ◌+◌, ◌<◌, ◌≤◌, ◌⊎◌, inl, inr, List, [], ◌∷◌, ◌++◌, map, length, take, drop, get_or, refl, sym, subst, ap, ◌∙◌, arith, Some}
 use Rattle.std.specs.Prelude.{slice_get}
-use Rattle.av_base.proofs.Lists.{some_is, get_first, get_second, get_cases, next_item}
+use Rattle.av_base.proofs.Lists.{some_is, get_first, get_second, get_cases, next_item, same_default}
 use Rattle.av_net.specs.declared.plan.CellKind.{CellKind}
 use Rattle.av_net.specs.declared.plan.Instance.{Instance}
 use Rattle.av_kinds.specs.declared.counter.Counter.{Counter}
@@ -63,7 +63,7 @@ shape_seen (s ∷ shapes) zero shape lt is = ap (map lane_shape_of) (sym is)
 shape_seen (s ∷ shapes) (suc k) shape lt is = shape_seen shapes k shape (omega arith) is
 
 pub instance_put : (counter : Counter) (program : Program) (shapes : List (List LaneShapeMade)) (p : ℕ) (own : CellLanes) (k : ℕ) (shape : List LaneShapeMade) (instances next whole : List Instance) (instance : Instance)
-    → p < length program.cells → own ≡ get_or program.cells p own → p < length program.kinds → k ≡ get_or program.kinds p k → k < length shapes → shape ≡ get_or shapes k shape
+    → p < length program.cells → own ≡ get_or program.cells p own → p < length program.kinds → k ≡ get_or program.kinds p 0 → k < length shapes → shape ≡ get_or shapes k shape
     → instances ++ instances_by counter program (shapes_seen shapes) p (drop p program.cells) (drop p program.kinds) ≡ whole
     → instance ≡ instance_by (labels program) (counter_name counter) p k own.first (map lane_shape_of shape) (lanes_of program own) → next ≡ instances ++ instance ∷ []
     → next ++ instances_by counter program (shapes_seen shapes) (p + 1) (drop (p + 1) program.cells) (drop (p + 1) program.kinds) ≡ whole
@@ -73,5 +73,5 @@ instance_put counter program shapes p own k shape instances next whole instance 
     let kinds = drop (p + 1) program.kinds in
     let rest = instances_by counter program S (p + 1) cells kinds in
     one_less whole instances next instance (instances_by counter program S p (drop p program.cells) (drop p program.kinds)) rest h put
-    (ap (λ cs. instances_by counter program S p cs (drop p program.kinds)) (next_item program.cells p own lp ip) ∙ ap (λ ks. instances_by counter program S p (own ∷ cells) ks) (next_item program.kinds p k lk ik)
+    (ap (λ cs. instances_by counter program S p cs (drop p program.kinds)) (next_item program.cells p own lp ip) ∙ ap (λ ks. instances_by counter program S p (own ∷ cells) ks) (next_item program.kinds p k lk (ik ∙ same_default program.kinds p 0 k lk))
     ∙ ap (λ s. instance_by (labels program) (counter_name counter) p k own.first s (lanes_of program own) ∷ rest) (shape_seen shapes k shape ls is) ∙ ap (λ x. x ∷ rest) (sym here))

@@ -1,7 +1,7 @@
 -- The shapes of places, modes and lanes, one after another.
 use Rattle.std.proofs.Common.{◌≡◌, ℕ, zero, suc, ◌+◌, ◌<◌, List, [], ◌∷◌, ◌++◌, map, length, drop, get_or, refl, sym, subst, ap, ◌∙◌, arith, Bool, true, false, if◌then◌else◌, Option, Some, None}
 use Rattle.std.specs.Prelude.{slice_get, nat_eq, filter}
-use Rattle.av_base.proofs.Lists.{next_item}
+use Rattle.av_base.proofs.Lists.{next_item, same_default}
 use Rattle.av_kinds.specs.declared.program.CellLanes.{CellLanes}
 use Rattle.av_kinds.specs.declared.program.Site.{Site}
 use Rattle.av_kinds.specs.declared.shape.SiteShape.{SiteShape}
@@ -97,10 +97,10 @@ cells_more program kind before own of cells kinds = by_kind (nat_eq of kind)
     by_kind true = refl
     by_kind false = refl
 
-pub cell_put : (program : Program) (kind k : ℕ) (old next whole : List LaneShape) (own : CellLanes) (of : ℕ) → k < length program.cells → own ≡ get_or program.cells k own → k < length program.kinds → of ≡ get_or program.kinds k of
+pub cell_put : (program : Program) (kind k : ℕ) (old next whole : List LaneShape) (own : CellLanes) (of : ℕ) → k < length program.cells → own ≡ get_or program.cells k own → k < length program.kinds → of ≡ get_or program.kinds k 0
     → shapes_by program kind old (drop k program.cells) (drop k program.kinds) ≡ whole → next ≡ shapes_by program kind old (own ∷ []) (of ∷ []) → shapes_by program kind next (drop (k + 1) program.cells) (drop (k + 1) program.kinds) ≡ whole
 cell_put program kind k old next whole own of lt is lk ik h here =
     let cells = drop (k + 1) program.cells in
     let kinds = drop (k + 1) program.kinds in
     ap (λ s. shapes_by program kind s cells kinds) here ∙ sym (cells_more program kind old own of cells kinds)
-    ∙ ap (λ ks. shapes_by program kind old (own ∷ cells) ks) (sym (next_item program.kinds k of lk ik)) ∙ ap (λ cs. shapes_by program kind old cs (drop k program.kinds)) (sym (next_item program.cells k own lt is)) ∙ h
+    ∙ ap (λ ks. shapes_by program kind old (own ∷ cells) ks) (sym (next_item program.kinds k of lk (ik ∙ same_default program.kinds k 0 of lk))) ∙ ap (λ cs. shapes_by program kind old cs (drop k program.kinds)) (sym (next_item program.cells k own lt is)) ∙ h

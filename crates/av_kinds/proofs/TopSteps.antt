@@ -4,7 +4,7 @@ use Rattle.std.specs.Prelude.{slice_get}
 use Rattle.std.specs.List.{range_with_len}
 use Rattle.std.proofs.lemmas.List.{append-nil}
 use Rattle.av_base.specs.declared.width.Width.{Width}
-use Rattle.av_base.proofs.Lists.{next_item}
+use Rattle.av_base.proofs.Lists.{next_item, same_default}
 use Rattle.av_net.specs.declared.netlist.Drive.{Drive}
 use Rattle.av_net.specs.declared.netlist.Port.{Port}
 use Rattle.av_net.specs.declared.netlist.Step.{Step}
@@ -27,10 +27,10 @@ same_map f g same (x ∷ xs) = ap (λ y. y ∷ map f xs) (same x) ∙ ap (λ ys.
 abbrev pub parts_with : TopParts → List Port → List Port → List Step → TopParts
 parts_with old wires registers steps = record { wires = wires; registers = registers; drives = old.drives; steps = steps }
 
-pub lane_added : (program : Program) (q : ℕ) (names : LaneNames) (lane : Lane) (old : TopParts) (wires registers : List Port) (steps : List Step) → IsNaming program q names → slice_get program.lanes q ≡ Some lane
-    → wires ≡ old.wires ++ port lane.width (value_in names) ∷ [] → registers ≡ old.registers ++ map (λ d. port lane.width (register_in names d)) (range_with_len 0 lane.length) → steps ≡ old.steps ++ map (step_in names) (range_with_len 0 lane.length)
+pub lane_added : (program : Program) (q : ℕ) (names : LaneNames) (lane : Lane) (old : TopParts) (wires registers : List Port) (steps : List Step) (w : Width) (n : ℕ) → IsNaming program q names → slice_get program.lanes q ≡ Some lane → w ≡ lane.width → n ≡ lane.length
+    → wires ≡ old.wires ++ port w (value_in names) ∷ [] → registers ≡ old.registers ++ map (λ d. port w (register_in names d)) (range_with_len 0 n) → steps ≡ old.steps ++ map (step_in names) (range_with_len 0 n)
     → AddsLaneAt program q old (parts_with old wires registers steps)
-lane_added program q names lane old wires registers steps naming there is_wires is_registers is_steps =
+lane_added program q names lane old wires registers steps w n naming there wide long is_wires is_registers is_steps =
     let N = labels program in
     let lines = range_with_len 0 lane.length in
     let step : (d : ℕ) → step_in names d ≡ line_step N q d = λ d.
@@ -38,10 +38,11 @@ lane_added program q names lane old wires registers steps naming there is_wires 
     record {
       lane = lane;
       is_lane = there;
-      wires = is_wires ∙ ap (λ n. old.wires ++ port lane.width n ∷ []) naming.value;
-      registers = is_registers ∙ ap (λ (f : ℕ → List ℕ). old.registers ++ map (λ d. port lane.width (f d)) lines) naming.register ∙ ap (λ ps. old.registers ++ ps) (sym (append-nil (map (λ d. port lane.width (N.register q d)) lines)));
+      wires = is_wires ∙ ap (λ v. old.wires ++ port v (value_in names) ∷ []) wide ∙ ap (λ t. old.wires ++ port lane.width t ∷ []) naming.value;
+      registers = is_registers ∙ ap (λ v. old.registers ++ map (λ d. port v (register_in names d)) (range_with_len 0 n)) wide ∙ ap (λ i. old.registers ++ map (λ d. port lane.width (register_in names d)) (range_with_len 0 i)) long
+          ∙ ap (λ (f : ℕ → List ℕ). old.registers ++ map (λ d. port lane.width (f d)) lines) naming.register ∙ ap (λ ps. old.registers ++ ps) (sym (append-nil (map (λ d. port lane.width (N.register q d)) lines)));
       drives = refl;
-      steps = is_steps ∙ ap (λ ss. old.steps ++ ss) (same_map (step_in names) (line_step N q) step lines) ∙ ap (λ ss. old.steps ++ ss) (sym (append-nil (map (line_step N q) lines)));
+      steps = is_steps ∙ ap (λ i. old.steps ++ map (step_in names) (range_with_len 0 i)) long ∙ ap (λ ss. old.steps ++ ss) (same_map (step_in names) (line_step N q) step lines) ∙ ap (λ ss. old.steps ++ ss) (sym (append-nil (map (line_step N q) lines)));
     }
 
 -- ---- ports and outputs
@@ -55,13 +56,13 @@ port_put name widths k width old next whole p lt is h here put =
 abbrev pub output_drive : ℕ → List ℕ → Drive
 output_drive k name = record { target = output_name k; operation = Plain (Name name) }
 
-pub output_put : (names : Labels) (outputs : List ℕ) (k q : ℕ) (old next whole : List Drive) (d : Drive) → k < length outputs → q ≡ get_or outputs k q → old ++ output_drives names k (drop k outputs) ≡ whole → d ≡ output_drive k (names.value q) → next ≡ old ++ d ∷ []
+pub output_put : (names : Labels) (outputs : List ℕ) (k q : ℕ) (old next whole : List Drive) (d : Drive) → k < length outputs → q ≡ get_or outputs k 0 → old ++ output_drives names k (drop k outputs) ≡ whole → d ≡ output_drive k (names.value q) → next ≡ old ++ d ∷ []
     → next ++ output_drives names (k + 1) (drop (k + 1) outputs) ≡ whole
 output_put names outputs k q old next whole d lt is h here put =
     one_less whole old next d (output_drives names k (drop k outputs)) (output_drives names (k + 1) (drop (k + 1) outputs)) h put
-    (ap (output_drives names k) (next_item outputs k q lt is) ∙ ap (λ x. x ∷ output_drives names (k + 1) (drop (k + 1) outputs)) (sym here))
+    (ap (output_drives names k) (next_item outputs k q lt (is ∙ same_default outputs k 0 q lt)) ∙ ap (λ x. x ∷ output_drives names (k + 1) (drop (k + 1) outputs)) (sym here))
 
-pub width_put : (program : ProgramMade) (outputs : List ℕ) (k q : ℕ) (lane : LaneMade) (old next : List Width) (w : Width) → k < length outputs → q ≡ get_or outputs k q → q < length program.lanes → lane ≡ get_or program.lanes q lane
+pub width_put : (program : ProgramMade) (outputs : List ℕ) (k q : ℕ) (lane : LaneMade) (old next : List Width) (w : Width) → k < length outputs → q ≡ get_or outputs k 0 → q < length program.lanes → lane ≡ get_or program.lanes q lane
     → old ≡ map (λ i. width_in (slice_get (program_of program).lanes i)) (take k outputs) → w ≡ lane.width → next ≡ old ++ w ∷ [] → next ≡ map (λ i. width_in (slice_get (program_of program).lanes i)) (take (k + 1) outputs)
 width_put program outputs k q lane old next w lt is there here h own put =
-    next_mapped (λ i. width_in (slice_get (program_of program).lanes i)) outputs k q old next w lt is h put (own ∙ ap width_in (sym (read_mapped lane_of program.lanes q lane lane there here)))
+    next_mapped (λ i. width_in (slice_get (program_of program).lanes i)) outputs k q old next w lt (is ∙ same_default outputs k 0 q lt) h put (own ∙ ap width_in (sym (read_mapped lane_of program.lanes q lane lane there here)))

@@ -1,9 +1,9 @@
 -- What loops have written so far: what is there and what the elements to come bring are together all that is to be written.
-use Rattle.std.proofs.Common.{◌≡◌, ℕ, zero, suc, ◌+◌, ◌≤◌, List, [], ◌∷◌, ◌++◌, length, map, drop, refl, sym, subst, ap, ◌∙◌, arith, append_assoc, Bool, true, false, if◌then◌else◌, Option, Some, None}
+use Rattle.std.proofs.Common.{◌≡◌, ℕ, zero, suc, ◌+◌, ◌<◌, ◌≤◌, List, [], ◌∷◌, ◌++◌, length, map, drop, get_or, refl, sym, subst, ap, ◌∙◌, arith, append_assoc, Bool, true, false, if◌then◌else◌, Option, Some, None}
 use Rattle.std.specs.Prelude.{slice_get}
 use Rattle.std.specs.List.{range_with_len}
-use Rattle.std.proofs.lemmas.List.{append-nil, length-append}
-use Rattle.av_base.proofs.Lists.{some_is, nothing_left}
+use Rattle.std.proofs.lemmas.List.{append-nil, length-append, length-map, map-append}
+use Rattle.av_base.proofs.Lists.{there_is, nothing_left}
 use Rattle.av_net.specs.declared.operation.Operand.{Operand}
 use Rattle.av_net.specs.declared.netlist.Port.{Port}
 use Rattle.av_net.specs.declared.netlist.Drive.{Drive}
@@ -19,13 +19,14 @@ use Rattle.av_kinds.specs.Counters.{counter_width}
 use Rattle.av_kinds.specs.Tops.{port, lane_wires, lane_registers, line_step, lane_steps}
 use Rattle.av_kinds.specs.inner.Gates.{ports_from, drives_from}
 use Rattle.av_kinds.specs.inner.Cells.{Datapath, GuardedDatapath}
-use Rattle.av_kinds.specs.inner.Shapes.{ModeShape, LaneShape}
+use Rattle.av_kinds.specs.inner.Shapes.{ModeShape, LaneShape, ModeShapeMade, mode_shape_of}
+use Rattle.av_kinds.specs.inner.Added.{GuardedDatapathMade, as_guarded}
 use Rattle.av_kinds.specs.inner.Interfaces.{PortCounts, site_ports, past_site, tap_of, sites_ports, past_sites, taps_of, datapath_of, tested_ports, past_tested, guarded_of, modes_ports, past_modes, tested_of, last_of}
 use Rattle.av_kinds.specs.inner.Kinds.{counts, output_of, lane_built, no_ports, lanes_inputs, lanes_outputs, lanes_wires, lanes_drives, kind_inputs}
 use Rattle.av_kinds.specs.inner.Lanes.{AddsWires, AddsLaneOf, counted}
 use Rattle.av_kinds.specs.inner.Numbers.{counts_of, AreFew, AddsPorts, opened, IsOpened}
 use Rattle.av_kinds.specs.inner.TopParts.{AddsLaneAt, ArePartsOf}
-use Rattle.av_kinds.proofs.Placing.{one_less, some_less, none_less, gates_many}
+use Rattle.av_kinds.proofs.Placing.{one_less, some_less, none_less, gates_many, from_place, read_mapped}
 
 -- ---- a kind, lane by lane
 
@@ -112,11 +113,6 @@ pub record IsTopFrom (program : Program) (q : ℕ) (parts : TopParts) : Type 0 w
   pub drives : parts.drives ≡ []
   pub steps : parts.steps ++ lane_steps (labels program) q (drop q program.lanes) ≡ lane_steps (labels program) 0 program.lanes
 
-lane_there : (lanes : List Lane) (q : ℕ) (lane : Lane) → slice_get lanes q ≡ Some lane → drop q lanes ≡ lane ∷ drop (suc q) lanes
-lane_there [] q lane is = absurd cc
-lane_there (l ∷ lanes) zero lane is = ap (λ x. x ∷ lanes) (some_is l lane is)
-lane_there (l ∷ lanes) (suc q) lane is = lane_there lanes q lane is
-
 -- one lane alone, and those behind it
 one_lane : {X : Type 0} (f : ℕ → List Lane → List X) (own : List X) (q : ℕ) (lane : Lane) (rest : List Lane) → f q (lane ∷ []) ≡ own ++ f (q + 1) [] → f (q + 1) [] ≡ [] → f q (lane ∷ rest) ≡ own ++ f (q + 1) rest → f q (lane ∷ rest) ≡ f q (lane ∷ []) ++ f (q + 1) rest
 one_lane f own q lane rest alone none all = all ∙ ap (λ ys. ys ++ f (q + 1) rest) (sym (alone ∙ ap (λ ys. own ++ ys) none ∙ append-nil own))
@@ -128,7 +124,7 @@ top_more program q j old new at before adds =
     let rest = drop (suc q) program.lanes in
     let number : suc q ≡ q + 1 = omega arith in
     let follows : suc q ≡ j = omega (arith, at) in
-    let split = lane_there program.lanes q lane adds.is_lane in
+    let split = from_place program.lanes q lane adds.is_lane in
     let own_registers = map (λ d. let p : Port = record { name = N.register q d; width = lane.width } in p) (range_with_len 0 lane.length) in
     let own_steps = map (line_step N q) (range_with_len 0 lane.length) in
     let wires_split : lane_wires N q (drop q program.lanes) ≡ lane_wires N q (lane ∷ []) ++ lane_wires N (suc q) rest = ap (lane_wires N q) split ∙ ap (λ i. lane_wires N q (lane ∷ []) ++ lane_wires N i rest) (sym number) in
@@ -216,6 +212,20 @@ mode_more first shapes k j t u rest own next old new g split follows before adds
       counts_are = sym (ap (past_modes at) split ∙ ap (λ a. past_modes a (u ∷ rest)) here ∙ ap (past_modes (counts_of next)) later) ∙ before.counts_are;
       few = adds.few;
     }
+
+-- a mode of several that is not the last
+pub mode_put : (first : Interface) (all : List ModeShapeMade) (k : ℕ) (x : ModeShapeMade) (own next : Interface) (old new : List GuardedDatapathMade) (g : GuardedDatapathMade) → k + 1 < length all → x ≡ get_or all k x
+    → AreModesFrom first (map mode_shape_of all) k own (map as_guarded old) → AddsPorts own next (tested_ports (counts_of own) (mode_shape_of x)) (past_tested (counts_of own) (mode_shape_of x)) → as_guarded g ≡ guarded_of (counts_of own) (mode_shape_of x)
+    → new ≡ old ++ g ∷ [] → AreModesFrom first (map mode_shape_of all) (k + 1) next (map as_guarded new)
+mode_put first all k x own next old new g lt is before adds made put =
+    let shapes = map mode_shape_of all in
+    let many : length shapes ≡ length all = length-map all mode_shape_of in
+    let later = there_is shapes (k + 1) (omega (arith, many, lt)) in
+    let one : suc k ≡ k + 1 = omega arith in
+    let follows = from_place shapes (k + 1) later.0 later.1 in
+    let split : drop k shapes ≡ mode_shape_of x ∷ later.0 ∷ drop (suc (k + 1)) shapes =
+    from_place shapes k (mode_shape_of x) (read_mapped mode_shape_of all k x x (omega (arith, lt)) is) ∙ ap (λ i. mode_shape_of x ∷ drop i shapes) one ∙ ap (λ ys. mode_shape_of x ∷ ys) follows in
+    mode_more first shapes k (k + 1) (mode_shape_of x) later.0 (drop (suc (k + 1)) shapes) own next (map as_guarded old) (map as_guarded new) (as_guarded g) split follows before adds made (ap (map as_guarded) put ∙ map-append as_guarded old (g ∷ []))
 
 pub modes_begun : (first : Interface) (shapes : List ModeShape) (modes : List GuardedDatapath) → AreFew first → modes ≡ [] → AreModesFrom first shapes 0 first modes
 modes_begun first shapes modes few none = record { modes_are = ap (λ ms. ms ++ tested_of (counts_of first) shapes) none; last_is = refl; ports_are = refl; counts_are = refl; few = few }

@@ -6,21 +6,21 @@ use av_net::Operand;
 use std::marker::Model;
 
 /// Numbers of the counter, by operands: up to the last one, or from the first one on up to the last one.
-#[derive(Debug, Drop)]
+#[derive(Drop)]
 pub(crate) enum Guard {
     UpTo(Operand),
     Within { first: Operand, last: Operand },
 }
 
 /// In a guard, this operand.
-#[derive(Debug, Drop)]
+#[derive(Drop)]
 pub(crate) struct Arm {
     pub(crate) guard: Guard,
     pub(crate) operand: Operand,
 }
 
 /// What brings a word: the operand of the first arm whose guard has the number, or the last one.
-#[derive(Debug, Drop)]
+#[derive(Drop)]
 pub(crate) struct Tap {
     /// Of its words.
     pub(crate) width: Width,
@@ -29,7 +29,7 @@ pub(crate) struct Tap {
 }
 
 /// A tree, and what brings the word of each place of it that reads.
-#[derive(Debug, Drop)]
+#[derive(Drop)]
 pub(crate) struct Datapath<'a> {
     pub(crate) taps: List<Tap>,
     pub(crate) tree: &'a Tree,
@@ -48,7 +48,7 @@ impl<'a> Model for Datapath<'a> {
 }
 
 /// In one of these guards, this datapath.
-#[derive(Debug, Drop)]
+#[derive(Drop)]
 pub(crate) struct GuardedDatapath<'a> {
     pub(crate) guards: List<Guard>,
     pub(crate) datapath: Datapath<'a>,
@@ -67,7 +67,7 @@ impl<'a> Model for GuardedDatapath<'a> {
 }
 
 /// The datapaths of a lane: the first that has a guard with the number, or the last one.
-#[derive(Debug, Drop)]
+#[derive(Drop)]
 pub(crate) struct LaneDatapaths<'a> {
     pub(crate) modes: List<GuardedDatapath<'a>>,
     pub(crate) otherwise: Datapath<'a>,

@@ -11,7 +11,7 @@ use av_net::{Operand, Operation};
 use std::alloc::Global;
 
 /// A wire of a lane, whose name is given by its place among the lane's wires.
-#[derive(Debug, Drop)]
+#[derive(Drop)]
 pub(crate) struct Gate {
     pub(crate) width: Width,
     pub(crate) operation: Operation,

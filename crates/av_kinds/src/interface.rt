@@ -16,7 +16,7 @@ use av_net::{Operand, Port};
 use std::alloc::Global;
 
 /// The ports so far, and how many of each letter there are.
-#[derive(Debug, Drop)]
+#[derive(Drop)]
 pub(crate) struct Interface {
     pub(crate) ports: List<Port>,
     pub(crate) inputs: usize,

@@ -23,7 +23,7 @@ use av_net::{CellKind, Drive, Operand, Operation, Port};
 use std::alloc::Global;
 
 /// What the lanes of a kind bring into it, but for its input ports.
-#[derive(Debug, Drop)]
+#[derive(Drop)]
 pub(crate) struct KindParts {
     pub(crate) outputs: List<Port>,
     pub(crate) wires: List<Port>,

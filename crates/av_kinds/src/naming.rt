@@ -9,7 +9,7 @@ use av_base::{Memory, Name};
 use std::alloc::Global;
 
 /// The wires of a lane of a kind: their numbers go on from those of the lanes before.
-#[derive(Clone, Copy, Debug)]
+#[derive(Clone, Copy)]
 pub(crate) struct WireNames {
     pub(crate) first: usize,
 }
@@ -26,7 +26,7 @@ impl WireNames {
 }
 
 /// What the names of a lane are made of: the number of its cell, its rank there, and the program's stride.
-#[derive(Clone, Copy, Debug)]
+#[derive(Clone, Copy)]
 pub(crate) struct LaneNames {
     pub(crate) home: u32,
     pub(crate) rank: usize,

@@ -18,7 +18,7 @@ use std::alloc::Global;
 use std::marker::Model;
 
 /// A place that reads: so many links, and the last source.
-#[derive(Clone, Copy, Debug)]
+#[derive(Clone, Copy)]
 pub(crate) struct SiteShape {
     pub(crate) inlet: Inlet,
     pub(crate) width: Width,
@@ -26,7 +26,7 @@ pub(crate) struct SiteShape {
 }
 
 /// The mode of this number, with so many intervals.
-#[derive(Debug, Drop)]
+#[derive(Drop)]
 pub(crate) struct ModeShape<'a> {
     pub(crate) number: usize,
     pub(crate) intervals: u32,
@@ -47,7 +47,7 @@ impl<'a> Model for ModeShape<'a> {
 }
 
 /// A lane of a kind, with its modes.
-#[derive(Debug, Drop)]
+#[derive(Drop)]
 pub(crate) struct LaneShape<'a> {
     pub(crate) width: Width,
     pub(crate) modes: List<ModeShape<'a>>,

@@ -19,7 +19,7 @@ use av_net::{Drive, Module, Operand, Operation, Port, Step};
 use std::alloc::Global;
 
 /// What lanes and the counter bring into the top module.
-#[derive(Debug, Drop)]
+#[derive(Drop)]
 pub(crate) struct TopParts {
     pub(crate) wires: List<Port>,
     pub(crate) registers: List<Port>,
