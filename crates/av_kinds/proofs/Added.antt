@@ -1,6 +1,6 @@
 -- Steps of building, put together.
 use Rattle.std.proofs.Common.{◌≡◌, ℕ, ◌+◌, List, [], ◌∷◌, ◌++◌, length, refl, arith, ◌∙◌, ap, append_assoc, Ok, Err, Result}
-use Rattle.std.specs.Prelude.{IfOk}
+use Rattle.std.specs.Prelude.{IfOk, OnOk}
 use Rattle.std.proofs.lemmas.List.{length-append}
 use Rattle.av_base.specs.declared.width.Width.{Width}
 use Rattle.av_tree.specs.declared.relation.Relation.{Relation}
@@ -23,6 +23,11 @@ use Rattle.av_kinds.specs.inner.Added.{Adds, AddsBuilt, AddsOperand}
 pub if_ok_map : {X E : Type 0} (P Q : X → Type 0) → ((x : X) → P x → Q x) → (r : Result X E) → IfOk r P → IfOk r Q
 if_ok_map P Q f (Ok x) h = f x h
 if_ok_map P Q f (Err e) h = tt
+
+-- what follows from two clauses of one call
+pub on_ok_both : {X E P Q R : Type 0} (r : Result X E) → (P → Q → R) → OnOk r P → OnOk r Q → OnOk r R
+on_ok_both (Ok x) f p q = f p q
+on_ok_both (Err e) f p q = tt
 
 -- a test after more wires
 chosen_gates : (name : Naming) (old gates : List Gate) (t : Operation) (a b : Operand) → (chosen_by name 0 (old ++ gates) t a b).gates ≡ old ++ (chosen_by name (length old) gates t a b).gates

@@ -1,9 +1,10 @@
 -- What the ports of a cell's kind take, one after another.
 use Rattle.std.proofs.Common.{◌≡◌, ℕ, zero, suc, ◌+◌, ◌-◌, ◌<◌, ◌≤◌, Bool, true, false, List, [], ◌∷◌, ◌++◌, length, map, take, drop, get_or, refl, sym, subst, ap, ◌∙◌, arith, append_assoc, Some}
-use Rattle.std.specs.Prelude.{slice_get}
+use Rattle.std.specs.Prelude.{slice_get, nat_lt}
 use Rattle.std.specs.List.{AllByRecursion}
-use Rattle.std.proofs.lemmas.List.{append-nil}
-use Rattle.av_base.proofs.Lists.{some_is, there_is, each_at}
+use Rattle.std.proofs.lemmas.List.{append-nil, length-map, length-drop}
+use Rattle.std.proofs.lemmas.Option.{slice_get_read}
+use Rattle.av_base.proofs.Lists.{some_is, each_at, next_item}
 use Rattle.av_net.specs.declared.operation.Operand.{Operand}
 use Rattle.av_kinds.specs.declared.program.Interval.{Interval}
 use Rattle.av_kinds.specs.declared.program.Link.{Link}
@@ -11,13 +12,16 @@ use Rattle.av_kinds.specs.declared.program.Site.{Site}
 use Rattle.av_kinds.specs.declared.program.Source.{Source}
 use Rattle.av_kinds.specs.declared.shape.SiteShape.{SiteShape}
 use Rattle.av_kinds.specs.Programs.{Mode, mode_at, Lane}
+use Rattle.av_kinds.specs.Written.{ModeMade, LaneMade, mode_of, lane_of}
 use Rattle.av_kinds.specs.Names.{Labels}
 use Rattle.av_kinds.specs.inner.Counts.{bound}
-use Rattle.av_kinds.specs.inner.Shapes.{ModeShape, LaneShape, SuitSites, SuitsMode, SuitModes}
+use Rattle.av_kinds.specs.inner.Shapes.{ModeShape, ModeShapeMade, LaneShapeMade, mode_shape_of, lane_shape_of, SuitsMode, SuitModes, SuitsLane, SuitLanes}
 use Rattle.av_kinds.specs.inner.Instances.{words_for, bounds_for, site_operands, sites_operands, intervals_for, mode_operands, modes_operands, lanes_operands, outputs_from}
-use Rattle.av_kinds.specs.inner.Reads.{IsThere, SiteThere, ModeThere}
-use Rattle.av_kinds.proofs.Placing.{one_less, some_less}
+use Rattle.av_kinds.specs.inner.Reads.{IsThere, SiteThere, ModeThere, LaneThere}
+use Rattle.av_kinds.proofs.Placing.{one_less, some_less, read_mapped}
 use Rattle.av_kinds.proofs.ShapeSuits.{mode_there}
+use Rattle.av_kinds.proofs.ShapeMade.{suit_at}
+use Rattle.av_kinds.proofs.TopInstances.{suit_many}
 
 one_more : (k : ℕ) → suc k ≡ k + 1
 one_more k = omega arith
@@ -80,9 +84,14 @@ bounds_put count links k operands whole h at = sym (append-nil operands) ∙ h 0
 
 -- ---- the places of a mode
 
-pub sites_split : (names : Labels) (shape : SiteShape) (shapes : List SiteShape) (site : Site) (sites : List Site) (k : ℕ) (all : List SiteShape) (others : List Site) → drop k all ≡ shape ∷ shapes → drop k others ≡ site ∷ sites
-    → sites_operands names (drop k all) (drop k others) ≡ site_operands names shape site ++ sites_operands names shapes sites
-sites_split names shape shapes site sites k all others e f = ap (λ xs. sites_operands names xs (drop k others)) e ∙ ap (sites_operands names (shape ∷ shapes)) f
+pub site_put : (names : Labels) (shapes : List SiteShape) (sites : List Site) (k : ℕ) (shape : SiteShape) (site : Site) (operands next whole : List Operand) → k < length shapes → shape ≡ get_or shapes k shape → k < length sites → site ≡ get_or sites k site
+    → operands ++ sites_operands names (drop k shapes) (drop k sites) ≡ whole → next ≡ operands ++ site_operands names shape site → next ++ sites_operands names (drop (k + 1) shapes) (drop (k + 1) sites) ≡ whole
+site_put names shapes sites k shape site operands next whole ls is lt it h put =
+    some_less whole operands next (site_operands names shape site) (sites_operands names (drop k shapes) (drop k sites)) (sites_operands names (drop (k + 1) shapes) (drop (k + 1) sites)) h put
+    (ap (λ xs. sites_operands names xs (drop k sites)) (next_item shapes k shape ls is) ∙ ap (sites_operands names (shape ∷ drop (k + 1) shapes)) (next_item sites k site lt it))
+
+pub site_there_at : (count : ℕ) (sites : List Site) → AllByRecursion (SiteThere count) sites → (k : ℕ) (site : Site) → k < length sites → site ≡ get_or sites k site → SiteThere count site
+site_there_at count sites each k site lt is = each_at (SiteThere count) sites k site each (slice_get_read sites (length sites) k site refl lt is)
 
 -- ---- its intervals
 
@@ -113,27 +122,82 @@ intervals_put count intervals k operands whole h at = sym (append-nil operands) 
 
 -- ---- the modes of a lane: the last one is not tested
 
-pub modes_split : (names : Labels) (f : ModeShape) (rest : List ModeShape) (modes : List Mode) (tested : Bool) → (tested ≡ true → 0 < length rest) → (tested ≡ false → length rest ≡ 0)
+modes_split : (names : Labels) (f : ModeShape) (rest : List ModeShape) (modes : List Mode) (tested : Bool) → (tested ≡ true → 0 < length rest) → (tested ≡ false → length rest ≡ 0)
     → modes_operands names (f ∷ rest) modes ≡ mode_operands names tested f (mode_at modes f.number) ++ modes_operands names rest modes
 modes_split names f [] modes true more none = absurd (let h = more refl in omega (arith, h))
 modes_split names f [] modes false more none = sym (append-nil (mode_operands names false f (mode_at modes f.number)))
 modes_split names f (g ∷ rest) modes true more none = refl
 modes_split names f (g ∷ rest) modes false more none = absurd (let h = none refl in omega (arith, h))
 
+pub mode_put : (names : Labels) (shapes : List ModeShapeMade) (modes : List Mode) (k : ℕ) (x : ModeShapeMade) (mode : Mode) (tested : Bool) (operands next whole : List Operand) → k < length shapes → x ≡ get_or shapes k x → mode_at modes x.number ≡ mode
+    → tested ≡ nat_lt (k + 1) (length shapes) → operands ++ modes_operands names (map mode_shape_of (drop k shapes)) modes ≡ whole → next ≡ operands ++ mode_operands names tested (mode_shape_of x) mode
+    → next ++ modes_operands names (map mode_shape_of (drop (k + 1) shapes)) modes ≡ whole
+mode_put names shapes modes k x mode tested operands next whole lt is here e h put =
+    let rest = map mode_shape_of (drop (k + 1) shapes) in
+    some_less whole operands next (mode_operands names tested (mode_shape_of x) mode) (modes_operands names (map mode_shape_of (drop k shapes)) modes) (modes_operands names rest modes) h put
+    (ap (λ xs. modes_operands names (map mode_shape_of xs) modes) (next_item shapes k x lt is) ∙ modes_split names (mode_shape_of x) rest modes tested more none ∙ ap (λ m. mode_operands names tested (mode_shape_of x) m ++ modes_operands names rest modes) here)
+  where
+    many : length (map mode_shape_of (drop (k + 1) shapes)) ≡ length shapes - (k + 1)
+    many = length-map (drop (k + 1) shapes) mode_shape_of ∙ length-drop (k + 1) shapes
+
+    is_less : nat_lt (k + 1) (length shapes) ≡ true → k + 1 < length shapes
+    is_less t = grind arith
+
+    is_most : nat_lt (k + 1) (length shapes) ≡ false → length shapes ≤ k + 1
+    is_most f = grind arith
+
+    more : tested ≡ true → 0 < length (map mode_shape_of (drop (k + 1) shapes))
+    more t = let l = is_less (sym e ∙ t) in omega (arith, many, l)
+
+    none : tested ≡ false → length (map mode_shape_of (drop (k + 1) shapes)) ≡ 0
+    none f = let l = is_most (sym e ∙ f) in omega (arith, many, l)
+
+-- the mode of a number that is there
+pub mode_seen : (modes : List ModeMade) (n : ℕ) (y : ModeMade) → n < length modes → y ≡ get_or modes n y → mode_at (map mode_of modes) n ≡ mode_of y
+mode_seen modes n y lt is = mode_there (map mode_of modes) n (mode_of y) (read_mapped mode_of modes n y y lt is)
+
+pub suits_number : (shape : LaneShapeMade) (lane : LaneMade) → SuitsLane (lane_shape_of shape) (lane_of lane) → (k : ℕ) (x : ModeShapeMade) → k < length shape.modes → x ≡ get_or shape.modes k x → x.number < length lane.modes
+suits_number shape lane suit k x lt is =
+    let n = suit.numbers k (mode_shape_of x) (read_mapped mode_shape_of shape.modes k x x lt is) in
+    omega (arith, n, length-map lane.modes mode_of)
+
+pub suits_mode : (shape : LaneShapeMade) (lane : LaneMade) → SuitsLane (lane_shape_of shape) (lane_of lane) → (k : ℕ) (x : ModeShapeMade) (y : ModeMade) → k < length shape.modes → x ≡ get_or shape.modes k x → x.number < length lane.modes → y ≡ get_or lane.modes x.number y
+    → SuitsMode (mode_shape_of x) (mode_of y)
+suits_mode shape lane suit k x y lt is within there =
+    subst (SuitsMode (mode_shape_of x)) (mode_seen lane.modes x.number y within there)
+    (suit_mode_at (map mode_shape_of shape.modes) (map mode_of lane.modes) suit.modes k (mode_shape_of x) (read_mapped mode_shape_of shape.modes k x x lt is))
+
 -- what suits the shape at a place
-pub suit_mode_at : (shapes : List ModeShape) (modes : List Mode) → SuitModes shapes modes → (i : ℕ) (f : ModeShape) → slice_get shapes i ≡ Some f → SuitsMode f (mode_at modes f.number)
+suit_mode_at : (shapes : List ModeShape) (modes : List Mode) → SuitModes shapes modes → (i : ℕ) (f : ModeShape) → slice_get shapes i ≡ Some f → SuitsMode f (mode_at modes f.number)
 suit_mode_at [] modes suit i f is = absurd cc
 suit_mode_at (g ∷ shapes) modes suit zero f is = subst (λ (x : ModeShape). SuitsMode x (mode_at modes x.number)) (some_is g f is) suit.0
 suit_mode_at (g ∷ shapes) modes suit (suc i) f is = suit_mode_at shapes modes suit.1 i f is
 
-pub mode_there_at : (count : ℕ) (modes : List Mode) → AllByRecursion (ModeThere count) modes → (k : ℕ) → k < length modes → ModeThere count (mode_at modes k)
-mode_there_at count modes each k lt =
-    let m = there_is modes k lt in
-    subst (ModeThere count) (sym (mode_there modes k m.0 m.1)) (each_at (ModeThere count) modes k m.0 each m.1)
+pub mode_there_at : (count : ℕ) (modes : List ModeMade) → AllByRecursion (ModeThere count) (map mode_of modes) → (k : ℕ) (y : ModeMade) → k < length modes → y ≡ get_or modes k y → ModeThere count (mode_of y)
+mode_there_at count modes each k y lt is = each_at (ModeThere count) (map mode_of modes) k (mode_of y) each (read_mapped mode_of modes k y y lt is)
 
 -- ---- the lanes of a cell
 
-pub outputs_more : (names : Labels) (q n : ℕ) → outputs_from names q (suc n) ≡ outputs_from names q n ++ names.value (q + n) ∷ []
+pub lane_put : (names : Labels) (shapes : List LaneShapeMade) (lanes : List LaneMade) (k : ℕ) (x : LaneShapeMade) (y : LaneMade) (operands next whole : List Operand) → k < length shapes → x ≡ get_or shapes k x → k < length lanes → y ≡ get_or lanes k y
+    → operands ++ lanes_operands names (map lane_shape_of (drop k shapes)) (map lane_of (drop k lanes)) ≡ whole → next ≡ operands ++ modes_operands names (lane_shape_of x).modes (lane_of y).modes
+    → next ++ lanes_operands names (map lane_shape_of (drop (k + 1) shapes)) (map lane_of (drop (k + 1) lanes)) ≡ whole
+lane_put names shapes lanes k x y operands next whole ls is lt it h put =
+    let rest = map lane_shape_of (drop (k + 1) shapes) in
+    some_less whole operands next (modes_operands names (lane_shape_of x).modes (lane_of y).modes) (lanes_operands names (map lane_shape_of (drop k shapes)) (map lane_of (drop k lanes))) (lanes_operands names rest (map lane_of (drop (k + 1) lanes))) h put
+    (ap (λ xs. lanes_operands names (map lane_shape_of xs) (map lane_of (drop k lanes))) (next_item shapes k x ls is) ∙ ap (λ ys. lanes_operands names (lane_shape_of x ∷ rest) (map lane_of ys)) (next_item lanes k y lt it))
+
+pub suits_many : (shapes : List LaneShapeMade) (lanes : List LaneMade) → SuitLanes (map lane_shape_of shapes) (map lane_of lanes) → length shapes ≡ length lanes
+suits_many shapes lanes suit = sym (length-map shapes lane_shape_of) ∙ suit_many (map lane_shape_of shapes) (map lane_of lanes) suit ∙ length-map lanes lane_of
+
+pub suits_lane : (shapes : List LaneShapeMade) (lanes : List LaneMade) → SuitLanes (map lane_shape_of shapes) (map lane_of lanes) → (k : ℕ) (x : LaneShapeMade) (y : LaneMade) → k < length shapes → x ≡ get_or shapes k x → k < length lanes → y ≡ get_or lanes k y
+    → SuitsLane (lane_shape_of x) (lane_of y)
+suits_lane shapes lanes suit k x y ls is lt it =
+    suit_at (map lane_shape_of shapes) (map lane_of lanes) suit k (lane_shape_of x) (lane_of y) (read_mapped lane_shape_of shapes k x x ls is) (read_mapped lane_of lanes k y y lt it)
+
+pub lane_there_at : (count : ℕ) (lanes : List LaneMade) → AllByRecursion (LaneThere count) (map lane_of lanes) → (k : ℕ) (y : LaneMade) → k < length lanes → y ≡ get_or lanes k y → LaneThere count (lane_of y)
+lane_there_at count lanes each k y lt is = each_at (LaneThere count) (map lane_of lanes) k (lane_of y) each (read_mapped lane_of lanes k y y lt is)
+
+outputs_more : (names : Labels) (q n : ℕ) → outputs_from names q (suc n) ≡ outputs_from names q n ++ names.value (q + n) ∷ []
 outputs_more names q zero = let e : q ≡ q + 0 = omega arith in ap (λ i. names.value i ∷ []) e
 outputs_more names q (suc n) = let e : q + 1 + n ≡ q + suc n = omega arith in ap (λ xs. names.value q ∷ xs) (outputs_more names (q + 1) n ∙ ap (λ i. outputs_from names (q + 1) n ++ names.value i ∷ []) e)
 

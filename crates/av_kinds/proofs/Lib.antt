@@ -48,3 +48,4 @@ pub mod ShapeSteps
 pub mod TopSteps
 pub mod PlanSteps
 pub mod KindSteps
+pub mod Reading

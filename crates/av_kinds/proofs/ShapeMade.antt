@@ -1,7 +1,8 @@
 -- A kind can be made of the shape that has room for one of its cells; and the shapes of all kinds.
-use Rattle.std.proofs.Common.{◌≡◌, ℕ, zero, suc, ◌+◌, ◌-◌, ◌<◌, ◌≤◌, List, [], ◌∷◌, length, map, refl, sym, subst, ap, ◌∙◌, arith, Some, inl, inr}
+use Rattle.std.proofs.Common.{◌≡◌, ℕ, zero, suc, ◌+◌, ◌-◌, ◌<◌, ◌≤◌, List, [], ◌∷◌, ◌++◌, length, map, refl, sym, subst, ap, ◌∙◌, arith, Some, inl, inr}
 use Rattle.std.specs.Prelude.{slice_get}
 use Rattle.std.specs.List.{AllByRecursion, range_with_len}
+use Rattle.std.proofs.lemmas.List.{map-append}
 use Rattle.av_base.specs.declared.width.Width.{Width}
 use Rattle.av_base.proofs.Lists.{some_is, there_is, each_at, each_by_place}
 use Rattle.av_kinds.specs.declared.program.CellLanes.{CellLanes}
@@ -10,9 +11,10 @@ use Rattle.av_kinds.specs.declared.program.Inlet.TheVariants.{Inputs, Taps, Pipe
 use Rattle.av_kinds.specs.declared.program.Site.{Site}
 use Rattle.av_kinds.specs.declared.shape.SiteShape.{SiteShape}
 use Rattle.av_kinds.specs.Programs.{site_count, FitsTree, Mode, mode_at, Lane, Program, lanes_of, IsInletOf, IsSite, IsModeOf, IsLaneOf, IsProgram}
-use Rattle.av_kinds.specs.inner.Shapes.{ModeShape, LaneShape, SuitsSite, SuitSites, SuitsMode, SuitModes, HasModeAt, SuitsLane, SuitLanes, IsInletShape, IsSiteShape, IsModeShape, IsLaneShape, IsKindShape}
+use Rattle.av_kinds.specs.inner.Shapes.{ModeShape, LaneShape, LaneShapeMade, lane_shape_of, SuitsSite, SuitSites, SuitsMode, SuitModes, HasModeAt, SuitsLane, SuitLanes, IsInletShape, IsSiteShape, IsModeShape, IsLaneShape, IsKindShape}
 use Rattle.av_kinds.specs.inner.Shaped.{kind_shape}
 use Rattle.av_kinds.specs.inner.Modules.{AreShapesOf, IsKindCount}
+use Rattle.av_kinds.proofs.Placing.{range_more}
 use Rattle.av_kinds.proofs.ShapeSuits.{kind_suits, mode_there, below_length}
 use Rattle.av_kinds.proofs.TopInstances.{lane_of_cell, cell_within, suit_many, lanes_many}
 
@@ -140,7 +142,7 @@ met program is count counted kind lt =
 abbrev pub shapes_of : Program → ℕ → List (List LaneShape)
 shapes_of program count = map (kind_shape program) (range_with_len 0 count)
 
-pub are_shapes : (program : Program) → IsProgram program → (count : ℕ) → IsKindCount program.kinds count → AreShapesOf program (shapes_of program count)
+are_shapes : (program : Program) → IsProgram program → (count : ℕ) → IsKindCount program.kinds count → AreShapesOf program (shapes_of program count)
 are_shapes program is count counted = record {
   each = each_by_place IsKindShape (shapes_of program count) (λ k shape there.
       let h = at_range (kind_shape program) 0 count k shape there in
@@ -156,3 +158,11 @@ are_shapes program is count counted = record {
   where
     suits : (k p : ℕ) (own : CellLanes) → slice_get program.kinds p ≡ Some k → slice_get program.cells p ≡ Some own → SuitLanes (kind_shape program k) (lanes_of program own)
     suits k p own is_kind is_cell = kind_suits program k (λ i j a b ki kj ci cj. is.alike i j k a b ki kj ci cj) p own is_kind is_cell
+
+pub shapes_put : (program : Program) (n : ℕ) (old next : List (List LaneShapeMade)) (shape : List LaneShapeMade) → map (map lane_shape_of) old ≡ shapes_of program n → map lane_shape_of shape ≡ kind_shape program n → next ≡ old ++ shape ∷ []
+    → map (map lane_shape_of) next ≡ shapes_of program (n + 1)
+shapes_put program n old next shape h is put =
+    range_more (kind_shape program) [] (map (map lane_shape_of) old) (map (map lane_shape_of) next) n (map lane_shape_of shape) h (ap (map (map lane_shape_of)) put ∙ map-append (map lane_shape_of) old (shape ∷ [])) is
+
+pub shapes_whole : (program : Program) → IsProgram program → (n count : ℕ) (shapes : List (List LaneShapeMade)) → n ≡ count → IsKindCount program.kinds count → map (map lane_shape_of) shapes ≡ shapes_of program n → AreShapesOf program (map (map lane_shape_of) shapes)
+shapes_whole program is n count shapes e counted h = subst (AreShapesOf program) (sym (h ∙ ap (shapes_of program) e)) (are_shapes program is count counted)

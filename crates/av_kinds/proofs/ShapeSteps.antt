@@ -1,15 +1,17 @@
 -- The shapes of places, modes and lanes, one after another.
 use Rattle.std.proofs.Common.{◌≡◌, ℕ, zero, suc, ◌+◌, ◌<◌, List, [], ◌∷◌, ◌++◌, map, length, drop, get_or, refl, sym, subst, ap, ◌∙◌, arith, Bool, true, false, if◌then◌else◌, Option, Some, None}
 use Rattle.std.specs.Prelude.{slice_get, nat_eq, filter}
-use Rattle.av_base.proofs.Lists.{next_item, same_default}
+use Rattle.av_base.proofs.Lists.{there_is, next_item}
 use Rattle.av_kinds.specs.declared.program.CellLanes.{CellLanes}
+use Rattle.av_base.specs.declared.width.Width.{Width}
+use Rattle.av_kinds.specs.declared.program.Inlet.{Inlet}
 use Rattle.av_kinds.specs.declared.program.Site.{Site}
 use Rattle.av_kinds.specs.declared.shape.SiteShape.{SiteShape}
 use Rattle.av_kinds.specs.Programs.{Mode, Lane, Program, lanes_of}
 use Rattle.av_kinds.specs.Written.{ModeMade, LaneMade, mode_of, lane_of}
 use Rattle.av_kinds.specs.inner.Shapes.{ModeShape, LaneShape, ModeShapeMade, LaneShapeMade, mode_shape_of, lane_shape_of}
 use Rattle.av_kinds.specs.inner.Shaped.{site_shape, site_shapes, mode_shape_by, mode_shapes, lane_shape_by, lane_shapes, shapes_by, is_used, used}
-use Rattle.av_kinds.proofs.Placing.{one_less, one_seen, some_less}
+use Rattle.av_kinds.proofs.Placing.{one_less, one_seen, some_less, from_place}
 
 abbrev pub links_of : SiteShape → ℕ
 links_of s = s.links
@@ -34,6 +36,9 @@ lanes_more [] zero lane lanes = refl
 lanes_more [] (suc k) lane lanes = refl
 lanes_more (f ∷ before) zero lane lanes = refl
 lanes_more (f ∷ before) (suc k) lane lanes = lanes_more before k lane lanes
+
+abbrev pub shape_with : Inlet → Width → ℕ → SiteShape
+shape_with inlet width links = record { inlet = inlet; width = width; links = links }
 
 pub site_put : (before : List SiteShape) (sites : List Site) (k : ℕ) (site : Site) (shapes next whole : List SiteShape) (shape : SiteShape) → k < length sites → site ≡ get_or sites k site → shapes ++ site_shapes (drop k before) (drop k sites) ≡ whole
     → shape ≡ site_shape (get_or (map links_of before) k 0) site → next ≡ shapes ++ shape ∷ [] → next ++ site_shapes (drop (k + 1) before) (drop (k + 1) sites) ≡ whole
@@ -97,10 +102,13 @@ cells_more program kind before own of cells kinds = by_kind (nat_eq of kind)
     by_kind true = refl
     by_kind false = refl
 
-pub cell_put : (program : Program) (kind k : ℕ) (old next whole : List LaneShape) (own : CellLanes) (of : ℕ) → k < length program.cells → own ≡ get_or program.cells k own → k < length program.kinds → of ≡ get_or program.kinds k 0
-    → shapes_by program kind old (drop k program.cells) (drop k program.kinds) ≡ whole → next ≡ shapes_by program kind old (own ∷ []) (of ∷ []) → shapes_by program kind next (drop (k + 1) program.cells) (drop (k + 1) program.kinds) ≡ whole
-cell_put program kind k old next whole own of lt is lk ik h here =
+pub cell_put : (program : Program) (kind k : ℕ) (old next whole : List LaneShape) → k < length program.cells → k < length program.kinds → shapes_by program kind old (drop k program.cells) (drop k program.kinds) ≡ whole
+    → ((own : CellLanes) (of : ℕ) → slice_get program.cells k ≡ Some own → slice_get program.kinds k ≡ Some of → next ≡ shapes_by program kind old (own ∷ []) (of ∷ [])) → shapes_by program kind next (drop (k + 1) program.cells) (drop (k + 1) program.kinds) ≡ whole
+cell_put program kind k old next whole lt lk h here =
+    let own = there_is program.cells k lt in
+    let of = there_is program.kinds k lk in
     let cells = drop (k + 1) program.cells in
     let kinds = drop (k + 1) program.kinds in
-    ap (λ s. shapes_by program kind s cells kinds) here ∙ sym (cells_more program kind old own of cells kinds)
-    ∙ ap (λ ks. shapes_by program kind old (own ∷ cells) ks) (sym (next_item program.kinds k of lk (ik ∙ same_default program.kinds k 0 of lk))) ∙ ap (λ cs. shapes_by program kind old cs (drop k program.kinds)) (sym (next_item program.cells k own lt is)) ∙ h
+    ap (λ s. shapes_by program kind s cells kinds) (here own.0 of.0 own.1 of.1) ∙ sym (cells_more program kind old own.0 of.0 cells kinds)
+    ∙ ap (λ ks. shapes_by program kind old (own.0 ∷ cells) ks) (sym (from_place program.kinds k of.0 of.1 ∙ ap (λ i. of.0 ∷ drop i program.kinds) (one_more k)))
+    ∙ ap (λ cs. shapes_by program kind old cs (drop k program.kinds)) (sym (from_place program.cells k own.0 own.1 ∙ ap (λ i. own.0 ∷ drop i program.cells) (one_more k))) ∙ h

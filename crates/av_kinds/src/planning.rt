@@ -28,13 +28,12 @@ pub struct Modules {
 
 // How many kinds there are: they are numbered from 0.
 fn kind_count(program: &Program<'_>) -> usize
+    requires { IsProgram (program_of program.now) }
     ensures { IsKindCount program.now.kinds result }
 {
-    let mut count = 0;
+    let mut count: usize = 0;
     for kind in program.kinds.as_slice() {
-        if *kind >= count {
-            count = *kind + 1;
-        }
+        count = count.max(*kind + 1);
     }
     count
 }

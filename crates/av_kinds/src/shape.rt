@@ -216,24 +216,25 @@ fn used<'a>(alloc: Global, lane: &LaneShape<'a>) -> Result<LaneShape<'a>, Memory
     })
 }
 
-// The lanes of a kind with room for those of one more cell, where it is of the kind.
-fn with_cell<'a>(
+// Room for the lanes of one more cell, where it is of the kind.
+fn add_cell<'a>(
     alloc: Global,
     program: &Program<'a>,
     kind: usize,
     cell: usize,
-    before: List<LaneShape<'a>>,
-) -> Result<List<LaneShape<'a>>, Memory>
+    shapes: &mut List<LaneShape<'a>>,
+) -> Result<(), Memory>
     requires program { programs.IsProgram (program_of program.now) }
     requires cell { cell < length program.now.kinds }
-    ensures { IfOk result (λ shapes. (own : CellLanes) (of : ℕ) → slice_get program.now.cells cell ≡ Some own → slice_get program.now.kinds cell ≡ Some of
-        → map lane_shape_of shapes ≡ shaped.shapes_by (program_of program.now) kind (map lane_shape_of before) (own ∷ []) (of ∷ [])) }
+    ensures { OnOk result ((own : CellLanes) (of : ℕ) → slice_get program.now.cells cell ≡ Some own → slice_get program.now.kinds cell ≡ Some of
+        → map lane_shape_of shapes.new ≡ shaped.shapes_by (program_of program.now) kind (map lane_shape_of shapes.old) (own ∷ []) (of ∷ [])) }
 {
     if program.kinds.as_slice()[cell] != kind {
-        return Ok(before);
+        return Ok(());
     }
     let own = program.cells.as_slice()[cell];
-    lane_shapes(alloc, before.as_slice(), cell_lanes(program, own))
+    *shapes = lane_shapes(alloc, shapes.as_slice(), cell_lanes(program, own))?;
+    Ok(())
 }
 
 // The lanes of a kind with all modes, and room for each of its cells.
@@ -247,7 +248,7 @@ fn whole_shape<'a>(
 {
     let mut shapes = List::new(alloc);
     for cell in 0..program.kinds.len() {
-        shapes = with_cell(alloc, program, kind, cell, shapes)?;
+        add_cell(alloc, program, kind, cell, &mut shapes)?;
     }
     Ok(shapes)
 }
