@@ -11,12 +11,14 @@ use Rattle.av_kinds.specs.declared.program.Link.{Link}
 use Rattle.av_kinds.specs.declared.program.Site.{Site}
 use Rattle.av_kinds.specs.declared.program.Source.{Source}
 use Rattle.av_kinds.specs.declared.shape.SiteShape.{SiteShape}
-use Rattle.av_kinds.specs.Programs.{Mode, mode_at, Lane}
+use Rattle.av_net.specs.declared.plan.Instance.{Instance}
+use Rattle.av_kinds.specs.declared.program.CellLanes.{CellLanes}
+use Rattle.av_kinds.specs.Programs.{Mode, mode_at, Program, lanes_of}
 use Rattle.av_kinds.specs.Written.{ModeMade, LaneMade, mode_of, lane_of}
-use Rattle.av_kinds.specs.Names.{Labels}
+use Rattle.av_kinds.specs.Names.{Labels, labels, instance_name}
 use Rattle.av_kinds.specs.inner.Counts.{bound}
 use Rattle.av_kinds.specs.inner.Shapes.{ModeShape, ModeShapeMade, LaneShapeMade, mode_shape_of, lane_shape_of, SuitsMode, SuitModes, SuitsLane, SuitLanes}
-use Rattle.av_kinds.specs.inner.Instances.{words_for, bounds_for, site_operands, sites_operands, intervals_for, mode_operands, modes_operands, lanes_operands, outputs_from}
+use Rattle.av_kinds.specs.inner.Instances.{words_for, bounds_for, site_operands, sites_operands, intervals_for, mode_operands, modes_operands, lanes_operands, outputs_from, cell_operands, instance_by}
 use Rattle.av_kinds.specs.inner.Reads.{IsThere, SiteThere, ModeThere, LaneThere}
 use Rattle.av_kinds.proofs.Placing.{one_less, some_less, read_mapped}
 use Rattle.av_kinds.proofs.ShapeSuits.{mode_there}
@@ -129,7 +131,7 @@ modes_split names f [] modes false more none = sym (append-nil (mode_operands na
 modes_split names f (g ∷ rest) modes true more none = refl
 modes_split names f (g ∷ rest) modes false more none = absurd (let h = none refl in omega (arith, h))
 
-pub mode_put : (names : Labels) (shapes : List ModeShapeMade) (modes : List Mode) (k : ℕ) (x : ModeShapeMade) (mode : Mode) (tested : Bool) (operands next whole : List Operand) → k < length shapes → x ≡ get_or shapes k x → mode_at modes x.number ≡ mode
+mode_put : (names : Labels) (shapes : List ModeShapeMade) (modes : List Mode) (k : ℕ) (x : ModeShapeMade) (mode : Mode) (tested : Bool) (operands next whole : List Operand) → k < length shapes → x ≡ get_or shapes k x → mode_at modes x.number ≡ mode
     → tested ≡ nat_lt (k + 1) (length shapes) → operands ++ modes_operands names (map mode_shape_of (drop k shapes)) modes ≡ whole → next ≡ operands ++ mode_operands names tested (mode_shape_of x) mode
     → next ++ modes_operands names (map mode_shape_of (drop (k + 1) shapes)) modes ≡ whole
 mode_put names shapes modes k x mode tested operands next whole lt is here e h put =
@@ -152,29 +154,57 @@ mode_put names shapes modes k x mode tested operands next whole lt is here e h p
     none : tested ≡ false → length (map mode_shape_of (drop (k + 1) shapes)) ≡ 0
     none f = let l = is_most (sym e ∙ f) in omega (arith, many, l)
 
--- the mode of a number that is there
-pub mode_seen : (modes : List ModeMade) (n : ℕ) (y : ModeMade) → n < length modes → y ≡ get_or modes n y → mode_at (map mode_of modes) n ≡ mode_of y
-mode_seen modes n y lt is = mode_there (map mode_of modes) n (mode_of y) (read_mapped mode_of modes n y y lt is)
-
-pub suits_number : (shape : LaneShapeMade) (lane : LaneMade) → SuitsLane (lane_shape_of shape) (lane_of lane) → (k : ℕ) (x : ModeShapeMade) → k < length shape.modes → x ≡ get_or shape.modes k x → x.number < length lane.modes
-suits_number shape lane suit k x lt is =
-    let n = suit.numbers k (mode_shape_of x) (read_mapped mode_shape_of shape.modes k x x lt is) in
-    omega (arith, n, length-map lane.modes mode_of)
-
-pub suits_mode : (shape : LaneShapeMade) (lane : LaneMade) → SuitsLane (lane_shape_of shape) (lane_of lane) → (k : ℕ) (x : ModeShapeMade) (y : ModeMade) → k < length shape.modes → x ≡ get_or shape.modes k x → x.number < length lane.modes → y ≡ get_or lane.modes x.number y
-    → SuitsMode (mode_shape_of x) (mode_of y)
-suits_mode shape lane suit k x y lt is within there =
-    subst (SuitsMode (mode_shape_of x)) (mode_seen lane.modes x.number y within there)
-    (suit_mode_at (map mode_shape_of shape.modes) (map mode_of lane.modes) suit.modes k (mode_shape_of x) (read_mapped mode_shape_of shape.modes k x x lt is))
-
 -- what suits the shape at a place
 suit_mode_at : (shapes : List ModeShape) (modes : List Mode) → SuitModes shapes modes → (i : ℕ) (f : ModeShape) → slice_get shapes i ≡ Some f → SuitsMode f (mode_at modes f.number)
 suit_mode_at [] modes suit i f is = absurd cc
 suit_mode_at (g ∷ shapes) modes suit zero f is = subst (λ (x : ModeShape). SuitsMode x (mode_at modes x.number)) (some_is g f is) suit.0
 suit_mode_at (g ∷ shapes) modes suit (suc i) f is = suit_mode_at shapes modes suit.1 i f is
 
-pub mode_there_at : (count : ℕ) (modes : List ModeMade) → AllByRecursion (ModeThere count) (map mode_of modes) → (k : ℕ) (y : ModeMade) → k < length modes → y ≡ get_or modes k y → ModeThere count (mode_of y)
+-- the mode of a number that is there
+mode_seen : (modes : List ModeMade) (n : ℕ) (y : ModeMade) → n < length modes → y ≡ get_or modes n y → mode_at (map mode_of modes) n ≡ mode_of y
+mode_seen modes n y lt is = mode_there (map mode_of modes) n (mode_of y) (read_mapped mode_of modes n y y lt is)
+
+suits_number : (shape : LaneShapeMade) (lane : LaneMade) → SuitsLane (lane_shape_of shape) (lane_of lane) → (k : ℕ) (x : ModeShapeMade) → k < length shape.modes → x ≡ get_or shape.modes k x → x.number < length lane.modes
+suits_number shape lane suit k x lt is =
+    let n = suit.numbers k (mode_shape_of x) (read_mapped mode_shape_of shape.modes k x x lt is) in
+    omega (arith, n, length-map lane.modes mode_of)
+
+suits_mode : (shape : LaneShapeMade) (lane : LaneMade) → SuitsLane (lane_shape_of shape) (lane_of lane) → (k : ℕ) (x : ModeShapeMade) (y : ModeMade) → k < length shape.modes → x ≡ get_or shape.modes k x → x.number < length lane.modes → y ≡ get_or lane.modes x.number y
+    → SuitsMode (mode_shape_of x) (mode_of y)
+suits_mode shape lane suit k x y lt is within there =
+    subst (SuitsMode (mode_shape_of x)) (mode_seen lane.modes x.number y within there)
+    (suit_mode_at (map mode_shape_of shape.modes) (map mode_of lane.modes) suit.modes k (mode_shape_of x) (read_mapped mode_shape_of shape.modes k x x lt is))
+
+mode_there_at : (count : ℕ) (modes : List ModeMade) → AllByRecursion (ModeThere count) (map mode_of modes) → (k : ℕ) (y : ModeMade) → k < length modes → y ≡ get_or modes k y → ModeThere count (mode_of y)
 mode_there_at count modes each k y lt is = each_at (ModeThere count) (map mode_of modes) k (mode_of y) each (read_mapped mode_of modes k y y lt is)
+
+-- the same of the slices that are read
+module _ (shape : LaneShapeMade) (lane : LaneMade) (shapes : List ModeShapeMade) (modes : List ModeMade) (k n : ℕ) (x : ModeShapeMade) (e : shapes ≡ shape.modes) (f : modes ≡ lane.modes) (number : n ≡ x.number) (suit : SuitsLane (lane_shape_of shape) (lane_of lane))
+    (lt : k < length shapes) (is : x ≡ get_or shapes k x) where
+  here : k < length shape.modes
+  here = subst (λ (xs : List ModeShapeMade). k < length xs) e lt
+
+  there : x ≡ get_or shape.modes k x
+  there = is ∙ ap (λ (xs : List ModeShapeMade). get_or xs k x) e
+
+  pub mode_within : n < length modes
+  mode_within = subst (λ (ys : List ModeMade). n < length ys) (sym f) (subst (λ i. i < length lane.modes) (sym number) (suits_number shape lane suit k x here there))
+
+  module _ (y : ModeMade) (at : y ≡ get_or modes n y) where
+    read : y ≡ get_or lane.modes x.number y
+    read = at ∙ ap (λ (ys : List ModeMade). get_or ys n y) f ∙ ap (λ i. get_or lane.modes i y) number
+
+    pub mode_suits : SuitsMode (mode_shape_of x) (mode_of y)
+    mode_suits = suits_mode shape lane suit k x y here there (suits_number shape lane suit k x here there) read
+
+    pub mode_reads : (count : ℕ) → AllByRecursion (ModeThere count) (map mode_of lane.modes) → ModeThere count (mode_of y)
+    mode_reads count each = mode_there_at count lane.modes each x.number y (suits_number shape lane suit k x here there) read
+
+    pub mode_added : (names : Labels) (operands next whole : List Operand) → operands ++ modes_operands names (map mode_shape_of (drop k shape.modes)) (map mode_of lane.modes) ≡ whole
+        → next ≡ operands ++ mode_operands names (nat_lt (k + 1) (length shapes)) (mode_shape_of x) (mode_of y) → next ++ modes_operands names (map mode_shape_of (drop (k + 1) shape.modes)) (map mode_of lane.modes) ≡ whole
+    mode_added names operands next whole h put =
+        mode_put names shape.modes (map mode_of lane.modes) k x (mode_of y) (nat_lt (k + 1) (length shapes)) operands next whole here there (mode_seen lane.modes x.number y (suits_number shape lane suit k x here there) read)
+        (ap (λ (xs : List ModeShapeMade). nat_lt (k + 1) (length xs)) e) h put
 
 -- ---- the lanes of a cell
 
@@ -204,3 +234,18 @@ outputs_more names q (suc n) = let e : q + 1 + n ≡ q + suc n = omega arith in 
 pub output_put : (names : Labels) (q k : ℕ) (outputs next : List (List ℕ)) (name : List ℕ) → outputs ≡ outputs_from names q k → name ≡ names.value (q + k) → next ≡ outputs ++ name ∷ [] → next ≡ outputs_from names q (k + 1)
 output_put names q k outputs next name h is put =
     put ∙ ap (λ xs. xs ++ name ∷ []) h ∙ ap (λ x. outputs_from names q k ++ x ∷ []) is ∙ sym (outputs_more names q k) ∙ ap (outputs_from names q) (one_more k)
+
+-- ---- the whole
+
+abbrev pub instance_with : List ℕ → ℕ → List Operand → List (List ℕ) → Instance
+instance_with name kind inputs outputs = record { name = name; kind = kind; inputs = inputs; outputs = outputs }
+
+pub instance_made : (program : Program) (counter : List ℕ) (cell kind : ℕ) (own other : CellLanes) (shape : List LaneShapeMade) (name : List ℕ) (inputs : List Operand) (outputs : List (List ℕ)) → slice_get program.cells cell ≡ Some own → slice_get program.cells cell ≡ Some other
+    → name ≡ instance_name cell → inputs ≡ cell_operands (labels program) counter (map lane_shape_of shape) (lanes_of program own) → outputs ≡ outputs_from (labels program) own.first (length shape)
+    → instance_with name kind inputs outputs ≡ instance_by (labels program) counter cell kind other.first (map lane_shape_of shape) (lanes_of program other)
+instance_made program counter cell kind own other shape name inputs outputs is_own is_other is_name is_inputs is_outputs =
+    let N = labels program in
+    let same : own ≡ other = some_is own other (sym is_own ∙ is_other) in
+    subst (λ (o : CellLanes). instance_with name kind inputs outputs ≡ instance_by N counter cell kind o.first (map lane_shape_of shape) (lanes_of program o)) same
+    (ap (λ n. instance_with n kind inputs outputs) is_name ∙ ap (λ xs. instance_with (instance_name cell) kind xs outputs) is_inputs
+    ∙ ap (instance_with (instance_name cell) kind (cell_operands N counter (map lane_shape_of shape) (lanes_of program own))) (is_outputs ∙ ap (outputs_from N own.first) (sym (length-map shape lane_shape_of))))

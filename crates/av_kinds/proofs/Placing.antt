@@ -121,3 +121,19 @@ pub from_place : {X : Type 0} (xs : List X) (k : ℕ) (x : X) → slice_get xs k
 from_place [] k x is = absurd cc
 from_place (y ∷ xs) zero x is = ap (λ z. z ∷ xs) (some_is y x is)
 from_place (y ∷ xs) (suc k) x is = from_place xs k x is
+
+-- a view of a part of a list
+pub dropped : {X Y : Type 0} (f : X → Y) (xs : List X) (k : ℕ) → map f (drop k xs) ≡ drop k (map f xs)
+dropped f [] zero = refl
+dropped f [] (suc k) = refl
+dropped f (x ∷ xs) zero = refl
+dropped f (x ∷ xs) (suc k) = dropped f xs k
+
+taken : {X Y : Type 0} (f : X → Y) (xs : List X) (k : ℕ) → map f (take k xs) ≡ take k (map f xs)
+taken f [] zero = refl
+taken f [] (suc k) = refl
+taken f (x ∷ xs) zero = refl
+taken f (x ∷ xs) (suc k) = ap (λ ys. f x ∷ ys) (taken f xs k)
+
+pub part_seen : {X Y : Type 0} (f : X → Y) (xs : List X) (a n k : ℕ) → n ≡ k → map f (take n (drop a xs)) ≡ take k (drop a (map f xs))
+part_seen f xs a n k e = taken f (drop a xs) n ∙ ap (take n) (dropped f xs a) ∙ ap (λ i. take i (drop a (map f xs))) e

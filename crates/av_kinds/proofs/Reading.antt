@@ -1,5 +1,5 @@
 -- The lanes that the sources of a program name are there.
-use Rattle.std.proofs.Common.{◌≡◌, ℕ, ◌+◌, ◌^◌, ◌<◌, ◌≤◌, length, sym, subst, Some}
+use Rattle.std.proofs.Common.{◌≡◌, ℕ, List, map, arith, ◌+◌, ◌^◌, ◌<◌, ◌≤◌, length, sym, subst, Some}
 use Rattle.std.specs.Prelude.{slice_get}
 use Rattle.std.specs.List.{AllByRecursion}
 use Rattle.std.proofs.lemmas.List.{length-map}
@@ -14,9 +14,10 @@ use Rattle.av_kinds.specs.declared.program.Source.{Source}
 use Rattle.av_kinds.specs.declared.program.Source.TheVariants.{Word, Input, Line}
 use Rattle.av_kinds.specs.Programs.{Mode, Lane, Program, lanes_of, IsSource, IsInletOf, IsSite, IsModeOf, IsProgram}
 use Rattle.av_kinds.specs.Written.{ProgramMade, lane_of, program_of}
+use Rattle.av_kinds.specs.inner.Shapes.{LaneShapeMade, lane_shape_of, SuitLanes}
 use Rattle.av_kinds.specs.inner.Reads.{IsThere, SiteThere, ModeThere, LaneThere}
 use Rattle.av_kinds.proofs.ShapeSuits.{below_length}
-use Rattle.av_kinds.proofs.TopInstances.{lane_of_cell, cell_within}
+use Rattle.av_kinds.proofs.TopInstances.{lane_of_cell, cell_within, suit_many, lanes_many}
 
 source_is_there : (program : Program) (w : Width) (source : Source) → IsSource program w source → IsThere (length program.lanes) source
 source_is_there program w (Word n) is = tt
@@ -64,3 +65,12 @@ cell_is_there program is p own is_cell =
     let many : length P.lanes ≡ length program.lanes = length-map program.lanes lane_of in
     let within = cell_within 0 P.cells (length P.lanes) is.in_turn p own is_cell in
     record { bounds = within.low; most = subst (λ n. own.value < n) many within.high; there = subst (λ n. AllByRecursion (LaneThere n) (lanes_of P own)) many (lanes_are_there P is p own is_cell) }
+
+-- so many lanes does a shape have that suits those of the cell
+pub outputs_within : (program : ProgramMade) (own : CellLanes) (shape : List LaneShapeMade) → IsCellThere program own → SuitLanes (map lane_shape_of shape) (lanes_of (program_of program) own) → own.first + length shape ≤ length program.lanes
+outputs_within program own shape is suit =
+    let P = program_of program in
+    let many : length P.lanes ≡ length program.lanes = length-map program.lanes lane_of in
+    let room = suit_many (map lane_shape_of shape) (lanes_of P own) suit in
+    let count = lanes_many P own (record { low = is.bounds; high = subst (λ n. own.value < n) (sym many) is.most }) in
+    omega (arith, room, count, length-map shape lane_shape_of, is.bounds, is.most)

@@ -11,7 +11,7 @@ use Rattle.av_kinds.specs.Programs.{Mode, Lane, Program, lanes_of}
 use Rattle.av_kinds.specs.Written.{ModeMade, LaneMade, mode_of, lane_of}
 use Rattle.av_kinds.specs.inner.Shapes.{ModeShape, LaneShape, ModeShapeMade, LaneShapeMade, mode_shape_of, lane_shape_of}
 use Rattle.av_kinds.specs.inner.Shaped.{site_shape, site_shapes, mode_shape_by, mode_shapes, lane_shape_by, lane_shapes, shapes_by, is_used, used}
-use Rattle.av_kinds.proofs.Placing.{one_less, one_seen, some_less, from_place}
+use Rattle.av_kinds.proofs.Placing.{one_less, one_seen, some_less, from_place, dropped}
 
 abbrev pub links_of : SiteShape → ℕ
 links_of s = s.links
@@ -46,12 +46,6 @@ site_put before sites k site shapes next whole shape lt is h here put =
     let rest = drop (k + 1) sites in
     one_less whole shapes next shape (site_shapes (drop k before) (drop k sites)) (site_shapes (drop (k + 1) before) rest) h put
     (ap (site_shapes (drop k before)) (next_item sites k site lt is) ∙ sites_more before k site rest ∙ ap (λ x. x ∷ site_shapes (drop (suc k) before) rest) (sym here) ∙ ap (λ i. shape ∷ site_shapes (drop i before) rest) (one_more k))
-
-dropped : {X Y : Type 0} (f : X → Y) (xs : List X) (k : ℕ) → map f (drop k xs) ≡ drop k (map f xs)
-dropped f [] zero = refl
-dropped f [] (suc k) = refl
-dropped f (x ∷ xs) zero = refl
-dropped f (x ∷ xs) (suc k) = dropped f xs k
 
 pub mode_put : (before : List ModeShapeMade) (modes : List ModeMade) (k : ℕ) (mode : ModeMade) (shapes next : List ModeShapeMade) (whole : List ModeShape) (shape : ModeShapeMade) → k < length modes → mode ≡ get_or modes k mode
     → map mode_shape_of shapes ++ mode_shapes (map mode_shape_of (drop k before)) k (map mode_of (drop k modes)) ≡ whole

@@ -1,5 +1,5 @@
 -- What a lane brings into the top module, by its names.
-use Rattle.std.proofs.Common.{◌≡◌, ℕ, suc, ◌+◌, ◌<◌, List, [], ◌∷◌, ◌++◌, map, length, take, drop, get_or, refl, sym, ap, ◌∙◌, arith, Some}
+use Rattle.std.proofs.Common.{◌≡◌, ℕ, suc, ◌+◌, ◌<◌, Bool, false, if◌then◌else◌, codes, List, [], ◌∷◌, ◌++◌, map, length, take, drop, get_or, refl, sym, ap, ◌∙◌, arith, Some}
 use Rattle.std.specs.Prelude.{slice_get}
 use Rattle.std.specs.List.{range_with_len}
 use Rattle.std.proofs.lemmas.List.{append-nil}
@@ -14,10 +14,15 @@ use Rattle.av_kinds.specs.declared.naming.LaneNames.{LaneNames}
 use Rattle.av_kinds.specs.declared.top.TopParts.{TopParts}
 use Rattle.av_kinds.specs.Programs.{Lane, Program}
 use Rattle.av_kinds.specs.Written.{LaneMade, ProgramMade, lane_of, program_of}
-use Rattle.av_kinds.specs.Names.{Naming, Labels, labels, output_name}
-use Rattle.av_kinds.specs.Tops.{port, numbered_ports, width_in, output_drives, line_step}
+use Rattle.av_net.specs.declared.netlist.Module.{Module}
+use Rattle.av_kinds.specs.declared.counter.Counter.{Counter}
+use Rattle.av_kinds.specs.Names.{Naming, Labels, labels, input_name, output_name}
+use Rattle.av_kinds.specs.Counters.{counter_width, counter_name}
+use Rattle.av_kinds.specs.inner.Counts.{counter_wires, counter_drives, counter_step}
+use Rattle.av_kinds.specs.inner.Modules.{top_by}
+use Rattle.av_kinds.specs.Tops.{port, numbered_ports, width_in, output_widths, output_drives, lane_wires, lane_registers, lane_steps, line_step}
 use Rattle.av_kinds.specs.inner.Numbered.{IsNaming, value_in, register_in, line_in, step_in}
-use Rattle.av_kinds.specs.inner.TopParts.{AddsLaneAt}
+use Rattle.av_kinds.specs.inner.TopParts.{AddsLaneAt, ArePartsOf, AddsCounter}
 use Rattle.av_kinds.proofs.Placing.{one_less, next_mapped, line_named, read_mapped}
 
 same_map : {X Y : Type 0} (f g : X → Y) → ((x : X) → f x ≡ g x) → (xs : List X) → map f xs ≡ map g xs
@@ -66,3 +71,31 @@ pub width_put : (program : ProgramMade) (outputs : List ℕ) (k q : ℕ) (lane :
     → old ≡ map (λ i. width_in (slice_get (program_of program).lanes i)) (take k outputs) → w ≡ lane.width → next ≡ old ++ w ∷ [] → next ≡ map (λ i. width_in (slice_get (program_of program).lanes i)) (take (k + 1) outputs)
 width_put program outputs k q lane old next w lt is there here h own put =
     next_mapped (λ i. width_in (slice_get (program_of program).lanes i)) outputs k q old next w lt (is ∙ same_default outputs k 0 q lt) h put (own ∙ ap width_in (sym (read_mapped lane_of program.lanes q lane lane there here)))
+
+-- ---- the counter, and the whole
+
+pub not_counted : (counter : Counter) (parts : TopParts) → AddsCounter counter false parts parts
+not_counted counter parts = record { wires = sym (append-nil parts.wires); registers = sym (append-nil parts.registers); drives = sym (append-nil parts.drives); steps = sym (append-nil parts.steps) }
+
+abbrev pub module_with : List ℕ → List Port → List Port → TopParts → Module
+module_with name inputs outputs parts = record { name = name; inputs = inputs; outputs = outputs; wires = parts.wires; registers = parts.registers; drives = parts.drives; steps = parts.steps }
+
+pub top_made : (counter : Counter) (counts : Bool) (program : Program) (inputs outputs : List Port) (lanes last : TopParts) (drives : List Drive) → ArePartsOf program lanes → drives ≡ lanes.drives ++ output_drives (labels program) 0 program.outputs
+    → AddsCounter counter counts (record { wires = lanes.wires; registers = lanes.registers; drives = drives; steps = lanes.steps }) last → inputs ≡ numbered_ports input_name 0 program.inputs → outputs ≡ numbered_ports output_name 0 (output_widths program)
+    → module_with (codes "array") inputs outputs last ≡ top_by counter counts program
+top_made counter counts program inputs outputs lanes last drives parts put adds is_inputs is_outputs =
+    let N = labels program in
+    let more_wires = if counts then counter_wires counter else [] in
+    let more_registers = if counts then port counter_width (counter_name counter) ∷ [] else [] in
+    let more_drives = if counts then counter_drives counter else [] in
+    let more_steps = if counts then counter_step counter ∷ [] else [] in
+    same_module inputs (numbered_ports input_name 0 program.inputs) outputs (numbered_ports output_name 0 (output_widths program)) last (record {
+      wires = lane_wires N 0 program.lanes ++ more_wires;
+      registers = lane_registers N 0 program.lanes ++ more_registers;
+      drives = output_drives N 0 program.outputs ++ more_drives;
+      steps = lane_steps N 0 program.lanes ++ more_steps;
+    }) is_inputs is_outputs (adds.wires ∙ ap (λ xs. xs ++ more_wires) parts.wires) (adds.registers ∙ ap (λ xs. xs ++ more_registers) parts.registers)
+    (adds.drives ∙ ap (λ xs. xs ++ more_drives) (put ∙ ap (λ xs. xs ++ output_drives N 0 program.outputs) parts.drives)) (adds.steps ∙ ap (λ xs. xs ++ more_steps) parts.steps)
+  where
+    same_module : (i j o u : List Port) (a b : TopParts) → i ≡ j → o ≡ u → a.wires ≡ b.wires → a.registers ≡ b.registers → a.drives ≡ b.drives → a.steps ≡ b.steps → module_with (codes "array") i o a ≡ module_with (codes "array") j u b
+    same_module i j o u a b e f g h k l = cc

@@ -1,7 +1,8 @@
 //! The instances of cells: what their kinds' ports take, and what they drive.
 
-ghost use Rattle.std.specs.Prelude.{◌≡◌, ◌<◌, ◌≤◌, ◌+◌, ◌++◌, length, map, slice_get, slice_index_or, IfOk, OnOk};
+ghost use Rattle.std.specs.Prelude.{◌≡◌, ◌<◌, ◌≤◌, ◌+◌, [], ◌∷◌, ◌++◌, if◌then◌else◌, length, map, slice_get, slice_index_or, IfOk, OnOk};
 ghost use Rattle.std.specs.List.{AllByRecursion};
+ghost use Rattle.av_net.specs.declared.operation.Operand.TheVariants as operand;
 ghost use Rattle.av_kinds.specs.Programs.{IsProgram, lanes_of};
 ghost use Rattle.av_kinds.specs.Written.{program_of, lane_of, mode_of};
 ghost use Rattle.av_kinds.specs.declared.program.CellLanes.{CellLanes};
@@ -170,10 +171,10 @@ fn add_mode(
 {
     let sites = mode.work.sites.as_slice();
     add_sites(alloc, program, shape.sites.as_slice(), sites, operands)?;
-    if is_tested {
-        add_intervals(mode.intervals.as_slice(), shape.intervals, operands)?;
+    if !is_tested {
+        return Ok(());
     }
-    Ok(())
+    add_intervals(mode.intervals.as_slice(), shape.intervals, operands)
 }
 
 // What the ports of a lane take.
@@ -226,11 +227,28 @@ fn lane_outputs(
     requires { first + count ≤ length program.now.lanes }
     ensures { IfOk result (λ names. names ≡ outputs_from (labels (program_of program.now)) first count) }
 {
+    prove!(program.lanes.len() <= 1 << 30);
     let mut outputs = List::new(alloc);
     for k in 0..count {
         outputs.push(lane_names(program, first + k).value(alloc)?)?;
     }
     Ok(outputs)
+}
+
+// The operand of the counter's port, where there is one.
+fn counter_operands(
+    alloc: Global,
+    counter: Counter,
+    counts: bool,
+) -> Result<List<Operand>, Memory>
+    ensures { IfOk result (λ operands. operands ≡ (if counts then operand.Name (counter_name counter) ∷ [] else [])) }
+{
+    let mut operands = List::new(alloc);
+    if !counts {
+        return Ok(operands);
+    }
+    operands.push(Operand::Name(counter.name(alloc)?))?;
+    Ok(operands)
 }
 
 // What the ports of a cell's kind take.
@@ -248,12 +266,9 @@ fn cell_operands(
     ensures { IfOk result (λ operands. operands ≡ cell_operands (labels (program_of program.now)) (counter_name counter) (map lane_shape_of shape.now) (lanes_of (program_of program.now) own)) }
 {
     let lanes = cell_lanes(program, own);
-    let mut inputs = List::new(alloc);
-    if counts(shape) {
-        inputs.push(Operand::Name(counter.name(alloc)?))?;
-    }
-    add_lanes(alloc, program, shape, lanes, &mut inputs)?;
-    Ok(inputs)
+    let mut operands = counter_operands(alloc, counter, counts(shape))?;
+    add_lanes(alloc, program, shape, lanes, &mut operands)?;
+    Ok(operands)
 }
 
 /// The instance of a cell.

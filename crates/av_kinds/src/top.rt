@@ -116,11 +116,19 @@ fn add_outputs(alloc: Global, program: &Program<'_>, drives: &mut List<Drive>) -
     Ok(())
 }
 
-// The counter.
-fn add_counter(alloc: Global, counter: Counter, parts: &mut TopParts) -> Result<(), Memory>
+// The counter, where it is tested.
+fn add_counter(
+    alloc: Global,
+    counter: Counter,
+    counts: bool,
+    parts: &mut TopParts,
+) -> Result<(), Memory>
     requires { IsCounter counter }
-    ensures { OnOk result (AddsCounter counter parts.old parts.new) }
+    ensures { OnOk result (AddsCounter counter counts parts.old parts.new) }
 {
+    if !counts {
+        return Ok(());
+    }
     counter.add_parts(alloc, &mut parts.wires, &mut parts.drives)?;
     parts.registers.push(Port {
         name: counter.name(alloc)?,
@@ -142,9 +150,7 @@ pub(crate) fn top(
 {
     let mut parts = parts_of(alloc, program)?;
     add_outputs(alloc, program, &mut parts.drives)?;
-    if counts {
-        add_counter(alloc, counter, &mut parts)?;
-    }
+    add_counter(alloc, counter, counts, &mut parts)?;
     let widths = output_widths(alloc, program)?;
     Ok(Module {
         name: Name::new(alloc, "array")?,

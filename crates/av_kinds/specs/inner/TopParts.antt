@@ -1,5 +1,5 @@
 -- What lanes and the counter bring into the top module.
-use Rattle.std.specs.Prelude.{◌≡◌, ℕ, List, [], ◌∷◌, ◌++◌, Some, slice_get}
+use Rattle.std.specs.Prelude.{◌≡◌, ℕ, Bool, if◌then◌else◌, List, [], ◌∷◌, ◌++◌, Some, slice_get}
 use Rattle.av_kinds.specs.declared.counter.Counter.{Counter}
 use Rattle.av_kinds.specs.declared.top.TopParts.{TopParts}
 use Rattle.av_kinds.specs.Programs.{Lane, Program}
@@ -23,8 +23,9 @@ pub record ArePartsOf (program : Program) (parts : TopParts) : Type 0 where
   pub drives : parts.drives ≡ []
   pub steps : parts.steps ≡ lane_steps (labels program) 0 program.lanes
 
-pub record AddsCounter (counter : Counter) (old new : TopParts) : Type 0 where
-  pub wires : new.wires ≡ old.wires ++ counter_wires counter
-  pub registers : new.registers ≡ old.registers ++ port counter_width (counter_name counter) ∷ []
-  pub drives : new.drives ≡ old.drives ++ counter_drives counter
-  pub steps : new.steps ≡ old.steps ++ counter_step counter ∷ []
+-- the counter, where it is tested
+pub record AddsCounter (counter : Counter) (counts : Bool) (old new : TopParts) : Type 0 where
+  pub wires : new.wires ≡ old.wires ++ (if counts then counter_wires counter else [])
+  pub registers : new.registers ≡ old.registers ++ (if counts then port counter_width (counter_name counter) ∷ [] else [])
+  pub drives : new.drives ≡ old.drives ++ (if counts then counter_drives counter else [])
+  pub steps : new.steps ≡ old.steps ++ (if counts then counter_step counter ∷ [] else [])

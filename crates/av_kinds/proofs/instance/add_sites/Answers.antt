@@ -19,3 +19,8 @@ loop-k-preserved c =
     let names = labels (program_of c.args.program.now) in
     site_put names c.args.shapes.now c.args.sites.now c.loop-k.k c.index-shapes-k.result c.index-sites-k.result c.loop-k.operands c.add_site.new.operands (c.args.operands.now ++ sites_operands names c.args.shapes.now c.args.sites.now)
     (search rules) c.index-shapes-k.is (omega (arith, c.loop-k-test.true, suit_sites_many c.args.shapes.now c.args.sites.now c.requires.suit)) c.index-sites-k.is c.loop-k.invariant c.in_ok-add_site.ensures
+
+pub offset_bounds-sites-k : goal.offset_bounds-sites-k
+offset_bounds-sites-k c =
+    let within : c.loop-k.k < length c.args.sites.now = omega (arith, c.loop-k-test.true, suit_sites_many c.args.shapes.now c.args.sites.now c.requires.suit) in
+    omega arith
