@@ -1,5 +1,5 @@
 -- A lane of a kind that is written: its wires, its drives and its output.
-use Rattle.std.proofs.Common.{◌≡◌, ◌≢◌, ℕ, zero, suc, ◌+◌, ◌-◌, ◌<◌, ◌≤◌, List, [], ◌∷◌, ◌++◌, length, map, drop, get_or, refl, sym, subst, ap, ◌∙◌, arith, append_assoc, Some}
+use Rattle.std.proofs.Common.{◌≡◌, ◌≢◌, ℕ, zero, suc, ◌+◌, ◌-◌, ◌<◌, ◌≤◌, List, [], ◌∷◌, ◌++◌, length, map, drop, get_or, refl, sym, subst, ap, ◌∙◌, arith, append_assoc, Bool, if◌then◌else◌, Some, None}
 use Rattle.std.specs.Prelude.{slice_get}
 use Rattle.std.specs.List.{AllByRecursion}
 use Rattle.std.proofs.lemmas.List.{length-drop, length-map}
@@ -13,7 +13,9 @@ use Rattle.av_kinds.specs.declared.interface.Interface.{Interface}
 use Rattle.av_kinds.specs.declared.kind.KindParts.{KindParts}
 use Rattle.av_kinds.specs.declared.naming.WireNames.{WireNames}
 use Rattle.av_kinds.specs.declared.shape.SiteShape.{SiteShape}
-use Rattle.av_kinds.specs.Names.{inner_name}
+use Rattle.av_net.specs.declared.operation.Operand.TheVariants.{Name}
+use Rattle.av_net.specs.declared.plan.CellKind.{CellKind}
+use Rattle.av_kinds.specs.Names.{inner_name, pipe_name, kind_value, kind_counter, kind_name}
 use Rattle.av_kinds.specs.Programs.{site_count}
 use Rattle.av_kinds.specs.Tops.{port}
 use Rattle.av_kinds.specs.inner.Gates.{Built, drives_from, ports_from}
@@ -21,11 +23,12 @@ use Rattle.av_kinds.specs.inner.Cells as cells
 use Rattle.av_kinds.specs.inner.Cells.{GuardedDatapath, modes_built, datapaths_built}
 use Rattle.av_kinds.specs.inner.Shapes.{ModeShape, LaneShape, LaneShapeMade, lane_shape_of, IsModeShape, IsLaneShape, IsKindShape}
 use Rattle.av_kinds.specs.inner.Interfaces.{PortCounts, past_site, past_tested, past_modes, taps_of, datapath_of, tested_of, last_of, datapaths_of, modes_ports}
-use Rattle.av_kinds.specs.inner.Kinds.{output_of, lane_built}
+use Rattle.av_kinds.specs.inner.Kinds.{counts, output_of, lane_built, no_ports, lanes_outputs, lanes_wires, lanes_drives, kind_inputs, kind_by}
 use Rattle.av_kinds.specs.inner.Numbered.{wire_in}
-use Rattle.av_kinds.specs.inner.Numbers.{counts_of, AddsPorts}
+use Rattle.av_kinds.specs.inner.Numbers.{counts_of, AddsPorts, IsOpened}
 use Rattle.av_kinds.specs.inner.Added.{AddsBuilt, GuardedDatapathMade, LaneDatapathsMade, as_datapath, as_guarded, as_datapaths, HasTaps}
-use Rattle.av_kinds.specs.inner.Lanes.{AddsWires, AddsLane, IsOutputOf, AddsLaneOf}
+use Rattle.av_kinds.specs.inner.Lanes.{AddsWires, AddsLane, IsOutputOf, AddsLaneOf, counted}
+use Rattle.av_kinds.proofs.Writing.{IsKindWhole}
 use Rattle.av_kinds.proofs.Placing.{drive_of, read_mapped, from_place}
 
 abbrev pub parts_with : List Port → List Port → List Drive → KindParts
@@ -55,6 +58,16 @@ output_named k all name lt h = by_rest (drop (suc k) all) (length-drop (suc k) a
     by_rest : (rest : List LaneShape) → length rest ≡ length all - suc k → name ≡ output_of k rest
     by_rest [] many = h.last (omega (arith, many, lt))
     by_rest (x ∷ rest) many = h.others (λ e. omega (arith, many, e))
+
+pub last_output : (k count : ℕ) (name : List ℕ) → k < count → k ≡ count - 1 → name ≡ kind_value → IsOutputOf k count name
+last_output k count name lt e is = record { last = λ at. is; others = λ differs. absurd (differs (omega (arith, lt, e))) }
+
+pub other_output : (k count : ℕ) (name : List ℕ) → k < count → (k ≡ count - 1 → ⊥) → name ≡ pipe_name k → IsOutputOf k count name
+other_output k count name lt no is = record { last = λ at. absurd (no (omega (arith, at))); others = λ differs. is }
+
+-- the counter's port, by whether there is one
+pub opened_by : (all : List LaneShape) (own : Interface) (b : Bool) → b ≡ counts all → IsOpened (if b then Some kind_counter else None) own → IsOpened (counted all) own
+opened_by all own b e h = subst (λ c. IsOpened (if c then Some kind_counter else None) own) e h
 
 -- ---- each place that reads has a tap
 
@@ -113,3 +126,14 @@ lane_with_ports counter shape k x before after old new w name own lt there ports
           (subst (λ v. AddsWires name v (datapaths_built (inner_name (length old.wires)) v counter 0 (datapaths_of (counts_of before) lane.modes)) old new) wide
           (subst (λ (d : cells.LaneDatapaths). AddsWires name w (datapaths_built (inner_name (length old.wires)) w counter 0 d) old new) is adds));
     }
+
+-- ---- the whole
+
+abbrev pub kind_with : List ℕ → List Port → List Port → List Port → List Drive → CellKind
+kind_with name inputs outputs wires drives = record { name = name; inputs = inputs; outputs = outputs; wires = wires; drives = drives }
+
+pub kind_made : (number : ℕ) (all : List LaneShape) (own : Interface) (parts : KindParts) (name : List ℕ) → name ≡ kind_name number → IsKindWhole (Name kind_counter) all own parts → kind_with name own.ports parts.outputs parts.wires parts.drives ≡ kind_by number all
+kind_made number all own parts name is h =
+    ap (λ t. kind_with t own.ports parts.outputs parts.wires parts.drives) is ∙ ap (λ ps. kind_with (kind_name number) ps parts.outputs parts.wires parts.drives) h.ports
+    ∙ ap (λ ps. kind_with (kind_name number) (kind_inputs all) ps parts.wires parts.drives) h.outputs ∙ ap (λ ps. kind_with (kind_name number) (kind_inputs all) (lanes_outputs 0 all) ps parts.drives) h.wires
+    ∙ ap (kind_with (kind_name number) (kind_inputs all) (lanes_outputs 0 all) (lanes_wires (Name kind_counter) no_ports 0 all)) h.drives

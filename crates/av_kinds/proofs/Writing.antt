@@ -23,7 +23,7 @@ use Rattle.av_kinds.specs.inner.Shapes.{ModeShape, LaneShape, ModeShapeMade, mod
 use Rattle.av_kinds.specs.inner.Added.{GuardedDatapathMade, as_guarded}
 use Rattle.av_kinds.specs.inner.Interfaces.{PortCounts, site_ports, past_site, tap_of, sites_ports, past_sites, taps_of, datapath_of, tested_ports, past_tested, guarded_of, modes_ports, past_modes, tested_of, last_of}
 use Rattle.av_kinds.specs.inner.Kinds.{counts, output_of, lane_built, no_ports, lanes_inputs, lanes_outputs, lanes_wires, lanes_drives, kind_inputs}
-use Rattle.av_kinds.specs.inner.Lanes.{AddsWires, AddsLaneOf, counted}
+use Rattle.av_kinds.specs.inner.Lanes.{HasNoParts, AddsWires, AddsLaneOf, counted}
 use Rattle.av_kinds.specs.inner.Numbers.{counts_of, AreFew, AddsPorts, opened, IsOpened}
 use Rattle.av_kinds.specs.inner.TopParts.{AddsLaneAt, ArePartsOf}
 use Rattle.av_kinds.proofs.Placing.{one_less, some_less, none_less, gates_many, from_place, read_mapped}
@@ -73,15 +73,15 @@ lane_more c all k j own next old new at before adds =
     })
 
 -- at the start there is the counter's port, where it is tested
-pub kind_opened : (c : Operand) (all : List LaneShape) (own : Interface) (parts : KindParts) → IsOpened (counted all) own → parts.outputs ≡ [] → parts.wires ≡ [] → parts.drives ≡ [] → IsKindFrom c all 0 own parts
-kind_opened c all own parts h outputs wires drives =
-    let none : length parts.wires ≡ 0 = ap length wires in
+pub kind_opened : (c : Operand) (all : List LaneShape) (own : Interface) (parts : KindParts) → IsOpened (counted all) own → HasNoParts parts → IsKindFrom c all 0 own parts
+kind_opened c all own parts h empty =
+    let none : length parts.wires ≡ 0 = ap length empty.wires in
     record {
       ports = ap (λ at. own.ports ++ lanes_inputs at all) h.counts_are ∙ ap (λ ps. ps ++ lanes_inputs no_ports all) (h.ports_are ∙ opened_by (counts all));
       few = h.few;
-      outputs = ap (λ ps. ps ++ lanes_outputs 0 all) outputs;
-      wires = ap (λ at. parts.wires ++ lanes_wires c at (length parts.wires) all) h.counts_are ∙ ap (λ n. parts.wires ++ lanes_wires c no_ports n all) none ∙ ap (λ ps. ps ++ lanes_wires c no_ports 0 all) wires;
-      drives = ap (λ at. parts.drives ++ lanes_drives c at (length parts.wires) 0 all) h.counts_are ∙ ap (λ n. parts.drives ++ lanes_drives c no_ports n 0 all) none ∙ ap (λ ds. ds ++ lanes_drives c no_ports 0 0 all) drives;
+      outputs = ap (λ ps. ps ++ lanes_outputs 0 all) empty.outputs;
+      wires = ap (λ at. parts.wires ++ lanes_wires c at (length parts.wires) all) h.counts_are ∙ ap (λ n. parts.wires ++ lanes_wires c no_ports n all) none ∙ ap (λ ps. ps ++ lanes_wires c no_ports 0 all) empty.wires;
+      drives = ap (λ at. parts.drives ++ lanes_drives c at (length parts.wires) 0 all) h.counts_are ∙ ap (λ n. parts.drives ++ lanes_drives c no_ports n 0 all) none ∙ ap (λ ds. ds ++ lanes_drives c no_ports 0 0 all) empty.drives;
     }
   where
     opened_by : (b : Bool) → opened (if b then Some kind_counter else None) ≡ (if b then port counter_width kind_counter ∷ [] else [])

@@ -2,6 +2,8 @@
 
 ghost use Rattle.std.specs.Prelude.{◌≡◌, ◌<◌, [], ◌∷◌, ◌++◌, length, map, IfOk, OnOk};
 ghost use Rattle.std.specs.List.{AllByRecursion};
+ghost use Rattle.av_net.specs.declared.operation.Operand.TheVariants as operand;
+ghost use Rattle.av_kinds.specs.Names.{kind_counter};
 ghost use Rattle.av_kinds.specs.Tops.{port};
 ghost use Rattle.av_kinds.specs.inner.Gates.{ports_from, drives_from};
 ghost use Rattle.av_kinds.specs.inner.Kinds.{kind_by};
@@ -10,7 +12,7 @@ ghost use Rattle.av_kinds.specs.inner.Shapes.{lane_shape_of, IsKindShape};
 ghost use Rattle.av_kinds.specs.inner.Numbered.{wire_in};
 ghost use Rattle.av_kinds.specs.inner.Numbers as interfaces;
 ghost use Rattle.av_kinds.specs.inner.Added.{HasTaps};
-ghost use Rattle.av_kinds.specs.inner.Lanes.{AddsLane, AddsLaneOf, IsOutputOf, counted};
+ghost use Rattle.av_kinds.specs.inner.Lanes.{HasNoParts, AddsLane, AddsLaneOf, IsOutputOf, counted};
 
 use crate::choice::LaneDatapaths;
 use crate::datapath::modes;
@@ -160,6 +162,24 @@ fn opened(alloc: Global, shape: &[LaneShape<'_>]) -> Result<Interface, Memory>
     }
 }
 
+// The operand with the number of the counter.
+fn counter_operand(alloc: Global) -> Result<Operand, Memory>
+    ensures { IfOk result (λ counter. counter ≡ operand.Name kind_counter) }
+{
+    Ok(Operand::Name(Name::new(alloc, "cyc")?))
+}
+
+// No outputs, wires and drives yet.
+fn no_parts(alloc: Global) -> KindParts
+    ensures { HasNoParts result }
+{
+    KindParts {
+        outputs: List::new(alloc),
+        wires: List::new(alloc),
+        drives: List::new(alloc),
+    }
+}
+
 /// The kind of this shape.
 pub(crate) fn kind(
     alloc: Global,
@@ -170,13 +190,9 @@ pub(crate) fn kind(
     ensures is { IfOk result (λ kind. kind ≡ kind_by number (map lane_shape_of shape.now)) }
     ensures small { IfOk result IsSmallKind }
 {
-    let counter = Operand::Name(Name::new(alloc, "cyc")?);
+    let counter = counter_operand(alloc)?;
     let mut interface = opened(alloc, shape)?;
-    let mut parts = KindParts {
-        outputs: List::new(alloc),
-        wires: List::new(alloc),
-        drives: List::new(alloc),
-    };
+    let mut parts = no_parts(alloc);
     for lane in 0..shape.len() {
         add_lane_of(alloc, &counter, shape, lane, &mut interface, &mut parts)?;
     }

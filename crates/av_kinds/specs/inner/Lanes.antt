@@ -14,6 +14,11 @@ use Rattle.av_kinds.specs.inner.Kinds.{counts, output_of, lane_built}
 use Rattle.av_kinds.specs.inner.Interfaces.{modes_ports, past_modes}
 use Rattle.av_kinds.specs.inner.Numbers.{counts_of, AddsPorts}
 
+pub record HasNoParts (parts : KindParts) : Type 0 where
+  pub outputs : parts.outputs ≡ []
+  pub wires : parts.wires ≡ []
+  pub drives : parts.drives ≡ []
+
 -- the wires that it builds, and its output
 pub record AddsWires (name : List ℕ) (width : Width) (b : Built) (old new : KindParts) : Type 0 where
   pub outputs : new.outputs ≡ old.outputs ++ port width name ∷ []
