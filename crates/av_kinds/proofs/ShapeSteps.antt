@@ -1,6 +1,10 @@
 -- The shapes of places, modes and lanes, one after another.
-use Rattle.std.proofs.Common.{◌≡◌, ℕ, zero, suc, ◌+◌, ◌<◌, List, [], ◌∷◌, ◌++◌, map, length, drop, get_or, refl, sym, subst, ap, ◌∙◌, arith, Bool, true, false, if◌then◌else◌, Option, Some, None}
+use Rattle.std.proofs.Common.{◌≡◌, ℕ, zero, suc, ◌+◌, ◌<◌, ◌≤◌, List, [], ◌∷◌, ◌++◌, map, length, drop, get_or, refl, sym, subst, ap, ◌∙◌, arith, Bool, true, false, if◌then◌else◌, Option, Some, None}
 use Rattle.std.specs.Prelude.{slice_get, nat_eq, filter}
+use Rattle.std.specs.List.{ItemBy}
+use Rattle.std.specs.Option.{option_map}
+use Rattle.std.proofs.lemmas.List.{length-map}
+use Rattle.std.proofs.lemmas.Option.{slice_get_past}
 use Rattle.av_base.proofs.Lists.{there_is, next_item}
 use Rattle.av_kinds.specs.declared.program.CellLanes.{CellLanes}
 use Rattle.av_base.specs.declared.width.Width.{Width}
@@ -11,7 +15,8 @@ use Rattle.av_kinds.specs.Programs.{Mode, Lane, Program, lanes_of}
 use Rattle.av_kinds.specs.Written.{ModeMade, LaneMade, mode_of, lane_of}
 use Rattle.av_kinds.specs.inner.Shapes.{ModeShape, LaneShape, ModeShapeMade, LaneShapeMade, mode_shape_of, lane_shape_of}
 use Rattle.av_kinds.specs.inner.Shaped.{site_shape, site_shapes, mode_shape_by, mode_shapes, lane_shape_by, lane_shapes, shapes_by, is_used, used}
-use Rattle.av_kinds.proofs.Placing.{one_less, one_seen, some_less, from_place, dropped}
+use Rattle.av_kinds.proofs.Placing.{one_less, one_seen, some_less, from_place, dropped, read_mapped}
+use Rattle.av_kinds.proofs.Steps.{not_same}
 
 abbrev pub links_of : SiteShape → ℕ
 links_of s = s.links
@@ -71,6 +76,11 @@ lane_put before lanes k lane shapes next whole shape lt is h here put =
     ∙ ap (λ i. lane_shape_by (slice_get old k) (lane_of lane) ∷ lane_shapes (drop i old) rest) (one_more k)
     ∙ ap (λ b. lane_shape_by (slice_get old k) (lane_of lane) ∷ lane_shapes b rest) (sym (dropped lane_shape_of before (k + 1))))
 
+-- the element of a place, if there is one
+pub seen_at : {R X Y : Type 0} (f : X → Y) (now : R → X) (xs : List X) (k : ℕ) (r : Option R) → ItemBy now xs k k r → option_map (λ m. f (now m)) r ≡ slice_get (map f xs) k
+seen_at f now xs k None h = let past : length (map f xs) ≤ k = omega (arith, h.3, length-map xs f) in sym (slice_get_past (map f xs) k past)
+seen_at f now xs k (Some x) h = sym (read_mapped f xs k (now x) (now x) h.3.0 h.1)
+
 -- ---- the modes that some cell has
 
 pub used_put : (modes : List ModeShapeMade) (k : ℕ) (mode : ModeShapeMade) (old next : List ModeShapeMade) (whole : List ModeShape) → k < length modes → mode ≡ get_or modes k mode
@@ -106,3 +116,9 @@ cell_put program kind k old next whole lt lk h here =
     ap (λ s. shapes_by program kind s cells kinds) (here own.0 of.0 own.1 of.1) ∙ sym (cells_more program kind old own.0 of.0 cells kinds)
     ∙ ap (λ ks. shapes_by program kind old (own.0 ∷ cells) ks) (sym (from_place program.kinds k of.0 of.1 ∙ ap (λ i. of.0 ∷ drop i program.kinds) (one_more k)))
     ∙ ap (λ cs. shapes_by program kind old cs (drop k program.kinds)) (sym (from_place program.cells k own.0 own.1 ∙ ap (λ i. own.0 ∷ drop i program.cells) (one_more k))) ∙ h
+
+pub taken_cell : (program : Program) (kind : ℕ) (before : List LaneShape) (own : CellLanes) (of : ℕ) → of ≡ kind → lane_shapes before (lanes_of program own) ≡ shapes_by program kind before (own ∷ []) (of ∷ [])
+taken_cell program kind before own of e = let same : nat_eq of kind ≡ true = grind arith in rw same refl
+
+pub passed_cell : (program : Program) (kind : ℕ) (before : List LaneShape) (own : CellLanes) (of : ℕ) → (of ≡ kind → ⊥) → before ≡ shapes_by program kind before (own ∷ []) (of ∷ [])
+passed_cell program kind before own of differs = let other : nat_eq of kind ≡ false = not_same of kind differs in rw other refl

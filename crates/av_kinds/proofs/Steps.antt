@@ -111,7 +111,7 @@ guard_added name w counter g0 g1 g2 g3 otherwise own guards j k x rest root firs
 
 -- ---- words of another width
 
-not_same : (m n : ℕ) → (m ≡ n → ⊥) → nat_eq m n ≡ false
+pub not_same : (m n : ℕ) → (m ≡ n → ⊥) → nat_eq m n ≡ false
 not_same m n differs = by_test (nat_eq m n) (λ t. absurd (differs (grind arith))) (λ f. f)
 
 pub fit_added : (name : Naming) (w : Width) (counter : Operand) (g0 g1 g2 : List Gate) (tap : Tap) (root own : Operation) (a : Operand) → (tap.width.bits ≡ w.bits → ⊥)
