@@ -31,6 +31,7 @@ fn kind_count(program: &Program<'_>) -> usize
     requires { IsProgram (program_of program.now) }
     ensures { IsKindCount program.now.kinds result }
 {
+    prove!(program.kinds.len() <= 1 << 30);
     let mut count: usize = 0;
     for kind in program.kinds.as_slice() {
         count = count.max(*kind + 1);

@@ -5,10 +5,10 @@ use Rattle.av_kinds.proofs.shape.site_shapes.Goals as goal
 
 pub loop-k-preserved : goal.loop-k-preserved
 loop-k-preserved c = 
-    let site = c.site-item.result in
+    let site = c.index-sites-k.result in
     let k = c.loop-k.k in
     let before = c.args.before.now in
     site_put before c.args.sites.now k site c.loop-k.shapes c.push.new.self (site_shapes before c.args.sites.now) (shape_with site.inlet site.width c.max.result)
-    (search rules) c.site-item.is c.loop-k.invariant
+    (search rules) c.index-sites-k.is c.loop-k.invariant
     (ap (shape_with site.inlet site.width) (c.max.ensures ∙ ap (λ i. max i c.len.result) c.links_before.ensures ∙ ap (λ i. max (get_or (map links_of before) k 0) i) c.len.ensures.count))
     c.in_ok-push.ensures.ok
