@@ -5,33 +5,6 @@ use Rattle.av_kinds.specs.Written.{LaneMade, ProgramMade}
 use Rattle.av_kinds.proofs.TopSteps.{width_put}
 use Rattle.av_kinds.proofs.top.output_widths.Goals as goal
 
-pub bounds-lanes-number : goal.bounds-lanes-number
-bounds-lanes-number c = 
-    let program = c.args.program.now in
-    let n = c.loop-number.number-index in
-    let all : c.as_slice-lanes.result.now ≡ program.lanes = c.as_slice-lanes.ensures ∙ ap (λ (p : ProgramMade). p.lanes) c.program.view_is in
-    let items : c.as_slice-number-items.result.now ≡ program.outputs = c.as_slice-number-items.ensures ∙ ap (λ (p : ProgramMade). p.outputs) c.program.view_is in
-    let within : n < length c.as_slice-number-items.result.now = search rules in
-    let below : n < length program.outputs = omega (arith, within, ap (λ (xs : List ℕ). length xs) items) in
-    let q = get_or c.as_slice-number-items.result.now n 0 in
-    let same : q ≡ get_or program.outputs n 0 = ap (λ (xs : List ℕ). get_or xs n 0) items in
-    let there : q < length program.lanes = subst (λ i. i < length program.lanes) (sym same) (each_at (λ i. i < length program.lanes) program.outputs n (get_or program.outputs n 0) c.requires (slice_get-get_or program.outputs n 0 below)) in
-    omega (arith, there, ap (λ (xs : List LaneMade). length xs) all)
-
-pub offset_bounds-lanes-number : goal.offset_bounds-lanes-number
-offset_bounds-lanes-number c = 
-    let program = c.args.program.now in
-    let n = c.loop-number.number-index in
-    let all : c.as_slice-lanes.result.now ≡ program.lanes = c.as_slice-lanes.ensures ∙ ap (λ (p : ProgramMade). p.lanes) c.program.view_is in
-    let items : c.as_slice-number-items.result.now ≡ program.outputs = c.as_slice-number-items.ensures ∙ ap (λ (p : ProgramMade). p.outputs) c.program.view_is in
-    let within : n < length c.as_slice-number-items.result.now = search rules in
-    let below : n < length program.outputs = omega (arith, within, ap (λ (xs : List ℕ). length xs) items) in
-    let q = get_or c.as_slice-number-items.result.now n 0 in
-    let same : q ≡ get_or program.outputs n 0 = ap (λ (xs : List ℕ). get_or xs n 0) items in
-    let there : q < length program.lanes = subst (λ i. i < length program.lanes) (sym same) (each_at (λ i. i < length program.lanes) program.outputs n (get_or program.outputs n 0) c.requires (slice_get-get_or program.outputs n 0 below)) in
-    let low : q < length c.as_slice-lanes.result.now = omega (arith, there, ap (λ (xs : List LaneMade). length xs) all) in
-    omega arith
-
 pub loop-number-preserved : goal.loop-number-preserved
 loop-number-preserved c = 
     let program = c.args.program.now in

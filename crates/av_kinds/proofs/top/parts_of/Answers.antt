@@ -1,5 +1,6 @@
-use Rattle.std.proofs.Common.{◌+◌, refl, rules}
-use Rattle.av_kinds.specs.Written.{program_of}
+use Rattle.std.proofs.Common.{◌≡◌, ◌+◌, List, length, refl, ap, arith}
+use Rattle.std.proofs.lemmas.List.{length-map}
+use Rattle.av_kinds.specs.Written.{LaneMade, ProgramMade, lane_of, program_of}
 use Rattle.av_kinds.proofs.Writing.{top_more, top_whole}
 use Rattle.av_kinds.proofs.top.parts_of.Goals as goal
 
@@ -9,4 +10,6 @@ loop-number-preserved c =
 
 pub returns : goal.returns
 returns c = 
-    top_whole (program_of c.args.program.now) c.loop-number.number c.loop-number.parts (search rules) c.loop-number.invariant
+    let lanes : c.program.inside.lanes ≡ c.args.program.now.lanes = ap (λ (p : ProgramMade). p.lanes) c.program.view_is in
+    top_whole (program_of c.args.program.now) c.loop-number.number c.loop-number.parts
+    (omega (arith, c.loop-number-test.false, c.len.ensures.count, ap (λ (xs : List LaneMade). length xs) lanes, length-map c.args.program.now.lanes lane_of)) c.loop-number.invariant
