@@ -1,5 +1,5 @@
 -- What a lane brings into the top module, by its names.
-use Rattle.std.proofs.Common.{◌≡◌, ℕ, suc, ◌+◌, ◌<◌, Bool, false, if◌then◌else◌, codes, List, [], ◌∷◌, ◌++◌, map, length, take, drop, get_or, refl, sym, ap, ◌∙◌, arith, Some}
+use Rattle.std.proofs.Common.{◌≡◌, ℕ, suc, ◌+◌, ◌<◌, Bool, false, if◌then◌else◌, codes, List, [], ◌∷◌, ◌++◌, map, length, take, drop, get_or, refl, sym, ap, ◌∙◌, arith, append_assoc, Some}
 use Rattle.std.specs.Prelude.{slice_get}
 use Rattle.std.specs.List.{range_with_len}
 use Rattle.std.proofs.lemmas.List.{append-nil}
@@ -99,3 +99,7 @@ top_made counter counts program inputs outputs lanes last drives parts put adds 
   where
     same_module : (i j o u : List Port) (a b : TopParts) → i ≡ j → o ≡ u → a.wires ≡ b.wires → a.registers ≡ b.registers → a.drives ≡ b.drives → a.steps ≡ b.steps → module_with (codes "array") i o a ≡ module_with (codes "array") j u b
     same_module i j o u a b e f g h k l = cc
+
+pub three_put : {X : Type 0} (x0 x1 x2 x3 : List X) (a b c : X) → x1 ≡ x0 ++ a ∷ [] → x2 ≡ x1 ++ b ∷ [] → x3 ≡ x2 ++ c ∷ [] → x3 ≡ x0 ++ (a ∷ b ∷ c ∷ [])
+three_put x0 x1 x2 x3 a b c p q r =
+    r ∙ ap (λ ys. ys ++ c ∷ []) q ∙ ap (λ ys. (ys ++ b ∷ []) ++ c ∷ []) p ∙ append_assoc (x0 ++ a ∷ []) (b ∷ []) (c ∷ []) ∙ append_assoc x0 (a ∷ []) (b ∷ c ∷ [])

@@ -216,25 +216,20 @@ fn used<'a>(alloc: Global, lane: &LaneShape<'a>) -> Result<LaneShape<'a>, Memory
     })
 }
 
-// Room for the lanes of one more cell, where it is of the kind.
-fn add_cell<'a>(
+// Room for the lanes of one more cell.
+fn with_cell<'a>(
     alloc: Global,
     program: &Program<'a>,
-    kind: usize,
     cell: usize,
-    shapes: &mut List<LaneShape<'a>>,
-) -> Result<(), Memory>
+    before: &[LaneShape<'a>],
+) -> Result<List<LaneShape<'a>>, Memory>
     requires program { programs.IsProgram (program_of program.now) }
-    requires cell { cell < length program.now.kinds }
-    ensures { OnOk result ((own : CellLanes) (of : ℕ) → slice_get program.now.cells cell ≡ Some own → slice_get program.now.kinds cell ≡ Some of
-        → map lane_shape_of shapes.new ≡ shaped.shapes_by (program_of program.now) kind (map lane_shape_of shapes.old) (own ∷ []) (of ∷ [])) }
+    requires cell { cell < length program.now.cells }
+    ensures { IfOk result (λ shapes. (own : CellLanes) → slice_get program.now.cells cell ≡ Some own
+        → map lane_shape_of shapes ≡ shaped.lane_shapes (map lane_shape_of before.now) (programs.lanes_of (program_of program.now) own)) }
 {
-    if program.kinds.as_slice()[cell] != kind {
-        return Ok(());
-    }
     let own = program.cells.as_slice()[cell];
-    *shapes = lane_shapes(alloc, shapes.as_slice(), cell_lanes(program, own))?;
-    Ok(())
+    lane_shapes(alloc, before, cell_lanes(program, own))
 }
 
 // The lanes of a kind with all modes, and room for each of its cells.
@@ -247,8 +242,11 @@ fn whole_shape<'a>(
     ensures { IfOk result (λ shapes. map lane_shape_of shapes ≡ shaped.shapes_by (program_of program.now) kind [] program.now.cells program.now.kinds) }
 {
     let mut shapes = List::new(alloc);
-    for cell in 0..program.kinds.len() {
-        add_cell(alloc, program, kind, cell, &mut shapes)?;
+    let kinds = program.kinds.as_slice();
+    for cell in 0..kinds.len() {
+        if kinds[cell] == kind {
+            shapes = with_cell(alloc, program, cell, shapes.as_slice())?;
+        }
     }
     Ok(shapes)
 }

@@ -34,5 +34,5 @@ returns c =
     let items : c.as_slice.result.now ≡ cells = c.as_slice.ensures ∙ ap (λ (p : ProgramMade). p.cells) c.program.view_is in
     let own = get_or c.as_slice.result.now c.args.cell d in
     let is : slice_get cells c.args.cell ≡ Some own = slice_get-get_or cells c.args.cell d c.requires.cell ∙ ap (λ (xs : List CellLanes). Some (get_or xs c.args.cell d)) (sym items) in
-    λ other is_other. instance_made (program_of c.args.program.now) (counter_name c.args.counter) c.args.cell c.args.kind own other c.args.shape.now c.in_ok-numbered.field-0 c.in_ok-inputs.inputs c.in_ok-lane_outputs.field-0 is is_other
-    c.in_ok-numbered.ensures c.in_ok-inputs.ensures c.in_ok-lane_outputs.ensures
+    λ other is_other. instance_made (program_of c.args.program.now) (counter_name c.args.counter) c.args.cell c.args.kind own other c.args.shape.now c.in_ok-numbered.field-0 c.inputs.inside.items.items c.in_ok-lane_outputs.field-0 is is_other
+    c.in_ok-numbered.ensures (c.inputs.view_is ∙ c.in_ok-inputs.ensures) c.in_ok-lane_outputs.ensures

@@ -9,4 +9,4 @@ loop-number-preserved c =
 
 pub returns : goal.returns
 returns c = 
-    shapes_whole (program_of c.args.program.now) c.requires c.loop-number.number c.kind_count.result c.loop-number.shapes (search rules) c.kind_count.ensures c.loop-number.invariant
+    shapes_whole (program_of c.args.program.now) c.requires c.loop-number.number c.kind_count-number-end.result c.loop-number.shapes (search rules) c.kind_count-number-end.ensures c.loop-number.invariant

@@ -4,4 +4,4 @@ use Rattle.av_kinds.specs.inner.Shaped.{used}
 use Rattle.av_kinds.proofs.shape.kind_shape.Given as goal
 
 abbrev pub invariant-loop-lane : goal.invariant-loop-lane
-invariant-loop-lane l = map lane_shape_of l.shapes ≡ map used (map lane_shape_of (take l.lane-index l.whole))
+invariant-loop-lane l = map lane_shape_of l.shapes ≡ map used (map lane_shape_of (take l.lane-index l.lane-items))
