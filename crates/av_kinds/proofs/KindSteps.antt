@@ -63,7 +63,7 @@ pub last_output : (k count : ℕ) (name : List ℕ) → k < count → k ≡ coun
 last_output k count name lt e is = record { last = λ at. is; others = λ differs. absurd (differs (omega (arith, lt, e))) }
 
 pub other_output : (k count : ℕ) (name : List ℕ) → k < count → (k ≡ count - 1 → ⊥) → name ≡ pipe_name k → IsOutputOf k count name
-other_output k count name lt no is = record { last = λ at. absurd (no (omega (arith, at))); others = λ differs. is }
+other_output k count name lt differs is = record { last = λ at. absurd (differs (omega (arith, at))); others = λ at. is }
 
 -- the counter's port, by whether there is one
 pub opened_by : (all : List LaneShape) (own : Interface) (b : Bool) → b ≡ counts all → IsOpened (if b then Some kind_counter else None) own → IsOpened (counted all) own

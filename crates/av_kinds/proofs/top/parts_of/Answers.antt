@@ -12,4 +12,4 @@ pub returns : goal.returns
 returns c = 
     let lanes : c.program.inside.lanes ≡ c.args.program.now.lanes = ap (λ (p : ProgramMade). p.lanes) c.program.view_is in
     top_whole (program_of c.args.program.now) c.loop-number.number c.loop-number.parts
-    (omega (arith, c.loop-number-test.false, c.len.ensures.count, ap (λ (xs : List LaneMade). length xs) lanes, length-map c.args.program.now.lanes lane_of)) c.loop-number.invariant
+    (omega (arith, c.loop-number-test.false, c.len-number-end.ensures.count, ap (λ (xs : List LaneMade). length xs) lanes, length-map c.args.program.now.lanes lane_of)) c.loop-number.invariant

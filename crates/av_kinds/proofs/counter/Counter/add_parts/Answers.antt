@@ -38,7 +38,7 @@ returns-in_ok-next-in-Phases-clause-drives c =
     rw c.in-Phases.is
     (on_ok_weaker c.add_part-in-Phases-3.result
     (λ h. three_put d0 d1 d2 c.add_part-in-Phases-3.new.drives (drive_of last_name (Binary (Name own) Equal (bound (period - 1)))) (drive_of sum_name (Binary (Name own) Add (bound 1))) (drive_of (next_name (Phases period)) begun_again)
-    (c.in_ok-add_part-in-Phases.ensures.drives ∙ ap (λ (o : Operation). d0 ++ drive_of last_name o ∷ []) (c.in_ok-last-in-Phases.ensures ∙ ap (λ (s : Counter). Binary (Name (counter_name s)) Equal (bound (period - 1))) c.in-Phases.is))
+    (c.in_ok-add_part-in-Phases.ensures.drives ∙ ap (λ (o : Operation). d0 ++ drive_of last_name o ∷ []) c.in_ok-last-in-Phases.ensures)
     (c.in_ok-add_part-in-Phases-2.ensures.drives ∙ ap (λ (o : Operation). d1 ++ drive_of sum_name o ∷ []) (c.in_ok-raised.ensures ∙ ap (λ (s : Counter). Binary (Name (counter_name s)) Add (bound 1)) c.in-Phases.is))
     (h ∙ ap (λ (o : Operation). d2 ++ drive_of (next_name (Phases period)) o ∷ []) c.in_ok-next-in-Phases.ensures))
     c.add_part-in-Phases-3.ensures.drives)
