@@ -9,12 +9,12 @@ use Rattle.av_kinds.proofs.PlanSteps.{shapes_seen, kind_put, kind_there}
 use Rattle.av_kinds.proofs.planning.kinds.Goals as goal
 
 pub kind-requires : goal.kind-requires
-kind-requires c = 
+kind-requires c =
     let x = c.index-shapes-number.result in
     subst (λ (xs : List LaneShapeMade). IsKindShape (map lane_shape_of xs)) (sym c.as_slice.ensures) (kind_there c.args.shapes.now c.requires c.loop-number.number x (search rules) c.index-shapes-number.is)
 
 pub loop-number-preserved : goal.loop-number-preserved
-loop-number-preserved c = 
+loop-number-preserved c =
     let x = c.index-shapes-number.result in
     let n = c.loop-number.number in
     let made = c.in_ok-kind.field-0 in

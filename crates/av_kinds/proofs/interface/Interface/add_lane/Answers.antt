@@ -4,7 +4,7 @@ use Rattle.av_kinds.proofs.Writing.{mode_put}
 use Rattle.av_kinds.proofs.interface.Interface.add_lane.Goals as goal
 
 pub loop-k-preserved : goal.loop-k-preserved
-loop-k-preserved c = 
+loop-k-preserved c =
     let k = c.loop-k.k in
     let all = c.args.lane.now.modes in
     let x = c.index-shapes-k.result in
