@@ -1,5 +1,5 @@
 use Rattle.av_kinds.proofs.InstanceSteps.{bound_put, bounds_put}
-use Rattle.std.proofs.Common.{◌≡◌, ◌++◌, ◌∙◌, refl, rules}
+use Rattle.std.proofs.Common.{◌++◌, rules}
 use Rattle.av_kinds.specs.inner.Instances.{bounds_for}
 use Rattle.av_kinds.proofs.instance.add_bounds.Goals as goal
 

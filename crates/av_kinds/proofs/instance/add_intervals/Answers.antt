@@ -1,5 +1,5 @@
 use Rattle.av_kinds.proofs.InstanceSteps.{interval_put, intervals_put}
-use Rattle.std.proofs.Common.{◌≡◌, ◌++◌, ◌∙◌, refl, rules}
+use Rattle.std.proofs.Common.{◌++◌, rules}
 use Rattle.av_kinds.specs.inner.Instances.{intervals_for}
 use Rattle.av_kinds.proofs.instance.add_intervals.Goals as goal
 

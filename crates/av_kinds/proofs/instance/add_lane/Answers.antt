@@ -1,5 +1,5 @@
-use Rattle.std.proofs.Common.{◌≡◌, ◌++◌, ◌∙◌, ◌<◌, List, length, map, ap, arith}
-use Rattle.av_kinds.specs.Written.{ModeMade, LaneMade, program_of, mode_of}
+use Rattle.std.proofs.Common.{◌≡◌, ◌++◌, ◌∙◌, ◌<◌, length, map, ap, arith}
+use Rattle.av_kinds.specs.Written.{LaneMade, program_of, mode_of}
 use Rattle.av_kinds.specs.Names.{labels}
 use Rattle.av_kinds.specs.inner.Instances.{modes_operands}
 use Rattle.av_kinds.specs.inner.Shapes.{ModeShapeMade, LaneShapeMade, mode_shape_of}

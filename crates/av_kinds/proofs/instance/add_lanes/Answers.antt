@@ -1,4 +1,4 @@
-use Rattle.std.proofs.Common.{◌++◌, ◌<◌, length, map, arith, rules}
+use Rattle.std.proofs.Common.{◌++◌, ◌<◌, length, map, arith}
 use Rattle.av_kinds.specs.Written.{program_of, lane_of}
 use Rattle.av_kinds.specs.Names.{labels}
 use Rattle.av_kinds.specs.inner.Instances.{lanes_operands}

@@ -1,5 +1,5 @@
 use Rattle.av_kinds.proofs.InstanceSteps.{source_there, word_put, words_put}
-use Rattle.std.proofs.Common.{◌≡◌, ◌++◌, ◌∙◌, length, sym, subst, rules}
+use Rattle.std.proofs.Common.{◌≡◌, ◌++◌, length, sym, subst, rules}
 use Rattle.std.proofs.lemmas.Result.{on_ok_weaker}
 use Rattle.av_kinds.specs.Written.{program_of}
 use Rattle.av_kinds.specs.Names.{labels}

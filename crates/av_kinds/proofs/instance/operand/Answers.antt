@@ -1,4 +1,4 @@
-use Rattle.std.proofs.Common.{◌≡◌, ◌∙◌, ℕ, List, ap}
+use Rattle.std.proofs.Common.{◌∙◌, ℕ, List, ap}
 use Rattle.av_net.specs.declared.operation.Operand.TheVariants.{Name}
 use Rattle.av_kinds.specs.Written.{program_of}
 use Rattle.av_kinds.proofs.Placing.{line_named}

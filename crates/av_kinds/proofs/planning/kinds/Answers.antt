@@ -1,7 +1,6 @@
-use Rattle.std.proofs.Common.{◌≡◌, ◌∙◌, List, [], ◌∷◌, length, map, subst, sym, ap, rules}
+use Rattle.std.proofs.Common.{◌∙◌, List, [], ◌∷◌, map, subst, sym, ap, rules}
 use Rattle.std.specs.List.{AllByRecursion}
 use Rattle.av_base.proofs.Lists.{each_append}
-use Rattle.av_net.specs.declared.plan.CellKind.{CellKind}
 use Rattle.av_kinds.specs.inner.Shapes.{LaneShapeMade, IsKindShape, lane_shape_of}
 use Rattle.av_kinds.specs.inner.Kinds.{kind_by}
 use Rattle.av_kinds.specs.inner.Modules.{IsSmallKind, kinds_by}

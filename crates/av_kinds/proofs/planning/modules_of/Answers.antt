@@ -1,8 +1,6 @@
-use Rattle.std.proofs.Common.{◌∙◌, List, map, subst, ap}
 use Rattle.av_kinds.specs.Written.{program_of}
-use Rattle.av_kinds.specs.inner.Shapes.{LaneShapeMade, lane_shape_of}
 use Rattle.av_kinds.proofs.NetlistsMade.{made_netlists}
-use Rattle.av_kinds.proofs.PlanSteps.{shapes_seen, modules_with, modules_made}
+use Rattle.av_kinds.proofs.PlanSteps.{modules_with, modules_made}
 use Rattle.av_kinds.proofs.planning.modules_of.Goals as goal
 
 pub returns : goal.returns

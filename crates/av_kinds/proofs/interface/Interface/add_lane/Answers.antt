@@ -1,4 +1,4 @@
-use Rattle.std.proofs.Common.{◌≡◌, ◌∙◌, ◌+◌, ◌<◌, List, length, get_or, ap, rules, arith}
+use Rattle.std.proofs.Common.{◌≡◌, ◌∙◌, ◌+◌, ◌<◌, List, length, get_or, ap, arith}
 use Rattle.av_kinds.specs.inner.Shapes.{ModeShapeMade, LaneShapeMade}
 use Rattle.av_kinds.proofs.Writing.{mode_put}
 use Rattle.av_kinds.proofs.interface.Interface.add_lane.Goals as goal
