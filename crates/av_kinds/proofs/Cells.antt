@@ -1,17 +1,16 @@
 -- The wires of a lane have the word of the datapath whose mode it is.
-use Rattle.std.proofs.Common.{◌≡◌, ℕ, zero, suc, ◌+◌, List, [], ◌∷◌, map, length, refl, sym, subst, ◌∙◌, ap, Bool, true, false, if◌then◌else◌, ◌||◌}
+use Rattle.std.proofs.Common.{◌≡◌, ℕ, zero, suc, ◌+◌, List, [], ◌∷◌, length, refl, subst, ◌∙◌, ap, Bool, true, false, if◌then◌else◌, ◌||◌}
 use Rattle.std.specs.List.{list_any}
 use Rattle.av_base.specs.declared.width.Width.{Width}
 use Rattle.av_net.specs.declared.operation.Operand.{Operand}
 use Rattle.av_net.specs.Meaning.{Words, Widths, word_of, operand_width}
 use Rattle.av_flat.specs.Trees.{Tree, reference, pick}
 use Rattle.av_kinds.specs.Names.{Naming}
-use Rattle.av_kinds.specs.inner.Gates.{Named, named}
+use Rattle.av_kinds.specs.inner.Gates.{named}
 use Rattle.av_kinds.specs.Histories.{value_by}
 use Rattle.av_kinds.specs.declared.choice.Guard.{Guard}
-use Rattle.av_kinds.specs.declared.choice.Arm.{Arm}
 use Rattle.av_kinds.specs.declared.choice.Tap.{Tap}
-use Rattle.av_kinds.specs.inner.Choices.{holds_in, tapped_by, options_built, fit_built}
+use Rattle.av_kinds.specs.inner.Choices.{holds_in, tapped_by, fit_built}
 use Rattle.av_kinds.specs.inner.Cells.{Datapath, GuardedDatapath, LaneDatapaths, is_selected, datapath_by, brought, datapath_value, datapaths_value, taps_built, operand_at, over_taps, place_built, piece_built, datapath_built, options_of, mode_built, modes_built, datapaths_built}
 use Rattle.av_kinds.proofs.Works.{Works, HasWord, Gives, works_front, works_back, named_front, named_has}
 use Rattle.av_kinds.proofs.Trees.{Bring, tree_gives}

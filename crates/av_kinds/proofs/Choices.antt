@@ -1,7 +1,6 @@
 -- The wires of a choice have the word that is chosen.
-use Rattle.std.proofs.Common.{◌≡◌, ℕ, suc, ◌+◌, ◌-◌, ◌<◌, ◌≤◌, ◌/◌, ◌%◌, ◌^◌, List, [], ◌∷◌, length, refl, sym, subst, arith, ◌∙◌, ap, Bool, true, false, if◌then◌else◌, ◌&&◌}
+use Rattle.std.proofs.Common.{◌≡◌, ℕ, ◌+◌, ◌-◌, ◌≤◌, ◌/◌, ◌%◌, ◌^◌, List, [], ◌∷◌, length, refl, sym, subst, arith, ◌∙◌, Bool, true, false, if◌then◌else◌, ◌&&◌}
 use Rattle.std.specs.Prelude.{nat_le, nat_lt, nat_eq, bit_and}
-use Rattle.std.proofs.lemmas.Bool.{leb-true}
 use Rattle.av_base.specs.declared.width.Width.{Width}
 use Rattle.av_net.specs.declared.operation.Operand.{Operand}
 use Rattle.av_net.specs.declared.operation.Operand.TheVariants.{Name, Literal}

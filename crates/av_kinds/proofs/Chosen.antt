@@ -1,8 +1,8 @@
 -- Where one mode of a lane alone has a number of the counter, its work is what the kind takes.
-use Rattle.std.proofs.Common.{◌≡◌, ◌≢◌, ◌⊎◌, inl, inr, ℕ, zero, suc, List, [], ◌∷◌, Some, None, refl, sym, subst, ap, ◌∙◌, arith, Bool, true, false, if◌then◌else◌}
-use Rattle.std.specs.Prelude.{slice_get, slice_index_or, Contains}
+use Rattle.std.proofs.Common.{◌≡◌, ◌≢◌, inl, inr, ℕ, zero, suc, List, [], ◌∷◌, Some, refl, sym, ap, ◌∙◌, Bool, true, false, if◌then◌else◌}
+use Rattle.std.specs.Prelude.{slice_get}
 use Rattle.av_base.proofs.Lists.{some_is}
-use Rattle.av_kinds.specs.Programs.{Work, Mode, is_active, no_mode, mode_at}
+use Rattle.av_kinds.specs.Programs.{Mode, is_active, mode_at}
 use Rattle.av_kinds.specs.inner.Shapes.{ModeShape, HasModeAt}
 use Rattle.av_kinds.specs.inner.Instances.{work_for}
 

@@ -27,7 +27,7 @@ use Rattle.av_kinds.specs.inner.Choices.{guard_built, either_built, options_buil
 use Rattle.av_kinds.specs.inner.Cells as cells
 use Rattle.av_kinds.specs.inner.Cells.{Datapath, GuardedDatapath, taps_built, operand_at, over_taps, place_built, piece_built, datapath_built, mode_built, modes_built}
 use Rattle.av_kinds.specs.inner.Shapes.{ModeShape, LaneShape}
-use Rattle.av_kinds.specs.inner.Interfaces.{PortCounts, past_tested, past_modes, tested_of, last_of, datapaths_of}
+use Rattle.av_kinds.specs.inner.Interfaces.{PortCounts, past_tested, past_modes, tested_of, last_of}
 use Rattle.av_kinds.specs.inner.Kinds.{lane_built, output_of, lanes_drives}
 use Rattle.av_kinds.specs.inner.Weights as weights
 use Rattle.av_kinds.specs.inner.Weights.{Weights, of_operation, of_gates, of_sign, of_tree, of_lanes, of_drives}

@@ -1,9 +1,9 @@
 -- What stands at the ports of an instance: given names and literals, of the widths of the ports.
-use Rattle.std.proofs.Common.{◌≡◌, ℕ, zero, suc, ◌+◌, ◌<◌, ◌≤◌, ◌^◌, List, [], ◌∷◌, ◌++◌, length, refl, sym, subst, ap, ◌∙◌, arith, Bool, true, false, if◌then◌else◌}
+use Rattle.std.proofs.Common.{◌≡◌, ℕ, zero, suc, ◌+◌, ◌<◌, ◌≤◌, ◌^◌, List, [], ◌∷◌, ◌++◌, length, refl, subst, arith, Bool, true, false, if◌then◌else◌}
 use Rattle.std.specs.List.{AllByRecursion}
 use Rattle.av_base.specs.declared.width.Width.{Width}
 use Rattle.av_net.specs.declared.operation.Operand.{Operand}
-use Rattle.av_net.specs.declared.operation.Operand.TheVariants.{Name, Literal}
+use Rattle.av_net.specs.declared.operation.Operand.TheVariants.{Name}
 use Rattle.av_net.specs.declared.netlist.Port.{Port}
 use Rattle.av_net.specs.Meaning.{Widths, operand_width}
 use Rattle.av_net.specs.Names.{IsAmong}
@@ -17,14 +17,14 @@ use Rattle.av_kinds.specs.declared.program.Inlet.TheVariants.{Inputs, Taps, Pipe
 use Rattle.av_kinds.specs.declared.program.Site.{Site}
 use Rattle.av_kinds.specs.declared.shape.SiteShape.{SiteShape}
 use Rattle.av_kinds.specs.Programs.{Mode, mode_at, Lane}
-use Rattle.av_kinds.specs.Names.{Naming, Labels, input_name, tap_name, bound_name, kind_counter}
+use Rattle.av_kinds.specs.Names.{Naming, Labels, input_name, tap_name, kind_counter}
 use Rattle.av_kinds.specs.Counters.{counter_width}
 use Rattle.av_kinds.specs.Tops.{port}
 use Rattle.av_kinds.specs.inner.Counts.{bound}
-use Rattle.av_kinds.specs.inner.Shapes.{ModeShape, LaneShape, SuitsSite, SuitSites, SuitsMode, SuitModes, SuitsLane, SuitLanes}
+use Rattle.av_kinds.specs.inner.Shapes.{ModeShape, LaneShape, SuitsSite, SuitSites, SuitsMode, SuitModes, SuitLanes}
 use Rattle.av_kinds.specs.inner.Interfaces.{PortCounts, ports_by, bounds_by, ports_in, past_site, site_ports, sites_ports, past_sites, interval_ports, tested_ports, past_tested, modes_ports, past_modes}
 use Rattle.av_kinds.specs.inner.Kinds.{counts, no_ports, lanes_inputs, kind_inputs}
-use Rattle.av_kinds.specs.inner.Instances.{operand_of, words_for, bounds_for, operands_in, site_operands, sites_operands, intervals_for, tested_operands, mode_operands, modes_operands, lanes_operands, cell_operands}
+use Rattle.av_kinds.specs.inner.Instances.{operand_of, words_for, bounds_for, operands_in, site_operands, sites_operands, intervals_for, tested_operands, modes_operands, lanes_operands, cell_operands}
 
 -- what may stand at a port
 pub record IsFeed (given : List (List ℕ)) (W : Widths) (a : Operand) (w : ℕ) : Type 0 where

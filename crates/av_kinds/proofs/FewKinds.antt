@@ -1,5 +1,5 @@
 -- A kind with no more ports and wires than lists have items has numbers of numerals.
-use Rattle.std.proofs.Common.{◌≡◌, ℕ, zero, suc, ◌+◌, ◌*◌, ◌^◌, ◌≤◌, List, [], ◌∷◌, ◌++◌, length, refl, ap, ◌∙◌, arith, Bool, true, false}
+use Rattle.std.proofs.Common.{◌≡◌, ℕ, suc, ◌+◌, List, [], ◌∷◌, length, refl, ap, arith}
 use Rattle.std.specs.List.{AllByRecursion}
 use Rattle.std.proofs.lemmas.List.{length-append}
 use Rattle.av_base.specs.declared.width.Width.{Width}
@@ -8,12 +8,12 @@ use Rattle.av_net.specs.declared.operation.Operand.TheVariants.{Name}
 use Rattle.av_kinds.specs.declared.program.Inlet.{Inlet}
 use Rattle.av_kinds.specs.declared.program.Inlet.TheVariants.{Inputs, Taps, Pipe}
 use Rattle.av_kinds.specs.declared.shape.SiteShape.{SiteShape}
-use Rattle.av_kinds.specs.Names.{Naming, input_name, tap_name, bound_name, inner_name, kind_counter}
+use Rattle.av_kinds.specs.Names.{input_name, tap_name, bound_name, inner_name, kind_counter}
 use Rattle.av_kinds.specs.Counters.{counter_width}
 use Rattle.av_kinds.specs.inner.Gates.{ports_from}
 use Rattle.av_kinds.specs.inner.Shapes.{ModeShape, LaneShape}
 use Rattle.av_kinds.specs.inner.Interfaces.{PortCounts, ports_by, bounds_by, ports_in, past, site_ports, past_site, sites_ports, past_sites, interval_ports, tested_ports, past_tested, modes_ports, past_modes}
-use Rattle.av_kinds.specs.inner.Kinds.{counts, lane_built, no_ports, lanes_inputs, lanes_outputs, lanes_wires, kind_inputs, kind_by}
+use Rattle.av_kinds.specs.inner.Kinds.{counts, lane_built, no_ports, lanes_inputs, lanes_outputs, lanes_wires, kind_by}
 use Rattle.av_kinds.specs.inner.Modules.{kinds_by, IsSmallKind}
 use Rattle.av_kinds.proofs.PortNames.{past_lanes}
 use Rattle.av_kinds.proofs.KindNames.{counter_ports, wires_end, IsFewKind}

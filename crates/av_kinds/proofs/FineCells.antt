@@ -24,7 +24,7 @@ use Rattle.av_kinds.specs.inner.Gates.{Built, built, Named, named}
 use Rattle.av_kinds.specs.inner.Trees.{tree_built}
 use Rattle.av_kinds.specs.inner.Choices.{guard_built, either_built, options_built, tap_built, fitting, fit_built}
 use Rattle.av_kinds.specs.inner.Cells.{Datapath, GuardedDatapath, LaneDatapaths, taps_built, operand_at, over_taps, place_built, piece_built, datapath_built, options_of, mode_built, modes_built, datapaths_built}
-use Rattle.av_kinds.proofs.Fine.{Known, IsKnown, FineOperand, Fine, FineGates, Sized, FineBuilt, FineNamed, gates_append, sized_front, sized_back, later, named_fine, named_sized, plain_fine, tree_fine}
+use Rattle.av_kinds.proofs.Fine.{Known, FineOperand, Fine, FineGates, Sized, FineBuilt, FineNamed, gates_append, sized_front, sized_back, later, named_fine, named_sized, plain_fine, tree_fine}
 use Rattle.av_kinds.proofs.Choices.{IsNamed, tap_named}
 
 -- known from the start

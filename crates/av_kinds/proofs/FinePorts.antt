@@ -4,7 +4,6 @@ use Rattle.std.specs.Prelude.{slice_get}
 use Rattle.std.specs.List.{AllByRecursion}
 use Rattle.av_base.specs.declared.width.Width.{Width}
 use Rattle.av_base.proofs.Lists.{each_first, each_second}
-use Rattle.av_net.specs.declared.operation.Operand.{Operand}
 use Rattle.av_net.specs.declared.operation.Operand.TheVariants.{Name}
 use Rattle.av_net.specs.declared.netlist.Port.{Port}
 use Rattle.av_net.specs.Meaning.{Widths}
@@ -16,9 +15,8 @@ use Rattle.av_kinds.specs.Counters.{counter_width}
 use Rattle.av_kinds.specs.Tops.{port}
 use Rattle.av_kinds.specs.inner.Shapes.{ModeShape, LaneShape, IsInletShape, IsSiteShape, IsModeShape, IsLaneShape}
 use Rattle.av_kinds.specs.inner.Interfaces.{PortCounts, ports_by, bounds_by, options_by, last_by, ports_in, past_site, site_ports, tap_in, tap_of, sites_ports, past_sites, taps_of, guards_by, interval_ports, tested_ports, past_tested, modes_ports, tested_of, last_of, datapaths_of}
-use Rattle.av_kinds.proofs.Choices.{IsNamed}
 use Rattle.av_kinds.proofs.Wide.{last_named}
-use Rattle.av_kinds.proofs.Fine.{Known, FineOperand}
+use Rattle.av_kinds.proofs.Fine.{Known}
 use Rattle.av_kinds.proofs.FineCells.{FineAt, FineGuard, FineArm, FineTap, FineDatapath, FineGuarded, FineLane}
 
 -- the port's name is known, and has its width

@@ -1,5 +1,5 @@
 -- Ports, arms and guards, one more; and what a place adds to an interface.
-use Rattle.std.proofs.Common.{◌≡◌, ℕ, zero, suc, ◌+◌, ◌*◌, ◌≤◌, List, [], ◌∷◌, ◌++◌, length, refl, sym, subst, arith, ◌∙◌, ap, append_assoc}
+use Rattle.std.proofs.Common.{◌≡◌, ℕ, zero, suc, ◌+◌, ◌*◌, List, [], ◌∷◌, ◌++◌, length, refl, sym, subst, arith, ◌∙◌, ap, append_assoc}
 use Rattle.std.proofs.lemmas.List.{length-append, append-nil}
 use Rattle.av_base.specs.declared.width.Width.{Width}
 use Rattle.av_net.specs.declared.operation.Operand.{Operand}
@@ -11,7 +11,7 @@ use Rattle.av_kinds.specs.declared.choice.Guard.TheVariants.{UpTo, Within}
 use Rattle.av_kinds.specs.declared.choice.Tap.{Tap}
 use Rattle.av_kinds.specs.declared.interface.Interface.{Interface}
 use Rattle.av_kinds.specs.declared.program.Inlet.{Inlet}
-use Rattle.av_kinds.specs.declared.program.Inlet.TheVariants.{Inputs, Taps, Pipe}
+use Rattle.av_kinds.specs.declared.program.Inlet.TheVariants.{Inputs, Taps}
 use Rattle.av_kinds.specs.declared.shape.SiteShape.{SiteShape}
 use Rattle.av_kinds.specs.Names.{Naming, input_name, tap_name, bound_name}
 use Rattle.av_kinds.specs.Counters.{counter_width}

@@ -1,14 +1,12 @@
 -- The drives of a kind: each reads what is known before it, and obeys the rules of the subset.
-use Rattle.std.proofs.Common.{◌≡◌, ℕ, zero, suc, ◌+◌, ◌<◌, ◌≤◌, List, [], ◌∷◌, ◌++◌, length, map, refl, sym, subst, arith, ◌∙◌, ap, inl, inr, Some}
+use Rattle.std.proofs.Common.{◌≡◌, ℕ, zero, suc, ◌+◌, ◌<◌, List, [], ◌∷◌, ◌++◌, length, refl, sym, subst, arith, ◌∙◌, ap, inl, inr, Some}
 use Rattle.std.specs.Prelude.{Contains, slice_get}
 use Rattle.std.specs.List.{AllByRecursion}
 use Rattle.std.proofs.lemmas.Bool.{cases_lt}
-use Rattle.std.proofs.lemmas.List.Elements.{Contains-append_left, Contains-append_right, Contains-append_cases, Contains-push}
-use Rattle.av_base.specs.declared.width.Width.{Width}
+use Rattle.std.proofs.lemmas.List.Elements.{Contains-append_left, Contains-append_cases, Contains-push}
 use Rattle.av_base.proofs.Lists.{each_first, each_second, each_weaker, some_is}
 use Rattle.av_net.specs.declared.operation.Operand.{Operand}
 use Rattle.av_net.specs.declared.operation.Operand.TheVariants.{Name, Literal}
-use Rattle.av_net.specs.declared.operation.Operation.{Operation}
 use Rattle.av_net.specs.declared.netlist.Port.{Port}
 use Rattle.av_net.specs.declared.netlist.Drive.{Drive}
 use Rattle.av_net.specs.Meaning.{Widths, EachOperand}
@@ -24,9 +22,9 @@ use Rattle.av_kinds.specs.inner.Shapes.{LaneShape, IsLaneShape}
 use Rattle.av_kinds.specs.inner.Interfaces.{PortCounts, modes_ports, past_modes, datapaths_of}
 use Rattle.av_kinds.specs.inner.Kinds.{lane_built, output_of, lanes_inputs, lanes_outputs, lanes_wires, lanes_drives}
 use Rattle.av_kinds.proofs.Wide.{IsWide}
-use Rattle.av_kinds.proofs.Fine.{Known, IsKnown, Fine, FineGates, Sized, FineBuilt}
+use Rattle.av_kinds.proofs.Fine.{Known, IsKnown, FineGates, Sized, FineBuilt}
 use Rattle.av_kinds.proofs.FineCells.{FineAt, lane_fine}
-use Rattle.av_kinds.proofs.FinePorts.{IsPort, PipesKnown, lane_ports_fine}
+use Rattle.av_kinds.proofs.FinePorts.{IsPort, lane_ports_fine}
 
 -- ---- drives in order
 

@@ -1,17 +1,16 @@
 -- The names of a kind: ports, outputs and wires are apart.
 use Rattle.std.proofs.Common.{◌≡◌, ◌≢◌, ℕ, zero, suc, ◌+◌, ◌^◌, ◌<◌, ◌≤◌, ◌⊎◌, List, [], ◌∷◌, ◌++◌, length, map, refl, sym, subst, arith, ◌∙◌, ap, inl, inr, Bool, true, false, if◌then◌else◌, append_assoc}
-use Rattle.std.specs.Prelude.{Contains, decimal}
+use Rattle.std.specs.Prelude.{decimal}
 use Rattle.std.specs.List.{AllByRecursion, range_with_len}
 use Rattle.std.proofs.lemmas.List.{map-append, append-nil}
-use Rattle.std.proofs.lemmas.List.Elements.{Contains-append_left, Contains-append_right}
 use Rattle.av_base.proofs.Lists.{each_append, each_weaker}
 use Rattle.av_net.specs.declared.operation.Operand.{Operand}
 use Rattle.av_net.specs.declared.operation.Operand.TheVariants.{Name}
 use Rattle.av_net.specs.declared.netlist.Port.{Port}
 use Rattle.av_net.specs.declared.netlist.Drive.{Drive}
-use Rattle.av_net.specs.Names.{AreDistinct, clk, rst, names_of, targets_of, all_names, wire_names}
+use Rattle.av_net.specs.Names.{AreDistinct, clk, rst, names_of, targets_of, all_names}
 use Rattle.av_net.specs.Flat.{kind_module}
-use Rattle.av_net.proofs.Tested.{are_distinct, distinct_tested}
+use Rattle.av_net.proofs.Tested.{distinct_tested}
 use Rattle.av_kinds.specs.declared.gates.Gate.{Gate}
 use Rattle.av_kinds.specs.Names.{Naming, pipe_name, inner_name, kind_value, kind_counter}
 use Rattle.av_kinds.specs.Counters.{counter_width}
@@ -21,7 +20,7 @@ use Rattle.av_kinds.specs.inner.Shapes.{LaneShape}
 use Rattle.av_kinds.specs.inner.Interfaces.{PortCounts, past_modes}
 use Rattle.av_kinds.specs.inner.Kinds.{counts, lane_built, output_of, no_ports, lanes_inputs, lanes_outputs, lanes_wires, lanes_drives, kind_by}
 use Rattle.av_kinds.proofs.NameParts.{one_distinct, nothing_distinct}
-use Rattle.av_kinds.proofs.PortNames.{joined_apart, IsIn, letters_apart, numbers_apart, wider, letter_distinct, letter_each, IsOf, IsSmall, PortNames, past_lanes, lanes_named}
+use Rattle.av_kinds.proofs.PortNames.{joined_apart, IsIn, letters_apart, numbers_apart, wider, letter_distinct, letter_each, IsOf, IsSmall, past_lanes, lanes_named}
 
 -- ---- wires
 

@@ -1,12 +1,12 @@
 -- The kind of a shape is a sound module.
-use Rattle.std.proofs.Common.{◌≡◌, ℕ, zero, suc, ◌+◌, ◌^◌, ◌<◌, ◌≤◌, List, [], ◌∷◌, ◌++◌, length, map, refl, sym, subst, arith, ◌∙◌, ap, inl, inr, Bool, true, false, if◌then◌else◌, Some}
+use Rattle.std.proofs.Common.{◌≡◌, ℕ, zero, suc, ◌+◌, List, [], ◌∷◌, ◌++◌, length, refl, sym, subst, arith, ◌∙◌, ap, inl, inr, Bool, true, false, Some}
 use Rattle.std.specs.Prelude.{All, Contains, slice_get}
 use Rattle.std.specs.List.{AllByRecursion}
 use Rattle.std.proofs.lemmas.List.{map-append, append-nil}
 use Rattle.std.proofs.lemmas.List.Elements.{All-from_recursion, All-contains_itself, recursion_from_All, Contains-append_left, Contains-append_right, Contains-append_cases}
 use Rattle.av_base.specs.Words.{IsWord}
 use Rattle.av_base.proofs.Truths.{by_test}
-use Rattle.av_base.proofs.Lists.{each_first, each_second, each_weaker, each_append}
+use Rattle.av_base.proofs.Lists.{each_second, each_weaker, each_append}
 use Rattle.av_net.specs.declared.operation.Operand.{Operand}
 use Rattle.av_net.specs.declared.operation.Operand.TheVariants.{Name, Literal}
 use Rattle.av_net.specs.declared.netlist.Port.{Port}
@@ -14,14 +14,13 @@ use Rattle.av_net.specs.declared.netlist.Drive.{Drive}
 use Rattle.av_net.specs.declared.netlist.Step.{Step}
 use Rattle.av_net.specs.declared.netlist.Module.{Module}
 use Rattle.av_net.specs.Meaning.{Widths, operand_width, EachOperand}
-use Rattle.av_net.specs.Names.{AreDistinct, clk, rst, names_of, targets_of, registers_of, given_names, wire_names, all_names, IsAmong, width_of}
-use Rattle.av_net.specs.Sound.{IsInOrder, SuitsWidth, IsFitting, ComparesByOrder, IsSound}
+use Rattle.av_net.specs.Names.{AreDistinct, names_of, targets_of, registers_of, given_names, wire_names, all_names, IsAmong, width_of}
+use Rattle.av_net.specs.Sound.{SuitsWidth, IsFitting, ComparesByOrder, IsSound}
 use Rattle.av_net.specs.Designs.{HasBits}
 use Rattle.av_net.specs.Flat.{kind_module}
 use Rattle.av_kinds.specs.declared.gates.Gate.{Gate}
 use Rattle.av_kinds.specs.Names.{Naming, inner_name, kind_counter}
 use Rattle.av_kinds.specs.Counters.{counter_width}
-use Rattle.av_kinds.specs.Tops.{port}
 use Rattle.av_kinds.specs.inner.Gates.{drives_from, ports_from}
 use Rattle.av_kinds.specs.inner.Shapes.{LaneShape, IsLaneShape, IsKindShape}
 use Rattle.av_kinds.specs.inner.Interfaces.{PortCounts, past_modes}
@@ -32,7 +31,7 @@ use Rattle.av_kinds.proofs.ModuleWidths.{AreWide, are_wide}
 use Rattle.av_kinds.proofs.FineCells.{FineAt}
 use Rattle.av_kinds.proofs.FinePorts.{IsPort}
 use Rattle.av_kinds.proofs.KindDrives.{Keeps, AreGood, good_in_order, good_keep, AreLanesFrom, lanes_good}
-use Rattle.av_kinds.proofs.KindNames.{names_from, targets_from, TargetNames, targets_named, counter_ports, IsFewKind, kind_distinct}
+use Rattle.av_kinds.proofs.KindNames.{names_from, targets_from, targets_named, counter_ports, IsFewKind, kind_distinct}
 
 -- ---- lists of names
 

@@ -1,6 +1,5 @@
 -- A lane of a kind that is written: its wires, its drives and its output.
-use Rattle.std.proofs.Common.{◌≡◌, ◌≢◌, ℕ, zero, suc, ◌+◌, ◌-◌, ◌<◌, ◌≤◌, List, [], ◌∷◌, ◌++◌, length, map, drop, get_or, refl, sym, subst, ap, ◌∙◌, arith, append_assoc, Bool, if◌then◌else◌, Some, None}
-use Rattle.std.specs.Prelude.{slice_get}
+use Rattle.std.proofs.Common.{◌≡◌, ℕ, suc, ◌-◌, ◌<◌, ◌≤◌, List, [], ◌∷◌, ◌++◌, length, map, drop, get_or, refl, sym, subst, ap, ◌∙◌, arith, append_assoc, Bool, if◌then◌else◌, Some, None}
 use Rattle.std.specs.List.{AllByRecursion}
 use Rattle.std.proofs.lemmas.List.{length-drop, length-map}
 use Rattle.av_base.specs.declared.width.Width.{Width}
@@ -23,7 +22,7 @@ use Rattle.av_kinds.specs.inner.Cells as cells
 use Rattle.av_kinds.specs.inner.Cells.{GuardedDatapath, modes_built, datapaths_built}
 use Rattle.av_kinds.specs.inner.Shapes.{ModeShape, LaneShape, LaneShapeMade, lane_shape_of, IsModeShape, IsLaneShape, IsKindShape}
 use Rattle.av_kinds.specs.inner.Interfaces.{PortCounts, past_site, past_tested, past_modes, taps_of, datapath_of, tested_of, last_of, datapaths_of, modes_ports}
-use Rattle.av_kinds.specs.inner.Kinds.{counts, output_of, lane_built, no_ports, lanes_outputs, lanes_wires, lanes_drives, kind_inputs, kind_by}
+use Rattle.av_kinds.specs.inner.Kinds.{counts, output_of, lane_built, no_ports, lanes_outputs, lanes_wires, kind_inputs, kind_by}
 use Rattle.av_kinds.specs.inner.Numbered.{wire_in}
 use Rattle.av_kinds.specs.inner.Numbers.{counts_of, AddsPorts, IsOpened}
 use Rattle.av_kinds.specs.inner.Added.{AddsBuilt, GuardedDatapathMade, LaneDatapathsMade, as_datapath, as_guarded, as_datapaths, HasTaps}

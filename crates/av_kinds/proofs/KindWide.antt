@@ -1,5 +1,5 @@
 -- The ports, wires and pipelines of a kind have their widths.
-use Rattle.std.proofs.Common.{◌≡◌, ℕ, zero, suc, ◌+◌, ◌<◌, List, [], ◌∷◌, length, refl, sym, subst, ◌∙◌, ap, arith, Some}
+use Rattle.std.proofs.Common.{◌≡◌, ℕ, zero, suc, ◌+◌, ◌<◌, List, [], ◌∷◌, length, subst, ◌∙◌, ap, arith, Some}
 use Rattle.std.specs.Prelude.{slice_get}
 use Rattle.std.specs.List.{AllByRecursion}
 use Rattle.av_base.specs.declared.width.Width.{Width}
@@ -11,7 +11,7 @@ use Rattle.av_kinds.specs.declared.program.Inlet.{Inlet}
 use Rattle.av_kinds.specs.declared.program.Inlet.TheVariants.{Inputs, Taps, Pipe}
 use Rattle.av_kinds.specs.declared.shape.SiteShape.{SiteShape}
 use Rattle.av_kinds.specs.Names.{pipe_name}
-use Rattle.av_kinds.specs.inner.Shapes.{ModeShape, LaneShape, IsInletShape, IsSiteShape, IsModeShape, IsLaneShape, IsKindShape}
+use Rattle.av_kinds.specs.inner.Shapes.{ModeShape, LaneShape, IsInletShape, IsSiteShape, IsModeShape, IsKindShape}
 use Rattle.av_kinds.specs.inner.Kinds.{lanes_outputs, kind_by}
 use Rattle.av_kinds.proofs.Wide.{IsWide, PipeWide, IsPipeWide, ArePipesWide}
 use Rattle.av_kinds.proofs.Shown.{LanesPipesWide}

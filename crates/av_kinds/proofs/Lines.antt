@@ -5,7 +5,6 @@ use Rattle.std.specs.List.{AllByRecursion, range_with_len}
 use Rattle.std.proofs.lemmas.List.Elements.{recursion_from_All}
 use Rattle.av_base.proofs.Lists.{each_first, each_second, some_is}
 use Rattle.av_net.specs.declared.netlist.Step.{Step}
-use Rattle.av_net.specs.declared.netlist.Drive.{Drive}
 use Rattle.av_net.specs.declared.netlist.Module.{Module}
 use Rattle.av_net.specs.Meaning.{Words, Widths, word_of, bit}
 use Rattle.av_net.specs.Settled.{Holds}

@@ -1,5 +1,5 @@
 -- Where no name of a module is declared twice, each has the width of its declaration.
-use Rattle.std.proofs.Common.{◌≡◌, List, [], ◌∷◌, get_or, sym, subst}
+use Rattle.std.proofs.Common.{[], ◌∷◌, get_or, sym, subst}
 use Rattle.std.specs.Prelude.{Contains}
 use Rattle.std.specs.List.{AllByRecursion}
 use Rattle.std.proofs.lemmas.List.Elements.{recursion_from_All, Contains-get_or}

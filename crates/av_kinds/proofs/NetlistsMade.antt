@@ -1,33 +1,25 @@
 -- The modules of a program are netlists of it: their plan is sound, and its runs are histories.
-use Rattle.std.proofs.Common.{◌≡◌, ℕ, zero, suc, ◌+◌, ◌-◌, ◌^◌, ◌<◌, ◌≤◌, List, [], ◌∷◌, ◌++◌, map, length, refl, sym, subst, ap, ◌∙◌, arith, Bool, true, false, if◌then◌else◌, Option, Some, None}
-use Rattle.std.specs.Prelude.{All, Contains, slice_get, codes}
-use Rattle.std.specs.List.{AllByRecursion, range_with_len, list_any}
+use Rattle.std.proofs.Common.{◌≡◌, ℕ, zero, suc, ◌+◌, ◌-◌, ◌^◌, ◌<◌, ◌≤◌, List, [], ◌∷◌, ◌++◌, length, refl, sym, subst, ap, ◌∙◌, arith, Bool, true, if◌then◌else◌, Option, Some, None}
+use Rattle.std.specs.Prelude.{Contains, slice_get}
+use Rattle.std.specs.List.{AllByRecursion, list_any}
 use Rattle.std.proofs.lemmas.List.Elements.{All-contains_itself, recursion_from_All}
 use Rattle.av_base.proofs.Lists.{some_is, there_is, each_at, each_first, each_second, each_weaker}
 use Rattle.av_net.specs.declared.operation.Operand.TheVariants.{Name}
 use Rattle.av_net.specs.declared.operation.Operation.TheVariants.{Plain}
-use Rattle.av_net.specs.declared.netlist.Port.{Port}
 use Rattle.av_net.specs.declared.netlist.Drive.{Drive}
-use Rattle.av_net.specs.declared.netlist.Step.{Step}
 use Rattle.av_net.specs.declared.netlist.Module.{Module}
 use Rattle.av_net.specs.declared.design.Listing.{Listing}
-use Rattle.av_net.specs.declared.plan.CellKind.{CellKind}
-use Rattle.av_net.specs.declared.plan.Instance.{Instance}
-use Rattle.av_net.specs.declared.plan.Plan.{Plan}
-use Rattle.av_net.specs.Meaning.{Widths, Words}
-use Rattle.av_net.specs.Names.{names_of, wire_names, width_of}
+use Rattle.av_net.specs.Names.{width_of}
 use Rattle.av_net.specs.Settled.{Holds}
 use Rattle.av_net.specs.Clocked.{Stream, Run, IsRun}
-use Rattle.av_net.specs.Listed.{MayBeListed}
 use Rattle.av_net.specs.Flat.{flat_module}
-use Rattle.av_net.specs.Designs.{IsSoundPlan}
 use Rattle.av_net.specs.Instances.{IsPlanSettled}
 use Rattle.av_net.proofs.Parts.{settled_by_parts}
 use Rattle.av_kinds.specs.declared.counter.Counter.{Counter}
 use Rattle.av_kinds.specs.declared.planning.Modules.{Modules}
 use Rattle.av_kinds.specs.declared.program.CellLanes.{CellLanes}
 use Rattle.av_kinds.specs.Programs.{Mode, Lane, Program, lanes_of, IsSite, IsModeOf, IsLaneOf, IsProgram}
-use Rattle.av_kinds.specs.Histories.{Task, Signals, IsDone, IsHistory, mode_by, task_of, task_in, lane_task, tasks_of}
+use Rattle.av_kinds.specs.Histories.{Signals, IsDone, IsHistory, mode_by, task_of, task_in, lane_task, tasks_of}
 use Rattle.av_kinds.specs.Names.{Labels, input_name, output_name, line_name, labels}
 use Rattle.av_kinds.specs.Counters.{IsCounter, counter_name, count_in}
 use Rattle.av_kinds.specs.Tops.{port, output_drives, lane_wires, lane_steps}

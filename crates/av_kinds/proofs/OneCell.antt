@@ -1,12 +1,11 @@
 -- The instance of a cell shows what the cell's program says.
-use Rattle.std.proofs.Common.{◌≡◌, ℕ, zero, suc, ◌+◌, ◌<◌, List, [], ◌∷◌, ◌++◌, length, refl, sym, subst, ap, ◌∙◌, arith, Bool, true, false, if◌then◌else◌}
+use Rattle.std.proofs.Common.{◌≡◌, ℕ, zero, suc, ◌+◌, ◌<◌, List, [], ◌∷◌, ◌++◌, length, sym, subst, ap, ◌∙◌, arith, Bool, true, false, if◌then◌else◌}
 use Rattle.std.specs.List.{AllByRecursion}
 use Rattle.std.proofs.lemmas.List.Elements.{recursion_from_All}
-use Rattle.av_base.proofs.Lists.{each_weaker, each_second}
+use Rattle.av_base.proofs.Lists.{each_weaker}
 use Rattle.av_net.specs.declared.operation.Operand.{Operand}
 use Rattle.av_net.specs.declared.operation.Operand.TheVariants.{Name}
 use Rattle.av_net.specs.declared.netlist.Port.{Port}
-use Rattle.av_net.specs.declared.netlist.Drive.{Drive}
 use Rattle.av_net.specs.Meaning.{Words, Widths, word_of}
 use Rattle.av_net.specs.Names.{width_of}
 use Rattle.av_net.specs.Settled.{Holds}
@@ -24,8 +23,6 @@ use Rattle.av_kinds.specs.inner.Shapes.{ModeShape, LaneShape, SuitLanes}
 use Rattle.av_kinds.specs.Tops.{port}
 use Rattle.av_kinds.specs.inner.Kinds.{counts, no_ports, lanes_inputs, lanes_outputs, lanes_wires, kind_inputs, kind_by}
 use Rattle.av_kinds.specs.inner.Instances.{operand_of, lanes_operands, outputs_from, instance_by}
-use Rattle.av_kinds.proofs.Works.{HasWord}
-use Rattle.av_kinds.proofs.Fed.{OneEach, fed_front, fed_back}
 use Rattle.av_kinds.proofs.Taken.{PipedBy, IsPiped, ArePiped}
 use Rattle.av_kinds.proofs.Wide.{IsWide}
 use Rattle.av_kinds.proofs.Shown.{LanesShow, LanesPiped, LanesPipesWide, kind_shows}

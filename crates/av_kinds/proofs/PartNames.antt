@@ -1,6 +1,6 @@
 -- The names of instances and of what they bring are distinct: each begins with the number of its cell.
-use Rattle.std.proofs.Common.{◌≡◌, ◌≢◌, ℕ, zero, suc, ◌+◌, ◌^◌, ◌<◌, ◌≤◌, List, [], ◌∷◌, ◌++◌, length, map, get_or, refl, sym, subst, arith, ◌∙◌, ap, append_assoc, Some}
-use Rattle.std.specs.Prelude.{slice_get, decimal, codes}
+use Rattle.std.proofs.Common.{◌≡◌, ℕ, zero, suc, ◌+◌, ◌^◌, ◌<◌, ◌≤◌, List, [], ◌∷◌, ◌++◌, length, map, get_or, refl, sym, subst, arith, ◌∙◌, ap, append_assoc}
+use Rattle.std.specs.Prelude.{decimal, codes}
 use Rattle.std.specs.List.{AllByRecursion, range_with_len, flat_map}
 use Rattle.std.proofs.lemmas.List.{map-append, append-nil, length-map}
 use Rattle.av_base.proofs.Lists.{each_append, each_weaker}
@@ -8,7 +8,7 @@ use Rattle.av_net.specs.declared.netlist.Port.{Port}
 use Rattle.av_net.specs.declared.plan.CellKind.{CellKind}
 use Rattle.av_net.specs.declared.plan.Instance.{Instance}
 use Rattle.av_net.specs.Names.{AreDistinct, clk, rst, names_of, all_names}
-use Rattle.av_net.specs.Flat.{part_name, part_port, kind_module, kind_ports, kind_of, part_wires, instance_wires}
+use Rattle.av_net.specs.Flat.{part_name, part_port, kind_module, kind_ports, kind_of, instance_wires}
 use Rattle.av_net.specs.Plans.{instance_names, part_names}
 use Rattle.av_net.specs.Sound.{IsSound}
 use Rattle.av_net.proofs.Distinct.{rest_distinct}

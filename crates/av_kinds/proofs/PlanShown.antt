@@ -1,5 +1,5 @@
 -- In settled words of a plan each cell shows what its program says.
-use Rattle.std.proofs.Common.{◌≡◌, ℕ, zero, suc, ◌+◌, List, [], ◌∷◌, length, get_or, Some, refl, subst, ap, ◌∙◌, arith, true}
+use Rattle.std.proofs.Common.{◌≡◌, ℕ, zero, suc, ◌+◌, List, [], ◌∷◌, length, get_or, Some, subst, ap, ◌∙◌, arith, true}
 use Rattle.std.specs.Prelude.{slice_get, All}
 use Rattle.std.specs.List.{AllByRecursion}
 use Rattle.std.proofs.lemmas.List.Elements.{recursion_from_All}
@@ -8,7 +8,7 @@ use Rattle.av_net.specs.declared.operation.Operand.TheVariants.{Name}
 use Rattle.av_kinds.specs.declared.planning.Modules.{Modules}
 use Rattle.av_net.specs.declared.plan.CellKind.{CellKind}
 use Rattle.av_net.specs.declared.plan.Instance.{Instance}
-use Rattle.av_net.specs.Meaning.{Words, Widths}
+use Rattle.av_net.specs.Meaning.{Words}
 use Rattle.av_net.specs.Names.{width_of}
 use Rattle.av_net.specs.Flat.{kind_module, kind_of, no_kind}
 use Rattle.av_net.specs.Instances.{IsSettledIn}

@@ -12,7 +12,7 @@ use Rattle.av_kinds.specs.declared.program.Link.{Link}
 use Rattle.av_kinds.specs.declared.program.Site.{Site}
 use Rattle.av_kinds.specs.declared.program.Source.{Source}
 use Rattle.av_kinds.specs.declared.program.Source.TheVariants.{Word, Input, Line}
-use Rattle.av_kinds.specs.Programs.{Mode, Lane, Program, lanes_of, IsSource, IsInletOf, IsSite, IsModeOf, IsProgram}
+use Rattle.av_kinds.specs.Programs.{Mode, Program, lanes_of, IsSource, IsInletOf, IsSite, IsModeOf, IsProgram}
 use Rattle.av_kinds.specs.Written.{ProgramMade, lane_of, program_of}
 use Rattle.av_kinds.specs.inner.Shapes.{LaneShapeMade, lane_shape_of, SuitLanes}
 use Rattle.av_kinds.specs.inner.Reads.{IsThere, SiteThere, ModeThere, LaneThere}

@@ -1,13 +1,11 @@
 -- The runs of the flat module of a program are histories of the program.
-use Rattle.std.proofs.Common.{◌≡◌, ℕ, zero, suc, ◌+◌, ◌-◌, ◌<◌, ◌≤◌, ◌⊎◌, inl, inr, List, [], ◌∷◌, ◌++◌, map, length, take, drop, get_or, Option, Some, None, refl, sym, subst, ap, ◌∙◌, arith, Bool, true, false, if◌then◌else◌}
+use Rattle.std.proofs.Common.{◌≡◌, ℕ, zero, suc, ◌+◌, ◌-◌, ◌<◌, ◌≤◌, inl, inr, List, [], ◌∷◌, map, length, take, drop, Some, refl, sym, subst, ap, ◌∙◌, arith, Bool, true, false, if◌then◌else◌}
 use Rattle.std.specs.Prelude.{slice_get, slice_index_or, nat_le, ◌^◌}
 use Rattle.std.specs.List.{AllByRecursion, list_any}
 use Rattle.std.proofs.lemmas.Bool.{cases_lt}
 use Rattle.av_base.proofs.Lists.{some_is, each_at}
 use Rattle.av_base.specs.declared.width.Width.{Width}
-use Rattle.av_tree.specs.Values.{combined, words_compare}
-use Rattle.av_net.specs.declared.operation.Operand.{Operand}
-use Rattle.av_net.specs.declared.operation.Operand.TheVariants.{Name}
+use Rattle.av_tree.specs.Values.{combined}
 use Rattle.av_net.specs.Meaning.{Words, word_of}
 use Rattle.av_flat.specs.Trees.{Tree, reference, constant, binary, choice, pick}
 use Rattle.av_kinds.specs.declared.program.Source.{Source}
@@ -17,12 +15,12 @@ use Rattle.av_kinds.specs.declared.program.Inlet.{Inlet}
 use Rattle.av_kinds.specs.declared.program.Inlet.TheVariants.{Inputs, Taps, Pipe}
 use Rattle.av_kinds.specs.declared.program.Site.{Site}
 use Rattle.av_kinds.specs.declared.program.CellLanes.{CellLanes}
-use Rattle.av_kinds.specs.Programs.{site_count, has_number, source_by, source_in, Work, Mode, is_active, mode_at, Lane, Program, lanes_of, IsSource, IsInletOf, IsSite, IsModeOf, IsLaneOf, AreInTurn}
-use Rattle.av_kinds.specs.Histories.{value_by, resized, Task, Signals, HasWord, IsDone, mode_by, task_of, task_in, lane_task, tasks_of}
+use Rattle.av_kinds.specs.Programs.{site_count, has_number, source_by, source_in, Work, Mode, is_active, mode_at, Lane, Program, IsSource, IsInletOf, IsSite, IsModeOf, IsLaneOf, AreInTurn}
+use Rattle.av_kinds.specs.Histories.{value_by, resized, Signals, HasWord, IsDone, mode_by, task_of}
 use Rattle.av_kinds.specs.Names.{Labels, input_name, line_name, labels}
-use Rattle.av_kinds.specs.inner.Shapes.{ModeShape, LaneShape, HasModeAt, SuitsLane, SuitLanes}
+use Rattle.av_kinds.specs.inner.Shapes.{ModeShape, LaneShape, SuitsLane, SuitLanes}
 use Rattle.av_kinds.specs.inner.Instances.{operand_of, work_for}
-use Rattle.av_kinds.proofs.Taken.{site_word, site_words, work_value}
+use Rattle.av_kinds.proofs.Taken.{site_words, work_value}
 use Rattle.av_kinds.proofs.Shown.{LanesShow}
 use Rattle.av_kinds.proofs.OneCell.{OfPipe, IsOfPipe, AreOfPipes, LanesOfPipes}
 use Rattle.av_kinds.proofs.Chosen.{IsAlone, work_taken}

@@ -1,5 +1,5 @@
 -- The shapes of places, modes and lanes, one after another.
-use Rattle.std.proofs.Common.{◌≡◌, ℕ, zero, suc, ◌+◌, ◌<◌, ◌≤◌, List, [], ◌∷◌, ◌++◌, map, length, drop, get_or, refl, sym, subst, ap, ◌∙◌, arith, Bool, true, false, if◌then◌else◌, Option, Some, None}
+use Rattle.std.proofs.Common.{◌≡◌, ℕ, zero, suc, ◌+◌, ◌<◌, ◌≤◌, List, [], ◌∷◌, ◌++◌, map, length, drop, get_or, refl, sym, ap, ◌∙◌, arith, Bool, true, false, if◌then◌else◌, Option, Some, None}
 use Rattle.std.specs.Prelude.{slice_get, nat_eq, filter}
 use Rattle.std.specs.List.{ItemBy}
 use Rattle.std.specs.Option.{option_map}
@@ -14,7 +14,7 @@ use Rattle.av_kinds.specs.declared.shape.SiteShape.{SiteShape}
 use Rattle.av_kinds.specs.Programs.{Mode, Lane, Program, lanes_of}
 use Rattle.av_kinds.specs.Written.{ModeMade, LaneMade, mode_of, lane_of}
 use Rattle.av_kinds.specs.inner.Shapes.{ModeShape, LaneShape, ModeShapeMade, LaneShapeMade, mode_shape_of, lane_shape_of}
-use Rattle.av_kinds.specs.inner.Shaped.{site_shape, site_shapes, mode_shape_by, mode_shapes, lane_shape_by, lane_shapes, shapes_by, is_used, used}
+use Rattle.av_kinds.specs.inner.Shaped.{site_shape, site_shapes, mode_shape_by, mode_shapes, lane_shape_by, lane_shapes, shapes_by, is_used}
 use Rattle.av_kinds.proofs.Placing.{one_less, one_seen, some_less, from_place, dropped, read_mapped}
 use Rattle.av_kinds.proofs.Steps.{not_same}
 

@@ -1,15 +1,14 @@
 -- The shape of a kind has room for each of its cells, and a kind can be made of it.
-use Rattle.std.proofs.Common.{◌≡◌, ℕ, zero, suc, ◌+◌, ◌-◌, ◌<◌, ◌≤◌, ◌⊎◌, inl, inr, List, [], ◌∷◌, length, map, filter, get_or, Option, Some, None, refl, sym, subst, ap, ◌∙◌, arith, Bool, true, false, if◌then◌else◌, max}
-use Rattle.std.specs.Prelude.{slice_get, slice_index_or, nat_lt, nat_eq}
+use Rattle.std.proofs.Common.{◌≡◌, ℕ, zero, suc, ◌+◌, ◌<◌, ◌≤◌, inl, inr, List, [], ◌∷◌, length, map, filter, Some, refl, sym, subst, ap, ◌∙◌, arith, Bool, true, false, if◌then◌else◌, max}
+use Rattle.std.specs.Prelude.{slice_get, nat_lt, nat_eq}
 use Rattle.std.specs.List.{AllByRecursion}
 use Rattle.av_base.proofs.Lists.{some_is}
-use Rattle.av_base.proofs.Truths.{by_test}
 use Rattle.av_kinds.specs.declared.program.CellLanes.{CellLanes}
 use Rattle.av_kinds.specs.declared.program.Site.{Site}
 use Rattle.av_kinds.specs.declared.shape.SiteShape.{SiteShape}
-use Rattle.av_kinds.specs.Programs.{Mode, mode_at, no_mode, Lane, Program, lanes_of, Paired, AreAlikeSites, AreAlikeModes, AreAlikeLanes}
-use Rattle.av_kinds.specs.inner.Shapes.{ModeShape, LaneShape, SuitsSite, SuitSites, SuitsMode, SuitModes, HasModeAt, SuitsLane, SuitLanes}
-use Rattle.av_kinds.specs.inner.Shaped.{site_shape, site_shapes, mode_shape, mode_shapes, lane_shape, lane_shapes, shapes_by, is_used, used, kind_shape}
+use Rattle.av_kinds.specs.Programs.{Mode, mode_at, Lane, Program, lanes_of, Paired, AreAlikeSites, AreAlikeModes, AreAlikeLanes}
+use Rattle.av_kinds.specs.inner.Shapes.{ModeShape, LaneShape, SuitSites, SuitsMode, SuitModes, HasModeAt, SuitsLane, SuitLanes}
+use Rattle.av_kinds.specs.inner.Shaped.{site_shapes, mode_shapes, lane_shapes, shapes_by, is_used, used, kind_shape}
 
 -- ---- the shape with all modes, by number
 

@@ -1,5 +1,5 @@
 -- Ascending numbers are told by which they are: so cells on which the same pieces stand have the same list of pieces.
-use Rattle.std.proofs.Common.{◌≡◌, ℕ, ◌<◌, ◌≤◌, ◌⊎◌, inl, inr, List, [], ◌∷◌, refl, sym, ap, ◌∙◌, arith, subst}
+use Rattle.std.proofs.Common.{◌≡◌, ℕ, ◌<◌, ◌⊎◌, inl, inr, List, [], ◌∷◌, refl, sym, arith, subst}
 use Rattle.std.specs.List.{AllByRecursion}
 
 -- the number is one of these

@@ -1,26 +1,21 @@
 -- The lanes of a cell show what its program says: where the instance of the cell is settled, the wire of each lane has the word of the work whose mode it
 -- is, over the words of its sources in the same cycle.
-use Rattle.std.proofs.Common.{◌≡◌, ℕ, zero, suc, ◌+◌, List, [], ◌∷◌, ◌++◌, length, refl, sym, subst, ap, ◌∙◌, Bool, true, false, if◌then◌else◌}
+use Rattle.std.proofs.Common.{◌≡◌, ℕ, ◌+◌, List, [], ◌∷◌, length, refl, subst, ◌∙◌, true}
 use Rattle.std.specs.List.{AllByRecursion}
-use Rattle.av_base.specs.declared.width.Width.{Width}
 use Rattle.av_base.proofs.Lists.{each_first, each_second}
 use Rattle.av_base.proofs.Truths.{by_test}
 use Rattle.av_net.specs.declared.operation.Operand.{Operand}
 use Rattle.av_net.specs.declared.operation.Operand.TheVariants.{Name, Literal}
-use Rattle.av_net.specs.declared.netlist.Port.{Port}
 use Rattle.av_net.specs.declared.netlist.Drive.{Drive}
-use Rattle.av_net.specs.Meaning.{Words, Widths, result_of}
+use Rattle.av_net.specs.Meaning.{Words, Widths}
 use Rattle.av_net.specs.Settled.{Holds}
 use Rattle.av_net.specs.Instances.{AreFed, AreTaken}
 use Rattle.av_kinds.specs.declared.gates.Gate.{Gate}
-use Rattle.av_kinds.specs.declared.program.Site.{Site}
 use Rattle.av_kinds.specs.Programs.{Mode, mode_at, Lane}
 use Rattle.av_kinds.specs.Names.{Naming, Labels, inner_name}
-use Rattle.av_kinds.specs.inner.Gates.{Built, drives_from, ports_from}
+use Rattle.av_kinds.specs.inner.Gates.{drives_from, ports_from}
 use Rattle.av_kinds.specs.Counters.{counter_width}
-use Rattle.av_kinds.specs.declared.shape.SiteShape.{SiteShape}
 use Rattle.av_kinds.specs.inner.Shapes.{ModeShape, LaneShape, SuitModes, SuitLanes}
-use Rattle.av_kinds.specs.Tops.{port}
 use Rattle.av_kinds.specs.inner.Interfaces.{PortCounts, sites_ports, past_sites, interval_ports, tested_ports, past_tested, modes_ports, past_modes, datapaths_of}
 use Rattle.av_kinds.specs.inner.Kinds.{lane_built, output_of, lanes_inputs, lanes_outputs, lanes_wires, lanes_drives, counts}
 use Rattle.av_kinds.specs.inner.Instances.{sites_operands, intervals_for, tested_operands, modes_operands, work_for, lanes_operands, outputs_from}

@@ -1,5 +1,5 @@
 -- The names and numbers of the modules of a program are those of the grammar, so its plan is sound with each listing.
-use Rattle.std.proofs.Common.{◌≡◌, ℕ, zero, suc, ◌+◌, ◌^◌, ◌<◌, ◌≤◌, List, [], ◌∷◌, ◌++◌, map, length, refl, sym, subst, ap, ◌∙◌, arith, Bool, true, false, if◌then◌else◌, Some, inl, inr}
+use Rattle.std.proofs.Common.{◌≡◌, ℕ, suc, ◌+◌, ◌^◌, ◌<◌, ◌≤◌, List, [], ◌∷◌, ◌++◌, map, length, refl, sym, subst, ap, arith, Bool, true, false, if◌then◌else◌, Some, inl, inr}
 use Rattle.std.specs.Prelude.{All, slice_get, nat_eq, codes, decimal}
 use Rattle.std.specs.List.{AllByRecursion, range_with_len, list_any}
 use Rattle.std.proofs.lemmas.List.{map-append}
@@ -23,25 +23,24 @@ use Rattle.av_net.specs.Flat.{kind_module}
 use Rattle.av_net.specs.Plans.{instance_names, HasSoundModules}
 use Rattle.av_net.specs.Lexemes.{IsName, begins_name}
 use Rattle.av_net.specs.Listed.{MayBeListed}
-use Rattle.av_net.specs.Designs.{HasWidth, HasBits, HasSpelling, IsSoundPlan}
+use Rattle.av_net.specs.Designs.{HasWidth, HasSpelling, IsSoundPlan}
 use Rattle.av_kinds.specs.declared.counter.Counter.{Counter}
 use Rattle.av_kinds.specs.declared.counter.Counter.TheVariants.{Cycles}
 use Rattle.av_kinds.specs.Programs.{Lane, Program, IsProgram}
-use Rattle.av_kinds.specs.Names.{input_name, output_name, instance_name, value_name, wire_name, number_in, lane_value, lane_register, labels, kind_name, kind_value, kind_counter}
-use Rattle.av_kinds.specs.Counters.{IsCounter, counter_name}
-use Rattle.av_kinds.specs.inner.Counts.{counter_wires}
+use Rattle.av_kinds.specs.Names.{value_name, wire_name, number_in, lane_value, lane_register, labels, kind_name, kind_counter}
+use Rattle.av_kinds.specs.Counters.{IsCounter}
 use Rattle.av_kinds.specs.inner.Shapes.{LaneShape, IsKindShape}
 use Rattle.av_kinds.specs.inner.Interfaces.{PortCounts}
-use Rattle.av_kinds.specs.inner.Kinds.{counts, no_ports, lanes_inputs, lanes_outputs, lanes_wires, kind_inputs, kind_by}
+use Rattle.av_kinds.specs.inner.Kinds.{counts, no_ports, lanes_inputs, lanes_outputs, kind_inputs, kind_by}
 use Rattle.av_kinds.specs.inner.Modules.{AreShapesOf, top_by, kinds_by, instances_by}
-use Rattle.av_kinds.proofs.NameParts.{IsGroup, joined_distinct, one_distinct, each_of_range}
+use Rattle.av_kinds.proofs.NameParts.{joined_distinct, one_distinct, each_of_range}
 use Rattle.av_kinds.proofs.PortNames.{IsIn, IsOf, IsSmall, past_lanes, lanes_named}
 use Rattle.av_kinds.proofs.KindNames.{IsOut, outs_named, wires_named, wires_end, counter_ports, IsFewKind}
 use Rattle.av_kinds.proofs.KindSound.{kind_sound, kind_bits}
 use Rattle.av_kinds.proofs.SpelledNames.{one_numbered, twice_numbered, value_spelled, array_name, counter_spelled, counter_wires_spelled}
 use Rattle.av_kinds.proofs.TopNames.{of_lanes, wires_of, registers_in, own_registers, below_line, IsSmallLane, AreSmall, moved, same_value, same_registers, group, apart_by}
 use Rattle.av_kinds.proofs.TopGroups.{small_program, number_group, counter_register, counter_wire_names}
-use Rattle.av_kinds.proofs.PartNames.{AreNamed, names_of_instances}
+use Rattle.av_kinds.proofs.PartNames.{names_of_instances}
 use Rattle.av_kinds.proofs.ShapeSuits.{below_length}
 use Rattle.av_kinds.proofs.TopInstances.{cells_placed, named, instances_many}
 use Rattle.av_kinds.proofs.TopSound.{I, R, O, V, all_are, top_sound, top_bits}

@@ -1,13 +1,12 @@
 -- The names of modules are names of the subset: a letter, a number, and with it `_` and a second number or not; or one of the counter's names.
-use Rattle.std.proofs.Common.{◌≡◌, ℕ, suc, ◌+◌, ◌^◌, ◌<◌, ◌≤◌, List, [], ◌∷◌, ◌++◌, length, map, refl, sym, subst, arith, ◌∙◌, Bool, true, false, if◌then◌else◌}
-use Rattle.std.specs.Prelude.{All, Contains, decimal, nat_eq, codes}
-use Rattle.std.specs.List.{AllByRecursion, range_with_len, list_all}
+use Rattle.std.proofs.Common.{◌≡◌, ℕ, ◌^◌, ◌<◌, List, [], ◌∷◌, ◌++◌, length, refl, sym, subst, arith, ◌∙◌, Bool, true, false}
+use Rattle.std.specs.Prelude.{All, Contains, decimal, codes}
+use Rattle.std.specs.List.{AllByRecursion, list_all}
 use Rattle.std.specs.Char.{is_ascii_digit}
 use Rattle.std.specs.Str.{all_ascii_digits}
 use Rattle.std.proofs.lemmas.List.{append-nil}
 use Rattle.std.proofs.lemmas.List.Elements.{All-contains, All-from_recursion}
 use Rattle.std.proofs.lemmas.List.Sums.{AllPass-from_list_all}
-use Rattle.av_base.specs.declared.width.Width.{Width}
 use Rattle.av_base.specs.Tokens.{is_word_byte}
 use Rattle.av_net.specs.Lexemes.{IsName, IsIdentifier, reserved_words, begins_name}
 use Rattle.av_net.specs.Names.{names_of}
@@ -16,10 +15,9 @@ use Rattle.av_net.proofs.Tested.{are_distinct, distinct_tested}
 use Rattle.av_kinds.specs.declared.counter.Counter.{Counter}
 use Rattle.av_kinds.specs.declared.counter.Counter.TheVariants.{Cycles, Phases}
 use Rattle.av_kinds.specs.Counters.{counter_name}
-use Rattle.av_kinds.specs.inner.Counts.{next_name, last_name, sum_name, counter_wires}
+use Rattle.av_kinds.specs.inner.Counts.{counter_wires}
 use Rattle.av_kinds.proofs.NameParts.{decimal_some, digits_of}
 use Rattle.av_base.proofs.Truths.{both}
-use Rattle.av_base.proofs.Lists.{each_append}
 use Rattle.av_base.proofs.Spelled.{digit_word}
 
 -- ---- one name

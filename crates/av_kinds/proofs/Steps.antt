@@ -1,5 +1,5 @@
 -- Steps of writing selections and modes, put together.
-use Rattle.std.proofs.Common.{◌≡◌, ℕ, suc, ◌+◌, ◌<◌, List, [], ◌∷◌, ◌++◌, length, map, drop, get_or, refl, sym, subst, arith, ◌∙◌, ap, append_assoc, Bool, true, false, if◌then◌else◌}
+use Rattle.std.proofs.Common.{◌≡◌, ℕ, suc, ◌+◌, ◌<◌, List, [], ◌∷◌, ◌++◌, length, map, drop, get_or, refl, sym, subst, arith, ◌∙◌, ap, append_assoc, true, false}
 use Rattle.std.specs.Prelude.{nat_eq}
 use Rattle.std.proofs.lemmas.List.{length-append, append-nil, drop_more}
 use Rattle.av_base.specs.declared.width.Width.{Width}

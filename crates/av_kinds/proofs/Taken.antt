@@ -1,29 +1,25 @@
 -- What a lane of a kind computes, is what the cell's lane works on at that number of the counter, over the words of its sources: for every choice
 -- of bounds and links that the kind has room for.
-use Rattle.std.proofs.Common.{◌≡◌, ℕ, zero, suc, ◌+◌, ◌≤◌, List, [], ◌∷◌, ◌++◌, map, length, get_or, refl, sym, subst, arith, ◌∙◌, ap, Bool, true, false, if◌then◌else◌}
+use Rattle.std.proofs.Common.{◌≡◌, ℕ, zero, suc, ◌≤◌, List, [], ◌∷◌, map, length, refl, sym, subst, ◌∙◌, ap, Bool, true, false, if◌then◌else◌}
 use Rattle.std.specs.Prelude.{nat_eq, slice_index_or}
-use Rattle.std.specs.List.{list_any, AllByRecursion}
+use Rattle.std.specs.List.{AllByRecursion}
 use Rattle.std.proofs.Math.Path.{fun_ext}
 use Rattle.av_base.specs.declared.width.Width.{Width}
 use Rattle.av_net.specs.declared.operation.Operand.{Operand}
-use Rattle.av_net.specs.declared.operation.Operand.TheVariants.{Name}
-use Rattle.av_net.specs.declared.netlist.Port.{Port}
 use Rattle.av_net.specs.Meaning.{Words, word_of}
 use Rattle.av_net.specs.Instances.{AreFed}
-use Rattle.av_flat.specs.Trees.{Tree}
 use Rattle.av_kinds.specs.declared.program.Source.{Source}
-use Rattle.av_kinds.specs.declared.program.Link.{Link}
 use Rattle.av_kinds.specs.declared.program.Inlet.{Inlet}
 use Rattle.av_kinds.specs.declared.program.Site.{Site}
 use Rattle.av_kinds.specs.declared.program.Inlet.TheVariants.{Inputs, Taps, Pipe}
 use Rattle.av_kinds.specs.Programs.{source_in, Work, Mode, is_active, mode_at}
 use Rattle.av_kinds.specs.Histories.{value_by, fitted}
-use Rattle.av_kinds.specs.inner.Choices.{holds_in, tapped, tap_value}
+use Rattle.av_kinds.specs.inner.Choices.{tapped, tap_value}
 use Rattle.av_kinds.specs.inner.Cells.{Datapath, is_selected, datapath_by, brought, datapath_value}
 use Rattle.av_kinds.specs.Names.{Labels, pipe_name, input_name, tap_name}
 use Rattle.av_kinds.specs.declared.shape.SiteShape.{SiteShape}
 use Rattle.av_kinds.specs.inner.Shapes.{ModeShape, SuitsSite, SuitSites, SuitsMode, SuitModes}
-use Rattle.av_kinds.specs.inner.Interfaces.{PortCounts, ports_in, ports_by, bounds_by, tap_in, tap_of, past_site, site_ports, sites_ports, past_sites, taps_of, datapath_of, guarded_of, tested_ports, past_tested, modes_ports, tested_of, last_of, guards_by, interval_ports}
+use Rattle.av_kinds.specs.inner.Interfaces.{PortCounts, ports_in, ports_by, bounds_by, tap_in, tap_of, past_site, site_ports, sites_ports, past_sites, taps_of, datapath_of, guarded_of, tested_ports, past_tested, modes_ports, tested_of, last_of, interval_ports}
 use Rattle.av_kinds.specs.inner.Instances.{operand_of, operands_in, words_for, bounds_for, site_operands, sites_operands, intervals_for, tested_operands, modes_operands, work_for}
 use Rattle.av_kinds.proofs.Fed.{OneEach, one_each_joined, fed_front, fed_back, words_each, bounds_each, intervals_each, site_taken, mode_taken}
 

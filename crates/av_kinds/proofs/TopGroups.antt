@@ -1,42 +1,24 @@
 -- The names of a top module and of its instances, in groups by their first letters.
-use Rattle.std.proofs.Common.{◌≡◌, ℕ, zero, suc, ◌+◌, ◌-◌, ◌*◌, ◌^◌, ◌<◌, ◌≤◌, List, [], ◌∷◌, ◌++◌, map, length, get_or, refl, sym, subst, ap, ◌∙◌, arith, append_assoc, Bool, true, false, if◌then◌else◌, Option, Some, None, inl, inr}
-use Rattle.std.specs.Prelude.{All, Contains, slice_get, decimal}
-use Rattle.std.specs.List.{AllByRecursion, range_with_len, list_any, flat_map}
-use Rattle.std.proofs.lemmas.Nat.{pow_pos}
-use Rattle.std.proofs.lemmas.List.{append-nil, map-append, length-map}
-use Rattle.std.proofs.lemmas.List.Elements.{All-from_recursion, All-contains_itself, recursion_from_All, Contains-append_left, Contains-append_right, Contains-append_cases, Contains-get_or}
-use Rattle.av_base.specs.declared.width.Width.{Width}
-use Rattle.av_base.specs.Words.{IsWord}
-use Rattle.av_base.proofs.Lists.{some_is, each_at, each_first, each_second, each_weaker, each_append, there_is, get_mapped}
-use Rattle.av_net.specs.declared.operation.Operand.{Operand}
-use Rattle.av_net.specs.declared.operation.Operand.TheVariants.{Name, Literal}
-use Rattle.av_net.specs.declared.netlist.Port.{Port}
-use Rattle.av_net.specs.declared.netlist.Drive.{Drive}
-use Rattle.av_net.specs.declared.netlist.Step.{Step}
-use Rattle.av_net.specs.declared.netlist.Module.{Module}
-use Rattle.av_net.specs.declared.plan.CellKind.{CellKind}
-use Rattle.av_net.specs.declared.plan.Instance.{Instance}
-use Rattle.av_net.specs.Meaning.{Widths, operand_width}
-use Rattle.av_net.specs.Names.{AreDistinct, clk, rst, names_of, targets_of, registers_of, given_names, wire_names, all_names, IsAmong, width_of}
-use Rattle.av_net.specs.Sound.{IsFitting}
-use Rattle.av_net.specs.Flat.{kind_module, kind_of, no_kind}
-use Rattle.av_net.specs.Plans.{instance_names, linked_names, part_names}
+use Rattle.std.proofs.Common.{◌≡◌, ℕ, zero, suc, ◌+◌, ◌-◌, ◌^◌, ◌≤◌, List, [], ◌∷◌, ◌++◌, map, length, get_or, refl, sym, subst, ap, ◌∙◌, arith, append_assoc, Bool, true, false, if◌then◌else◌, Some}
+use Rattle.std.specs.Prelude.{slice_get, decimal}
+use Rattle.std.specs.List.{AllByRecursion, range_with_len}
+use Rattle.std.proofs.lemmas.List.{append-nil}
+use Rattle.av_net.specs.Names.{AreDistinct, clk, rst, names_of}
+use Rattle.av_net.specs.Plans.{linked_names}
 use Rattle.av_kinds.specs.declared.counter.Counter.{Counter}
 use Rattle.av_kinds.specs.declared.counter.Counter.TheVariants.{Cycles, Phases}
 use Rattle.av_kinds.specs.declared.program.CellLanes.{CellLanes}
-use Rattle.av_kinds.specs.Programs.{Lane, Program, lanes_of, AreInTurn, IsLaneOf, IsProgram}
-use Rattle.av_kinds.specs.Names.{Naming, Labels, input_name, output_name, instance_name, number_in, labels}
-use Rattle.av_kinds.specs.Counters.{IsCounter, counter_width, counter_name}
-use Rattle.av_kinds.specs.Tops.{port, one_bit, numbered_ports, output_widths, output_drives, lane_wires, lane_registers, lane_steps}
-use Rattle.av_kinds.specs.inner.Counts.{next_name, last_name, sum_name, counter_wires, counter_drives, counter_step}
-use Rattle.av_kinds.specs.inner.Shapes.{LaneShape, SuitLanes}
-use Rattle.av_kinds.specs.inner.Instances.{outputs_from, instance_by}
-use Rattle.av_kinds.specs.inner.Modules.{top_by, instances_by}
+use Rattle.av_kinds.specs.Programs.{Lane, Program, AreInTurn, IsLaneOf, IsProgram}
+use Rattle.av_kinds.specs.Names.{Labels, labels}
+use Rattle.av_kinds.specs.Counters.{counter_name}
+use Rattle.av_kinds.specs.inner.Counts.{next_name, last_name, sum_name, counter_wires}
+use Rattle.av_kinds.specs.inner.Shapes.{LaneShape}
+use Rattle.av_kinds.specs.inner.Instances.{outputs_from}
+use Rattle.av_kinds.specs.inner.Modules.{instances_by}
 use Rattle.av_kinds.proofs.NameParts.{sort, IsGroup, joined_distinct, one_distinct}
 use Rattle.av_kinds.proofs.PortNames.{letter_distinct}
-use Rattle.av_kinds.proofs.TopNames.{of_lanes, wires_of, registers_in, wires_are, registers_are, steps_are, IsSmallLane, times_more, one_number, group, AreSmall, wire_group, register_group, ports_are, apart_by}
-use Rattle.av_kinds.proofs.PartNames.{AreNamed, InstanceNames, instances_named}
-use Rattle.av_kinds.proofs.RunShown.{IsInCell, cell_of}
+use Rattle.av_kinds.proofs.TopNames.{of_lanes, wires_of, times_more, one_number, group, AreSmall, apart_by}
+use Rattle.av_kinds.proofs.RunShown.{cell_of}
 use Rattle.av_kinds.proofs.ShapeSuits.{below_length}
 
 -- ---- numbers of a program

@@ -1,6 +1,6 @@
 -- The instances of a program's cells: they are named, of sound kinds, and what stands at their ports may stand there.
 use Rattle.std.proofs.Common.{◌≡◌, ℕ, zero, suc, ◌+◌, ◌-◌, ◌^◌, ◌<◌, ◌≤◌, List, [], ◌∷◌, ◌++◌, map, length, take, drop, get_or, refl, sym, subst, ap, ◌∙◌, arith, Bool, true, false, ◌||◌, Some}
-use Rattle.std.specs.Prelude.{All, Contains, slice_get}
+use Rattle.std.specs.Prelude.{Contains, slice_get}
 use Rattle.std.specs.List.{AllByRecursion, list_any}
 use Rattle.std.proofs.lemmas.List.{length-drop, length-take-le}
 use Rattle.std.proofs.lemmas.List.Elements.{All-from_recursion, Contains-append_left}
@@ -13,7 +13,7 @@ use Rattle.av_net.specs.declared.plan.Instance.{Instance}
 use Rattle.av_net.specs.Meaning.{Widths}
 use Rattle.av_net.specs.Names.{IsAmong}
 use Rattle.av_net.specs.Sound.{IsSound, IsFitting}
-use Rattle.av_net.specs.Flat.{kind_module, kind_of, no_kind}
+use Rattle.av_net.specs.Flat.{kind_module, no_kind}
 use Rattle.av_net.specs.Plans.{SuitPorts, AreInOrder, IsPlaced}
 use Rattle.av_kinds.specs.declared.counter.Counter.{Counter}
 use Rattle.av_kinds.specs.declared.program.CellLanes.{CellLanes}
@@ -24,7 +24,7 @@ use Rattle.av_kinds.specs.declared.program.Site.{Site}
 use Rattle.av_kinds.specs.declared.program.Source.{Source}
 use Rattle.av_kinds.specs.declared.program.Source.TheVariants.{Word, Input, Line}
 use Rattle.av_kinds.specs.Programs.{Mode, mode_at, no_mode, Lane, Program, lanes_of, AreInTurn, IsSource, IsInletOf, IsSite, IsModeOf, IsLaneOf, IsProgram}
-use Rattle.av_kinds.specs.Names.{Labels, input_name, instance_name, labels}
+use Rattle.av_kinds.specs.Names.{Labels, input_name, labels}
 use Rattle.av_kinds.specs.Counters.{counter_width, counter_name}
 use Rattle.av_kinds.specs.inner.Shapes.{LaneShape, IsKindShape, SuitLanes}
 use Rattle.av_kinds.specs.inner.Kinds.{counts, lanes_outputs, kind_inputs, kind_by}

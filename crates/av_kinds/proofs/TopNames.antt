@@ -1,5 +1,5 @@
 -- In the top module of a program no name is declared or driven twice.
-use Rattle.std.proofs.Common.{◌≡◌, ◌≢◌, ℕ, zero, suc, ◌+◌, ◌^◌, ◌*◌, ◌<◌, ◌≤◌, ◌⊎◌, Option, Some, List, [], ◌∷◌, ◌++◌, length, map, refl, sym, subst, arith, ◌∙◌, ap, Bool, true, false, if◌then◌else◌, inl, inr, append_assoc}
+use Rattle.std.proofs.Common.{◌≡◌, ◌≢◌, ℕ, zero, suc, ◌+◌, ◌^◌, ◌*◌, ◌<◌, ◌≤◌, ◌⊎◌, Option, Some, List, [], ◌∷◌, ◌++◌, length, map, refl, sym, subst, arith, ◌∙◌, ap, Bool, true, false, if◌then◌else◌, inl, inr}
 use Rattle.std.proofs.lemmas.List.FromFn.{get_or-map-range_with_len, length-map-range_with_len}
 use Rattle.std.specs.Prelude.{slice_get, Contains, decimal, nat_eq, not, ◌&&◌}
 use Rattle.std.specs.List.{AllByRecursion, range_with_len}
@@ -16,7 +16,7 @@ use Rattle.av_net.proofs.Distinct.{append_distinct}
 use Rattle.av_kinds.specs.Programs.{Lane, Program}
 use Rattle.av_kinds.specs.Names.{Naming, Labels, value_name, wire_name, label_in, number_in, lane_value, lane_register, labels}
 use Rattle.av_kinds.specs.Tops.{port, numbered_ports, lane_wires, lane_registers, line_step, lane_steps}
-use Rattle.av_kinds.proofs.NameParts.{decimal_once, owner, after, owner_numbered, after_numbered, sort, sort_numbered, Group, IsGroup, joined, AreApart, joined_distinct, one_distinct, each_of_range, second_injective, nothing_distinct}
+use Rattle.av_kinds.proofs.NameParts.{decimal_once, owner, after, owner_numbered, after_numbered, sort, sort_numbered, Group, IsGroup, AreApart, one_distinct, each_of_range, second_injective, nothing_distinct}
 
 -- ---- the names of lanes, with numbers from q on
 

@@ -1,5 +1,5 @@
 -- The top module of a program is sound, with the instances of its cells.
-use Rattle.std.proofs.Common.{◌≡◌, ℕ, zero, suc, ◌+◌, ◌-◌, ◌^◌, ◌<◌, ◌≤◌, List, [], ◌∷◌, ◌++◌, map, length, refl, sym, subst, ap, ◌∙◌, arith, append_assoc, Bool, true, false, if◌then◌else◌, Some, inl, inr}
+use Rattle.std.proofs.Common.{◌≡◌, ℕ, zero, suc, ◌+◌, ◌<◌, List, [], ◌∷◌, ◌++◌, map, length, refl, sym, subst, ap, ◌∙◌, arith, append_assoc, Bool, true, false, if◌then◌else◌, Some, inl, inr}
 use Rattle.std.specs.Prelude.{All, Contains, slice_get}
 use Rattle.std.specs.List.{AllByRecursion, range_with_len, list_any}
 use Rattle.std.proofs.lemmas.Nat.{pow_pos}
@@ -35,7 +35,7 @@ use Rattle.av_kinds.specs.inner.Modules.{AreShapesOf, top_by, kinds_by, instance
 use Rattle.av_kinds.proofs.NameParts.{IsGroup, each_of_range}
 use Rattle.av_kinds.proofs.TopNames.{of_lanes, wires_of, registers_in, wires_are, registers_are, steps_are, ports_are, AreSmall, wire_group, register_group, group}
 use Rattle.av_kinds.proofs.TopGroups.{small_program, values_are, linked_are, number_group, counter_register, counter_wire_names, declared_names, driven_names}
-use Rattle.av_kinds.proofs.PartNames.{AreNamed, instances_named}
+use Rattle.av_kinds.proofs.PartNames.{instances_named}
 use Rattle.av_kinds.proofs.ShapeSuits.{below_length}
 use Rattle.av_kinds.proofs.KindNames.{IsFewKind}
 use Rattle.av_kinds.proofs.KindDrives.{Keeps, AreGood, good_in_order, good_keep}
@@ -43,7 +43,6 @@ use Rattle.av_kinds.proofs.Wide.{IsWide}
 use Rattle.av_kinds.proofs.ModuleWidths.{AreWide, are_wide}
 use Rattle.av_kinds.proofs.PlanShown.{got}
 use Rattle.av_kinds.proofs.Lines.{each_in_range}
-use Rattle.av_kinds.proofs.Feeds.{IsFeed}
 use Rattle.av_kinds.proofs.TopInstances.{cells_placed, have_room, named, instances_many, HasNames, instances_placed, instances_known, instances_fit, are_in_order}
 
 -- ---- elements of lists

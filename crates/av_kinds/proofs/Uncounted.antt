@@ -1,24 +1,22 @@
 -- A kind that does not count has the same wires whatever has the number of the counter.
-use Rattle.std.proofs.Common.{◌≡◌, ℕ, zero, suc, ◌+◌, List, [], ◌∷◌, ◌++◌, length, refl, sym, arith, ap, ◌∙◌, Bool, true, false, ◌||◌, if◌then◌else◌}
-use Rattle.std.specs.Prelude.{nat_lt, nat_eq}
+use Rattle.std.proofs.Common.{◌≡◌, ℕ, zero, suc, ◌+◌, List, [], ◌∷◌, length, refl, arith, ap, false}
+use Rattle.std.specs.Prelude.{nat_lt}
 use Rattle.std.specs.List.{list_any}
 use Rattle.av_base.specs.declared.width.Width.{Width}
 use Rattle.av_base.proofs.Truths.{neither}
 use Rattle.av_net.specs.declared.operation.Operand.{Operand}
-use Rattle.av_net.specs.declared.netlist.Port.{Port}
-use Rattle.av_net.specs.declared.netlist.Drive.{Drive}
 use Rattle.av_flat.specs.Trees.{Tree, reference, pick}
 use Rattle.av_kinds.specs.declared.program.Inlet.{Inlet}
 use Rattle.av_kinds.specs.declared.program.Inlet.TheVariants.{Inputs, Taps, Pipe}
 use Rattle.av_kinds.specs.Names.{Naming, inner_name, input_name, tap_name}
-use Rattle.av_kinds.specs.inner.Gates.{Built, drives_from, ports_from, named, built}
+use Rattle.av_kinds.specs.inner.Gates.{named}
 use Rattle.av_kinds.specs.declared.choice.Tap.{Tap}
-use Rattle.av_kinds.specs.inner.Choices.{tap_built, fit_built, options_built, fitting}
-use Rattle.av_kinds.specs.inner.Cells.{taps_built, over_taps, place_built, piece_built, datapath_built, datapaths_built, Taken}
+use Rattle.av_kinds.specs.inner.Choices.{fit_built}
+use Rattle.av_kinds.specs.inner.Cells.{taps_built, over_taps, place_built, piece_built, datapaths_built, Taken}
 use Rattle.av_kinds.specs.declared.shape.SiteShape.{SiteShape}
 use Rattle.av_kinds.specs.inner.Shapes.{ModeShape, LaneShape}
 use Rattle.av_kinds.specs.inner.Interfaces.{PortCounts, tap_in, tap_of, past_site, taps_of, datapaths_of, past_modes, options_by}
-use Rattle.av_kinds.specs.inner.Kinds.{selects, lane_counts, counts, lane_built, output_of, lanes_wires, lanes_drives}
+use Rattle.av_kinds.specs.inner.Kinds.{selects, lane_counts, counts, lane_built, lanes_wires, lanes_drives}
 
 -- a place without links
 fit_same : (name : Naming) (w : Width) (a b : Operand) (n : ℕ) (tap : Tap) → tap.arms ≡ [] → fit_built name w a n tap ≡ fit_built name w b n tap

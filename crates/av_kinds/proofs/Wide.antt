@@ -1,14 +1,13 @@
 -- What a kind takes from its ports has the widths that it asks for.
-use Rattle.std.proofs.Common.{◌≡◌, ℕ, zero, suc, ◌+◌, List, [], ◌∷◌, ◌++◌, refl, sym, ◌∙◌}
+use Rattle.std.proofs.Common.{◌≡◌, ℕ, zero, suc, ◌+◌, List, [], ◌∷◌}
 use Rattle.std.specs.List.{AllByRecursion}
 use Rattle.av_base.specs.declared.width.Width.{Width}
 use Rattle.av_base.proofs.Lists.{each_first, each_second}
-use Rattle.av_net.specs.declared.operation.Operand.{Operand}
 use Rattle.av_net.specs.declared.netlist.Port.{Port}
 use Rattle.av_net.specs.Meaning.{Widths, operand_width}
 use Rattle.av_kinds.specs.declared.program.Inlet.{Inlet}
 use Rattle.av_kinds.specs.declared.program.Inlet.TheVariants.{Inputs, Taps, Pipe}
-use Rattle.av_kinds.specs.Names.{Naming, input_name, tap_name, bound_name, pipe_name}
+use Rattle.av_kinds.specs.Names.{Naming, input_name, tap_name, pipe_name}
 use Rattle.av_kinds.specs.declared.shape.SiteShape.{SiteShape}
 use Rattle.av_kinds.specs.inner.Shapes.{ModeShape}
 use Rattle.av_kinds.specs.inner.Interfaces.{PortCounts, ports_by, bounds_by, options_by, last_by, ports_in, past_site, site_ports, tap_in, tap_of, sites_ports, past_sites, taps_of, guards_by, interval_ports, tested_ports, past_tested, modes_ports, tested_of, last_of, datapaths_of}

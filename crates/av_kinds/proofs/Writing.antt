@@ -1,29 +1,27 @@
 -- What loops have written so far: what is there and what the elements to come bring are together all that is to be written.
-use Rattle.std.proofs.Common.{◌≡◌, ℕ, zero, suc, ◌+◌, ◌<◌, ◌≤◌, List, [], ◌∷◌, ◌++◌, length, map, drop, get_or, refl, sym, subst, ap, ◌∙◌, arith, append_assoc, Bool, true, false, if◌then◌else◌, Option, Some, None}
-use Rattle.std.specs.Prelude.{slice_get}
+use Rattle.std.proofs.Common.{◌≡◌, ℕ, suc, ◌+◌, ◌<◌, ◌≤◌, List, [], ◌∷◌, ◌++◌, length, map, drop, get_or, refl, sym, subst, ap, ◌∙◌, arith, append_assoc, Bool, true, false, if◌then◌else◌, Some, None}
 use Rattle.std.specs.List.{range_with_len}
 use Rattle.std.proofs.lemmas.List.{append-nil, length-append, length-map, map-append}
 use Rattle.av_base.proofs.Lists.{there_is, nothing_left}
 use Rattle.av_net.specs.declared.operation.Operand.{Operand}
 use Rattle.av_net.specs.declared.netlist.Port.{Port}
 use Rattle.av_net.specs.declared.netlist.Drive.{Drive}
-use Rattle.av_net.specs.declared.netlist.Step.{Step}
 use Rattle.av_kinds.specs.declared.choice.Tap.{Tap}
 use Rattle.av_kinds.specs.declared.interface.Interface.{Interface}
 use Rattle.av_kinds.specs.declared.kind.KindParts.{KindParts}
 use Rattle.av_kinds.specs.declared.shape.SiteShape.{SiteShape}
 use Rattle.av_kinds.specs.declared.top.TopParts.{TopParts}
 use Rattle.av_kinds.specs.Programs.{Lane, Program}
-use Rattle.av_kinds.specs.Names.{Labels, labels, inner_name, kind_counter}
+use Rattle.av_kinds.specs.Names.{labels, inner_name, kind_counter}
 use Rattle.av_kinds.specs.Counters.{counter_width}
 use Rattle.av_kinds.specs.Tops.{port, lane_wires, lane_registers, line_step, lane_steps}
 use Rattle.av_kinds.specs.inner.Gates.{ports_from, drives_from}
 use Rattle.av_kinds.specs.inner.Cells.{Datapath, GuardedDatapath}
 use Rattle.av_kinds.specs.inner.Shapes.{ModeShape, LaneShape, ModeShapeMade, mode_shape_of}
 use Rattle.av_kinds.specs.inner.Added.{GuardedDatapathMade, as_guarded}
-use Rattle.av_kinds.specs.inner.Interfaces.{PortCounts, site_ports, past_site, tap_of, sites_ports, past_sites, taps_of, datapath_of, tested_ports, past_tested, guarded_of, modes_ports, past_modes, tested_of, last_of}
+use Rattle.av_kinds.specs.inner.Interfaces.{site_ports, past_site, tap_of, sites_ports, past_sites, taps_of, datapath_of, tested_ports, past_tested, guarded_of, modes_ports, past_modes, tested_of, last_of}
 use Rattle.av_kinds.specs.inner.Kinds.{counts, output_of, lane_built, no_ports, lanes_inputs, lanes_outputs, lanes_wires, lanes_drives, kind_inputs}
-use Rattle.av_kinds.specs.inner.Lanes.{HasNoParts, AddsWires, AddsLaneOf, counted}
+use Rattle.av_kinds.specs.inner.Lanes.{HasNoParts, AddsLaneOf, counted}
 use Rattle.av_kinds.specs.inner.Numbers.{counts_of, AreFew, AddsPorts, opened, IsOpened}
 use Rattle.av_kinds.specs.inner.TopParts.{AddsLaneAt, ArePartsOf}
 use Rattle.av_kinds.proofs.Placing.{one_less, some_less, none_less, gates_many, from_place, read_mapped}

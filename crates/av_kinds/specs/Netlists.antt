@@ -1,5 +1,5 @@
 -- What is promised of the modules of a program: a sound plan with the program's ports, whose runs are histories of it.
-use Rattle.std.specs.Prelude.{◌≡◌, ℕ, suc, ◌+◌, ◌-◌, ◌<◌, List, Some, slice_get, All, Contains, codes, length, map}
+use Rattle.std.specs.Prelude.{◌≡◌, ℕ, suc, ◌-◌, ◌<◌, Some, slice_get, All, Contains, codes, length, map}
 use Rattle.std.specs.List.{range_with_len}
 use Rattle.av_net.specs.declared.design.Listing.{Listing}
 use Rattle.av_net.specs.declared.plan.Plan.{Plan}

@@ -1,6 +1,6 @@
 -- Programs in space and time: what each cell computes at each number of the counter, from words of input ports and from values of cells in
 -- earlier cycles. They have no names and no wires (own form, after the usual picture of a systolic array: H. T. Kung 1982).
-use Rattle.std.specs.Prelude.{◌≡◌, ℕ, suc, ◌+◌, ◌-◌, ◌<◌, ◌≤◌, ◌^◌, Bool, true, nat_le, ◌&&◌, List, [], ◌∷◌, length, map, take, drop, Option, Some, None, slice_get, slice_index_or, if◌then◌else◌}
+use Rattle.std.specs.Prelude.{◌≡◌, ℕ, suc, ◌+◌, ◌-◌, ◌<◌, ◌≤◌, ◌^◌, Bool, true, nat_le, ◌&&◌, List, [], ◌∷◌, length, take, drop, Some, slice_get, slice_index_or, if◌then◌else◌}
 use Rattle.std.specs.List.{list_any, AllByRecursion}
 use Rattle.av_base.specs.Words.{IsWord}
 use Rattle.av_base.specs.declared.width.Width.{Width}

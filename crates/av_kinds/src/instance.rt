@@ -236,11 +236,7 @@ fn lane_outputs(
 }
 
 // The operand of the counter's port, where there is one.
-fn counter_operands(
-    alloc: Global,
-    counter: Counter,
-    counts: bool,
-) -> Result<List<Operand>, Memory>
+fn counter_operands(alloc: Global, counter: Counter, counts: bool) -> Result<List<Operand>, Memory>
     ensures { IfOk result (λ operands. operands ≡ (if counts then operand.Name (counter_name counter) ∷ [] else [])) }
 {
     let mut operands = List::new(alloc);

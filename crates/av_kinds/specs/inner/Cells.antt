@@ -5,7 +5,7 @@ use Rattle.av_base.specs.declared.width.Width.{Width}
 use Rattle.av_net.specs.declared.operation.Operand.{Operand}
 use Rattle.av_net.specs.declared.operation.Operand.TheVariants.{Literal}
 use Rattle.av_net.specs.declared.operation.Operation.TheVariants.{Plain}
-use Rattle.av_net.specs.Meaning.{Words, word_of}
+use Rattle.av_net.specs.Meaning.{Words}
 use Rattle.av_flat.specs.Trees.{Tree, reference, pick}
 use Rattle.av_kinds.specs.declared.gates.Gate.{Gate}
 use Rattle.av_kinds.specs.Names.{Naming}

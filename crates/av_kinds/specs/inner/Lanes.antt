@@ -1,5 +1,5 @@
 -- What a lane brings into a kind that is written lane by lane.
-use Rattle.std.specs.Prelude.{◌≡◌, ◌≢◌, ℕ, suc, ◌+◌, List, [], ◌∷◌, ◌++◌, drop, length, Option, Some, None, if◌then◌else◌}
+use Rattle.std.specs.Prelude.{◌≡◌, ◌≢◌, ℕ, suc, List, [], ◌∷◌, ◌++◌, drop, length, Option, Some, None, if◌then◌else◌}
 use Rattle.av_base.specs.declared.width.Width.{Width}
 use Rattle.av_net.specs.declared.operation.Operand.{Operand}
 use Rattle.av_kinds.specs.declared.interface.Interface.{Interface}

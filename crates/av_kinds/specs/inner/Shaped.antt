@@ -1,6 +1,6 @@
 -- How the shape of a kind is found: the shape that has room for the cells before, and for the lanes of one more cell; and of it the modes that
 -- some cell has.
-use Rattle.std.specs.Prelude.{ℕ, suc, zero, ◌+◌, nat_lt, nat_eq, Bool, List, [], ◌∷◌, filter, length, map, Option, Some, None, slice_get, max, if◌then◌else◌}
+use Rattle.std.specs.Prelude.{ℕ, ◌+◌, nat_lt, nat_eq, Bool, List, [], ◌∷◌, filter, length, map, Option, Some, None, max, if◌then◌else◌}
 use Rattle.av_kinds.specs.declared.program.CellLanes.{CellLanes}
 use Rattle.av_kinds.specs.declared.program.Site.{Site}
 use Rattle.av_kinds.specs.declared.shape.SiteShape.{SiteShape}

@@ -1,5 +1,5 @@
 -- What lanes and the counter bring into the top module.
-use Rattle.std.specs.Prelude.{◌≡◌, ℕ, Bool, if◌then◌else◌, List, [], ◌∷◌, ◌++◌, Some, slice_get}
+use Rattle.std.specs.Prelude.{◌≡◌, ℕ, Bool, if◌then◌else◌, [], ◌∷◌, ◌++◌, Some, slice_get}
 use Rattle.av_kinds.specs.declared.counter.Counter.{Counter}
 use Rattle.av_kinds.specs.declared.top.TopParts.{TopParts}
 use Rattle.av_kinds.specs.Programs.{Lane, Program}

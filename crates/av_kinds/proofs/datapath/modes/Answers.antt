@@ -1,9 +1,7 @@
-use Rattle.std.proofs.Common.{◌≡◌, ◌∙◌, ◌+◌, ◌-◌, ◌<◌, List, length, get_or, ap, rules, arith, subst, sym}
-use Rattle.av_base.proofs.Lists.{each_at}
-use Rattle.av_kinds.specs.inner.Cells.{datapath_built, options_of}
-use Rattle.av_kinds.specs.inner.Choices.{options_built}
+use Rattle.std.proofs.Common.{◌≡◌, ◌+◌, ◌-◌, ◌<◌, length, ap, rules, subst}
+use Rattle.av_kinds.specs.inner.Cells.{datapath_built}
 use Rattle.av_kinds.specs.inner.Numbered.{wire_in}
-use Rattle.av_kinds.specs.inner.Added.{AddsBuilt, DatapathMade, GuardedDatapathMade, LaneDatapathsMade, as_datapath, HasTaps}
+use Rattle.av_kinds.specs.inner.Added.{AddsBuilt, DatapathMade, GuardedDatapathMade, as_datapath}
 use Rattle.av_kinds.proofs.Steps.{shift_added}
 use Rattle.av_kinds.proofs.datapath.modes.Goals as goal
 

@@ -1,5 +1,5 @@
-use Rattle.std.proofs.Common.{◌≡◌, ◌++◌, ◌∙◌, ◌<◌, List, length, map, ap, arith}
-use Rattle.av_kinds.specs.Written.{ModeMade, LaneMade, program_of, mode_of}
+use Rattle.std.proofs.Common.{◌≡◌, ◌++◌, ◌∙◌, ◌<◌, length, map, ap, arith}
+use Rattle.av_kinds.specs.Written.{LaneMade, program_of, mode_of}
 use Rattle.av_kinds.specs.Names.{labels}
 use Rattle.av_kinds.specs.inner.Instances.{modes_operands}
 use Rattle.av_kinds.specs.inner.Shapes.{ModeShapeMade, LaneShapeMade, mode_shape_of}
@@ -7,7 +7,7 @@ use Rattle.av_kinds.proofs.InstanceSteps.{mode_within, mode_suits, mode_reads, m
 use Rattle.av_kinds.proofs.instance.add_lane.Goals as goal
 
 pub bounds-modes-of-inside : goal.bounds-modes-of-inside
-bounds-modes-of-inside c = 
+bounds-modes-of-inside c =
     let shape = c.args.shape.now in
     let lane = c.args.lane.now in
     let shapes = c.as_slice-shapes.result.now in
@@ -18,7 +18,7 @@ bounds-modes-of-inside c =
     mode_within shape lane shapes modes c.loop-k.k c.of.inside.number c.index-shapes-k.result of_shapes of_modes number c.requires.suit c.loop-k-test.true c.index-shapes-k.is
 
 pub offset_bounds-modes-of-inside : goal.offset_bounds-modes-of-inside
-offset_bounds-modes-of-inside c = 
+offset_bounds-modes-of-inside c =
     let shape = c.args.shape.now in
     let lane = c.args.lane.now in
     let shapes = c.as_slice-shapes.result.now in
@@ -30,7 +30,7 @@ offset_bounds-modes-of-inside c =
     omega arith
 
 pub add_mode-requires-clause-suit : goal.add_mode-requires-clause-suit
-add_mode-requires-clause-suit c = 
+add_mode-requires-clause-suit c =
     let shape = c.args.shape.now in
     let lane = c.args.lane.now in
     let shapes = c.as_slice-shapes.result.now in
@@ -41,7 +41,7 @@ add_mode-requires-clause-suit c =
     mode_suits shape lane shapes modes c.loop-k.k c.of.inside.number c.index-shapes-k.result of_shapes of_modes number c.requires.suit c.loop-k-test.true c.index-shapes-k.is c.index-modes-of.result c.index-modes-of.is
 
 pub add_mode-requires-clause-there : goal.add_mode-requires-clause-there
-add_mode-requires-clause-there c = 
+add_mode-requires-clause-there c =
     let shape = c.args.shape.now in
     let lane = c.args.lane.now in
     let shapes = c.as_slice-shapes.result.now in
@@ -52,7 +52,7 @@ add_mode-requires-clause-there c =
     mode_reads shape lane shapes modes c.loop-k.k c.of.inside.number c.index-shapes-k.result of_shapes of_modes number c.requires.suit c.loop-k-test.true c.index-shapes-k.is c.index-modes-of.result c.index-modes-of.is (length c.args.program.now.lanes) c.requires.there
 
 pub loop-k-preserved : goal.loop-k-preserved
-loop-k-preserved c = 
+loop-k-preserved c =
     let shape = c.args.shape.now in
     let lane = c.args.lane.now in
     let shapes = c.as_slice-shapes.result.now in

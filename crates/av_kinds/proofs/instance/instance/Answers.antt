@@ -1,4 +1,4 @@
-use Rattle.std.proofs.Common.{◌≡◌, ◌∙◌, List, get_or, length, map, ap, sym, subst}
+use Rattle.std.proofs.Common.{◌≡◌, ◌∙◌, List, get_or, ap, sym}
 use Rattle.std.specs.Prelude.{Some, slice_get}
 use Rattle.std.proofs.lemmas.Option.{slice_get-get_or}
 use Rattle.av_kinds.specs.declared.program.CellLanes.{CellLanes}
@@ -9,7 +9,7 @@ use Rattle.av_kinds.proofs.Reading.{cell_is_there, outputs_within}
 use Rattle.av_kinds.proofs.instance.instance.Goals as goal
 
 pub cell_operands-requires : goal.cell_operands-requires
-cell_operands-requires c = 
+cell_operands-requires c =
     let cells = c.args.program.now.cells in
     let d : CellLanes = record { first = 0; value = 0 } in
     let items : c.as_slice.result.now ≡ cells = c.as_slice.ensures ∙ ap (λ (p : ProgramMade). p.cells) c.program.view_is in
@@ -19,7 +19,7 @@ cell_operands-requires c =
     record { bounds = there.bounds; most = there.most; suit = c.requires.suit own is; there = there.there }
 
 pub lane_outputs-requires : goal.lane_outputs-requires
-lane_outputs-requires c = 
+lane_outputs-requires c =
     let cells = c.args.program.now.cells in
     let d : CellLanes = record { first = 0; value = 0 } in
     let items : c.as_slice.result.now ≡ cells = c.as_slice.ensures ∙ ap (λ (p : ProgramMade). p.cells) c.program.view_is in
@@ -28,7 +28,7 @@ lane_outputs-requires c =
     outputs_within c.args.program.now own c.args.shape.now (cell_is_there c.args.program.now c.requires.program c.args.cell own is) (c.requires.suit own is)
 
 pub returns : goal.returns
-returns c = 
+returns c =
     let cells = c.args.program.now.cells in
     let d : CellLanes = record { first = 0; value = 0 } in
     let items : c.as_slice.result.now ≡ cells = c.as_slice.ensures ∙ ap (λ (p : ProgramMade). p.cells) c.program.view_is in

@@ -6,6 +6,6 @@ use Rattle.av_kinds.proofs.InterfaceSteps.{interval_put}
 use Rattle.av_kinds.proofs.interface.add_bounds.Goals as goal
 
 pub loop-k-preserved : goal.loop-k-preserved
-loop-k-preserved c = 
+loop-k-preserved c =
     interval_put c.args.bound c.loop-k.k c.args.ports.now c.loop-k.ports c.add_ports.new.ports c.loop-k.invariant
     (c.in_ok-add_ports.ensures ∙ ap (λ (w : Width). c.loop-k.ports ++ ports_by bound_name w (c.args.bound + 2 * c.loop-k.k) 2) c.counter_width.ensures)

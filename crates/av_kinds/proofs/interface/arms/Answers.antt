@@ -1,7 +1,5 @@
-use Rattle.std.proofs.Common.{◌≡◌, ◌+◌, ◌∙◌, ap}
+use Rattle.std.proofs.Common.{◌+◌, ◌∙◌, ap}
 use Rattle.av_net.specs.declared.operation.Operand.{Operand}
-use Rattle.av_kinds.specs.declared.choice.Arm.{Arm}
-use Rattle.av_kinds.specs.declared.choice.Guard.TheVariants.{UpTo}
 use Rattle.av_net.specs.declared.operation.Operand.TheVariants.{Name}
 use Rattle.av_kinds.specs.Names.{numbered, bound_name}
 use Rattle.av_kinds.proofs.InterfaceSteps.{arm_put, arm_at}

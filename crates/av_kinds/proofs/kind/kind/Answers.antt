@@ -16,7 +16,7 @@ loop-lane-init c = record {
 }
 
 pub loop-lane-preserved : goal.loop-lane-preserved
-loop-lane-preserved c = 
+loop-lane-preserved c =
     let all = map lane_shape_of c.args.shape.now in
     let k = c.loop-lane.lane in
     record {
@@ -26,7 +26,7 @@ loop-lane-preserved c =
     }
 
 pub returns-clause-is : goal.returns-clause-is
-returns-clause-is c = 
+returns-clause-is c =
     let shape = c.args.shape.now in
     let all = map lane_shape_of shape in
     let end : length shape ≤ c.loop-lane.lane = search rules in

@@ -12,7 +12,7 @@ use Rattle.av_kinds.proofs.PlanSteps.{shapes_seen, instance_put, cell_suits, kin
 use Rattle.av_kinds.proofs.planning.instances.Goals as goal
 
 pub bounds-as_slice-number : goal.bounds-as_slice-number
-bounds-as_slice-number c = 
+bounds-as_slice-number c =
     let P = program_of c.args.program.now in
     let kinds = c.args.program.now.kinds in
     let shapes = c.args.shapes.now in
@@ -26,7 +26,7 @@ bounds-as_slice-number c =
     omega (arith, small, ap (λ (xs : List (List LaneShapeMade)). length xs) c.as_slice.ensures)
 
 pub offset_bounds-as_slice-number : goal.offset_bounds-as_slice-number
-offset_bounds-as_slice-number c = 
+offset_bounds-as_slice-number c =
     let P = program_of c.args.program.now in
     let kinds = c.args.program.now.kinds in
     let shapes = c.args.shapes.now in
@@ -41,7 +41,7 @@ offset_bounds-as_slice-number c =
     omega arith
 
 pub instance-requires-clause-cell : goal.instance-requires-clause-cell
-instance-requires-clause-cell c = 
+instance-requires-clause-cell c =
     let P = program_of c.args.program.now in
     let kinds = c.args.program.now.kinds in
     let shapes = c.args.shapes.now in
@@ -55,7 +55,7 @@ instance-requires-clause-cell c =
     omega (arith, below, c.requires.program.kinds)
 
 pub instance-requires-clause-suit : goal.instance-requires-clause-suit
-instance-requires-clause-suit c = 
+instance-requires-clause-suit c =
     let P = program_of c.args.program.now in
     let kinds = c.args.program.now.kinds in
     let shapes = c.args.shapes.now in
@@ -72,7 +72,7 @@ instance-requires-clause-suit c =
     λ own is_cell. subst (λ (xs : List LaneShapeMade). SuitLanes (map lane_shape_of xs) (lanes_of P own)) (sym c.as_slice-shape.ensures) (cell_suits P shapes c.requires.shapes p k own x is_cell there small read)
 
 pub loop-cell-preserved : goal.loop-cell-preserved
-loop-cell-preserved c = 
+loop-cell-preserved c =
     let P = program_of c.args.program.now in
     let kinds = c.args.program.now.kinds in
     let shapes = c.args.shapes.now in

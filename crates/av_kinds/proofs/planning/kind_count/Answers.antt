@@ -4,7 +4,7 @@ use Rattle.av_kinds.proofs.PlanSteps.{kind_counted, kind_small}
 use Rattle.av_kinds.proofs.planning.kind_count.Goals as goal
 
 pub loop-kind-preserved : goal.loop-kind-preserved
-loop-kind-preserved c = 
+loop-kind-preserved c =
     let kinds = c.args.program.now.kinds in
     let k = c.loop-kind.kind-index in
     let items : c.as_slice-kind-items.result.now ≡ kinds = c.as_slice-kind-items.ensures ∙ ap (λ (p : ProgramMade). p.kinds) c.program.view_is in

@@ -1,7 +1,6 @@
-use Rattle.std.proofs.Common.{◌≡◌, ◌∙◌, List, [], ◌∷◌, length, map, subst, sym, ap, rules}
+use Rattle.std.proofs.Common.{◌∙◌, List, [], ◌∷◌, map, subst, sym, ap, rules}
 use Rattle.std.specs.List.{AllByRecursion}
 use Rattle.av_base.proofs.Lists.{each_append}
-use Rattle.av_net.specs.declared.plan.CellKind.{CellKind}
 use Rattle.av_kinds.specs.inner.Shapes.{LaneShapeMade, IsKindShape, lane_shape_of}
 use Rattle.av_kinds.specs.inner.Kinds.{kind_by}
 use Rattle.av_kinds.specs.inner.Modules.{IsSmallKind, kinds_by}
@@ -9,12 +8,12 @@ use Rattle.av_kinds.proofs.PlanSteps.{shapes_seen, kind_put, kind_there}
 use Rattle.av_kinds.proofs.planning.kinds.Goals as goal
 
 pub kind-requires : goal.kind-requires
-kind-requires c = 
+kind-requires c =
     let x = c.index-shapes-number.result in
     subst (λ (xs : List LaneShapeMade). IsKindShape (map lane_shape_of xs)) (sym c.as_slice.ensures) (kind_there c.args.shapes.now c.requires c.loop-number.number x (search rules) c.index-shapes-number.is)
 
 pub loop-number-preserved : goal.loop-number-preserved
-loop-number-preserved c = 
+loop-number-preserved c =
     let x = c.index-shapes-number.result in
     let n = c.loop-number.number in
     let made = c.in_ok-kind.field-0 in

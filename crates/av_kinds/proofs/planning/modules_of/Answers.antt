@@ -1,12 +1,10 @@
-use Rattle.std.proofs.Common.{◌∙◌, List, map, subst, ap}
 use Rattle.av_kinds.specs.Written.{program_of}
-use Rattle.av_kinds.specs.inner.Shapes.{LaneShapeMade, lane_shape_of}
 use Rattle.av_kinds.proofs.NetlistsMade.{made_netlists}
-use Rattle.av_kinds.proofs.PlanSteps.{shapes_seen, modules_with, modules_made}
+use Rattle.av_kinds.proofs.PlanSteps.{modules_with, modules_made}
 use Rattle.av_kinds.proofs.planning.modules_of.Goals as goal
 
 pub returns : goal.returns
-returns c = 
+returns c =
     let shapes = c.in_ok-shapes.shapes in
     made_netlists c.args.counter (program_of c.args.program.now) c.requires.program c.requires.counter (modules_with c.in_ok-kinds.field-0 c.in_ok-top.field-0 c.in_ok-instances.field-0)
     (modules_made c.args.counter (program_of c.args.program.now) shapes c.as_slice.result.now c.as_slice-2.result.now c.in_ok-kinds.field-0 c.in_ok-top.field-0 c.in_ok-instances.field-0 c.some_counts-counting.result

@@ -4,7 +4,7 @@ use Rattle.av_kinds.proofs.Placing.{part_seen}
 use Rattle.av_kinds.proofs.program.cell_lanes.Goals as goal
 
 pub returns : goal.returns
-returns c = 
+returns c =
     let first = c.args.own.first in
     let n = c.args.own.value + 1 - first in
     let lanes = c.args.program.now.lanes in

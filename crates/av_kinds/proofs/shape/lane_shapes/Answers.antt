@@ -7,7 +7,7 @@ use Rattle.av_kinds.specs.inner.Shaped.{lane_shape_by, lane_shapes}
 use Rattle.av_kinds.proofs.shape.lane_shapes.Goals as goal
 
 pub loop-k-preserved : goal.loop-k-preserved
-loop-k-preserved c = 
+loop-k-preserved c =
     let k = c.loop-k.k in
     let x = c.index-lanes-k.result in
     lane_put c.args.before.now c.args.lanes.now k x c.loop-k.shapes c.push.new.self (lane_shapes (map lane_shape_of c.args.before.now) (map lane_of c.args.lanes.now)) c.in_ok-lane_shape.field-0

@@ -7,7 +7,7 @@ use Rattle.av_kinds.specs.inner.Shaped.{mode_shape_by, mode_shapes}
 use Rattle.av_kinds.proofs.shape.mode_shapes.Goals as goal
 
 pub loop-number-preserved : goal.loop-number-preserved
-loop-number-preserved c = 
+loop-number-preserved c =
     let k = c.loop-number.number in
     let x = c.index-modes-number.result in
     mode_put c.args.before.now c.args.modes.now k x c.loop-number.shapes c.push.new.self (mode_shapes (map mode_shape_of c.args.before.now) 0 (map mode_of c.args.modes.now)) c.in_ok-mode_shape.field-0

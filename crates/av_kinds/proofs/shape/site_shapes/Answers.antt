@@ -4,7 +4,7 @@ use Rattle.av_kinds.specs.inner.Shaped.{site_shapes}
 use Rattle.av_kinds.proofs.shape.site_shapes.Goals as goal
 
 pub loop-k-preserved : goal.loop-k-preserved
-loop-k-preserved c = 
+loop-k-preserved c =
     let site = c.index-sites-k.result in
     let k = c.loop-k.k in
     let before = c.args.before.now in

@@ -5,7 +5,7 @@ use Rattle.av_kinds.specs.inner.Shaped.{is_used}
 use Rattle.av_kinds.proofs.shape.used.Goals as goal
 
 pub loop-mode-preserved : goal.loop-mode-preserved
-loop-mode-preserved c = 
+loop-mode-preserved c =
     let all = c.args.lane.now.modes in
     let k = c.loop-mode.mode-index in
     let x = c.mode-item.result in

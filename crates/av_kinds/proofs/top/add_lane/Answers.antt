@@ -6,7 +6,7 @@ use Rattle.av_kinds.proofs.TopSteps.{lane_added}
 use Rattle.av_kinds.proofs.top.add_lane.Goals as goal
 
 pub returns : goal.returns
-returns c = 
+returns c =
     let q = c.args.number in
     let lanes = c.args.program.now.lanes in
     let x = c.index-as_slice-number.result in

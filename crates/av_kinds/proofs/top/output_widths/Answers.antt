@@ -6,7 +6,7 @@ use Rattle.av_kinds.proofs.TopSteps.{width_put}
 use Rattle.av_kinds.proofs.top.output_widths.Goals as goal
 
 pub loop-number-preserved : goal.loop-number-preserved
-loop-number-preserved c = 
+loop-number-preserved c =
     let program = c.args.program.now in
     let n = c.loop-number.number-index in
     let all : c.as_slice-lanes.result.now ≡ program.lanes = c.as_slice-lanes.ensures ∙ ap (λ (p : ProgramMade). p.lanes) c.program.view_is in

@@ -1,10 +1,10 @@
-use Rattle.std.proofs.Common.{◌≡◌, ◌∙◌, ◌+◌, ◌<◌, List, length, get_or, ap, rules, arith}
+use Rattle.std.proofs.Common.{◌≡◌, ◌∙◌, ◌+◌, ◌<◌, List, length, get_or, ap, arith}
 use Rattle.av_kinds.specs.inner.Shapes.{ModeShapeMade, LaneShapeMade}
 use Rattle.av_kinds.proofs.Writing.{mode_put}
 use Rattle.av_kinds.proofs.interface.Interface.add_lane.Goals as goal
 
 pub loop-k-preserved : goal.loop-k-preserved
-loop-k-preserved c = 
+loop-k-preserved c =
     let k = c.loop-k.k in
     let all = c.args.lane.now.modes in
     let x = c.index-shapes-k.result in
