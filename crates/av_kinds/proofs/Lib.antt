@@ -47,3 +47,12 @@ pub mod InstanceSteps
 pub mod ShapeSteps
 pub mod TopSteps
 pub mod PlanSteps
+pub mod OwnNames
+pub mod Sources
+pub mod SortedGates
+pub mod SortedKinds
+pub mod FewOperators
+pub mod ShapeOrdered
+pub mod FlatDrives
+pub mod FormReads
+pub mod FormSorts
