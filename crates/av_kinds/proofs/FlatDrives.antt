@@ -66,13 +66,14 @@ put P u [] names h = tt
 put P u (p ∷ ports) [] h = tt
 put P u (p ∷ ports) (y ∷ names) h = (h.0 p.name, put P u ports names h.1)
 
-outputs_each : (R : List ℕ → Type 0) (N : Labels) (q n : ℕ) → ((j : ℕ) → q ≤ j → j < q + n → R (N.value j)) → AllByRecursion R (outputs_from N q n)
+-- the outputs of an instance, with the numbers from q on
+pub outputs_each : (R : List ℕ → Type 0) (N : Labels) (q n : ℕ) → ((j : ℕ) → q ≤ j → j < q + n → R (N.value j)) → AllByRecursion R (outputs_from N q n)
 outputs_each R N q zero h = tt
 outputs_each R N q (suc n) h = (h q (omega arith) (omega arith), outputs_each R N (q + 1) n (λ j low high. h j (omega (arith, low)) (omega (arith, high))))
 
 -- ---- lanes
 
-lanes_wires_each : (P : Port → Type 0) (N : Labels) (q : ℕ) (lanes : List Lane) → ((i : ℕ) (lane : Lane) → slice_get lanes i ≡ Some lane → (j : ℕ) → q + i ≡ j → P (port lane.width (N.value j))) → AllByRecursion P (lane_wires N q lanes)
+pub lanes_wires_each : (P : Port → Type 0) (N : Labels) (q : ℕ) (lanes : List Lane) → ((i : ℕ) (lane : Lane) → slice_get lanes i ≡ Some lane → (j : ℕ) → q + i ≡ j → P (port lane.width (N.value j))) → AllByRecursion P (lane_wires N q lanes)
 lanes_wires_each P N q [] h = tt
 lanes_wires_each P N q (lane ∷ lanes) h = (h 0 lane refl q (omega arith), lanes_wires_each P N (q + 1) lanes (λ i l is j at. h (suc i) l is j (omega (arith, at))))
 

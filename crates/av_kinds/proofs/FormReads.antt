@@ -23,7 +23,7 @@ use Rattle.av_kinds.specs.Programs.{Lane, Program, IsProgram}
 use Rattle.av_kinds.specs.Names.{Labels, input_name, output_name, instance_name, kind_counter, line_name, labels}
 use Rattle.av_kinds.specs.Counters.{counter_name}
 use Rattle.av_kinds.specs.Sorts.{IsInstanceWire}
-use Rattle.av_kinds.specs.Forms.{IsCellWire, IsWire, IsRegister, operands_of, MayName, TakesFrom, MayLink, MayTake, IsCounterWire, next_number}
+use Rattle.av_kinds.specs.Forms.{IsCellWire, IsWire, IsRegister, operands_of, MayName, TakesFrom, MayLink, MayTake, IsCounterWire}
 use Rattle.av_kinds.specs.inner.Counts.{counter_wires, counter_drives, counter_step}
 use Rattle.av_kinds.specs.inner.Shapes.{LaneShape}
 use Rattle.av_kinds.specs.inner.Instances.{operand_of}
@@ -33,25 +33,17 @@ use Rattle.av_kinds.proofs.NameParts.{sort, numbered_injective}
 use Rattle.av_kinds.proofs.TopNames.{one_number}
 use Rattle.av_kinds.proofs.TopGroups.{lane_at}
 use Rattle.av_kinds.proofs.ShapeSuits.{below_length}
-use Rattle.av_kinds.proofs.OwnNames.{value_wire, line_register, line_taken, part_sort, cell_sort, register_sort, same_wire, same_register, sorts_apart, no_wire, counter_apart}
+use Rattle.av_kinds.proofs.OwnNames.{value_wire, line_register, line_taken, part_sort, cell_sort, register_sort, same_wire, same_register, sorts_apart, no_wire, counter_apart, counter_wire_none, no_output}
 use Rattle.av_kinds.proofs.Sources.{IsGiven}
 use Rattle.av_kinds.proofs.FlatDrives as flat
 use Rattle.av_kinds.proofs.FlatDrives.{HasCases}
 
--- the counter's wires are of no cell
-pub counter_no_wire : (counter : Counter) → AllByRecursion (λ (d : Drive). (p : ℕ) → p < 10 ^ 64 → IsWire p d.target → ⊥) (counter_drives counter)
-counter_no_wire Cycles = (λ p small. no_wire p _ 1861 small refl (λ e. omega (arith, e)) (λ e. omega (arith, e)), tt)
-counter_no_wire (Phases period) = (
-  λ p small. no_wire p _ 2060 small refl (λ e. omega (arith, e)) (λ e. omega (arith, e)),
-  (λ p small. no_wire p _ 1965 small refl (λ e. omega (arith, e)) (λ e. omega (arith, e)), (λ p small. no_wire p _ 2071 small refl (λ e. omega (arith, e)) (λ e. omega (arith, e)), tt)),
-)
+-- the counter's drives and wires are of these names
+pub counter_targets : (counter : Counter) → AllByRecursion (λ (d : Drive). IsCounterWire counter d.target) (counter_drives counter)
+counter_targets Cycles = (refl, tt)
+counter_targets (Phases period) = (inl refl, (inr (inl refl), (inr (inr refl), tt)))
 
--- nor are they outputs
-no_output : (counter : Counter) → AllByRecursion (λ (d : Drive). sort d.target ≡ 111 → ⊥) (counter_drives counter)
-no_output Cycles = (λ e. let f : 1861 ≡ 111 = e in absurd (omega (arith, f)), tt)
-no_output (Phases period) = (λ e. let f : 2060 ≡ 111 = e in absurd (omega (arith, f)), (λ e. let f : 1965 ≡ 111 = e in absurd (omega (arith, f)), (λ e. let f : 2071 ≡ 111 = e in absurd (omega (arith, f)), tt)))
-
-counter_wires_are : (counter : Counter) → AllByRecursion (λ (x : Port). IsCounterWire counter x.name) (counter_wires counter)
+pub counter_wires_are : (counter : Counter) → AllByRecursion (λ (x : Port). IsCounterWire counter x.name) (counter_wires counter)
 counter_wires_are Cycles = (refl, tt)
 counter_wires_are (Phases period) = (inl refl, (inr (inl refl), (inr (inr refl), tt)))
 
@@ -139,7 +131,7 @@ module _ (counter : Counter) (program : Program) (is : IsProgram program) (shape
     reads : All Reads D
     reads = All-from_recursion Reads D (flat.drives_each counter program is shapes are few Reads cell
         (λ j q at p lt wire. absurd (output_no_wire j q at p (small_cell p lt) wire))
-        (λ counting. each_weaker (λ (d : Drive). (p : ℕ) → p < 10 ^ 64 → IsWire p d.target → ⊥) Reads (λ d none p lt wire. absurd (none p (small_cell p lt) wire)) (counter_drives counter) (counter_no_wire counter)))
+        (λ counting. each_weaker (λ (d : Drive). IsCounterWire counter d.target) Reads (λ d own p lt wire. absurd (counter_wire_none counter d.target own p (small_cell p lt) wire)) (counter_drives counter) (counter_targets counter)))
       where
         cell : (p : ℕ) (own : CellLanes) (k : ℕ) (h : Placed p own k) → Cases Reads p own k h
         cell p own k h =
@@ -226,7 +218,7 @@ module _ (counter : Counter) (program : Program) (is : IsProgram program) (shape
       let small = λ (n t : ℕ) (h : slice_get program.outputs n ≡ Some t). below_length program.outputs n t h in
       let same : i ≡ j = numbered_injective 111 i j (omega (arith, small i r there, is.outputs_few)) (omega (arith, small j q at, is.outputs_few)) e in
       ap (λ t. Plain (Name (N.value t))) (some_is r q (sym there ∙ ap (λ n. slice_get program.outputs n) same ∙ at)))
-      (λ counting. each_weaker (λ (x : Drive). sort x.target ≡ 111 → ⊥) IsOutput (λ x none e. absurd (none (ap sort e ∙ output_sort j q at))) (counter_drives counter) (no_output counter)))) among named
+      (λ counting. each_weaker (λ (x : Drive). IsCounterWire counter x.target) IsOutput (λ x own e. absurd (no_output counter x.target own (ap sort e ∙ output_sort j q at))) (counter_drives counter) (counter_targets counter)))) among named
     where
       IsOutput : Drive → Type 0
       IsOutput x = x.target ≡ output_name j → x.operation ≡ Plain (Name (N.value q))

@@ -29,7 +29,7 @@ use Rattle.av_kinds.specs.Counters.{counter_width, counter_name}
 use Rattle.av_kinds.specs.Tops.{port}
 use Rattle.av_kinds.specs.Sorts.{Sort, rest, IsCounted, IsOfSort, copies, AreOfSorts, ended, sorted, how_many}
 use Rattle.av_kinds.specs.Forms as forms
-use Rattle.av_kinds.specs.Forms.{IsWire, AreDrivesOf, of_cell, other, HasFewOperators}
+use Rattle.av_kinds.specs.Forms.{IsWire, IsCounterWire, AreDrivesOf, of_cell, other, HasFewOperators}
 use Rattle.av_kinds.specs.inner.Counts.{counter_drives}
 use Rattle.av_kinds.specs.inner.Shapes.{LaneShape}
 use Rattle.av_kinds.specs.inner.Ordered.{IsOrdered}
@@ -43,14 +43,14 @@ use Rattle.av_kinds.proofs.TopNames.{one_number}
 use Rattle.av_kinds.proofs.ShapeSuits.{below_length}
 use Rattle.av_kinds.proofs.PlanShown.{got}
 use Rattle.av_kinds.proofs.TopInstances.{EachCell, cells_placed}
-use Rattle.av_kinds.proofs.OwnNames.{part_owner, part_sort, part_own, register_sort, line_register, sorts_apart, counter_apart, same_wire}
+use Rattle.av_kinds.proofs.OwnNames.{part_owner, part_sort, part_own, register_sort, line_register, sorts_apart, counter_apart, same_wire, counter_wire_none}
 use Rattle.av_kinds.proofs.Sources.{IsGiven}
 use Rattle.av_kinds.proofs.SortedGates.{IsFree, IsSorted, sort_in, same_sort, is_sort}
 use Rattle.av_kinds.proofs.SortedKinds.{lanes_sorted}
 use Rattle.av_kinds.proofs.FewOperators.{unit, sorts_in, instance_has, lanes_weigh}
 use Rattle.av_kinds.proofs.FlatDrives as flat
 use Rattle.av_kinds.proofs.FlatDrives.{flat_each, HasCases}
-use Rattle.av_kinds.proofs.FormReads.{counter_no_wire, small_cell, is_small, small_home, value_sort, output_lane, output_no_wire, own_wire}
+use Rattle.av_kinds.proofs.FormReads.{counter_targets, small_cell, is_small, small_home, value_sort, output_lane, output_no_wire, own_wire}
 
 -- ---- the drives of one cell
 
@@ -72,9 +72,9 @@ later y xs x at = Contains-append_right (y ∷ []) xs x at
 
 own_among : (p : ℕ) {ds own : List Drive} → AreDrivesOf p ds own → (d : Drive) → Contains own d → Contains ds d
 own_among p forms.ended d at = at
-own_among p (of_cell {e} {ds} {own} w g) d (zero, lt, same) = (0, omega arith, same)
-own_among p (of_cell {e} {ds} {own} w g) d (suc k, lt, same) = later e ds d (own_among p g d (k, omega (arith, lt), same))
-own_among p (other {e} {ds} {own} n g) d at = later e ds d (own_among p g d at)
+own_among p (of_cell {d = e} {ds = es} w g) d (zero, lt, same) = (0, omega arith, same)
+own_among p (of_cell {d = e} {ds = es} w g) d (suc k, lt, same) = later e es d (own_among p g d (k, omega (arith, lt), same))
+own_among p (other {d = e} {ds = es} n g) d at = later e es d (own_among p g d at)
 
 mapped_among : {X Y : Type 0} (f : X → Y) (xs : List X) (x : X) → Contains xs x → Contains (map f xs) (f x)
 mapped_among f [] x at = absurd (omega (arith, at.1))
@@ -251,7 +251,7 @@ module _ (counter : Counter) (program : Program) (is : IsProgram program) (shape
 
   top_not : (p : ℕ) → p < 10 ^ 64 → AllByRecursion (NotOf p) (flat.top counter program is shapes are few).drives
   top_not p small = flat.top_each counter program is shapes are few (NotOf p) (λ j q at wire. output_no_wire counter program is shapes are few j q at p small wire)
-      (λ counting. each_weaker (λ (d : Drive). (n : ℕ) → n < 10 ^ 64 → IsWire n d.target → ⊥) (NotOf p) (λ d none wire. none p small wire) (counter_drives counter) (counter_no_wire counter))
+      (λ counting. each_weaker (λ (d : Drive). IsCounterWire counter d.target) (NotOf p) (λ d own wire. counter_wire_none counter d.target own p small wire) (counter_drives counter) (counter_targets counter))
 
   has_own : (p : ℕ) (own : CellLanes) (k : ℕ) → slice_get program.cells p ≡ Some own → slice_get program.kinds p ≡ Some k → HasOwn D p own k
   has_own p own k is_cell is_kind =

@@ -56,3 +56,5 @@ pub mod ShapeOrdered
 pub mod FlatDrives
 pub mod FormReads
 pub mod FormSorts
+pub mod OwnInstances
+pub mod FormMade

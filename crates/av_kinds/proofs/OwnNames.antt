@@ -8,7 +8,7 @@ use Rattle.av_kinds.specs.Programs.{Lane, Program}
 use Rattle.av_kinds.specs.Names.{value_name, wire_name, register_name, instance_name, label_in, number_in, lane_value, lane_register, labels, line_name}
 use Rattle.av_kinds.specs.Counters.{counter_name}
 use Rattle.av_kinds.specs.Sorts.{IsInstanceWire}
-use Rattle.av_kinds.specs.Forms.{IsCellWire, IsWire, IsRegister, next_number}
+use Rattle.av_kinds.specs.Forms.{IsCellWire, IsWire, IsRegister, IsCounterWire}
 use Rattle.av_kinds.proofs.NameParts.{decimal_once, owner, owner_numbered, after, after_numbered, sort, sort_numbered, rest_is}
 use Rattle.av_kinds.proofs.TopNames.{one_number, one_owner}
 
@@ -97,3 +97,16 @@ counter_apart (Phases period) = apart_by 1529 (omega arith) refl
   where
     apart_by : (n : ℕ) → 1000 < n → sort (counter_name (Phases period)) ≡ n → IsApart (sort (counter_name (Phases period)))
     apart_by n large e = record { cell = λ f. omega arith; part = λ f. omega arith; register = λ f. omega arith; input = λ f. omega arith; output = λ f. omega arith }
+
+-- the counter's wires are of no cell, and are no outputs
+pub counter_wire_none : (counter : Counter) (x : List ℕ) → IsCounterWire counter x → (p : ℕ) → p < 10 ^ 64 → IsWire p x → ⊥
+counter_wire_none Cycles x e p small = no_wire p x 1861 small (ap sort e) (λ f. omega (arith, f)) (λ f. omega (arith, f))
+counter_wire_none (Phases period) x (inl e) p small = no_wire p x 2060 small (ap sort e) (λ f. omega (arith, f)) (λ f. omega (arith, f))
+counter_wire_none (Phases period) x (inr (inl e)) p small = no_wire p x 1965 small (ap sort e) (λ f. omega (arith, f)) (λ f. omega (arith, f))
+counter_wire_none (Phases period) x (inr (inr e)) p small = no_wire p x 2071 small (ap sort e) (λ f. omega (arith, f)) (λ f. omega (arith, f))
+
+pub no_output : (counter : Counter) (x : List ℕ) → IsCounterWire counter x → sort x ≡ 111 → ⊥
+no_output Cycles x e is = sorts_apart x 1861 111 (ap sort e) is (λ f. omega (arith, f))
+no_output (Phases period) x (inl e) is = sorts_apart x 2060 111 (ap sort e) is (λ f. omega (arith, f))
+no_output (Phases period) x (inr (inl e)) is = sorts_apart x 1965 111 (ap sort e) is (λ f. omega (arith, f))
+no_output (Phases period) x (inr (inr e)) is = sorts_apart x 2071 111 (ap sort e) is (λ f. omega (arith, f))

@@ -155,7 +155,7 @@ pub record HasFewOperators (counter : List ℕ) (m : Module) (p : ℕ) (lanes : 
 
 -- ---- the whole
 
-pub record IsFormOf (counter : Counter) (program : Program) (m : Module) : Type 0 where
+pub record IsFormedBy (counter : Counter) (program : Program) (m : Module) : Type 0 where
   pub wires : All (λ (w : Port). ((p : ℕ) × (p < length program.cells) × IsWire p w.name) ⊎ IsCounterWire counter w.name) m.wires
   pub registers : All (λ (r : Port). ((p : ℕ) × (p < length program.cells) × IsRegister p r.name) ⊎ (r.name ≡ counter_name counter)) m.registers
   pub reads : All (λ (d : Drive). (p : ℕ) → p < length program.cells → IsWire p d.target → All (MayName (counter_name counter) program p) (operands_of d.operation)) m.drives
@@ -173,6 +173,6 @@ pub record HaveOwnInstances (program : Program) (m : Modules) : Type 0 where
       → (Contains (targets_of m.top.drives) name → ⊥) × ((i : Instance) → Contains m.instances i → Contains i.outputs name → i.name ≡ instance_name p)
 
 -- what is promised of the modules of a program, beside that they are its netlists
-pub record AreFormed (counter : Counter) (program : Program) (m : Modules) : Type 0 where
-  pub form : (l : Listing) → IsFormOf counter program (flat_module (plan_of l m))
+pub record AreFormedBy (counter : Counter) (program : Program) (m : Modules) : Type 0 where
+  pub form : (l : Listing) → IsFormedBy counter program (flat_module (plan_of l m))
   pub instances : HaveOwnInstances program m
