@@ -1,11 +1,10 @@
 -- Sort by sort the drives of an instance are no more than the operators in the works of its cell's lanes.
-use Rattle.std.proofs.Common.{◌≡◌, ◌≢◌, ℕ, zero, suc, ◌+◌, ◌<◌, ◌≤◌, List, [], ◌∷◌, ◌++◌, drop, map, refl, sym, subst, arith, ◌∙◌, ap}
+use Rattle.std.proofs.Common.{◌≡◌, ◌≢◌, ℕ, zero, suc, ◌+◌, ◌≤◌, List, [], ◌∷◌, ◌++◌, drop, map, refl, arith, ◌∙◌, ap}
 use Rattle.std.specs.Prelude.{sum}
-use Rattle.std.specs.List.{AllByRecursion}
 use Rattle.std.proofs.lemmas.List.Sums.{sum_by-cons}
 use Rattle.av_tree.specs.declared.sign.Sign.{Sign}
 use Rattle.av_tree.specs.declared.sign.Sign.TheVariants as sign
-use Rattle.av_flat.specs.Trees.{Tree, reference, constant, binary, choice, pick}
+use Rattle.av_flat.specs.Trees.{Tree, binary, choice}
 use Rattle.av_net.specs.declared.operation.Symbol.{Symbol}
 use Rattle.av_net.specs.declared.operation.Symbol.TheVariants.{Add, Sub, Mul, And, Or, Equal, Unequal, Less, LessEqual, Greater, GreaterEqual}
 use Rattle.av_net.specs.declared.operation.Operand.{Operand}

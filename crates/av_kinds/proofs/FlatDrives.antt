@@ -1,6 +1,6 @@
 -- What holds of each drive, wire, register and step of the flat module of a program, from what holds of those of one instance, of the lanes, of the
 -- outputs and of the counter.
-use Rattle.std.proofs.Common.{◌≡◌, ℕ, zero, suc, ◌+◌, ◌-◌, ◌<◌, ◌≤◌, List, [], ◌∷◌, ◌++◌, map, length, get_or, refl, sym, subst, ap, ◌∙◌, arith, Bool, true, false, if◌then◌else◌, Some}
+use Rattle.std.proofs.Common.{◌≡◌, ℕ, zero, suc, ◌+◌, ◌<◌, ◌≤◌, List, [], ◌∷◌, ◌++◌, map, length, refl, sym, subst, ap, arith, Bool, true, false, if◌then◌else◌, Some}
 use Rattle.std.specs.Prelude.{Contains, slice_get}
 use Rattle.std.specs.List.{AllByRecursion, range_with_len, list_any, flat_map}
 use Rattle.std.proofs.lemmas.List.Elements.{All-contains_itself, recursion_from_All}
@@ -16,7 +16,7 @@ use Rattle.av_net.specs.declared.netlist.Module.{Module}
 use Rattle.av_net.specs.declared.plan.CellKind.{CellKind}
 use Rattle.av_net.specs.declared.plan.Instance.{Instance}
 use Rattle.av_net.specs.Flat as flat
-use Rattle.av_net.specs.Flat.{part_name, part_port, part_drive, input_drives, part_drives, kind_ports, kind_of, no_kind, instance_wires, instance_drives}
+use Rattle.av_net.specs.Flat.{part_name, part_port, part_drive, input_drives, part_drives, kind_ports, kind_of, instance_wires, instance_drives}
 use Rattle.av_kinds.specs.declared.counter.Counter.{Counter}
 use Rattle.av_kinds.specs.declared.program.CellLanes.{CellLanes}
 use Rattle.av_kinds.specs.declared.program.Source.{Source}

@@ -1,25 +1,21 @@
 -- The modules of a program have the form of one.
-use Rattle.std.proofs.Common.{◌≡◌, ◌≢◌, ℕ, zero, suc, ◌+◌, ◌^◌, ◌<◌, ◌≤◌, List, [], ◌∷◌, ◌++◌, map, length, refl, sym, subst, ap, ◌∙◌, arith, inl, inr, ◌⊎◌, Bool, true, false, true≢false, if◌then◌else◌, Some}
-use Rattle.std.specs.Prelude.{Contains, slice_get, codes}
+use Rattle.std.proofs.Common.{◌≡◌, ◌≢◌, ℕ, ◌^◌, ◌<◌, List, [], ◌∷◌, refl, sym, subst, ap, ◌∙◌, arith, inl, inr, ◌⊎◌, Bool, true, false, true≢false, if◌then◌else◌}
+use Rattle.std.specs.Prelude.{Contains}
 use Rattle.std.specs.List.{AllByRecursion, list_any, flat_map}
 use Rattle.std.proofs.lemmas.List.Elements.{All-from_recursion, All-contains, All-map, Contains-append_left, Contains-append_right}
-use Rattle.av_base.proofs.Lists.{each_weaker}
 use Rattle.av_net.specs.declared.operation.Operand.TheVariants.{Name}
 use Rattle.av_net.specs.declared.netlist.Port.{Port}
 use Rattle.av_net.specs.declared.netlist.Drive.{Drive}
-use Rattle.av_net.specs.declared.netlist.Step.{Step}
 use Rattle.av_net.specs.declared.netlist.Module.{Module}
 use Rattle.av_net.specs.declared.design.Listing.{Listing}
-use Rattle.av_net.specs.declared.plan.Instance.{Instance}
 use Rattle.av_net.specs.Names.{names_of}
 use Rattle.av_net.specs.Flat.{flat_module, instance_wires, instance_drives}
 use Rattle.av_kinds.specs.declared.counter.Counter.{Counter}
 use Rattle.av_kinds.specs.declared.counter.Counter.TheVariants.{Cycles, Phases}
 use Rattle.av_kinds.specs.declared.planning.Modules.{Modules}
-use Rattle.av_kinds.specs.declared.program.CellLanes.{CellLanes}
 use Rattle.av_kinds.specs.Programs.{Program, IsProgram}
 use Rattle.av_kinds.specs.Names.{Labels, labels}
-use Rattle.av_kinds.specs.Counters.{IsCounter, counter_width, counter_name}
+use Rattle.av_kinds.specs.Counters.{counter_width, counter_name}
 use Rattle.av_kinds.specs.Tops.{port, output_drives, lane_wires, lane_registers, lane_steps}
 use Rattle.av_kinds.specs.Netlists.{plan_of}
 use Rattle.av_kinds.specs.Forms.{IsWire, IsRegister, next_number, IsCounterWire, HasNext, HasCounter, HasNoCounter, IsFormedBy, AreFormedBy}
@@ -30,7 +26,6 @@ use Rattle.av_kinds.specs.inner.Kinds.{counts}
 use Rattle.av_kinds.specs.inner.Modules.{AreShapesOf, top_by, kinds_by, instances_by, IsSmallKind, AreModulesOf}
 use Rattle.av_kinds.proofs.KindNames.{IsFewKind}
 use Rattle.av_kinds.proofs.FewKinds.{few_kinds}
-use Rattle.av_kinds.proofs.NameParts.{sort}
 use Rattle.av_kinds.proofs.OwnNames.{value_wire, line_register, register_sort, counter_apart, counter_wire_none}
 use Rattle.av_kinds.proofs.FlatDrives as flat
 use Rattle.av_kinds.proofs.FormReads.{names_read, links_read, wires_owned, registers_owned, steps_take, output_is, small_home, is_small}

@@ -1,7 +1,7 @@
 -- In the flat module of a program wires and registers belong to cells, a wire reads its own cell, what brings words to its places, and the counter,
 -- and a register takes what is of its own cell.
-use Rattle.std.proofs.Common.{◌≡◌, ◌≢◌, ℕ, zero, suc, ◌+◌, ◌^◌, ◌<◌, ◌≤◌, ◌⊎◌, List, [], ◌∷◌, ◌++◌, length, refl, sym, subst, ap, ◌∙◌, arith, inl, inr, Bool, true, false, if◌then◌else◌, Some}
-use Rattle.std.specs.Prelude.{All, Contains, slice_get, decimal}
+use Rattle.std.proofs.Common.{◌≡◌, ℕ, zero, suc, ◌^◌, ◌<◌, ◌⊎◌, List, [], ◌∷◌, length, refl, sym, subst, ap, ◌∙◌, arith, inl, inr, Some}
+use Rattle.std.specs.Prelude.{All, Contains, slice_get}
 use Rattle.std.specs.List.{AllByRecursion}
 use Rattle.std.proofs.lemmas.List.Elements.{All-from_recursion, All-contains}
 use Rattle.av_base.specs.declared.width.Width.{Width}
@@ -22,9 +22,8 @@ use Rattle.av_kinds.specs.declared.program.Source.TheVariants.{Word, Input, Line
 use Rattle.av_kinds.specs.Programs.{Lane, Program, IsProgram}
 use Rattle.av_kinds.specs.Names.{Labels, input_name, output_name, instance_name, kind_counter, line_name, labels}
 use Rattle.av_kinds.specs.Counters.{counter_name}
-use Rattle.av_kinds.specs.Sorts.{IsInstanceWire}
-use Rattle.av_kinds.specs.Forms.{IsCellWire, IsWire, IsRegister, operands_of, MayName, TakesFrom, MayLink, MayTake, IsCounterWire}
-use Rattle.av_kinds.specs.inner.Counts.{counter_wires, counter_drives, counter_step}
+use Rattle.av_kinds.specs.Forms.{IsWire, IsRegister, operands_of, MayName, MayLink, MayTake, IsCounterWire}
+use Rattle.av_kinds.specs.inner.Counts.{counter_wires, counter_drives}
 use Rattle.av_kinds.specs.inner.Shapes.{LaneShape}
 use Rattle.av_kinds.specs.inner.Instances.{operand_of}
 use Rattle.av_kinds.specs.inner.Modules.{AreShapesOf}

@@ -1,12 +1,12 @@
 -- In the flat module of a program each drive of a cell is of one sort, and sort by sort there are no more of them than the works of the cell's lanes
 -- have operators.
-use Rattle.std.proofs.Common.{◌≡◌, ◌≢◌, ℕ, zero, suc, ◌+◌, ◌^◌, ◌<◌, ◌≤◌, List, [], ◌∷◌, ◌++◌, map, length, get_or, refl, sym, subst, ap, ◌∙◌, arith, inl, inr, Bool, true, false, if◌then◌else◌, Some}
-use Rattle.std.specs.Prelude.{All, Contains, slice_get, decimal}
-use Rattle.std.specs.List.{AllByRecursion, list_any, flat_map}
+use Rattle.std.proofs.Common.{◌≡◌, ◌≢◌, ℕ, zero, suc, ◌+◌, ◌^◌, ◌<◌, List, [], ◌∷◌, ◌++◌, map, length, get_or, refl, sym, subst, ap, ◌∙◌, arith, inl, inr, Bool, true, false, if◌then◌else◌, Some}
+use Rattle.std.specs.Prelude.{Contains, slice_get}
+use Rattle.std.specs.List.{AllByRecursion, flat_map}
 use Rattle.std.proofs.lemmas.List.{append-nil}
 use Rattle.std.proofs.lemmas.List.Elements.{All-from_recursion, All-contains, Contains-append_left, Contains-append_right}
 use Rattle.av_base.specs.declared.width.Width.{Width}
-use Rattle.av_base.proofs.Lists.{some_is, there_is, each_at, each_append, each_weaker}
+use Rattle.av_base.proofs.Lists.{some_is, there_is, each_at, each_weaker}
 use Rattle.av_net.specs.declared.operation.Operand.{Operand}
 use Rattle.av_net.specs.declared.operation.Operand.TheVariants.{Name, Literal}
 use Rattle.av_net.specs.declared.operation.Operation.{Operation}
@@ -17,23 +17,23 @@ use Rattle.av_net.specs.declared.netlist.Module.{Module}
 use Rattle.av_net.specs.declared.plan.CellKind.{CellKind}
 use Rattle.av_net.specs.declared.plan.Instance.{Instance}
 use Rattle.av_net.specs.Flat as flattened
-use Rattle.av_net.specs.Flat.{part_name, part_operand, part_operation, part_drive, input_drives, part_drives, no_kind, instance_drives}
+use Rattle.av_net.specs.Flat.{part_name, part_operation, part_drive, input_drives, instance_drives}
 use Rattle.av_kinds.specs.declared.counter.Counter.{Counter}
 use Rattle.av_kinds.specs.declared.counter.Counter.TheVariants.{Cycles, Phases}
 use Rattle.av_kinds.specs.declared.program.CellLanes.{CellLanes}
 use Rattle.av_kinds.specs.declared.program.Source.{Source}
 use Rattle.av_kinds.specs.declared.program.Source.TheVariants.{Word, Input, Line}
-use Rattle.av_kinds.specs.Programs.{Lane, Program, lanes_of, IsProgram}
-use Rattle.av_kinds.specs.Names.{Labels, input_name, output_name, instance_name, kind_counter, labels}
+use Rattle.av_kinds.specs.Programs.{Program, lanes_of, IsProgram}
+use Rattle.av_kinds.specs.Names.{Labels, input_name, instance_name, kind_counter, labels}
 use Rattle.av_kinds.specs.Counters.{counter_width, counter_name}
 use Rattle.av_kinds.specs.Tops.{port}
-use Rattle.av_kinds.specs.Sorts.{Sort, rest, IsCounted, IsOfSort, copies, AreOfSorts, ended, sorted, how_many}
+use Rattle.av_kinds.specs.Sorts.{IsCounted, IsOfSort, copies, AreOfSorts, ended, sorted}
 use Rattle.av_kinds.specs.Forms as forms
 use Rattle.av_kinds.specs.Forms.{IsWire, IsCounterWire, AreDrivesOf, of_cell, other, HasFewOperators}
 use Rattle.av_kinds.specs.inner.Counts.{counter_drives}
 use Rattle.av_kinds.specs.inner.Shapes.{LaneShape}
 use Rattle.av_kinds.specs.inner.Ordered.{IsOrdered}
-use Rattle.av_kinds.specs.inner.Kinds.{counts, lane_counts, no_ports, lanes_inputs, lanes_outputs, lanes_drives, kind_inputs, kind_by}
+use Rattle.av_kinds.specs.inner.Kinds.{counts, no_ports, lanes_inputs, lanes_outputs, lanes_drives, kind_inputs, kind_by}
 use Rattle.av_kinds.specs.inner.Instances.{operand_of, lanes_operands, outputs_from, cell_operands, instance_by}
 use Rattle.av_kinds.specs.inner.Modules.{AreShapesOf, instances_by}
 use Rattle.av_kinds.proofs.Counted.{kind_has}
@@ -43,14 +43,14 @@ use Rattle.av_kinds.proofs.TopNames.{one_number}
 use Rattle.av_kinds.proofs.ShapeSuits.{below_length}
 use Rattle.av_kinds.proofs.PlanShown.{got}
 use Rattle.av_kinds.proofs.TopInstances.{EachCell, cells_placed}
-use Rattle.av_kinds.proofs.OwnNames.{part_owner, part_sort, part_own, register_sort, line_register, sorts_apart, counter_apart, same_wire, counter_wire_none}
+use Rattle.av_kinds.proofs.OwnNames.{part_owner, part_sort, part_own, register_sort, line_register, counter_apart, same_wire, counter_wire_none}
 use Rattle.av_kinds.proofs.Sources.{IsGiven}
 use Rattle.av_kinds.proofs.SortedGates.{IsFree, IsSorted, sort_in, same_sort, is_sort}
 use Rattle.av_kinds.proofs.SortedKinds.{lanes_sorted}
 use Rattle.av_kinds.proofs.FewOperators.{unit, sorts_in, instance_has, lanes_weigh}
 use Rattle.av_kinds.proofs.FlatDrives as flat
 use Rattle.av_kinds.proofs.FlatDrives.{flat_each, HasCases}
-use Rattle.av_kinds.proofs.FormReads.{counter_targets, small_cell, is_small, small_home, value_sort, output_lane, output_no_wire, own_wire}
+use Rattle.av_kinds.proofs.FormReads.{counter_targets, is_small, small_home, value_sort, output_lane, output_no_wire, own_wire}
 
 -- ---- the drives of one cell
 

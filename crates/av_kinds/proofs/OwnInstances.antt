@@ -1,10 +1,10 @@
 -- The wires of a cell in the top module are driven by the cell's instance and by nothing else.
-use Rattle.std.proofs.Common.{◌≡◌, ◌≢◌, ℕ, zero, suc, ◌+◌, ◌-◌, ◌^◌, ◌<◌, ◌≤◌, List, [], ◌∷◌, ◌++◌, map, length, get_or, refl, sym, subst, ap, ◌∙◌, arith, inl, inr, Bool, true, false, if◌then◌else◌, Some}
-use Rattle.std.specs.Prelude.{Contains, slice_get, decimal, codes}
-use Rattle.std.specs.List.{AllByRecursion, list_any}
+use Rattle.std.proofs.Common.{◌≡◌, ℕ, zero, suc, ◌+◌, ◌-◌, ◌^◌, ◌<◌, List, [], ◌∷◌, length, get_or, refl, sym, subst, ap, ◌∙◌, arith, inl, if◌then◌else◌, Some}
+use Rattle.std.specs.Prelude.{Contains, slice_get}
+use Rattle.std.specs.List.{AllByRecursion}
 use Rattle.std.proofs.lemmas.List.Elements.{All-from_recursion, All-contains, All-map}
 use Rattle.av_base.proofs.Among.{among_at}
-use Rattle.av_base.proofs.Lists.{some_is, there_is, place_in, each_at, each_append, each_weaker}
+use Rattle.av_base.proofs.Lists.{some_is, there_is, each_append, each_weaker}
 use Rattle.av_net.specs.declared.netlist.Port.{Port}
 use Rattle.av_net.specs.declared.netlist.Drive.{Drive}
 use Rattle.av_net.specs.declared.plan.Instance.{Instance}
@@ -16,7 +16,7 @@ use Rattle.av_kinds.specs.Programs.{Lane, Program, lanes_of, IsProgram}
 use Rattle.av_kinds.specs.Names.{Labels, instance_name, labels}
 use Rattle.av_kinds.specs.Counters.{counter_name}
 use Rattle.av_kinds.specs.Forms.{IsCellWire, IsWire, IsCounterWire, HaveOwnInstances}
-use Rattle.av_kinds.specs.Tops.{port, lane_wires}
+use Rattle.av_kinds.specs.Tops.{lane_wires}
 use Rattle.av_kinds.specs.inner.Counts.{counter_wires, counter_drives}
 use Rattle.av_kinds.specs.inner.Shapes.{LaneShape}
 use Rattle.av_kinds.specs.inner.Instances.{outputs_from, instance_by}
@@ -26,7 +26,7 @@ use Rattle.av_kinds.proofs.NameParts.{numbered_injective}
 use Rattle.av_kinds.proofs.TopGroups.{lane_at}
 use Rattle.av_kinds.proofs.ShapeSuits.{below_length}
 use Rattle.av_kinds.proofs.PlanShown.{made_instance}
-use Rattle.av_kinds.proofs.TopInstances.{EachCell, suit_many, lanes_many, cell_within, IsPlacedCell, cells_placed, each_instance, instances_many}
+use Rattle.av_kinds.proofs.TopInstances.{suit_many, lanes_many, cell_within, IsPlacedCell, cells_placed, each_instance, instances_many}
 use Rattle.av_kinds.proofs.OwnNames.{value_wire, same_wire, counter_wire_none}
 use Rattle.av_kinds.proofs.FlatDrives as flat
 use Rattle.av_kinds.proofs.FlatDrives.{lanes_wires_each, if_each, outputs_each}

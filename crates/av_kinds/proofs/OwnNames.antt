@@ -1,13 +1,12 @@
 -- The names of a cell's wires, of the wires of its instance and of its registers tell the cell.
-use Rattle.std.proofs.Common.{◌≡◌, ◌≢◌, ℕ, zero, suc, ◌+◌, ◌^◌, ◌<◌, ◌≤◌, ◌⊎◌, List, [], ◌∷◌, ◌++◌, refl, sym, subst, arith, ◌∙◌, ap, Bool, true, false, if◌then◌else◌, inl, inr, append_assoc, Some}
+use Rattle.std.proofs.Common.{◌≡◌, ◌≢◌, ℕ, zero, suc, ◌+◌, ◌^◌, ◌<◌, ◌⊎◌, List, ◌∷◌, ◌++◌, refl, sym, subst, arith, ◌∙◌, ap, Bool, true, false, if◌then◌else◌, inl, inr, append_assoc, Some}
 use Rattle.std.specs.Prelude.{slice_get, decimal, nat_eq, codes}
 use Rattle.av_net.specs.Flat.{part_name}
 use Rattle.av_kinds.specs.declared.counter.Counter.{Counter}
 use Rattle.av_kinds.specs.declared.counter.Counter.TheVariants.{Cycles, Phases}
 use Rattle.av_kinds.specs.Programs.{Lane, Program}
-use Rattle.av_kinds.specs.Names.{value_name, wire_name, register_name, instance_name, label_in, number_in, lane_value, lane_register, labels, line_name}
+use Rattle.av_kinds.specs.Names.{value_name, wire_name, instance_name, label_in, number_in, lane_value, lane_register, labels, line_name}
 use Rattle.av_kinds.specs.Counters.{counter_name}
-use Rattle.av_kinds.specs.Sorts.{IsInstanceWire}
 use Rattle.av_kinds.specs.Forms.{IsCellWire, IsWire, IsRegister, IsCounterWire}
 use Rattle.av_kinds.proofs.NameParts.{decimal_once, owner, owner_numbered, after, after_numbered, sort, sort_numbered, rest_is}
 use Rattle.av_kinds.proofs.TopNames.{one_number, one_owner}

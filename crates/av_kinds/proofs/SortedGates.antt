@@ -1,5 +1,5 @@
 -- Each wire that a lane of a kind builds is of one sort in the flat module: an operator, a comparison without the counter, or a choice by it.
-use Rattle.std.proofs.Common.{◌≡◌, ◌≢◌, ℕ, zero, suc, ◌+◌, ◌-◌, ◌<◌, ◌⊎◌, List, [], ◌∷◌, ◌++◌, length, refl, sym, subst, arith, inl, inr, Bool, true, false, if◌then◌else◌}
+use Rattle.std.proofs.Common.{◌≡◌, ℕ, zero, suc, ◌+◌, ◌-◌, ◌<◌, List, [], ◌∷◌, ◌++◌, length, refl, sym, subst, arith, inl, inr, Bool, true, false, if◌then◌else◌}
 use Rattle.std.specs.Prelude.{Contains, nat_lt, nat_eq}
 use Rattle.std.specs.List.{AllByRecursion}
 use Rattle.av_base.specs.declared.width.Width.{Width}

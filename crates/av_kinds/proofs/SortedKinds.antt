@@ -1,13 +1,12 @@
 -- Each drive of a kind is of one sort in the flat module, where an instance has it once more under names of its own.
-use Rattle.std.proofs.Common.{◌≡◌, ◌≢◌, ℕ, zero, suc, ◌+◌, ◌<◌, List, [], ◌∷◌, ◌++◌, length, refl, sym, arith, ◌∙◌, ap, Bool, true, false, ◌||◌}
+use Rattle.std.proofs.Common.{◌≡◌, ◌≢◌, ℕ, zero, suc, ◌+◌, ◌<◌, List, [], ◌∷◌, length, refl, sym, arith, ◌∙◌, ap, Bool, true, false, ◌||◌}
 use Rattle.std.specs.Prelude.{Contains, nat_lt}
 use Rattle.std.specs.List.{AllByRecursion, list_any}
 use Rattle.std.proofs.lemmas.List.Elements.{Contains-append_left, Contains-append_right}
 use Rattle.av_base.proofs.Lists.{each_append}
-use Rattle.av_net.specs.declared.operation.Operand.{Operand}
 use Rattle.av_net.specs.declared.operation.Operand.TheVariants.{Name}
 use Rattle.av_net.specs.declared.netlist.Drive.{Drive}
-use Rattle.av_net.specs.Flat.{part_name, part_operand, part_drive}
+use Rattle.av_net.specs.Flat.{part_name, part_drive}
 use Rattle.av_kinds.specs.declared.gates.Gate.{Gate}
 use Rattle.av_kinds.specs.declared.program.Inlet.{Inlet}
 use Rattle.av_kinds.specs.declared.program.Inlet.TheVariants.{Inputs, Taps, Pipe}
@@ -19,7 +18,7 @@ use Rattle.av_kinds.specs.inner.Cells.{GuardedDatapath}
 use Rattle.av_kinds.specs.inner.Shapes.{ModeShape, LaneShape}
 use Rattle.av_kinds.specs.inner.Interfaces.{PortCounts, options_by, last_by, tap_in, tap_of, past_site, taps_of, past_tested, tested_of, past_modes, last_of, datapaths_of}
 use Rattle.av_kinds.specs.inner.Kinds.{selects, lane_counts, output_of, lane_built, lanes_drives}
-use Rattle.av_kinds.proofs.SortedGates.{IsFree, IsSorted, AreSorted, IsBuilt, Among, IsFreeTap, IsFreePath, lane_sorted}
+use Rattle.av_kinds.proofs.SortedGates.{IsFree, IsSorted, AreSorted, Among, IsFreeTap, IsFreePath, lane_sorted}
 
 or_first : (a b : Bool) → a ≡ true → (a || b) ≡ true
 or_first true b e = refl
@@ -137,6 +136,8 @@ module _ (counter : List ℕ) (D : List Drive) (u : List ℕ) (free : (x : List 
       (last_mode at lane.modes (λ e. here (or_second (nat_lt 1 (length lane.modes)) (list_any selects lane.modes) e)))
       (tested_modes at lane.modes (λ e. here (or_first (nat_lt 1 (length lane.modes)) (list_any selects lane.modes) e)))
       (among_by (inner_name n) 0 b.gates (λ d there. among d (Contains-append_left own (last ∷ more) d there))) in
-      each_append (λ (d : Drive). IsSorted counter D u d.operation) own (last ∷ more) (gates_sorted (inner_name n) 0 b.gates good.gates)
-      (good.root, lanes_sorted (past_modes at lane.modes) (n + length b.gates) (k + 1) lanes (λ e. tested (or_second (lane_counts lane) (list_any lane_counts lanes) e))
-      (λ d there. among d (Contains-append_right own (last ∷ more) d (Contains-append_right (last ∷ []) more d there))))
+      each_append (λ (d : Drive). IsSorted counter D u d.operation) own (last ∷ more) (gates_sorted (inner_name n) 0 b.gates good.gates) (
+        good.root,
+        lanes_sorted (past_modes at lane.modes) (n + length b.gates) (k + 1) lanes (λ e. tested (or_second (lane_counts lane) (list_any lane_counts lanes) e))
+            (λ d there. among d (Contains-append_right own (last ∷ more) d (Contains-append_right (last ∷ []) more d there))),
+      )

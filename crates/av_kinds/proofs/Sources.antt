@@ -1,5 +1,5 @@
 -- What stands at the ports of a cell's instance: literals, and what has the words of sources of the cell's places.
-use Rattle.std.proofs.Common.{◌≡◌, ℕ, zero, suc, ◌+◌, ◌<◌, ◌≤◌, ◌^◌, List, [], ◌∷◌, ◌++◌, refl, sym, subst, arith, Some, inl, inr, Bool, true, false}
+use Rattle.std.proofs.Common.{◌≡◌, ℕ, zero, suc, ◌+◌, ◌<◌, ◌≤◌, ◌^◌, List, [], ◌∷◌, refl, subst, Some, inl, inr}
 use Rattle.std.specs.Prelude.{slice_get}
 use Rattle.std.specs.List.{AllByRecursion}
 use Rattle.av_base.specs.declared.width.Width.{Width}
@@ -19,7 +19,7 @@ use Rattle.av_kinds.specs.Names.{Labels, labels}
 use Rattle.av_kinds.specs.Counters.{counter_width}
 use Rattle.av_kinds.specs.Forms.{IsSourceOf, Takes}
 use Rattle.av_kinds.specs.inner.Shapes.{ModeShape, LaneShape, SuitsSite, SuitSites, SuitModes, SuitLanes}
-use Rattle.av_kinds.specs.inner.Instances.{operand_of, words_for, bounds_for, operands_in, site_operands, sites_operands, intervals_for, tested_operands, mode_operands, modes_operands, lanes_operands}
+use Rattle.av_kinds.specs.inner.Instances.{operand_of, words_for, bounds_for, operands_in, site_operands, sites_operands, intervals_for, tested_operands, modes_operands, lanes_operands}
 use Rattle.av_kinds.proofs.TopInstances.{lane_of_cell}
 
 -- what holds of literals and of what has the word of such a source
