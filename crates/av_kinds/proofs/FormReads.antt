@@ -163,7 +163,7 @@ module _ (counter : Counter) (program : Program) (is : IsProgram program) (shape
       let lane = given.is_source.0 in
       let there = given.is_source.1 in
       record {
-        number = q;
+        lane_number = q;
         lane = lane;
         is_lane = there;
         home = same_register lane.home r (N.register q d) (small_home q lane there) (small_cell r lt) (line_register program q d lane there) register;

@@ -98,7 +98,7 @@ module _ (program : Program) (is : IsProgram program) (p : ℕ) (own : CellLanes
     takes : (s : Source) → IsSourceOf site s → Takes program p s
     takes s source =
         let at = lane_of_cell program is p own is_cell h lane there low in
-        record { number = own.first + h; lane = lane; is_lane = at.0; home = at.1.home; turn = k; mode = m; is_mode = is_mode; place = j; site = site; is_site = is_site; is_source = source }
+        record { lane_number = own.first + h; lane = lane; is_lane = at.0; home = at.1.home; mode_number = k; mode = m; is_mode = is_mode; site_number = j; site = site; is_site = is_site; is_source = source }
 
     site_given : (P : Operand → Type 0) (literal : (w : Width) (n : ℕ) → P (Literal w n)) (source : (w : Width) (s : Source) → IsGiven s → P (operand_of (labels program) w s)) → SiteHas (labels program) IsGiven P literal source site
     site_given P literal source =

@@ -51,16 +51,16 @@ IsSourceOf site source = (source ≡ site.otherwise) ⊎ ((i : ℕ) × (l : Link
 
 -- a place of a lane of the cell p does
 pub record Takes (program : Program) (p : ℕ) (source : Source) : Type 0 where
-  pub number : ℕ
+  pub lane_number : ℕ
   pub lane : Lane
-  pub is_lane : slice_get program.lanes number ≡ Some lane
+  pub is_lane : slice_get program.lanes lane_number ≡ Some lane
   pub home : lane.home ≡ p
-  pub turn : ℕ
+  pub mode_number : ℕ
   pub mode : Mode
-  pub is_mode : slice_get lane.modes turn ≡ Some mode
-  pub place : ℕ
+  pub is_mode : slice_get lane.modes mode_number ≡ Some mode
+  pub site_number : ℕ
   pub site : Site
-  pub is_site : slice_get mode.work.sites place ≡ Some site
+  pub is_site : slice_get mode.work.sites site_number ≡ Some site
   pub is_source : IsSourceOf site source
 
 abbrev pub operands_of : Operation → List Operand
@@ -78,13 +78,13 @@ MayName counter program p (Name name) = IsWire p name ⊎ ((k : ℕ) × (name �
 
 -- a place of cell p takes words of earlier cycles from a lane of cell q
 pub record TakesFrom (program : Program) (p q : ℕ) : Type 0 where
-  pub number : ℕ
+  pub lane_number : ℕ
   pub lane : Lane
-  pub is_lane : slice_get program.lanes number ≡ Some lane
+  pub is_lane : slice_get program.lanes lane_number ≡ Some lane
   pub home : lane.home ≡ q
   pub delay : ℕ
   pub later : 0 < delay
-  pub takes : Takes program p (Line number delay)
+  pub takes : Takes program p (Line lane_number delay)
 
 -- of registers of other cells, those alone from which a place of the cell takes words
 abbrev pub MayLink : Program → ℕ → Operand → Type 0
