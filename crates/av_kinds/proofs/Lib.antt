@@ -49,3 +49,14 @@ pub mod TopSteps
 pub mod PlanSteps
 pub mod KindSteps
 pub mod Reading
+pub mod OwnNames
+pub mod Sources
+pub mod SortedGates
+pub mod SortedKinds
+pub mod FewOperators
+pub mod ShapeOrdered
+pub mod FlatDrives
+pub mod FormReads
+pub mod FormSorts
+pub mod OwnInstances
+pub mod FormMade

@@ -5,4 +5,6 @@ pub mod Names
 pub mod Counters
 pub mod Tops
 pub mod Netlists
+pub mod Sorts
+pub mod Forms
 pub mod inner

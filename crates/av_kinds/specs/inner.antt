@@ -5,6 +5,7 @@ pub mod Cells
 pub mod Counts
 pub mod Shapes
 pub mod Shaped
+pub mod Ordered
 pub mod Interfaces
 pub mod Kinds
 pub mod Instances
