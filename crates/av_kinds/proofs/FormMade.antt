@@ -21,7 +21,6 @@ use Rattle.av_kinds.specs.Netlists.{plan_of}
 use Rattle.av_kinds.specs.Forms.{IsWire, IsRegister, next_number, IsCounterWire, HasNext, HasCounter, HasNoCounter, IsFormedBy, AreFormedBy}
 use Rattle.av_kinds.specs.inner.Counts.{counter_wires, counter_drives, counter_step}
 use Rattle.av_kinds.specs.inner.Shapes.{LaneShape}
-use Rattle.av_kinds.specs.inner.Ordered.{IsOrdered}
 use Rattle.av_kinds.specs.inner.Kinds.{counts}
 use Rattle.av_kinds.specs.inner.Modules.{AreShapesOf, top_by, kinds_by, instances_by, IsSmallKind, AreModulesOf}
 use Rattle.av_kinds.proofs.KindNames.{IsFewKind}
@@ -120,8 +119,8 @@ module _ (counter : Counter) (program : Program) (is : IsProgram program) (shape
       by_test true e = inl (has_counter l e)
       by_test false e = inr (has_none l e)
 
-  is_form : AllByRecursion IsOrdered shapes → (l : Listing) → IsFormedBy counter program (m l)
-  is_form ordered l = record {
+  is_form : (l : Listing) → IsFormedBy counter program (m l)
+  is_form l = record {
     wires = wires_owned counter program is shapes are few;
     registers = registers_owned counter program is shapes are few;
     reads = names_read counter program is shapes are few;
@@ -129,18 +128,18 @@ module _ (counter : Counter) (program : Program) (is : IsProgram program) (shape
     takes = steps_take counter program is shapes are few;
     outputs = output_is counter program is shapes are few;
     counter_is = counter_is l;
-    operators_are = few_operators counter program is shapes are few ordered (m l) refl;
+    operators_are = few_operators counter program is shapes are few are.ordered (m l) refl;
   }
 
-  formed : AllByRecursion IsOrdered shapes → AreFormedBy counter program modules
-  formed ordered = record { form = is_form ordered; instances = own_instances counter program is shapes are few }
+  formed : AreFormedBy counter program modules
+  formed = record { form = is_form; instances = own_instances counter program is shapes are few }
 
--- Modules that are those of a program have its form, where the shapes of kinds have each mode once.
-pub made_form : (counter : Counter) (program : Program) → IsProgram program → (m : Modules) → (made : AreModulesOf counter program m) → AllByRecursion IsSmallKind m.kinds → AllByRecursion IsOrdered made.shapes → AreFormedBy counter program m
-made_form counter program is m made small ordered =
+-- Modules that are those of a program have its form.
+pub made_form : (counter : Counter) (program : Program) → IsProgram program → (m : Modules) → (made : AreModulesOf counter program m) → AllByRecursion IsSmallKind m.kinds → AreFormedBy counter program m
+made_form counter program is m made small =
     let few : AllByRecursion IsFewKind made.shapes = few_kinds 0 made.shapes (subst (AllByRecursion IsSmallKind) made.kinds_are small) in
     let same : modules counter program is made.shapes made.are_shapes few ≡ m =
     sym (ap (λ ks. let x : Modules = record { kinds = ks; top = m.top; instances = m.instances } in x) made.kinds_are
     ∙ ap (λ t. let x : Modules = record { kinds = kinds_by 0 made.shapes; top = t; instances = m.instances } in x) made.top_is
     ∙ ap (λ is. let x : Modules = record { kinds = kinds_by 0 made.shapes; top = top_by counter (list_any counts made.shapes) program; instances = is } in x) made.instances_are) in
-    subst (AreFormedBy counter program) same (formed counter program is made.shapes made.are_shapes few ordered)
+    subst (AreFormedBy counter program) same (formed counter program is made.shapes made.are_shapes few)

@@ -16,6 +16,7 @@ use Rattle.av_kinds.specs.inner.Shaped.{kind_shape}
 use Rattle.av_kinds.specs.inner.Modules.{AreShapesOf, IsKindCount}
 use Rattle.av_kinds.proofs.Placing.{range_more}
 use Rattle.av_kinds.proofs.ShapeSuits.{kind_suits, mode_there, below_length}
+use Rattle.av_kinds.proofs.ShapeOrdered.{kinds_ordered}
 use Rattle.av_kinds.proofs.TopInstances.{lane_of_cell, cell_within, suit_many, lanes_many}
 
 -- ---- one lane
@@ -154,6 +155,7 @@ are_shapes program is count counted = record {
       let e : 0 + k ≡ k = omega arith in
       subst (λ s. SuitLanes s (lanes_of program own)) (ap (kind_shape program) (sym e) ∙ h.1) (suits k p own is_kind is_cell);
   all = λ p k there. let m = range_many (kind_shape program) 0 count in let b = counted.below p k there in omega (arith, m, b);
+  ordered = kinds_ordered program 0 count;
 }
   where
     suits : (k p : ℕ) (own : CellLanes) → slice_get program.kinds p ≡ Some k → slice_get program.cells p ≡ Some own → SuitLanes (kind_shape program k) (lanes_of program own)

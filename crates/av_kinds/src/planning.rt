@@ -4,6 +4,7 @@ ghost use Rattle.av_kinds.specs.Programs.{IsProgram};
 ghost use Rattle.av_kinds.specs.Written.{program_of};
 ghost use Rattle.av_kinds.specs.Counters.{IsCounter};
 ghost use Rattle.av_kinds.specs.Netlists.{AreNetlistsOf};
+ghost use Rattle.av_kinds.specs.Forms.{AreFormedBy};
 ghost use Rattle.av_kinds.specs.inner.Shapes.{lane_shape_of};
 ghost use Rattle.av_kinds.specs.inner.Kinds.{counts};
 ghost use Rattle.av_kinds.specs.inner.Modules.{AreShapesOf, AreKindShapes, IsKindCount, IsSmallKind, kinds_by, instances_by};
@@ -103,7 +104,8 @@ fn instances(
 pub fn modules_of(alloc: Global, counter: Counter, program: &Program<'_>) -> Result<Modules, Memory>
     requires counter { IsCounter counter }
     requires program { IsProgram (program_of program.now) }
-    ensures { IfOk result (AreNetlistsOf counter (program_of program.now)) }
+    ensures netlists { IfOk result (AreNetlistsOf counter (program_of program.now)) }
+    ensures form { IfOk result (AreFormedBy counter (program_of program.now)) }
 {
     let shapes = shapes(alloc, program)?;
     let counting = some_counts(shapes.as_slice());

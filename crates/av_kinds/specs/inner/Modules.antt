@@ -13,6 +13,7 @@ use Rattle.av_kinds.specs.Counters.{counter_width, counter_name}
 use Rattle.av_kinds.specs.Tops.{port, numbered_ports, output_widths, output_drives, lane_wires, lane_registers, lane_steps}
 use Rattle.av_kinds.specs.inner.Counts.{counter_wires, counter_drives, counter_step}
 use Rattle.av_kinds.specs.inner.Shapes.{LaneShape, IsKindShape, SuitLanes}
+use Rattle.av_kinds.specs.inner.Ordered.{IsOrdered}
 use Rattle.av_kinds.specs.inner.Kinds.{counts, kind_by}
 use Rattle.av_kinds.specs.inner.Instances.{instance_by}
 
@@ -40,6 +41,7 @@ pub record AreShapesOf (program : Program) (shapes : List (List LaneShape)) : Ty
   pub each : AreKindShapes shapes
   pub suit : (k : ℕ) (shape : List LaneShape) → slice_get shapes k ≡ Some shape → IsShapeOf program k shape
   pub all : (p k : ℕ) → slice_get program.kinds p ≡ Some k → k < length shapes
+  pub ordered : AllByRecursion IsOrdered shapes
 
 -- each number that stands among these is below the count, and so many stand there
 pub record IsKindCount (kinds : List ℕ) (count : ℕ) : Type 0 where
