@@ -1,16 +1,11 @@
 //! The lanes of an array before they are built: what stands on each cell, and what each lane is for.
 
-ghost use Rattle.std.specs.Prelude.{◌≡◌, ◌<◌, ◌+◌, ◌++◌, [], ◌∷◌, List as Items, length, IfOk, OnOk};
-ghost use Rattle.av_space.specs.Spots.{IsArray, cells_of};
-ghost use Rattle.av_build.specs.declared.blueprint.CellPlan.{CellPlan as Planned};
-ghost use Rattle.av_build.specs.inner.Blueprints.{is_helper, ArePieces, AreHelpers, AreLanes, IsBlueprint};
-
 use av_base::{List, Memory};
+use av_kinds::CellLanes;
 use av_space::{Array, Site, Spot};
 use std::alloc::Global;
 
-/// A helper whose word is read in a later cycle than on its cell: its number, and the piece on the cell and the place of the
-/// piece whose reference it moves.
+/// A helper on a cell: its number, and the piece on the cell and the place of the piece whose reference it moves.
 #[derive(Clone, Copy, Debug)]
 pub(crate) struct HelperPlan {
     pub(crate) number: usize,
@@ -36,8 +31,7 @@ pub(crate) struct Pieces<'a> {
 #[derive(Drop)]
 pub(crate) struct CellPlan<'a> {
     pub(crate) pieces: Pieces<'a>,
-    pub(crate) first: usize,
-    pub(crate) value: usize,
+    pub(crate) lanes: CellLanes,
 }
 
 /// An array with the lanes of its program.
@@ -49,9 +43,7 @@ pub(crate) struct Blueprint<'a> {
 }
 
 // Whether the lane is of the helper with this number.
-fn is_helper(lane: &LanePlan, helper: usize) -> bool
-    ensures { result ≡ is_helper lane.now helper }
-{
+fn is_helper(lane: &LanePlan, helper: usize) -> bool {
     match lane.helper {
         Some(plan) => plan.number == helper,
         None => false,
@@ -59,26 +51,16 @@ fn is_helper(lane: &LanePlan, helper: usize) -> bool
 }
 
 impl Blueprint<'_> {
-    ghost use Rattle.av_build.specs.inner.Blueprints.{lanes_of, HasLane};
-
     /// The lane of a cell's value.
-    pub(crate) fn value_lane(&self, cell: usize) -> usize
-        requires blueprint { IsBlueprint self.now }
-        requires cell { cell < length (cells_of self.now.array) }
-        ensures { result ≡ (lanes_of self.now.lanes).of_value cell }
-    {
-        self.cells.as_slice()[cell].value
+    pub(crate) fn value_lane(&self, cell: usize) -> usize {
+        self.cells.as_slice()[cell].lanes.value
     }
 
     /// The lane of a helper's word on a cell.
-    pub(crate) fn helper_lane(&self, cell: usize, helper: usize) -> usize
-        requires blueprint { IsBlueprint self.now }
-        requires lane { HasLane self.now cell helper }
-        ensures { result ≡ (lanes_of self.now.lanes).of_helper helper cell }
-    {
-        let plan = &self.cells.as_slice()[cell];
+    pub(crate) fn helper_lane(&self, cell: usize, helper: usize) -> usize {
+        let own = self.cells.as_slice()[cell].lanes;
         let lanes = self.lanes.as_slice();
-        for number in plan.first..plan.value {
+        for number in own.first..own.value {
             if is_helper(&lanes[number], helper) {
                 return number;
             }
@@ -88,11 +70,7 @@ impl Blueprint<'_> {
 }
 
 // The pieces on a cell.
-fn pieces_on<'a>(alloc: Global, array: &Array<'a>, cell: usize) -> Result<Pieces<'a>, Memory>
-    requires array { IsArray array.now }
-    requires cell { cell < length (cells_of array.now) }
-    ensures { IfOk result (ArePieces array.now cell) }
-{
+fn pieces_on<'a>(alloc: Global, array: &Array<'a>, cell: usize) -> Result<Pieces<'a>, Memory> {
     let spots = array.spots(alloc, cell)?;
     let mut sites = List::new(alloc);
     for spot in spots.as_slice() {
@@ -101,52 +79,31 @@ fn pieces_on<'a>(alloc: Global, array: &Array<'a>, cell: usize) -> Result<Pieces
     Ok(Pieces { spots, sites })
 }
 
-// Puts the helpers of a piece's places that have a lane on the cell behind others.
+// Puts the helpers of a piece's places behind others.
 fn add_helpers(
-    array: &Array<'_>,
-    cell: usize,
     pieces: &Pieces<'_>,
     piece: usize,
     helpers: &mut List<HelperPlan>,
-) -> Result<(), Memory>
-    requires array { IsArray array.now }
-    requires cell { cell < length (cells_of array.now) }
-    requires pieces { ArePieces array.now cell pieces.now }
-    requires piece { piece < length pieces.now.sites }
-    requires old { AreHelpers array.now pieces.now cell piece 0 helpers.old }
-    ensures { OnOk result (AreHelpers array.now pieces.now cell (piece + 1) 0 helpers.new) }
-{
+) -> Result<(), Memory> {
     let sites = pieces.sites.as_slice()[piece].as_slice();
     for site in 0..sites.len() {
         let Some(handing) = &sites[site].handing else {
             continue;
         };
-        if array.line_length(cell, Some(handing.number)) > 0 {
-            helpers.push(HelperPlan {
-                number: handing.number,
-                piece,
-                site,
-            })?;
-        }
+        helpers.push(HelperPlan {
+            number: handing.number,
+            piece,
+            site,
+        })?;
     }
     Ok(())
 }
 
-// The helpers that have a lane on a cell.
-fn helpers(
-    alloc: Global,
-    array: &Array<'_>,
-    cell: usize,
-    pieces: &Pieces<'_>,
-) -> Result<List<HelperPlan>, Memory>
-    requires array { IsArray array.now }
-    requires cell { cell < length (cells_of array.now) }
-    requires pieces { ArePieces array.now cell pieces.now }
-    ensures { IfOk result (AreHelpers array.now pieces.now cell (length pieces.now.sites) 0) }
-{
+// The helpers on a cell.
+fn helpers(alloc: Global, pieces: &Pieces<'_>) -> Result<List<HelperPlan>, Memory> {
     let mut helpers = List::new(alloc);
     for piece in 0..pieces.sites.as_slice().len() {
-        add_helpers(array, cell, pieces, piece, &mut helpers)?;
+        add_helpers(pieces, piece, &mut helpers)?;
     }
     Ok(helpers)
 }
@@ -157,13 +114,9 @@ fn add_cell<'a>(
     array: &Array<'a>,
     cell: usize,
     lanes: &mut List<LanePlan>,
-) -> Result<CellPlan<'a>, Memory>
-    requires array { IsArray array.now }
-    requires cell { cell < length (cells_of array.now) }
-    ensures { IfOk result (λ plan. (cells : Items Planned) → length cells ≡ cell → AreLanes array.now cells lanes.old → AreLanes array.now (cells ++ plan ∷ []) lanes.new) }
-{
+) -> Result<CellPlan<'a>, Memory> {
     let pieces = pieces_on(alloc, array, cell)?;
-    let helpers = helpers(alloc, array, cell, &pieces)?;
+    let helpers = helpers(alloc, &pieces)?;
     let first = lanes.as_slice().len();
     for helper in helpers.as_slice() {
         lanes.push(LanePlan {
@@ -175,8 +128,7 @@ fn add_cell<'a>(
     lanes.push(LanePlan { cell, helper: None })?;
     Ok(CellPlan {
         pieces,
-        first,
-        value,
+        lanes: CellLanes { first, value },
     })
 }
 
@@ -186,13 +138,7 @@ fn cell_plans<'a>(
     array: &Array<'a>,
     count: usize,
     lanes: &mut List<LanePlan>,
-) -> Result<List<CellPlan<'a>>, Memory>
-    requires array { IsArray array.now }
-    requires count { count ≡ length (cells_of array.now) }
-    requires none { AreLanes array.now [] lanes.old }
-    ensures one_each { IfOk result (λ cells. length cells ≡ count) }
-    ensures lanes { IfOk result (λ cells. AreLanes array.now cells lanes.new) }
-{
+) -> Result<List<CellPlan<'a>>, Memory> {
     let mut cells = List::new(alloc);
     for cell in 0..count {
         cells.push(add_cell(alloc, array, cell, lanes)?)?;
@@ -205,12 +151,7 @@ pub(crate) fn plan_lanes<'a>(
     alloc: Global,
     array: Array<'a>,
     count: usize,
-) -> Result<Blueprint<'a>, Memory>
-    requires array { IsArray array }
-    requires count { count ≡ length (cells_of array) }
-    ensures array { IfOk result (λ b. b.array ≡ array.entry) }
-    ensures blueprint { IfOk result IsBlueprint }
-{
+) -> Result<Blueprint<'a>, Memory> {
     let mut lanes = List::new(alloc);
     let cells = cell_plans(alloc, &array, count, &mut lanes)?;
     Ok(Blueprint {

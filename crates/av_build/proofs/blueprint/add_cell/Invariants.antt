@@ -1,6 +1,0 @@
-use Rattle.std.proofs.Common.{◌≡◌, ◌++◌, map, take}
-use Rattle.av_build.proofs.AllLanes.{of_helper}
-use Rattle.av_build.proofs.blueprint.add_cell.Given as goal
-
-abbrev pub invariant-loop-helper : goal.invariant-loop-helper
-invariant-loop-helper l = l.lanes ≡ l.fn.lanes ++ map (of_helper l.cell) (take l.helper-index l.helper-items)

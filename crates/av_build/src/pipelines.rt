@@ -1,0 +1,100 @@
+//! The lanes of helpers.
+
+use crate::blueprint::{Blueprint, HelperPlan};
+use crate::intervals::{Mark, intervals};
+use crate::moments::{Moment, site};
+use crate::order::in_order;
+use crate::ports::{inlet_of, width_read};
+use av_base::{List, Memory, Width};
+use av_flat::{Flat, Tree};
+use av_kinds::{Counter, Inlet, Lane, Mode, Site as ProgramSite, Work};
+use av_space::Spot;
+use std::alloc::Global;
+
+// The list of one site.
+fn one_site(alloc: Global, own: ProgramSite) -> Result<List<ProgramSite>, Memory> {
+    let mut sites = List::new(alloc);
+    sites.push(own)?;
+    Ok(sites)
+}
+
+// In the intervals of the marks that agree with `holds`, the reference over these sources.
+fn hand_mode<'a>(
+    alloc: Global,
+    marks: &[Mark],
+    holds: bool,
+    tree: &'a Tree,
+    source: ProgramSite,
+) -> Result<Mode<'a>, Memory> {
+    Ok(Mode {
+        intervals: intervals(alloc, marks, holds)?,
+        work: Work {
+            sites: one_site(alloc, source)?,
+            tree,
+        },
+    })
+}
+
+// Where a helper reads its reference.
+fn entry_site(
+    alloc: Global,
+    flat: &Flat,
+    own: Width,
+    tree: &Tree,
+    moments: &[Moment],
+) -> Result<ProgramSite, Memory> {
+    site(
+        alloc,
+        inlet_of(flat, tree),
+        width_read(flat, own, tree),
+        moments,
+    )
+}
+
+impl<'a> Blueprint<'a> {
+    // What a helper's lane works on: at entry points the reference, and else the helper's word at the point before.
+    fn hand_modes(
+        &self,
+        alloc: Global,
+        flat: &Flat,
+        counter: Counter,
+        spot: &Spot<'a>,
+        helper: HelperPlan,
+    ) -> Result<List<Mode<'a>>, Memory> {
+        let pieces = &self.cells.as_slice()[spot.cell].pieces;
+        let place = &pieces.sites.as_slice()[helper.piece].as_slice()[helper.site];
+        let Some(handing) = &place.handing else {
+            unreachable!();
+        };
+        let order = in_order(alloc, spot.slots.as_slice(), counter)?;
+        let found = self.hand_moments(alloc, counter, order.as_slice(), spot, place, handing)?;
+        let tree = place.place.tree;
+        let width = spot.var.width;
+        let entries = entry_site(alloc, flat, width, tree, found.entries.as_slice())?;
+        let own = site(alloc, Inlet::Taps, width, found.own.as_slice())?;
+        let marks = found.marks.as_slice();
+        let mut modes = List::new(alloc);
+        modes.push(hand_mode(alloc, marks, true, tree, entries)?)?;
+        modes.push(hand_mode(alloc, marks, false, tree, own)?)?;
+        Ok(modes)
+    }
+
+    /// The lane of the word of a helper on a cell.
+    pub(crate) fn pipeline(
+        &self,
+        alloc: Global,
+        flat: &Flat,
+        counter: Counter,
+        cell: usize,
+        helper: HelperPlan,
+    ) -> Result<Lane<'a>, Memory> {
+        let spot = &self.cells.as_slice()[cell].pieces.spots.as_slice()[helper.piece];
+        Ok(Lane {
+            home: cell as u32,
+            rank: helper.number + 1,
+            width: spot.var.width,
+            modes: self.hand_modes(alloc, flat, counter, spot, helper)?,
+            length: self.array.line_length(cell, Some(helper.number)),
+        })
+    }
+}

@@ -1,0 +1,83 @@
+//! How the words of places come in, and how wide they are.
+
+use crate::blueprint::{Blueprint, Pieces};
+use av_base::{List, Memory, Width};
+use av_depend::is_computed_at;
+use av_flat::{Flat, Tree};
+use av_kinds::Inlet;
+use av_space::{InPort, Site};
+use std::alloc::Global;
+
+/// The width of the words that a place of an equation reads; a pick reads words as wide as those of the equation.
+pub(crate) fn width_read(flat: &Flat, own: Width, tree: &Tree) -> Width {
+    match tree {
+        Tree::Ref { var, .. } => flat.vars.as_slice()[*var as usize].width,
+        _ => own,
+    }
+}
+
+/// How the words that a place reads itself come in.
+pub(crate) fn inlet_of(flat: &Flat, tree: &Tree) -> Inlet {
+    match tree {
+        Tree::Ref { var, .. } => {
+            if is_computed_at(flat, *var) {
+                Inlet::Taps
+            } else {
+                Inlet::Inputs
+            }
+        }
+        _ => Inlet::Taps,
+    }
+}
+
+// Whether the place is the reference with this number.
+fn is_reference(site: &Site<'_>, number: usize) -> bool {
+    match site.place.tree {
+        Tree::Ref { .. } => site.place.site == number,
+        _ => false,
+    }
+}
+
+// The reference with this number, among the places of a piece.
+fn reference_at<'a, 'b>(sites: &'b [Site<'a>], number: usize) -> &'b Site<'a> {
+    for site in sites {
+        if is_reference(site, number) {
+            return site;
+        }
+    }
+    unreachable!()
+}
+
+// The reference of a port, among the pieces on its cell.
+fn reference_of<'a, 'b>(pieces: &'b Pieces<'a>, port: &InPort) -> &'b Site<'a> {
+    let spots = pieces.spots.as_slice();
+    for k in 0..spots.len() {
+        if spots[k].number == port.piece as usize {
+            return reference_at(pieces.sites.as_slice()[k].as_slice(), port.site as usize);
+        }
+    }
+    unreachable!()
+}
+
+impl Blueprint<'_> {
+    // The width of the words at a port.
+    fn port_width(&self, flat: &Flat, port: &InPort) -> Width {
+        let pieces = &self.cells.as_slice()[port.cell as usize].pieces;
+        let site = reference_of(pieces, port);
+        width_read(flat, flat.width, site.place.tree)
+    }
+
+    /// The widths of the input ports: those of the variables that are read there.
+    pub(crate) fn port_widths(
+        &self,
+        alloc: Global,
+        flat: &Flat,
+        ports: &[InPort],
+    ) -> Result<List<Width>, Memory> {
+        let mut widths = List::new(alloc);
+        for port in ports {
+            widths.push(self.port_width(flat, port))?;
+        }
+        Ok(widths)
+    }
+}

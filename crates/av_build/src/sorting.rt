@@ -1,0 +1,49 @@
+//! Cells sorted by what stands on them.
+
+use crate::blueprint::CellPlan;
+use av_base::{List, Memory};
+use av_space::Spot;
+use std::alloc::Global;
+
+// Whether the pieces on two cells are the same ones of one node.
+fn same_pieces(a: &[Spot<'_>], b: &[Spot<'_>]) -> bool {
+    if a.len() != b.len() {
+        return false;
+    }
+    for k in 0..a.len() {
+        if a[k].node != b[k].node || a[k].number != b[k].number {
+            return false;
+        }
+    }
+    true
+}
+
+// The number of the kind that the cell is of, where one of the first cells of kinds is of it.
+fn known(cells: &[CellPlan<'_>], firsts: &[usize], cell: &CellPlan<'_>) -> Option<usize> {
+    for (kind, first) in firsts.iter().enumerate() {
+        let other = &cells[*first];
+        if same_pieces(other.pieces.spots.as_slice(), cell.pieces.spots.as_slice()) {
+            return Some(kind);
+        }
+    }
+    None
+}
+
+/// Of each cell the number of its kind: cells of one kind have the same pieces of one node. Kinds are numbered by their first
+/// cells.
+pub(crate) fn kinds_of(alloc: Global, cells: &[CellPlan<'_>]) -> Result<List<usize>, Memory> {
+    let mut firsts: List<usize> = List::new(alloc);
+    let mut kinds = List::new(alloc);
+    for (number, cell) in cells.iter().enumerate() {
+        let kind = match known(cells, firsts.as_slice(), cell) {
+            Some(kind) => kind,
+            None => {
+                let kind = firsts.as_slice().len();
+                firsts.push(number)?;
+                kind
+            }
+        };
+        kinds.push(kind)?;
+    }
+    Ok(kinds)
+}
