@@ -1,5 +1,9 @@
 //! The lanes of an array before they are built: what stands on each cell, and what each lane is for.
 
+ghost use Rattle.std.specs.Prelude.{◌≡◌, ◌<◌, ◌+◌, ◌++◌, [], length, IfOk, OnOk};
+ghost use Rattle.av_space.specs.Spots.{IsArray, cells_of};
+ghost use Rattle.av_build.specs.inner.Blueprints.{is_of_helper, ArePieces, AddsHelpers, helpers_on, own_lanes, AreCellPlans, IsBlueprint};
+
 use av_base::{List, Memory};
 use av_kinds::CellLanes;
 use av_space::{Array, Site, Spot};
@@ -43,7 +47,9 @@ pub(crate) struct Blueprint<'a> {
 }
 
 // Whether the lane is of the helper with this number.
-fn is_helper(lane: &LanePlan, helper: usize) -> bool {
+fn is_helper(lane: &LanePlan, helper: usize) -> bool
+    ensures { result ≡ is_of_helper lane.now helper }
+{
     match lane.helper {
         Some(plan) => plan.number == helper,
         None => false,
@@ -51,13 +57,22 @@ fn is_helper(lane: &LanePlan, helper: usize) -> bool {
 }
 
 impl Blueprint<'_> {
+    ghost use Rattle.av_build.specs.inner.Blueprints.{lanes_of, HasHelper};
+
     /// The lane of a cell's value.
-    pub(crate) fn value_lane(&self, cell: usize) -> usize {
+    pub(crate) fn value_lane(&self, cell: usize) -> usize
+        requires { cell < length self.now.cells }
+        ensures { result ≡ (lanes_of self.now.cells).of_value cell }
+    {
         self.cells.as_slice()[cell].lanes.value
     }
 
     /// The lane of a helper's word on a cell.
-    pub(crate) fn helper_lane(&self, cell: usize, helper: usize) -> usize {
+    pub(crate) fn helper_lane(&self, cell: usize, helper: usize) -> usize
+        requires blueprint { IsBlueprint self.now }
+        requires helper { HasHelper self.now cell helper }
+        ensures { result ≡ (lanes_of self.now.cells).of_helper helper cell }
+    {
         let own = self.cells.as_slice()[cell].lanes;
         let lanes = self.lanes.as_slice();
         for number in own.first..own.value {
@@ -70,7 +85,11 @@ impl Blueprint<'_> {
 }
 
 // The pieces on a cell.
-fn pieces_on<'a>(alloc: Global, array: &Array<'a>, cell: usize) -> Result<Pieces<'a>, Memory> {
+fn pieces_on<'a>(alloc: Global, array: &Array<'a>, cell: usize) -> Result<Pieces<'a>, Memory>
+    requires array { IsArray array.now }
+    requires cell { cell < length (cells_of array.now) }
+    ensures { IfOk result (ArePieces array.now cell) }
+{
     let spots = array.spots(alloc, cell)?;
     let mut sites = List::new(alloc);
     for spot in spots.as_slice() {
@@ -84,7 +103,10 @@ fn add_helpers(
     pieces: &Pieces<'_>,
     piece: usize,
     helpers: &mut List<HelperPlan>,
-) -> Result<(), Memory> {
+) -> Result<(), Memory>
+    requires { piece < length pieces.now.sites }
+    ensures { OnOk result (AddsHelpers pieces.now piece helpers.old helpers.new) }
+{
     let sites = pieces.sites.as_slice()[piece].as_slice();
     for site in 0..sites.len() {
         let Some(handing) = &sites[site].handing else {
@@ -100,7 +122,9 @@ fn add_helpers(
 }
 
 // The helpers on a cell.
-fn helpers(alloc: Global, pieces: &Pieces<'_>) -> Result<List<HelperPlan>, Memory> {
+fn helpers(alloc: Global, pieces: &Pieces<'_>) -> Result<List<HelperPlan>, Memory>
+    ensures { IfOk result (λ helpers. helpers ≡ helpers_on pieces.now) }
+{
     let mut helpers = List::new(alloc);
     for piece in 0..pieces.sites.as_slice().len() {
         add_helpers(pieces, piece, &mut helpers)?;
@@ -114,7 +138,14 @@ fn add_cell<'a>(
     array: &Array<'a>,
     cell: usize,
     lanes: &mut List<LanePlan>,
-) -> Result<CellPlan<'a>, Memory> {
+) -> Result<CellPlan<'a>, Memory>
+    requires array { IsArray array.now }
+    requires cell { cell < length (cells_of array.now) }
+    ensures pieces { IfOk result (λ plan. ArePieces array.now cell plan.pieces) }
+    ensures first { IfOk result (λ plan. plan.lanes.first ≡ length lanes.old) }
+    ensures value { IfOk result (λ plan. plan.lanes.value ≡ length lanes.old + length (helpers_on plan.pieces)) }
+    ensures lanes { IfOk result (λ plan. lanes.new ≡ lanes.old ++ own_lanes cell plan.pieces) }
+{
     let pieces = pieces_on(alloc, array, cell)?;
     let helpers = helpers(alloc, &pieces)?;
     let first = lanes.as_slice().len();
@@ -138,7 +169,12 @@ fn cell_plans<'a>(
     array: &Array<'a>,
     count: usize,
     lanes: &mut List<LanePlan>,
-) -> Result<List<CellPlan<'a>>, Memory> {
+) -> Result<List<CellPlan<'a>>, Memory>
+    requires array { IsArray array.now }
+    requires count { count ≡ length (cells_of array.now) }
+    requires none { lanes.old ≡ [] }
+    ensures { IfOk result (λ cells. AreCellPlans array.now count cells lanes.new) }
+{
     let mut cells = List::new(alloc);
     for cell in 0..count {
         cells.push(add_cell(alloc, array, cell, lanes)?)?;
@@ -151,7 +187,12 @@ pub(crate) fn plan_lanes<'a>(
     alloc: Global,
     array: Array<'a>,
     count: usize,
-) -> Result<Blueprint<'a>, Memory> {
+) -> Result<Blueprint<'a>, Memory>
+    requires array { IsArray array }
+    requires count { count ≡ length (cells_of array) }
+    ensures array { IfOk result (λ b. b.array ≡ array.entry) }
+    ensures blueprint { IfOk result IsBlueprint }
+{
     let mut lanes = List::new(alloc);
     let cells = cell_plans(alloc, &array, count, &mut lanes)?;
     Ok(Blueprint {

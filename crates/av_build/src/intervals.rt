@@ -1,8 +1,15 @@
 //! The intervals of the counter's numbers at which something holds.
 
-use crate::order::in_order;
+ghost use Rattle.std.specs.Prelude.{ℕ, ◌≡◌, ◌<◌, ◌++◌, [], IsTrue, All, Some, length, slice_get, IfOk, OnOk};
+ghost use Rattle.av_flat.specs.Points.{has};
+ghost use Rattle.av_depend.specs.SetPoints.{IsPointOf};
+ghost use Rattle.av_kinds.specs.Counters.{IsCounter, count_in};
+ghost use Rattle.av_build.specs.inner.Intervals.{extended, closed, intervals_by};
+ghost use Rattle.av_build.specs.inner.Orders.{AreMarks};
+
 use av_base::{List, Memory};
 use av_kinds::{Counter, Interval};
+use av_poly::Poly;
 use av_space::Slot;
 use std::alloc::Global;
 
@@ -13,76 +20,70 @@ pub(crate) struct Mark {
     pub(crate) holds: bool,
 }
 
-/// The intervals from marks by number: as many as the marks that agree with `holds` have runs.
-pub(crate) fn intervals(
-    alloc: Global,
-    marks: &[Mark],
-    holds: bool,
-) -> Result<List<Interval>, Memory> {
+// The open interval, or a new one, as it goes on to a number.
+fn extended(open: Option<Interval>, number: u32) -> Interval
+    ensures { result ≡ extended open number }
+{
+    match open {
+        Some(interval) => Interval {
+            first: interval.first,
+            last: number,
+        },
+        None => Interval {
+            first: number,
+            last: number,
+        },
+    }
+}
+
+// Puts the open interval, if there is one, behind others.
+fn add_closed(open: Option<Interval>, intervals: &mut List<Interval>) -> Result<(), Memory>
+    ensures { OnOk result (intervals.new ≡ intervals.old ++ closed open []) }
+{
+    match open {
+        Some(interval) => intervals.push(interval),
+        None => Ok(()),
+    }
+}
+
+/// The intervals from marks by number: one for each run of marks that hold.
+pub(crate) fn intervals(alloc: Global, marks: &[Mark]) -> Result<List<Interval>, Memory>
+    ensures { IfOk result (λ intervals. intervals ≡ intervals_by marks.now) }
+{
     let mut intervals = List::new(alloc);
     let mut open: Option<Interval> = None;
     for mark in marks {
-        if mark.holds == holds {
-            let first = match open {
-                Some(interval) => interval.first,
-                None => mark.number,
-            };
-            open = Some(Interval {
-                first,
-                last: mark.number,
-            });
-        } else if let Some(interval) = open {
-            intervals.push(interval)?;
+        if mark.holds {
+            open = Some(extended(open, mark.number));
+        } else {
+            add_closed(open, &mut intervals)?;
             open = None;
         }
     }
-    if let Some(interval) = open {
-        intervals.push(interval)?;
-    }
+    add_closed(open, &mut intervals)?;
     Ok(intervals)
 }
 
-// Whether there is a computation in the cycle, among some by cycle.
-fn has_cycle(slots: &[Slot], cycle: u32) -> bool {
-    let mut low: usize = 0;
-    let mut high = slots.len();
-    while low < high {
-        let middle = low + (high - low) / 2;
-        if slots[middle].cycle < cycle {
-            low = middle + 1;
-        } else {
-            high = middle;
-        }
-    }
-    low < slots.len() && slots[low].cycle == cycle
-}
-
-// Of all computations of a cell, by number, whether each is one of some.
-fn marks(
+/// Of all computations of a cell, in the order of the counter's numbers, whether each is a point of the set.
+pub(crate) fn marks(
     alloc: Global,
     counter: Counter,
-    all: &[Slot],
-    own: &[Slot],
-) -> Result<List<Mark>, Memory> {
-    let order = in_order(alloc, all, counter)?;
+    order: &[usize],
+    slots: &[Slot],
+    set: &Poly,
+) -> Result<List<Mark>, Memory>
+    requires counter { IsCounter counter }
+    requires order { (i k : ℕ) → slice_get order.now i ≡ Some k → k < length slots.now }
+    requires points { All (λ t. IsPointOf set.now t.point) slots.now }
+    ensures { IfOk result (AreMarks (count_in counter) slots.now order.now (λ slot. IsTrue (has set.now slot.point))) }
+{
     let mut marks = List::new(alloc);
-    for k in order.as_slice() {
-        let cycle = all[*k].cycle;
+    for k in order {
+        let slot = &slots[*k];
         marks.push(Mark {
-            number: counter.number(cycle),
-            holds: has_cycle(own, cycle),
+            number: counter.number(slot.cycle),
+            holds: set.contains(&slot.point),
         })?;
     }
     Ok(marks)
-}
-
-/// The intervals of some of the computations of a cell among all.
-pub(crate) fn intervals_of(
-    alloc: Global,
-    counter: Counter,
-    all: &[Slot],
-    own: &[Slot],
-) -> Result<List<Interval>, Memory> {
-    let marks = marks(alloc, counter, all, own)?;
-    intervals(alloc, marks.as_slice(), true)
 }

@@ -1,0 +1,12 @@
+pub mod Appended
+pub mod Pairwise
+pub mod NodePlacing
+pub mod IntervalLemmas
+pub mod SiteLemmas
+pub mod OrderLemmas
+pub mod MomentLemmas
+pub mod BlueprintLemmas
+pub mod BlueprintSteps
+pub mod Performed
+pub mod NotLater
+pub mod PlanShows

@@ -1,0 +1,5 @@
+pub mod Intervals
+pub mod Moments
+pub mod Orders
+pub mod Blueprints
+pub mod Programmed
