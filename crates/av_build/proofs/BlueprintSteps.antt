@@ -60,9 +60,10 @@ whole_cell p pieces helpers old middle new n are end first second =
     let mid : middle ≡ old ++ map (of_helper p) (helpers_on pieces) = first ∙ ap (λ (l : List HelperPlan). old ++ map (of_helper p) l) all in
     let size = ap (λ (l : List LanePlan). length l) mid in
     let sum = length-append old (map (of_helper p) (helpers_on pieces)) in
-    let count = length-map (helpers_on pieces) (of_helper p) in
-    (second ∙ ap (λ (l : List LanePlan). l ++ record { cell = p; helper = None } ∷ []) mid ∙ append_assoc old (map (of_helper p) (helpers_on pieces)) (record { cell = p; helper = None } ∷ []),
-    omega (arith, size, sum, count))
+    let count = length-map (helpers_on pieces) (of_helper p) in (
+      second ∙ ap (λ (l : List LanePlan). l ++ record { cell = p; helper = None } ∷ []) mid ∙ append_assoc old (map (of_helper p) (helpers_on pieces)) (record { cell = p; helper = None } ∷ []),
+      omega (arith, size, sum, count),
+    )
 
 pub no_cells : (w : ArrayMade) → AreCellPlans w 0 [] []
 no_cells w = record { one_each = refl; pieces = λ p plan is. absurd cc; lanes_are = refl; numbered = tt }

@@ -1,6 +1,5 @@
 pub mod Appended
 pub mod Pairwise
-pub mod NodePlacing
 pub mod IntervalLemmas
 pub mod SiteLemmas
 pub mod OrderLemmas

@@ -88,8 +88,7 @@ module _ (a : Array) (count : ℕ → ℕ) (lanes : Lanes) (program : Program) (
       let same : o.1 ≡ piece = some_is o.1 piece (sym o.3 ∙ ap (slice_get v.pieces) number ∙ is_piece) in
       let spot : ℕ → Piece → Spot = λ i q. record { cell = p; node = n; variable = v; number = i; piece = q } in
       let work = subst (λ (q : Piece). IsWorkFor a count lanes x.0.first (spot k q) e.1.work) same (subst (λ (i : ℕ). IsWorkFor a count lanes x.0.first (spot i o.1) e.1.work) number o.4) in
-      let active : is_active (count c) e.1 ≡ true = (o.5.numbers c n z computes refl).1 (subst (λ (q : Piece). IsTrue (has q.domain z)) (sym same) inside) in
-      (
+      let active : is_active (count c) e.1 ≡ true = (o.5.numbers c n z computes refl).1 (subst (λ (q : Piece). IsTrue (has q.domain z)) (sym same) inside) in (
         task_of lane.width.bits (count c) e.1.work,
         lane_has_task program (lanes.of_value p) (count c) lane e.1 x.2.1 (mode_found (count c) lane.modes is.alone e.0 e.1 e.2 active),
         piece_task x.0.first (spot k piece) lane.width.bits e.1.work is.width_is work c z computes inside,
@@ -122,8 +121,7 @@ module _ (a : Array) (count : ℕ → ℕ) (lanes : Lanes) (program : Program) (
           → (task : Task) × (tasks_of program (lanes.of_helper j p) (count c) ≡ Some task) × IsHandTask a lanes (helper_spot a h v piece p) j h r z c task
       by_place true e lane is_lane l =
           let active : is_active (count c) l.own_mode ≡ true = (l.own_numbers.numbers c (number_at a.system h.var) z computes (refl, inside)).1 e in
-          let there : slice_get lane.modes 1 ≡ Some l.own_mode = ap (λ (ms : List Mode). slice_get ms 1) l.modes_are in
-          (
+          let there : slice_get lane.modes 1 ≡ Some l.own_mode = ap (λ (ms : List Mode). slice_get ms 1) l.modes_are in (
             task_of lane.width.bits (count c) l.own_mode.work,
             lane_has_task program (lanes.of_helper j p) (count c) lane l.own_mode is_lane (mode_found (count c) lane.modes l.alone 1 l.own_mode there active),
             hand_task at j h r lane.width.bits c z l.own_site l.own_mode.work true e l.own_work l.width_is l.own_width (l.own_reads.all c z computes inside e),
@@ -131,8 +129,7 @@ module _ (a : Array) (count : ℕ → ℕ) (lanes : Lanes) (program : Program) (
       by_place false e lane is_lane l =
           let entry : IsEntry piece.domain h.direction z = (inside, λ f. both_tests (sym f ∙ e)) in
           let active : is_active (count c) l.entry_mode ≡ true = (l.entry_numbers.numbers c (number_at a.system h.var) z computes (refl, inside)).1 entry in
-          let there : slice_get lane.modes 0 ≡ Some l.entry_mode = ap (λ (ms : List Mode). slice_get ms 0) l.modes_are in
-          (
+          let there : slice_get lane.modes 0 ≡ Some l.entry_mode = ap (λ (ms : List Mode). slice_get ms 0) l.modes_are in (
             task_of lane.width.bits (count c) l.entry_mode.work,
             lane_has_task program (lanes.of_helper j p) (count c) lane l.entry_mode is_lane (mode_found (count c) lane.modes l.alone 0 l.entry_mode there active),
             hand_task at j h r lane.width.bits c z l.entry_site l.entry_mode.work false e l.entry_work l.width_is l.entry_width (l.entry_reads.all c z computes inside entry),

@@ -10,7 +10,7 @@ use Rattle.av_tree.specs.Values.{Assignment}
 use Rattle.av_flat.specs.Trees.{Variable}
 use Rattle.av_flat.specs.Signatures.{Signature}
 use Rattle.av_flat.specs.Values.{word_of}
-use Rattle.av_flat.specs.Nodes.{nodes, number_at}
+use Rattle.av_flat.specs.Nodes.{is_node, nodes, number_at}
 use Rattle.av_flat.specs.Helped.{HelperWords, IsHelpedSolution}
 use Rattle.av_net.specs.declared.netlist.Port.{Port}
 use Rattle.av_net.specs.declared.design.Entry.{Entry}
@@ -20,6 +20,7 @@ use Rattle.av_net.specs.Flat.{flat_module, flat_of}
 use Rattle.av_net.specs.Shown.{HasListed, Presents as PresentsWords, Shows}
 use Rattle.av_space.specs.Listings.{InLine, IsInLine, AreInLines, IsWireOf, output, value, AtLine, IsAtLine, AreAtLines}
 use Rattle.av_space.proofs.Elements.{in_range}
+use Rattle.av_space.proofs.Nodes.{passing}
 use Rattle.av_kinds.specs.declared.counter.Counter.{Counter}
 use Rattle.av_kinds.specs.declared.planning.Modules.{Modules}
 use Rattle.av_kinds.specs.Programs.{Lane, Program}
@@ -35,7 +36,6 @@ use Rattle.av_history.proofs.Problems.{each_problem}
 use Rattle.av_history.proofs.Shown.{signature_at}
 use Rattle.av_build.specs.Later.{later_line, later_lines, later}
 use Rattle.av_build.specs.inner.Programmed.{IsProgramFor}
-use Rattle.av_build.proofs.NodePlacing.{place_of}
 use Rattle.av_build.proofs.Performed.{performs}
 
 -- ---- ports
@@ -105,10 +105,10 @@ module _ (a : Array) (counter : Counter) (lanes : Lanes) (outputs : List ℕ) (l
   line_shows start u have l is late =
       let c = l.entry.cycle in
       let v = is.variable in
-      let at = place_of a.system.variables l.node v is.is_variable in
+      let at = passing is_node a.system.variables l.node v is.is_variable in
       let computes : ComputesOn a is.cell c (number_at a.system at.place) l.entry.point = subst (λ k. ComputesOn a is.cell c k l.entry.point) (sym at.number) is.computes in
-      let word = have at.place l.entry.point v at.is_variable at.is_one is.cell c computes late in
-      let known : u v.name l.entry.point ≡ Some (words (c + start) (lanes.of_value is.cell)) = sym (ap (λ (o : Option Signature). word_of u o l.entry.point) (signature_at a.system.variables at.place v at.is_variable)) ∙ word in
+      let word = have at.place l.entry.point v at.is at.passes is.cell c computes late in
+      let known : u v.name l.entry.point ≡ Some (words (c + start) (lanes.of_value is.cell)) = sym (ap (λ (o : Option Signature). word_of u o l.entry.point) (signature_at a.system.variables at.place v at.is)) ∙ word in
       ap (λ w. Some w) (wire_has (c + start) late is.cell c l.node l.entry.point v is.computes is.is_variable l.entry.wire is.wire_is) ∙ sym known ∙ sym (ap (λ name. u name l.entry.point) is.variable_is)
 
 -- Each solution is shown.

@@ -3,3 +3,4 @@ pub mod Moments
 pub mod Orders
 pub mod Blueprints
 pub mod Programmed
+pub mod Built

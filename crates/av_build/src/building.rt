@@ -1,3 +1,11 @@
+ghost use Rattle.std.specs.Prelude.{◌≡◌, IfOk};
+ghost use Rattle.av_space.specs.declared.fault.SpaceFault.{SpaceFault as Fault};
+ghost use Rattle.av_space.specs.declared.fault.SpaceFault.TheVariants as fault;
+ghost use Rattle.av_space.specs.SpaceFaults.{IsSpaceFault};
+ghost use Rattle.av_space.specs.Whole.{IsWhole};
+ghost use Rattle.av_kinds.specs.Counters.{IsCounter};
+ghost use Rattle.av_build.specs.ArrayPlans.{IsPlanOf, IsWithinCount, IsCountingPlan};
+
 use crate::listing::copied_listing;
 use crate::programming::program;
 use av_base::Memory;
@@ -7,13 +15,27 @@ use av_net::Plan;
 use av_space::Cells;
 use std::alloc::Global;
 
-/// The plan of an array whose cells choose by this counter.
+/// The plan of an array whose cells choose by this counter: its kinds, and a top module named `array`, with the listing of the array.
+///
+/// The input and output ports of the top module are those of the array, in the order of their numbers; each port and each value
+/// wire is as wide as its variable. Each cell is an instance of its kind, and cells with the same pieces of one node are of one kind. There is
+/// a counter only where a cell chooses by it.
+///
+/// With `Counter::Phases` the plan takes problem after problem: each may begin a period, or several, after the one before.
 pub fn build_counting(
     alloc: Global,
     timed: &Timed,
     cells: &Cells,
     counter: Counter,
-) -> Result<Plan, Memory> {
+) -> Result<Plan, Memory>
+    // The cells are those that the mapping gives for the system.
+    requires whole { IsWhole timed.now cells.now }
+    requires within { (f : Fault) → IsSpaceFault timed.now f → f ≡ fault.Memory }
+    // The counter tells the computations of each cell apart.
+    requires counter { IsCounter counter }
+    requires apart { IsWithinCount timed.now cells.now counter }
+    ensures { IfOk result (IsCountingPlan timed.now cells.now counter) }
+{
     let program = program(alloc, timed, cells, counter)?;
     let modules = modules_of(alloc, counter, &program)?;
     Ok(Plan {
@@ -24,7 +46,12 @@ pub fn build_counting(
     })
 }
 
-/// The plan of an array: its kinds, and a top module named `array`, with the listing of the array.
-pub fn build(alloc: Global, timed: &Timed, cells: &Cells) -> Result<Plan, Memory> {
+/// The plan of an array that counts cycles, as `build_counting` makes it. Its flat design shows the solution for every input.
+pub fn build(alloc: Global, timed: &Timed, cells: &Cells) -> Result<Plan, Memory>
+    // The cells are those that the mapping gives for the system.
+    requires whole { IsWhole timed.now cells.now }
+    requires within { (f : Fault) → IsSpaceFault timed.now f → f ≡ fault.Memory }
+    ensures { IfOk result (IsPlanOf timed.now cells.now) }
+{
     build_counting(alloc, timed, cells, Counter::Cycles)
 }

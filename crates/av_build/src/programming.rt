@@ -121,7 +121,12 @@ impl<'a> Blueprint<'a> {
     }
 
     // All lanes, in the order of their plans.
-    fn built(&self, alloc: Global, flat: &Flat, counter: Counter) -> Result<List<Lane<'a>>, Memory> {
+    fn built(
+        &self,
+        alloc: Global,
+        flat: &Flat,
+        counter: Counter,
+    ) -> Result<List<Lane<'a>>, Memory> {
         let mut lanes = List::new(alloc);
         for plan in self.lanes.as_slice() {
             lanes.push(self.lane(alloc, flat, counter, plan)?)?;
