@@ -81,6 +81,33 @@ computed_node v h = (both (is_computed v.kind) _ h).0
 some_of : {X : Type 0} (x y : X) (o : Option X) → o ≡ Some x → o ≡ Some y → x ≡ y
 some_of x y o e f = some_is x y (sym e ∙ f)
 
+-- ---- the helper of a reference
+
+pub record IsMovedBy (a : Array) (at : Spot) (place : ℕ) (m : Map) (o : Handing) : Type 0 where
+  pub helper : Helper
+  pub is : IsHelper a o.number helper at.variable at.piece (record { place = place; map = m })
+  pub node : at.node ≡ number_at a.system helper.var
+  pub piece : helper.piece ≡ at.number
+
+pub moved_by : (a : Array) (at : Spot) → slice_get at.variable.pieces at.number ≡ Some at.piece → (own : ℕ) → slice_get a.system.variables own ≡ Some at.variable → is_node at.variable ≡ true → at.node ≡ number_at a.system own
+    → (i place : ℕ) (m : Map) (o : Handing) → helper_at a.helpers own at.number i ≡ Some o → slice_get (references at.piece.tree) i ≡ Some (record { place = place; map = m }) → IsMovedBy a at place m o
+moved_by a at is_piece own is_own node number i place m o e is_reference =
+    let f = found_helper a.helpers 0 own at.number i o e in
+    let at_is : f.at ≡ o.number = sym (f.number_is ∙ omega arith) in
+    record {
+      helper = f.helper;
+      is = record {
+        is_helper = subst (λ k. slice_get a.helpers k ≡ Some f.helper) at_is f.is_helper;
+        is_first = rw (f.var_is, f.piece_is, f.site_is, f.direction_is) e;
+        is_variable = ap (slice_get a.system.variables) f.var_is ∙ is_own;
+        is_node = node;
+        is_piece = ap (slice_get at.variable.pieces) f.piece_is ∙ is_piece;
+        is_reference = ap (slice_get (references at.piece.tree)) f.site_is ∙ is_reference;
+      };
+      node = number ∙ ap (number_at a.system) (sym f.var_is);
+      piece = f.piece_is;
+    }
+
 -- ---- one place that reads
 
 -- a reading computation, in its own cycle
@@ -256,9 +283,7 @@ module _ (a : Array) (g : IsArranged a) (lanes : Lanes) (start : ℕ) where
       let none : helper_at a.helpers (node_place a.system at.node) at.number i ≡ None = ap (λ k. helper_at a.helpers k at.number i) same ∙ e in
       reference_brought at b c z starts r i place m each (subst (λ (o : Option Handing). IsReadAt o at.piece z) (sym none) tt) (place, (refl, refl), refl) source h
   helped_brought at b c z starts r own is_own node number i place m (Some o) e same source h =
-      let f = found_helper a.helpers 0 own at.number i o e in
-      let at_is : f.at ≡ o.number = sym (f.number_is ∙ omega arith) in
-      let there : at.node ≡ number_at a.system f.helper.var = number ∙ ap (number_at a.system) (sym f.var_is) in
+      let f = moved_by a at r.is_piece own is_own node number i place m o e h.0 in
       record {
         lane = lanes.of_helper o.number at.cell;
         delay = 0;
@@ -269,20 +294,13 @@ module _ (a : Array) (g : IsArranged a) (lanes : Lanes) (start : ℕ) where
           variable = at.variable;
           piece = at.piece;
           reference = record { place = place; map = m };
-          is = record {
-            is_helper = subst (λ k. slice_get a.helpers k ≡ Some f.helper) at_is f.is_helper;
-            is_first = rw (f.var_is, f.piece_is, f.site_is, f.direction_is) e;
-            is_variable = ap (slice_get a.system.variables) f.var_is ∙ is_own;
-            is_node = node;
-            is_piece = ap (slice_get at.variable.pieces) f.piece_is ∙ r.is_piece;
-            is_reference = ap (slice_get (references at.piece.tree)) f.site_is ∙ h.0;
-          };
+          is = f.is;
           within = r.within;
           cell = at.cell;
           lane_is = refl;
           cycle = b;
           starts = starts;
-          computes = subst (λ k. ComputesOn a at.cell b k z) there r.computes;
+          computes = subst (λ k. ComputesOn a at.cell b k z) f.node r.computes;
         };
         later = omega arith;
       }
