@@ -41,7 +41,7 @@ any_cases x i rest e = by_test (has_number x i) refl e
     by_test true f g = inl f
     by_test false f g = inr g
 
-closed_later : (x : ℕ) (open : Option Interval) (rest : List Interval) → list_any (has_number x) rest ≡ true → list_any (has_number x) (closed open rest) ≡ true
+closed_later : (x : ℕ) (begun : Option Interval) (rest : List Interval) → list_any (has_number x) rest ≡ true → list_any (has_number x) (closed begun rest) ≡ true
 closed_later x None rest e = e
 closed_later x (Some i) rest e = any_later x i rest e
 
@@ -54,50 +54,50 @@ abbrev pub AreRising : List Mark → Type 0
 AreRising [] = Unit {0}
 AreRising (m ∷ marks) = AreAbove m.number marks × AreRising marks
 
--- an open interval ends before the marks
-abbrev pub IsOpen : Option Interval → List Mark → Type 0
-IsOpen None marks = Unit {0}
-IsOpen (Some i) marks = (i.first ≤ i.last) × AreAbove i.last marks
+-- an begun interval ends before the marks
+abbrev pub IsBegun : Option Interval → List Mark → Type 0
+IsBegun None marks = Unit {0}
+IsBegun (Some i) marks = (i.first ≤ i.last) × AreAbove i.last marks
 
-extended_open : (open : Option Interval) (m : Mark) (marks : List Mark) → IsOpen open (m ∷ marks) → AreAbove m.number marks → IsOpen (Some (extended open m.number)) marks
-extended_open None m marks h above = (omega arith, above)
-extended_open (Some i) m marks h above = (omega (arith, h.0, h.1.0), above)
+extended_begun : (begun : Option Interval) (m : Mark) (marks : List Mark) → IsBegun begun (m ∷ marks) → AreAbove m.number marks → IsBegun (Some (extended begun m.number)) marks
+extended_begun None m marks h above = (omega arith, above)
+extended_begun (Some i) m marks h above = (omega (arith, h.0, h.1.0), above)
 
-first_low : (open : Option Interval) (m : Mark) (marks : List Mark) → IsOpen open (m ∷ marks) → (extended open m.number).first ≤ m.number
+first_low : (begun : Option Interval) (m : Mark) (marks : List Mark) → IsBegun begun (m ∷ marks) → (extended begun m.number).first ≤ m.number
 first_low None m marks h = omega arith
 first_low (Some i) m marks h = omega (arith, h.0, h.1.0)
 
 -- ---- a mark that holds is in an interval
 
--- so is each number of the open one
-open_there : (marks : List Mark) → AreRising marks → (i : Interval) (x : ℕ) → IsOpen (Some i) marks → i.first ≤ x → x ≤ i.last → list_any (has_number x) (intervals_from (Some i) marks) ≡ true
-open_there [] up i x h low high = any_first x i [] (in_interval x i low high)
-open_there (m ∷ marks) up i x h low high = by_test m.holds (open_there marks up.1 (extended (Some i) m.number) x (extended_open (Some i) m marks h up.0) low (omega (arith, high, h.1.0)))
+-- so is each number of the begun one
+begun_there : (marks : List Mark) → AreRising marks → (i : Interval) (x : ℕ) → IsBegun (Some i) marks → i.first ≤ x → x ≤ i.last → list_any (has_number x) (intervals_from (Some i) marks) ≡ true
+begun_there [] up i x h low high = any_first x i [] (in_interval x i low high)
+begun_there (m ∷ marks) up i x h low high = by_test m.holds (begun_there marks up.1 (extended (Some i) m.number) x (extended_begun (Some i) m marks h up.0) low (omega (arith, high, h.1.0)))
   where
     by_test : (b : Bool) → list_any (has_number x) (intervals_from (Some (extended (Some i) m.number)) marks) ≡ true
         → list_any (has_number x) (if b then intervals_from (Some (extended (Some i) m.number)) marks else closed (Some i) (intervals_from None marks)) ≡ true
     by_test true more = more
     by_test false more = any_first x i (intervals_from None marks) (in_interval x i low high)
 
-mark_there : (marks : List Mark) → AreRising marks → (open : Option Interval) → IsOpen open marks → (k : ℕ) (t : Mark) → slice_get marks k ≡ Some t → t.holds ≡ true → list_any (has_number t.number) (intervals_from open marks) ≡ true
-mark_there [] up open h k t is holds = absurd cc
-mark_there (m ∷ marks) up open h zero t is holds =
+mark_there : (marks : List Mark) → AreRising marks → (begun : Option Interval) → IsBegun begun marks → (k : ℕ) (t : Mark) → slice_get marks k ≡ Some t → t.holds ≡ true → list_any (has_number t.number) (intervals_from begun marks) ≡ true
+mark_there [] up begun h k t is holds = absurd cc
+mark_there (m ∷ marks) up begun h zero t is holds =
     let e = some_is m t is in
     let own : m.holds ≡ true = ap (λ (u : Mark). u.holds) e ∙ holds in
-    let there = open_there marks up.1 (extended open m.number) m.number (extended_open open m marks h up.0) (first_low open m marks h) (omega arith) in
-    subst (λ (n : ℕ). list_any (has_number n) (intervals_from open (m ∷ marks)) ≡ true) (ap (λ (u : Mark). u.number) e) (chosen m.holds own there)
+    let there = begun_there marks up.1 (extended begun m.number) m.number (extended_begun begun m marks h up.0) (first_low begun m marks h) (omega arith) in
+    subst (λ (n : ℕ). list_any (has_number n) (intervals_from begun (m ∷ marks)) ≡ true) (ap (λ (u : Mark). u.number) e) (chosen m.holds own there)
   where
-    chosen : (b : Bool) → b ≡ true → list_any (has_number m.number) (intervals_from (Some (extended open m.number)) marks) ≡ true
-        → list_any (has_number m.number) (if b then intervals_from (Some (extended open m.number)) marks else closed open (intervals_from None marks)) ≡ true
+    chosen : (b : Bool) → b ≡ true → list_any (has_number m.number) (intervals_from (Some (extended begun m.number)) marks) ≡ true
+        → list_any (has_number m.number) (if b then intervals_from (Some (extended begun m.number)) marks else closed begun (intervals_from None marks)) ≡ true
     chosen true f there = there
     chosen false f there = absurd cc
-mark_there (m ∷ marks) up open h (suc k) t is holds =
-    by_test m.holds (mark_there marks up.1 (Some (extended open m.number)) (extended_open open m marks h up.0) k t is holds) (mark_there marks up.1 None tt k t is holds)
+mark_there (m ∷ marks) up begun h (suc k) t is holds =
+    by_test m.holds (mark_there marks up.1 (Some (extended begun m.number)) (extended_begun begun m marks h up.0) k t is holds) (mark_there marks up.1 None tt k t is holds)
   where
-    by_test : (b : Bool) → list_any (has_number t.number) (intervals_from (Some (extended open m.number)) marks) ≡ true → list_any (has_number t.number) (intervals_from None marks) ≡ true
-        → list_any (has_number t.number) (if b then intervals_from (Some (extended open m.number)) marks else closed open (intervals_from None marks)) ≡ true
+    by_test : (b : Bool) → list_any (has_number t.number) (intervals_from (Some (extended begun m.number)) marks) ≡ true → list_any (has_number t.number) (intervals_from None marks) ≡ true
+        → list_any (has_number t.number) (if b then intervals_from (Some (extended begun m.number)) marks else closed begun (intervals_from None marks)) ≡ true
     by_test true here later = here
-    by_test false here later = closed_later t.number open (intervals_from None marks) later
+    by_test false here later = closed_later t.number begun (intervals_from None marks) later
 
 -- ---- the last mark up to a number of an interval holds
 
@@ -111,10 +111,10 @@ pub record IsLastUpTo (marks : List Mark) (x : ℕ) (t : Mark) : Type 0 where
 abbrev pub Holds : List Mark → ℕ → Type 0
 Holds marks x = (t : Mark) × IsLastUpTo marks x t × (t.holds ≡ true)
 
--- the number is in the open interval, or before the marks
-abbrev InOpen : Option Interval → ℕ → List Mark → Type 0
-InOpen None x marks = ⊥
-InOpen (Some i) x marks = (i.first ≤ x) × AreAbove x marks
+-- the number is in the begun interval, or before the marks
+abbrev InBegun : Option Interval → ℕ → List Mark → Type 0
+InBegun None x marks = ⊥
+InBegun (Some i) x marks = (i.first ≤ x) × AreAbove x marks
 
 above_at : (n : ℕ) (marks : List Mark) → AreAbove n marks → (k : ℕ) (t : Mark) → slice_get marks k ≡ Some t → n < t.number
 above_at n [] h k t is = absurd cc
@@ -139,45 +139,45 @@ first_holds m marks x above low holds = (m, record { index = 0; is_there = refl;
     last zero u is le = let e = ap (λ (v : Mark). v.number) (some_is m u is) in omega (arith, e)
     last (suc j) u is le = absurd (let l = above_at x marks above j u is in omega (arith, l, le))
 
-from_open : (marks : List Mark) → AreRising marks → (open : Option Interval) → IsOpen open marks → (x : ℕ) → list_any (has_number x) (intervals_from open marks) ≡ true → InOpen open x marks ⊎ Holds marks x
-from_open [] up None h x e = absurd cc
-from_open [] up (Some i) h x e = elim (any_cases x i [] e) [
+from_begun : (marks : List Mark) → AreRising marks → (begun : Option Interval) → IsBegun begun marks → (x : ℕ) → list_any (has_number x) (intervals_from begun marks) ≡ true → InBegun begun x marks ⊎ Holds marks x
+from_begun [] up None h x e = absurd cc
+from_begun [] up (Some i) h x e = elim (any_cases x i [] e) [
   | inl here ↦ inl ((bounds_of x i here).0, tt)
   | inr later ↦ absurd cc
 ]
-from_open (m ∷ marks) up open h x e = by_test m.holds refl e (from_open marks up.1 (Some (extended open m.number)) (extended_open open m marks h up.0) x) (from_open marks up.1 None tt x)
+from_begun (m ∷ marks) up begun h x e = by_test m.holds refl e (from_begun marks up.1 (Some (extended begun m.number)) (extended_begun begun m marks h up.0) x) (from_begun marks up.1 None tt x)
   where
-    none : InOpen None x marks ⊎ Holds marks x → Holds marks x
+    none : InBegun None x marks ⊎ Holds marks x → Holds marks x
     none (inl no) = absurd no
     none (inr l) = l
 
-    first_above : (o : Option Interval) → (extended o m.number).first ≤ x → x < m.number → AreAbove x marks → InOpen o x (m ∷ marks)
+    first_above : (o : Option Interval) → (extended o m.number).first ≤ x → x < m.number → AreAbove x marks → InBegun o x (m ∷ marks)
     first_above None low lt above = absurd (omega (arith, low, lt))
     first_above (Some i) low lt above = (low, (lt, above))
 
-    of_closed : (o : Option Interval) → IsOpen o (m ∷ marks) → list_any (has_number x) (closed o (intervals_from None marks)) ≡ true → (list_any (has_number x) (intervals_from None marks) ≡ true → InOpen None x marks ⊎ Holds marks x) → InOpen o x (m ∷ marks) ⊎ Holds (m ∷ marks) x
+    of_closed : (o : Option Interval) → IsBegun o (m ∷ marks) → list_any (has_number x) (closed o (intervals_from None marks)) ≡ true → (list_any (has_number x) (intervals_from None marks) ≡ true → InBegun None x marks ⊎ Holds marks x) → InBegun o x (m ∷ marks) ⊎ Holds (m ∷ marks) x
     of_closed None k f rest = inr (later_holds m marks up.0 x (none (rest f)))
     of_closed (Some i) k f rest = elim (any_cases x i (intervals_from None marks) f) [
       | inl here ↦ (let b = bounds_of x i here in inl (b.0, above_less x i.last b.1 (m ∷ marks) k.1))
       | inr later ↦ inr (later_holds m marks up.0 x (none (rest later)))
     ]
 
-    by_test : (b : Bool) → m.holds ≡ b → list_any (has_number x) (if b then intervals_from (Some (extended open m.number)) marks else closed open (intervals_from None marks)) ≡ true
-        → (list_any (has_number x) (intervals_from (Some (extended open m.number)) marks) ≡ true → InOpen (Some (extended open m.number)) x marks ⊎ Holds marks x)
-        → (list_any (has_number x) (intervals_from None marks) ≡ true → InOpen None x marks ⊎ Holds marks x) → InOpen open x (m ∷ marks) ⊎ Holds (m ∷ marks) x
+    by_test : (b : Bool) → m.holds ≡ b → list_any (has_number x) (if b then intervals_from (Some (extended begun m.number)) marks else closed begun (intervals_from None marks)) ≡ true
+        → (list_any (has_number x) (intervals_from (Some (extended begun m.number)) marks) ≡ true → InBegun (Some (extended begun m.number)) x marks ⊎ Holds marks x)
+        → (list_any (has_number x) (intervals_from None marks) ≡ true → InBegun None x marks ⊎ Holds marks x) → InBegun begun x (m ∷ marks) ⊎ Holds (m ∷ marks) x
     by_test true holds f here rest = elim (here f) [
       | inl o ↦ elim (cases_lt x m.number) [
-        | inl lt ↦ inl (first_above open o.0 lt o.1)
+        | inl lt ↦ inl (first_above begun o.0 lt o.1)
         | inr le ↦ inr (first_holds m marks x o.1 le holds)
       ]
       | inr l ↦ inr (later_holds m marks up.0 x l)
     ]
-    by_test false holds f here rest = of_closed open h f rest
+    by_test false holds f here rest = of_closed begun h f rest
 
 -- ---- the whole
 
 pub holds_there : (marks : List Mark) → AreRising marks → (x : ℕ) → list_any (has_number x) (intervals_by marks) ≡ true → Holds marks x
-holds_there marks up x e = elim (from_open marks up None tt x e) [
+holds_there marks up x e = elim (from_begun marks up None tt x e) [
   | inl no ↦ absurd no
   | inr l ↦ l
 ]
@@ -193,10 +193,10 @@ abbrev EndsWith : (ℕ → Type 0) → Option Interval → Type 0
 EndsWith P None = Unit {0}
 EndsWith P (Some i) = P i.first × P i.last
 
-ends_from : (P : ℕ → Type 0) (marks : List Mark) → AllByRecursion (λ (m : Mark). P m.number) marks → (open : Option Interval) → EndsWith P open → HaveEnds P (intervals_from open marks)
+ends_from : (P : ℕ → Type 0) (marks : List Mark) → AllByRecursion (λ (m : Mark). P m.number) marks → (begun : Option Interval) → EndsWith P begun → HaveEnds P (intervals_from begun marks)
 ends_from P [] all None h = tt
 ends_from P [] all (Some i) h = (h, tt)
-ends_from P (m ∷ marks) all open h = by_test m.holds (ends_from P marks all.1 (Some (extended open m.number)) (longer open h)) (ends_from P marks all.1 None tt)
+ends_from P (m ∷ marks) all begun h = by_test m.holds (ends_from P marks all.1 (Some (extended begun m.number)) (longer begun h)) (ends_from P marks all.1 None tt)
   where
     longer : (o : Option Interval) → EndsWith P o → EndsWith P (Some (extended o m.number))
     longer None k = (all.0, all.0)
@@ -206,10 +206,10 @@ ends_from P (m ∷ marks) all open h = by_test m.holds (ends_from P marks all.1 
     shut None k rest = rest
     shut (Some i) k rest = (k, rest)
 
-    by_test : (b : Bool) → HaveEnds P (intervals_from (Some (extended open m.number)) marks) → HaveEnds P (intervals_from None marks)
-        → HaveEnds P (if b then intervals_from (Some (extended open m.number)) marks else closed open (intervals_from None marks))
+    by_test : (b : Bool) → HaveEnds P (intervals_from (Some (extended begun m.number)) marks) → HaveEnds P (intervals_from None marks)
+        → HaveEnds P (if b then intervals_from (Some (extended begun m.number)) marks else closed begun (intervals_from None marks))
     by_test true here rest = here
-    by_test false here rest = shut open h rest
+    by_test false here rest = shut begun h rest
 
 pub ends_are : (P : ℕ → Type 0) (marks : List Mark) → AllByRecursion (λ (m : Mark). P m.number) marks → HaveEnds P (intervals_by marks)
 ends_are P marks all = ends_from P marks all None tt

@@ -7,5 +7,8 @@ pub mod MomentLemmas
 pub mod BlueprintLemmas
 pub mod BlueprintSteps
 pub mod Performed
+pub mod Lengths
+pub mod Owned
+pub mod FineLanes
 pub mod NotLater
 pub mod PlanShows

@@ -1,5 +1,6 @@
 pub mod Intervals
 pub mod Moments
+pub mod Sources
 pub mod Orders
 pub mod Blueprints
 pub mod Programmed

@@ -20,11 +20,11 @@ pub(crate) struct Mark {
     pub(crate) holds: bool,
 }
 
-// The open interval, or a new one, as it goes on to a number.
-fn extended(open: Option<Interval>, number: u32) -> Interval
-    ensures { result ≡ extended open number }
+// The begun interval, or a new one, as it goes on to a number.
+fn extended(begun: Option<Interval>, number: u32) -> Interval
+    ensures { result ≡ extended begun number }
 {
-    match open {
+    match begun {
         Some(interval) => Interval {
             first: interval.first,
             last: number,
@@ -36,11 +36,11 @@ fn extended(open: Option<Interval>, number: u32) -> Interval
     }
 }
 
-// Puts the open interval, if there is one, behind others.
-fn add_closed(open: Option<Interval>, intervals: &mut List<Interval>) -> Result<(), Memory>
-    ensures { OnOk result (intervals.new ≡ intervals.old ++ closed open []) }
+// Puts the begun interval, if there is one, behind others.
+fn add_closed(begun: Option<Interval>, intervals: &mut List<Interval>) -> Result<(), Memory>
+    ensures { OnOk result (intervals.new ≡ intervals.old ++ closed begun []) }
 {
-    match open {
+    match begun {
         Some(interval) => intervals.push(interval),
         None => Ok(()),
     }
@@ -51,16 +51,16 @@ pub(crate) fn intervals(alloc: Global, marks: &[Mark]) -> Result<List<Interval>,
     ensures { IfOk result (λ intervals. intervals ≡ intervals_by marks.now) }
 {
     let mut intervals = List::new(alloc);
-    let mut open: Option<Interval> = None;
+    let mut begun: Option<Interval> = None;
     for mark in marks {
         if mark.holds {
-            open = Some(extended(open, mark.number));
+            begun = Some(extended(begun, mark.number));
         } else {
-            add_closed(open, &mut intervals)?;
-            open = None;
+            add_closed(begun, &mut intervals)?;
+            begun = None;
         }
     }
-    add_closed(open, &mut intervals)?;
+    add_closed(begun, &mut intervals)?;
     Ok(intervals)
 }
 
@@ -75,7 +75,7 @@ pub(crate) fn marks(
     requires counter { IsCounter counter }
     requires order { (i k : ℕ) → slice_get order.now i ≡ Some k → k < length slots.now }
     requires points { All (λ t. IsPointOf set.now t.point) slots.now }
-    ensures { IfOk result (AreMarks (count_in counter) slots.now order.now (λ slot. IsTrue (has set.now slot.point))) }
+    ensures { IfOk result (AreMarks (count_in counter) slots.now order.now (λ slot. IsTrue (has set.now slot.point)) (length order.now)) }
 {
     let mut marks = List::new(alloc);
     for k in order {

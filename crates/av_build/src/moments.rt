@@ -1,5 +1,18 @@
 //! Where the places of a piece find their words, number by number of the counter.
 
+ghost use Rattle.std.specs.Prelude.{◌≡◌, None, Some, length, IfOk, OnOk};
+ghost use Rattle.av_flat.specs.Trees.{view, view_piece};
+ghost use Rattle.av_space.specs.Spots.{IsSpot, IsSlotIn, IsSiteOf};
+ghost use Rattle.av_space.specs.Taps.{IsReadAt};
+ghost use Rattle.av_kinds.specs.Counters.{IsCounter, count_in};
+ghost use Rattle.av_history.specs.Performing.{IsPlaceSource};
+ghost use Rattle.av_kinds.specs.declared.program.Source.TheVariants.{Line};
+ghost use Rattle.av_build.specs.inner.Blueprints.{IsBlueprint, HasHelper, seen, spot_of, lanes_of};
+ghost use Rattle.av_build.specs.inner.Moments.{same_source, site_by};
+ghost use Rattle.av_build.specs.inner.Orders.{IsInOrder, AreMoments};
+ghost use Rattle.av_build.specs.inner.Programmed.{Always};
+ghost use Rattle.av_build.specs.inner.Sources.{IsOwnSource, AddsHandMoment, AreHandMomentsTo};
+
 use crate::blueprint::Blueprint;
 use crate::intervals::Mark;
 use av_base::{List, Memory, Width};
@@ -14,17 +27,20 @@ pub(crate) struct Moment {
     pub(crate) source: Source,
 }
 
-/// The moments of a place with a helper: where it reads its reference, and where the helper's word at the point before; and of each
-/// number whether it is one of the former.
+/// The moments of a place with a helper, where it reads its reference and where the helper's word at the point before; and of each
+/// number whether it is one of the former, or of the latter.
 #[derive(Debug, Drop)]
 pub(crate) struct HandMoments {
     pub(crate) entries: List<Moment>,
     pub(crate) own: List<Moment>,
-    pub(crate) marks: List<Mark>,
+    pub(crate) entry_marks: List<Mark>,
+    pub(crate) own_marks: List<Mark>,
 }
 
 // Whether both sources are one.
-fn same_source(a: Source, b: Source) -> bool {
+fn same_source(a: Source, b: Source) -> bool
+    ensures { result ≡ same_source a b }
+{
     match a {
         Source::Word(word) => match b {
             Source::Word(other) => word == other,
@@ -50,7 +66,9 @@ pub(crate) fn site(
     inlet: Inlet,
     width: Width,
     moments: &[Moment],
-) -> Result<ProgramSite, Memory> {
+) -> Result<ProgramSite, Memory>
+    ensures { IfOk result (λ site. site ≡ site_by inlet width moments.now) }
+{
     let mut links = List::new(alloc);
     let Some((first, rest)) = moments.split_first() else {
         return Ok(ProgramSite {
@@ -80,7 +98,14 @@ pub(crate) fn site(
 
 impl Blueprint<'_> {
     // Where a place reads itself.
-    fn own_source(&self, spot: &Spot<'_>, site: &Site<'_>, slot: &Slot) -> Source {
+    fn own_source(&self, spot: &Spot<'_>, site: &Site<'_>, slot: &Slot) -> Source
+        requires blueprint { IsBlueprint self.now }
+        requires spot { IsSpot self.now.array spot.now }
+        requires site { IsSiteOf self.now.array spot.now site.now }
+        requires slot { IsSlotIn self.now.array spot.now.cell spot.now.node spot.now.piece.now.domain slot.now }
+        requires entered { IsReadAt site.now.handing (view_piece spot.now.piece.now) slot.now.point }
+        ensures { IsOwnSource (seen self.now.array) (lanes_of self.now.cells) (spot_of spot.now) slot.now.point slot.now.cycle site.now.place.site site.now.handing (view site.now.place.tree) result }
+    {
         match self.array.origin(spot, site, slot) {
             Origin::Port(port) => Source::Input(port),
             Origin::Value { cell, delay } => Source::Line {
@@ -88,14 +113,6 @@ impl Blueprint<'_> {
                 delay,
             },
             Origin::Number(word) => Source::Word(word.bits),
-        }
-    }
-
-    // Where the helper's word at the point before is read.
-    fn handed_source(&self, handing: &Handing, reading: Reading) -> Source {
-        Source::Line {
-            lane: self.helper_lane(reading.producer as usize, handing.number),
-            delay: reading.delay,
         }
     }
 
@@ -107,7 +124,16 @@ impl Blueprint<'_> {
         order: &[usize],
         spot: &Spot<'_>,
         site: &Site<'_>,
-    ) -> Result<List<Moment>, Memory> {
+    ) -> Result<List<Moment>, Memory>
+        requires blueprint { IsBlueprint self.now }
+        requires counter { IsCounter counter }
+        requires spot { IsSpot self.now.array spot.now }
+        requires site { IsSiteOf self.now.array spot.now site.now }
+        requires plain { site.now.handing ≡ None }
+        requires order { IsInOrder (count_in counter) spot.now.slots order.now }
+        ensures { IfOk result (AreMoments (count_in counter) spot.now.slots order.now Always
+            (λ z c source. IsPlaceSource (seen self.now.array) (lanes_of self.now.cells) (spot_of spot.now) z c site.now.place.site (view site.now.place.tree) source)) }
+    {
         let slots = spot.slots.as_slice();
         let mut moments = List::new(alloc);
         for k in order {
@@ -120,6 +146,18 @@ impl Blueprint<'_> {
         Ok(moments)
     }
 
+    // Where the helper's word at the point before is read.
+    fn handed_source(&self, handing: &Handing, reading: Reading) -> Source
+        requires blueprint { IsBlueprint self.now }
+        requires lane { HasHelper self.now reading.producer handing.now.number }
+        ensures { result ≡ Line ((lanes_of self.now.cells).of_helper handing.now.number reading.producer) reading.delay }
+    {
+        Source::Line {
+            lane: self.helper_lane(reading.producer as usize, handing.number),
+            delay: reading.delay,
+        }
+    }
+
     // Puts the source of a place with a helper at one computation behind those of others.
     fn add_hand_moment(
         &self,
@@ -129,19 +167,32 @@ impl Blueprint<'_> {
         slot: &Slot,
         number: u32,
         moments: &mut HandMoments,
-    ) -> Result<(), Memory> {
-        match self.array.handed(spot, site, handing, slot) {
+    ) -> Result<(), Memory>
+        requires blueprint { IsBlueprint self.now }
+        requires spot { IsSpot self.now.array spot.now }
+        requires site { IsSiteOf self.now.array spot.now site.now }
+        requires handing { site.now.handing ≡ Some handing.now }
+        requires slot { IsSlotIn self.now.array spot.now.cell spot.now.node spot.now.piece.now.domain slot.now }
+        ensures { OnOk result (AddsHandMoment (seen self.now.array) (lanes_of self.now.cells) (spot_of spot.now) site.now.place.site handing.now (view site.now.place.tree) slot.now number moments.old moments.new) }
+    {
+        let reading = self.array.handed(spot, site, handing, slot);
+        let is_own = reading.is_some();
+        moments.entry_marks.push(Mark {
+            number,
+            holds: !is_own,
+        })?;
+        moments.own_marks.push(Mark {
+            number,
+            holds: is_own,
+        })?;
+        match reading {
             Some(reading) => {
                 let source = self.handed_source(handing, reading);
-                moments.own.push(Moment { number, source })?;
-                let holds = false;
-                moments.marks.push(Mark { number, holds })
+                moments.own.push(Moment { number, source })
             }
             None => {
                 let source = self.own_source(spot, site, slot);
-                moments.entries.push(Moment { number, source })?;
-                let holds = true;
-                moments.marks.push(Mark { number, holds })
+                moments.entries.push(Moment { number, source })
             }
         }
     }
@@ -155,12 +206,21 @@ impl Blueprint<'_> {
         spot: &Spot<'_>,
         site: &Site<'_>,
         handing: &Handing,
-    ) -> Result<HandMoments, Memory> {
+    ) -> Result<HandMoments, Memory>
+        requires blueprint { IsBlueprint self.now }
+        requires counter { IsCounter counter }
+        requires spot { IsSpot self.now.array spot.now }
+        requires site { IsSiteOf self.now.array spot.now site.now }
+        requires handing { site.now.handing ≡ Some handing.now }
+        requires order { IsInOrder (count_in counter) spot.now.slots order.now }
+        ensures { IfOk result (AreHandMomentsTo (seen self.now.array) (count_in counter) (lanes_of self.now.cells) (spot_of spot.now) site.now.place.site handing.now (view site.now.place.tree) spot.now.slots order.now (length order.now)) }
+    {
         let slots = spot.slots.as_slice();
         let mut moments = HandMoments {
             entries: List::new(alloc),
             own: List::new(alloc),
-            marks: List::new(alloc),
+            entry_marks: List::new(alloc),
+            own_marks: List::new(alloc),
         };
         for k in order {
             let slot = &slots[*k];

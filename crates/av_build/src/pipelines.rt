@@ -18,16 +18,15 @@ fn one_site(alloc: Global, own: ProgramSite) -> Result<List<ProgramSite>, Memory
     Ok(sites)
 }
 
-// In the intervals of the marks that agree with `holds`, the reference over these sources.
+// In the intervals of the marks that hold, the reference over these sources.
 fn hand_mode<'a>(
     alloc: Global,
     marks: &[Mark],
-    holds: bool,
     tree: &'a Tree,
     source: ProgramSite,
 ) -> Result<Mode<'a>, Memory> {
     Ok(Mode {
-        intervals: intervals(alloc, marks, holds)?,
+        intervals: intervals(alloc, marks)?,
         work: Work {
             sites: one_site(alloc, source)?,
             tree,
@@ -72,10 +71,9 @@ impl<'a> Blueprint<'a> {
         let width = spot.var.width;
         let entries = entry_site(alloc, flat, width, tree, found.entries.as_slice())?;
         let own = site(alloc, Inlet::Taps, width, found.own.as_slice())?;
-        let marks = found.marks.as_slice();
         let mut modes = List::new(alloc);
-        modes.push(hand_mode(alloc, marks, true, tree, entries)?)?;
-        modes.push(hand_mode(alloc, marks, false, tree, own)?)?;
+        modes.push(hand_mode(alloc, found.entry_marks.as_slice(), tree, entries)?)?;
+        modes.push(hand_mode(alloc, found.own_marks.as_slice(), tree, own)?)?;
         Ok(modes)
     }
 

@@ -1,7 +1,7 @@
 //! The program of an array, lane by lane.
 
 use crate::blueprint::{Blueprint, LanePlan, plan_lanes};
-use crate::intervals::intervals_of;
+use crate::intervals::{intervals, marks};
 use crate::moments::site;
 use crate::order::in_order;
 use crate::ports::{inlet_of, width_read};
@@ -77,8 +77,10 @@ impl<'a> Blueprint<'a> {
         let spot = &pieces.spots.as_slice()[number];
         let places = pieces.sites.as_slice()[number].as_slice();
         let all = self.array.slots(cell);
+        let order = in_order(alloc, all, counter)?;
+        let marks = marks(alloc, counter, order.as_slice(), all, &spot.piece.domain)?;
         Ok(Mode {
-            intervals: intervals_of(alloc, counter, all, spot.slots.as_slice())?,
+            intervals: intervals(alloc, marks.as_slice())?,
             work: self.work(alloc, flat, counter, spot, places)?,
         })
     }

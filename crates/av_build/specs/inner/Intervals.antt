@@ -12,10 +12,10 @@ abbrev pub closed : Option Interval → List Interval → List Interval
 closed None intervals = intervals
 closed (Some i) intervals = i ∷ intervals
 
--- behind one that is open, or none
+-- behind one that is begun, or none
 abbrev pub intervals_from : Option Interval → List Mark → List Interval
-intervals_from open [] = closed open []
-intervals_from open (m ∷ marks) = if m.holds then intervals_from (Some (extended open m.number)) marks else closed open (intervals_from None marks)
+intervals_from begun [] = closed begun []
+intervals_from begun (m ∷ marks) = if m.holds then intervals_from (Some (extended begun m.number)) marks else closed begun (intervals_from None marks)
 
 -- one for each run of marks that hold
 abbrev pub intervals_by : List Mark → List Interval

@@ -28,9 +28,9 @@ pub record IsAt (slots : List Slot) (order : List ℕ) (i : ℕ) (slot : Slot) :
   pub is_place : slice_get order i ≡ Some place
   pub is_slot : slice_get slots place ≡ Some slot
 
--- a mark for each, which says whether P holds of it
-pub record AreMarks (count : ℕ → ℕ) (slots : List Slot) (order : List ℕ) (P : Slot → Type 0) (marks : List Mark) : Type 0 where
-  pub one_each : length marks ≡ length order
+-- a mark for each of the first n, which says whether P holds of it
+pub record AreMarks (count : ℕ → ℕ) (slots : List Slot) (order : List ℕ) (P : Slot → Type 0) (n : ℕ) (marks : List Mark) : Type 0 where
+  pub one_each : length marks ≡ n
   pub each : (i : ℕ) (slot : Slot) (m : Mark) → IsAt slots order i slot → slice_get marks i ≡ Some m → (m.number ≡ count slot.cycle) × (IsTrue m.holds ↔ P slot)
 
 -- a moment that is one of the first n computations, of which R holds

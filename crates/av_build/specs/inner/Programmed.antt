@@ -12,7 +12,7 @@ use Rattle.av_depend.specs.ComputedPlaces.{computed_at}
 use Rattle.av_space.specs.Taps.{Handing, entries}
 use Rattle.av_space.specs.Links.{line_length}
 use Rattle.av_kinds.specs.declared.program.Source.{Source}
-use Rattle.av_kinds.specs.declared.program.Source.TheVariants.{Word}
+use Rattle.av_kinds.specs.declared.program.Source.TheVariants.{Word, Line}
 use Rattle.av_kinds.specs.declared.program.Interval.{Interval}
 use Rattle.av_kinds.specs.declared.program.Link.{Link}
 use Rattle.av_kinds.specs.declared.program.Inlet.{Inlet}
@@ -54,10 +54,16 @@ Always z = Unit {0}
 abbrev pub pipe_in : Lanes → ℕ → ℕ → ℕ → ℕ
 pipe_in lanes p first j = lanes.of_helper j p - first
 
+-- a reference with a helper takes the word of the helper's lane on the cell, in the same cycle
+abbrev pub IsPiped : Lanes → ℕ → Option Handing → Tree → Site → Type 0
+IsPiped lanes p (Some h) (reference place m) site = (site.links ≡ []) × (site.otherwise ≡ Line (lanes.of_helper h.number p) 0)
+IsPiped lanes p h _ site = Unit {0}
+
 -- a place of the spot; i counts references
 pub record IsPlaceSite (a : Array) (count : ℕ → ℕ) (lanes : Lanes) (first : ℕ) (at : Spot) (i : ℕ) (t : Tree) (site : Site) : Type 0 where
   pub inlet : site.inlet ≡ inlet_by a (pipe_in lanes at.cell first) (handing_at a at i) t
   pub width : site.width.bits ≡ read_width a.system at.variable.width (handing_at a at i) t
+  pub piped : IsPiped lanes at.cell (handing_at a at i) t site
   pub reads : IsSiteFor a count at Always (λ z c source. IsPlaceSource a lanes at z c i t source) site
 
 -- ---- works and modes
