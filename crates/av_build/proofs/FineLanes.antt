@@ -133,7 +133,7 @@ module _ (a : Array) (count : ℕ → ℕ) (few : (c : ℕ) → count c < 2 ^ 12
   -- a reference without a helper
   plain_reference : (first q : ℕ) (at : Spot) (own : ℕ) → IsBusy at own → (i place : ℕ) (m : Map) (site : Site) → PlaceSite first at i (reference place m) site → handing_at a at i ≡ None → IsSite program first q site
   plain_reference first q at own busy i place m site h none =
-      let inlet : site.inlet ≡ (if computed_at (slice_get a.system.variables place) then Taps else Inputs) = h.inlet ∙ ap (λ (o : Option Handing). inlet_by a (pipe_in lanes at.cell first) o (reference place m)) none in
+      let inlet : site.inlet ≡ (if computed_at (slice_get a.system.variables place) then Taps else Inputs) = h.inlet ∙ ap (λ (o : Option Handing). inlet_by a.system (pipe_in lanes at.cell first) o (reference place m)) none in
       let wide : site.width.bits ≡ width_at a.system place = h.width ∙ ap (λ (o : Option Handing). read_width a.system at.variable.width o (reference place m)) none in
       let fine = fine_site a count few program at busy.is_node busy.is_piece Always (λ z c source. IsPlaceSource a lanes at z c i (reference place m) source) site h.reads
       (λ c z source r read brought. reference_owned a count lanes program g arranged ports site.width at c z r i place m each refl wide (place, (refl, refl), refl) source
@@ -148,7 +148,7 @@ module _ (a : Array) (count : ℕ → ℕ) (few : (c : ℕ) → count c < 2 ^ 12
       let is_reference : slice_get (references at.piece.tree) i ≡ Some (record { place = place; map = m }) = read.0 in
       let moved = moved_by a at busy.is_piece own busy.is_own busy.own_node busy.number i place m o (ap (λ (k : ℕ). helper_at a.helpers k at.number i) (sym busy.own_place) ∙ some) is_reference in
       let there = g.helpers o.number moved.helper at.variable at.piece (record { place = place; map = m }) moved.is at.cell busy.cycle busy.point (subst (λ (k : ℕ). ComputesOn a at.cell busy.cycle k busy.point) moved.node busy.computes) busy.within in
-      let inlet : site.inlet ≡ Pipe (lanes.of_helper o.number at.cell - first) = h.inlet ∙ ap (λ (u : Option Handing). inlet_by a (pipe_in lanes at.cell first) u (reference place m)) some in
+      let inlet : site.inlet ≡ Pipe (lanes.of_helper o.number at.cell - first) = h.inlet ∙ ap (λ (u : Option Handing). inlet_by a.system (pipe_in lanes at.cell first) u (reference place m)) some in
       let piped = subst (λ (u : Option Handing). IsPiped lanes at.cell u (reference place m) site) some h.piped in
       let bits : site.width.bits ≡ at.variable.width = h.width ∙ ap (λ (u : Option Handing). read_width a.system at.variable.width u (reference place m)) some in
       let same : there.0 ≡ cell = some_is there.0 cell (sym there.1 ∙ is_cell) in

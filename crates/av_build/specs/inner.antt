@@ -5,3 +5,4 @@ pub mod Orders
 pub mod Blueprints
 pub mod Programmed
 pub mod Built
+pub mod Lanes

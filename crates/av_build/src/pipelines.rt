@@ -1,5 +1,11 @@
 //! The lanes of helpers.
 
+ghost use Rattle.std.specs.Prelude.{◌≡◌, ◌<◌, Some, length, IfOk};
+ghost use Rattle.av_space.specs.Spots.{helpers_of};
+ghost use Rattle.av_kinds.specs.Written.{lane_of};
+ghost use Rattle.av_build.specs.inner.Blueprints.{IsBlueprint, IsCounted};
+ghost use Rattle.av_build.specs.inner.Lanes.{HasPlan, IsBuiltBy};
+
 use crate::blueprint::{Blueprint, HelperPlan};
 use crate::intervals::{Mark, intervals};
 use crate::moments::{Moment, site};
@@ -85,7 +91,14 @@ impl<'a> Blueprint<'a> {
         counter: Counter,
         cell: usize,
         helper: HelperPlan,
-    ) -> Result<Lane<'a>, Memory> {
+    ) -> Result<Lane<'a>, Memory>
+        requires blueprint { IsBlueprint self.now }
+        requires counter { IsCounted self.now.array counter }
+        requires flat { flat.now ≡ self.now.array.timed.now.flat }
+        requires helper { HasPlan self.now cell helper }
+        requires ranks { length (helpers_of self.now.array) < 18446744073709551615 }
+        ensures { IfOk result (λ lane. IsBuiltBy self.now counter cell (Some helper) (lane_of lane)) }
+    {
         let spot = &self.cells.as_slice()[cell].pieces.spots.as_slice()[helper.piece];
         Ok(Lane {
             home: cell as u32,

@@ -1,5 +1,14 @@
 //! How the words of places come in, and how wide they are.
 
+ghost use Rattle.std.specs.Prelude.{ℕ, ◌≡◌, ◌<◌, None, Some, length, slice_get, IfOk};
+ghost use Rattle.av_flat.specs.Trees.{view, view_system};
+ghost use Rattle.av_space.specs.Spots.{cells_of};
+ghost use Rattle.av_history.specs.Widths.{read_width};
+ghost use Rattle.av_build.specs.inner.Blueprints.{IsBlueprint, seen};
+ghost use Rattle.av_build.specs.inner.Built.{HasPorts};
+ghost use Rattle.av_build.specs.inner.Lanes.{HasVariable};
+ghost use Rattle.av_build.specs.inner.Programmed.{inlet_by};
+
 use crate::blueprint::{Blueprint, Pieces};
 use av_base::{List, Memory, Width};
 use av_depend::is_computed_at;
@@ -9,7 +18,10 @@ use av_space::{InPort, Site};
 use std::alloc::Global;
 
 /// The width of the words that a place of an equation reads; a pick reads words as wide as those of the equation.
-pub(crate) fn width_read(flat: &Flat, own: Width, tree: &Tree) -> Width {
+pub(crate) fn width_read(flat: &Flat, own: Width, tree: &Tree) -> Width
+    requires { HasVariable (view_system flat.now) (view tree.now) }
+    ensures { result.bits ≡ read_width (view_system flat.now) own.bits None (view tree.now) }
+{
     match tree {
         Tree::Ref { var, .. } => flat.vars.as_slice()[*var as usize].width,
         _ => own,
@@ -17,7 +29,9 @@ pub(crate) fn width_read(flat: &Flat, own: Width, tree: &Tree) -> Width {
 }
 
 /// How the words that a place reads itself come in.
-pub(crate) fn inlet_of(flat: &Flat, tree: &Tree) -> Inlet {
+pub(crate) fn inlet_of(flat: &Flat, tree: &Tree) -> Inlet
+    ensures { result ≡ inlet_by (view_system flat.now) (λ j. j) None (view tree.now) }
+{
     match tree {
         Tree::Ref { var, .. } => {
             if is_computed_at(flat, *var) {
@@ -73,7 +87,12 @@ impl Blueprint<'_> {
         alloc: Global,
         flat: &Flat,
         ports: &[InPort],
-    ) -> Result<List<Width>, Memory> {
+    ) -> Result<List<Width>, Memory>
+        requires blueprint { IsBlueprint self.now }
+        requires flat { flat.now ≡ self.now.array.timed.now.flat }
+        requires ports { ports.now ≡ self.now.array.cells.now.inputs }
+        ensures { IfOk result (HasPorts (seen self.now.array)) }
+    {
         let mut widths = List::new(alloc);
         for port in ports {
             widths.push(self.port_width(flat, port))?;

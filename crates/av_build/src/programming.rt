@@ -1,5 +1,18 @@
 //! The program of an array, lane by lane.
 
+ghost use Rattle.std.specs.Prelude.{◌≡◌, ◌<◌, ◌+◌, All, None, length, map, IfOk};
+ghost use Rattle.av_space.specs.declared.fault.SpaceFault.{SpaceFault as Fault};
+ghost use Rattle.av_space.specs.declared.fault.SpaceFault.TheVariants as fault;
+ghost use Rattle.av_space.specs.SpaceFaults.{IsSpaceFault};
+ghost use Rattle.av_space.specs.Spots.{helpers_of, cells_of};
+ghost use Rattle.av_space.specs.Whole.{IsWhole};
+ghost use Rattle.av_kinds.specs.Counters.{IsCounter};
+ghost use Rattle.av_kinds.specs.Written.{lane_of, program_of};
+ghost use Rattle.av_build.specs.ArrayPlans.{IsWithinCount};
+ghost use Rattle.av_build.specs.inner.Blueprints.{IsBlueprint, IsCounted, lanes_of};
+ghost use Rattle.av_build.specs.inner.Built.{IsProgrammed};
+ghost use Rattle.av_build.specs.inner.Lanes.{IsBuiltBy, AreBuilt};
+
 use crate::blueprint::{Blueprint, LanePlan, plan_lanes};
 use crate::intervals::{intervals, marks};
 use crate::moments::site;
@@ -92,7 +105,13 @@ impl<'a> Blueprint<'a> {
         flat: &Flat,
         counter: Counter,
         cell: usize,
-    ) -> Result<Lane<'a>, Memory> {
+    ) -> Result<Lane<'a>, Memory>
+        requires blueprint { IsBlueprint self.now }
+        requires counter { IsCounted self.now.array counter }
+        requires flat { flat.now ≡ self.now.array.timed.now.flat }
+        requires cell { cell < length (cells_of self.now.array) }
+        ensures { IfOk result (λ lane. IsBuiltBy self.now counter cell None (lane_of lane)) }
+    {
         let spots = self.cells.as_slice()[cell].pieces.spots.as_slice();
         let width = spots[0].var.width;
         let mut modes = List::new(alloc);
@@ -123,12 +142,13 @@ impl<'a> Blueprint<'a> {
     }
 
     // All lanes, in the order of their plans.
-    fn built(
-        &self,
-        alloc: Global,
-        flat: &Flat,
-        counter: Counter,
-    ) -> Result<List<Lane<'a>>, Memory> {
+    fn built(&self, alloc: Global, flat: &Flat, counter: Counter) -> Result<List<Lane<'a>>, Memory>
+        requires blueprint { IsBlueprint self.now }
+        requires counter { IsCounted self.now.array counter }
+        requires flat { flat.now ≡ self.now.array.timed.now.flat }
+        requires ranks { length (helpers_of self.now.array) < 18446744073709551615 }
+        ensures { IfOk result (AreBuilt self.now counter self.now.lanes) }
+    {
         let mut lanes = List::new(alloc);
         for plan in self.lanes.as_slice() {
             lanes.push(self.lane(alloc, flat, counter, plan)?)?;
@@ -137,7 +157,10 @@ impl<'a> Blueprint<'a> {
     }
 
     // The lanes of the values of these cells.
-    fn values(&self, alloc: Global, cells: &[u32]) -> Result<List<usize>, Memory> {
+    fn values(&self, alloc: Global, cells: &[u32]) -> Result<List<usize>, Memory>
+        requires { All (λ p. p < length self.now.cells) cells.now }
+        ensures { IfOk result (λ lanes. lanes ≡ map (lanes_of self.now.cells).of_value cells.now) }
+    {
         let mut lanes = List::new(alloc);
         for cell in cells {
             lanes.push(self.value_lane(*cell as usize))?;
@@ -146,7 +169,9 @@ impl<'a> Blueprint<'a> {
     }
 
     // The lanes of each cell.
-    fn cell_lanes(&self, alloc: Global) -> Result<List<CellLanes>, Memory> {
+    fn cell_lanes(&self, alloc: Global) -> Result<List<CellLanes>, Memory>
+        ensures { IfOk result (λ lanes. lanes ≡ map (λ plan. plan.lanes) self.now.cells) }
+    {
         let mut lanes = List::new(alloc);
         for plan in self.cells.as_slice() {
             lanes.push(plan.lanes)?;
@@ -180,7 +205,13 @@ pub(crate) fn program<'a>(
     timed: &'a Timed,
     cells: &'a Cells,
     counter: Counter,
-) -> Result<Program<'a>, Memory> {
+) -> Result<Program<'a>, Memory>
+    requires whole { IsWhole timed.now cells.now }
+    requires within { (f : Fault) → IsSpaceFault timed.now f → f ≡ fault.Memory }
+    requires counter { IsCounter counter }
+    requires apart { IsWithinCount timed.now cells.now counter }
+    ensures { IfOk result (λ program. IsProgrammed timed.now cells.now counter (program_of program)) }
+{
     let array = Array::new(alloc, timed, cells)?;
     let blueprint = plan_lanes(alloc, array, cells.cells.as_slice().len())?;
     from_blueprint(alloc, timed, cells, counter, &blueprint)

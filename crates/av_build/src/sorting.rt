@@ -1,12 +1,17 @@
 //! Cells sorted by what stands on them.
 
+ghost use Rattle.std.specs.Prelude.{◌↔◌, IsTrue, IfOk};
+ghost use Rattle.av_build.specs.inner.Lanes.{HaveSamePieces, AreKindsOf};
+
 use crate::blueprint::CellPlan;
 use av_base::{List, Memory};
 use av_space::Spot;
 use std::alloc::Global;
 
 // Whether the pieces on two cells are the same ones of one node.
-fn same_pieces(a: &[Spot<'_>], b: &[Spot<'_>]) -> bool {
+fn same_pieces(a: &[Spot<'_>], b: &[Spot<'_>]) -> bool
+    ensures { IsTrue result ↔ HaveSamePieces a.now b.now }
+{
     if a.len() != b.len() {
         return false;
     }
@@ -31,7 +36,9 @@ fn known(cells: &[CellPlan<'_>], firsts: &[usize], cell: &CellPlan<'_>) -> Optio
 
 /// Of each cell the number of its kind: cells of one kind have the same pieces of one node. Kinds are numbered by their first
 /// cells.
-pub(crate) fn kinds_of(alloc: Global, cells: &[CellPlan<'_>]) -> Result<List<usize>, Memory> {
+pub(crate) fn kinds_of(alloc: Global, cells: &[CellPlan<'_>]) -> Result<List<usize>, Memory>
+    ensures { IfOk result (AreKindsOf cells.now) }
+{
     let mut firsts: List<usize> = List::new(alloc);
     let mut kinds = List::new(alloc);
     for (number, cell) in cells.iter().enumerate() {

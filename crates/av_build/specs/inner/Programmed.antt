@@ -2,7 +2,7 @@
 use Rattle.std.specs.Prelude.{◌≡◌, ◌↔◌, ◌⊎◌, ℕ, suc, ◌+◌, ◌-◌, ◌^◌, ◌<◌, ◌≤◌, IsTrue, true, List, [], ◌∷◌, length, Option, Some, None, slice_get, if◌then◌else◌}
 use Rattle.std.specs.List.{AllByRecursion}
 use Rattle.av_tree.specs.Points.{Point}
-use Rattle.av_flat.specs.Trees.{Tree, Piece, Variable, reference}
+use Rattle.av_flat.specs.Trees.{Tree, Piece, Variable, FlatSystem, reference}
 use Rattle.av_flat.specs.Points.{has}
 use Rattle.av_flat.specs.declared.timed.Helper.{Helper}
 use Rattle.av_flat.specs.Nodes.{nodes, number_at}
@@ -42,10 +42,10 @@ pub record IsSiteFor (a : Array) (count : ℕ → ℕ) (at : Spot) (R : Point �
   pub all : (c : ℕ) (z : Point) → ComputesOn a at.cell c at.node z → IsTrue (has at.piece.domain z) → R z → P z c (source_in (count c) site)
 
 -- how the words of a place come in: of a reference with a helper from the helper's pipeline
-abbrev pub inlet_by : Array → (ℕ → ℕ) → Option Handing → Tree → Inlet
-inlet_by a pipe None (reference place m) = if computed_at (slice_get a.system.variables place) then Taps else Inputs
-inlet_by a pipe (Some h) (reference place m) = Pipe (pipe h.number)
-inlet_by a pipe h _ = Taps
+abbrev pub inlet_by : FlatSystem → (ℕ → ℕ) → Option Handing → Tree → Inlet
+inlet_by s pipe None (reference place m) = if computed_at (slice_get s.variables place) then Taps else Inputs
+inlet_by s pipe (Some h) (reference place m) = Pipe (pipe h.number)
+inlet_by s pipe h _ = Taps
 
 abbrev pub Always : Point → Type 0
 Always z = Unit {0}
@@ -61,7 +61,7 @@ IsPiped lanes p h _ site = Unit {0}
 
 -- a place of the spot; i counts references
 pub record IsPlaceSite (a : Array) (count : ℕ → ℕ) (lanes : Lanes) (first : ℕ) (at : Spot) (i : ℕ) (t : Tree) (site : Site) : Type 0 where
-  pub inlet : site.inlet ≡ inlet_by a (pipe_in lanes at.cell first) (handing_at a at i) t
+  pub inlet : site.inlet ≡ inlet_by a.system (pipe_in lanes at.cell first) (handing_at a at i) t
   pub width : site.width.bits ≡ read_width a.system at.variable.width (handing_at a at i) t
   pub piped : IsPiped lanes at.cell (handing_at a at i) t site
   pub reads : IsSiteFor a count at Always (λ z c source. IsPlaceSource a lanes at z c i t source) site
