@@ -2,7 +2,10 @@ pub mod Appended
 pub mod Pairwise
 pub mod IntervalLemmas
 pub mod SiteLemmas
+pub mod IntervalSteps
+pub mod SiteSteps
 pub mod OrderLemmas
+pub mod OrderSteps
 pub mod MomentLemmas
 pub mod BlueprintLemmas
 pub mod BlueprintSteps

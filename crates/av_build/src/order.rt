@@ -40,11 +40,11 @@ pub(crate) fn in_order(
 {
     let start = before_start(slots, counter);
     let mut order = List::new(alloc);
-    for k in start..slots.len() {
-        order.push(k)?;
+    for late in start..slots.len() {
+        order.push(late)?;
     }
-    for k in 0..start {
-        order.push(k)?;
+    for early in 0..start {
+        order.push(early)?;
     }
     Ok(order)
 }
