@@ -3,6 +3,7 @@ pub mod Pairwise
 pub mod IntervalLemmas
 pub mod SiteLemmas
 pub mod IntervalSteps
+pub mod ModeLemmas
 pub mod SiteSteps
 pub mod OrderLemmas
 pub mod OrderSteps
