@@ -10,6 +10,7 @@ pub mod OrderSteps
 pub mod MomentLemmas
 pub mod BlueprintLemmas
 pub mod BlueprintSteps
+pub mod HelperSearch
 pub mod Performed
 pub mod Lengths
 pub mod Owned
