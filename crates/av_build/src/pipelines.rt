@@ -1,10 +1,15 @@
 //! The lanes of helpers.
 
-ghost use Rattle.std.specs.Prelude.{◌≡◌, ◌<◌, Some, length, IfOk};
+ghost use Rattle.std.specs.Prelude.{◌≡◌, ◌<◌, ◌∷◌, [], Some, None, length, map, IfOk};
+ghost use Rattle.av_flat.specs.Trees.{view, view_system};
 ghost use Rattle.av_space.specs.Spots.{helpers_of};
-ghost use Rattle.av_kinds.specs.Written.{lane_of};
+ghost use Rattle.av_kinds.specs.Written.{work_of, mode_of, lane_of};
+ghost use Rattle.av_history.specs.Widths.{read_width};
 ghost use Rattle.av_build.specs.inner.Blueprints.{IsBlueprint, IsCounted};
-ghost use Rattle.av_build.specs.inner.Lanes.{HasPlan, IsBuiltBy};
+ghost use Rattle.av_build.specs.inner.Intervals.{intervals_by};
+ghost use Rattle.av_build.specs.inner.Lanes.{HasVariable, HasPlan, IsHelperOn, AreHelperModes, IsBuiltBy};
+ghost use Rattle.av_build.specs.inner.Moments.{site_by};
+ghost use Rattle.av_build.specs.inner.Programmed.{inlet_by, one_site};
 
 use crate::blueprint::{Blueprint, HelperPlan};
 use crate::intervals::{Mark, intervals};
@@ -18,7 +23,9 @@ use av_space::Spot;
 use std::alloc::Global;
 
 // The list of one site.
-fn one_site(alloc: Global, own: ProgramSite) -> Result<List<ProgramSite>, Memory> {
+fn one_site(alloc: Global, own: ProgramSite) -> Result<List<ProgramSite>, Memory>
+    ensures { IfOk result (λ sites. sites ≡ own ∷ []) }
+{
     let mut sites = List::new(alloc);
     sites.push(own)?;
     Ok(sites)
@@ -30,7 +37,10 @@ fn hand_mode<'a>(
     marks: &[Mark],
     tree: &'a Tree,
     source: ProgramSite,
-) -> Result<Mode<'a>, Memory> {
+) -> Result<Mode<'a>, Memory>
+    ensures intervals { IfOk result (λ mode. mode.intervals ≡ intervals_by marks.now) }
+    ensures work { IfOk result (λ mode. work_of mode.work ≡ one_site source (view tree.now)) }
+{
     Ok(Mode {
         intervals: intervals(alloc, marks)?,
         work: Work {
@@ -47,7 +57,11 @@ fn entry_site(
     own: Width,
     tree: &Tree,
     moments: &[Moment],
-) -> Result<ProgramSite, Memory> {
+) -> Result<ProgramSite, Memory>
+    requires { HasVariable (view_system flat.now) (view tree.now) }
+    ensures { IfOk result (λ site. (site ≡ site_by (inlet_by (view_system flat.now) (λ j. j) None (view tree.now)) site.width moments.now)
+        × (site.width.bits ≡ read_width (view_system flat.now) own.bits None (view tree.now))) }
+{
     site(
         alloc,
         inlet_of(flat, tree),
@@ -65,7 +79,13 @@ impl<'a> Blueprint<'a> {
         counter: Counter,
         spot: &Spot<'a>,
         helper: HelperPlan,
-    ) -> Result<List<Mode<'a>>, Memory> {
+    ) -> Result<List<Mode<'a>>, Memory>
+        requires blueprint { IsBlueprint self.now }
+        requires counter { IsCounted self.now.array counter }
+        requires flat { flat.now ≡ self.now.array.timed.now.flat }
+        requires helper { IsHelperOn self.now spot.now helper }
+        ensures { IfOk result (λ modes. AreHelperModes self.now counter spot.now helper (map mode_of modes)) }
+    {
         let pieces = &self.cells.as_slice()[spot.cell].pieces;
         let place = &pieces.sites.as_slice()[helper.piece].as_slice()[helper.site];
         let Some(handing) = &place.handing else {

@@ -1,12 +1,11 @@
 //! How the words of places come in, and how wide they are.
 
-ghost use Rattle.std.specs.Prelude.{ℕ, ◌≡◌, ◌<◌, None, Some, length, slice_get, IfOk};
+ghost use Rattle.std.specs.Prelude.{◌≡◌, None, Contains, IfOk};
 ghost use Rattle.av_flat.specs.Trees.{view, view_system};
-ghost use Rattle.av_space.specs.Spots.{cells_of};
 ghost use Rattle.av_history.specs.Widths.{read_width};
 ghost use Rattle.av_build.specs.inner.Blueprints.{IsBlueprint, seen};
-ghost use Rattle.av_build.specs.inner.Built.{HasPorts};
-ghost use Rattle.av_build.specs.inner.Lanes.{HasVariable};
+ghost use Rattle.av_build.specs.inner.Built.{IsPortWidth, HasPorts};
+ghost use Rattle.av_build.specs.inner.Lanes.{HasVariable, is_reference_at, HasReference, IsReferenceIn, HasPortPlace, IsPortPlace};
 ghost use Rattle.av_build.specs.inner.Programmed.{inlet_by};
 
 use crate::blueprint::{Blueprint, Pieces};
@@ -45,7 +44,9 @@ pub(crate) fn inlet_of(flat: &Flat, tree: &Tree) -> Inlet
 }
 
 // Whether the place is the reference with this number.
-fn is_reference(site: &Site<'_>, number: usize) -> bool {
+fn is_reference(site: &Site<'_>, number: usize) -> bool
+    ensures { result ≡ is_reference_at number site.now.place.site (view site.now.place.tree) }
+{
     match site.place.tree {
         Tree::Ref { .. } => site.place.site == number,
         _ => false,
@@ -53,7 +54,10 @@ fn is_reference(site: &Site<'_>, number: usize) -> bool {
 }
 
 // The reference with this number, among the places of a piece.
-fn reference_at<'a, 'b>(sites: &'b [Site<'a>], number: usize) -> &'b Site<'a> {
+fn reference_at<'a, 'b>(sites: &'b [Site<'a>], number: usize) -> &'b Site<'a>
+    requires { HasReference sites.now number }
+    ensures { IsReferenceIn sites.now number result.now }
+{
     for site in sites {
         if is_reference(site, number) {
             return site;
@@ -63,7 +67,10 @@ fn reference_at<'a, 'b>(sites: &'b [Site<'a>], number: usize) -> &'b Site<'a> {
 }
 
 // The reference of a port, among the pieces on its cell.
-fn reference_of<'a, 'b>(pieces: &'b Pieces<'a>, port: &InPort) -> &'b Site<'a> {
+fn reference_of<'a, 'b>(pieces: &'b Pieces<'a>, port: &InPort) -> &'b Site<'a>
+    requires { HasPortPlace pieces.now port.now }
+    ensures { IsPortPlace pieces.now port.now result.now }
+{
     let spots = pieces.spots.as_slice();
     for k in 0..spots.len() {
         if spots[k].number == port.piece as usize {
@@ -75,7 +82,12 @@ fn reference_of<'a, 'b>(pieces: &'b Pieces<'a>, port: &InPort) -> &'b Site<'a> {
 
 impl Blueprint<'_> {
     // The width of the words at a port.
-    fn port_width(&self, flat: &Flat, port: &InPort) -> Width {
+    fn port_width(&self, flat: &Flat, port: &InPort) -> Width
+        requires blueprint { IsBlueprint self.now }
+        requires flat { flat.now ≡ self.now.array.timed.now.flat }
+        requires port { Contains self.now.array.cells.now.inputs port.now }
+        ensures { IsPortWidth (seen self.now.array) port.now result }
+    {
         let pieces = &self.cells.as_slice()[port.cell as usize].pieces;
         let site = reference_of(pieces, port);
         width_read(flat, flat.width, site.place.tree)

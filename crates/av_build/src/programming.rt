@@ -6,12 +6,13 @@ ghost use Rattle.av_space.specs.declared.fault.SpaceFault.TheVariants as fault;
 ghost use Rattle.av_space.specs.SpaceFaults.{IsSpaceFault};
 ghost use Rattle.av_space.specs.Spots.{helpers_of, cells_of};
 ghost use Rattle.av_space.specs.Whole.{IsWhole};
-ghost use Rattle.av_kinds.specs.Counters.{IsCounter};
-ghost use Rattle.av_kinds.specs.Written.{lane_of, program_of};
+ghost use Rattle.av_kinds.specs.Counters.{IsCounter, count_in};
+ghost use Rattle.av_kinds.specs.Written.{work_of, mode_of, lane_of, program_of};
 ghost use Rattle.av_build.specs.ArrayPlans.{IsWithinCount};
-ghost use Rattle.av_build.specs.inner.Blueprints.{IsBlueprint, IsCounted, lanes_of};
+ghost use Rattle.av_build.specs.inner.Blueprints.{IsBlueprint, IsCounted, IsSpotOn, IsPlaceOn, HasHelper, lanes_of, spot_of};
 ghost use Rattle.av_build.specs.inner.Built.{IsProgrammed};
-ghost use Rattle.av_build.specs.inner.Lanes.{IsBuiltBy, AreBuilt};
+ghost use Rattle.av_build.specs.inner.Lanes.{IsPipeSite, IsValueSite, IsValueWork, HasPiece, IsValueMode, IsPlanOn, IsBuiltBy, AreBuilt};
+ghost use Rattle.av_build.specs.inner.Orders.{IsInOrder};
 
 use crate::blueprint::{Blueprint, LanePlan, plan_lanes};
 use crate::intervals::{intervals, marks};
@@ -27,7 +28,11 @@ use std::alloc::Global;
 
 impl<'a> Blueprint<'a> {
     // The word of a helper's lane on its own cell.
-    fn pipe_site(&self, alloc: Global, spot: &Spot<'a>, helper: usize) -> ProgramSite {
+    fn pipe_site(&self, alloc: Global, spot: &Spot<'a>, helper: usize) -> ProgramSite
+        requires blueprint { IsBlueprint self.now }
+        requires helper { HasHelper self.now spot.now.cell helper }
+        ensures { IsPipeSite self.now (spot_of spot.now) helper result }
+    {
         let lane = self.helper_lane(spot.cell, helper);
         let first = self.cells.as_slice()[spot.cell].lanes.first;
         ProgramSite {
@@ -47,7 +52,14 @@ impl<'a> Blueprint<'a> {
         order: &[usize],
         spot: &Spot<'a>,
         place: &Site<'a>,
-    ) -> Result<ProgramSite, Memory> {
+    ) -> Result<ProgramSite, Memory>
+        requires blueprint { IsBlueprint self.now }
+        requires counter { IsCounted self.now.array counter }
+        requires flat { flat.now ≡ self.now.array.timed.now.flat }
+        requires place { IsPlaceOn self.now spot.now place.now }
+        requires order { IsInOrder (count_in counter) spot.now.slots order.now }
+        ensures { IfOk result (IsValueSite self.now counter spot.now place.now) }
+    {
         if let Some(handing) = &place.handing {
             return Ok(self.pipe_site(alloc, spot, handing.number));
         }
@@ -65,7 +77,13 @@ impl<'a> Blueprint<'a> {
         counter: Counter,
         spot: &Spot<'a>,
         places: &[Site<'a>],
-    ) -> Result<Work<'a>, Memory> {
+    ) -> Result<Work<'a>, Memory>
+        requires blueprint { IsBlueprint self.now }
+        requires counter { IsCounted self.now.array counter }
+        requires flat { flat.now ≡ self.now.array.timed.now.flat }
+        requires spot { IsSpotOn self.now spot.now places.now }
+        ensures { IfOk result (λ work. IsValueWork self.now counter spot.now (work_of work)) }
+    {
         let order = in_order(alloc, spot.slots.as_slice(), counter)?;
         let mut sites = List::new(alloc);
         for place in places {
@@ -85,7 +103,13 @@ impl<'a> Blueprint<'a> {
         counter: Counter,
         cell: usize,
         number: usize,
-    ) -> Result<Mode<'a>, Memory> {
+    ) -> Result<Mode<'a>, Memory>
+        requires blueprint { IsBlueprint self.now }
+        requires counter { IsCounted self.now.array counter }
+        requires flat { flat.now ≡ self.now.array.timed.now.flat }
+        requires piece { HasPiece self.now cell number }
+        ensures { IfOk result (λ mode. IsValueMode self.now counter cell number (mode_of mode)) }
+    {
         let pieces = &self.cells.as_slice()[cell].pieces;
         let spot = &pieces.spots.as_slice()[number];
         let places = pieces.sites.as_slice()[number].as_slice();
@@ -134,7 +158,14 @@ impl<'a> Blueprint<'a> {
         flat: &Flat,
         counter: Counter,
         plan: &LanePlan,
-    ) -> Result<Lane<'a>, Memory> {
+    ) -> Result<Lane<'a>, Memory>
+        requires blueprint { IsBlueprint self.now }
+        requires counter { IsCounted self.now.array counter }
+        requires flat { flat.now ≡ self.now.array.timed.now.flat }
+        requires plan { IsPlanOn self.now plan.now.cell plan.now.helper }
+        requires ranks { length (helpers_of self.now.array) < 18446744073709551615 }
+        ensures { IfOk result (λ lane. IsBuiltBy self.now counter plan.now.cell plan.now.helper (lane_of lane)) }
+    {
         match plan.helper {
             Some(helper) => self.pipeline(alloc, flat, counter, plan.cell, helper),
             None => self.value(alloc, flat, counter, plan.cell),
@@ -187,7 +218,14 @@ fn from_blueprint<'a>(
     cells: &Cells,
     counter: Counter,
     blueprint: &Blueprint<'a>,
-) -> Result<Program<'a>, Memory> {
+) -> Result<Program<'a>, Memory>
+    requires blueprint { IsBlueprint blueprint.now }
+    requires timed { timed.now ≡ blueprint.now.array.timed.now }
+    requires cells { cells.now ≡ blueprint.now.array.cells.now }
+    requires counter { IsCounted blueprint.now.array counter }
+    requires ranks { length (helpers_of blueprint.now.array) < 18446744073709551615 }
+    ensures { IfOk result (λ program. IsProgrammed timed.now cells.now counter (program_of program)) }
+{
     let flat = &timed.flat;
     Ok(Program {
         inputs: blueprint.port_widths(alloc, flat, cells.inputs.as_slice())?,

@@ -1,7 +1,7 @@
 //! Cells sorted by what stands on them.
 
-ghost use Rattle.std.specs.Prelude.{◌↔◌, IsTrue, IfOk};
-ghost use Rattle.av_build.specs.inner.Lanes.{HaveSamePieces, AreKindsOf};
+ghost use Rattle.std.specs.Prelude.{◌↔◌, ◌<◌, IsTrue, All, length, IfOk, MatchOption};
+ghost use Rattle.av_build.specs.inner.Lanes.{HaveSamePieces, HasNoKind, IsKind, AreKindsOf};
 
 use crate::blueprint::CellPlan;
 use av_base::{List, Memory};
@@ -24,7 +24,10 @@ fn same_pieces(a: &[Spot<'_>], b: &[Spot<'_>]) -> bool
 }
 
 // The number of the kind that the cell is of, where one of the first cells of kinds is of it.
-fn known(cells: &[CellPlan<'_>], firsts: &[usize], cell: &CellPlan<'_>) -> Option<usize> {
+fn known(cells: &[CellPlan<'_>], firsts: &[usize], cell: &CellPlan<'_>) -> Option<usize>
+    requires { All (λ first. first < length cells.now) firsts.now }
+    ensures { MatchOption result (HasNoKind cells.now firsts.now cell.now) (IsKind cells.now firsts.now cell.now) }
+{
     for (kind, first) in firsts.iter().enumerate() {
         let other = &cells[*first];
         if same_pieces(other.pieces.spots.as_slice(), cell.pieces.spots.as_slice()) {

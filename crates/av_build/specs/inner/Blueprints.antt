@@ -118,12 +118,20 @@ pub record HasHelper (b : Blueprint) (p j : ℕ) : Type 0 where
   pub is_helper : slice_get (helpers_on plan.pieces) index ≡ Some helper
   pub number : helper.number ≡ j
 
--- the piece with the number k on the cell p, and its places
-pub record IsSpotAt (b : Blueprint) (p k : ℕ) (at : SpotMade) (sites : List Place) : Type 0 where
+-- the piece is one of those on its cell, with its places
+pub record IsSpotOn (b : Blueprint) (at : SpotMade) (sites : List Place) : Type 0 where
   pub plan : CellPlan
-  pub is_plan : slice_get b.cells p ≡ Some plan
-  pub is_spot : slice_get plan.pieces.spots k ≡ Some at
-  pub are_sites : slice_get plan.pieces.sites k ≡ Some sites
+  pub is_plan : slice_get b.cells at.cell ≡ Some plan
+  pub number : ℕ
+  pub is_spot : slice_get plan.pieces.spots number ≡ Some at
+  pub are_sites : slice_get plan.pieces.sites number ≡ Some sites
+
+-- the place is one of such a piece
+pub record IsPlaceOn (b : Blueprint) (at : SpotMade) (place : Place) : Type 0 where
+  pub sites : List Place
+  pub spot_on : IsSpotOn b at sites
+  pub index : ℕ
+  pub is_place : slice_get sites index ≡ Some place
 
 -- ---- what the counter tells apart
 
