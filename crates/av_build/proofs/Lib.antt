@@ -17,3 +17,6 @@ pub mod Owned
 pub mod FineLanes
 pub mod NotLater
 pub mod PlanShows
+pub mod Joined
+pub mod Connected
+pub mod Headline
