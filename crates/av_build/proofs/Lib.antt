@@ -7,10 +7,12 @@ pub mod ModeLemmas
 pub mod SiteSteps
 pub mod OrderLemmas
 pub mod OrderSteps
+pub mod AloneLemmas
 pub mod MomentLemmas
 pub mod BlueprintLemmas
 pub mod BlueprintSteps
 pub mod HelperSearch
+pub mod ValueLanes
 pub mod Performed
 pub mod Lengths
 pub mod Owned

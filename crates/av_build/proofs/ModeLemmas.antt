@@ -1,5 +1,5 @@
 -- The intervals of marks are active at the numbers of just those computations that are marked.
-use Rattle.std.proofs.Common.{◌≡◌, ℕ, zero, suc, ◌<◌, ◌≤◌, ◌↔◌, ◌⊎◌, inl, inr, List, [], ◌∷◌, length, refl, sym, ap, subst, ◌∙◌, arith, IsTrue, true, Some}
+use Rattle.std.proofs.Common.{◌≡◌, ℕ, zero, suc, ◌<◌, ◌≤◌, ◌↔◌, List, [], ◌∷◌, length, refl, sym, ap, subst, ◌∙◌, arith, IsTrue, true, Some}
 use Rattle.std.specs.Prelude.{slice_get}
 use Rattle.std.specs.List.{list_any}
 use Rattle.av_base.proofs.Lists.{some_is, there_is, each_by_place}
@@ -12,7 +12,7 @@ use Rattle.av_history.specs.Performing.{Array, ComputesOn}
 use Rattle.av_build.specs.declared.intervals.Mark.{Mark}
 use Rattle.av_build.specs.inner.Intervals.{intervals_by}
 use Rattle.av_build.specs.inner.Orders.{IsInOrder, IsAt, AreMarks}
-use Rattle.av_build.specs.inner.Programmed.{IsModeFor}
+use Rattle.av_build.specs.inner.Programmed.{IsLatest, IsModeFor}
 use Rattle.av_build.proofs.IntervalLemmas.{AreAbove, AreRising, IsLastUpTo, holds_there, there_holds, ends_are}
 use Rattle.av_build.proofs.IntervalSteps.{slot_of, rising, mark_of}
 
@@ -55,7 +55,7 @@ module _ (count : ℕ → ℕ) (slots : List Slot) (order : List ℕ) (in_order 
         subst (λ (n : ℕ). list_any (has_number n) (intervals_by marks) ≡ true) own.3 (there_holds marks up own.0 own.1 own.2 (own.4.1 holds))
 
     -- at a number at which it is active, the last computation up to there is marked
-    pub record IsLatest (x : ℕ) : Type 0 where
+    pub record IsLatestSlot (x : ℕ) : Type 0 where
       pub index : ℕ
       pub slot : Slot
       pub is_slot : slice_get slots index ≡ Some slot
@@ -63,7 +63,7 @@ module _ (count : ℕ → ℕ) (slots : List Slot) (order : List ℕ) (in_order 
       pub last : (k : ℕ) (other : Slot) → slice_get slots k ≡ Some other → count other.cycle ≤ x → count other.cycle ≤ count slot.cycle
       pub marked : P slot
 
-    pub latest : (x : ℕ) → list_any (has_number x) (intervals_by marks) ≡ true → IsLatest x
+    pub latest : (x : ℕ) → list_any (has_number x) (intervals_by marks) ≡ true → IsLatestSlot x
     latest x e =
         let found = holds_there marks up x e in
         let own = slot_of count slots order P in_order marks are found.1.index found.0 found.1.is_there in
@@ -82,38 +82,10 @@ module _ (count : ℕ → ℕ) (slots : List Slot) (order : List ℕ) (in_order 
           marked = said.1.0 found.2;
         }
 
-  -- one computation for each number
-  pub one_slot : (j k : ℕ) (s t : Slot) → slice_get slots j ≡ Some s → slice_get slots k ≡ Some t → count s.cycle ≡ count t.cycle → j ≡ k
-  one_slot j k s t is_s is_t e =
-      let x = in_order.all j (in_range slots j s is_s) in
-      let y = in_order.all k (in_range slots k t is_t) in
-      elim (compared x.0 y.0) [
-        | inl l ↦ absurd (let r = in_order.rises x.0 y.0 j k s t l x.1 y.1 is_s is_t in omega (arith, r, e))
-        | inr ge ↦ elim ge [
-          | inl l ↦ absurd (let r = in_order.rises y.0 x.0 k j t s l y.1 x.1 is_t is_s in omega (arith, r, e))
-          | inr same ↦ some_is j k (sym x.1 ∙ ap (λ (i : ℕ). slice_get order i) same ∙ y.1)
-        ]
-      ]
-    where
-      compared : (a b : ℕ) → (a < b) ⊎ ((b < a) ⊎ (a ≡ b))
-      compared a b = grind arith
-
-  -- where two modes are active at one number, one computation is marked in both
-  module _ (P Q : Slot → Type 0) (ms ns : List Mark) (are_ms : AreMarks count slots order P (length order) ms) (are_ns : AreMarks count slots order Q (length order) ns) where
-    pub both_marked : (x : ℕ) → list_any (has_number x) (intervals_by ms) ≡ true → list_any (has_number x) (intervals_by ns) ≡ true → (k : ℕ) × (slot : Slot) × (slice_get slots k ≡ Some slot) × P slot × Q slot
-    both_marked x e f =
-        let a = latest P ms are_ms x e in
-        let b = latest Q ns are_ns x f in
-        let le = a.last b.index b.slot b.is_slot b.low in
-        let ge = b.last a.index a.slot a.is_slot a.low in
-        let place = one_slot b.index a.index b.slot a.slot b.is_slot a.is_slot (omega (arith, le, ge)) in
-        let same : b.slot ≡ a.slot = some_is b.slot a.slot (sym b.is_slot ∙ ap (λ (k : ℕ). slice_get slots k) place ∙ a.is_slot) in
-        (a.index, a.slot, a.is_slot, a.marked, subst Q same b.marked)
-
 -- ---- the mode
 
 module _ (a : Array) (count : ℕ → ℕ) (p : ℕ) (slots : List Slot) (order : List ℕ) (in_order : IsInOrder count slots order) (R Q : ℕ → Point → Type 0) (P : Slot → Type 0)
-    (each : (k : ℕ) (slot : Slot) → slice_get slots k ≡ Some slot → (n : ℕ) × ComputesOn a p slot.cycle n slot.point)
+    (each : (k : ℕ) (slot : Slot) → slice_get slots k ≡ Some slot → (n : ℕ) × ComputesOn a p slot.cycle n slot.point × R n slot.point)
     (all : (c n : ℕ) (z : Point) → ComputesOn a p c n z → R n z → (k : ℕ) × (slice_get slots k ≡ Some (record { cycle = c; point = z })))
     (same : (c n : ℕ) (z : Point) → ComputesOn a p c n z → R n z → P (record { cycle = c; point = z }) ↔ Q n z) where
   pub mode_for : (marks : List Mark) → AreMarks count slots order P (length order) marks → (work : Work) → IsModeFor a count p R Q (record { intervals = intervals_by marks; work = work })
@@ -123,6 +95,19 @@ module _ (a : Array) (count : ℕ → ℕ) (p : ℕ) (slots : List Slot) (order 
         let slot : Slot = record { cycle = c; point = z } in
         let told = same c n z computes read in
         ((λ e. told.0 (if_active count slots order in_order P marks are k.0 slot k.1 e)), (λ q. active_if count slots order in_order P marks are k.0 slot k.1 (told.1 q)));
+    latest = λ x e.
+        let l = latest count slots order in_order P marks are x e in
+        let own = each l.index l.slot l.is_slot in
+        record {
+          cycle = l.slot.cycle;
+          node = own.0;
+          point = l.slot.point;
+          computes = own.1;
+          read = own.2;
+          holds = (same l.slot.cycle own.0 l.slot.point own.1 own.2).0 l.marked;
+          low = l.low;
+          last = λ c n z computes read le. let k = all c n z computes read in l.last k.0 (record { cycle = c; point = z }) k.1 le;
+        };
     ends = ends_are Ending marks (each_by_place (λ (m : Mark). Ending m.number) marks (λ i m is. ending i m is));
   }
     where

@@ -74,10 +74,22 @@ pub record IsWorkFor (a : Array) (count : ℕ → ℕ) (lanes : Lanes) (first : 
   pub many : length work.sites ≡ site_count at.piece.tree
   pub sites : EachPlace (λ k i t. (site : Site) × (slice_get work.sites k ≡ Some site) × IsPlaceSite a count lanes first at i t site) 0 0 at.piece.tree
 
--- the mode is active at the numbers of just those computations on the cell that Q holds of, among those that R holds of, and its intervals
--- begin and end with numbers of computations
+-- of the computations of which R holds, that with the greatest number up to this one; and Q holds of it
+pub record IsLatest (a : Array) (count : ℕ → ℕ) (p : ℕ) (R Q : ℕ → Point → Type 0) (x : ℕ) : Type 0 where
+  pub cycle : ℕ
+  pub node : ℕ
+  pub point : Point
+  pub computes : ComputesOn a p cycle node point
+  pub read : R node point
+  pub holds : Q node point
+  pub low : count cycle ≤ x
+  pub last : (c n : ℕ) (z : Point) → ComputesOn a p c n z → R n z → count c ≤ x → count c ≤ count cycle
+
+-- the mode is active at the numbers of just those computations on the cell that Q holds of, among those that R holds of, and between two of
+-- them with one number after the other's; its intervals begin and end with numbers of computations
 pub record IsModeFor (a : Array) (count : ℕ → ℕ) (p : ℕ) (R Q : ℕ → Point → Type 0) (mode : Mode) : Type 0 where
   pub numbers : (c n : ℕ) (z : Point) → ComputesOn a p c n z → R n z → IsTrue (is_active (count c) mode) ↔ Q n z
+  pub latest : (x : ℕ) → IsTrue (is_active x mode) → IsLatest a count p R Q x
   pub ends : AllByRecursion (λ (i : Interval). ((c : ℕ) × (n : ℕ) × (z : Point) × ComputesOn a p c n z × (i.first ≡ count c)) × ((c : ℕ) × (n : ℕ) × (z : Point) × ComputesOn a p c n z × (i.last ≡ count c))) mode.intervals
 
 -- no two modes are active at one number
