@@ -9,10 +9,16 @@ pub mod OrderLemmas
 pub mod OrderSteps
 pub mod AloneLemmas
 pub mod MomentLemmas
+pub mod HandSteps
 pub mod BlueprintLemmas
 pub mod BlueprintSteps
 pub mod HelperSearch
 pub mod ValueLanes
+pub mod SpotNodes
+pub mod CellUses
+pub mod OriginCells
+pub mod PlaceSources
+pub mod PlaceSites
 pub mod Performed
 pub mod Lengths
 pub mod Owned
