@@ -1,19 +1,16 @@
 -- The lanes of a blueprint by cell and helper.
-use Rattle.std.proofs.Common.{◌≡◌, ℕ, zero, suc, ◌+◌, ◌<◌, ◌≤◌, ◌⊎◌, inl, inr, List, [], ◌∷◌, ◌++◌, length, map, refl, sym, ap, subst, ◌∙◌, arith, Bool, true, false, if◌then◌else◌, Option, Some, None, append_assoc, length-append}
+use Rattle.std.proofs.Common.{◌≡◌, ℕ, zero, suc, ◌+◌, ◌<◌, ◌≤◌, ◌⊎◌, inl, inr, List, [], ◌∷◌, ◌++◌, length, map, refl, sym, ap, subst, ◌∙◌, arith, Bool, true, false, if◌then◌else◌, Some, None, append_assoc, length-append}
 use Rattle.std.specs.Prelude.{slice_get, nat_eq}
-use Rattle.std.proofs.lemmas.Bool.{cases_lt}
 use Rattle.std.proofs.lemmas.List.{length-map}
 use Rattle.av_base.proofs.Lists.{get_cases, get_first, get_mapped, some_is}
 use Rattle.av_base.proofs.Pieces.{same_eq}
-use Rattle.av_space.specs.declared.spots.Site.{Site as Place}
 use Rattle.av_space.proofs.ByPlace.{from_map}
-use Rattle.av_space.proofs.Elements.{in_range}
 use Rattle.av_space.proofs.Helpers.{equal}
 use Rattle.av_build.specs.declared.blueprint.CellPlan.{CellPlan}
 use Rattle.av_build.specs.declared.blueprint.HelperPlan.{HelperPlan}
 use Rattle.av_build.specs.declared.blueprint.LanePlan.{LanePlan}
 use Rattle.av_build.specs.declared.blueprint.Pieces.{Pieces}
-use Rattle.av_build.specs.inner.Blueprints.{site_helpers, helpers_from, helpers_on, of_helper, own_lanes, lanes_from, AreNumbered, helper_place}
+use Rattle.av_build.specs.inner.Blueprints.{helpers_on, of_helper, own_lanes, lanes_from, AreNumbered, helper_place}
 use Rattle.av_build.proofs.Appended.{get_right}
 
 -- ---- the lanes of one cell

@@ -10,8 +10,8 @@ use Rattle.av_build.specs.declared.blueprint.CellPlan.{CellPlan}
 use Rattle.av_build.specs.declared.blueprint.HelperPlan.{HelperPlan}
 use Rattle.av_build.specs.declared.blueprint.LanePlan.{LanePlan}
 use Rattle.av_build.specs.declared.blueprint.Pieces.{Pieces}
-use Rattle.av_build.specs.inner.Blueprints.{with_helper, site_helpers, helpers_from, helpers_on, of_helper, own_lanes, lanes_from, ArePieces, AreCellPlans}
-use Rattle.av_build.proofs.BlueprintLemmas.{lanes_more, numbered_more, end_is, end_of}
+use Rattle.av_build.specs.inner.Blueprints.{with_helper, site_helpers, helpers_from, helpers_on, of_helper, own_lanes, ArePieces, AreCellPlans}
+use Rattle.av_build.proofs.BlueprintLemmas.{lanes_more, numbered_more, end_is}
 
 -- ---- places
 

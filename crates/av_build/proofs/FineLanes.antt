@@ -1,19 +1,17 @@
 -- The lanes of an array's program are lanes of a program: their sites have sources that are there, and their modes begin and end with numbers
 -- of the counter.
-use Rattle.std.proofs.Common.{◌≡◌, ◌⊎◌, ℕ, zero, suc, ◌+◌, ◌-◌, ◌^◌, ◌<◌, ◌≤◌, List, [], ◌∷◌, length, refl, sym, subst, arith, ◌∙◌, ap, Bool, true, false, IsTrue, if◌then◌else◌, Option, Some, None, inl, inr}
+use Rattle.std.proofs.Common.{◌≡◌, ◌⊎◌, ℕ, suc, ◌+◌, ◌-◌, ◌^◌, ◌<◌, ◌≤◌, List, [], ◌∷◌, length, refl, sym, subst, arith, ◌∙◌, ap, Bool, true, false, IsTrue, if◌then◌else◌, Option, Some, None, inl, inr}
 use Rattle.std.specs.Prelude.{slice_get}
-use Rattle.std.specs.List.{AllByRecursion, list_any}
+use Rattle.std.specs.List.{AllByRecursion}
 use Rattle.std.proofs.lemmas.Bool.{cases_lt}
 use Rattle.std.proofs.lemmas.Nat.{pow_pos}
-use Rattle.av_base.specs.declared.width.Width.{Width}
 use Rattle.av_base.specs.Words.{IsWord}
 use Rattle.av_base.proofs.Lists.{each_weaker, some_is}
 use Rattle.av_base.proofs.Widths.{width_is}
 use Rattle.av_affine.specs.declared.map.Map.{Map}
-use Rattle.av_affine.specs.Maps.{image}
 use Rattle.av_tree.specs.Points.{Point}
 use Rattle.av_flat.specs.declared.tree.Choice.{Choice}
-use Rattle.av_flat.specs.Trees.{Tree, Piece, Variable, reference, constant, binary, choice, pick}
+use Rattle.av_flat.specs.Trees.{Tree, reference, constant, binary, choice, pick}
 use Rattle.av_flat.specs.Points.{has}
 use Rattle.av_flat.specs.Values.{picked}
 use Rattle.av_flat.specs.Nodes.{is_node, nodes, number_at}
@@ -27,7 +25,7 @@ use Rattle.av_kinds.specs.declared.program.Inlet.{Inlet}
 use Rattle.av_kinds.specs.declared.program.Inlet.TheVariants.{Inputs, Taps, Pipe}
 use Rattle.av_kinds.specs.declared.program.Site.{Site}
 use Rattle.av_kinds.specs.declared.program.CellLanes.{CellLanes}
-use Rattle.av_kinds.specs.Programs.{source_in, site_count, Work, Lane, Program, IsSource, IsInletOf, IsSite, FitsTree}
+use Rattle.av_kinds.specs.Programs.{source_in, site_count, Work, Program, IsSource, IsInletOf, IsSite, FitsTree}
 use Rattle.av_history.specs.Widths.{width_at, read_width}
 use Rattle.av_history.specs.Places.{EachPlace}
 use Rattle.av_history.specs.Performing.{Array, ComputesOn, Lanes, Spot, handing_at, IsHelpedSource, IsPlaceSource}

@@ -1,5 +1,5 @@
 -- The moments of a place with a helper, one computation after another.
-use Rattle.std.proofs.Common.{◌≡◌, ℕ, ◌+◌, ◌×◌, inl, inr, List, [], ◌∷◌, ◌++◌, length, sym, subst, IsTrue, arith}
+use Rattle.std.proofs.Common.{◌≡◌, ℕ, ◌+◌, ◌×◌, inl, inr, List, [], sym, subst, IsTrue}
 use Rattle.av_tree.specs.Points.{Point}
 use Rattle.av_flat.specs.Trees.{Tree}
 use Rattle.av_flat.specs.Points.{has}
@@ -8,8 +8,6 @@ use Rattle.av_space.specs.declared.layout.Slot.{Slot}
 use Rattle.av_space.specs.Taps.{Handing}
 use Rattle.av_history.specs.Performing.{Array, Lanes, Spot}
 use Rattle.av_kinds.specs.declared.program.Source.{Source}
-use Rattle.av_build.specs.declared.intervals.Mark.{Mark}
-use Rattle.av_build.specs.declared.moments.Moment.{Moment}
 use Rattle.av_build.specs.declared.moments.HandMoments.{HandMoments}
 use Rattle.av_build.specs.inner.Orders.{IsInOrder, IsAt, AreMarks, AreMomentsTo}
 use Rattle.av_build.specs.inner.Sources.{IsEntrySource, IsHandedSource, AreHandMomentsTo, AddsHandMoment}

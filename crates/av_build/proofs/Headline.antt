@@ -6,7 +6,7 @@ use Rattle.std.proofs.lemmas.List.{length-map}
 use Rattle.std.proofs.lemmas.List.Elements.{All-contains, All-from_recursion, recursion_from_All}
 use Rattle.av_base.specs.declared.width.Width.{Width}
 use Rattle.av_base.proofs.Among.{among_at}
-use Rattle.av_base.proofs.Lists.{some_is, each_by_place}
+use Rattle.av_base.proofs.Lists.{each_by_place}
 use Rattle.av_tree.specs.Values.{Assignment}
 use Rattle.av_flat.specs.declared.timed.Timed.{Timed}
 use Rattle.av_flat.specs.Trees.{Variable, view_system}
@@ -25,20 +25,19 @@ use Rattle.av_space.specs.declared.cells.Cells.{Cells}
 use Rattle.av_space.specs.declared.cells.InPort.{InPort}
 use Rattle.av_space.specs.Listings.{input_name, output_name}
 use Rattle.av_space.specs.Ports.{IsPort}
-use Rattle.av_space.specs.Whole.{IsWhole, ArePortsOf, HasWholeListing}
+use Rattle.av_space.specs.Whole.{ArePortsOf, HasWholeListing}
 use Rattle.av_space.proofs.Elements.{in_range}
 use Rattle.av_space.proofs.Streams.{presentable}
 use Rattle.av_kinds.specs.declared.counter.Counter.{Counter}
 use Rattle.av_kinds.specs.declared.counter.Counter.TheVariants.{Cycles}
 use Rattle.av_kinds.specs.declared.planning.Modules.{Modules}
-use Rattle.av_kinds.specs.Counters.{count_in}
-use Rattle.av_kinds.specs.Programs.{Lane, Program}
-use Rattle.av_kinds.specs.Tops.{port, numbered_ports, width_in, output_widths}
+use Rattle.av_kinds.specs.Programs.{Program}
+use Rattle.av_kinds.specs.Tops.{numbered_ports, width_in, output_widths}
 use Rattle.av_kinds.specs.Netlists.{plan_of, AreNetlistsOf}
 use Rattle.av_history.specs.Problems.{number_count}
-use Rattle.av_history.specs.Widths.{width_of, width_at}
+use Rattle.av_history.specs.Widths.{width_of}
 use Rattle.av_build.specs.Later.{later}
-use Rattle.av_build.specs.ArrayPlans.{IsArrayPlan, ShowsSolution, IsPlanOf, IsCountingPlan, HasOnePoint}
+use Rattle.av_build.specs.ArrayPlans.{ShowsSolution, IsPlanOf, IsCountingPlan, HasOnePoint}
 use Rattle.av_build.specs.inner.Built.{array_of, IsProgrammed}
 use Rattle.av_build.proofs.Connected.{arranged_array, one_computation}
 use Rattle.av_build.proofs.NotLater.{not_later}

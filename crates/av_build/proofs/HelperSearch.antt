@@ -1,7 +1,6 @@
 -- The lane of a helper on a cell is the first one that is of the helper.
-use Rattle.std.proofs.Common.{◌≡◌, ℕ, zero, suc, ◌+◌, ◌-◌, ◌<◌, ◌≤◌, ◌⊎◌, inl, inr, List, [], ◌∷◌, length, refl, sym, ap, subst, ◌∙◌, arith, Bool, true, false, Option, Some, None}
+use Rattle.std.proofs.Common.{◌≡◌, ℕ, zero, suc, ◌+◌, ◌-◌, ◌<◌, ◌≤◌, List, [], ◌∷◌, length, refl, sym, ap, subst, ◌∙◌, arith, true, false, Option, Some}
 use Rattle.std.specs.Prelude.{slice_get, nat_eq}
-use Rattle.std.proofs.lemmas.Bool.{cases_lt}
 use Rattle.av_base.proofs.Lists.{some_is}
 use Rattle.av_base.proofs.Pieces.{same_eq}
 use Rattle.av_space.proofs.Elements.{in_range}
@@ -10,8 +9,8 @@ use Rattle.av_build.specs.declared.blueprint.Blueprint.{Blueprint}
 use Rattle.av_build.specs.declared.blueprint.CellPlan.{CellPlan}
 use Rattle.av_build.specs.declared.blueprint.HelperPlan.{HelperPlan}
 use Rattle.av_build.specs.declared.blueprint.LanePlan.{LanePlan}
-use Rattle.av_build.specs.inner.Blueprints.{helpers_on, of_helper, own_lanes, lanes_from, is_of_helper, IsBlueprint, HasHelper, helper_place, helper_in, lanes_of}
-use Rattle.av_build.proofs.BlueprintLemmas.{helper_lane_at, value_lane_at, own_cases, lane_there, value_of, place_found, place_is}
+use Rattle.av_build.specs.inner.Blueprints.{helpers_on, of_helper, is_of_helper, IsBlueprint, HasHelper, helper_place, helper_in, lanes_of}
+use Rattle.av_build.proofs.BlueprintLemmas.{helper_lane_at, lane_there, value_of, place_found, place_is}
 
 module _ (b : Blueprint) (is : IsBlueprint b) (p j : ℕ) (has : HasHelper b p j) where
   plan : CellPlan

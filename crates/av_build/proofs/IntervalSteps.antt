@@ -1,17 +1,14 @@
 -- Intervals and marks, one mark after another.
 use Rattle.std.proofs.Common.{◌≡◌, ℕ, zero, suc, ◌+◌, ◌<◌, ◌≤◌, ◌↔◌, inl, inr, List, [], ◌∷◌, ◌++◌, length, drop, refl, sym, ap, subst, ◌∙◌, arith, Bool, true, false, IsTrue, if◌then◌else◌, Option, Some, None, append_assoc, length-append, get_or}
 use Rattle.std.specs.Prelude.{slice_get}
-use Rattle.std.specs.List.{AllByRecursion, list_any}
-use Rattle.std.proofs.lemmas.Bool.{cases_lt}
-use Rattle.std.proofs.lemmas.List.{append-nil}
 use Rattle.av_base.proofs.Lists.{get_cases, some_is, each_by_place, there_is, next_item, nothing_left}
 use Rattle.av_space.specs.declared.layout.Slot.{Slot}
 use Rattle.av_space.proofs.Elements.{in_range}
 use Rattle.av_kinds.specs.declared.program.Interval.{Interval}
 use Rattle.av_build.specs.declared.intervals.Mark.{Mark}
-use Rattle.av_build.specs.inner.Intervals.{extended, closed, intervals_from, intervals_by}
+use Rattle.av_build.specs.inner.Intervals.{extended, closed, intervals_from}
 use Rattle.av_build.specs.inner.Orders.{IsInOrder, IsAt, AreMarks}
-use Rattle.av_build.proofs.IntervalLemmas.{AreAbove, AreRising}
+use Rattle.av_build.proofs.IntervalLemmas.{AreRising}
 
 -- ---- intervals
 

@@ -1,5 +1,5 @@
 -- What a legal system gives to its array.
-use Rattle.std.proofs.Common.{◌≡◌, ℕ, ◌+◌, ◌<◌, ◌≤◌, List, [], length, sym, subst, ◌∙◌, ap, true, Some, All, ◌⊎◌, inl, inr}
+use Rattle.std.proofs.Common.{◌≡◌, ℕ, ◌+◌, ◌<◌, length, sym, subst, ◌∙◌, ap, true, Some, All, ◌⊎◌, inl, inr}
 use Rattle.std.specs.Prelude.{slice_get, nat_eq}
 use Rattle.av_tree.specs.Points.{Point}
 use Rattle.av_poly.specs.Points.{Set}

@@ -1,5 +1,5 @@
 -- The lines of lanes are as long as the links that read them want.
-use Rattle.std.proofs.Common.{◌≡◌, ℕ, zero, suc, ◌+◌, ◌<◌, ◌≤◌, List, [], ◌∷◌, map, refl, sym, subst, arith, ap, Bool, true, false, if◌then◌else◌, Option, Some, None}
+use Rattle.std.proofs.Common.{◌≡◌, ℕ, zero, suc, ◌<◌, ◌≤◌, List, [], ◌∷◌, map, refl, sym, subst, arith, ap, Bool, true, false, if◌then◌else◌, Option, Some, None}
 use Rattle.std.specs.Prelude.{Contains, slice_get, filter, fold, max, nat_eq}
 use Rattle.std.proofs.lemmas.List.Elements.{All-contains}
 use Rattle.av_base.proofs.Among.{among_map, none_among}

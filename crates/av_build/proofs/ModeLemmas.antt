@@ -1,19 +1,17 @@
 -- The intervals of marks are active at the numbers of just those computations that are marked.
-use Rattle.std.proofs.Common.{◌≡◌, ℕ, zero, suc, ◌<◌, ◌≤◌, ◌↔◌, List, [], ◌∷◌, length, refl, sym, ap, subst, ◌∙◌, arith, IsTrue, true, Some}
+use Rattle.std.proofs.Common.{◌≡◌, ℕ, zero, suc, ◌<◌, ◌≤◌, ◌↔◌, List, [], ◌∷◌, length, refl, sym, ap, subst, ◌∙◌, arith, true, Some}
 use Rattle.std.specs.Prelude.{slice_get}
 use Rattle.std.specs.List.{list_any}
-use Rattle.av_base.proofs.Lists.{some_is, there_is, each_by_place}
+use Rattle.av_base.proofs.Lists.{some_is, each_by_place}
 use Rattle.av_tree.specs.Points.{Point}
 use Rattle.av_space.specs.declared.layout.Slot.{Slot}
-use Rattle.av_space.proofs.Elements.{in_range}
-use Rattle.av_kinds.specs.declared.program.Interval.{Interval}
-use Rattle.av_kinds.specs.Programs.{has_number, Work, Mode}
+use Rattle.av_kinds.specs.Programs.{has_number, Work}
 use Rattle.av_history.specs.Performing.{Array, ComputesOn}
 use Rattle.av_build.specs.declared.intervals.Mark.{Mark}
 use Rattle.av_build.specs.inner.Intervals.{intervals_by}
-use Rattle.av_build.specs.inner.Orders.{IsInOrder, IsAt, AreMarks}
-use Rattle.av_build.specs.inner.Programmed.{IsLatest, IsModeFor}
-use Rattle.av_build.proofs.IntervalLemmas.{AreAbove, AreRising, IsLastUpTo, holds_there, there_holds, ends_are}
+use Rattle.av_build.specs.inner.Orders.{IsInOrder, AreMarks}
+use Rattle.av_build.specs.inner.Programmed.{IsModeFor}
+use Rattle.av_build.proofs.IntervalLemmas.{AreAbove, AreRising, holds_there, there_holds, ends_are}
 use Rattle.av_build.proofs.IntervalSteps.{slot_of, rising, mark_of}
 
 -- ---- one number has one mark

@@ -1,5 +1,5 @@
 -- The moments of a place, one computation after another in the order of the counter's numbers, and the site that they make.
-use Rattle.std.proofs.Common.{◌≡◌, ℕ, zero, suc, ◌+◌, ◌<◌, ◌≤◌, ◌⊎◌, inl, inr, List, [], ◌∷◌, ◌++◌, length, refl, sym, ap, subst, ◌∙◌, arith, IsTrue, Some}
+use Rattle.std.proofs.Common.{◌≡◌, ℕ, zero, suc, ◌+◌, ◌<◌, ◌⊎◌, inl, inr, List, [], ◌∷◌, ◌++◌, length, refl, sym, ap, subst, ◌∙◌, arith, IsTrue, Some}
 use Rattle.std.specs.Prelude.{slice_get, Contains}
 use Rattle.std.specs.List.{AllByRecursion}
 use Rattle.std.proofs.lemmas.Bool.{cases_lt}
@@ -13,14 +13,14 @@ use Rattle.av_kinds.specs.declared.program.Source.{Source}
 use Rattle.av_kinds.specs.declared.program.Source.TheVariants.{Word}
 use Rattle.av_kinds.specs.declared.program.Link.{Link}
 use Rattle.av_kinds.specs.declared.program.Inlet.{Inlet}
-use Rattle.av_kinds.specs.Programs.{source_by, source_in}
+use Rattle.av_kinds.specs.Programs.{source_by}
 use Rattle.av_history.specs.Performing.{Array, ComputesOn, Spot}
 use Rattle.av_build.specs.declared.moments.Moment.{Moment}
 use Rattle.av_build.specs.inner.Moments.{links_from, last_from, site_by}
 use Rattle.av_build.specs.inner.Orders.{IsInOrder, IsAt, IsMoment, AreMomentsTo, AreMoments}
-use Rattle.av_build.specs.inner.Programmed.{EachSource, IsRight, IsSiteFor}
+use Rattle.av_build.specs.inner.Programmed.{IsRight, IsSiteFor}
 use Rattle.av_build.proofs.Appended.{get_right}
-use Rattle.av_build.proofs.SiteLemmas.{AreLater, AreAscending, moment_taken, links_are, last_is}
+use Rattle.av_build.proofs.SiteLemmas.{AreAscending, moment_taken, links_are, last_is}
 
 -- ---- one computation after another
 

@@ -1,5 +1,5 @@
 -- The sources of an array's program are of its cell, of a width, and there: a number, a port of the cell, or a lane that is linked to it.
-use Rattle.std.proofs.Common.{◌≡◌, ◌⊎◌, ℕ, zero, suc, ◌+◌, ◌^◌, ◌<◌, ◌≤◌, List, [], ◌∷◌, length, refl, sym, subst, arith, ◌∙◌, ap, Bool, true, false, IsTrue, Option, Some, None, inl, inr}
+use Rattle.std.proofs.Common.{◌≡◌, ℕ, ◌<◌, ◌≤◌, List, refl, sym, subst, arith, ◌∙◌, ap, true, Option, Some, None}
 use Rattle.std.specs.Prelude.{Contains, slice_get}
 use Rattle.std.proofs.lemmas.List.Elements.{recursion_from_All}
 use Rattle.av_base.specs.declared.width.Width.{Width}
@@ -11,22 +11,22 @@ use Rattle.av_affine.specs.Maps.{image}
 use Rattle.av_tree.specs.Points.{Point}
 use Rattle.av_flat.specs.declared.tree.Choice.{Choice}
 use Rattle.av_flat.specs.declared.timed.Helper.{Helper}
-use Rattle.av_flat.specs.Trees.{Tree, Piece, Variable, reference, pick}
+use Rattle.av_flat.specs.Trees.{Tree, Variable, reference, pick}
 use Rattle.av_flat.specs.Points.{has}
 use Rattle.av_flat.specs.Values.{picked}
-use Rattle.av_flat.specs.Nodes.{is_node, nodes, number_at}
-use Rattle.av_flat.specs.Broadcasts.{Reference, references}
+use Rattle.av_flat.specs.Nodes.{is_node, number_at}
+use Rattle.av_flat.specs.Broadcasts.{Reference}
 use Rattle.av_flat.specs.Helped.{before}
 use Rattle.av_space.specs.declared.cells.InPort.{InPort}
 use Rattle.av_space.specs.declared.cells.Link.{Link as LinkMade}
-use Rattle.av_space.specs.Taps.{Way, each, entries, handed, IsTapRead, helper_of}
+use Rattle.av_space.specs.Taps.{Way, each, handed, IsTapRead, helper_of}
 use Rattle.av_space.specs.Links.{line_length}
 use Rattle.av_space.proofs.Elements.{in_range, each_at}
 use Rattle.av_space.proofs.NodePlaces.{node_at}
 use Rattle.av_kinds.specs.declared.program.Source.{Source}
 use Rattle.av_kinds.specs.declared.program.Source.TheVariants.{Word, Input, Line}
 use Rattle.av_kinds.specs.Programs.{Lane, Program, IsSource}
-use Rattle.av_history.specs.Widths.{width_of, width_at, read_width}
+use Rattle.av_history.specs.Widths.{width_of, width_at}
 use Rattle.av_history.specs.Performing.{Array, ComputesOn, Lanes, Spot, IsLinked, IsReferenceSource, by_port, by_link, IsHandSource, IsPickSource, IsHelper}
 use Rattle.av_history.specs.Arranged.{IsArranged}
 use Rattle.av_history.proofs.Serving.{Reading, linked}

@@ -1,5 +1,5 @@
 -- The tasks of the program of an array perform the array.
-use Rattle.std.proofs.Common.{◌≡◌, ℕ, zero, suc, ◌+◌, ◌<◌, List, [], ◌∷◌, map, refl, sym, ap, subst, ◌∙◌, arith, IsTrue, Bool, true, false, if◌then◌else◌, Option, Some, None}
+use Rattle.std.proofs.Common.{◌≡◌, ℕ, zero, suc, ◌<◌, List, [], ◌∷◌, map, refl, sym, ap, subst, ◌∙◌, arith, IsTrue, Bool, true, false, if◌then◌else◌, Option, Some}
 use Rattle.std.specs.Prelude.{slice_get, slice_index_or}
 use Rattle.av_base.proofs.Lists.{some_is}
 use Rattle.av_tree.specs.Points.{Point}
@@ -15,10 +15,9 @@ use Rattle.av_kinds.specs.declared.program.Site.{Site}
 use Rattle.av_kinds.specs.Programs.{source_in, Work, Mode, is_active, Lane, Program}
 use Rattle.av_kinds.specs.Histories.{Task, mode_by, task_of, task_in, lane_task, tasks_of}
 use Rattle.av_history.specs.Widths.{read_width}
-use Rattle.av_history.specs.Places.{EachPlace}
-use Rattle.av_history.specs.Performing.{Array, ComputesOn, Lanes, Spot, IsReferenceSource, IsHandSource, hand_width, handing_at, IsPlaceSource, IsPieceTask, IsHandTask, IsHelper, helper_spot, Perform}
+use Rattle.av_history.specs.Performing.{Array, ComputesOn, Lanes, Spot, IsHandSource, hand_width, handing_at, IsPlaceSource, IsPieceTask, IsHandTask, IsHelper, helper_spot, Perform}
 use Rattle.av_history.proofs.Words.{place_weaker}
-use Rattle.av_build.specs.inner.Programmed.{IsPlaceSite, IsWorkFor, AreAlone, IsValueLane, one_site, IsHelperLane, IsProgramFor}
+use Rattle.av_build.specs.inner.Programmed.{IsPlaceSite, IsWorkFor, AreAlone, one_site, IsHelperLane, IsProgramFor}
 
 -- ---- the mode at a number
 

@@ -1,12 +1,10 @@
 -- Sources of places from where these read.
-use Rattle.std.proofs.Common.{◌≡◌, ℕ, refl, sym, ap, subst, ◌∙◌, IsTrue, Bool, true, false, Option, Some, None}
+use Rattle.std.proofs.Common.{◌≡◌, ℕ, refl, sym, ap, subst, ◌∙◌, Option, Some, None}
 use Rattle.std.specs.Prelude.{slice_get}
 use Rattle.av_tree.specs.Points.{Point}
 use Rattle.av_affine.specs.declared.map.Map.{Map}
 use Rattle.av_flat.specs.Trees.{Tree, reference, constant, binary, choice, restriction, cases, dependence, reduction, pick, view}
-use Rattle.av_flat.specs.Points.{has}
 use Rattle.av_flat.specs.Broadcasts.{references}
-use Rattle.av_flat.specs.Helped.{before}
 use Rattle.av_flat.specs.Values.{picked}
 use Rattle.av_space.specs.declared.array.Array.{Array as ArrayMade}
 use Rattle.av_space.specs.declared.layout.Slot.{Slot}
@@ -20,7 +18,7 @@ use Rattle.av_space.specs.Taps.{Handing, helper_at, node_place, Place, Way, each
 use Rattle.av_space.proofs.SpotPlaces.{place_read}
 use Rattle.av_kinds.specs.declared.program.Source.{Source}
 use Rattle.av_kinds.specs.declared.program.Source.TheVariants.{Word, Input, Line}
-use Rattle.av_history.specs.Performing.{Lanes, IsLinked, IsReferenceSource, by_port, by_link, IsHandSource, IsHelpedSource, IsPickSource, IsPlaceSource}
+use Rattle.av_history.specs.Performing.{Lanes, IsLinked, IsReferenceSource, by_port, by_link, IsHelpedSource, IsPickSource, IsPlaceSource}
 use Rattle.av_build.specs.inner.Blueprints.{seen, spot_of}
 use Rattle.av_build.specs.inner.Sources.{IsOwnSource, IsEntrySource, IsHandedSource}
 

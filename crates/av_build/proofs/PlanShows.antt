@@ -1,10 +1,10 @@
 -- The flat design of an array's plan shows each solution for the inputs, some times as many cycles later as the counter has numbers.
-use Rattle.std.proofs.Common.{◌≡◌, ℕ, zero, suc, ◌+◌, ◌*◌, ◌<◌, List, [], ◌∷◌, map, length, refl, sym, ap, subst, ◌∙◌, arith, Option, Some, None}
+use Rattle.std.proofs.Common.{◌≡◌, ℕ, zero, suc, ◌+◌, ◌*◌, ◌<◌, List, [], ◌∷◌, map, length, refl, sym, ap, subst, ◌∙◌, arith, Option, Some}
 use Rattle.std.specs.Prelude.{All, Contains, slice_get}
 use Rattle.std.proofs.lemmas.List.Elements.{All-contains, All-from_recursion, recursion_from_All, All-map}
 use Rattle.av_base.specs.declared.width.Width.{Width}
 use Rattle.av_base.proofs.Lists.{each_weaker, get_mapped}
-use Rattle.av_base.proofs.Among.{among_at, among_map, first_among, more_among}
+use Rattle.av_base.proofs.Among.{among_map, first_among, more_among}
 use Rattle.av_tree.specs.Points.{Point}
 use Rattle.av_tree.specs.Values.{Assignment}
 use Rattle.av_flat.specs.Trees.{Variable}
@@ -18,7 +18,7 @@ use Rattle.av_net.specs.declared.design.Listing.{Listing}
 use Rattle.av_net.specs.Clocked.{Stream, Run, IsRun}
 use Rattle.av_net.specs.Flat.{flat_module, flat_of}
 use Rattle.av_net.specs.Shown.{HasListed, Presents as PresentsWords, Shows}
-use Rattle.av_space.specs.Listings.{InLine, IsInLine, AreInLines, IsWireOf, output, value, AtLine, IsAtLine, AreAtLines}
+use Rattle.av_space.specs.Listings.{InLine, AreInLines, IsWireOf, output, value, AtLine, IsAtLine, AreAtLines}
 use Rattle.av_space.proofs.Elements.{in_range}
 use Rattle.av_space.proofs.Nodes.{passing}
 use Rattle.av_kinds.specs.declared.counter.Counter.{Counter}
@@ -26,7 +26,7 @@ use Rattle.av_kinds.specs.declared.planning.Modules.{Modules}
 use Rattle.av_kinds.specs.Programs.{Lane, Program}
 use Rattle.av_kinds.specs.Histories.{Signals, tasks_of}
 use Rattle.av_kinds.specs.Counters.{count_in}
-use Rattle.av_kinds.specs.Names.{Naming, input_name, output_name, value_name, lane_value, label_in, labels}
+use Rattle.av_kinds.specs.Names.{Naming, input_name, value_name, lane_value, label_in, labels}
 use Rattle.av_kinds.specs.Tops.{port, numbered_ports}
 use Rattle.av_kinds.specs.Netlists.{plan_of, AreNetlistsOf}
 use Rattle.av_history.specs.Performing.{Array, ComputesOn, Lanes}

@@ -1,5 +1,5 @@
 -- The site of moments, one moment after another.
-use Rattle.std.proofs.Common.{◌≡◌, ℕ, ◌+◌, ◌<◌, ◌≤◌, List, [], ◌∷◌, ◌++◌, length, drop, refl, sym, ap, ◌∙◌, Bool, true, false, if◌then◌else◌, append_assoc, get_or}
+use Rattle.std.proofs.Common.{◌≡◌, ℕ, ◌+◌, ◌<◌, ◌≤◌, List, [], ◌∷◌, ◌++◌, length, drop, sym, ap, ◌∙◌, Bool, true, false, if◌then◌else◌, append_assoc, get_or}
 use Rattle.std.proofs.lemmas.List.{append-nil}
 use Rattle.av_base.proofs.Lists.{next_item, nothing_left}
 use Rattle.av_kinds.specs.declared.program.Source.{Source}

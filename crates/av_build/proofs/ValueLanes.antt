@@ -1,5 +1,5 @@
 -- The lane of the value of a cell, from a mode for each of its pieces.
-use Rattle.std.proofs.Common.{◌≡◌, ℕ, zero, suc, ◌+◌, ◌<◌, ◌≤◌, ◌×◌, inl, inr, List, [], ◌∷◌, length, map, refl, sym, ap, subst, ◌∙◌, arith, IsTrue, true, Some, None, Contains}
+use Rattle.std.proofs.Common.{◌≡◌, ℕ, ◌<◌, ◌×◌, inl, inr, List, length, map, sym, ap, subst, ◌∙◌, arith, IsTrue, Some, None}
 use Rattle.std.specs.Prelude.{slice_get, nat_lt}
 use Rattle.std.proofs.lemmas.Bool.{cases_lt}
 use Rattle.av_base.proofs.Among.{among_at}
@@ -20,7 +20,7 @@ use Rattle.av_space.proofs.Elements.{at_index, in_range}
 use Rattle.av_space.proofs.Nodes.{passing}
 use Rattle.av_kinds.specs.declared.counter.Counter.{Counter}
 use Rattle.av_kinds.specs.Counters.{count_in}
-use Rattle.av_kinds.specs.Programs.{Work, Mode, is_active, Lane}
+use Rattle.av_kinds.specs.Programs.{Mode, Lane}
 use Rattle.av_history.specs.Performing.{Spot}
 use Rattle.av_history.specs.Arranged.{IsArranged}
 use Rattle.av_build.specs.declared.blueprint.Blueprint.{Blueprint}

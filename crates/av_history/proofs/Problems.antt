@@ -1,6 +1,6 @@
 -- From each start at which the counter begins anew, the lanes of tasks that perform an array have the words of a solution for the inputs
 -- that are presented from there on.
-use Rattle.std.proofs.Common.{◌≡◌, ℕ, ◌+◌, ◌*◌, ◌%◌, ◌<◌, ◌^◌, sym, refl, subst, Some}
+use Rattle.std.proofs.Common.{◌≡◌, ℕ, ◌+◌, ◌*◌, ◌<◌, ◌^◌, sym, refl, subst, Some}
 use Rattle.av_tree.specs.Points.{Point}
 use Rattle.av_tree.specs.Trees.{Text}
 use Rattle.av_tree.specs.Values.{Assignment}

@@ -1,6 +1,6 @@
 -- Tasks that perform an array serve its system, so many cycles later than the array says.
-use Rattle.std.proofs.Common.{◌≡◌, ℕ, zero, suc, ◌+◌, ◌<◌, ◌≤◌, ◌⊎◌, List, [], ◌∷◌, refl, sym, subst, arith, ◌∙◌, ap, Bool, true, false, Option, Some, None, inl, inr}
-use Rattle.std.specs.Prelude.{IsTrue, Contains, slice_get}
+use Rattle.std.proofs.Common.{◌≡◌, ℕ, ◌+◌, ◌<◌, ◌⊎◌, List, refl, sym, subst, arith, ◌∙◌, ap, Bool, true, false, Option, Some, None, inl, inr}
+use Rattle.std.specs.Prelude.{IsTrue, slice_get}
 use Rattle.std.proofs.lemmas.List.Elements.{All-contains}
 use Rattle.av_affine.specs.declared.map.Map.{Map}
 use Rattle.av_affine.specs.Maps.{image}
@@ -16,8 +16,8 @@ use Rattle.av_flat.specs.Nodes.{is_node, nodes, number_at}
 use Rattle.av_flat.specs.Broadcasts.{Reference, references}
 use Rattle.av_flat.specs.Helped.{before, IsEntry}
 use Rattle.av_net.specs.declared.design.Entry.{Entry}
-use Rattle.av_space.specs.Taps.{node_place, Handing, helper_at, IsReadAt, Way, each, entries, handed, Tap, taps, IsTapRead, IsTapped}
-use Rattle.av_space.specs.Links.{IsStretch, AreLinks}
+use Rattle.av_space.specs.Taps.{node_place, Handing, helper_at, IsReadAt, Way, each, entries, handed, Tap, IsTapRead, IsTapped}
+use Rattle.av_space.specs.Links.{IsStretch}
 use Rattle.av_space.specs.Ports.{IsFed}
 use Rattle.av_space.specs.Listings.{InLine, IsInLine, input_name}
 use Rattle.av_kinds.specs.declared.program.Source.{Source}
@@ -27,7 +27,7 @@ use Rattle.av_history.specs.Widths.{read_width}
 use Rattle.av_history.specs.Places.{EachPlace}
 use Rattle.av_history.specs.Performing.{Array, ComputesOn, Lanes, Spot, IsLinked, IsReferenceSource, by_port, by_link, IsHandSource, hand_width, IsHelpedSource, IsPickSource, IsPlaceSource, IsHelper, helper_spot, Perform}
 use Rattle.av_history.specs.Arranged.{IsArranged}
-use Rattle.av_history.proofs.Serves.{Placement, Feeding, read_of, read_by, read_at, IsOfLane, IsEarlier, IsPointBrought, IsEntered, IsHandedOn, IsHelperBrought, IsBrought, IsWorked, IsHandled, Serves}
+use Rattle.av_history.proofs.Serves.{Placement, Feeding, read_of, read_by, read_at, IsEarlier, IsPointBrought, IsEntered, IsHandedOn, IsBrought, IsWorked, IsHandled, Serves}
 use Rattle.av_history.proofs.Words.{place_weaker, place_both}
 use Rattle.av_history.proofs.Shown.{signature_at}
 use Rattle.av_space.proofs.NodePlaces.{node_at}

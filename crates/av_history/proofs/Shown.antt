@@ -1,6 +1,6 @@
 -- The lanes of tasks that serve a system have the words of a solution: by the cycle, and in one cycle the helpers before the computations.
-use Rattle.std.proofs.Common.{◌≡◌, ℕ, zero, suc, ◌+◌, ◌<◌, ◌≤◌, List, [], ◌∷◌, map, refl, sym, ◌∙◌, ap, subst, arith, Bool, true, false, if◌then◌else◌, ◌&&◌, ◌||◌, Option, Some, None, inl, inr}
-use Rattle.std.specs.Prelude.{All, slice_get, length, nat_eq}
+use Rattle.std.proofs.Common.{◌≡◌, ℕ, zero, suc, ◌<◌, ◌≤◌, List, [], ◌∷◌, map, refl, sym, ◌∙◌, ap, subst, arith, Bool, true, false, if◌then◌else◌, ◌&&◌, ◌||◌, Option, Some, None, inl, inr}
+use Rattle.std.specs.Prelude.{All, slice_get, nat_eq}
 use Rattle.std.specs.Str.{bytes_eq}
 use Rattle.std.proofs.lemmas.Slice.Eq.{bytes_eq-Decides}
 use Rattle.std.specs.List.{AllByRecursion}
@@ -23,7 +23,7 @@ use Rattle.av_flat.specs.Helped.{before, IsEntry, PointWords, HelperWords, HasRe
 use Rattle.av_space.specs.Taps.{Handing, helper_from, helper_at}
 use Rattle.av_kinds.specs.declared.program.Source.{Source}
 use Rattle.av_kinds.specs.declared.program.Source.TheVariants.{Line}
-use Rattle.av_kinds.specs.Histories.{value_by, resized, Task, Tasks, Signals, HasWord, IsHistory}
+use Rattle.av_kinds.specs.Histories.{value_by, resized, Tasks, Signals, HasWord, IsHistory}
 use Rattle.av_history.specs.Widths.{width_at, handed_width, read_width}
 use Rattle.av_history.proofs.Serves.{Placement, Feeding, read_of, read_by, read_at, IsOfLane, IsPointBrought, IsHelperBrought, IsBrought, Serves}
 use Rattle.av_history.proofs.Words.{place_weaker, value_is, piece_value}

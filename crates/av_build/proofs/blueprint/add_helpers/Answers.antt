@@ -1,9 +1,7 @@
-use Rattle.std.proofs.Common.{◌≡◌, ◌∙◌, ◌+◌, ◌++◌, List, length, refl, sym, ap, subst, arith, Some}
-use Rattle.std.specs.Prelude.{slice_get}
+use Rattle.std.proofs.Common.{◌≡◌, ◌∙◌, ◌+◌, ◌++◌, List, sym, ap, subst}
 use Rattle.av_base.proofs.Lists.{some_is}
 use Rattle.av_space.specs.declared.spots.Site.{Site}
 use Rattle.av_space.specs.Taps.{Handing}
-use Rattle.av_build.specs.declared.blueprint.HelperPlan.{HelperPlan}
 use Rattle.av_build.specs.inner.Blueprints.{site_helpers}
 use Rattle.av_build.proofs.BlueprintSteps.{none_step, some_step, last_step}
 use Rattle.av_build.proofs.Pairwise.{element_of}

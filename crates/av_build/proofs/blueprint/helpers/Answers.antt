@@ -1,4 +1,4 @@
-use Rattle.std.proofs.Common.{◌≡◌, ◌∙◌, List, length, get_or, [], sym, ap, arith}
+use Rattle.std.proofs.Common.{List, length, get_or, [], ap, arith}
 use Rattle.std.proofs.lemmas.Option.{slice_get-get_or}
 use Rattle.av_space.specs.declared.spots.Site.{Site}
 use Rattle.av_build.specs.inner.Blueprints.{helpers_on}

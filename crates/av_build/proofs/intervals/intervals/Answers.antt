@@ -1,4 +1,4 @@
-use Rattle.std.proofs.Common.{◌≡◌, ◌∙◌, ◌+◌, ◌++◌, List, Option, drop, get_or, refl, sym, subst}
+use Rattle.std.proofs.Common.{◌≡◌, ◌+◌, ◌++◌, List, Option, drop, sym, subst}
 use Rattle.av_kinds.specs.declared.program.Interval.{Interval}
 use Rattle.av_build.specs.inner.Intervals.{intervals_from, intervals_by}
 use Rattle.av_build.proofs.IntervalSteps.{more_begun, one_closed, last_closed}

@@ -1,8 +1,7 @@
-use Rattle.std.proofs.Common.{◌+◌, ◌∙◌, List, get_or, drop, refl, sym, subst}
+use Rattle.std.proofs.Common.{◌+◌, ◌∙◌, List, drop, sym, subst}
 use Rattle.av_kinds.specs.declared.program.Link.{Link}
-use Rattle.av_build.specs.declared.moments.Moment.{Moment}
 use Rattle.av_build.specs.inner.Moments.{links_from, last_from}
-use Rattle.av_build.proofs.SiteSteps.{IsSoFar, same_next, other_next, at_end}
+use Rattle.av_build.proofs.SiteSteps.{IsSoFar, same_next, other_next}
 use Rattle.av_build.proofs.moments.site.Goals as goal
 use Rattle.av_build.proofs.moments.site.Goals.{then-not-same_source+in_ok-push, else-not-same_source}
 

@@ -1,9 +1,7 @@
-use Rattle.std.proofs.Common.{◌≡◌, ◌∙◌, ◌<◌, sym, ap, subst, arith, Some}
-use Rattle.std.specs.Prelude.{slice_get}
-use Rattle.av_space.specs.declared.layout.Slot.{Slot}
+use Rattle.std.proofs.Common.{subst, arith}
 use Rattle.av_kinds.specs.Counters.{count_in}
 use Rattle.av_build.proofs.Pairwise.{element}
-use Rattle.av_build.proofs.OrderSteps.{AreHigh, one_high, start_here, start_at_end}
+use Rattle.av_build.proofs.OrderSteps.{AreHigh, one_high, start_here}
 use Rattle.av_build.proofs.order.before_start.Goals as goal
 
 pub loop-k-preserved : goal.loop-k-preserved

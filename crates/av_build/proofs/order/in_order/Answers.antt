@@ -1,5 +1,5 @@
 use Rattle.std.specs.List.{range_with_len}
-use Rattle.std.proofs.Common.{◌≡◌, ◌∙◌, ◌-◌, ◌++◌, ℕ, length, sym, ap, arith}
+use Rattle.std.proofs.Common.{◌-◌, length, arith}
 use Rattle.av_build.proofs.OrderSteps.{late_more, early_more, whole_order}
 use Rattle.av_build.proofs.order.in_order.Goals as goal
 

@@ -1,4 +1,3 @@
-use Rattle.std.proofs.Common.{get_or, refl}
 use Rattle.av_kinds.specs.Written.{LaneMade, lane_of}
 use Rattle.av_build.specs.declared.blueprint.LanePlan.{LanePlan}
 use Rattle.av_build.specs.inner.Lanes.{IsBuiltBy}

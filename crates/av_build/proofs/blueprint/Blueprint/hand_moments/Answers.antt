@@ -1,4 +1,4 @@
-use Rattle.std.proofs.Common.{◌≡◌, ◌∙◌, ◌+◌, List, length, refl, sym, ap, subst, arith}
+use Rattle.std.proofs.Common.{refl}
 use Rattle.av_flat.specs.Trees.{view}
 use Rattle.av_kinds.specs.Counters.{count_in}
 use Rattle.av_build.specs.inner.Blueprints.{seen, spot_of, lanes_of}

@@ -1,14 +1,11 @@
-use Rattle.std.proofs.Common.{◌≡◌, ◌∙◌, ◌+◌, ◌++◌, ◌∷◌, [], List, length, refl, sym, ap, subst, arith}
-use Rattle.av_base.proofs.Lists.{there_is}
+use Rattle.std.proofs.Common.{◌+◌, refl, sym, subst}
 use Rattle.av_flat.specs.Trees.{view}
-use Rattle.av_space.specs.declared.layout.Slot.{Slot}
 use Rattle.av_kinds.specs.Counters.{count_in}
 use Rattle.av_history.specs.Performing.{IsPlaceSource}
-use Rattle.av_build.specs.declared.moments.Moment.{Moment}
 use Rattle.av_build.specs.inner.Blueprints.{seen, spot_of, lanes_of}
 use Rattle.av_build.specs.inner.Orders.{AreMomentsTo}
 use Rattle.av_build.specs.inner.Programmed.{Always}
-use Rattle.av_build.proofs.MomentLemmas.{no_moments, one_more}
+use Rattle.av_build.proofs.MomentLemmas.{one_more}
 use Rattle.av_build.proofs.Pairwise.{element, element_of}
 use Rattle.av_build.proofs.PlaceSources.{plain_source}
 use Rattle.av_build.proofs.blueprint.Blueprint.moments.Goals as goal

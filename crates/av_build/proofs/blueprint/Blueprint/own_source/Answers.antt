@@ -1,4 +1,4 @@
-use Rattle.std.proofs.Common.{◌≡◌, ◌∙◌, ◌<◌, ℕ, length, refl, sym, ap, subst, arith}
+use Rattle.std.proofs.Common.{ℕ, refl, ap, subst, arith}
 use Rattle.av_flat.specs.Trees.{view}
 use Rattle.av_space.specs.declared.origin.Origin.{Origin}
 use Rattle.av_space.specs.declared.origin.Origin.TheVariants as origin
