@@ -10,6 +10,7 @@ pub mod OrderSteps
 pub mod AloneLemmas
 pub mod MomentLemmas
 pub mod HandSteps
+pub mod HandModes
 pub mod BlueprintLemmas
 pub mod BlueprintSteps
 pub mod HelperSearch
