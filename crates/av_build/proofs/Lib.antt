@@ -13,6 +13,7 @@ pub mod HandSteps
 pub mod HandModes
 pub mod BlueprintLemmas
 pub mod BlueprintSteps
+pub mod HelpersOn
 pub mod HelperSearch
 pub mod ValueLanes
 pub mod SpotNodes
