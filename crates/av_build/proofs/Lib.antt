@@ -15,6 +15,7 @@ pub mod BlueprintLemmas
 pub mod BlueprintSteps
 pub mod HelpersOn
 pub mod HelperSearch
+pub mod HelperPlaces
 pub mod ValueLanes
 pub mod SpotNodes
 pub mod CellUses
