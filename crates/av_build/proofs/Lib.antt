@@ -32,3 +32,4 @@ pub mod PlanShows
 pub mod Joined
 pub mod Connected
 pub mod Headline
+pub mod WithinCount
