@@ -21,6 +21,7 @@ pub mod BlueprintSteps
 pub mod HelpersOn
 pub mod HelperSearch
 pub mod HelperPlaces
+pub mod SortingSteps
 pub mod ValueLanes
 pub mod ProgramFor
 pub mod Performed
