@@ -13,7 +13,7 @@ loop-piece-preserved c =
     let many = ap (λ (l : List (List Site)). length l) c.as_slice.ensures in
     let low = omega (arith, lt, many) in
     piece_step k c.loop-piece.helpers (helpers_on c.args.pieces.now) c.add_helpers.new.helpers pieces [] low c.loop-piece.invariant
-    (c.in_ok-add_helpers.ensures.ok (get_or pieces k []) (slice_get-get_or pieces k [] low))
+    (c.in_ok-add_helpers.ensures (get_or pieces k []) (slice_get-get_or pieces k [] low))
 
 pub returns : goal.returns
 returns c =

@@ -3,7 +3,7 @@ use Rattle.av_kinds.specs.declared.program.Interval.{Interval}
 use Rattle.av_build.specs.inner.Intervals.{intervals_from, intervals_by}
 use Rattle.av_build.proofs.IntervalSteps.{more_begun, one_closed, last_closed}
 use Rattle.av_build.proofs.intervals.intervals.Goals as goal
-use Rattle.av_build.proofs.intervals.intervals.Goals.{then-holds, else-holds+in_ok-add_closed}
+use Rattle.av_build.proofs.intervals.intervals.Goals.{then-mark, else-mark+in_ok-add_closed}
 
 pub loop-mark-preserved : goal.loop-mark-preserved
 loop-mark-preserved c =
@@ -11,14 +11,14 @@ loop-mark-preserved c =
     let all = intervals_by marks in
     let n = c.loop-mark.mark-index in
     let m = c.mark-item.result in
-    elim c.if-holds.branch [
-      | then-holds w ↦
+    elim c.if-mark.branch [
+      | then-mark w ↦
           subst (λ (b : Option Interval). c.loop-mark.intervals ++ intervals_from b (drop (n + 1) marks) ≡ all) (sym w.begun-is)
-          (more_begun all c.loop-mark.intervals c.loop-mark.begun marks n m c.loop-mark-test.true c.mark-item.is w.if-holds.true c.loop-mark.invariant)
-      | else-holds+in_ok-add_closed w ↦
+          (more_begun all c.loop-mark.intervals c.loop-mark.begun marks n m c.loop-mark-test.true c.mark-item.is w.if-mark.true c.loop-mark.invariant)
+      | else-mark+in_ok-add_closed w ↦
           subst (λ (l : List Interval). l ++ intervals_from w.begun (drop (n + 1) marks) ≡ all) (sym w.intervals-is)
-          (one_closed all c.loop-mark.intervals w.add_closed.new.intervals c.loop-mark.begun marks n m c.loop-mark-test.true c.mark-item.is w.if-holds.false w.in_ok-add_closed.ensures.ok c.loop-mark.invariant)
+          (one_closed all c.loop-mark.intervals w.add_closed.new.intervals c.loop-mark.begun marks n m c.loop-mark-test.true c.mark-item.is w.if-mark.false w.in_ok-add_closed.ensures c.loop-mark.invariant)
     ]
 
 pub returns : goal.returns
-returns c = last_closed (intervals_by c.args.marks.now) c.loop-mark.intervals c.add_closed-2.new.intervals c.loop-mark.begun c.args.marks.now c.loop-mark.mark-index c.loop-mark-test.false c.in_ok-add_closed-2.ensures.ok c.loop-mark.invariant
+returns c = last_closed (intervals_by c.args.marks.now) c.loop-mark.intervals c.add_closed-2.new.intervals c.loop-mark.begun c.args.marks.now c.loop-mark.mark-index c.loop-mark-test.false c.in_ok-add_closed-2.ensures c.loop-mark.invariant

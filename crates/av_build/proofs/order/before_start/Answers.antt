@@ -10,12 +10,12 @@ loop-k-preserved c =
     let k = c.loop-k.k in
     let t = c.index-slots-k.result in
     let is = element slots k t t c.loop-k-test.true c.index-slots-k.is in
-    let no = c.if-number-lt-least.false in
-    let number = c.number-2.ensures in
-    one_high (count_in c.args.counter) slots c.least k c.loop-k.invariant t is (omega (arith, no, number))
+    let no = c.if-number-least.false in
+    let number = c.number-least.ensures in
+    one_high (count_in c.args.counter) slots c.number.result k c.loop-k.invariant t is (omega (arith, no, number))
 
-pub returns-then-number-lt-least : goal.returns-then-number-lt-least
-returns-then-number-lt-least c =
+pub returns-then-number-least : goal.returns-then-number-least
+returns-then-number-least c =
     let slots = c.args.slots.now in
     let k = c.loop-k.k in
     let t = c.index-slots-k.result in
@@ -23,7 +23,7 @@ returns-then-number-lt-least c =
     let first = c.index-slots-0.result in
     let lt = c.loop-k-test.true in
     let is_first = element slots 0 first first (omega (arith, lt)) c.index-slots-0.is in
-    let low = c.if-number-lt-least.true in
-    let number = c.number-2.ensures in
+    let low = c.if-number-least.true in
+    let number = c.number-least.ensures in
     let least = c.number.ensures in
     start_here (count_in c.args.counter) slots first is_first k (subst (λ n. AreHigh (count_in c.args.counter) slots n k) least c.loop-k.invariant) t is (omega (arith, low, number, least))

@@ -25,4 +25,4 @@ loop-k-preserved c =
     let low = c.requires.order.within n place is_place in
     let is_slot = element_of spot.slots c.as_slice.result.now place slot slot c.as_slice.ensures low c.index-slots-k.is in
     one_hand (seen b.array) (count_in c.args.counter) (lanes_of b.cells) (spot_of spot) site.place.site c.args.handing.now (view site.place.tree) spot.slots c.args.order.now c.requires.order n c.loop-k.moments c.add_hand_moment.new.moments c.loop-k.invariant slot
-    (record { place = place; is_place = is_place; is_slot = is_slot }) c.number.result c.number.ensures c.in_ok-add_hand_moment.ensures.ok
+    (record { place = place; is_place = is_place; is_slot = is_slot }) c.number.result c.number.ensures c.in_ok-add_hand_moment.ensures
