@@ -23,6 +23,8 @@ pub mod HelperSearch
 pub mod HelperPlaces
 pub mod SortingSteps
 pub mod ValueLanes
+pub mod PlaceNumbers
+pub mod HelpersApart
 pub mod ProgramFor
 pub mod Performed
 pub mod Lengths
