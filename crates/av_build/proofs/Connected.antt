@@ -23,9 +23,9 @@ use Rattle.av_space.proofs.Nodes.{passing}
 use Rattle.av_space.proofs.Scheduling.{chained_variable, chained_piece, scheduled}
 use Rattle.av_base.proofs.Among.{among_at}
 use Rattle.av_base.proofs.Lists.{some_is}
-use Rattle.av_kinds.specs.Programs.{FitsTree}
 use Rattle.av_history.specs.Arranged.{IsArranged}
 use Rattle.av_build.specs.inner.Built.{array_of}
+use Rattle.av_build.proofs.FineLanes.{HasNumbers}
 use Rattle.av_build.proofs.Joined.{Legal, arranged, fits_words, one_point}
 
 module _ (t : Timed) (a : Cells) (legal : IsLegal t) (array : IsArrayOf t a) where
@@ -69,7 +69,7 @@ module _ (t : Timed) (a : Cells) (legal : IsLegal t) (array : IsArrayOf t a) whe
       (same, one_point (array_of t a array.placings) legal_array p c n y z (subst (λ (i : ℕ). Computes own array.placings a.cells p c i y) same h) k)
 
   -- the numbers of each piece are words of its variable
-  pub words_fit : (n : ℕ) (v : Variable) (k : ℕ) (piece : Piece) → slice_get (nodes own) n ≡ Some v → slice_get v.pieces k ≡ Some piece → FitsTree v.width piece.tree
+  pub words_fit : (n : ℕ) (v : Variable) (k : ℕ) (piece : Piece) → slice_get (nodes own) n ≡ Some v → slice_get v.pieces k ≡ Some piece → HasNumbers v.width piece.tree
   words_fit n v k piece is_variable is_piece =
       let here = passing is_node own.variables n v is_variable in
       let among = among_at own.variables here.place v here.is in

@@ -11,7 +11,7 @@ use Rattle.av_base.proofs.Widths.{width_is}
 use Rattle.av_affine.specs.declared.map.Map.{Map}
 use Rattle.av_tree.specs.Points.{Point}
 use Rattle.av_flat.specs.declared.tree.Choice.{Choice}
-use Rattle.av_flat.specs.Trees.{Tree, reference, constant, binary, choice, pick}
+use Rattle.av_flat.specs.Trees.{Tree, reference, constant, binary, choice, restriction, cases, dependence, reduction, pick}
 use Rattle.av_flat.specs.Points.{has}
 use Rattle.av_flat.specs.Values.{picked}
 use Rattle.av_flat.specs.Nodes.{is_node, nodes, number_at}
@@ -68,8 +68,27 @@ numbered R Q f s n (choice l c r x y) h k low high = elim (cases_lt k (s + site_
 numbered R Q f s n (pick place choices x) h k low high = let e : s ≡ k = omega arith in subst Q e (f s n (pick place choices x) h)
 numbered R Q f s n _ h k low high = absurd h
 
+-- the numbers of a tree are words, also those of picks
+abbrev pub HasNumbers : ℕ → Tree → Type 0
+HasNumbers w (constant k) = IsWord w k
+HasNumbers w (binary g l r) = HasNumbers w l × HasNumbers w r
+HasNumbers w (choice l c r x y) = HasNumbers w l × HasNumbers w r × HasNumbers w x × HasNumbers w y
+HasNumbers w (pick place choices n) = IsWord w n
+HasNumbers w _ = Unit {0}
+
+pub fits_tree : (w : ℕ) (t : Tree) → HasNumbers w t → FitsTree w t
+fits_tree w (reference place m) h = tt
+fits_tree w (constant k) h = h
+fits_tree w (binary g l r) h = (fits_tree w l h.0, fits_tree w r h.1)
+fits_tree w (choice l c r x y) h = (fits_tree w l h.0, fits_tree w r h.1, fits_tree w x h.2, fits_tree w y h.3)
+fits_tree w (pick place choices n) h = tt
+fits_tree w (restriction d t) h = tt
+fits_tree w (cases ts) h = tt
+fits_tree w (dependence m t) h = tt
+fits_tree w (reduction o m t set) h = tt
+
 -- with what holds of the parts of the tree
-pub with_words : (w : ℕ) (R : ℕ → ℕ → Tree → Type 0) (s n : ℕ) (t : Tree) → EachPlace R s n t → FitsTree w t → EachPlace (λ k i u. R k i u × FitsTree w u) s n t
+pub with_words : (w : ℕ) (R : ℕ → ℕ → Tree → Type 0) (s n : ℕ) (t : Tree) → EachPlace R s n t → HasNumbers w t → EachPlace (λ k i u. R k i u × HasNumbers w u) s n t
 with_words w R s n (reference place m) h f = (h, f)
 with_words w R s n (constant x) h f = tt
 with_words w R s n (binary g l r) h f = (with_words w R s n l h.0 f.0, with_words w R (s + site_count l) (n + length (references l)) r h.1 f.1)
@@ -173,7 +192,7 @@ module _ (a : Array) (count : ℕ → ℕ) (few : (c : ℕ) → count c < 2 ^ 12
 
   -- a place of the piece, in the lane of the cell's value
   place_fine : (first q : ℕ) (at : Spot) (own : ℕ) → IsBusy at own → q ≡ lanes.of_value at.cell → (cell : CellLanes) → slice_get program.cells at.cell ≡ Some cell → cell.first ≡ first
-      → (i : ℕ) (t : Tree) (site : Site) → PlaceSite first at i t site → FitsTree at.variable.width t → IsSite program first q site
+      → (i : ℕ) (t : Tree) (site : Site) → PlaceSite first at i t site → HasNumbers at.variable.width t → IsSite program first q site
   place_fine first q at own busy at_is cell is_cell first_is i (reference place m) site h fits = by_handing (handing_at a at i) refl
     where
       by_handing : (o : Option Handing) → handing_at a at i ≡ o → IsSite program first q site
@@ -184,11 +203,11 @@ module _ (a : Array) (count : ℕ → ℕ) (few : (c : ℕ) → count c < 2 ^ 12
 
   -- all places of the piece
   pub work_fine : (first q : ℕ) (at : Spot) (own : ℕ) → IsBusy at own → q ≡ lanes.of_value at.cell → (cell : CellLanes) → slice_get program.cells at.cell ≡ Some cell → cell.first ≡ first
-      → (work : Work) → IsWorkFor a count lanes first at work → FitsTree at.variable.width at.piece.tree → AllByRecursion (IsSite program first q) work.sites
+      → (work : Work) → IsWorkFor a count lanes first at work → HasNumbers at.variable.width at.piece.tree → AllByRecursion (IsSite program first q) work.sites
   work_fine first q at own busy at_is cell is_cell first_is work h fits =
       let Sited : ℕ → ℕ → Tree → Type 0 = λ k i t. (site : Site) × (slice_get work.sites k ≡ Some site) × IsPlaceSite a count lanes first at i t site in
       let Good : ℕ → Type 0 = λ k. (site : Site) × (slice_get work.sites k ≡ Some site) × IsSite program first q site in
       let all = with_words at.variable.width Sited 0 0 at.piece.tree h.sites fits in
       each_found (IsSite program first q) work.sites
-      (λ k low. numbered (λ k i t. Sited k i t × FitsTree at.variable.width t) Good
+      (λ k low. numbered (λ k i t. Sited k i t × HasNumbers at.variable.width t) Good
       (λ k i t x. (x.0.0, x.0.1, place_fine first q at own busy at_is cell is_cell first_is i t x.0.0 x.0.2 x.1)) 0 0 at.piece.tree all k (omega arith) (let many = h.many in omega (arith, low, many)))

@@ -19,9 +19,9 @@ use Rattle.av_space.proofs.Placed.{empty}
 use Rattle.av_space.proofs.Helpers.{equal}
 use Rattle.av_base.proofs.Truths.{both}
 use Rattle.av_base.proofs.Lists.{some_is}
-use Rattle.av_kinds.specs.Programs.{FitsTree}
 use Rattle.av_history.specs.Performing.{Array}
 use Rattle.av_history.specs.Arranged.{IsArranged}
+use Rattle.av_build.proofs.FineLanes.{HasNumbers}
 
 pub record Legal (a : Array) : Type 0 where
   pub scheduled : Scheduled a.system a.helpers a.times a.cells
@@ -56,13 +56,13 @@ arranged a g are_links widths = record {
 }
 
 -- the numbers of a plain tree are words
-pub fits_words : (w : ℕ) (t : Tree) → EachPart IsPlain t → EachPart (HasWords w) t → FitsTree w t
+pub fits_words : (w : ℕ) (t : Tree) → EachPart IsPlain t → EachPart (HasWords w) t → HasNumbers w t
 fits_words w (reference place m) plain words = tt
 fits_words w (constant n) plain words = words
 fits_words w (binary g l r) plain words = (fits_words w l plain.1 words.1, fits_words w r plain.2 words.2)
 fits_words w (choice l c r x y) plain words =
     (fits_words w l plain.1 words.1, fits_words w r plain.2 words.2, fits_words w x plain.3 words.3, fits_words w y plain.4 words.4)
-fits_words w (pick place choices n) plain words = tt
+fits_words w (pick place choices n) plain words = words
 fits_words w (restriction d t) plain words = tt
 fits_words w (cases ts) plain words = tt
 fits_words w (dependence m t) plain words = tt
