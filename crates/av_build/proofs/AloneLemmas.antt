@@ -1,5 +1,5 @@
 -- No two modes of one cell are active at one number, where no computation is of both.
-use Rattle.std.proofs.Common.{◌≡◌, ℕ, ◌+◌, ◌<◌, inl, inr, ◌×◌, sym, subst, ◌∙◌, arith, IsTrue}
+use Rattle.std.proofs.Common.{◌≡◌, ℕ, ◌+◌, ◌<◌, inl, inr, sym, subst, ◌∙◌, arith, IsTrue}
 use Rattle.std.proofs.lemmas.Bool.{cases_lt}
 use Rattle.av_tree.specs.Points.{Point}
 use Rattle.av_kinds.specs.declared.counter.Counter.{Counter}

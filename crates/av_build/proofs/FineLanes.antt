@@ -132,7 +132,7 @@ either_inlet program first q false site h = h
 module _ (a : Array) (count : ℕ → ℕ) (few : (c : ℕ) → count c < 2 ^ 12) (lanes : Lanes) (program : Program) (g : IsProgramFor a count lanes program) (arranged : IsArranged a) (ports : HasPorts a program.inputs) where
   -- a piece on a cell, with a computation
   pub record IsBusy (at : Spot) (own : ℕ) : Type 0 where
-    pub is_node : slice_get (nodes a.system) at.node ≡ Some at.variable
+    pub is_variable : slice_get (nodes a.system) at.node ≡ Some at.variable
     pub is_piece : slice_get at.variable.pieces at.number ≡ Some at.piece
     pub is_own : slice_get a.system.variables own ≡ Some at.variable
     pub own_node : is_node at.variable ≡ true
@@ -152,7 +152,7 @@ module _ (a : Array) (count : ℕ → ℕ) (few : (c : ℕ) → count c < 2 ^ 12
   plain_reference first q at own busy i place m site h none =
       let inlet : site.inlet ≡ (if computed_at (slice_get a.system.variables place) then Taps else Inputs) = h.inlet ∙ ap (λ (o : Option Handing). inlet_by a.system (pipe_in lanes at.cell first) o (reference place m)) none in
       let wide : site.width.bits ≡ width_at a.system place = h.width ∙ ap (λ (o : Option Handing). read_width a.system at.variable.width o (reference place m)) none in
-      let fine = fine_site a count few program at busy.is_node busy.is_piece Always (λ z c source. IsPlaceSource a lanes at z c i (reference place m) source) site h.reads
+      let fine = fine_site a count few program at busy.is_variable busy.is_piece Always (λ z c source. IsPlaceSource a lanes at z c i (reference place m) source) site h.reads
       (λ c z source r read brought. reference_owned a count lanes program g arranged ports site.width at c z r i place m each refl wide (place, (refl, refl), refl) source
       (subst (λ (o : Option Handing). IsHelpedSource a lanes at o c i place m source) none brought)) in
       subst (λ (n : Inlet). IsInletOf program first q n site) (sym inlet) (either_inlet program first q (computed_at (slice_get a.system.variables place)) site fine)
@@ -186,7 +186,7 @@ module _ (a : Array) (count : ℕ → ℕ) (few : (c : ℕ) → count c < 2 ^ 12
   -- a pick
   picking : (first q : ℕ) (at : Spot) (own : ℕ) → IsBusy at own → (i place : ℕ) (choices : List Choice) (n : ℕ) (site : Site) → PlaceSite first at i (pick place choices n) site → IsWord at.variable.width n → IsSite program first q site
   picking first q at own busy i place choices n site h fits =
-      let fine = fine_site a count few program at busy.is_node busy.is_piece Always (λ z c source. IsPlaceSource a lanes at z c i (pick place choices n) source) site h.reads
+      let fine = fine_site a count few program at busy.is_variable busy.is_piece Always (λ z c source. IsPlaceSource a lanes at z c i (pick place choices n) source) site h.reads
       (λ c z source r read brought. pick_owned a count lanes program g arranged ports site.width at c z r i place choices n (subst (λ (w : ℕ). IsWord w n) (sym h.width) fits) (h.width ∙ busy.wide) (picked choices z) refl source brought) in
       subst (λ (x : Inlet). IsInletOf program first q x site) (sym h.inlet) fine
 

@@ -1,5 +1,5 @@
 -- The moments of a place with a helper, one computation after another.
-use Rattle.std.proofs.Common.{◌≡◌, ℕ, ◌+◌, ◌×◌, inl, inr, List, [], sym, subst, IsTrue}
+use Rattle.std.proofs.Common.{◌≡◌, ℕ, ◌+◌, inl, inr, List, [], sym, subst, IsTrue}
 use Rattle.av_tree.specs.Points.{Point}
 use Rattle.av_flat.specs.Trees.{Tree}
 use Rattle.av_flat.specs.Points.{has}

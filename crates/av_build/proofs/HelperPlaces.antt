@@ -1,5 +1,5 @@
 -- The helpers of a cell as helpers of the array, and the modes of their lanes.
-use Rattle.std.proofs.Common.{◌≡◌, ℕ, zero, suc, ◌+◌, ◌<◌, ◌×◌, List, [], ◌∷◌, ◌++◌, length, map, refl, sym, ap, subst, ◌∙◌, arith, inl, inr, Some, length-append}
+use Rattle.std.proofs.Common.{◌≡◌, ℕ, zero, suc, ◌+◌, ◌<◌, List, [], ◌∷◌, ◌++◌, length, map, refl, sym, ap, subst, ◌∙◌, arith, inl, inr, Some, length-append}
 use Rattle.std.specs.Prelude.{slice_get}
 use Rattle.av_base.proofs.Lists.{get_cases, get_first, some_is, there_is}
 use Rattle.av_affine.specs.declared.map.Map.{Map}
@@ -210,12 +210,9 @@ module _ (w : ArrayMade) (is : IsArray w) (p : ℕ) (pieces : Pieces) (are : Are
     -- and so are its computations
     pub slots_are : AreSpotSlots (seen w) (helper_spot (seen w) other v piece p) at.slots
     slots_are = subst (λ (x : Spot). AreSpotSlots (seen w) x at.slots) spot_is (record {
-      each = λ k slot found. (let t = at_index (IsSlot at) at.slots own.each k slot found in (t.computes, t.within));
+      each = λ k slot found. (let t = at_index (IsSlotIn w at.cell at.node at.piece.now.domain) at.slots own.each k slot found in (t.computes, t.within));
       all = own.all;
     })
       where
         own : AreSlotsIn w at.cell at.node at.piece.now.domain at.slots
         own = (spot_at h.piece at e.is_spot).2.are_slots
-
-        abbrev IsSlot : SpotMade → Slot → Type 0
-        IsSlot x t = IsSlotIn w x.cell x.node x.piece.now.domain t

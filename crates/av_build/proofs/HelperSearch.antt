@@ -13,7 +13,7 @@ use Rattle.av_build.specs.inner.Blueprints.{helpers_on, of_helper, is_of_helper,
 use Rattle.av_build.proofs.BlueprintLemmas.{helper_lane_at, lane_there, value_of, place_found, place_is}
 
 module _ (b : Blueprint) (is : IsBlueprint b) (p j : ℕ) (has : HasHelper b p j) where
-  plan : CellPlan
+  abbrev plan : CellPlan
   plan = has.plan
 
   value_is : plan.lanes.value ≡ plan.lanes.first + length (helpers_on plan.pieces)
@@ -30,9 +30,9 @@ module _ (b : Blueprint) (is : IsBlueprint b) (p j : ℕ) (has : HasHelper b p j
   found_below n end none =
       let low = in_range (helpers_on plan.pieces) has.index has.helper has.is_helper in
       let number = value_is in
-      let no = none (plan.lanes.first + has.index) (of_helper p has.helper) (omega arith) (omega (arith, low, number, end)) (lane_at has.index has.helper has.is_helper) in
+      let fails = none (plan.lanes.first + has.index) (of_helper p has.helper) (omega arith) (omega (arith, low, number, end)) (lane_at has.index has.helper has.is_helper) in
       let yes : nat_eq has.helper.number j ≡ true = ap (λ (n : ℕ). nat_eq n j) has.number ∙ same_eq j in
-      absurd (let both = sym no ∙ yes in cc)
+      absurd (let both = sym fails ∙ yes in cc)
 
   -- the first one is that of the helper
   pub first_found : (n : ℕ) (lane : LanePlan) → plan.lanes.first ≤ n → n < plan.lanes.value → slice_get b.lanes n ≡ Some lane → is_of_helper lane j ≡ true
@@ -46,9 +46,9 @@ module _ (b : Blueprint) (is : IsBlueprint b) (p j : ℕ) (has : HasHelper b p j
       let same : of_helper p helper.0 ≡ lane = some_is (of_helper p helper.0) lane (sym own ∙ is_lane) in
       let same_number : helper.0.number ≡ j = equal helper.0.number j (ap (λ (l : LanePlan). is_of_helper l j) same ∙ yes) in
       let place : helper_place j (helpers_on plan.pieces) ≡ i = place_found j (helpers_on plan.pieces) i helper.0 helper.1 same_number (λ k g lt is_g e. (
-          let no = none (plan.lanes.first + k) (of_helper p g) (omega arith) (omega (arith, lt, low)) (lane_at k g is_g) in
+          let fails = none (plan.lanes.first + k) (of_helper p g) (omega arith) (omega (arith, lt, low)) (lane_at k g is_g) in
           let also : nat_eq g.number j ≡ true = ap (λ (m : ℕ). nat_eq m j) e ∙ same_eq j in
-          absurd (let both = sym no ∙ also in cc))) in
+          absurd (let both = sym fails ∙ also in cc))) in
       let told : (lanes_of b.cells).of_helper j p ≡ plan.lanes.first + helper_place j (helpers_on plan.pieces) = ap (λ (o : Option CellPlan). helper_in j o) has.is_plan in
       omega (arith, told, place, at)
     where

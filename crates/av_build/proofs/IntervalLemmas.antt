@@ -67,6 +67,10 @@ first_low : (begun : Option Interval) (m : Mark) (marks : List Mark) → IsBegun
 first_low None m marks h = omega arith
 first_low (Some i) m marks h = omega (arith, h.0, h.1.0)
 
+last_high : (begun : Option Interval) (n : ℕ) → n ≤ (extended begun n).last
+last_high None n = omega arith
+last_high (Some i) n = omega arith
+
 -- ---- a mark that holds is in an interval
 
 -- so is each number of the begun one
@@ -84,7 +88,7 @@ mark_there [] up begun h k t is holds = absurd cc
 mark_there (m ∷ marks) up begun h zero t is holds =
     let e = some_is m t is in
     let own : m.holds ≡ true = ap (λ (u : Mark). u.holds) e ∙ holds in
-    let there = begun_there marks up.1 (extended begun m.number) m.number (extended_begun begun m marks h up.0) (first_low begun m marks h) (omega arith) in
+    let there = begun_there marks up.1 (extended begun m.number) m.number (extended_begun begun m marks h up.0) (first_low begun m marks h) (last_high begun m.number) in
     subst (λ (n : ℕ). list_any (has_number n) (intervals_from begun (m ∷ marks)) ≡ true) (ap (λ (u : Mark). u.number) e) (chosen m.holds own there)
   where
     chosen : (b : Bool) → b ≡ true → list_any (has_number m.number) (intervals_from (Some (extended begun m.number)) marks) ≡ true
@@ -148,7 +152,7 @@ from_begun [] up (Some i) h x e = elim (any_cases x i [] e) [
 from_begun (m ∷ marks) up begun h x e = by_test m.holds refl e (from_begun marks up.1 (Some (extended begun m.number)) (extended_begun begun m marks h up.0) x) (from_begun marks up.1 None tt x)
   where
     none : InBegun None x marks ⊎ Holds marks x → Holds marks x
-    none (inl no) = absurd no
+    none (inl never) = absurd never
     none (inr l) = l
 
     first_above : (o : Option Interval) → (extended o m.number).first ≤ x → x < m.number → AreAbove x marks → InBegun o x (m ∷ marks)
@@ -178,7 +182,7 @@ from_begun (m ∷ marks) up begun h x e = by_test m.holds refl e (from_begun mar
 
 pub holds_there : (marks : List Mark) → AreRising marks → (x : ℕ) → list_any (has_number x) (intervals_by marks) ≡ true → Holds marks x
 holds_there marks up x e = elim (from_begun marks up None tt x e) [
-  | inl no ↦ absurd no
+  | inl never ↦ absurd never
   | inr l ↦ l
 ]
 

@@ -86,6 +86,10 @@ module _ (a : Array) (count : ℕ → ℕ) (p : ℕ) (slots : List Slot) (order 
     (each : (k : ℕ) (slot : Slot) → slice_get slots k ≡ Some slot → (n : ℕ) × ComputesOn a p slot.cycle n slot.point × R n slot.point)
     (all : (c n : ℕ) (z : Point) → ComputesOn a p c n z → R n z → (k : ℕ) × (slice_get slots k ≡ Some (record { cycle = c; point = z })))
     (same : (c n : ℕ) (z : Point) → ComputesOn a p c n z → R n z → P (record { cycle = c; point = z }) ↔ Q n z) where
+  -- the number of a computation
+  abbrev Ending : ℕ → Type 0
+  Ending x = (c : ℕ) × (n : ℕ) × (z : Point) × ComputesOn a p c n z × (x ≡ count c)
+
   pub mode_for : (marks : List Mark) → AreMarks count slots order P (length order) marks → (work : Work) → IsModeFor a count p R Q (record { intervals = intervals_by marks; work = work })
   mode_for marks are work = record {
     numbers = λ c n z computes read.
@@ -109,9 +113,6 @@ module _ (a : Array) (count : ℕ → ℕ) (p : ℕ) (slots : List Slot) (order 
     ends = ends_are Ending marks (each_by_place (λ (m : Mark). Ending m.number) marks (λ i m is. ending i m is));
   }
     where
-      abbrev Ending : ℕ → Type 0
-      Ending x = (c : ℕ) × (n : ℕ) × (z : Point) × ComputesOn a p c n z × (x ≡ count c)
-
       ending : (i : ℕ) (m : Mark) → slice_get marks i ≡ Some m → Ending m.number
       ending i m is =
           let own = slot_of count slots order P in_order marks are i m is in

@@ -41,11 +41,11 @@ module _ (count : ℕ → ℕ) (slots : List Slot) (order : List ℕ) (R : Point
 
     -- none for one that is not read
     pub none_more : (R slot.point → ⊥) → AreMomentsTo count slots order R P (n + 1) moments
-    none_more no = record {
+    none_more never = record {
       each = λ k t is. longer t (h.each k t is);
       all = λ i s low other read. (elim (cases_lt i n) [
         | inl l ↦ h.all i s l other read
-        | inr ge ↦ absurd (let e : i ≡ n = omega (arith, low, ge) in no (subst (λ (x : Slot). R x.point) (sym (one_slot s (subst (λ (k : ℕ). IsAt slots order k s) e other))) read))
+        | inr ge ↦ absurd (let e : i ≡ n = omega (arith, low, ge) in never (subst (λ (x : Slot). R x.point) (sym (one_slot s (subst (λ (k : ℕ). IsAt slots order k s) e other))) read))
       ]);
       rises = h.rises;
     }

@@ -1,5 +1,5 @@
 -- The lanes of a blueprint, each as it is built, are a program for the array.
-use Rattle.std.proofs.Common.{◌≡◌, ℕ, suc, ◌+◌, ◌-◌, ◌<◌, ◌≤◌, ◌×◌, inl, inr, List, length, map, refl, sym, ap, subst, ◌∙◌, arith, IsTrue, Option, Some, None}
+use Rattle.std.proofs.Common.{◌≡◌, ℕ, suc, ◌+◌, ◌-◌, ◌<◌, ◌≤◌, inl, inr, List, length, map, refl, sym, ap, subst, ◌∙◌, arith, IsTrue, Option, Some, None}
 use Rattle.std.specs.Prelude.{slice_get}
 use Rattle.std.proofs.lemmas.List.{length-map}
 use Rattle.av_base.proofs.Lists.{get_mapped, some_is, there_is, place_in}

@@ -31,7 +31,7 @@ site_is inlet width (t ∷ moments) links source e f =
 
 module _ (all : List Link) (end : Source) (links : List Link) (last : Moment) (moments : List Moment) (n : ℕ) where
   module _ (m : Moment) (low : n < length moments) (is : m ≡ get_or moments n m) (h : IsSoFar all end links last (drop n moments)) where
-    rest : List Moment
+    abbrev rest : List Moment
     rest = drop (n + 1) moments
 
     before : links ++ links_from last (m ∷ rest) ≡ all

@@ -1,5 +1,5 @@
 -- The lane of the value of a cell, from a mode for each of its pieces.
-use Rattle.std.proofs.Common.{◌≡◌, ℕ, ◌<◌, ◌×◌, inl, inr, List, length, map, sym, ap, subst, ◌∙◌, arith, IsTrue, Some, None}
+use Rattle.std.proofs.Common.{◌≡◌, ℕ, ◌<◌, inl, inr, List, length, map, sym, ap, subst, ◌∙◌, arith, IsTrue, Some, None}
 use Rattle.std.specs.Prelude.{slice_get, nat_lt}
 use Rattle.std.proofs.lemmas.Bool.{cases_lt}
 use Rattle.av_base.proofs.Among.{among_at}

@@ -196,7 +196,7 @@ pub record HasFewOperators (counter : Counter) (s : FlatSystem) (placings : List
   pub drives : List Drive
   pub are_drives : AreDrivesOf p m.drives drives
   pub sorts : List Sort
-  pub are_sorts : AreOfSorts m.drives drives sorts
+  pub are_sorts : AreOfSorts counter m.drives drives sorts
   pub few : (k : Sort) → k ≢ rest → how_many k sorts ≤ sum (map (λ (q : Piece). operators k q.tree) pieces)
 
 -- ---- the counter

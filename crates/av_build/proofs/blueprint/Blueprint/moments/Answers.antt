@@ -1,4 +1,5 @@
-use Rattle.std.proofs.Common.{◌+◌, refl, sym, subst}
+use Rattle.std.proofs.Common.{◌+◌, refl, sym, subst, get_or}
+use Rattle.std.proofs.lemmas.Option.{slice_get-get_or}
 use Rattle.av_flat.specs.Trees.{view}
 use Rattle.av_kinds.specs.Counters.{count_in}
 use Rattle.av_history.specs.Performing.{IsPlaceSource}
@@ -6,7 +7,7 @@ use Rattle.av_build.specs.inner.Blueprints.{seen, spot_of, lanes_of}
 use Rattle.av_build.specs.inner.Orders.{AreMomentsTo}
 use Rattle.av_build.specs.inner.Programmed.{Always}
 use Rattle.av_build.proofs.MomentLemmas.{one_more}
-use Rattle.av_build.proofs.Pairwise.{element, element_of}
+use Rattle.av_build.proofs.Pairwise.{element_of}
 use Rattle.av_build.proofs.PlaceSources.{plain_source}
 use Rattle.av_build.proofs.blueprint.Blueprint.moments.Goals as goal
 
@@ -16,8 +17,8 @@ loop-k-preserved c =
     let spot = c.args.spot.now in
     let site = c.args.site.now in
     let n = c.loop-k.k-index in
-    let place = c.k-item.result in
-    let is_place = element c.args.order.now n place place c.loop-k-test.true c.k-item.is in
+    let place = get_or c.args.order.now n 0 in
+    let is_place = slice_get-get_or c.args.order.now n 0 c.loop-k-test.true in
     let slot = c.index-slots-k.result in
     let low = c.requires.order.within n place is_place in
     let is_slot = element_of spot.slots c.as_slice.result.now place slot slot c.as_slice.ensures low c.index-slots-k.is in
