@@ -14,7 +14,7 @@ use Rattle.av_space.specs.declared.array.Array.{Array as ArrayMade}
 use Rattle.av_space.specs.declared.cells.Cell.{Cell}
 use Rattle.av_space.specs.declared.spots.Spot.{Spot as SpotMade}
 use Rattle.av_space.specs.Links.{line_length}
-use Rattle.av_space.specs.Spots.{system_of, helpers_of, cells_of, ComputesIn, IsSpot, AreSpots}
+use Rattle.av_space.specs.Spots.{system_of, helpers_of, cells_of, ComputesIn, IsSpot, IsSlotIn, AreSpots}
 use Rattle.av_space.proofs.ByPlace.{from_map, pair_at}
 use Rattle.av_space.proofs.Elements.{at_index, in_range}
 use Rattle.av_space.proofs.Nodes.{passing}
@@ -94,6 +94,17 @@ module _ (b : Blueprint) (is : IsBlueprint b) (counter : Counter) (counted : IsC
         let here = passing is_node (system_of w).variables n v is_variable in
         arranged.one_piece v y (among_at (system_of w).variables here.place v here.is) (both (is_computed v.kind) (nat_lt 0 (length v.pieces)) here.passes).0 declared j k s t is_s is_t in_s in_t
 
+    -- each has a computation
+    busy_piece : (i k : ℕ) (piece : Piece) → slice_get (map (λ (at : SpotMade). at.number) spots) i ≡ Some k → slice_get v.pieces k ≡ Some piece → (d : ℕ) × (y : Point) × ComputesIn w p d n y × IsTrue (has piece.domain y)
+    busy_piece i k piece e f =
+        let at = from_map (λ (at : SpotMade). at.number) spots i k e in
+        let s = spot_at i at.0 at.1 in
+        let t = there_is at.0.slots 0 s.1 in
+        let on = at_index (IsSlotIn w at.0.cell at.0.node at.0.piece.now.domain) at.0.slots s.2.are_slots.each 0 t.0 t.1 in
+        let same : view_piece at.0.piece.now ≡ piece = some_is (view_piece at.0.piece.now) piece (sym (of_variable at.0 s.0 s.2) ∙ ap (λ (j : ℕ). slice_get v.pieces j) at.2 ∙ f) in
+        let here = subst (λ (q : ℕ). ComputesIn w q t.0.cycle at.0.node t.0.point) s.0 on.computes in
+        (t.0.cycle, t.0.point, subst (λ (m : ℕ). ComputesIn w p t.0.cycle m t.0.point) (node_is at.0 s.0 s.2) here, subst (λ (q : Piece). IsTrue (has q.domain t.0.point)) same on.within)
+
     module _ (modes : List Mode) (many : length modes ≡ length spots) (each : (k : ℕ) (mode : Mode) → slice_get modes k ≡ Some mode → IsValueMode b counter p k mode) where
       -- the piece of a mode
       piece_of : (i : ℕ) (mode : Mode) → slice_get modes i ≡ Some mode
@@ -142,6 +153,7 @@ module _ (b : Blueprint) (is : IsBlueprint b) (counter : Counter) (counted : IsC
         width_is = width;
         pieces = map (λ (at : SpotMade). at.number) spots;
         mode = λ i mode e. piece_of i mode (ap (λ (l : List Mode). slice_get l i) (sym are_modes) ∙ e);
+        busy = busy_piece;
         every = λ k piece e d m y there inside. (
             let r = every k piece e d m y there inside in
             (r.0, r.1, ap (λ (l : List Mode). slice_get l r.0) are_modes ∙ r.2, r.3));

@@ -108,6 +108,8 @@ pub record IsValueLane (a : Array) (count : ℕ → ℕ) (lanes : Lanes) (first 
       → (k : ℕ) × (piece : Piece) × (slice_get pieces i ≡ Some k) × (slice_get v.pieces k ≡ Some piece)
       × IsWorkFor a count lanes first (record { cell = p; node = n; variable = v; number = k; piece = piece }) mode.work
       × IsModeFor a count p (λ m z. m ≡ n) (λ m z. IsTrue (has piece.domain z)) mode
+  -- each has a computation
+  pub busy : (i k : ℕ) (piece : Piece) → slice_get pieces i ≡ Some k → slice_get v.pieces k ≡ Some piece → (c : ℕ) × (z : Point) × ComputesOn a p c n z × IsTrue (has piece.domain z)
   pub every : (k : ℕ) (piece : Piece) → slice_get v.pieces k ≡ Some piece → (c m : ℕ) (z : Point) → ComputesOn a p c m z → IsTrue (has piece.domain z)
       → (i : ℕ) × (mode : Mode) × (slice_get lane.modes i ≡ Some mode) × (slice_get pieces i ≡ Some k)
   pub alone : AreAlone lane.modes
