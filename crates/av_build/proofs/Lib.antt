@@ -30,6 +30,7 @@ pub mod Performed
 pub mod Lengths
 pub mod Owned
 pub mod FineLanes
+pub mod ProgramLanes
 pub mod NotLater
 pub mod PlanShows
 pub mod Joined
