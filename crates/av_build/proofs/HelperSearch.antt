@@ -31,20 +31,20 @@ module _ (b : Blueprint) (is : IsBlueprint b) (p j : ℕ) (has : HasHelper b p j
       let low = in_range (helpers_on plan.pieces) has.index has.helper has.is_helper in
       let number = value_is in
       let fails = none (plan.lanes.first + has.index) (of_helper p has.helper) (omega arith) (omega (arith, low, number, end)) (lane_at has.index has.helper has.is_helper) in
-      let yes : nat_eq has.helper.number j ≡ true = ap (λ (n : ℕ). nat_eq n j) has.number ∙ same_eq j in
-      absurd (let both = sym fails ∙ yes in cc)
+      let holds : nat_eq has.helper.number j ≡ true = ap (λ (n : ℕ). nat_eq n j) has.number ∙ same_eq j in
+      absurd (let both = sym fails ∙ holds in cc)
 
   -- the first one is that of the helper
   pub first_found : (n : ℕ) (lane : LanePlan) → plan.lanes.first ≤ n → n < plan.lanes.value → slice_get b.lanes n ≡ Some lane → is_of_helper lane j ≡ true
       → ((q : ℕ) (other : LanePlan) → plan.lanes.first ≤ q → q < n → slice_get b.lanes q ≡ Some other → is_of_helper other j ≡ false) → n ≡ (lanes_of b.cells).of_helper j p
-  first_found n lane low high is_lane yes none =
+  first_found n lane low high is_lane holds none =
       let number = value_is in
       let i = n - plan.lanes.first in
       let helper = there_is_one (helpers_on plan.pieces) i (omega (arith, low, high, number)) in
       let at : plan.lanes.first + i ≡ n = omega (arith, low) in
       let own : slice_get b.lanes n ≡ Some (of_helper p helper.0) = subst (λ (k : ℕ). slice_get b.lanes k ≡ Some (of_helper p helper.0)) at (lane_at i helper.0 helper.1) in
       let same : of_helper p helper.0 ≡ lane = some_is (of_helper p helper.0) lane (sym own ∙ is_lane) in
-      let same_number : helper.0.number ≡ j = equal helper.0.number j (ap (λ (l : LanePlan). is_of_helper l j) same ∙ yes) in
+      let same_number : helper.0.number ≡ j = equal helper.0.number j (ap (λ (l : LanePlan). is_of_helper l j) same ∙ holds) in
       let place : helper_place j (helpers_on plan.pieces) ≡ i = place_found j (helpers_on plan.pieces) i helper.0 helper.1 same_number (λ k g lt is_g e. (
           let fails = none (plan.lanes.first + k) (of_helper p g) (omega arith) (omega (arith, lt, low)) (lane_at k g is_g) in
           let also : nat_eq g.number j ≡ true = ap (λ (m : ℕ). nat_eq m j) e ∙ same_eq j in
