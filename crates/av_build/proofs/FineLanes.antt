@@ -11,7 +11,7 @@ use Rattle.av_base.proofs.Widths.{width_is}
 use Rattle.av_affine.specs.declared.map.Map.{Map}
 use Rattle.av_tree.specs.Points.{Point}
 use Rattle.av_flat.specs.declared.tree.Choice.{Choice}
-use Rattle.av_flat.specs.Trees.{Tree, reference, constant, binary, choice, restriction, cases, dependence, reduction, pick}
+use Rattle.av_flat.specs.Trees.{FlatSystem, Tree, reference, constant, binary, choice, restriction, cases, dependence, reduction, pick}
 use Rattle.av_flat.specs.Points.{has}
 use Rattle.av_flat.specs.Values.{picked}
 use Rattle.av_flat.specs.Nodes.{is_node, nodes, number_at}
@@ -124,6 +124,11 @@ fine_site a count few program at is_variable is_piece R P site h owned = (
     there source (inr (c, z, computes, inside, read, right)) =
         is_source a program site.width at.cell source (owned c z source (record { computes = computes; is_variable = is_variable; is_piece = is_piece; within = inside }) read right)
 
+-- a pick taps
+inlet_pick : (s : FlatSystem) (pipe : ℕ → ℕ) (o : Option Handing) (place : ℕ) (choices : List Choice) (n : ℕ) → inlet_by s pipe o (pick place choices n) ≡ Taps
+inlet_pick s pipe None place choices n = refl
+inlet_pick s pipe (Some h) place choices n = refl
+
 -- by ports for words of input ports, or for those of lines
 either_inlet : (program : Program) (first q : ℕ) (b : Bool) (site : Site) → IsFineSite program site → IsInletOf program first q (if b then Taps else Inputs) site
 either_inlet program first q true site h = h
@@ -188,7 +193,7 @@ module _ (a : Array) (count : ℕ → ℕ) (few : (c : ℕ) → count c < 2 ^ 12
   picking first q at own busy i place choices n site h fits =
       let fine = fine_site a count few program at busy.is_variable busy.is_piece Always (λ z c source. IsPlaceSource a lanes at z c i (pick place choices n) source) site h.reads
       (λ c z source r read brought. pick_owned a count lanes program g arranged ports site.width at c z r i place choices n (subst (λ (w : ℕ). IsWord w n) (sym h.width) fits) (h.width ∙ busy.wide) (picked choices z) refl source brought) in
-      subst (λ (x : Inlet). IsInletOf program first q x site) (sym h.inlet) fine
+      subst (λ (x : Inlet). IsInletOf program first q x site) (sym (h.inlet ∙ inlet_pick a.system (pipe_in lanes at.cell first) (handing_at a at i) place choices n)) fine
 
   -- a place of the piece, in the lane of the cell's value
   place_fine : (first q : ℕ) (at : Spot) (own : ℕ) → IsBusy at own → q ≡ lanes.of_value at.cell → (cell : CellLanes) → slice_get program.cells at.cell ≡ Some cell → cell.first ≡ first

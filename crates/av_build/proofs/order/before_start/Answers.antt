@@ -11,8 +11,8 @@ loop-k-preserved c =
     let t = c.index-slots-k.result in
     let is = element slots k t t c.loop-k-test.true c.index-slots-k.is in
     let no = c.if-number-least.false in
-    let number = c.number-least.ensures in
-    one_high (count_in c.args.counter) slots c.number.result k c.loop-k.invariant t is (omega (arith, no, number))
+    let number = c.number.ensures in
+    one_high (count_in c.args.counter) slots c.number-least.result k c.loop-k.invariant t is (omega (arith, no, number))
 
 pub returns-then-number-least : goal.returns-then-number-least
 returns-then-number-least c =
@@ -24,6 +24,6 @@ returns-then-number-least c =
     let lt = c.loop-k-test.true in
     let is_first = element slots 0 first first (omega (arith, lt)) c.index-slots-0.is in
     let low = c.if-number-least.true in
-    let number = c.number-least.ensures in
-    let least = c.number.ensures in
+    let number = c.number.ensures in
+    let least = c.number-least.ensures in
     start_here (count_in c.args.counter) slots first is_first k (subst (λ n. AreHigh (count_in c.args.counter) slots n k) least c.loop-k.invariant) t is (omega (arith, low, number, least))

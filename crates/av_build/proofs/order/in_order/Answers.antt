@@ -8,7 +8,7 @@ loop-late-preserved c = late_more c.loop-late.order c.push.new.self c.before_sta
 
 pub loop-early-preserved : goal.loop-early-preserved
 loop-early-preserved c =
-    early_more (range_with_len c.before_start-start.result (length c.args.slots.now - c.before_start-start.result)) c.loop-early.order c.push-2.new.self c.loop-early.early c.loop-early.invariant c.in_ok-push-2.ensures.ok
+    early_more (range_with_len c.before_start-start.result (length c.args.slots.now - c.before_start-start.result)) c.loop-early.order c.push-in-loop-early.new.self c.loop-early.early c.loop-early.invariant c.in_ok-push-2.ensures.ok
 
 pub returns : goal.returns
 returns c =
