@@ -1,4 +1,4 @@
-use Rattle.std.proofs.Common.{◌≡◌, ◌∙◌, ap, Some, ◌+◌, ◌++◌, List, Option, drop, sym, subst, get_or, false}
+use Rattle.std.proofs.Common.{◌≡◌, None, ◌∙◌, ap, Some, ◌+◌, ◌++◌, List, Option, drop, sym, subst, get_or, false}
 use Rattle.av_base.proofs.Lists.{same_default}
 use Rattle.av_kinds.specs.declared.program.Interval.{Interval}
 use Rattle.av_build.specs.declared.intervals.Mark.{Mark}
@@ -22,8 +22,9 @@ loop-mark-preserved c =
           subst (λ (b : Option Interval). c.loop-mark.intervals ++ intervals_from b (drop (n + 1) marks) ≡ all) (ap (λ (i : Interval). Some i) (sym w.extended.ensures) ∙ sym w.begun-is)
           (more_begun all c.loop-mark.intervals c.loop-mark.begun marks n m c.loop-mark-test.true is w.if-mark.true c.loop-mark.invariant)
       | else-mark+in_ok-add_closed w ↦
-          subst (λ (l : List Interval). l ++ intervals_from w.begun (drop (n + 1) marks) ≡ all) (sym w.intervals-is)
-          (one_closed all c.loop-mark.intervals w.add_closed.new.intervals c.loop-mark.begun marks n m c.loop-mark-test.true is w.if-mark.false w.in_ok-add_closed.ensures c.loop-mark.invariant)
+          subst (λ (b : Option Interval). c.if-mark.intervals ++ intervals_from b (drop (n + 1) marks) ≡ all) (sym w.begun-is)
+          (subst (λ (l : List Interval). l ++ intervals_from None (drop (n + 1) marks) ≡ all) (sym w.intervals-is)
+          (one_closed all c.loop-mark.intervals w.add_closed.new.intervals c.loop-mark.begun marks n m c.loop-mark-test.true is w.if-mark.false w.in_ok-add_closed.ensures c.loop-mark.invariant))
     ]
 
 pub returns : goal.returns
