@@ -19,8 +19,9 @@ loop-mark-preserved c =
     let is = same_default marks n none m c.loop-mark-test.true in
     elim c.if-mark.branch [
       | then-mark w ↦
-          subst (λ (b : Option Interval). c.loop-mark.intervals ++ intervals_from b (drop (n + 1) marks) ≡ all) (ap (λ (i : Interval). Some i) (sym w.extended.ensures) ∙ sym w.begun-is)
-          (more_begun all c.loop-mark.intervals c.loop-mark.begun marks n m c.loop-mark-test.true is w.if-mark.true c.loop-mark.invariant)
+          subst (λ (l : List Interval). l ++ intervals_from c.if-mark.begun (drop (n + 1) marks) ≡ all) (sym w.intervals-is)
+          (subst (λ (b : Option Interval). c.loop-mark.intervals ++ intervals_from b (drop (n + 1) marks) ≡ all) (ap (λ (i : Interval). Some i) (sym w.extended.ensures) ∙ sym w.begun-is)
+          (more_begun all c.loop-mark.intervals c.loop-mark.begun marks n m c.loop-mark-test.true is w.if-mark.true c.loop-mark.invariant))
       | else-mark+in_ok-add_closed w ↦
           subst (λ (b : Option Interval). c.if-mark.intervals ++ intervals_from b (drop (n + 1) marks) ≡ all) (sym w.begun-is)
           (subst (λ (l : List Interval). l ++ intervals_from None (drop (n + 1) marks) ≡ all) (sym w.intervals-is)
