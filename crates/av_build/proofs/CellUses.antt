@@ -1,8 +1,9 @@
 -- Each cell of an array has computations, and with them a piece.
 use Rattle.std.proofs.Common.{◌≡◌, ℕ, ◌<◌, List, length, map, sym, ap, subst, ◌∙◌, arith, Some}
-use Rattle.std.specs.Prelude.{slice_get, Contains}
+use Rattle.std.specs.Prelude.{slice_get, Contains, nat_lt}
 use Rattle.av_tree.specs.Points.{Point}
 use Rattle.av_flat.specs.Trees.{Variable, FlatSystem}
+use Rattle.av_flat.specs.Signatures.{is_computed}
 use Rattle.av_flat.specs.Nodes.{is_node, nodes}
 use Rattle.av_space.specs.declared.array.Array.{Array as ArrayMade}
 use Rattle.av_space.specs.declared.cells.Cell.{Cell}
@@ -16,8 +17,8 @@ use Rattle.av_space.proofs.Elements.{at_index, in_range}
 use Rattle.av_space.proofs.Nodes.{passing}
 use Rattle.av_space.proofs.Scheduling.{scheduled}
 use Rattle.av_space.proofs.Timely.{some_piece_of}
-use Rattle.av_build.proofs.Serving.{computed_node}
 use Rattle.av_base.proofs.Among.{among_at}
+use Rattle.av_base.proofs.Truths.{both}
 use Rattle.av_base.proofs.Lists.{there_is, place_in}
 
 -- a computation on the cell p
@@ -60,8 +61,8 @@ some_spot w is p low spots are =
     let computation = b.computes.stands.computation in
     let v = computation.variable in
     let r = passing is_node s.variables b.cell.node v computation.is in
-    let g = scheduled w.timed.now (placings_of w) (cells_of w) is.legal is.layout.are_placings is.layout.are_cells in
-    let piece = some_piece_of s (helpers_of w) (placings_of w) (cells_of w) g v b.point (among_at s.variables r.place v r.is) (computed_node v r.passes) computation.declared in
+    let g = scheduled w.timed.now (placings_of w) (cells_of w) is.whole.legal is.layout.are_placings is.layout.are_cells in
+    let piece = some_piece_of s (helpers_of w) (placings_of w) (cells_of w) g v b.point (among_at s.variables r.place v r.is) (both (is_computed v.kind) (nat_lt 0 (length v.pieces)) r.passes).0 computation.declared in
     let among = are.all b.cycle b.cell.node b.point v piece.0 piece.1 b.computes computation.is piece.2 piece.3 in
     let i = place_in (map (λ (at : SpotMade). at.number) spots) piece.0 among in
     let at = from_map (λ (at : SpotMade). at.number) spots i.0 piece.0 i.1 in

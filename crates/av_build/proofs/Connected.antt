@@ -1,40 +1,32 @@
--- A legal timed system and its array give what the proof of the netlist asks for.
-use Rattle.std.proofs.Common.{◌≡◌, ℕ, zero, suc, ◌≤◌, ℤ, pos, ◌<ℤ◌, ◌⊎◌, inl, inr, List, [], ◌∷◌, length, map, sym, subst, arith, ◌∙◌, ap, Some, All}
+-- A legal timed system and its array give what the proof of the plan asks for.
+use Rattle.std.proofs.Common.{◌≡◌, ℕ, zero, suc, ◌≤◌, ◌<◌, ℤ, pos, ◌<ℤ◌, ◌⊎◌, inl, inr, List, [], ◌∷◌, length, map, sym, subst, arith, ◌∙◌, ap, Some}
 use Rattle.std.specs.Prelude.{slice_get}
 use Rattle.std.proofs.lemmas.Int.{ints}
 use Rattle.std.proofs.lemmas.List.Elements.{All-weaker}
-use Rattle.av_base.specs.declared.width.Width.{Width}
 use Rattle.av_tree.specs.Points.{Point}
-use Rattle.av_tree.specs.Values.{Assignment}
 use Rattle.av_flat.specs.declared.timed.Time.{Time}
 use Rattle.av_flat.specs.declared.timed.Timed.{Timed}
-use Rattle.av_flat.specs.Trees.{Variable, FlatSystem, view_system}
-use Rattle.av_flat.specs.WellFormed.{EachPart, HasWords}
-use Rattle.av_flat.specs.Nodes.{nodes, IsComputation}
+use Rattle.av_flat.specs.Trees.{Piece, Variable, FlatSystem, view_system}
+use Rattle.av_flat.specs.Nodes.{is_node, nodes, IsComputation}
 use Rattle.av_flat.specs.Chained.{IsChainedVariable}
 use Rattle.av_flat.specs.Schedules.{cycle}
-use Rattle.av_flat.specs.Helped.{HelperWords, IsHelpedSolution}
 use Rattle.av_flat.specs.Legal.{IsLegal}
-use Rattle.av_net.specs.Sound.{IsSound}
-use Rattle.av_net.specs.Shown.{Shows}
+use Rattle.av_space.specs.declared.cells.Cell.{Cell}
 use Rattle.av_space.specs.declared.cells.Cells.{Cells}
 use Rattle.av_space.specs.Coordinates.{Placing, IsPlacing, point, space}
 use Rattle.av_space.specs.Occupancy.{Computes}
-use Rattle.av_space.specs.Listings.{AreAtLines}
 use Rattle.av_space.specs.Arrays.{IsArrayOf}
 use Rattle.av_space.proofs.OneCell.{Inverts}
 use Rattle.av_space.proofs.Placed.{inverts}
-use Rattle.av_build.specs.inner.Programs.{Program}
-use Rattle.av_build.specs.inner.Modules.{module_of}
-use Rattle.av_build.specs.inner.Built.{array_of, IsProgramOf, design_of}
-use Rattle.av_build.proofs.Owned.{AreFew, AreWords}
-use Rattle.av_build.proofs.Joined.{Legal, arranged, fits_words, one_point}
-use Rattle.av_build.proofs.Listed.{place_of}
-use Rattle.av_build.proofs.Whole.{Given, module_sound, module_shows}
 use Rattle.av_space.proofs.Elements.{at_index}
+use Rattle.av_space.proofs.Nodes.{passing}
 use Rattle.av_space.proofs.Scheduling.{chained_variable, chained_piece, scheduled}
 use Rattle.av_base.proofs.Among.{among_at}
 use Rattle.av_base.proofs.Lists.{some_is}
+use Rattle.av_history.specs.Arranged.{IsArranged}
+use Rattle.av_build.specs.inner.Built.{array_of}
+use Rattle.av_build.proofs.FineLanes.{HasNumbers}
+use Rattle.av_build.proofs.Joined.{Legal, arranged, fits_words, one_point}
 
 module _ (t : Timed) (a : Cells) (legal : IsLegal t) (array : IsArrayOf t a) where
   abbrev own : FlatSystem
@@ -54,8 +46,8 @@ module _ (t : Timed) (a : Cells) (legal : IsLegal t) (array : IsArrayOf t a) whe
 
   inverted : (n : ℕ) (v : Variable) (p : Placing) → slice_get (nodes own) n ≡ Some v → slice_get array.placings n ≡ Some p → (v.domain.dim ≡ 0) ⊎ Inverts p v.domain.dim
   inverted n v p is_variable is_placing =
-      let here = place_of own.variables n v is_variable in
-      let variable = chained_variable t array.placings a.cells legal array.are_placings array.cells v (among_at own.variables here.place v here.is_variable) in
+      let here = passing is_node own.variables n v is_variable in
+      let variable = chained_variable t array.placings a.cells legal array.are_placings array.cells v (among_at own.variables here.place v here.is) in
       let time : slice_get t.times n ≡ Some p.time = subst (λ (l : List Time). slice_get l n ≡ Some p.time) times_of (time_at array.placings n p is_placing) in
       let part = legal.schedule.linear n v p.time is_variable time in
       inverse_of v.domain.dim p part.size variable.indices (at_index IsPlacing array.placings array.are_placings.each n p is_placing)
@@ -66,52 +58,31 @@ module _ (t : Timed) (a : Cells) (legal : IsLegal t) (array : IsArrayOf t a) whe
     inverts = inverted;
   }
 
-  pub one_computation : (p c n : ℕ) (x y : Point) → Computes own array.placings a.cells p c n x → Computes own array.placings a.cells p c n y → x ≡ y
-  one_computation p c n x y hx hy = one_point (array_of t a array.placings) legal_array p c n x y hx hy
+  pub arranged_array : IsArranged (array_of t a array.placings)
+  arranged_array = arranged (array_of t a array.placings) legal_array array.links (All-weaker (IsChainedVariable own) (λ (v : Variable). v.width ≡ own.width) (λ v h. h.width) own.variables legal.chained.each)
 
-module _ (w : Width) (t : Timed) (a : Cells) (legal : IsLegal t) (array : IsArrayOf t a) (width_is : (view_system t.flat).width ≡ w.bits) (limit : a.cycles ≤ 4096) where
-  pub words_fit : AreWords w.bits (array_of t a array.placings)
+  -- no cell computes two points in one cycle
+  pub one_computation : (p c m n : ℕ) (y z : Point) → Computes own array.placings a.cells p c m y → Computes own array.placings a.cells p c n z → (m ≡ n) × (y ≡ z)
+  one_computation p c m n y z h k =
+      let cell : h.cell ≡ k.cell = some_is h.cell k.cell (sym h.is_cell ∙ k.is_cell) in
+      let same : m ≡ n = sym h.stands.node ∙ ap (λ (x : Cell). x.node) cell ∙ k.stands.node in
+      (same, one_point (array_of t a array.placings) legal_array p c n y z (subst (λ (i : ℕ). Computes own array.placings a.cells p c i y) same h) k)
+
+  -- the numbers of each piece are words of its variable
+  pub words_fit : (n : ℕ) (v : Variable) (k : ℕ) (piece : Piece) → slice_get (nodes own) n ≡ Some v → slice_get v.pieces k ≡ Some piece → HasNumbers v.width piece.tree
   words_fit n v k piece is_variable is_piece =
-      let here = place_of (view_system t.flat).variables n v is_variable in
-      let among = among_at (view_system t.flat).variables here.place v here.is_variable in
-      let variable = chained_variable t array.placings a.cells legal array.are_placings array.cells v among in
+      let here = passing is_node own.variables n v is_variable in
+      let among = among_at own.variables here.place v here.is in
       let tree = (chained_piece t array.placings a.cells legal array.are_placings array.cells v k piece among is_piece).tree in
-      let width : v.width ≡ w.bits = variable.width ∙ width_is in
-      fits_words w.bits piece.tree tree.plain (subst (λ (m : ℕ). EachPart (HasWords m) piece.tree) width tree.words)
+      fits_words v.width piece.tree tree.plain tree.words
 
-  cycles_above : (n : ℕ) (z : Point) → IsComputation (view_system t.flat) n z → (p : Placing) → slice_get array.placings n ≡ Some p → cycle p.time z <ℤ pos a.cycles
+  cycles_above : (n : ℕ) (z : Point) → IsComputation own n z → (p : Placing) → slice_get array.placings n ≡ Some p → cycle p.time z <ℤ pos a.cycles
   cycles_above n z computation p at =
-      let time = ap (λ (ts : List Time). slice_get ts n) (sym array.are_placings.times_are) ∙ time_at t a legal array array.placings n p at in
+      let time = ap (λ (ts : List Time). slice_get ts n) (sym array.are_placings.times_are) ∙ time_at array.placings n p at in
       array.cycles.above n z p.time computation time
 
-  pub few_cycles : AreFew (array_of t a array.placings)
-  few_cycles p c n z h =
+  pub few_cycles : (limit : a.cycles ≤ 4096) (p c n : ℕ) (z : Point) → Computes own array.placings a.cells p c n z → c < 4096
+  few_cycles limit p c n z h =
       let l = cycles_above n z h.stands.computation h.stands.placing h.stands.is_placing in
       let e = h.stands.in_cycle in
       omega (arith, ints, l, limit, e)
-
-module _ (w : Width) (t : Timed) (a : Cells) (program : Program) (g : IsProgramOf w t a program) where
-  widths : All (λ (v : Variable). v.width ≡ w.bits) (view_system t.flat).variables
-  widths = All-weaker (IsChainedVariable (view_system t.flat)) (λ (v : Variable). v.width ≡ w.bits) (λ v h. h.width ∙ g.width_is) (view_system t.flat).variables g.legal.chained.each
-
-  pub given : Given w (array_of t a g.array.placings) g.lanes a.listing program
-  given = record {
-    arranged = arranged (array_of t a g.array.placings) (legal_array t a g.legal g.array) g.lanes a.listing.ins program g.array.links g.array.ins g.is_program;
-    are_cells = g.array.cells;
-    are_ats = subst (λ (l : List ℕ). AreAtLines (view_system t.flat) g.array.placings a.cells l a.listing.ats) g.array.outputs g.array.ats;
-    outputs_are = g.outputs_are ∙ ap (λ (l : List ℕ). map g.lanes.of_value l) g.array.outputs;
-    widths = widths;
-    few = few_cycles w t a g.legal g.array g.width_is g.few;
-    words = words_fit w t a g.legal g.array g.width_is g.few;
-    ports = g.small.ports;
-    outputs = g.small.outputs;
-    cells = g.small.cells;
-    wires = g.small.wires;
-    registers = g.small.registers;
-  }
-
-  pub is_sound : IsSound (module_of w program)
-  is_sound = module_sound w (array_of t a g.array.placings) g.lanes a.listing program given
-
-  pub shows_all : (x u : Assignment) (words : HelperWords) → IsHelpedSolution (view_system t.flat) t.helpers x u words → Shows (design_of w a program) x u
-  shows_all x u words solves = module_shows w (array_of t a g.array.placings) g.lanes a.listing program given x u words solves

@@ -1,31 +1,27 @@
 -- What a legal system gives to its array.
-use Rattle.std.proofs.Common.{◌≡◌, ℕ, ◌+◌, ◌<◌, ◌≤◌, List, [], length, sym, subst, ◌∙◌, ap, true, Some, ◌⊎◌, inl, inr}
+use Rattle.std.proofs.Common.{◌≡◌, ℕ, ◌+◌, ◌<◌, length, sym, subst, ◌∙◌, ap, true, Some, All, ◌⊎◌, inl, inr}
 use Rattle.std.specs.Prelude.{slice_get, nat_eq}
 use Rattle.av_tree.specs.Points.{Point}
 use Rattle.av_poly.specs.Points.{Set}
-use Rattle.av_net.specs.declared.design.Entry.{Entry}
 use Rattle.av_flat.specs.Trees.{Tree, Piece, Variable, reference, constant, binary, choice, restriction, cases, dependence, reduction, pick}
 use Rattle.av_flat.specs.WellFormed.{EachPart, HasWords}
 use Rattle.av_flat.specs.Kept.{IsPlain}
 use Rattle.av_flat.specs.Points.{has}
+use Rattle.av_flat.specs.Nodes.{is_node, nodes}
 use Rattle.av_space.specs.Coordinates.{Placing}
-use Rattle.av_flat.specs.Nodes.{nodes}
 use Rattle.av_space.specs.Taps.{node_place, Tap, taps, IsTapRead}
 use Rattle.av_space.specs.Occupancy.{Computes}
 use Rattle.av_space.specs.Links.{AreLinks}
-use Rattle.av_space.specs.Listings.{AreInLines}
-use Rattle.av_space.proofs.OneCell.{one_node, Inverts, between_cycles, same_point}
-use Rattle.av_build.specs.inner.Programs.{Program}
-use Rattle.av_build.specs.inner.Programmed.{Array, Lanes, IsProgramFor}
-use Rattle.av_build.proofs.Fine.{FitsTree}
-use Rattle.av_build.proofs.Serving.{Arranged}
+use Rattle.av_space.proofs.OneCell.{Inverts, same_point}
 use Rattle.av_space.proofs.Timely.{Scheduled, some_piece_of, one_piece_of, earlier}
-use Rattle.av_build.proofs.Listed.{place_of}
-use Rattle.av_space.proofs.Nodes.{own_place}
+use Rattle.av_space.proofs.Nodes.{passing, own_place}
 use Rattle.av_space.proofs.Placed.{empty}
-use Rattle.av_base.proofs.Truths.{both}
 use Rattle.av_space.proofs.Helpers.{equal}
+use Rattle.av_base.proofs.Truths.{both}
 use Rattle.av_base.proofs.Lists.{some_is}
+use Rattle.av_history.specs.Performing.{Array}
+use Rattle.av_history.specs.Arranged.{IsArranged}
+use Rattle.av_build.proofs.FineLanes.{HasNumbers}
 
 pub record Legal (a : Array) : Type 0 where
   pub scheduled : Scheduled a.system a.helpers a.times a.cells
@@ -35,55 +31,32 @@ pub record Legal (a : Array) : Type 0 where
 has_size : (set : Set) (z : Point) → has set z ≡ true → length z ≡ set.dim
 has_size set z h = equal (length z) set.dim (both (nat_eq (length z) set.dim) _ h).0
 
--- the points of a node
-record IsPoint (a : Array) (n : ℕ) (z : Point) (v : Variable) : Type 0 where
-  is_variable : slice_get (nodes a.system) n ≡ Some v
-  size : length z ≡ v.domain.dim
-
 point_of : (a : Array) (p c n : ℕ) (z : Point) (v : Variable) → Computes a.system a.times a.cells p c n z → slice_get (nodes a.system) n ≡ Some v → length z ≡ v.domain.dim
 point_of a p c n z v h is =
     let computation = h.stands.computation in
     let same : computation.variable ≡ v = some_is computation.variable v (sym computation.is ∙ is) in
     has_size v.domain z (subst (λ (w : Variable). has w.domain z ≡ true) same computation.declared)
 
--- on a cell a piece has each computed cycle between two of its own
-between : (a : Array) → Legal a → (p n : ℕ) (piece : Piece) (b c d : ℕ) (x y z : Point) → Computes a.system a.times a.cells p b n x → Computes a.system a.times a.cells p c n y → Computes a.system a.times a.cells p d n z
-    → b ≤ c → c ≤ d → has piece.domain x ≡ true → has piece.domain z ≡ true → has piece.domain y ≡ true
-between a g p n piece b c d x y z hx hy hz low high in_x in_z =
-    let v = hx.stands.computation.variable in
-    let is = hx.stands.computation.is in
-    let sx = point_of a p b n x v hx is in
-    let sy = point_of a p c n y v hy is in
-    let sz = point_of a p d n z v hz is in
-    elim (g.inverts n v hx.stands.placing is hx.stands.is_placing) [
-      | inl none ↦ subst (λ (q : Point). has piece.domain q ≡ true) (empty x (sx ∙ none) ∙ sym (empty y (sy ∙ none))) in_x
-      | inr i ↦ between_cycles a.system a.times a.cells p n hx.stands.placing v.domain.dim hx.stands.is_placing i piece.domain b c d x y z sx sy sz hx hy hz low high in_x in_z
-    ]
-
 tapped_earlier : (a : Array) → Legal a → (p c n : ℕ) (z : Point) (v : Variable) (piece : Piece) (j : ℕ) (tap : Tap) (k : ℕ) (y : Point) → Computes a.system a.times a.cells p c n z → slice_get (nodes a.system) n ≡ Some v
     → slice_get v.pieces tap.place.piece ≡ Some piece → has piece.domain z ≡ true → slice_get (taps a.system a.helpers (node_place a.system n) v) j ≡ Some tap → IsTapRead a.system n tap.place.tree tap.way piece z k y
     → (q : ℕ) × (b : ℕ) × (d : ℕ) × (b + d ≡ c) × (0 < d) × Computes a.system a.times a.cells q b k y
 tapped_earlier a g p c n z v piece j tap k y computes is_variable is_piece inside is_tap reads =
-    let own = place_of a.system.variables n v is_variable in
-    let same : node_place a.system n ≡ own.place = ap (node_place a.system) (sym own.number) ∙ own_place a.system own.place v own.is_variable own.is_one in
-    earlier a.system a.helpers a.times a.cells g.scheduled p c n z own.place v own.is_variable own.is_one (sym own.number) computes piece j tap is_piece inside
+    let own = passing is_node a.system.variables n v is_variable in
+    let same : node_place a.system n ≡ own.place = ap (node_place a.system) (sym own.number) ∙ own_place a.system own.place v own.is own.passes in
+    earlier a.system a.helpers a.times a.cells g.scheduled p c n z own.place v own.is own.passes (sym own.number) computes piece j tap is_piece inside
     (subst (λ m. slice_get (taps a.system a.helpers m v) j ≡ Some tap) same is_tap) k y reads
 
-pub arranged : (a : Array) → Legal a → (lanes : Lanes) (ins : List Entry) (program : Program) → AreLinks a.system a.helpers a.times a.cells a.links → AreInLines a.system a.helpers a.times a.cells a.ports ins → IsProgramFor a lanes program
-    → Arranged a lanes ins program
-arranged a g lanes ins program are_links are_ins is_program = record {
+pub arranged : (a : Array) → Legal a → AreLinks a.system a.helpers a.times a.cells a.links → All (λ (v : Variable). v.width ≡ a.system.width) a.system.variables → IsArranged a
+arranged a g are_links widths = record {
   are_links = are_links;
-  are_ins = are_ins;
-  is_program = is_program;
+  widths = widths;
   some_piece = some_piece_of a.system a.helpers a.times a.cells g.scheduled;
   one_piece = one_piece_of a.system a.helpers a.times a.cells g.scheduled;
-  between = between a g;
   earlier = tapped_earlier a g;
-  one_node = λ p c b n k z y. one_node a.system a.times a.cells p c b n k z y;
 }
 
 -- the numbers of a plain tree are words
-pub fits_words : (w : ℕ) (t : Tree) → EachPart IsPlain t → EachPart (HasWords w) t → FitsTree w t
+pub fits_words : (w : ℕ) (t : Tree) → EachPart IsPlain t → EachPart (HasWords w) t → HasNumbers w t
 fits_words w (reference place m) plain words = tt
 fits_words w (constant n) plain words = words
 fits_words w (binary g l r) plain words = (fits_words w l plain.1 words.1, fits_words w r plain.2 words.2)

@@ -1,16 +1,15 @@
 //! The lanes of an array before they are built: what stands on each cell, and what each lane is for.
 
-ghost use Rattle.std.specs.Prelude.{◌≡◌, ◌<◌, ◌+◌, ◌++◌, [], ◌∷◌, List as Items, length, IfOk, OnOk};
+ghost use Rattle.std.specs.Prelude.{◌≡◌, ◌<◌, ◌+◌, ◌++◌, [], length, IfOk, OnOk};
 ghost use Rattle.av_space.specs.Spots.{IsArray, cells_of};
-ghost use Rattle.av_build.specs.declared.blueprint.CellPlan.{CellPlan as Planned};
-ghost use Rattle.av_build.specs.inner.Blueprints.{is_helper, ArePieces, AreHelpers, AreLanes, IsBlueprint};
+ghost use Rattle.av_build.specs.inner.Blueprints.{is_of_helper, ArePieces, AddsHelpers, helpers_on, own_lanes, AreCellPlans, IsBlueprint};
 
 use av_base::{List, Memory};
+use av_kinds::CellLanes;
 use av_space::{Array, Site, Spot};
 use std::alloc::Global;
 
-/// A helper whose word is read in a later cycle than on its cell: its number, and the piece on the cell and the place of the
-/// piece whose reference it moves.
+/// A helper on a cell: its number, and the piece on the cell and the place of the piece whose reference it moves.
 #[derive(Clone, Copy, Debug)]
 pub(crate) struct HelperPlan {
     pub(crate) number: usize,
@@ -36,8 +35,7 @@ pub(crate) struct Pieces<'a> {
 #[derive(Drop)]
 pub(crate) struct CellPlan<'a> {
     pub(crate) pieces: Pieces<'a>,
-    pub(crate) first: usize,
-    pub(crate) value: usize,
+    pub(crate) lanes: CellLanes,
 }
 
 /// An array with the lanes of its program.
@@ -50,7 +48,7 @@ pub(crate) struct Blueprint<'a> {
 
 // Whether the lane is of the helper with this number.
 fn is_helper(lane: &LanePlan, helper: usize) -> bool
-    ensures { result ≡ is_helper lane.now helper }
+    ensures { result ≡ is_of_helper lane.now helper }
 {
     match lane.helper {
         Some(plan) => plan.number == helper,
@@ -59,26 +57,25 @@ fn is_helper(lane: &LanePlan, helper: usize) -> bool
 }
 
 impl Blueprint<'_> {
-    ghost use Rattle.av_build.specs.inner.Blueprints.{lanes_of, HasLane};
+    ghost use Rattle.av_build.specs.inner.Blueprints.{lanes_of, HasHelper};
 
     /// The lane of a cell's value.
     pub(crate) fn value_lane(&self, cell: usize) -> usize
-        requires blueprint { IsBlueprint self.now }
-        requires cell { cell < length (cells_of self.now.array) }
-        ensures { result ≡ (lanes_of self.now.lanes).of_value cell }
+        requires { cell < length self.now.cells }
+        ensures { result ≡ (lanes_of self.now.cells).of_value cell }
     {
-        self.cells.as_slice()[cell].value
+        self.cells.as_slice()[cell].lanes.value
     }
 
     /// The lane of a helper's word on a cell.
     pub(crate) fn helper_lane(&self, cell: usize, helper: usize) -> usize
         requires blueprint { IsBlueprint self.now }
-        requires lane { HasLane self.now cell helper }
-        ensures { result ≡ (lanes_of self.now.lanes).of_helper helper cell }
+        requires helper { HasHelper self.now cell helper }
+        ensures { result ≡ (lanes_of self.now.cells).of_helper helper cell }
     {
-        let plan = &self.cells.as_slice()[cell];
+        let own = self.cells.as_slice()[cell].lanes;
         let lanes = self.lanes.as_slice();
-        for number in plan.first..plan.value {
+        for number in own.first..own.value {
             if is_helper(&lanes[number], helper) {
                 return number;
             }
@@ -101,52 +98,36 @@ fn pieces_on<'a>(alloc: Global, array: &Array<'a>, cell: usize) -> Result<Pieces
     Ok(Pieces { spots, sites })
 }
 
-// Puts the helpers of a piece's places that have a lane on the cell behind others.
+// Puts the helpers of a piece's places behind others.
 fn add_helpers(
-    array: &Array<'_>,
-    cell: usize,
     pieces: &Pieces<'_>,
     piece: usize,
     helpers: &mut List<HelperPlan>,
 ) -> Result<(), Memory>
-    requires array { IsArray array.now }
-    requires cell { cell < length (cells_of array.now) }
-    requires pieces { ArePieces array.now cell pieces.now }
-    requires piece { piece < length pieces.now.sites }
-    requires old { AreHelpers array.now pieces.now cell piece 0 helpers.old }
-    ensures { OnOk result (AreHelpers array.now pieces.now cell (piece + 1) 0 helpers.new) }
+    requires { piece < length pieces.now.sites }
+    ensures { OnOk result (AddsHelpers pieces.now piece helpers.old helpers.new) }
 {
     let sites = pieces.sites.as_slice()[piece].as_slice();
     for site in 0..sites.len() {
         let Some(handing) = &sites[site].handing else {
             continue;
         };
-        if array.line_length(cell, Some(handing.number)) > 0 {
-            helpers.push(HelperPlan {
-                number: handing.number,
-                piece,
-                site,
-            })?;
-        }
+        helpers.push(HelperPlan {
+            number: handing.number,
+            piece,
+            site,
+        })?;
     }
     Ok(())
 }
 
-// The helpers that have a lane on a cell.
-fn helpers(
-    alloc: Global,
-    array: &Array<'_>,
-    cell: usize,
-    pieces: &Pieces<'_>,
-) -> Result<List<HelperPlan>, Memory>
-    requires array { IsArray array.now }
-    requires cell { cell < length (cells_of array.now) }
-    requires pieces { ArePieces array.now cell pieces.now }
-    ensures { IfOk result (AreHelpers array.now pieces.now cell (length pieces.now.sites) 0) }
+// The helpers on a cell.
+fn helpers(alloc: Global, pieces: &Pieces<'_>) -> Result<List<HelperPlan>, Memory>
+    ensures { IfOk result (λ helpers. helpers ≡ helpers_on pieces.now) }
 {
     let mut helpers = List::new(alloc);
     for piece in 0..pieces.sites.as_slice().len() {
-        add_helpers(array, cell, pieces, piece, &mut helpers)?;
+        add_helpers(pieces, piece, &mut helpers)?;
     }
     Ok(helpers)
 }
@@ -160,10 +141,13 @@ fn add_cell<'a>(
 ) -> Result<CellPlan<'a>, Memory>
     requires array { IsArray array.now }
     requires cell { cell < length (cells_of array.now) }
-    ensures { IfOk result (λ plan. (cells : Items Planned) → length cells ≡ cell → AreLanes array.now cells lanes.old → AreLanes array.now (cells ++ plan ∷ []) lanes.new) }
+    ensures pieces { IfOk result (λ plan. ArePieces array.now cell plan.pieces) }
+    ensures first { IfOk result (λ plan. plan.lanes.first ≡ length lanes.old) }
+    ensures value { IfOk result (λ plan. plan.lanes.value ≡ length lanes.old + length (helpers_on plan.pieces)) }
+    ensures lanes { IfOk result (λ plan. lanes.new ≡ lanes.old ++ own_lanes cell plan.pieces) }
 {
     let pieces = pieces_on(alloc, array, cell)?;
-    let helpers = helpers(alloc, array, cell, &pieces)?;
+    let helpers = helpers(alloc, &pieces)?;
     let first = lanes.as_slice().len();
     for helper in helpers.as_slice() {
         lanes.push(LanePlan {
@@ -175,8 +159,7 @@ fn add_cell<'a>(
     lanes.push(LanePlan { cell, helper: None })?;
     Ok(CellPlan {
         pieces,
-        first,
-        value,
+        lanes: CellLanes { first, value },
     })
 }
 
@@ -189,9 +172,8 @@ fn cell_plans<'a>(
 ) -> Result<List<CellPlan<'a>>, Memory>
     requires array { IsArray array.now }
     requires count { count ≡ length (cells_of array.now) }
-    requires none { AreLanes array.now [] lanes.old }
-    ensures one_each { IfOk result (λ cells. length cells ≡ count) }
-    ensures lanes { IfOk result (λ cells. AreLanes array.now cells lanes.new) }
+    requires none { lanes.old ≡ [] }
+    ensures { IfOk result (λ cells. AreCellPlans array.now count cells lanes.new) }
 {
     let mut cells = List::new(alloc);
     for cell in 0..count {

@@ -1,78 +1,57 @@
-ghost use Rattle.std.specs.Prelude.{◌≡◌, ◌<◌, ◌^◌, length, IfOk};
-ghost use Rattle.av_flat.specs.Legal.{IsLegal};
+ghost use Rattle.std.specs.Prelude.{◌≡◌, IfOk};
 ghost use Rattle.av_space.specs.declared.fault.SpaceFault.{SpaceFault as Fault};
 ghost use Rattle.av_space.specs.declared.fault.SpaceFault.TheVariants as fault;
 ghost use Rattle.av_space.specs.SpaceFaults.{IsSpaceFault};
 ghost use Rattle.av_space.specs.Whole.{IsWhole};
-ghost use Rattle.av_build.specs.ArrayDesigns.{IsDesignOf};
+ghost use Rattle.av_kinds.specs.Counters.{IsCounter};
+ghost use Rattle.av_build.specs.ArrayPlans.{IsPlanOf, IsWithinCount, IsCountingPlan};
 
 use crate::listing::copied_listing;
-use crate::netlist::netlist;
-use crate::program::Program;
 use crate::programming::program;
 use av_base::Memory;
 use av_flat::Timed;
-use av_net::{Design, Module};
+use av_kinds::{Counter, modules_of};
+use av_net::Plan;
 use av_space::Cells;
 use std::alloc::Global;
 
-// A list lies in memory, and so its length is a word of the machine.
-fn fits_memory<T>(items: &[T])
-    ensures { length items.now < 2 ^ 64 }
-{}
-
-// The lists of a module, whose lengths are the numbers in its names.
-fn module_fits_memory(made: &Module)
-    ensures wires { length made.now.wires < 2 ^ 64 }
-    ensures registers { length made.now.registers < 2 ^ 64 }
-{
-    fits_memory(made.wires.as_slice());
-    fits_memory(made.registers.as_slice());
-}
-
-// The lists of an array and of its program.
-fn array_fits_memory(timed: &Timed, cells: &Cells, program: &Program<'_>)
-    ensures helpers { length timed.now.helpers < 2 ^ 64 }
-    ensures inputs { length cells.now.inputs < 2 ^ 64 }
-    ensures cells { length cells.now.cells < 2 ^ 64 }
-    ensures outputs { length program.now.outputs < 2 ^ 64 }
-{
-    fits_memory(timed.helpers.as_slice());
-    fits_memory(cells.inputs.as_slice());
-    fits_memory(cells.cells.as_slice());
-    fits_memory(program.outputs.as_slice());
-}
-
-// The design of a module, with the listing of the array.
-fn with_listing(alloc: Global, cells: &Cells, made: Module) -> Result<Design, Memory>
-    ensures made { IfOk result (λ design. design.«module» ≡ made) }
-    ensures listing { IfOk result (λ design. design.listing ≡ cells.now.listing) }
-{
-    let listing = copied_listing(alloc, &cells.listing)?;
-    Ok(Design {
-        listing,
-        module: made,
-    })
-}
-
-/// The design of the array of a legal system: its module, with the listing of the array.
+/// The plan of an array whose cells choose by this counter: its kinds, and a top module named `array`, with the listing of the array.
 ///
-/// The module is named `array`. Its input and output ports are those of the array, in the order of their numbers, each as wide as
-/// the system's words; its wires and registers are named by cell, lane and number. It has a counter of cycles only where a
-/// cell chooses by the cycle.
-pub fn build(alloc: Global, timed: &Timed, cells: &Cells) -> Result<Design, Memory>
-    requires legal { IsLegal timed.now }
-
+/// The input and output ports of the top module are those of the array, in the order of their numbers; each port and each value
+/// wire is as wide as its variable. Each cell is an instance of its kind, and cells with the same pieces of one node are of one kind. There is
+/// a counter only where a cell chooses by it.
+///
+/// With `Counter::Phases` the plan takes problem after problem: each may begin a period, or several, after the one before.
+pub fn build_counting(
+    alloc: Global,
+    timed: &Timed,
+    cells: &Cells,
+    counter: Counter,
+) -> Result<Plan, Memory>
     // The cells are those that the mapping gives for the system.
     requires whole { IsWhole timed.now cells.now }
     requires within { (f : Fault) → IsSpaceFault timed.now f → f ≡ fault.Memory }
-    ensures { IfOk result (IsDesignOf timed.now cells.now) }
+    // The counter tells the computations of each cell apart.
+    requires counter { IsCounter counter }
+    requires apart { IsWithinCount timed.now cells.now counter }
+    ensures { IfOk result (IsCountingPlan timed.now cells.now counter) }
 {
-    let program = program(alloc, timed, cells)?;
-    let flat = &timed.flat;
-    let module = netlist(alloc, flat.width, &program)?;
-    array_fits_memory(timed, cells, &program);
-    module_fits_memory(&module);
-    let design = with_listing(alloc, cells, module)?;
-    Ok(design)
+    let program = program(alloc, timed, cells, counter)?;
+    let modules = modules_of(alloc, counter, &program)?;
+    Ok(Plan {
+        listing: copied_listing(alloc, &cells.listing)?,
+        kinds: modules.kinds,
+        top: modules.top,
+        instances: modules.instances,
+    })
+}
+
+/// The plan of an array that counts cycles, as `build_counting` makes it. Its flat design shows the solution for every input.
+pub fn build(alloc: Global, timed: &Timed, cells: &Cells) -> Result<Plan, Memory>
+    // The cells are those that the mapping gives for the system.
+    requires whole { IsWhole timed.now cells.now }
+    requires within { (f : Fault) → IsSpaceFault timed.now f → f ≡ fault.Memory }
+    ensures { IfOk result (IsPlanOf timed.now cells.now) }
+{
+    build_counting(alloc, timed, cells, Counter::Cycles)
 }

@@ -1,32 +1,45 @@
-//! Where the places of a piece find their words, cycle by cycle.
+//! Where the places of a piece find their words, number by number of the counter.
 
-ghost use Rattle.std.specs.Prelude.{◌≡◌, map, IfOk};
+ghost use Rattle.std.specs.Prelude.{◌≡◌, None, Some, length, IfOk, OnOk};
 ghost use Rattle.av_flat.specs.Trees.{view, view_piece};
-ghost use Rattle.av_space.specs.Sites.{place_of};
 ghost use Rattle.av_space.specs.Spots.{IsSpot, IsSlotIn, IsSiteOf};
 ghost use Rattle.av_space.specs.Taps.{IsReadAt};
-ghost use Rattle.av_build.specs.inner.Selections.{same_source, site_by, runs_of};
-ghost use Rattle.av_build.specs.inner.Programmed.{IsPlaceSource};
-ghost use Rattle.av_build.specs.inner.Written.{source_of, site_of};
-ghost use Rattle.av_build.specs.inner.Blueprints.{IsBlueprint, seen, spot_of, lanes_of};
-ghost use Rattle.av_build.specs.inner.Moments.{moment_of, AreMoments, IsOwnSource, IsHandBy};
+ghost use Rattle.av_kinds.specs.Counters.{IsCounter, count_in};
+ghost use Rattle.av_history.specs.Performing.{IsPlaceSource};
+ghost use Rattle.av_kinds.specs.declared.program.Source.TheVariants.{Line};
+ghost use Rattle.av_build.specs.inner.Blueprints.{IsBlueprint, HasHelper, seen, spot_of, lanes_of};
+ghost use Rattle.av_build.specs.inner.Moments.{same_source, site_by};
+ghost use Rattle.av_build.specs.inner.Orders.{IsInOrder, AreMoments};
+ghost use Rattle.av_build.specs.inner.Programmed.{Always};
+ghost use Rattle.av_build.specs.inner.Sources.{IsOwnSource, AddsHandMoment, AreHandMomentsTo};
 
 use crate::blueprint::Blueprint;
-use crate::program::{Link, Site as ProgramSite, Source, Stretch};
-use av_base::{List, Memory};
-use av_space::{Handing, Origin, Site, Slot, Spot};
+use crate::intervals::Mark;
+use av_base::{List, Memory, Width};
+use av_kinds::{Counter, Inlet, Link, Site as ProgramSite, Source};
+use av_space::{Handing, Origin, Reading, Site, Slot, Spot};
 use std::alloc::Global;
 
-/// In this cycle, this source.
+/// At this number of the counter, this source.
 #[derive(Clone, Copy, Debug)]
 pub(crate) struct Moment {
-    pub(crate) cycle: u32,
+    pub(crate) number: u32,
     pub(crate) source: Source,
+}
+
+/// The moments of a place with a helper, where it reads its reference and where the helper's word at the point before; and of each
+/// number whether it is one of the former, or of the latter.
+#[derive(Debug, Drop)]
+pub(crate) struct HandMoments {
+    pub(crate) entries: List<Moment>,
+    pub(crate) own: List<Moment>,
+    pub(crate) entry_marks: List<Mark>,
+    pub(crate) own_marks: List<Mark>,
 }
 
 // Whether both sources are one.
 fn same_source(a: Source, b: Source) -> bool
-    ensures { result ≡ same_source (source_of a) (source_of b) }
+    ensures { result ≡ same_source a b }
 {
     match a {
         Source::Word(word) => match b {
@@ -47,13 +60,20 @@ fn same_source(a: Source, b: Source) -> bool
     }
 }
 
-/// What brings the word of a place, from its sources by cycle.
-pub(crate) fn site(alloc: Global, moments: &[Moment]) -> Result<ProgramSite, Memory>
-    ensures { IfOk result (λ site. site_of site ≡ site_by (runs_of (map moment_of moments.now))) }
+/// What brings the word of a place, from its sources by number.
+pub(crate) fn site(
+    alloc: Global,
+    inlet: Inlet,
+    width: Width,
+    moments: &[Moment],
+) -> Result<ProgramSite, Memory>
+    ensures { IfOk result (λ site. site ≡ site_by inlet width moments.now) }
 {
     let mut links = List::new(alloc);
     let Some((first, rest)) = moments.split_first() else {
         return Ok(ProgramSite {
+            inlet,
+            width,
             links,
             otherwise: Source::Word(0),
         });
@@ -62,13 +82,15 @@ pub(crate) fn site(alloc: Global, moments: &[Moment]) -> Result<ProgramSite, Mem
     for moment in rest {
         if !same_source(last.source, moment.source) {
             links.push(Link {
-                stretch: Stretch::Until(last.cycle),
+                last: last.number,
                 source: last.source,
             })?;
         }
         last = *moment;
     }
     Ok(ProgramSite {
+        inlet,
+        width,
         links,
         otherwise: last.source,
     })
@@ -82,8 +104,7 @@ impl Blueprint<'_> {
         requires site { IsSiteOf self.now.array spot.now site.now }
         requires slot { IsSlotIn self.now.array spot.now.cell spot.now.node spot.now.piece.now.domain slot.now }
         requires entered { IsReadAt site.now.handing (view_piece spot.now.piece.now) slot.now.point }
-        ensures { IsOwnSource (seen self.now.array) (lanes_of self.now.lanes) (spot_of spot.now) slot.now.point slot.now.cycle site.now.place.site site.now.handing
-            (view site.now.place.tree) (source_of result) }
+        ensures { IsOwnSource (seen self.now.array) (lanes_of self.now.cells) (spot_of spot.now) slot.now.point slot.now.cycle site.now.place.site site.now.handing (view site.now.place.tree) result }
     {
         match self.array.origin(spot, site, slot) {
             Origin::Port(port) => Source::Input(port),
@@ -95,97 +116,116 @@ impl Blueprint<'_> {
         }
     }
 
-    // Where the word of the helper of a place comes from.
-    fn hand_source(
-        &self,
-        spot: &Spot<'_>,
-        site: &Site<'_>,
-        handing: &Handing,
-        slot: &Slot,
-    ) -> Source
-        requires blueprint { IsBlueprint self.now }
-        requires spot { IsSpot self.now.array spot.now }
-        requires site { IsSiteOf self.now.array spot.now site.now }
-        requires handing { site.now.handing ≡ Some handing.now }
-        requires slot { IsSlotIn self.now.array spot.now.cell spot.now.node spot.now.piece.now.domain slot.now }
-        ensures { IsHandBy (seen self.now.array) (lanes_of self.now.lanes) (spot_of spot.now) slot.now.point slot.now.cycle site.now.place.site handing.now
-            (view site.now.place.tree) (source_of result) }
-    {
-        match self.array.handed(spot, site, handing, slot) {
-            Some(reading) => Source::Line {
-                lane: self.helper_lane(reading.producer as usize, handing.number),
-                delay: reading.delay,
-            },
-            None => self.own_source(spot, site, slot),
-        }
-    }
-
-    // Where the word of a place comes from.
-    fn source(&self, spot: &Spot<'_>, site: &Site<'_>, slot: &Slot) -> Source
-        requires blueprint { IsBlueprint self.now }
-        requires spot { IsSpot self.now.array spot.now }
-        requires site { IsSiteOf self.now.array spot.now site.now }
-        requires slot { IsSlotIn self.now.array spot.now.cell spot.now.node spot.now.piece.now.domain slot.now }
-        ensures { IsPlaceSource (seen self.now.array) (lanes_of self.now.lanes) (spot_of spot.now) slot.now.point slot.now.cycle site.now.place.site
-            (view site.now.place.tree) (source_of result) }
-    {
-        let Some(handing) = &site.handing else {
-            return self.own_source(spot, site, slot);
-        };
-        if self.array.line_length(spot.cell, Some(handing.number)) > 0 {
-            Source::Line {
-                lane: self.helper_lane(spot.cell, handing.number),
-                delay: 0,
-            }
-        } else {
-            self.hand_source(spot, site, handing, slot)
-        }
-    }
-
-    /// The sources of a place by cycle.
+    /// The sources of a place without a helper, in the order of the computations.
     pub(crate) fn moments(
         &self,
         alloc: Global,
+        counter: Counter,
+        order: &[usize],
         spot: &Spot<'_>,
         site: &Site<'_>,
     ) -> Result<List<Moment>, Memory>
         requires blueprint { IsBlueprint self.now }
+        requires counter { IsCounter counter }
         requires spot { IsSpot self.now.array spot.now }
         requires site { IsSiteOf self.now.array spot.now site.now }
-        ensures { IfOk result (AreMoments
-            (λ z c source. IsPlaceSource (seen self.now.array) (lanes_of self.now.lanes) (spot_of spot.now) z c site.now.place.site (view site.now.place.tree) source) spot.now.slots) }
+        requires plain { site.now.handing ≡ None }
+        requires order { IsInOrder (count_in counter) spot.now.slots order.now }
+        ensures { IfOk result (AreMoments (count_in counter) spot.now.slots order.now Always
+            (λ z c source. IsPlaceSource (seen self.now.array) (lanes_of self.now.cells) (spot_of spot.now) z c site.now.place.site (view site.now.place.tree) source)) }
     {
+        let slots = spot.slots.as_slice();
         let mut moments = List::new(alloc);
-        for slot in spot.slots.as_slice() {
+        for k in order {
+            let slot = &slots[*k];
             moments.push(Moment {
-                cycle: slot.cycle,
-                source: self.source(spot, site, slot),
+                number: counter.number(slot.cycle),
+                source: self.own_source(spot, site, slot),
             })?;
         }
         Ok(moments)
     }
 
-    /// The sources of the word of a place's helper by cycle.
-    pub(crate) fn hand_moments(
+    // Where the helper's word at the point before is read.
+    fn handed_source(&self, handing: &Handing, reading: Reading) -> Source
+        requires blueprint { IsBlueprint self.now }
+        requires lane { HasHelper self.now reading.producer handing.now.number }
+        ensures { result ≡ Line ((lanes_of self.now.cells).of_helper handing.now.number reading.producer) reading.delay }
+    {
+        Source::Line {
+            lane: self.helper_lane(reading.producer as usize, handing.number),
+            delay: reading.delay,
+        }
+    }
+
+    // Puts the source of a place with a helper at one computation behind those of others.
+    fn add_hand_moment(
         &self,
-        alloc: Global,
         spot: &Spot<'_>,
         site: &Site<'_>,
         handing: &Handing,
-    ) -> Result<List<Moment>, Memory>
+        slot: &Slot,
+        number: u32,
+        moments: &mut HandMoments,
+    ) -> Result<(), Memory>
         requires blueprint { IsBlueprint self.now }
         requires spot { IsSpot self.now.array spot.now }
         requires site { IsSiteOf self.now.array spot.now site.now }
         requires handing { site.now.handing ≡ Some handing.now }
-        ensures { IfOk result (AreMoments
-            (λ z c source. IsHandBy (seen self.now.array) (lanes_of self.now.lanes) (spot_of spot.now) z c site.now.place.site handing.now (view site.now.place.tree) source) spot.now.slots) }
+        requires slot { IsSlotIn self.now.array spot.now.cell spot.now.node spot.now.piece.now.domain slot.now }
+        ensures { OnOk result (AddsHandMoment (seen self.now.array) (lanes_of self.now.cells) (spot_of spot.now) site.now.place.site handing.now (view site.now.place.tree) slot.now number moments.old moments.new) }
     {
-        let mut moments = List::new(alloc);
-        for slot in spot.slots.as_slice() {
-            moments.push(Moment {
-                cycle: slot.cycle,
-                source: self.hand_source(spot, site, handing, slot),
-            })?;
+        let reading = self.array.handed(spot, site, handing, slot);
+        let is_own = reading.is_some();
+        moments.entry_marks.push(Mark {
+            number,
+            holds: !is_own,
+        })?;
+        moments.own_marks.push(Mark {
+            number,
+            holds: is_own,
+        })?;
+        match reading {
+            Some(reading) => {
+                let source = self.handed_source(handing, reading);
+                moments.own.push(Moment { number, source })
+            }
+            None => {
+                let source = self.own_source(spot, site, slot);
+                moments.entries.push(Moment { number, source })
+            }
+        }
+    }
+
+    /// The sources of the word of a place's helper, in the order of the computations.
+    pub(crate) fn hand_moments(
+        &self,
+        alloc: Global,
+        counter: Counter,
+        order: &[usize],
+        spot: &Spot<'_>,
+        site: &Site<'_>,
+        handing: &Handing,
+    ) -> Result<HandMoments, Memory>
+        requires blueprint { IsBlueprint self.now }
+        requires counter { IsCounter counter }
+        requires spot { IsSpot self.now.array spot.now }
+        requires site { IsSiteOf self.now.array spot.now site.now }
+        requires handing { site.now.handing ≡ Some handing.now }
+        requires order { IsInOrder (count_in counter) spot.now.slots order.now }
+        ensures { IfOk result (AreHandMomentsTo (seen self.now.array) (count_in counter) (lanes_of self.now.cells) (spot_of spot.now) site.now.place.site handing.now (view site.now.place.tree) spot.now.slots order.now (length order.now)) }
+    {
+        let slots = spot.slots.as_slice();
+        let mut moments = HandMoments {
+            entries: List::new(alloc),
+            own: List::new(alloc),
+            entry_marks: List::new(alloc),
+            own_marks: List::new(alloc),
+        };
+        for k in order {
+            let slot = &slots[*k];
+            let number = counter.number(slot.cycle);
+            self.add_hand_moment(spot, site, handing, slot, number, &mut moments)?;
         }
         Ok(moments)
     }

@@ -1,64 +1,93 @@
 //! The program of an array, lane by lane.
 
-ghost use Rattle.std.specs.Prelude.{◌≡◌, ◌<◌, [], ◌∷◌, All, Some, length, map, IfOk};
-ghost use Rattle.av_flat.specs.Legal.{IsLegal};
+ghost use Rattle.std.specs.Prelude.{◌≡◌, ◌<◌, ◌+◌, All, None, length, map, IfOk};
 ghost use Rattle.av_space.specs.declared.fault.SpaceFault.{SpaceFault as Fault};
 ghost use Rattle.av_space.specs.declared.fault.SpaceFault.TheVariants as fault;
 ghost use Rattle.av_space.specs.SpaceFaults.{IsSpaceFault};
+ghost use Rattle.av_space.specs.Spots.{helpers_of, cells_of};
 ghost use Rattle.av_space.specs.Whole.{IsWhole};
-ghost use Rattle.av_space.specs.declared.spots.Spot.{Spot as SpotSeen};
-ghost use Rattle.av_space.specs.Spots.{IsSpot, IsSiteOf, AreSites, helpers_of, cells_of};
-ghost use Rattle.av_flat.specs.Trees.{view};
-ghost use Rattle.av_build.specs.declared.program.Site.{Site as ProgramSiteSeen};
-ghost use Rattle.av_build.specs.inner.Moments.{IsHandBy};
-ghost use Rattle.av_build.specs.inner.Programmed.{IsSiteFor};
-ghost use Rattle.av_build.specs.inner.Selections.{stretch_of};
-ghost use Rattle.av_build.specs.inner.Blueprints.{IsBlueprint, IsSpotAt, HasHelper, seen, spot_of, lanes_of};
-ghost use Rattle.av_build.specs.inner.Works.{IsWorkFor, IsBuiltBy, AreBuilt, IsProgrammed};
-ghost use Rattle.av_build.specs.inner.Written.{as_stretch, site_of, work_of, lane_of, program_of};
+ghost use Rattle.av_kinds.specs.Counters.{IsCounter, count_in};
+ghost use Rattle.av_kinds.specs.Written.{work_of, mode_of, lane_of, program_of};
+ghost use Rattle.av_build.specs.ArrayPlans.{IsWithinCount};
+ghost use Rattle.av_build.specs.inner.Blueprints.{IsBlueprint, IsCounted, IsSpotOn, IsPlaceOn, HasHelper, lanes_of, spot_of};
+ghost use Rattle.av_build.specs.inner.Built.{IsProgrammed};
+ghost use Rattle.av_build.specs.inner.Lanes.{IsPipeSite, IsValueSite, IsValueWork, HasPiece, IsValueMode, IsPlanOn, IsBuiltBy, AreBuilt};
+ghost use Rattle.av_build.specs.inner.Orders.{IsInOrder};
 
-use crate::blueprint::{Blueprint, HelperPlan, plan_lanes};
+use crate::blueprint::{Blueprint, LanePlan, plan_lanes};
+use crate::intervals::{intervals, marks};
 use crate::moments::site;
-use crate::program::{Lane, Program, Shift, Site as ProgramSite, Stretch, Work};
+use crate::order::in_order;
+use crate::ports::{inlet_of, width_read};
+use crate::sorting::kinds_of;
 use av_base::{List, Memory};
-use av_flat::Timed;
-use av_space::{Array, Cells, Ends, Handing, Site, Spot, ends_of};
+use av_flat::{Flat, Timed};
+use av_kinds::{CellLanes, Counter, Inlet, Lane, Mode, Program, Site as ProgramSite, Source, Work};
+use av_space::{Array, Cells, Site, Spot};
 use std::alloc::Global;
 
-// The test of the stretch of a piece on a cell: a bound that the cell's own cycles keep is left out.
-fn stretch(own: Ends, stay: Ends) -> Stretch
-    ensures { as_stretch result ≡ stretch_of own.first own.last stay.first stay.last }
-{
-    if stay.first <= own.first {
-        Stretch::Until(stay.last)
-    } else if own.last <= stay.last {
-        Stretch::Since(stay.first)
-    } else {
-        Stretch::Between(stay.first, stay.last)
-    }
-}
-
-// The list of one site.
-fn one_site(alloc: Global, own: ProgramSite) -> Result<List<ProgramSite>, Memory>
-    ensures { IfOk result (λ sites. sites ≡ own ∷ []) }
-{
-    let mut sites = List::new(alloc);
-    sites.push(own)?;
-    Ok(sites)
-}
-
 impl<'a> Blueprint<'a> {
-    // A piece on a cell, with what brings the word of each of its places that read.
-    fn work(&self, alloc: Global, spot: &Spot<'a>, places: &[Site<'a>]) -> Result<Work<'a>, Memory>
+    // The word of a helper's lane on its own cell.
+    fn pipe_site(&self, alloc: Global, spot: &Spot<'a>, helper: usize) -> ProgramSite
         requires blueprint { IsBlueprint self.now }
-        requires spot { IsSpot self.now.array spot.now }
-        requires places { AreSites self.now.array spot.now places.now }
-        ensures { IfOk result (λ work. IsWorkFor (seen self.now.array) (lanes_of self.now.lanes) (spot_of spot.now) (work_of work)) }
+        requires helper { HasHelper self.now spot.now.cell helper }
+        ensures { IsPipeSite self.now (spot_of spot.now) helper result }
     {
+        let lane = self.helper_lane(spot.cell, helper);
+        let first = self.cells.as_slice()[spot.cell].lanes.first;
+        ProgramSite {
+            inlet: Inlet::Pipe(lane - first),
+            width: spot.var.width,
+            links: List::new(alloc),
+            otherwise: Source::Line { lane, delay: 0 },
+        }
+    }
+
+    // What brings the word of a place to the value of a cell.
+    fn value_site(
+        &self,
+        alloc: Global,
+        flat: &Flat,
+        counter: Counter,
+        order: &[usize],
+        spot: &Spot<'a>,
+        place: &Site<'a>,
+    ) -> Result<ProgramSite, Memory>
+        requires blueprint { IsBlueprint self.now }
+        requires counter { IsCounted self.now.array counter }
+        requires flat { flat.now ≡ self.now.array.timed.now.flat }
+        requires place { IsPlaceOn self.now spot.now place.now }
+        requires order { IsInOrder (count_in counter) spot.now.slots order.now }
+        ensures { IfOk result (IsValueSite self.now counter spot.now place.now) }
+    {
+        if let Some(handing) = &place.handing {
+            return Ok(self.pipe_site(alloc, spot, handing.number));
+        }
+        let moments = self.moments(alloc, counter, order, spot, place)?;
+        let tree = place.place.tree;
+        let width = width_read(flat, spot.var.width, tree);
+        site(alloc, inlet_of(flat, tree), width, moments.as_slice())
+    }
+
+    // A piece on a cell, with what brings the word of each of its places that read.
+    fn work(
+        &self,
+        alloc: Global,
+        flat: &Flat,
+        counter: Counter,
+        spot: &Spot<'a>,
+        places: &[Site<'a>],
+    ) -> Result<Work<'a>, Memory>
+        requires blueprint { IsBlueprint self.now }
+        requires counter { IsCounted self.now.array counter }
+        requires flat { flat.now ≡ self.now.array.timed.now.flat }
+        requires spot { IsSpotOn self.now spot.now places.now }
+        ensures { IfOk result (λ work. IsValueWork self.now counter spot.now (work_of work)) }
+    {
+        let order = in_order(alloc, spot.slots.as_slice(), counter)?;
         let mut sites = List::new(alloc);
         for place in places {
-            let moments = self.moments(alloc, spot, place)?;
-            sites.push(site(alloc, moments.as_slice())?)?;
+            sites.push(self.value_site(alloc, flat, counter, order.as_slice(), spot, place)?)?;
         }
         Ok(Work {
             sites,
@@ -66,116 +95,117 @@ impl<'a> Blueprint<'a> {
         })
     }
 
-    // The piece with this number among those on a cell.
-    fn work_at(&self, alloc: Global, cell: usize, number: usize) -> Result<Work<'a>, Memory>
+    // The piece with this number among those on a cell, in the intervals of its computations.
+    fn value_mode(
+        &self,
+        alloc: Global,
+        flat: &Flat,
+        counter: Counter,
+        cell: usize,
+        number: usize,
+    ) -> Result<Mode<'a>, Memory>
         requires blueprint { IsBlueprint self.now }
-        requires number { (at : SpotSeen) × IsSpotAt self.now cell number at }
-        ensures { IfOk result (λ work. (at : SpotSeen) → IsSpotAt self.now cell number at → IsWorkFor (seen self.now.array) (lanes_of self.now.lanes) (spot_of at) (work_of work)) }
+        requires counter { IsCounted self.now.array counter }
+        requires flat { flat.now ≡ self.now.array.timed.now.flat }
+        requires piece { HasPiece self.now cell number }
+        ensures { IfOk result (λ mode. IsValueMode self.now counter cell number (mode_of mode)) }
     {
         let pieces = &self.cells.as_slice()[cell].pieces;
         let spot = &pieces.spots.as_slice()[number];
-        self.work(alloc, spot, pieces.sites.as_slice()[number].as_slice())
+        let places = pieces.sites.as_slice()[number].as_slice();
+        let all = self.array.slots(cell);
+        let order = in_order(alloc, all, counter)?;
+        let marks = marks(alloc, counter, order.as_slice(), all, &spot.piece.domain)?;
+        Ok(Mode {
+            intervals: intervals(alloc, marks.as_slice())?,
+            work: self.work(alloc, flat, counter, spot, places)?,
+        })
     }
 
-    // The lane of the value of a cell.
-    fn value(&self, alloc: Global, cell: usize) -> Result<Lane<'a>, Memory>
+    // The lane of the value of a cell: its pieces by their numbers.
+    fn value(
+        &self,
+        alloc: Global,
+        flat: &Flat,
+        counter: Counter,
+        cell: usize,
+    ) -> Result<Lane<'a>, Memory>
         requires blueprint { IsBlueprint self.now }
+        requires counter { IsCounted self.now.array counter }
+        requires flat { flat.now ≡ self.now.array.timed.now.flat }
         requires cell { cell < length (cells_of self.now.array) }
-        ensures { IfOk result (λ lane. IsBuiltBy self.now cell None (lane_of lane)) }
+        ensures { IfOk result (λ lane. IsBuiltBy self.now counter cell None (lane_of lane)) }
     {
-        let own = ends_of(self.array.slots(cell));
         let spots = self.cells.as_slice()[cell].pieces.spots.as_slice();
-        let last = spots.len() - 1;
-        let mut shifts = List::new(alloc);
-        for number in 0..last {
-            let stay = ends_of(spots[number].slots.as_slice());
-            shifts.push(Shift {
-                stretch: stretch(own, stay),
-                work: self.work_at(alloc, cell, number)?,
-            })?;
+        let width = spots[0].var.width;
+        let mut modes = List::new(alloc);
+        for number in 0..spots.len() {
+            modes.push(self.value_mode(alloc, flat, counter, cell, number)?)?;
         }
         Ok(Lane {
             home: cell as u32,
             rank: 0,
-            shifts,
-            otherwise: self.work_at(alloc, cell, last)?,
+            width,
+            modes,
             length: self.array.line_length(cell, None),
         })
     }
 
-    // What brings the word of a helper to its lane.
-    fn hand_sites(
+    // The lane of a plan.
+    fn lane(
         &self,
         alloc: Global,
-        spot: &Spot<'a>,
-        place: &Site<'a>,
-        handing: &Handing,
-    ) -> Result<List<ProgramSite>, Memory>
+        flat: &Flat,
+        counter: Counter,
+        plan: &LanePlan,
+    ) -> Result<Lane<'a>, Memory>
         requires blueprint { IsBlueprint self.now }
-        requires spot { IsSpot self.now.array spot.now }
-        requires site { IsSiteOf self.now.array spot.now place.now }
-        requires handing { place.now.handing ≡ Some handing.now }
-        ensures { IfOk result (λ made. (own : ProgramSiteSeen) × (made ≡ own ∷ []) × IsSiteFor (seen self.now.array) (spot_of spot.now) (λ z c source. IsHandBy (seen self.now.array) (lanes_of self.now.lanes) (spot_of spot.now) z c place.now.place.site handing.now (view place.now.place.tree) source) (site_of own)) }
-    {
-        let moments = self.hand_moments(alloc, spot, place, handing)?;
-        let own = site(alloc, moments.as_slice())?;
-        let sites = one_site(alloc, own)?;
-        Ok(sites)
-    }
-
-    // The lane of the word of a helper on a cell.
-    fn pipeline(&self, alloc: Global, cell: usize, helper: HelperPlan) -> Result<Lane<'a>, Memory>
-        requires blueprint { IsBlueprint self.now }
-        requires helper { HasHelper self.now cell helper }
+        requires counter { IsCounted self.now.array counter }
+        requires flat { flat.now ≡ self.now.array.timed.now.flat }
+        requires plan { IsPlanOn self.now plan.now.cell plan.now.helper }
         requires ranks { length (helpers_of self.now.array) < 18446744073709551615 }
-        ensures { IfOk result (λ lane. IsBuiltBy self.now cell (Some helper) (lane_of lane)) }
+        ensures { IfOk result (λ lane. IsBuiltBy self.now counter plan.now.cell plan.now.helper (lane_of lane)) }
     {
-        let pieces = &self.cells.as_slice()[cell].pieces;
-        let spot = &pieces.spots.as_slice()[helper.piece];
-        let place = &pieces.sites.as_slice()[helper.piece].as_slice()[helper.site];
-        let Some(handing) = &place.handing else {
-            unreachable!();
-        };
-        let sites = self.hand_sites(alloc, spot, place, handing)?;
-        let read = &place.place;
-        Ok(Lane {
-            home: cell as u32,
-            rank: helper.number + 1,
-            shifts: List::new(alloc),
-            otherwise: Work {
-                sites,
-                tree: read.tree,
-            },
-            length: self.array.line_length(cell, Some(helper.number)),
-        })
+        match plan.helper {
+            Some(helper) => self.pipeline(alloc, flat, counter, plan.cell, helper),
+            None => self.value(alloc, flat, counter, plan.cell),
+        }
     }
 
     // All lanes, in the order of their plans.
-    fn built(&self, alloc: Global) -> Result<List<Lane<'a>>, Memory>
+    fn built(&self, alloc: Global, flat: &Flat, counter: Counter) -> Result<List<Lane<'a>>, Memory>
         requires blueprint { IsBlueprint self.now }
+        requires counter { IsCounted self.now.array counter }
+        requires flat { flat.now ≡ self.now.array.timed.now.flat }
         requires ranks { length (helpers_of self.now.array) < 18446744073709551615 }
-        ensures { IfOk result (AreBuilt self.now self.now.lanes) }
+        ensures { IfOk result (AreBuilt self.now counter self.now.lanes) }
     {
         let mut lanes = List::new(alloc);
         for plan in self.lanes.as_slice() {
-            let lane = match plan.helper {
-                Some(helper) => self.pipeline(alloc, plan.cell, helper)?,
-                None => self.value(alloc, plan.cell)?,
-            };
-            lanes.push(lane)?;
+            lanes.push(self.lane(alloc, flat, counter, plan)?)?;
         }
         Ok(lanes)
     }
 
     // The lanes of the values of these cells.
     fn values(&self, alloc: Global, cells: &[u32]) -> Result<List<usize>, Memory>
-        requires blueprint { IsBlueprint self.now }
-        requires cells { All (λ p. p < length (cells_of self.now.array)) cells.now }
-        ensures { IfOk result (λ lanes. lanes ≡ map (lanes_of self.now.lanes).of_value cells.now) }
+        requires { All (λ p. p < length self.now.cells) cells.now }
+        ensures { IfOk result (λ lanes. lanes ≡ map (lanes_of self.now.cells).of_value cells.now) }
     {
         let mut lanes = List::new(alloc);
         for cell in cells {
             lanes.push(self.value_lane(*cell as usize))?;
+        }
+        Ok(lanes)
+    }
+
+    // The lanes of each cell.
+    fn cell_lanes(&self, alloc: Global) -> Result<List<CellLanes>, Memory>
+        ensures { IfOk result (λ lanes. lanes ≡ map (λ plan. plan.lanes) self.now.cells) }
+    {
+        let mut lanes = List::new(alloc);
+        for plan in self.cells.as_slice() {
+            lanes.push(plan.lanes)?;
         }
         Ok(lanes)
     }
@@ -184,25 +214,26 @@ impl<'a> Blueprint<'a> {
 // The program of the lanes of a blueprint.
 fn from_blueprint<'a>(
     alloc: Global,
-    stride: usize,
-    cells: &'a Cells,
+    timed: &Timed,
+    cells: &Cells,
+    counter: Counter,
     blueprint: &Blueprint<'a>,
 ) -> Result<Program<'a>, Memory>
     requires blueprint { IsBlueprint blueprint.now }
+    requires timed { timed.now ≡ blueprint.now.array.timed.now }
+    requires cells { cells.now ≡ blueprint.now.array.cells.now }
+    requires counter { IsCounted blueprint.now.array counter }
     requires ranks { length (helpers_of blueprint.now.array) < 18446744073709551615 }
-    requires outputs { All (λ p. p < length (cells_of blueprint.now.array)) cells.now.outputs }
-    ensures inputs { IfOk result (λ program. program.inputs ≡ length cells.now.inputs) }
-    ensures lanes { IfOk result (λ program. AreBuilt blueprint.now blueprint.now.lanes program.lanes) }
-    ensures outputs { IfOk result (λ program. program.outputs ≡ map (lanes_of blueprint.now.lanes).of_value cells.now.outputs) }
-    ensures stride { IfOk result (λ program. program.stride ≡ stride) }
+    ensures { IfOk result (λ program. IsProgrammed timed.now cells.now counter (program_of program)) }
 {
-    let lanes = blueprint.built(alloc)?;
-    let outputs = blueprint.values(alloc, cells.outputs.as_slice())?;
+    let flat = &timed.flat;
     Ok(Program {
-        inputs: cells.inputs.as_slice().len(),
-        lanes,
-        outputs,
-        stride,
+        inputs: blueprint.port_widths(alloc, flat, cells.inputs.as_slice())?,
+        lanes: blueprint.built(alloc, flat, counter)?,
+        cells: blueprint.cell_lanes(alloc)?,
+        kinds: kinds_of(alloc, blueprint.cells.as_slice())?,
+        outputs: blueprint.values(alloc, cells.outputs.as_slice())?,
+        stride: timed.helpers.as_slice().len() + 1,
     })
 }
 
@@ -211,15 +242,15 @@ pub(crate) fn program<'a>(
     alloc: Global,
     timed: &'a Timed,
     cells: &'a Cells,
+    counter: Counter,
 ) -> Result<Program<'a>, Memory>
-    requires legal { IsLegal timed.now }
     requires whole { IsWhole timed.now cells.now }
-    requires small { (f : Fault) → IsSpaceFault timed.now f → f ≡ fault.Memory }
-    ensures { IfOk result (λ program. IsProgrammed timed.now cells.now (program_of program)) }
+    requires within { (f : Fault) → IsSpaceFault timed.now f → f ≡ fault.Memory }
+    requires counter { IsCounter counter }
+    requires apart { IsWithinCount timed.now cells.now counter }
+    ensures { IfOk result (λ program. IsProgrammed timed.now cells.now counter (program_of program)) }
 {
-    let stride = timed.helpers.as_slice().len() + 1;
     let array = Array::new(alloc, timed, cells)?;
     let blueprint = plan_lanes(alloc, array, cells.cells.as_slice().len())?;
-    let program = from_blueprint(alloc, stride, cells, &blueprint)?;
-    Ok(program)
+    from_blueprint(alloc, timed, cells, counter, &blueprint)
 }

@@ -1,18 +1,21 @@
 -- The lanes of an array before they are built: what stands on each cell, and what each lane is for.
-use Rattle.std.specs.Prelude.{◌≡◌, ◌≢◌, ℕ, suc, ◌<◌, ◌≤◌, ◌⊎◌, ◌&&◌, Bool, nat_eq, IsTrue, Option, Some, None, IfSome, List, [], ◌∷◌, All, AllPairs, Contains, slice_get, length, if◌then◌else◌}
+use Rattle.std.specs.Prelude.{◌≡◌, ℕ, suc, ◌+◌, ◌<◌, Bool, false, nat_eq, Option, Some, None, List, [], ◌∷◌, ◌++◌, map, slice_get, length, if◌then◌else◌}
+use Rattle.av_tree.specs.Points.{Point}
 use Rattle.av_flat.specs.Trees.{view_piece, view_variable}
 use Rattle.av_space.specs.declared.array.Array.{Array as ArrayMade}
 use Rattle.av_space.specs.declared.spots.Site.{Site as Place}
 use Rattle.av_space.specs.declared.spots.Spot.{Spot as SpotMade}
-use Rattle.av_space.specs.Links.{is_same}
 use Rattle.av_space.specs.Taps.{Handing}
-use Rattle.av_space.specs.Spots.{system_of, helpers_of, placings_of, cells_of, IsArray, AreSpots, AreSites}
+use Rattle.av_space.specs.Spots.{system_of, helpers_of, placings_of, cells_of, IsArray, AreSpots, AreSites, ComputesIn}
+use Rattle.av_kinds.specs.declared.counter.Counter.{Counter}
+use Rattle.av_kinds.specs.Counters.{IsCounter}
+use Rattle.av_history.specs.Performing.{Array, Lanes, Spot}
+use Rattle.av_history.specs.Problems.{number_count}
 use Rattle.av_build.specs.declared.blueprint.Blueprint.{Blueprint}
 use Rattle.av_build.specs.declared.blueprint.CellPlan.{CellPlan}
 use Rattle.av_build.specs.declared.blueprint.HelperPlan.{HelperPlan}
 use Rattle.av_build.specs.declared.blueprint.LanePlan.{LanePlan}
 use Rattle.av_build.specs.declared.blueprint.Pieces.{Pieces}
-use Rattle.av_build.specs.inner.Programmed.{Array, Lanes, Spot, later}
 
 -- ---- the array
 
@@ -22,94 +25,117 @@ seen w = record { system = system_of w; helpers = helpers_of w; times = placings
 abbrev pub spot_of : SpotMade → Spot
 spot_of at = record { cell = at.cell; node = at.node; variable = view_variable at.var.now; number = at.number; piece = view_piece at.piece.now }
 
--- ---- lanes by cell and helper
-
-abbrev pub number_in : Option HelperPlan → Option ℕ
-number_in None = None
-number_in (Some h) = Some h.number
-
--- of the helper with this number
-abbrev pub is_helper : LanePlan → ℕ → Bool
-is_helper lane j = is_same (number_in lane.helper) (Some j)
-
-abbrev pub is_lane : ℕ → Option ℕ → LanePlan → Bool
-is_lane p h lane = nat_eq lane.cell p && is_same (number_in lane.helper) h
-
--- the place of the lane among the plans, or how many there are where there is none
-abbrev pub lane_at : ℕ → Option ℕ → List LanePlan → ℕ
-lane_at p h [] = 0
-lane_at p h (lane ∷ lanes) = if is_lane p h lane then 0 else suc (lane_at p h lanes)
-
-abbrev pub lanes_of : List LanePlan → Lanes
-lanes_of plans = record { of_value = λ p. lane_at p None plans; of_helper = λ j p. lane_at p (Some j) plans }
-
--- ---- what stands on a cell
-
 -- the pieces on the cell p, and the places of each that read
 pub record ArePieces (w : ArrayMade) (p : ℕ) (pieces : Pieces) : Type 0 where
   pub spots : AreSpots w p pieces.spots
   pub one_each : length pieces.sites ≡ length pieces.spots
   pub sites : (k : ℕ) (spot : SpotMade) (own : List Place) → slice_get pieces.spots k ≡ Some spot → slice_get pieces.sites k ≡ Some own → AreSites w spot own
 
--- a place of one of these pieces
-pub record IsPlaceOn (pieces : Pieces) (k i : ℕ) (spot : SpotMade) (site : Place) : Type 0 where
-  pub is_spot : slice_get pieces.spots k ≡ Some spot
-  pub own : List Place
-  pub is_own : slice_get pieces.sites k ≡ Some own
-  pub is_site : slice_get own i ≡ Some site
+-- ---- the helpers on a cell, in the order of its pieces and their places
 
--- one whose helper has a lane on the cell p
-pub record IsHelperOn (w : ArrayMade) (pieces : Pieces) (p : ℕ) (h : HelperPlan) : Type 0 where
-  pub spot : SpotMade
-  pub site : Place
-  pub on : IsPlaceOn pieces h.piece h.site spot site
-  pub handing : Handing
-  pub is_handing : site.handing ≡ Some handing
-  pub number : h.number ≡ handing.number
-  pub is_later : IsTrue (later (seen w) h.number p)
+abbrev pub with_helper : ℕ → ℕ → Option Handing → List HelperPlan → List HelperPlan
+with_helper k i None helpers = helpers
+with_helper k i (Some h) helpers = record { number = h.number; piece = k; site = i } ∷ helpers
 
--- the piece with this number, or before it, up to a place of the piece
-abbrev pub IsBeforeAt : HelperPlan → ℕ → ℕ → Type 0
-IsBeforeAt h k i = (h.piece < k) ⊎ ((h.piece ≡ k) × (h.site < i))
+-- those of the places of the piece k from the i-th on
+abbrev pub site_helpers : ℕ → ℕ → List Place → List HelperPlan
+site_helpers k i [] = []
+site_helpers k i (site ∷ sites) = with_helper k i site.handing (site_helpers k (suc i) sites)
 
--- those of the places before this one, each once
-pub record AreHelpers (w : ArrayMade) (pieces : Pieces) (p k i : ℕ) (helpers : List HelperPlan) : Type 0 where
-  pub each : All (λ h. IsHelperOn w pieces p h × IsBeforeAt h k i) helpers
-  pub all : (h : HelperPlan) → IsHelperOn w pieces p h → IsBeforeAt h k i → Contains helpers h
-  pub once : AllPairs (λ g h. g.number ≢ h.number) helpers
+-- of the pieces from the k-th on
+abbrev pub helpers_from : ℕ → List (List Place) → List HelperPlan
+helpers_from k [] = []
+helpers_from k (sites ∷ pieces) = site_helpers k 0 sites ++ helpers_from (suc k) pieces
 
--- ---- all lanes
+abbrev pub helpers_on : Pieces → List HelperPlan
+helpers_on pieces = helpers_from 0 pieces.sites
 
--- those of these cells
-pub record AreLanes (w : ArrayMade) (cells : List CellPlan) (lanes : List LanePlan) : Type 0 where
-  pub plans : (p : ℕ) (plan : CellPlan) → slice_get cells p ≡ Some plan → ArePieces w p plan.pieces
-  pub only : (q : ℕ) (lane : LanePlan) → slice_get lanes q ≡ Some lane → (plan : CellPlan) × (slice_get cells lane.cell ≡ Some plan) × IfSome lane.helper (IsHelperOn w plan.pieces lane.cell) × (plan.first ≤ q) × (q ≤ plan.value)
-  pub own : (p : ℕ) (plan : CellPlan) → slice_get cells p ≡ Some plan → (q : ℕ) (lane : LanePlan) → plan.first ≤ q → q ≤ plan.value → slice_get lanes q ≡ Some lane → lane.cell ≡ p
-  pub values : (p : ℕ) (plan : CellPlan) → slice_get cells p ≡ Some plan → slice_get lanes plan.value ≡ Some (record { cell = p; helper = None })
-  pub helpers : (p : ℕ) (plan : CellPlan) → slice_get cells p ≡ Some plan → (h : HelperPlan) → IsHelperOn w plan.pieces p h → (q : ℕ) × (slice_get lanes q ≡ Some (record { cell = p; helper = Some h }))
-  pub once : (i j : ℕ) (x y : LanePlan) → slice_get lanes i ≡ Some x → slice_get lanes j ≡ Some y → x.cell ≡ y.cell → number_in x.helper ≡ number_in y.helper → i ≡ j
+-- ---- lanes: of each cell those of its helpers, and then that of its value
+
+abbrev pub of_helper : ℕ → HelperPlan → LanePlan
+of_helper p h = record { cell = p; helper = Some h }
+
+abbrev pub own_lanes : ℕ → Pieces → List LanePlan
+own_lanes p pieces = map (of_helper p) (helpers_on pieces) ++ record { cell = p; helper = None } ∷ []
+
+-- of the cells from the p-th on
+abbrev pub lanes_from : ℕ → List CellPlan → List LanePlan
+lanes_from p [] = []
+lanes_from p (plan ∷ cells) = own_lanes p plan.pieces ++ lanes_from (suc p) cells
+
+-- of the helper with this number
+abbrev pub is_number : Option HelperPlan → ℕ → Bool
+is_number None j = false
+is_number (Some h) j = nat_eq h.number j
+
+abbrev pub is_of_helper : LanePlan → ℕ → Bool
+is_of_helper lane j = is_number lane.helper j
+
+-- the helpers of the places of the piece k are put behind others
+abbrev pub AddsHelpers : Pieces → ℕ → List HelperPlan → List HelperPlan → Type 0
+AddsHelpers pieces k old new = (own : List Place) → slice_get pieces.sites k ≡ Some own → new ≡ old ++ site_helpers k 0 own
+
+-- the numbers of the lanes of cells, from the q-th on
+abbrev pub AreNumbered : ℕ → List CellPlan → Type 0
+AreNumbered q [] = Unit {0}
+AreNumbered q (plan ∷ cells) = (plan.lanes.first ≡ q) × (plan.lanes.value ≡ q + length (helpers_on plan.pieces)) × AreNumbered (suc plan.lanes.value) cells
+
+-- what stands on the first n cells, with their lanes
+pub record AreCellPlans (w : ArrayMade) (n : ℕ) (cells : List CellPlan) (lanes : List LanePlan) : Type 0 where
+  pub one_each : length cells ≡ n
+  pub pieces : (p : ℕ) (plan : CellPlan) → slice_get cells p ≡ Some plan → ArePieces w p plan.pieces
+  pub lanes_are : lanes ≡ lanes_from 0 cells
+  pub numbered : AreNumbered 0 cells
 
 pub record IsBlueprint (b : Blueprint) : Type 0 where
   pub array : IsArray b.array
-  pub one_each : length b.cells ≡ length (cells_of b.array)
-  pub lanes : AreLanes b.array b.cells b.lanes
+  pub plans : AreCellPlans b.array (length (cells_of b.array)) b.cells b.lanes
 
--- the helper has a lane on the cell
-pub record HasLane (b : Blueprint) (p j : ℕ) : Type 0 where
+-- ---- lanes by cell and helper
+
+-- the place of the helper j, or how many there are where it is none of them
+abbrev pub helper_place : ℕ → List HelperPlan → ℕ
+helper_place j [] = 0
+helper_place j (h ∷ helpers) = if nat_eq h.number j then 0 else suc (helper_place j helpers)
+
+abbrev pub value_in : Option CellPlan → ℕ
+value_in None = 0
+value_in (Some plan) = plan.lanes.value
+
+abbrev pub helper_in : ℕ → Option CellPlan → ℕ
+helper_in j None = 0
+helper_in j (Some plan) = plan.lanes.first + helper_place j (helpers_on plan.pieces)
+
+abbrev pub lanes_of : List CellPlan → Lanes
+lanes_of cells = record { of_value = λ p. value_in (slice_get cells p); of_helper = λ j p. helper_in j (slice_get cells p) }
+
+-- the helper is one of those on the cell
+pub record HasHelper (b : Blueprint) (p j : ℕ) : Type 0 where
+  pub plan : CellPlan
+  pub is_plan : slice_get b.cells p ≡ Some plan
+  pub index : ℕ
+  pub helper : HelperPlan
+  pub is_helper : slice_get (helpers_on plan.pieces) index ≡ Some helper
+  pub number : helper.number ≡ j
+
+-- the piece is one of those on its cell, with its places
+pub record IsSpotOn (b : Blueprint) (at : SpotMade) (sites : List Place) : Type 0 where
+  pub plan : CellPlan
+  pub is_plan : slice_get b.cells at.cell ≡ Some plan
   pub number : ℕ
-  pub lane : LanePlan
-  pub is_lane : slice_get b.lanes number ≡ Some lane
-  pub cell : lane.cell ≡ p
-  pub helper : number_in lane.helper ≡ Some j
+  pub is_spot : slice_get plan.pieces.spots number ≡ Some at
+  pub are_sites : slice_get plan.pieces.sites number ≡ Some sites
 
--- the piece with the number k on the cell p
-pub record IsSpotAt (b : Blueprint) (p k : ℕ) (at : SpotMade) : Type 0 where
-  pub plan : CellPlan
-  pub is_plan : slice_get b.cells p ≡ Some plan
-  pub is_spot : slice_get plan.pieces.spots k ≡ Some at
+-- the place is one of such a piece
+pub record IsPlaceOn (b : Blueprint) (at : SpotMade) (place : Place) : Type 0 where
+  pub sites : List Place
+  pub spot_on : IsSpotOn b at sites
+  pub index : ℕ
+  pub is_place : slice_get sites index ≡ Some place
 
--- a helper of a place on the cell p
-pub record HasHelper (b : Blueprint) (p : ℕ) (h : HelperPlan) : Type 0 where
-  pub plan : CellPlan
-  pub is_plan : slice_get b.cells p ≡ Some plan
-  pub on : IsHelperOn b.array plan.pieces p h
+-- ---- what the counter tells apart
+
+-- no two computations of a cell are as many cycles apart as the counter has numbers
+pub record IsCounted (w : ArrayMade) (counter : Counter) : Type 0 where
+  pub counts : IsCounter counter
+  pub within : (p c d m n : ℕ) (y z : Point) → ComputesIn w p c m y → ComputesIn w p d n z → d < c + number_count counter

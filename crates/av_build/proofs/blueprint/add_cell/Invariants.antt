@@ -1,5 +1,5 @@
 use Rattle.std.proofs.Common.{◌≡◌, ◌++◌, map, take}
-use Rattle.av_build.proofs.AllLanes.{of_helper}
+use Rattle.av_build.specs.inner.Blueprints.{of_helper}
 use Rattle.av_build.proofs.blueprint.add_cell.Given as goal
 
 abbrev pub invariant-loop-helper : goal.invariant-loop-helper

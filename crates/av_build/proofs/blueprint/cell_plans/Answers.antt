@@ -1,14 +1,12 @@
-use Rattle.std.proofs.Common.{◌∙◌, List, length, sym, ap, subst}
-use Rattle.av_build.specs.declared.blueprint.CellPlan.{CellPlan}
-use Rattle.av_build.specs.inner.Blueprints.{AreLanes}
-use Rattle.av_build.proofs.Pairwise.{one_longer}
+use Rattle.std.proofs.Common.{sym, subst}
+use Rattle.av_build.specs.inner.Blueprints.{AreCellPlans}
+use Rattle.av_build.proofs.BlueprintSteps.{no_cells, cell_step}
 use Rattle.av_build.proofs.blueprint.cell_plans.Goals as goal
+
+pub loop-cell-starts : goal.loop-cell-starts
+loop-cell-starts c = subst (AreCellPlans c.args.array.now 0 []) (sym c.requires.none) (no_cells c.args.array.now)
 
 pub loop-cell-preserved : goal.loop-cell-preserved
 loop-cell-preserved c =
-    let h = c.loop-cell.invariant in
-    let put = c.in_ok-push.ensures.ok in
-    record {
-      one_each = ap (λ (l : List CellPlan). length l) put ∙ one_longer c.loop-cell.cells c.loop-cell.cell _ h.one_each;
-      lanes = subst (λ (l : List CellPlan). AreLanes c.args.array.now l c.add_cell.new.lanes) (sym put) (c.in_ok-add_cell.ensures c.loop-cell.cells h.one_each h.lanes);
-    }
+    let put = c.in_ok-add_cell.ensures in
+    cell_step c.args.array.now c.loop-cell.cell c.loop-cell.cells c.push.new.self c.in_ok-add_cell.field-0 c.loop-cell.lanes c.add_cell.new.lanes c.loop-cell.invariant put.pieces put.first put.value put.lanes c.in_ok-push.ensures.ok

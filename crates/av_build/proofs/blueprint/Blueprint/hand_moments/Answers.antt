@@ -1,23 +1,29 @@
-use Rattle.std.proofs.Common.{◌≡◌, refl}
+use Rattle.std.proofs.Common.{refl, get_or}
+use Rattle.std.proofs.lemmas.Option.{slice_get-get_or}
 use Rattle.av_flat.specs.Trees.{view}
-use Rattle.av_space.specs.declared.layout.Slot.{Slot}
-use Rattle.av_build.specs.declared.moments.Moment.{Moment}
+use Rattle.av_kinds.specs.Counters.{count_in}
 use Rattle.av_build.specs.inner.Blueprints.{seen, spot_of, lanes_of}
-use Rattle.av_build.specs.inner.Moments.{IsHandBy}
-use Rattle.av_build.specs.inner.Written.{source_of}
-use Rattle.av_build.proofs.Pairwise.{next_pair, all_pairs}
+use Rattle.av_build.proofs.HandSteps.{no_hands, one_hand}
+use Rattle.av_build.proofs.Pairwise.{element_of}
 use Rattle.av_build.proofs.blueprint.Blueprint.hand_moments.Goals as goal
 
-pub loop-slot-preserved : goal.loop-slot-preserved
-loop-slot-preserved c =
-    let slot = c.slot-item.result in
-    let next = next_pair (λ (slot : Slot) (t : Moment). (t.cycle ≡ slot.cycle) × IsHandBy (seen c.args.self.now.array) (lanes_of c.args.self.now.lanes) (spot_of c.args.spot.now) slot.point slot.cycle c.args.site.now.place.site c.args.handing.now (view c.args.site.now.place.tree) (source_of t.source))
-    c.as_slice-slot-items.result.now c.loop-slot.moments c.push.new.self c.loop-slot.slot-index _ slot (record { cycle = slot.cycle; source = c.hand_source.result }) c.loop-slot-test.true c.slot-item.is
-    c.loop-slot.invariant.one_each c.loop-slot.invariant.each (refl, c.hand_source.ensures) c.in_ok-push.ensures.ok in
-    record { one_each = next.0; each = next.1 }
+pub loop-k-starts : goal.loop-k-starts
+loop-k-starts c =
+    let b = c.args.self.now in
+    let spot = c.args.spot.now in
+    let site = c.args.site.now in
+    no_hands (seen b.array) (count_in c.args.counter) (lanes_of b.cells) (spot_of spot) site.place.site c.args.handing.now (view site.place.tree) spot.slots c.args.order.now _ refl refl refl refl
 
-pub returns : goal.returns
-returns c =
-    let all = all_pairs (λ (slot : Slot) (t : Moment). (t.cycle ≡ slot.cycle) × IsHandBy (seen c.args.self.now.array) (lanes_of c.args.self.now.lanes) (spot_of c.args.spot.now) slot.point slot.cycle c.args.site.now.place.site c.args.handing.now (view c.args.site.now.place.tree) (source_of t.source))
-    c.args.spot.now.slots c.as_slice-slot-items.result.now c.loop-slot.moments c.loop-slot.slot-index c.as_slice-slot-items.ensures c.loop-slot.invariant.one_each c.loop-slot.auto.slot-index-end c.loop-slot-test.false c.loop-slot.invariant.each in
-    record { one_each = all.0; each = all.1 }
+pub loop-k-preserved : goal.loop-k-preserved
+loop-k-preserved c =
+    let b = c.args.self.now in
+    let spot = c.args.spot.now in
+    let site = c.args.site.now in
+    let n = c.loop-k.k-index in
+    let place = get_or c.args.order.now n 0 in
+    let is_place = slice_get-get_or c.args.order.now n 0 c.loop-k-test.true in
+    let slot = c.index-slots-k.result in
+    let low = c.requires.order.within n place is_place in
+    let is_slot = element_of spot.slots c.as_slice.result.now place slot slot c.as_slice.ensures low c.index-slots-k.is in
+    one_hand (seen b.array) (count_in c.args.counter) (lanes_of b.cells) (spot_of spot) site.place.site c.args.handing.now (view site.place.tree) spot.slots c.args.order.now c.requires.order n c.loop-k.moments c.add_hand_moment.new.moments c.loop-k.invariant slot
+    (record { place = place; is_place = is_place; is_slot = is_slot }) c.number.result c.number.ensures c.in_ok-add_hand_moment.ensures

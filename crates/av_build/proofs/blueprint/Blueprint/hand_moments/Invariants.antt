@@ -1,15 +1,8 @@
-use Rattle.std.proofs.Common.{◌≡◌, length}
 use Rattle.av_flat.specs.Trees.{view}
-use Rattle.av_space.specs.declared.layout.Slot.{Slot}
-use Rattle.av_build.specs.declared.moments.Moment.{Moment}
+use Rattle.av_kinds.specs.Counters.{count_in}
 use Rattle.av_build.specs.inner.Blueprints.{seen, spot_of, lanes_of}
-use Rattle.av_build.specs.inner.Moments.{IsHandBy}
-use Rattle.av_build.specs.inner.Written.{source_of}
-use Rattle.av_build.proofs.Pairwise.{ArePairs}
+use Rattle.av_build.specs.inner.Sources.{AreHandMomentsTo}
 use Rattle.av_build.proofs.blueprint.Blueprint.hand_moments.Given as goal
 
-abbrev pub invariant-loop-slot : goal.invariant-loop-slot
-invariant-loop-slot l = record {
-  one_each : length l.moments ≡ l.slot-index;
-  each : ArePairs (λ (slot : Slot) (t : Moment). (t.cycle ≡ slot.cycle) × IsHandBy (seen l.self.array) (lanes_of l.self.lanes) (spot_of l.spot) slot.point slot.cycle l.site.place.site l.handing (view l.site.place.tree) (source_of t.source)) l.slot-items l.moments;
-}
+abbrev pub invariant-loop-k : goal.invariant-loop-k
+invariant-loop-k l = AreHandMomentsTo (seen l.self.array) (count_in l.counter) (lanes_of l.self.cells) (spot_of l.spot) l.site.place.site l.handing (view l.site.place.tree) l.spot.slots l.order l.k-index l.moments

@@ -1,36 +1,60 @@
-use Rattle.std.proofs.Common.{◌≡◌, ◌∙◌, ◌<◌, List, length, sym, ap, subst, arith, Some}
+use Rattle.std.proofs.Common.{◌≡◌, ◌∙◌, ℕ, List, length, sym, ap, arith, inl, inr}
 use Rattle.std.specs.Prelude.{slice_get}
-use Rattle.std.proofs.lemmas.Option.{slice_get-get_or}
+use Rattle.std.proofs.lemmas.Bool.{cases_lt}
+use Rattle.av_base.proofs.Lists.{some_is}
+use Rattle.av_space.proofs.Elements.{in_range}
 use Rattle.av_build.specs.declared.blueprint.CellPlan.{CellPlan}
-use Rattle.av_build.proofs.LaneSearch.{found_at, none_more, not_missing, planned}
+use Rattle.av_build.specs.declared.blueprint.LanePlan.{LanePlan}
+use Rattle.av_build.specs.inner.Blueprints.{is_of_helper}
+use Rattle.av_build.proofs.Pairwise.{element_of}
+use Rattle.av_build.proofs.HelperSearch.{found_below, first_found}
 use Rattle.av_build.proofs.blueprint.Blueprint.helper_lane.Goals as goal
 
+-- the plan of the cell is that of the helper
 pub unreachable-requires : goal.unreachable-requires
 unreachable-requires c =
-    let k = c.args.cell in
     let b = c.args.self.now in
-    let d = c.index-as_slice-cell.result in
-    let cells = c.as_slice.result.now in
-    let many = ap (λ (l : List CellPlan). length l) c.as_slice.ensures in
-    let m = planned b c.requires.blueprint k c.args.helper c.requires.lane in
-    let low : k < length cells = omega (arith, many, m) in
-    let at : slice_get cells k ≡ Some d = slice_get-get_or cells k d low ∙ ap Some (sym c.index-as_slice-cell.is) in
-    let here : slice_get b.cells k ≡ Some d = subst (λ (l : List CellPlan). slice_get l k ≡ Some d) c.as_slice.ensures at in
-    not_missing b c.requires.blueprint k d here c.args.helper c.requires.lane c.loop-number.number c.loop-number-test.false (c.loop-number.invariant d here)
+    let has = c.requires.helper in
+    let plan = c.index-as_slice-cell.result in
+    let low = in_range b.cells c.args.cell has.plan has.is_plan in
+    let is = element_of b.cells c.as_slice.result.now c.args.cell plan plan c.as_slice.ensures low c.index-as_slice-cell.is in
+    let same : plan ≡ has.plan = some_is plan has.plan (sym is ∙ has.is_plan) in
+    let end = c.loop-number-test.false in
+    let value = ap (λ (x : CellPlan). x.lanes.value) same in
+    let first = ap (λ (x : CellPlan). x.lanes.first) same in
+    found_below b c.requires.blueprint c.args.cell c.args.helper has c.loop-number.number (omega (arith, end, value)) (λ q lane le lt is_lane. c.loop-number.invariant q lane (omega (arith, le, first)) lt is_lane)
 
 pub returns-then-is_helper : goal.returns-then-is_helper
 returns-then-is_helper c =
-    let k = c.args.cell in
     let b = c.args.self.now in
-    let d = c.index-as_slice-cell.result in
-    let cells = c.as_slice.result.now in
-    let many = ap (λ (l : List CellPlan). length l) c.as_slice.ensures in
-    let m = planned b c.requires.blueprint k c.args.helper c.requires.lane in
-    let low : k < length cells = omega (arith, many, m) in
-    let at : slice_get cells k ≡ Some d = slice_get-get_or cells k d low ∙ ap Some (sym c.index-as_slice-cell.is) in
-    let here : slice_get b.cells k ≡ Some d = subst (λ (l : List CellPlan). slice_get l k ≡ Some d) c.as_slice.ensures at in
-    found_at b c.requires.blueprint k d here c.args.helper c.loop-number.number c.as_slice-lanes.result.now _ c.as_slice-lanes.ensures c.loop-number.auto.number c.loop-number-test.true (sym c.if-is_helper.ensures)
+    let has = c.requires.helper in
+    let plan = c.index-as_slice-cell.result in
+    let low = in_range b.cells c.args.cell has.plan has.is_plan in
+    let is = element_of b.cells c.as_slice.result.now c.args.cell plan plan c.as_slice.ensures low c.index-as_slice-cell.is in
+    let same : plan ≡ has.plan = some_is plan has.plan (sym is ∙ has.is_plan) in
+    let value = ap (λ (x : CellPlan). x.lanes.value) same in
+    let first = ap (λ (x : CellPlan). x.lanes.first) same in
+    let n = c.loop-number.number in
+    let lane = c.index-lanes-number.result in
+    let from = c.loop-number.auto.number in
+    let high = c.loop-number-test.true in
+    let in_lanes = c.index-lanes-number.bounds in
+    let many = ap (λ (l : List LanePlan). length l) c.as_slice-lanes.ensures in
+    let is_lane = element_of b.lanes c.as_slice-lanes.result.now n lane lane c.as_slice-lanes.ensures (omega (arith, in_lanes, many)) c.index-lanes-number.is in
+    first_found b c.requires.blueprint c.args.cell c.args.helper has n lane (omega (arith, from, first)) (omega (arith, high, value)) is_lane (sym c.if-is_helper.ensures)
+    (λ q other le lt is_other. c.loop-number.invariant q other (omega (arith, le, first)) lt is_other)
 
 pub loop-number-preserved : goal.loop-number-preserved
-loop-number-preserved c = λ plan is_plan.
-    none_more c.args.self.now.lanes c.as_slice-lanes.result.now _ plan.first c.args.helper c.loop-number.number c.as_slice-lanes.ensures (sym c.if-is_helper.ensures) (c.loop-number.invariant plan is_plan)
+loop-number-preserved c = λ q lane le lt is_lane.
+    let b = c.args.self.now in
+    let n = c.loop-number.number in
+    let own = c.index-lanes-number.result in
+    elim (cases_lt q n) [
+      | inl l ↦ c.loop-number.invariant q lane le l is_lane
+      | inr ge ↦ (
+          let e : q ≡ n = omega (arith, lt, ge) in
+          let r = in_range b.lanes q lane is_lane in
+          let is = element_of b.lanes c.as_slice-lanes.result.now n own own c.as_slice-lanes.ensures (omega (arith, r, e)) c.index-lanes-number.is in
+          let same : own ≡ lane = some_is own lane (sym is ∙ ap (λ (k : ℕ). slice_get b.lanes k) (sym e) ∙ is_lane) in
+          ap (λ (x : LanePlan). is_of_helper x c.args.helper) (sym same) ∙ sym c.if-is_helper.ensures)
+    ]

@@ -1,23 +1,28 @@
-use Rattle.std.proofs.Common.{◌≡◌, refl}
+use Rattle.std.proofs.Common.{◌+◌, refl, sym, subst, get_or}
+use Rattle.std.proofs.lemmas.Option.{slice_get-get_or}
 use Rattle.av_flat.specs.Trees.{view}
-use Rattle.av_space.specs.declared.layout.Slot.{Slot}
-use Rattle.av_build.specs.declared.moments.Moment.{Moment}
+use Rattle.av_kinds.specs.Counters.{count_in}
+use Rattle.av_history.specs.Performing.{IsPlaceSource}
 use Rattle.av_build.specs.inner.Blueprints.{seen, spot_of, lanes_of}
-use Rattle.av_build.specs.inner.Programmed.{IsPlaceSource}
-use Rattle.av_build.specs.inner.Written.{source_of}
-use Rattle.av_build.proofs.Pairwise.{next_pair, all_pairs}
+use Rattle.av_build.specs.inner.Orders.{AreMomentsTo}
+use Rattle.av_build.specs.inner.Programmed.{Always}
+use Rattle.av_build.proofs.MomentLemmas.{one_more}
+use Rattle.av_build.proofs.Pairwise.{element_of}
+use Rattle.av_build.proofs.PlaceSources.{plain_source}
 use Rattle.av_build.proofs.blueprint.Blueprint.moments.Goals as goal
 
-pub loop-slot-preserved : goal.loop-slot-preserved
-loop-slot-preserved c =
-    let slot = c.slot-item.result in
-    let next = next_pair (λ (slot : Slot) (t : Moment). (t.cycle ≡ slot.cycle) × IsPlaceSource (seen c.args.self.now.array) (lanes_of c.args.self.now.lanes) (spot_of c.args.spot.now) slot.point slot.cycle c.args.site.now.place.site (view c.args.site.now.place.tree) (source_of t.source))
-    c.as_slice-slot-items.result.now c.loop-slot.moments c.push.new.self c.loop-slot.slot-index _ slot (record { cycle = slot.cycle; source = c.source.result }) c.loop-slot-test.true c.slot-item.is
-    c.loop-slot.invariant.one_each c.loop-slot.invariant.each (refl, c.source.ensures) c.in_ok-push.ensures.ok in
-    record { one_each = next.0; each = next.1 }
-
-pub returns : goal.returns
-returns c =
-    let all = all_pairs (λ (slot : Slot) (t : Moment). (t.cycle ≡ slot.cycle) × IsPlaceSource (seen c.args.self.now.array) (lanes_of c.args.self.now.lanes) (spot_of c.args.spot.now) slot.point slot.cycle c.args.site.now.place.site (view c.args.site.now.place.tree) (source_of t.source))
-    c.args.spot.now.slots c.as_slice-slot-items.result.now c.loop-slot.moments c.loop-slot.slot-index c.as_slice-slot-items.ensures c.loop-slot.invariant.one_each c.loop-slot.auto.slot-index-end c.loop-slot-test.false c.loop-slot.invariant.each in
-    record { one_each = all.0; each = all.1 }
+pub loop-k-preserved : goal.loop-k-preserved
+loop-k-preserved c =
+    let b = c.args.self.now in
+    let spot = c.args.spot.now in
+    let site = c.args.site.now in
+    let n = c.loop-k.k-index in
+    let place = get_or c.args.order.now n 0 in
+    let is_place = slice_get-get_or c.args.order.now n 0 c.loop-k-test.true in
+    let slot = c.index-slots-k.result in
+    let low = c.requires.order.within n place is_place in
+    let is_slot = element_of spot.slots c.as_slice.result.now place slot slot c.as_slice.ensures low c.index-slots-k.is in
+    let source = plain_source b.array (lanes_of b.cells) spot site c.requires.site slot c.requires.spot c.requires.plain (view site.place.tree) refl c.own_source.result c.own_source.ensures in
+    subst (AreMomentsTo (count_in c.args.counter) spot.slots c.args.order.now Always (λ z d source. IsPlaceSource (seen b.array) (lanes_of b.cells) (spot_of spot) z d site.place.site (view site.place.tree) source) (n + 1)) (sym c.in_ok-push.ensures.ok)
+    (one_more (count_in c.args.counter) spot.slots c.args.order.now Always (λ z d source. IsPlaceSource (seen b.array) (lanes_of b.cells) (spot_of spot) z d site.place.site (view site.place.tree) source) n c.loop-k.moments c.loop-k.invariant slot
+    (record { place = place; is_place = is_place; is_slot = is_slot }) c.requires.order tt (record { number = c.number.result; source = c.own_source.result }) c.number.ensures source)

@@ -1,0 +1,131 @@
+//! The lanes of helpers.
+
+ghost use Rattle.std.specs.Prelude.{◌≡◌, ◌<◌, ◌∷◌, [], Some, None, length, map, IfOk};
+ghost use Rattle.av_flat.specs.Trees.{view, view_system};
+ghost use Rattle.av_space.specs.Spots.{helpers_of};
+ghost use Rattle.av_kinds.specs.Written.{work_of, mode_of, lane_of};
+ghost use Rattle.av_history.specs.Widths.{read_width};
+ghost use Rattle.av_build.specs.inner.Blueprints.{IsBlueprint, IsCounted};
+ghost use Rattle.av_build.specs.inner.Intervals.{intervals_by};
+ghost use Rattle.av_build.specs.inner.Lanes.{HasVariable, HasPlan, IsHelperOn, AreHelperModes, IsBuiltBy};
+ghost use Rattle.av_build.specs.inner.Moments.{site_by};
+ghost use Rattle.av_build.specs.inner.Programmed.{inlet_by, one_site};
+
+use crate::blueprint::{Blueprint, HelperPlan};
+use crate::intervals::{Mark, intervals};
+use crate::moments::{Moment, site};
+use crate::order::in_order;
+use crate::ports::{inlet_of, width_read};
+use av_base::{List, Memory, Width};
+use av_flat::{Flat, Tree};
+use av_kinds::{Counter, Inlet, Lane, Mode, Site as ProgramSite, Work};
+use av_space::Spot;
+use std::alloc::Global;
+
+// The list of one site.
+fn one_site(alloc: Global, own: ProgramSite) -> Result<List<ProgramSite>, Memory>
+    ensures { IfOk result (λ sites. sites ≡ own ∷ []) }
+{
+    let mut sites = List::new(alloc);
+    sites.push(own)?;
+    Ok(sites)
+}
+
+// In the intervals of the marks that hold, the reference over these sources.
+fn hand_mode<'a>(
+    alloc: Global,
+    marks: &[Mark],
+    tree: &'a Tree,
+    source: ProgramSite,
+) -> Result<Mode<'a>, Memory>
+    ensures intervals { IfOk result (λ mode. mode.intervals ≡ intervals_by marks.now) }
+    ensures work { IfOk result (λ mode. work_of mode.work ≡ one_site source (view tree.now)) }
+{
+    Ok(Mode {
+        intervals: intervals(alloc, marks)?,
+        work: Work {
+            sites: one_site(alloc, source)?,
+            tree,
+        },
+    })
+}
+
+// Where a helper reads its reference.
+fn entry_site(
+    alloc: Global,
+    flat: &Flat,
+    own: Width,
+    tree: &Tree,
+    moments: &[Moment],
+) -> Result<ProgramSite, Memory>
+    requires { HasVariable (view_system flat.now) (view tree.now) }
+    ensures { IfOk result (λ site. (site ≡ site_by (inlet_by (view_system flat.now) (λ j. j) None (view tree.now)) site.width moments.now)
+        × (site.width.bits ≡ read_width (view_system flat.now) own.bits None (view tree.now))) }
+{
+    site(
+        alloc,
+        inlet_of(flat, tree),
+        width_read(flat, own, tree),
+        moments,
+    )
+}
+
+impl<'a> Blueprint<'a> {
+    // What a helper's lane works on: at entry points the reference, and else the helper's word at the point before.
+    fn hand_modes(
+        &self,
+        alloc: Global,
+        flat: &Flat,
+        counter: Counter,
+        spot: &Spot<'a>,
+        helper: HelperPlan,
+    ) -> Result<List<Mode<'a>>, Memory>
+        requires blueprint { IsBlueprint self.now }
+        requires counter { IsCounted self.now.array counter }
+        requires flat { flat.now ≡ self.now.array.timed.now.flat }
+        requires helper { IsHelperOn self.now spot.now helper }
+        ensures { IfOk result (λ modes. AreHelperModes self.now counter spot.now helper (map mode_of modes)) }
+    {
+        let pieces = &self.cells.as_slice()[spot.cell].pieces;
+        let place = &pieces.sites.as_slice()[helper.piece].as_slice()[helper.site];
+        let Some(handing) = &place.handing else {
+            unreachable!();
+        };
+        let order = in_order(alloc, spot.slots.as_slice(), counter)?;
+        let found = self.hand_moments(alloc, counter, order.as_slice(), spot, place, handing)?;
+        let tree = place.place.tree;
+        let width = spot.var.width;
+        let entries = entry_site(alloc, flat, width, tree, found.entries.as_slice())?;
+        let own = site(alloc, Inlet::Taps, width, found.own.as_slice())?;
+        let mut modes = List::new(alloc);
+        modes.push(hand_mode(alloc, found.entry_marks.as_slice(), tree, entries)?)?;
+        modes.push(hand_mode(alloc, found.own_marks.as_slice(), tree, own)?)?;
+        Ok(modes)
+    }
+
+    /// The lane of the word of a helper on a cell.
+    pub(crate) fn pipeline(
+        &self,
+        alloc: Global,
+        flat: &Flat,
+        counter: Counter,
+        cell: usize,
+        helper: HelperPlan,
+    ) -> Result<Lane<'a>, Memory>
+        requires blueprint { IsBlueprint self.now }
+        requires counter { IsCounted self.now.array counter }
+        requires flat { flat.now ≡ self.now.array.timed.now.flat }
+        requires helper { HasPlan self.now cell helper }
+        requires ranks { length (helpers_of self.now.array) < 18446744073709551615 }
+        ensures { IfOk result (λ lane. IsBuiltBy self.now counter cell (Some helper) (lane_of lane)) }
+    {
+        let spot = &self.cells.as_slice()[cell].pieces.spots.as_slice()[helper.piece];
+        Ok(Lane {
+            home: cell as u32,
+            rank: helper.number + 1,
+            width: spot.var.width,
+            modes: self.hand_modes(alloc, flat, counter, spot, helper)?,
+            length: self.array.line_length(cell, Some(helper.number)),
+        })
+    }
+}
