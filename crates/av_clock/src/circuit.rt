@@ -83,6 +83,12 @@ impl<'a> Circuit<'a> {
         self.assignments.len()
     }
 
+    /// What it takes to compute all drives in passes, counted in drives that compute a word: eight copies take as long as one.
+    pub(crate) fn dense_work(&self) -> usize
+    {
+        self.passes.computed.len() + self.passes.copied.len() / 8
+    }
+
     /// The number of flip-flops.
     pub(crate) fn steps(&self) -> usize
         ensures { result ≡ length self.now.steps }
