@@ -84,8 +84,7 @@ impl<'a> Circuit<'a> {
     }
 
     /// What it takes to compute all drives in passes, counted in drives that compute a word: eight copies take as long as one.
-    pub(crate) fn dense_work(&self) -> usize
-    {
+    pub(crate) fn dense_work(&self) -> usize {
         self.passes.computed.len() + self.passes.copied.len() / 8
     }
 
