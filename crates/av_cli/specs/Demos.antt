@@ -6,7 +6,7 @@ use Rattle.av_tree.specs.Values.{Assignment}
 use Rattle.av_tree.specs.Solutions.{AreInputs, IsSolution}
 use Rattle.av_flat.specs.declared.timed.Timed.{Timed}
 use Rattle.av_names.specs.declared.size.Size.{Size}
-use Rattle.av_names.specs.Accepted.{instance_of}
+use Rattle.av_names.specs.Sizes.{instance_of}
 use Rattle.av_net.specs.declared.design.Design.{Design}
 use Rattle.av_space.specs.declared.cells.Cells.{Cells}
 use Rattle.av_data.specs.Tables.{totals_line}

@@ -10,7 +10,7 @@ use Rattle.av_flat.specs.Shown.{SameMeaning, same_meaning_trans}
 use Rattle.av_flat.specs.Solutions.{shows_of, declares_of}
 use Rattle.av_flat.specs.OneSolution as flat
 use Rattle.av_names.specs.declared.size.Size.{Size}
-use Rattle.av_names.specs.Accepted.{instance_of}
+use Rattle.av_names.specs.Sizes.{instance_of}
 use Rattle.av_names.specs.Flattened.{flat_of}
 use Rattle.av_names.specs.Refusals.{IsAccepted}
 use Rattle.av_names.specs.Same.{shows_in, declares_in}

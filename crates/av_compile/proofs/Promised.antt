@@ -28,7 +28,7 @@ use Rattle.av_net.specs.declared.design.Listing.{Listing}
 use Rattle.av_net.specs.Meaning.{Words}
 use Rattle.av_net.specs.Shown.{Shows, HasListed}
 use Rattle.av_names.specs.declared.size.Size.{Size}
-use Rattle.av_names.specs.Accepted.{instance_of}
+use Rattle.av_names.specs.Sizes.{instance_of}
 use Rattle.av_names.specs.Same.{shows_in, declares_in}
 use Rattle.av_names.proofs.Declared.{declared_parts}
 use Rattle.av_space.specs.declared.cells.Cells.{Cells}

@@ -10,7 +10,7 @@ use Rattle.av_tree.specs.Values.{Assignment}
 use Rattle.av_tree.specs.Solutions.{AreInputs, IsSolution, HasOneSolution}
 use Rattle.av_flat.specs.declared.timed.Timed.{Timed}
 use Rattle.av_names.specs.declared.size.Size.{Size}
-use Rattle.av_names.specs.Accepted.{instance_of}
+use Rattle.av_names.specs.Sizes.{instance_of}
 use Rattle.av_net.specs.declared.design.Entry.{Entry}
 use Rattle.av_net.specs.declared.design.Design.{Design}
 use Rattle.av_net.specs.Presented.{IsPresentable}

@@ -15,7 +15,7 @@ use Rattle.av_names.specs.inner.Building.{FitsDomain, FitsRight}
 use Rattle.av_names.specs.Flattened.{input_of, computed_of, flat_of}
 use Rattle.av_names.specs.Quantities.{above, too_many_variables}
 use Rattle.av_names.specs.Refusals.{rules, IsAccepted}
-use Rattle.av_names.specs.SizeWords.{sizes_of}
+use Rattle.av_names.specs.Sizes.{sizes_of}
 use Rattle.av_names.specs.Texts.{IsOfText}
 use Rattle.std.proofs.lemmas.Bool.{ltb-false}
 use Rattle.av_names.proofs.Accepted.{nothing_mapped}

@@ -20,14 +20,13 @@ use Rattle.av_tree.specs.Counts.{Instance}
 use Rattle.av_names.specs.declared.size.Size.{Size}
 use Rattle.av_names.specs.declared.fault.NameFault.{NameFault}
 use Rattle.av_names.specs.declared.fault.NameFault.TheVariants as fault
-use Rattle.av_names.specs.Accepted.{instance_of}
+use Rattle.av_names.specs.Sizes.{sizes_of, instance_of}
 use Rattle.av_names.specs.Forms.{Context, over, nameless, filled, form_of_row, rows_over}
 use Rattle.av_names.specs.Limits.{HasSmallForm, HaveSmallRows, HasSmallAccess, is_case, is_reduction, HasNo, HaveNo, IsLimitedIn, AreLimitedIn, IsLimited}
 use Rattle.av_names.specs.Parts.{Part, parts, parts_of, parts_of_all, equation_parts}
 use Rattle.av_names.specs.Quantities.{Counted, exceeds, greatest, row_coefficient, row_constant, index_coefficient, index_constant, written_coefficients, written_constants, great_coefficient, great_constant}
 use Rattle.av_names.specs.Reductions.{part_case, case_in_reduce, holds_reduction, hold_reduction, part_dependence, depend_on_reduce}
 use Rattle.av_names.specs.Refusals.{rules, IsAccepted}
-use Rattle.av_names.specs.SizeWords.{sizes_of}
 use Rattle.av_names.specs.Written.{Written, written_at, written_declaration, all_written}
 use Rattle.av_names.proofs.Accepted.{nothing_mapped, at_none, no_place, neither_is}
 use Rattle.av_names.proofs.Accepting.{within}

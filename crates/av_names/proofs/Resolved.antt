@@ -3,7 +3,7 @@ use Rattle.std.proofs.Common.{ℕ, List}
 use Rattle.av_tree.specs.Trees.{System}
 use Rattle.av_flat.specs.WellFormed.{IsWellFormed}
 use Rattle.av_names.specs.declared.size.Size.{Size}
-use Rattle.av_names.specs.Accepted.{instance_of}
+use Rattle.av_names.specs.Sizes.{instance_of}
 use Rattle.av_names.specs.Flattened.{flat_of}
 use Rattle.av_names.specs.Limits.{IsLimited}
 use Rattle.av_names.specs.Refusals.{IsAccepted}

@@ -3,6 +3,7 @@ pub mod Found
 pub mod Parts
 pub mod Written
 pub mod Repetitions
+pub mod Sizes
 pub mod SizeWords
 pub mod Unknowns
 pub mod Equations

@@ -9,7 +9,8 @@ use Rattle.av_names.specs.declared.fault.NameFault.TheVariants as fault
 use Rattle.av_names.specs.declared.size.Size.{Size}
 use Rattle.av_names.specs.Found.{Found}
 use Rattle.av_names.specs.Repetitions.{repeated}
-use Rattle.av_names.specs.SizeWords.{sizes_of, size_twice, size_unknown, size_missing, is_outside}
+use Rattle.av_names.specs.Sizes.{sizes_of}
+use Rattle.av_names.specs.SizeWords.{size_twice, size_unknown, size_missing, is_outside}
 use Rattle.av_names.specs.Unknowns.{unknown}
 use Rattle.av_names.specs.Equations.{defines_input, second_equation, no_equation}
 use Rattle.av_names.specs.Arities.{arity}

@@ -8,9 +8,8 @@ ghost use Rattle.av_names.specs.inner.Building.{instance_in, AreTables, AreNames
 ghost use Rattle.av_names.specs.inner.Fitting.{FitsIn};
 ghost use Rattle.av_names.specs.Flattened as rules;
 ghost use Rattle.av_names.specs.Forms.{over, set_of};
-ghost use Rattle.av_names.specs.Accepted.{instance_of};
+ghost use Rattle.av_names.specs.Sizes.{sizes_of, instance_of};
 ghost use Rattle.av_names.specs.Refusals.{IsAccepted};
-ghost use Rattle.av_names.specs.SizeWords.{sizes_of};
 ghost use Rattle.av_names.specs.inner.Sums.{sizes_in};
 ghost use Rattle.av_names.specs.Texts.{AreSmall, IsOfText};
 ghost use Rattle.av_tree.specs.Trees.{Text};

@@ -8,10 +8,9 @@ use Rattle.av_tree.specs.declared.system.Declaration.{Declaration}
 use Rattle.av_tree.specs.declared.system.System.{System}
 use Rattle.av_tree.specs.Points.{Sizes}
 use Rattle.av_tree.specs.Trees.{view_system}
-use Rattle.av_names.specs.Accepted.{instance_of}
+use Rattle.av_names.specs.Sizes.{sizes_of, instance_of}
 use Rattle.av_names.specs.inner.Building.{FitsDomain, instance_in}
 use Rattle.av_names.specs.Flattened.{input_of, computed_of}
-use Rattle.av_names.specs.SizeWords.{sizes_of}
 use Rattle.av_names.specs.inner.Sums.{sizes_in}
 use Rattle.av_names.proofs.Among.{among_first, among_second}
 use Rattle.av_names.proofs.FlatSystem.{domains_fit, flat_is}

@@ -1,7 +1,7 @@
 use Rattle.std.proofs.Common.{sym, subst, ◌∙◌}
 use Rattle.av_flat.specs.WellFormed.{IsWellFormed}
 use Rattle.av_tree.specs.Trees.{view_system}
-use Rattle.av_names.specs.Accepted.{instance_of}
+use Rattle.av_names.specs.Sizes.{instance_of}
 use Rattle.av_names.specs.Same.{SaysTheSame}
 use Rattle.av_names.proofs.Resolved.{is_well_formed, is_the_same}
 use Rattle.av_names.proofs.resolver.resolve.Goals as goal
