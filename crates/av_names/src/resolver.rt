@@ -15,7 +15,7 @@ use crate::index::all_parts;
 use crate::refused::refused;
 use crate::tables::all_variables;
 use crate::{NameFault, Size};
-use av_base::Width;
+use av_base::{Memory, Width};
 use av_flat::Flat;
 use av_tree::System;
 use std::alloc::Global;
