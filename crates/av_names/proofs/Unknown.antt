@@ -21,7 +21,7 @@ use Rattle.av_names.specs.Unknowns.{declared_as, unknown, unknown_equation, unkn
 use Rattle.av_names.specs.Written.{Written, written_at, written_declaration, written_sizes, all_written}
 use Rattle.av_names.proofs.Lists.{equations_are}
 use Rattle.av_names.proofs.Lookups.{context_is}
-use Rattle.av_names.proofs.Reach.{rule_of, first_flat_map, written_same}
+use Rattle.av_names.proofs.Reach.{first_flat_map, written_same}
 use Rattle.av_names.proofs.Sooner.{first_append, first_map, first_filter_map}
 
 -- ---- the names of the variables

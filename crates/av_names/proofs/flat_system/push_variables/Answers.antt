@@ -1,4 +1,4 @@
-use Rattle.std.proofs.Common.{sym, subst, List, ◌++◌, map, All}
+use Rattle.std.proofs.Common.{sym, subst, ◌++◌, map, All}
 use Rattle.std.proofs.lemmas.Result.{on_ok_weaker}
 use Rattle.av_flat.specs.declared.flat.Kind.TheVariants as kind
 use Rattle.av_flat.specs.Trees.{view_variable}
