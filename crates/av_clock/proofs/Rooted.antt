@@ -28,9 +28,10 @@ use Rattle.av_clock.specs.declared.gate.Gate.{Gate}
 use Rattle.av_clock.specs.declared.gate.Gate.TheVariants.{Buffer, Operator, Comparator, Multiplexer, Slice, Extender}
 use Rattle.av_clock.specs.declared.gate.Assignment.{Assignment}
 use Rattle.av_clock.specs.declared.passes.Alias.{Alias}
+use Rattle.av_clock.specs.declared.passes.Fixed.{Fixed}
 use Rattle.av_clock.specs.Named.{named, AllFit}
 use Rattle.av_clock.specs.inner.Gates.{reading_word, IsWithin, EachReading, Takes, CanTake, gate_word, IsRead, IsResolved, AreAssigned}
-use Rattle.av_clock.specs.inner.Passes.{IsRoot, IsRooted, IsFinal, IsKnown, IsKnownReading, IsComputed, IsCopied, ArePasses}
+use Rattle.av_clock.specs.inner.Passes.{IsRoot, IsRooted, IsFinal, IsKnown, IsKnownReading, IsComputed, IsCopied, IsAliased, IsFixed, ArePasses}
 use Rattle.av_clock.proofs.Lookup.{look_at}
 use Rattle.av_clock.proofs.Reading.{one_place, in_order_at}
 use Rattle.av_clock.proofs.Resolved.{at_item, target_declared}
@@ -241,7 +242,10 @@ starts_as m before words sound long long' agree place lt =
 -- ---- passes as they are made
 
 abbrev pub copied_targets : List Alias → List ℕ
-copied_targets copied = map (λ alias. alias.target) copied
+copied_targets copied = map (λ a. a.target) copied
+
+abbrev pub fixed_targets : List Fixed → List ℕ
+fixed_targets fixed = map (λ f. f.target) fixed
 
 abbrev pub computed_targets : List Assignment → List ℕ
 computed_targets computed = map (λ a. a.target) computed
@@ -250,21 +254,32 @@ computed_targets computed = map (λ a. a.target) computed
 abbrev known_names : Module → ℕ → List (List ℕ)
 known_names m n = given_names m ++ targets_of (take n m.drives)
 
+abbrev AreAliases : Module → List Assignment → List Alias → Type 0
+AreAliases m gates aliases = (k : ℕ) (d : Alias) → k < length aliases → IsCopied m gates (get_or aliases k d).target (At (get_or aliases k d).source)
+
+abbrev AreFixed : Module → List Assignment → List Fixed → Type 0
+AreFixed m gates fixeds = (k : ℕ) (d : Fixed) → k < length fixeds → IsCopied m gates (get_or fixeds k d).target (Constant (get_or fixeds k d).word)
+
+-- the passes give the place its word
+abbrev pub IsCovered : Module → List Assignment → List Alias → List Fixed → ℕ → Type 0
+IsCovered m gates aliases fixeds place = IsKnown m gates place ⊎ (IsAliased aliases place ⊎ IsFixed fixeds place)
+
 -- after the first n drives
-pub record SoFar (m : Module) (n : ℕ) (roots : List Reading) (gates : List Assignment) (aliases : List Alias) : Type 0 where
+pub record SoFar (m : Module) (n : ℕ) (roots : List Reading) (gates : List Assignment) (aliases : List Alias) (fixeds : List Fixed) : Type 0 where
   pub size : length roots ≡ length (all_names m)
   pub within : (place : ℕ) (root : Reading) → slice_get roots place ≡ Some root → IsWithin (length (all_names m)) root
   pub words : (words : List ℕ) → IsFinal m words → AreRoots words roots
   pub known : (place : ℕ) (name : List ℕ) (root : Reading) → slice_get (all_names m) place ≡ Some name → Contains (known_names m n) name → slice_get roots place ≡ Some root → IsKnownReading m gates root
   pub computed : (k : ℕ) (d : Assignment) → k < length gates → IsComputed m (take k gates) (get_or gates k d)
-  pub copied : (k : ℕ) (d : Alias) → k < length aliases → IsCopied m gates (get_or aliases k d)
-  pub all : (place : ℕ) (name : List ℕ) → slice_get (all_names m) place ≡ Some name → Contains (known_names m n) name → IsKnown m gates place ⊎ Contains (copied_targets aliases) place
+  pub copied : AreAliases m gates aliases
+  pub fixed : AreFixed m gates fixeds
+  pub all : (place : ℕ) (name : List ℕ) → slice_get (all_names m) place ≡ Some name → Contains (known_names m n) name → IsCovered m gates aliases fixeds place
 
 some_same : {X : Type 0} (a b : X) → Some a ≡ Some b → a ≡ b
 some_same a b e = cc
 
 -- before the first
-none_so_far : (m : Module) (roots : List Reading) (count : ℕ) → IsSound m → count ≡ length (all_names m) → length roots ≡ count → ((place : ℕ) → place < count → slice_get roots place ≡ Some (At place)) → SoFar m 0 roots [] []
+none_so_far : (m : Module) (roots : List Reading) (count : ℕ) → IsSound m → count ≡ length (all_names m) → length roots ≡ count → ((place : ℕ) → place < count → slice_get roots place ≡ Some (At place)) → SoFar m 0 roots [] [] []
 none_so_far m roots count sound is size own = record {
   size = size ∙ is;
   within = λ place root at. rw (itself place root at) (let lt = slice_get_within roots place root at in omega arith);
@@ -272,6 +287,7 @@ none_so_far m roots count sound is size own = record {
   known = λ place name root stands there at. rw (itself place root at) (inl (first place name stands there));
   computed = λ k d lt. absurd (omega arith);
   copied = λ k d lt. absurd (omega arith);
+  fixed = λ k d lt. absurd (omega arith);
   all = λ place name stands there. inl (inl (first place name stands there));
 }
   where
@@ -287,9 +303,9 @@ none_so_far m roots count sound is size own = record {
         omega arith
 
 -- before the first, with lists of nothing
-pub none_yet : (m : Module) (roots : List Reading) (gates : List Assignment) (aliases : List Alias) (count : ℕ) → IsSound m → count ≡ length (all_names m) → length roots ≡ count → ((place : ℕ) → place < count → slice_get roots place ≡ Some (At place))
-    → gates ≡ [] → aliases ≡ [] → SoFar m 0 roots gates aliases
-none_yet m roots gates aliases count sound is size own none none' = rw (none, none') (none_so_far m roots count sound is size own)
+pub none_yet : (m : Module) (roots : List Reading) (gates : List Assignment) (aliases : List Alias) (fixeds : List Fixed) (count : ℕ) → IsSound m → count ≡ length (all_names m) → length roots ≡ count → ((place : ℕ) → place < count → slice_get roots place ≡ Some (At place))
+    → gates ≡ [] → aliases ≡ [] → fixeds ≡ [] → SoFar m 0 roots gates aliases fixeds
+none_yet m roots gates aliases fixeds count sound is size own none none' none'' = rw (none, none', none'') (none_so_far m roots count sound is size own)
 
 -- a gate that reads the roots of a drive's readings
 pub record IsTurn (m : Module) (computed : List Assignment) (place : ℕ) (gate : Gate) : Type 0 where
@@ -302,9 +318,9 @@ pub record IsTurn (m : Module) (computed : List Assignment) (place : ℕ) (gate 
 abbrev HasKnownRoot : Module → List Assignment → List Reading → Reading → Type 0
 HasKnownRoot m computed roots reading = (root : Reading) → IsRoot roots reading root → IsKnownReading m computed root
 
-pub is_turn : (m : Module) (n : ℕ) (roots : List Reading) (computed : List Assignment) (copied : List Alias) (assignment : Assignment) (gate : Gate) → IsSound m → IsFor m n assignment → IsRooted roots assignment.gate gate → SoFar m n roots computed copied
+pub is_turn : (m : Module) (n : ℕ) (roots : List Reading) (computed : List Assignment) (copied : List Alias) (fixeds : List Fixed) (assignment : Assignment) (gate : Gate) → IsSound m → IsFor m n assignment → IsRooted roots assignment.gate gate → SoFar m n roots computed copied fixeds
     → IsTurn m computed assignment.target gate
-is_turn m n roots computed copied assignment gate sound for rooted so_far = record {
+is_turn m n roots computed copied fixeds assignment gate sound for rooted so_far = record {
   target = slice_get_within (all_names m) assignment.target for.drive.target for.assigned.target;
   reads = each_root roots (HasKnownRoot m computed roots) (IsKnownReading m computed) assignment.gate gate (λ reading root has is. has root is)
       (each_reading (width_of m) (all_names m) (IsAmong (known_names m n)) (HasKnownRoot m computed roots) for.drive.operation assignment.gate known
@@ -358,14 +374,13 @@ known_cases m n drive name lt at there =
     Contains-push_cases (known_names m n) drive.target name (subst (λ names. Contains names name) names there)
 
 -- one drive more, whose target has this root
-more : (m : Module) (n : ℕ) (roots : List Reading) (computed computed' : List Assignment) (copied copied' : List Alias) (assignment : Assignment) (root : Reading) → IsSound m → IsFor m n assignment
+more : (m : Module) (n : ℕ) (roots : List Reading) (computed computed' : List Assignment) (copied copied' : List Alias) (fixeds fixeds' : List Fixed) (assignment : Assignment) (root : Reading) → IsSound m → IsFor m n assignment
     → ((place : ℕ) → IsKnown m computed place → IsKnown m computed' place) → IsKnownReading m computed' root → IsWithin (length (all_names m)) root
     → ((words : List ℕ) → IsFinal m words → reading_word words root ≡ get_or words assignment.target 0)
-    → ((k : ℕ) (d : Assignment) → k < length computed' → IsComputed m (take k computed') (get_or computed' k d)) → ((k : ℕ) (d : Alias) → k < length copied' → IsCopied m computed' (get_or copied' k d))
-    → ((place : ℕ) → IsKnown m computed place ⊎ Contains (copied_targets copied) place → IsKnown m computed' place ⊎ Contains (copied_targets copied') place)
-    → IsKnown m computed' assignment.target ⊎ Contains (copied_targets copied') assignment.target
-    → SoFar m n roots computed copied → SoFar m (n + 1) (set roots assignment.target root) computed' copied'
-more m n roots computed computed' copied copied' assignment root sound for grown known within gives all_computed all_copied covers covered so_far = record {
+    → ((k : ℕ) (d : Assignment) → k < length computed' → IsComputed m (take k computed') (get_or computed' k d)) → AreAliases m computed' copied' → AreFixed m computed' fixeds'
+    → ((place : ℕ) → IsCovered m computed copied fixeds place → IsCovered m computed' copied' fixeds' place) → IsCovered m computed' copied' fixeds' assignment.target
+    → SoFar m n roots computed copied fixeds → SoFar m (n + 1) (set roots assignment.target root) computed' copied' fixeds'
+more m n roots computed computed' copied copied' fixeds fixeds' assignment root sound for grown known within gives all_computed all_copied all_fixed covers covered so_far = record {
   size = length-set roots assignment.target root ∙ so_far.size;
   within = λ place found at. elim (got_set roots assignment.target root place found at) [
     | inl (e, is) ↦ rw is within
@@ -381,6 +396,7 @@ more m n roots computed computed' copied copied' assignment root sound for grown
   ];
   computed = all_computed;
   copied = all_copied;
+  fixed = all_fixed;
   all = λ place name stands there. elim (cases_eq place assignment.target) [
     | inl e ↦ rw e covered
     | inr ne ↦ covers place (so_far.all place name stands (earlier place name stands there ne))
@@ -412,19 +428,23 @@ each_push P xs x each last k d lt = elim (cases_lt k (length xs)) [
       rw here (subst (λ k. P k x) (sym e) last)
 ]
 
+copied_weaker : (m : Module) (computed computed' : List Assignment) (target : ℕ) (root : Reading) → ((place : ℕ) → IsKnown m computed place → IsKnown m computed' place) → IsCopied m computed target root → IsCopied m computed' target root
+copied_weaker m computed computed' target root grown before = record {
+  target = before.target;
+  reads = known_weaker m computed computed' grown root before.reads;
+  within = before.within;
+  gives = before.gives;
+}
+
 -- a drive that computes
-pub computed_more : (m : Module) (n : ℕ) (roots : List Reading) (computed : List Assignment) (copied : List Alias) (assignment rooted : Assignment) → IsSound m → IsFor m n assignment → rooted.target ≡ assignment.target → IsTurn m computed rooted.target rooted.gate
-    → SoFar m n roots computed copied → SoFar m (n + 1) (set roots assignment.target (At assignment.target)) (computed ++ rooted ∷ []) copied
-computed_more m n roots computed copied assignment rooted sound for same turn so_far =
-    more m n roots computed (computed ++ rooted ∷ []) copied copied assignment (At assignment.target) sound for (known_push m computed rooted)
+pub computed_more : (m : Module) (n : ℕ) (roots : List Reading) (computed : List Assignment) (copied : List Alias) (fixeds : List Fixed) (assignment rooted : Assignment) → IsSound m → IsFor m n assignment → rooted.target ≡ assignment.target → IsTurn m computed rooted.target rooted.gate
+    → SoFar m n roots computed copied fixeds → SoFar m (n + 1) (set roots assignment.target (At assignment.target)) (computed ++ rooted ∷ []) copied fixeds
+computed_more m n roots computed copied fixeds assignment rooted sound for same turn so_far =
+    more m n roots computed (computed ++ rooted ∷ []) copied copied fixeds fixeds assignment (At assignment.target) sound for (known_push m computed rooted)
     last (rw (sym same) turn.target) (λ words final. refl)
     all_computed
-    (λ k d lt. let before = so_far.copied k d lt in record {
-      target = before.target;
-      reads = known_weaker m computed (computed ++ rooted ∷ []) (known_push m computed rooted) (get_or copied k d).root before.reads;
-      within = before.within;
-      gives = before.gives;
-    })
+    (λ k d lt. copied_weaker m computed (computed ++ rooted ∷ []) (get_or copied k d).target (At (get_or copied k d).source) (known_push m computed rooted) (so_far.copied k d lt))
+    (λ k d lt. copied_weaker m computed (computed ++ rooted ∷ []) (get_or fixeds k d).target (Constant (get_or fixeds k d).word) (known_push m computed rooted) (so_far.fixed k d lt))
     (λ place covered. elim covered [
       | inl known ↦ inl (known_push m computed rooted place known)
       | inr there ↦ inr there
@@ -443,37 +463,69 @@ computed_more m n roots computed copied assignment rooted sound for same turn so
         (subst (λ known. IsComputed m known rooted) (sym (shorter (length computed) (omega arith) ∙ take_all (length computed) computed (omega arith)))
         (record { target = turn.target; reads = turn.reads; takes = turn.takes; gives = turn.gives }))
 
+-- what a drive of one reading gives its target
+turn_copies : (m : Module) (computed : List Assignment) (target : ℕ) (root : Reading) (gate : Gate) → gate ≡ Buffer root → IsTurn m computed target gate → IsCopied m computed target root
+turn_copies m computed target root gate is turn =
+    let turn' : IsTurn m computed target (Buffer root) = subst (IsTurn m computed target) is turn in
+    record { target = turn'.target; reads = turn'.reads; within = turn'.within; gives = turn'.gives }
+
 -- a drive that copies
-pub copied_more : (m : Module) (n : ℕ) (roots : List Reading) (computed : List Assignment) (copied : List Alias) (assignment : Assignment) (root : Reading) (gate : Gate) (alias : Alias) → IsSound m → IsFor m n assignment → gate ≡ Buffer root
-    → alias ≡ record { target = assignment.target; root = root } → IsTurn m computed assignment.target gate → SoFar m n roots computed copied → SoFar m (n + 1) (set roots assignment.target root) computed (copied ++ alias ∷ [])
-copied_more m n roots computed copied assignment root gate alias sound for is made turn so_far =
-    let turn' : IsTurn m computed assignment.target (Buffer root) = subst (IsTurn m computed assignment.target) is turn in
-    let this : IsCopied m computed alias = rw made (record { target = turn'.target; reads = turn'.reads; within = turn'.within; gives = turn'.gives }) in
-    more m n roots computed computed copied (copied ++ alias ∷ []) assignment root sound for (λ place known. known) turn'.reads turn'.within turn'.gives so_far.computed
-    (each_push (λ k a. IsCopied m computed a) copied alias so_far.copied this)
+pub copied_more : (m : Module) (n : ℕ) (roots : List Reading) (computed : List Assignment) (copied : List Alias) (fixeds : List Fixed) (assignment : Assignment) (source : ℕ) (gate : Gate) (alias : Alias) → IsSound m → IsFor m n assignment → gate ≡ Buffer (At source)
+    → alias ≡ record { target = assignment.target; source = source } → IsTurn m computed assignment.target gate → SoFar m n roots computed copied fixeds
+    → SoFar m (n + 1) (set roots assignment.target (At source)) computed (copied ++ alias ∷ []) fixeds
+copied_more m n roots computed copied fixeds assignment source gate alias sound for is made turn so_far =
+    let copies : IsCopied m computed assignment.target (At source) = turn_copies m computed assignment.target (At source) gate is turn in
+    let this : IsCopied m computed alias.target (At alias.source) = rw made copies in
+    more m n roots computed computed copied (copied ++ alias ∷ []) fixeds fixeds assignment (At source) sound for (λ place known. known) copies.reads copies.within copies.gives so_far.computed
+    (each_push (λ k a. IsCopied m computed a.target (At a.source)) copied alias so_far.copied this) so_far.fixed
     (λ place covered. elim covered [
       | inl known ↦ inl known
-      | inr there ↦ inr (rw map-append (Contains-append_left (copied_targets copied) (alias.target ∷ []) place there))
+      | inr (inl there) ↦ inr (inl (rw map-append (Contains-append_left (copied_targets copied) (alias.target ∷ []) place there)))
+      | inr (inr there) ↦ inr (inr there)
     ])
-    (inr (rw map-append (subst (Contains (copied_targets copied ++ alias.target ∷ [])) (ap (λ (a : Alias). a.target) made) (Contains-push (copied_targets copied) alias.target)))) so_far
+    (inr (inl (rw map-append (subst (Contains (copied_targets copied ++ alias.target ∷ [])) (ap (λ (a : Alias). a.target) made) (Contains-push (copied_targets copied) alias.target))))) so_far
+
+-- a drive of a constant
+pub fixed_more : (m : Module) (n : ℕ) (roots : List Reading) (computed : List Assignment) (copied : List Alias) (fixeds : List Fixed) (assignment : Assignment) (word : ℕ) (gate : Gate) (fixed : Fixed) → IsSound m → IsFor m n assignment → gate ≡ Buffer (Constant word)
+    → fixed ≡ record { target = assignment.target; word = word } → IsTurn m computed assignment.target gate → SoFar m n roots computed copied fixeds
+    → SoFar m (n + 1) (set roots assignment.target (Constant word)) computed copied (fixeds ++ fixed ∷ [])
+fixed_more m n roots computed copied fixeds assignment word gate fixed sound for is made turn so_far =
+    let copies : IsCopied m computed assignment.target (Constant word) = turn_copies m computed assignment.target (Constant word) gate is turn in
+    let this : IsCopied m computed fixed.target (Constant fixed.word) = rw made copies in
+    more m n roots computed computed copied copied fixeds (fixeds ++ fixed ∷ []) assignment (Constant word) sound for (λ place known. known) copies.reads copies.within copies.gives so_far.computed
+    so_far.copied (each_push (λ k f. IsCopied m computed f.target (Constant f.word)) fixeds fixed so_far.fixed this)
+    (λ place covered. elim covered [
+      | inl known ↦ inl known
+      | inr (inl there) ↦ inr (inl there)
+      | inr (inr there) ↦ inr (inr (rw map-append (Contains-append_left (fixed_targets fixeds) (fixed.target ∷ []) place there)))
+    ])
+    (inr (inr (rw map-append (subst (Contains (fixed_targets fixeds ++ fixed.target ∷ [])) (ap (λ (f : Fixed). f.target) made) (Contains-push (fixed_targets fixeds) fixed.target))))) so_far
 
 -- the same, of lists that were written
-pub computed_turn : (m : Module) (n : ℕ) (roots : List Reading) (gates gates' : List Assignment) (aliases aliases' : List Alias) (assignment : Assignment) (root : Reading) (gate : Gate) → IsSound m → IsFor m n assignment → IsTurn m gates assignment.target gate
-    → root ≡ At assignment.target → gates' ≡ gates ++ record { target = assignment.target; gate = gate } ∷ [] → aliases' ≡ aliases → SoFar m n roots gates aliases → SoFar m (n + 1) (set roots assignment.target root) gates' aliases'
-computed_turn m n roots gates gates' aliases aliases' assignment root gate sound for turn own pushed same so_far =
-    rw (own, pushed, same) (computed_more m n roots gates aliases assignment (record { target = assignment.target; gate = gate }) sound for refl turn so_far)
+pub computed_turn : (m : Module) (n : ℕ) (roots : List Reading) (gates gates' : List Assignment) (aliases aliases' : List Alias) (fixeds fixeds' : List Fixed) (assignment : Assignment) (root : Reading) (gate : Gate) → IsSound m → IsFor m n assignment → IsTurn m gates assignment.target gate
+    → root ≡ At assignment.target → gates' ≡ gates ++ record { target = assignment.target; gate = gate } ∷ [] → aliases' ≡ aliases → fixeds' ≡ fixeds → SoFar m n roots gates aliases fixeds → SoFar m (n + 1) (set roots assignment.target root) gates' aliases' fixeds'
+computed_turn m n roots gates gates' aliases aliases' fixeds fixeds' assignment root gate sound for turn own pushed same same' so_far =
+    rw (own, pushed, same, same') (computed_more m n roots gates aliases fixeds assignment (record { target = assignment.target; gate = gate }) sound for refl turn so_far)
 
-pub copied_turn : (m : Module) (n : ℕ) (roots : List Reading) (gates gates' : List Assignment) (aliases aliases' : List Alias) (assignment : Assignment) (root root' : Reading) (gate : Gate) → IsSound m → IsFor m n assignment → gate ≡ Buffer root → IsTurn m gates assignment.target gate
-    → root' ≡ root → gates' ≡ gates → aliases' ≡ aliases ++ record { target = assignment.target; root = root } ∷ [] → SoFar m n roots gates aliases → SoFar m (n + 1) (set roots assignment.target root') gates' aliases'
-copied_turn m n roots gates gates' aliases aliases' assignment root root' gate sound for is turn own same pushed so_far =
-    rw (own, same, pushed) (copied_more m n roots gates aliases assignment root gate (record { target = assignment.target; root = root }) sound for is refl turn so_far)
+pub copied_turn : (m : Module) (n : ℕ) (roots : List Reading) (gates gates' : List Assignment) (aliases aliases' : List Alias) (fixeds fixeds' : List Fixed) (assignment : Assignment) (source : ℕ) (root : Reading) (gate : Gate) → IsSound m → IsFor m n assignment → gate ≡ Buffer (At source)
+    → IsTurn m gates assignment.target gate → root ≡ At source → gates' ≡ gates → aliases' ≡ aliases ++ record { target = assignment.target; source = source } ∷ [] → fixeds' ≡ fixeds → SoFar m n roots gates aliases fixeds
+    → SoFar m (n + 1) (set roots assignment.target root) gates' aliases' fixeds'
+copied_turn m n roots gates gates' aliases aliases' fixeds fixeds' assignment source root gate sound for is turn own same pushed same' so_far =
+    rw (own, same, pushed, same') (copied_more m n roots gates aliases fixeds assignment source gate (record { target = assignment.target; source = source }) sound for is refl turn so_far)
+
+pub fixed_turn : (m : Module) (n : ℕ) (roots : List Reading) (gates gates' : List Assignment) (aliases aliases' : List Alias) (fixeds fixeds' : List Fixed) (assignment : Assignment) (word : ℕ) (root : Reading) (gate : Gate) → IsSound m → IsFor m n assignment → gate ≡ Buffer (Constant word)
+    → IsTurn m gates assignment.target gate → root ≡ Constant word → gates' ≡ gates → aliases' ≡ aliases → fixeds' ≡ fixeds ++ record { target = assignment.target; word = word } ∷ [] → SoFar m n roots gates aliases fixeds
+    → SoFar m (n + 1) (set roots assignment.target root) gates' aliases' fixeds'
+fixed_turn m n roots gates gates' aliases aliases' fixeds fixeds' assignment word root gate sound for is turn own same same' pushed so_far =
+    rw (own, same, same', pushed) (fixed_more m n roots gates aliases fixeds assignment word gate (record { target = assignment.target; word = word }) sound for is refl turn so_far)
 
 -- after the last drive
-pub all_passes : (m : Module) (n : ℕ) (assignments : List Assignment) (roots : List Reading) (computed : List Assignment) (copied : List Alias) → IsSound m → AreAssigned m (length m.drives) assignments → length assignments ≤ n → SoFar m n roots computed copied
-    → ArePasses m computed copied
-all_passes m n assignments roots computed copied sound are past so_far = record {
+pub all_passes : (m : Module) (n : ℕ) (assignments : List Assignment) (roots : List Reading) (computed : List Assignment) (copied : List Alias) (fixeds : List Fixed) → IsSound m → AreAssigned m (length m.drives) assignments → length assignments ≤ n → SoFar m n roots computed copied fixeds
+    → ArePasses m computed copied fixeds
+all_passes m n assignments roots computed copied fixeds sound are past so_far = record {
   computed = so_far.computed;
   copied = so_far.copied;
+  fixed = so_far.fixed;
   all = λ place lt.
       let count : length assignments ≡ length m.drives = are.count in
       let name = get_or (all_names m) place [] in
@@ -492,11 +544,11 @@ item_at items xs k x same lt at = (rw same at lt, rw same at at)
 pub record Computes (m : Module) (before words : List ℕ) (computed : List Assignment) (k : ℕ) : Type 0 where
   pub each : (final : List ℕ) → IsFinal m final → StartsAs m before final → AreKnown m (take k computed) words final
 
--- and what the first of the copied ones give, after all computed ones
-pub record Copies (m : Module) (before words : List ℕ) (aliases : List Alias) (k : ℕ) : Type 0 where
+-- and what the first of the copied ones and of the fixed ones give, after all computed ones
+pub record Copies (m : Module) (before words : List ℕ) (aliases : List Alias) (fixeds : List Fixed) (k j : ℕ) : Type 0 where
   pub gates : List Assignment
-  pub passes : ArePasses m gates aliases
-  pub each : (final : List ℕ) → IsFinal m final → StartsAs m before final → (place : ℕ) → IsKnown m gates place ⊎ Contains (copied_targets (take k aliases)) place → get_or words place 0 ≡ get_or final place 0
+  pub passes : ArePasses m gates aliases fixeds
+  pub each : (final : List ℕ) → IsFinal m final → StartsAs m before final → (place : ℕ) → IsCovered m gates (take k aliases) (take j fixeds) place → get_or words place 0 ≡ get_or final place 0
 
 pub computes_none : (m : Module) (words : List ℕ) (computed : List Assignment) → Computes m words words computed 0
 computes_none m words computed = record {
@@ -507,9 +559,9 @@ computes_none m words computed = record {
 }
 
 -- a gate can take the words
-pub computed_takes : (m : Module) (before words : List ℕ) (computed : List Assignment) (copied : List Alias) (k : ℕ) (assignment : Assignment) → IsSound m → AllFit m before → length before ≡ length (all_names m) → length words ≡ length (all_names m)
-    → ArePasses m computed copied → k < length computed → assignment ≡ get_or computed k assignment → Computes m before words computed k → CanTake words assignment.gate
-computed_takes m before words computed copied k assignment sound fit long long' passes lt at so_far =
+pub computed_takes : (m : Module) (before words : List ℕ) (computed : List Assignment) (copied : List Alias) (fixeds : List Fixed) (k : ℕ) (assignment : Assignment) → IsSound m → AllFit m before → length before ≡ length (all_names m) → length words ≡ length (all_names m)
+    → ArePasses m computed copied fixeds → k < length computed → assignment ≡ get_or computed k assignment → Computes m before words computed k → CanTake words assignment.gate
+computed_takes m before words computed copied fixeds k assignment sound fit long long' passes lt at so_far =
     let has = final_words m before sound fit in
     let this : IsComputed m (take k computed) assignment = subst (IsComputed m (take k computed)) (sym at) (passes.computed k assignment lt) in
     let same = so_far.each has.words has.final (starts_as m before has.words sound long has.final.size has.given) in
@@ -517,20 +569,20 @@ computed_takes m before words computed copied k assignment sound fit long long' 
     (each_weaker (IsKnownReading m (take k computed)) (ReadsSame words has.words) assignment.gate (known_same m (take k computed) words has.words same) this.reads) (this.takes has.words has.final)
 
 -- its target is there
-pub computed_within : (m : Module) (words : List ℕ) (computed : List Assignment) (copied : List Alias) (k : ℕ) (assignment : Assignment) → length words ≡ length (all_names m) → ArePasses m computed copied → k < length computed → assignment ≡ get_or computed k assignment
+pub computed_within : (m : Module) (words : List ℕ) (computed : List Assignment) (copied : List Alias) (fixeds : List Fixed) (k : ℕ) (assignment : Assignment) → length words ≡ length (all_names m) → ArePasses m computed copied fixeds → k < length computed → assignment ≡ get_or computed k assignment
     → assignment.target < length words
-computed_within m words computed copied k assignment long passes lt at = rw (long, at) (passes.computed k assignment lt).target
+computed_within m words computed copied fixeds k assignment long passes lt at = rw (long, at) (passes.computed k assignment lt).target
 
 -- one more computed word
-pub computes_more : (m : Module) (before words : List ℕ) (computed : List Assignment) (copied : List Alias) (k : ℕ) (assignment : Assignment) (word : ℕ) → length words ≡ length (all_names m) → ArePasses m computed copied → k < length computed → assignment ≡ get_or computed k assignment
+pub computes_more : (m : Module) (before words : List ℕ) (computed : List Assignment) (copied : List Alias) (fixeds : List Fixed) (k : ℕ) (assignment : Assignment) (word : ℕ) → length words ≡ length (all_names m) → ArePasses m computed copied fixeds → k < length computed → assignment ≡ get_or computed k assignment
     → word ≡ gate_word words assignment.gate → Computes m before words computed k → Computes m before (set words assignment.target word) computed (k + 1)
-computes_more m before words computed copied k assignment word long passes lt at given so_far = record {
+computes_more m before words computed copied fixeds k assignment word long passes lt at given so_far = record {
   each = λ final is starts place known.
       let same = so_far.each final is starts in
       let here : word ≡ get_or final assignment.target 0 =
       given ∙ gate_same words final assignment.gate (each_weaker (IsKnownReading m (take k computed)) (ReadsSame words final) assignment.gate (known_same m (take k computed) words final same) this.reads) ∙ this.gives final is in
       elim (cases_eq place assignment.target) [
-        | inl e ↦ rw e (get_or-set_same words assignment.target word 0 (computed_within m words computed copied k assignment long passes lt at) ∙ here)
+        | inl e ↦ rw e (get_or-set_same words assignment.target word 0 (computed_within m words computed copied fixeds k assignment long passes lt at) ∙ here)
         | inr ne ↦ get_or-set_other words assignment.target place word 0 ne ∙ same place (elim known [
           | inl first ↦ inl first
           | inr there ↦ elim (Contains-push_cases (computed_targets (take k computed)) assignment.target place (subst (λ targets. Contains targets place) longer there)) [
@@ -548,63 +600,124 @@ computes_more m before words computed copied k assignment word long passes lt at
     longer = rw (add-one, take-suc computed k assignment lt, sym at, map-append) refl
 
 -- after all of them
-pub copies_none : (m : Module) (before words : List ℕ) (computed : List Assignment) (copied : List Alias) (k : ℕ) → ArePasses m computed copied → length computed ≤ k → Computes m before words computed k → Copies m before words copied 0
-copies_none m before words computed copied k passes past so_far = record {
+pub copies_none : (m : Module) (before words : List ℕ) (computed : List Assignment) (copied : List Alias) (fixeds : List Fixed) (k : ℕ) → ArePasses m computed copied fixeds → length computed ≤ k → Computes m before words computed k → Copies m before words copied fixeds 0 0
+copies_none m before words computed copied fixeds k passes past so_far = record {
   gates = computed;
   passes = passes;
   each = λ final is starts place known. elim known [
     | inl known ↦ so_far.each final is starts place (rw (take_all k computed past) known)
-    | inr there ↦ absurd (none_among place there)
+    | inr (inl there) ↦ absurd (none_among place there)
+    | inr (inr there) ↦ absurd (none_among place there)
   ];
 }
 
--- what a copy reads is there
-pub copied_within : (m : Module) (before words : List ℕ) (copied : List Alias) (k : ℕ) (alias : Alias) → length words ≡ length (all_names m) → k < length copied → alias ≡ get_or copied k alias → Copies m before words copied k
-    → IsWithin (length words) alias.root × (alias.target < length words)
-copied_within m before words copied k alias long lt at so_far =
-    let this : IsCopied m so_far.gates alias = subst (IsCopied m so_far.gates) (sym at) (so_far.passes.copied k alias lt) in
+-- what a copy reads, and its target, are there
+pub copied_within : (m : Module) (before words : List ℕ) (copied : List Alias) (fixeds : List Fixed) (k : ℕ) (alias : Alias) → length words ≡ length (all_names m) → k < length copied → alias ≡ get_or copied k alias → Copies m before words copied fixeds k 0
+    → (alias.source < length words) × (alias.target < length words)
+copied_within m before words copied fixeds k alias long lt at so_far =
+    let this : IsCopied m so_far.gates alias.target (At alias.source) = subst (λ (a : Alias). IsCopied m so_far.gates a.target (At a.source)) (sym at) (so_far.passes.copied k alias lt) in
     (rw long this.within, rw long this.target)
 
 -- one more copied word
-pub copies_more : (m : Module) (before words : List ℕ) (copied : List Alias) (k : ℕ) (alias : Alias) (word : ℕ) → length words ≡ length (all_names m) → k < length copied → alias ≡ get_or copied k alias → word ≡ reading_word words alias.root
-    → Copies m before words copied k → Copies m before (set words alias.target word) copied (k + 1)
-copies_more m before words copied k alias word long lt at given so_far = record {
+pub copies_more : (m : Module) (before words : List ℕ) (copied : List Alias) (fixeds : List Fixed) (k : ℕ) (alias : Alias) → length words ≡ length (all_names m) → k < length copied → alias ≡ get_or copied k alias
+    → Copies m before words copied fixeds k 0 → Copies m before (set words alias.target (get_or words alias.source 0)) copied fixeds (k + 1) 0
+copies_more m before words copied fixeds k alias long lt at so_far = record {
   gates = so_far.gates;
   passes = so_far.passes;
   each = λ final is starts place known.
       let same = so_far.each final is starts in
-      let here : word ≡ get_or final alias.target 0 = given ∙ known_same m so_far.gates words final (λ place known. same place (inl known)) alias.root this.reads ∙ this.gives final is in
+      let here : get_or words alias.source 0 ≡ get_or final alias.target 0 = known_same m so_far.gates words final (λ place known. same place (inl known)) (At alias.source) this.reads ∙ this.gives final is in
       elim (cases_eq place alias.target) [
-        | inl e ↦ rw e (get_or-set_same words alias.target word 0 (copied_within m before words copied k alias long lt at so_far).1 ∙ here)
-        | inr ne ↦ get_or-set_other words alias.target place word 0 ne ∙ same place (elim known [
+        | inl e ↦ rw e (get_or-set_same words alias.target (get_or words alias.source 0) 0 (copied_within m before words copied fixeds k alias long lt at so_far).1 ∙ here)
+        | inr ne ↦ get_or-set_other words alias.target place (get_or words alias.source 0) 0 ne ∙ same place (elim known [
           | inl first ↦ inl first
-          | inr there ↦ elim (Contains-push_cases (copied_targets (take k copied)) alias.target place (subst (λ targets. Contains targets place) longer there)) [
-            | inl before ↦ inr before
+          | inr (inl there) ↦ elim (Contains-push_cases (copied_targets (take k copied)) alias.target place (subst (λ targets. Contains targets place) longer there)) [
+            | inl before ↦ inr (inl before)
             | inr e ↦ absurd (ne (sym e))
           ]
+          | inr (inr there) ↦ inr (inr there)
         ])
       ];
 }
   where
-    this : IsCopied m so_far.gates alias
-    this = subst (IsCopied m so_far.gates) (sym at) (so_far.passes.copied k alias lt)
+    this : IsCopied m so_far.gates alias.target (At alias.source)
+    this = subst (λ (a : Alias). IsCopied m so_far.gates a.target (At a.source)) (sym at) (so_far.passes.copied k alias lt)
 
     longer : copied_targets (take (k + 1) copied) ≡ copied_targets (take k copied) ++ alias.target ∷ []
     longer = rw (add-one, take-suc copied k alias lt, sym at, map-append) refl
 
+-- after all copies, what the first of the fixed ones give
+pub record Fixes (m : Module) (before words : List ℕ) (fixeds : List Fixed) (j : ℕ) : Type 0 where
+  pub copied : List Alias
+  pub copies : Copies m before words copied fixeds (length copied) j
+
+pub fixes_none : (m : Module) (before words : List ℕ) (copied : List Alias) (fixeds fixeds' : List Fixed) (k : ℕ) → fixeds' ≡ fixeds → length copied ≤ k → Copies m before words copied fixeds k 0 → Fixes m before words fixeds' 0
+fixes_none m before words copied fixeds fixeds' k same past so_far = rw same (record {
+  copied = copied;
+  copies = record {
+    gates = so_far.gates;
+    passes = so_far.passes;
+    each = λ final is starts place known. so_far.each final is starts place (subst (λ (aliases : List Alias). IsCovered m so_far.gates aliases (take 0 fixeds) place) (take_all (length copied) copied (omega arith) ∙ sym (take_all k copied past)) known);
+  };
+})
+
+-- the target of a constant is there
+pub fixed_within : (m : Module) (before words : List ℕ) (fixeds : List Fixed) (j : ℕ) (fixed : Fixed) → length words ≡ length (all_names m) → j < length fixeds → fixed ≡ get_or fixeds j fixed → Fixes m before words fixeds j → fixed.target < length words
+fixed_within m before words fixeds j fixed long lt at so_far =
+    let gates = so_far.copies.gates in
+    let this : IsCopied m gates fixed.target (Constant fixed.word) = subst (λ (f : Fixed). IsCopied m gates f.target (Constant f.word)) (sym at) (so_far.copies.passes.fixed j fixed lt) in
+    rw long this.target
+
+-- one more constant
+pub fixes_more : (m : Module) (before words : List ℕ) (fixeds : List Fixed) (j : ℕ) (fixed : Fixed) → length words ≡ length (all_names m) → j < length fixeds → fixed ≡ get_or fixeds j fixed → Fixes m before words fixeds j
+    → Fixes m before (set words fixed.target fixed.word) fixeds (j + 1)
+fixes_more m before words fixeds j fixed long lt at so_far = record {
+  copied = so_far.copied;
+  copies = record {
+    gates = so_far.copies.gates;
+    passes = so_far.copies.passes;
+    each = λ final is starts place known.
+        elim (cases_eq place fixed.target) [
+          | inl e ↦ rw e (get_or-set_same words fixed.target fixed.word 0 (fixed_within m before words fixeds j fixed long lt at so_far) ∙ this.gives final is)
+          | inr ne ↦ get_or-set_other words fixed.target place fixed.word 0 ne ∙ so_far.copies.each final is starts place (elim known [
+            | inl first ↦ inl first
+            | inr (inl there) ↦ inr (inl there)
+            | inr (inr there) ↦ elim (Contains-push_cases (fixed_targets (take j fixeds)) fixed.target place (subst (λ targets. Contains targets place) longer there)) [
+              | inl before ↦ inr (inr before)
+              | inr e ↦ absurd (ne (sym e))
+            ]
+          ])
+        ];
+  };
+}
+  where
+    this : IsCopied m so_far.copies.gates fixed.target (Constant fixed.word)
+    this = subst (λ (f : Fixed). IsCopied m so_far.copies.gates f.target (Constant f.word)) (sym at) (so_far.copies.passes.fixed j fixed lt)
+
+    longer : fixed_targets (take (j + 1) fixeds) ≡ fixed_targets (take j fixeds) ++ fixed.target ∷ []
+    longer = rw (add-one, take-suc fixeds j fixed lt, sym at, map-append) refl
+
 -- the value of a copy past the end of a list
 abbrev pub no_alias : Alias
-no_alias = record { target = 0; root = At 0 }
+no_alias = record { target = 0; source = 0 }
 
--- after both passes
+-- and of a constant
+abbrev pub no_fixed : Fixed
+no_fixed = record { target = 0; word = 0 }
+
+-- after all passes
 pub record HaveSettled (m : Module) (before words : List ℕ) : Type 0 where
   pub settled : Settled m (named m words)
   pub given : Agree (given_names m) (named m before) (named m words)
   pub fit : AllFit m words
 
-pub have_settled : (m : Module) (before words : List ℕ) (copied : List Alias) (k : ℕ) → IsSound m → AllFit m before → length before ≡ length (all_names m) → length words ≡ length (all_names m) → length copied ≤ k → Copies m before words copied k → HaveSettled m before words
-have_settled m before words copied k sound fit long long' past so_far =
+pub have_settled : (m : Module) (before words : List ℕ) (fixeds : List Fixed) (j : ℕ) → IsSound m → AllFit m before → length before ≡ length (all_names m) → length words ≡ length (all_names m) → length fixeds ≤ j → Fixes m before words fixeds j → HaveSettled m before words
+have_settled m before words fixeds j sound fit long long' past so_far =
     let has = final_words m before sound fit in
-    let each = so_far.each has.words has.final (starts_as m before has.words sound long has.final.size has.given) in
-    let same : words ≡ has.words = ext_get_or 0 words has.words (long' ∙ sym has.final.size) (λ place lt. each place (rw (take_all k copied past) (so_far.passes.all place (rw (sym long') lt)))) in
+    let copied = so_far.copied in
+    let gates = so_far.copies.gates in
+    let each = so_far.copies.each has.words has.final (starts_as m before has.words sound long has.final.size has.given) in
+    let covered : (place : ℕ) → place < length words → IsCovered m gates (take (length copied) copied) (take j fixeds) place =
+    λ place lt. rw (take_all (length copied) copied (omega arith), take_all j fixeds past) (so_far.copies.passes.all place (rw (sym long') lt)) in
+    let same : words ≡ has.words = ext_get_or 0 words has.words (long' ∙ sym has.final.size) (λ place lt. each place (covered place lt)) in
     rw same (record { settled = has.final.settled; given = has.given; fit = has.final.fit })

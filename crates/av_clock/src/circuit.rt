@@ -83,6 +83,11 @@ impl<'a> Circuit<'a> {
         self.assignments.len()
     }
 
+    /// What it takes to compute all drives in passes, counted in drives that compute a word: eight copies take as long as one.
+    pub(crate) fn dense_work(&self) -> usize {
+        self.passes.computed.len() + self.passes.copied.len() / 8
+    }
+
     /// The number of flip-flops.
     pub(crate) fn steps(&self) -> usize
         ensures { result ≡ length self.now.steps }
@@ -98,7 +103,7 @@ impl<'a> Circuit<'a> {
         self.assignments[drive].target
     }
 
-    /// All drives: those that compute, in order, and then those that copy.
+    /// All drives: those that compute, in order, then those that copy, and then those of a constant.
     pub(crate) fn settle(&self, words: &mut [u64])
         requires size { length words.old ≡ length (all_names self.now) }
         requires fit { AllFit self.now words.old }
@@ -110,7 +115,10 @@ impl<'a> Circuit<'a> {
             words[assignment.target] = assignment.gate.word(words);
         }
         for alias in &self.passes.copied {
-            words[alias.target] = alias.root.word(words);
+            words[alias.target] = words[alias.source];
+        }
+        for fixed in &self.passes.fixed {
+            words[fixed.target] = fixed.word;
         }
     }
 

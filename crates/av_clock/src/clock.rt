@@ -32,7 +32,7 @@ pub struct Clock<'a> {
     due: Marks,
     // All drives are marked, whatever `stale` says, and each settle computes them.
     dense: bool,
-    // The last settle by marks computed more than half of the drives.
+    // The last settle by marks computed more than half of what a settle of all drives takes.
     busy: bool,
     // In a dense clock, the ticks to come before changed registers are counted again.
     uncounted: u32,
@@ -105,7 +105,7 @@ impl<'a> Clock<'a> {
         let computed = self
             .circuit
             .settle_marked(&mut self.words, &mut self.stale, &mut self.due);
-        self.busy = computed > self.circuit.drives() / 2;
+        self.busy = computed > self.circuit.dense_work() / 2;
         self.work = self.work.saturating_add(computed as u64);
         self.settled = true;
     }

@@ -11,19 +11,28 @@ use av_base::Memory;
 use av_net::Module;
 use std::alloc::Global;
 
-/// A target that has the word of what is read.
+/// A target that has the word of another place.
 #[derive(Clone, Copy)]
 pub(crate) struct Alias {
     pub(crate) target: usize,
-    pub(crate) root: Reading,
+    pub(crate) source: usize,
 }
 
-/// The drives of a sound module in two passes: first those that compute a word, in order, and then those that copy one. What
-/// either pass reads is a root: an input port, a register, a constant or what the first pass has computed before, and no copy.
+/// A target that always has one word.
+#[derive(Clone, Copy)]
+pub(crate) struct Fixed {
+    pub(crate) target: usize,
+    pub(crate) word: u64,
+}
+
+/// The drives of a sound module in passes: first those that compute a word, in order, then those that copy one, and then those that
+/// give a constant. What they read is a root: an input port, a register, a constant or what the first pass has computed before, and no
+/// copy.
 #[derive(Drop)]
 pub(crate) struct Passes {
     pub(crate) computed: Vec<Assignment>,
     pub(crate) copied: Vec<Alias>,
+    pub(crate) fixed: Vec<Fixed>,
 }
 
 impl Passes {
@@ -35,18 +44,23 @@ impl Passes {
     ) -> Result<Passes, Memory>
         requires sound { IsSound of.now }
         requires assigned { AreAssigned of.now (length of.now.drives) assignments.now }
-        ensures { IfOk result (λ passes. ArePasses of.now passes.computed.items passes.copied.items) }
+        ensures { IfOk result (λ passes. ArePasses of.now passes.computed.items passes.copied.items passes.fixed.items) }
     {
         let mut roots = own_roots(alloc, size_of_module(of))?;
         let mut computed = Vec::new(alloc);
         let mut copied = Vec::new(alloc);
+        let mut fixed = Vec::new(alloc);
         for assignment in assignments {
             let target = assignment.target;
             let gate = assignment.gate.rooted(&roots);
             let root = match gate {
-                Gate::Buffer(root) => {
-                    copied.push(Alias { target, root })?;
-                    root
+                Gate::Buffer(Reading::At(source)) => {
+                    copied.push(Alias { target, source })?;
+                    Reading::At(source)
+                }
+                Gate::Buffer(Reading::Constant(word)) => {
+                    fixed.push(Fixed { target, word })?;
+                    Reading::Constant(word)
                 }
                 _ => {
                     computed.push(Assignment { target, gate })?;
@@ -55,7 +69,11 @@ impl Passes {
             };
             roots[target] = root;
         }
-        Ok(Passes { computed, copied })
+        Ok(Passes {
+            computed,
+            copied,
+            fixed,
+        })
     }
 }
 

@@ -22,7 +22,8 @@ use Rattle.av_kinds.specs.declared.program.Source.TheVariants.{Word, Input, Line
 use Rattle.av_kinds.specs.Programs.{Lane, Program, IsProgram}
 use Rattle.av_kinds.specs.Names.{Labels, input_name, output_name, instance_name, kind_counter, line_name, labels}
 use Rattle.av_kinds.specs.Counters.{counter_name}
-use Rattle.av_kinds.specs.Forms.{IsWire, IsRegister, operands_of, MayName, MayLink, MayTake, IsCounterWire}
+use Rattle.av_net.specs.Rows.{operands_of}
+use Rattle.av_kinds.specs.Forms.{IsWire, IsRegister, MayName, MayLink, MayTake, IsCounterWire}
 use Rattle.av_kinds.specs.inner.Counts.{counter_wires, counter_drives}
 use Rattle.av_kinds.specs.inner.Shapes.{LaneShape}
 use Rattle.av_kinds.specs.inner.Instances.{operand_of}

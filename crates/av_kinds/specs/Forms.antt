@@ -6,7 +6,7 @@ use Rattle.av_net.specs.declared.operation.Symbol.TheVariants.{Add, Equal}
 use Rattle.av_net.specs.declared.operation.Operand.{Operand}
 use Rattle.av_net.specs.declared.operation.Operand.TheVariants.{Name, Literal}
 use Rattle.av_net.specs.declared.operation.Operation.{Operation}
-use Rattle.av_net.specs.declared.operation.Operation.TheVariants.{Plain, Binary, Signed, Choose, Part, Widen}
+use Rattle.av_net.specs.declared.operation.Operation.TheVariants.{Plain, Binary, Choose}
 use Rattle.av_net.specs.declared.netlist.Port.{Port}
 use Rattle.av_net.specs.declared.netlist.Drive.{Drive}
 use Rattle.av_net.specs.declared.netlist.Step.{Step}
@@ -14,6 +14,7 @@ use Rattle.av_net.specs.declared.netlist.Module.{Module}
 use Rattle.av_net.specs.declared.design.Listing.{Listing}
 use Rattle.av_net.specs.declared.plan.Instance.{Instance}
 use Rattle.av_net.specs.Names.{names_of, targets_of}
+use Rattle.av_net.specs.Rows.{operands_of}
 use Rattle.av_net.specs.Flat.{flat_module}
 use Rattle.av_kinds.specs.declared.counter.Counter.{Counter}
 use Rattle.av_kinds.specs.declared.counter.Counter.TheVariants.{Cycles, Phases}
@@ -62,14 +63,6 @@ pub record Takes (program : Program) (p : ℕ) (source : Source) : Type 0 where
   pub site : Site
   pub is_site : slice_get mode.work.sites site_number ≡ Some site
   pub is_source : IsSourceOf site source
-
-abbrev pub operands_of : Operation → List Operand
-operands_of (Plain a) = a ∷ []
-operands_of (Binary a s b) = a ∷ b ∷ []
-operands_of (Signed a s b) = a ∷ b ∷ []
-operands_of (Choose c a b) = c ∷ a ∷ b ∷ []
-operands_of (Part name high low) = Name name ∷ []
-operands_of (Widen name by) = Name name ∷ []
 
 -- what a wire of cell p may name: wires of the cell, input ports that its places take words from, the counter, and registers
 abbrev pub MayName : List ℕ → Program → ℕ → Operand → Type 0

@@ -50,3 +50,7 @@ pub among_source : {X Y : Type 0} (f : X → Y) (xs : List X) (y : Y) → Among 
 among_source f [] y m = absurd m
 among_source f (z ∷ xs) y (inl e) = (z, inl refl, e)
 among_source f (z ∷ xs) y (inr m) = let r = among_source f xs y m in (r.0, inr r.1, r.2)
+
+-- what holds of all of a list holds of all of its part
+pub all_within : {X : Type 0} (P : X → Type 0) (xs ys : List X) → All P ys → ((x : X) → Among x xs → Among x ys) → All P xs
+all_within P xs ys h within = all_from P xs (λ x m. all_at P ys x h (within x m))

@@ -1,18 +1,15 @@
 -- The flat system of a system that a text spells and no rule refuses, as it is built.
-use Rattle.std.proofs.Common.{◌≡◌, ℕ, ◌≤◌, inl, inr, List, ◌++◌, map, length, Some, None, Bool, true, false, refl, ap, sym, subst, ◌∙◌, append_assoc, All}
+use Rattle.std.proofs.Common.{◌≡◌, ℕ, ◌≤◌, inl, inr, List, ◌++◌, length, Some, None, Bool, true, false, refl, ap, sym, subst, ◌∙◌, append_assoc, All}
 use Rattle.std.specs.Prelude.{nat_lt}
-use Rattle.av_flat.specs.declared.flat.Kind.TheVariants as kind
 use Rattle.av_flat.specs.declared.quantity.Quantity.TheVariants as quantity
-use Rattle.av_flat.specs.Trees.{Variable, FlatSystem}
+use Rattle.av_flat.specs.Trees.{Variable}
 use Rattle.av_tree.specs.declared.system.Declaration.{Declaration}
 use Rattle.av_tree.specs.Trees.{System}
 use Rattle.av_tree.specs.Points.{Sizes}
 use Rattle.av_tree.specs.Domains.{variables}
-use Rattle.av_tree.specs.Counts.{Instance}
 use Rattle.av_names.specs.declared.fault.NameFault.TheVariants as fault
 use Rattle.av_names.specs.declared.size.Size.{Size}
 use Rattle.av_names.specs.inner.Building.{FitsDomain, FitsRight}
-use Rattle.av_names.specs.Flattened.{input_of, computed_of, flat_of}
 use Rattle.av_names.specs.Quantities.{above, too_many_variables}
 use Rattle.av_names.specs.Refusals.{rules, IsAccepted}
 use Rattle.av_names.specs.Sizes.{sizes_of}
@@ -44,11 +41,7 @@ module _ (s : System) (words : List Size) (width : ℕ) (of_text : IsOfText s) (
   pub rights_fit : All (FitsRight sizes s) s.equations
   rights_fit = all_from (FitsRight sizes s) s.equations (λ e m. subst (λ z. FitsRight z s e) (sym same) (right_fits s words width of_text accepted e m).1)
 
-pub flat_is : (i j : Instance) (w : ℕ) (vs : List Variable) → j ≡ i → w ≡ i.width
-    → vs ≡ (map (input_of j) i.system.inputs ++ map (computed_of j kind.Output) i.system.outputs) ++ map (computed_of j kind.Local) i.system.locals
-    → ◌≡◌ {A = FlatSystem} (record { width = w; variables = vs }) (flat_of i)
-flat_is i j w vs same width are =
-    ap (λ n. record { width = n; variables = vs }) width
-    ∙ ap (λ xs. record { width = i.width; variables = xs })
-    (are ∙ ap (λ k. (map (input_of k) i.system.inputs ++ map (computed_of k kind.Output) i.system.outputs) ++ map (computed_of k kind.Local) i.system.locals) same
-    ∙ append_assoc (map (input_of i) i.system.inputs) (map (computed_of i kind.Output) i.system.outputs) (map (computed_of i kind.Local) i.system.locals))
+-- what is put behind a list, three times
+pub three_behind : (a b c d i o l : List Variable) → b ≡ a ++ i → c ≡ b ++ o → d ≡ c ++ l → d ≡ a ++ (i ++ (o ++ l))
+three_behind a b c d i o l first second third =
+    third ∙ ap (λ x. x ++ l) (second ∙ ap (λ x. x ++ o) first) ∙ append_assoc (a ++ i) o l ∙ append_assoc a i (o ++ l)

@@ -28,11 +28,13 @@ declared_at (d ∷ ds) name = either (bytes_eq d.name name) (find (λ e. bytes_e
     either false r rest e = e
 
 -- the context of an equation, by what was looked up
+pub context_found : (s : System) (e : EquationMade) (found : Option Declaration) (names : List Text) → found ≡ find (λ d. bytes_eq d.name e.name) (variables s)
+    → names ≡ given_or (names_at found) e.indices → names ≡ context s (view_equation e)
+context_found s e found names at is = is ∙ ap (λ f. given_or (names_at f) e.indices) at ∙ ap (λ ns. given_or ns e.indices) (declared_at (variables s) e.name)
+
 pub context_is : (s : System) (vs : List (Bor Declaration)) (e : EquationMade) (found : Option Declaration) (names : List Text) → map (λ d. d.now) vs ≡ variables s
     → found ≡ find (λ d. bytes_eq d.name e.name) (map (λ d. d.now) vs) → names ≡ given_or (names_at found) e.indices → names ≡ context s (view_equation e)
-context_is s vs e found names eqv at is =
-    is ∙ ap (λ f. given_or (names_at f) e.indices) (at ∙ ap (find (λ d. bytes_eq d.name e.name)) eqv)
-    ∙ ap (λ ns. given_or ns e.indices) (declared_at (variables s) e.name)
+context_is s vs e found names eqv at is = context_found s e found names (at ∙ ap (find (λ d. bytes_eq d.name e.name)) eqv) is
 
 -- the parts of one more equation
 pub parts_more : (s : System) (es : List EquationMade) (old new : List PartMade) (i : ℕ) (e : EquationMade) (names : List Text) → i < length es → e ≡ get_or es i e

@@ -21,7 +21,7 @@ use Rattle.av_names.specs.Unknowns.{declared_as, unknown, unknown_equation, unkn
 use Rattle.av_names.specs.Written.{Written, written_at, written_declaration, written_sizes, all_written}
 use Rattle.av_names.proofs.Lists.{equations_are}
 use Rattle.av_names.proofs.Lookups.{context_is}
-use Rattle.av_names.proofs.Reach.{rule_of, first_flat_map, written_same}
+use Rattle.av_names.proofs.Reach.{first_flat_map, written_same}
 use Rattle.av_names.proofs.Sooner.{first_append, first_map, first_filter_map}
 
 -- ---- the names of the variables
@@ -44,6 +44,22 @@ module _ (s : System) (vs : List (Bor Declaration)) (es : List EquationMade) (eq
   at_variables : {A : Type 0} (at : A → Place) (rule : Declaration → Option A) → first_of at (λ d. rule d.now) vs ≡ first_of at rule (variables s)
   at_variables at rule = sym (first_map at rule (λ d. d.now) vs) ∙ ap (first_of at rule) eqv
 
+  -- ---- index names
+
+  in_domains : (rule : Written → Option Found) → first_found (λ d. rule (written_declaration d.now)) vs ≡ first_found rule (map written_declaration (variables s))
+  in_domains rule = at_variables (λ f. f.place) (λ d. rule (written_declaration d)) ∙ sym (first_map (λ f. f.place) rule written_declaration (variables s))
+
+  pub index_is : (set : List Text) (a b c : Option Found) → SameNames set s.sizes.names → a ≡ first_found (unknown_side set []) s.sizes.constraints
+      → b ≡ first_found (λ d. first_found (unknown_side set d.now.domain.names) d.now.domain.constraints) vs → c ≡ first_found (unknown_written set) (map written_at (parts s))
+      → sooner (λ f. f.place) a (sooner (λ f. f.place) b c) ≡ first_found (unknown_written s.sizes.names) (all_written s)
+  index_is set a b c same ea eb ec =
+      let rule = unknown_written set in
+      ap (λ x. sooner (λ f. f.place) x (sooner (λ f. f.place) b c)) ea
+      ∙ ap (sooner (λ f. f.place) (rule (written_sizes s.sizes)))
+      (ap (λ x. sooner (λ f. f.place) x c) (eb ∙ in_domains rule) ∙ ap (sooner (λ f. f.place) (first_found rule (map written_declaration (variables s)))) ec
+      ∙ sym (first_append (λ f. f.place) rule (map written_declaration (variables s)) (map written_at (parts s))))
+      ∙ ap (λ r. first_found r (all_written s)) (written_same set s.sizes.names same)
+
   module _ (look : Text → Option Declaration) (found : (name : Text) → look name ≡ find (λ d. bytes_eq d.name name) (map (λ d. d.now) vs)) where
     abbrev looked : EquationMade → List Part
     looked e = parts_of false (over (given_or (names_at (look e.name)) e.indices)) (view e.right)
@@ -51,27 +67,12 @@ module _ (s : System) (vs : List (Bor Declaration)) (es : List EquationMade) (eq
     looked_is : (e : EquationMade) → looked e ≡ equation_parts s (view_equation e)
     looked_is e = ap (λ ns. parts_of false (over ns) (view e.right)) (context_is s vs e (look e.name) (given_or (names_at (look e.name)) e.indices) eqv (found e.name) refl)
 
-    -- ---- index names
-
-    in_rights : (rule : Written → Option Found) → first_found (λ e. first_found (λ p. rule (written_at p)) (looked e)) es ≡ first_found rule (map written_at (parts s))
+    -- what a rule finds in the parts of the right sides
+    pub in_rights : (rule : Written → Option Found) → first_found (λ e. first_found (λ p. rule (written_at p)) (looked e)) es ≡ first_found rule (map written_at (parts s))
     in_rights rule =
         ap (λ r. first_found r es) (fun_ext (λ e. ap (first_found (λ p. rule (written_at p))) (looked_is e)))
         ∙ at_equations (λ f. f.place) (λ e. first_found (λ p. rule (written_at p)) (equation_parts s e))
         ∙ sym (first_flat_map (λ f. f.place) (λ p. rule (written_at p)) (equation_parts s) s.equations) ∙ sym (first_map (λ f. f.place) rule written_at (parts s))
-
-    in_domains : (rule : Written → Option Found) → first_found (λ d. rule (written_declaration d.now)) vs ≡ first_found rule (map written_declaration (variables s))
-    in_domains rule = at_variables (λ f. f.place) (λ d. rule (written_declaration d)) ∙ sym (first_map (λ f. f.place) rule written_declaration (variables s))
-
-    pub index_is : (set : List Text) (a b c : Option Found) → SameNames set s.sizes.names → a ≡ first_found (unknown_side set []) s.sizes.constraints
-        → b ≡ first_found (λ d. first_found (unknown_side set d.now.domain.names) d.now.domain.constraints) vs → c ≡ first_found (λ e. first_found (rule_of set) (looked e)) es
-        → sooner (λ f. f.place) a (sooner (λ f. f.place) b c) ≡ first_found (unknown_written s.sizes.names) (all_written s)
-    index_is set a b c same ea eb ec =
-        let rule = unknown_written set in
-        ap (λ x. sooner (λ f. f.place) x (sooner (λ f. f.place) b c)) ea
-        ∙ ap (sooner (λ f. f.place) (rule (written_sizes s.sizes)))
-        (ap (λ x. sooner (λ f. f.place) x c) (eb ∙ in_domains rule) ∙ ap (sooner (λ f. f.place) (first_found rule (map written_declaration (variables s)))) (ec ∙ in_rights rule)
-        ∙ sym (first_append (λ f. f.place) rule (map written_declaration (variables s)) (map written_at (parts s))))
-        ∙ ap (λ r. first_found r (all_written s)) (written_same set s.sizes.names same)
 
     -- ---- nodes
 

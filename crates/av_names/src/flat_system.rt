@@ -215,9 +215,9 @@ fn names_over<'a>(
     ensures sizes { IfOk result (λ n. (name : Text) → sizes_in n.tables.sizes name ≡ sizes_of sizes.now name) }
     ensures width { IfOk result (λ n. n.tables.width ≡ width) }
 {
-    let tables = tables_over(alloc, system, sizes, width, variables)?;
     let declared = by_name(alloc, variables)?;
     let equations = equation_table(alloc, system.equations.as_slice())?;
+    let tables = tables_over(alloc, system, sizes, width, variables)?;
     Ok(Names {
         tables,
         declared,
@@ -243,7 +243,33 @@ fn all_names<'a>(
     names_over(alloc, system, sizes, width, variables.as_slice())
 }
 
-/// The flat system: inputs, outputs, locals, each in the order of declaration.
+/// Puts the variables of the system behind the others: inputs, outputs, locals, each in the order of declaration.
+fn push_variables(alloc: Global, to: &mut List<Var>, names: &Names<'_>) -> Result<(), Memory>
+    requires names { AreNames names.now }
+    requires domains { All (λ d. FitsDomain (sizes_in names.now.tables.sizes) d.domain) (domains.variables (text.view_system names.now.tables.system.now)) }
+    ensures { OnOk result (map flat.view_variable to.new ≡ map flat.view_variable to.old ++ (rules.flat_of (instance_in names.now.tables)).variables) }
+{
+    let system = names.tables.system;
+    push_inputs(alloc, to, names, system.inputs.as_slice())?;
+    push_computed(alloc, to, names, Kind::Output, system.outputs.as_slice())?;
+    push_computed(alloc, to, names, Kind::Local, system.locals.as_slice())
+}
+
+/// The flat system of the system whose names stand for these.
+fn flat_over(alloc: Global, names: &Names<'_>) -> Result<Flat, Memory>
+    requires names { AreNames names.now }
+    requires domains { All (λ d. FitsDomain (sizes_in names.now.tables.sizes) d.domain) (domains.variables (text.view_system names.now.tables.system.now)) }
+    ensures { IfOk result (λ to. flat.view_system to ≡ rules.flat_of (instance_in names.now.tables)) }
+{
+    let mut vars = List::new(alloc);
+    push_variables(alloc, &mut vars, names)?;
+    Ok(Flat {
+        width: names.tables.width,
+        vars,
+    })
+}
+
+/// The flat system of a system with its sizes, in words of this width.
 pub(crate) fn flat_of(
     alloc: Global,
     system: &System,
@@ -256,21 +282,5 @@ pub(crate) fn flat_of(
     ensures { IfOk result (λ to. flat.view_system to ≡ rules.flat_of (instance_of (text.view_system system.now) sizes.now width.bits)) }
 {
     let names = all_names(alloc, system, sizes, width)?;
-    let mut vars = List::new(alloc);
-    push_inputs(alloc, &mut vars, &names, system.inputs.as_slice())?;
-    push_computed(
-        alloc,
-        &mut vars,
-        &names,
-        Kind::Output,
-        system.outputs.as_slice(),
-    )?;
-    push_computed(
-        alloc,
-        &mut vars,
-        &names,
-        Kind::Local,
-        system.locals.as_slice(),
-    )?;
-    Ok(Flat { width, vars })
+    flat_over(alloc, &names)
 }

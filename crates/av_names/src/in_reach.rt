@@ -217,16 +217,28 @@ pub(crate) fn unknown_inside<'a>(
             Ok(sooner(head, branches))
         }
         Expr::Depend { body, .. } => {
-            let names = NameSet::new(alloc);
-            let body = unknown_inside(alloc, sizes, &names, body)?;
+            let body = unknown_over(alloc, sizes, &[], body)?;
             Ok(sooner(head, body))
         }
         Expr::Reduce { map, body, .. } => {
-            let names = set_of(alloc, map.names.as_slice())?;
-            let body = unknown_inside(alloc, sizes, &names, body)?;
+            let body = unknown_over(alloc, sizes, map.names.as_slice(), body)?;
             Ok(sooner(head, body))
         }
     }
+}
+
+/// In an expression that stands over these names.
+#[cycle(inside)]
+fn unknown_over<'a>(
+    alloc: Global,
+    sizes: &NameSet<'_>,
+    names: &[Name],
+    expr: &'a Expr,
+) -> Result<Option<Found<'a>>, Memory>
+    ensures { IfOk result (λ first. (c : Context) (reduced : Bool) → SameNames names.now c.names → option_map found first ≡ first_found (λ p. rules.unknown_written sizes.now (written_at p)) (list.parts_of reduced c (view expr.now))) }
+{
+    let context = set_of(alloc, names)?;
+    unknown_inside(alloc, sizes, &context, expr)
 }
 
 #[cycle(inside)]

@@ -50,6 +50,23 @@ pub(crate) fn context<'a>(
     }
 }
 
+/// The parts of all equations, in their order, with the variables in this table.
+fn parts_over<'a>(
+    alloc: Global,
+    system: &'a System,
+    table: &NameMap<'a, &'a Declaration>,
+) -> Result<Vec<Part<'a>>, Memory>
+    requires { (name : Text) → option_map (λ d. d.now) (lookup (bytes_eq name) table.now) ≡ find (λ d. bytes_eq d.name name) (domains.variables (view_system system.now)) }
+    ensures { IfOk result (λ parts. map part parts.items ≡ list.parts (view_system system.now)) }
+{
+    let mut parts = Vec::new(alloc);
+    for equation in system.equations.as_slice() {
+        let names = context(table, equation);
+        gather(&mut parts, Context::over(names), false, &equation.right)?;
+    }
+    Ok(parts)
+}
+
 /// The parts of all equations, in their order.
 pub(crate) fn all_parts<'a>(
     alloc: Global,
@@ -60,10 +77,5 @@ pub(crate) fn all_parts<'a>(
     ensures { IfOk result (λ parts. map part parts.items ≡ list.parts (view_system system.now)) }
 {
     let table = by_name(alloc, variables)?;
-    let mut parts = Vec::new(alloc);
-    for equation in system.equations.as_slice() {
-        let names = context(&table, equation);
-        gather(&mut parts, Context::over(names), false, &equation.right)?;
-    }
-    Ok(parts)
+    parts_over(alloc, system, &table)
 }

@@ -4,7 +4,7 @@ ghost use Rattle.av_flat.specs.WellFormed.{IsWellFormed};
 ghost use Rattle.av_tree.specs.Trees.{view_system};
 ghost use Rattle.av_names.specs.Sizes.{instance_of};
 ghost use Rattle.av_names.specs.Flattened as flattened;
-ghost use Rattle.av_names.specs.Refusals.{IsAccepted, IsRefusal};
+ghost use Rattle.av_names.specs.Refusals.{refusal, IsAccepted, IsRefusal};
 ghost use Rattle.av_names.specs.Same.{SaysTheSame};
 ghost use Rattle.av_names.specs.Texts.{IsOfText, AreSmall};
 ghost use Rattle.av_names.specs.declared.fault.NameFault.{NameFault as Fault};
@@ -15,10 +15,21 @@ use crate::index::all_parts;
 use crate::refused::refused;
 use crate::tables::all_variables;
 use crate::{NameFault, Size};
-use av_base::Width;
+use av_base::{Memory, Width};
 use av_flat::Flat;
 use av_tree::System;
 use std::alloc::Global;
+
+/// Why the system is refused with these sizes, or nothing.
+fn first_fault(alloc: Global, system: &System, sizes: &[Size]) -> Result<Option<NameFault>, Memory>
+    requires text { IsOfText (view_system system.now) }
+    requires small { AreSmall sizes.now }
+    ensures { IfOk result (λ fault. fault ≡ refusal (view_system system.now) sizes.now) }
+{
+    let variables = all_variables(alloc, system)?;
+    let parts = all_parts(alloc, system, variables.as_slice())?;
+    refused(alloc, system, sizes, variables.as_slice(), parts.as_slice())
+}
 
 /// The flat system of a system with its sizes, in words of this width, or the first rule that they break.
 ///
@@ -44,9 +55,7 @@ pub fn resolve(
     ensures well_formed { IfOk result (λ to. IsWellFormed (flat.view_system to)) }
     ensures same { IfOk result (λ to. SaysTheSame (instance_of (view_system system.now) sizes.now width.bits) (flat.view_system to)) }
 {
-    let variables = all_variables(alloc, system)?;
-    let parts = all_parts(alloc, system, variables.as_slice())?;
-    let fault = refused(alloc, system, sizes, variables.as_slice(), parts.as_slice())?;
+    let fault = first_fault(alloc, system, sizes)?;
     match fault {
         Some(fault) => Err(fault),
         None => Ok(flat_of(alloc, system, sizes, width)?),

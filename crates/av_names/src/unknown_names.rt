@@ -1,6 +1,6 @@
 //! Names that nothing declares.
 
-ghost use Rattle.std.specs.Prelude.{◌≡◌, false, map, not, bytes_eq, option_map, IfOk};
+ghost use Rattle.std.specs.Prelude.{◌≡◌, false, [], map, not, bytes_eq, option_map, IfOk};
 ghost use Rattle.std.specs.Map.{lookup};
 ghost use Rattle.av_tree.specs.Domains as domains;
 ghost use Rattle.av_tree.specs.Rows.{is_index};
@@ -20,7 +20,7 @@ use crate::name_sets::{is_among, put_name, set_of};
 use crate::part::Part;
 use av_base::Memory;
 use av_table::{NameMap, NameSet};
-use av_tree::{Declaration, Equation, Expr, System};
+use av_tree::{Declaration, DomainText, Equation, Expr, System};
 use std::alloc::Global;
 
 /// The names of the variables.
@@ -114,6 +114,32 @@ fn unknown_in_rights<'a>(
     Ok(first)
 }
 
+/// In the constraints of the parameter domain, where no index is in reach.
+fn unknown_in_sizes<'a>(
+    alloc: Global,
+    sizes: &NameSet<'_>,
+    domain: &'a DomainText,
+) -> Option<Found<'a>>
+    ensures { option_map found result ≡ first_found (rules.unknown_side sizes.now []) domain.now.constraints }
+{
+    let nothing = NameSet::new(alloc);
+    unknown_in_constraints(sizes, &nothing, domain.constraints.as_slice())
+}
+
+/// In all parts of the right sides.
+fn unknown_in_parts<'a>(
+    alloc: Global,
+    sizes: &NameSet<'_>,
+    system: &'a System,
+    variables: &[&'a Declaration],
+) -> Result<Option<Found<'a>>, Memory>
+    requires { map (λ d. d.now) variables.now ≡ domains.variables (view_system system.now) }
+    ensures { IfOk result (λ first. option_map found first ≡ first_found (rules.unknown_written sizes.now) (map written_at (list.parts (view_system system.now)))) }
+{
+    let table = by_name(alloc, variables)?;
+    unknown_in_rights(alloc, sizes, &table, system.equations.as_slice())
+}
+
 /// The first name in index expressions that is neither an index in reach nor a size.
 fn unknown_index<'a>(
     alloc: Global,
@@ -124,11 +150,9 @@ fn unknown_index<'a>(
     ensures { IfOk result (λ first. option_map found first ≡ first_found (rules.unknown_written system.now.sizes.names) (all_written (view_system system.now))) }
 {
     let sizes = set_of(alloc, system.sizes.names.as_slice())?;
-    let table = by_name(alloc, variables)?;
-    let nothing = NameSet::new(alloc);
-    let outer = unknown_in_constraints(&sizes, &nothing, system.sizes.constraints.as_slice());
+    let outer = unknown_in_sizes(alloc, &sizes, &system.sizes);
     let domain = unknown_in_declarations(alloc, &sizes, variables)?;
-    let right = unknown_in_rights(alloc, &sizes, &table, system.equations.as_slice())?;
+    let right = unknown_in_parts(alloc, &sizes, system, variables)?;
     Ok(sooner(outer, sooner(domain, right)))
 }
 

@@ -12,6 +12,6 @@ pub record IsCircuit (c : Inside) : Type 0 where
   pub sound : IsSound c.of.now
   pub assignments : AreAssigned c.of.now (length c.of.now.drives) c.assignments.items
   pub flip_flops : AreStepped c.of.now (length c.of.now.steps) c.flip_flops.items
-  pub passes : ArePasses c.of.now c.passes.computed.items c.passes.copied.items
+  pub passes : ArePasses c.of.now c.passes.computed.items c.passes.copied.items c.passes.fixed.items
   pub drives_reading : HaveDrives c.of.now (length c.of.now.drives) c.drives_reading.items
   pub steps_reading : HaveSteps c.of.now (length c.of.now.steps) c.steps_reading.items

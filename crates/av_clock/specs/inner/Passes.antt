@@ -1,4 +1,4 @@
--- The drives of a module in two passes: those that compute, and those that copy.
+-- The drives of a module in passes: those that compute, those that copy, and those of a constant.
 use Rattle.std.specs.Prelude.{◌≡◌, ◌⊎◌, ℕ, ◌<◌, List, map, length, take, slice_get, slice_index, slice_index_or, Some, Contains}
 use Rattle.av_net.specs.declared.netlist.Module.{Module}
 use Rattle.av_net.specs.Names.{given_names, all_names}
@@ -9,6 +9,7 @@ use Rattle.av_clock.specs.declared.gate.Gate.{Gate}
 use Rattle.av_clock.specs.declared.gate.Gate.TheVariants.{Buffer, Operator, Comparator, Multiplexer, Slice, Extender}
 use Rattle.av_clock.specs.declared.gate.Assignment.{Assignment}
 use Rattle.av_clock.specs.declared.passes.Alias.{Alias}
+use Rattle.av_clock.specs.declared.passes.Fixed.{Fixed}
 use Rattle.av_clock.specs.Named.{named, AllFit}
 use Rattle.av_clock.specs.inner.Gates.{reading_word, IsWithin, EachReading, CanTake, gate_word}
 
@@ -52,14 +53,23 @@ pub record IsComputed (m : Module) (computed : List Assignment) (assignment : As
   pub takes : (words : List ℕ) → IsFinal m words → CanTake words assignment.gate
   pub gives : (words : List ℕ) → IsFinal m words → gate_word words assignment.gate ≡ slice_index words assignment.target
 
-pub record IsCopied (m : Module) (computed : List Assignment) (alias : Alias) : Type 0 where
-  pub target : alias.target < length (all_names m)
-  pub reads : IsKnownReading m computed alias.root
-  pub within : IsWithin (length (all_names m)) alias.root
-  pub gives : (words : List ℕ) → IsFinal m words → reading_word words alias.root ≡ slice_index words alias.target
+-- the place has the word of this root in the end
+pub record IsCopied (m : Module) (computed : List Assignment) (place : ℕ) (root : Reading) : Type 0 where
+  pub target : place < length (all_names m)
+  pub reads : IsKnownReading m computed root
+  pub within : IsWithin (length (all_names m)) root
+  pub gives : (words : List ℕ) → IsFinal m words → reading_word words root ≡ slice_index words place
+
+-- the place is the target of one of these
+abbrev pub IsAliased : List Alias → ℕ → Type 0
+IsAliased aliases place = Contains (map (λ a. a.target) aliases) place
+
+abbrev pub IsFixed : List Fixed → ℕ → Type 0
+IsFixed fixeds place = Contains (map (λ f. f.target) fixeds) place
 
 -- the passes give each place its word
-pub record ArePasses (m : Module) (gates : List Assignment) (aliases : List Alias) : Type 0 where
+pub record ArePasses (m : Module) (gates : List Assignment) (aliases : List Alias) (fixeds : List Fixed) : Type 0 where
   pub computed : (k : ℕ) (d : Assignment) → k < length gates → IsComputed m (take k gates) (slice_index_or gates k d)
-  pub copied : (k : ℕ) (d : Alias) → k < length aliases → IsCopied m gates (slice_index_or aliases k d)
-  pub all : (place : ℕ) → place < length (all_names m) → IsKnown m gates place ⊎ Contains (map (λ alias. alias.target) aliases) place
+  pub copied : (k : ℕ) (d : Alias) → k < length aliases → IsCopied m gates (slice_index_or aliases k d).target (At (slice_index_or aliases k d).source)
+  pub fixed : (k : ℕ) (d : Fixed) → k < length fixeds → IsCopied m gates (slice_index_or fixeds k d).target (Constant (slice_index_or fixeds k d).word)
+  pub all : (place : ℕ) → place < length (all_names m) → IsKnown m gates place ⊎ (IsAliased aliases place ⊎ IsFixed fixeds place)

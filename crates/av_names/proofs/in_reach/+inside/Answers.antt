@@ -1,9 +1,12 @@
-use Rattle.std.proofs.Common.{ap, ◌∙◌, length, true}
+use Rattle.std.proofs.Common.{◌≡◌, Bool, refl, ap, ◌∙◌, length, true}
 use Rattle.std.specs.Prelude.{option_map}
+use Rattle.std.proofs.lemmas.Result.{IfOk-weaker}
 use Rattle.av_tree.specs.Trees.{view, view_all}
 use Rattle.av_tree.specs.Rows.{is_index}
-use Rattle.av_names.specs.Forms.{over, nameless}
-use Rattle.av_names.specs.inner.Seen.{found}
+use Rattle.av_names.specs.Forms.{Context, over, nameless}
+use Rattle.av_names.specs.Found.{first_found}
+use Rattle.av_names.specs.Parts.{parts_of}
+use Rattle.av_names.specs.inner.Seen.{found, SameNames}
 use Rattle.av_names.proofs.Cases.{view_case}
 use Rattle.av_names.proofs.Reach.{rule_of, in_reference, in_constant, in_binary, in_choice, in_restriction, in_cases, in_dependence, in_reduction, branch_more}
 use Rattle.av_names.proofs.in_reach.+inside.Goals as goal
@@ -42,15 +45,22 @@ pub unknown_inside-returns-in_ok-body-in-Depend : goal.unknown_inside-returns-in
 unknown_inside-returns-in_ok-body-in-Depend t c = λ k r same.
     in_dependence (rule_of c.args.sizes.now) r k (view c.args.expr.now) (option_map found c.in_ok-head.head) (option_map found c.sooner-in-Depend.result) (c.in_ok-head.ensures k r same)
     c.in-Depend.map (view c.in-Depend.body.value) c.in-Depend.place (option_map found c.in_ok-body-in-Depend.body) (ap view c.in-Depend.is)
-    (rw c.deref-in-Depend.ensures at c.in_ok-body-in-Depend.ensures (nameless (length c.in-Depend.map.results)) r (λ name. ap (λ names. is_index names name) c.new-names.ensures))
+    (rw c.deref-in-Depend.ensures at c.in_ok-body-in-Depend.ensures (nameless (length c.in-Depend.map.results)) r (λ name. refl))
     c.sooner-in-Depend.ensures
 
 pub unknown_inside-returns-in_ok-body-in-Reduce : goal.unknown_inside-returns-in_ok-body-in-Reduce
 unknown_inside-returns-in_ok-body-in-Reduce t c = λ k r same.
     in_reduction (rule_of c.args.sizes.now) r k (view c.args.expr.now) (option_map found c.in_ok-head.head) (option_map found c.sooner-in-Reduce.result) (c.in_ok-head.ensures k r same)
     c.in-Reduce.op c.in-Reduce.map (view c.in-Reduce.body.value) c.in-Reduce.place (option_map found c.in_ok-body-in-Reduce.body) (ap view c.in-Reduce.is)
-    (rw c.deref-in-Reduce.ensures at c.in_ok-body-in-Reduce.ensures (over c.in-Reduce.map.names) true (rw c.as_slice-in-Reduce.ensures at c.in_ok-names-in-Reduce.ensures))
+    (rw c.deref-in-Reduce.ensures at c.in_ok-body-in-Reduce.ensures (over c.in-Reduce.map.names) true (λ name. ap (λ names. is_index names name) c.as_slice-in-Reduce.ensures))
     c.sooner-in-Reduce.ensures
+
+pub unknown_over-returns : goal.unknown_over-returns
+unknown_over-returns t c =
+    IfOk-weaker c.unknown_inside.result
+    (λ first. (k : Context) (r : Bool) → SameNames c.in_ok-context.context k.names → option_map found first ≡ first_found (rule_of c.args.sizes.now) (parts_of r k (view c.args.expr.now)))
+    (λ first. (k : Context) (r : Bool) → SameNames c.args.names.now k.names → option_map found first ≡ first_found (rule_of c.args.sizes.now) (parts_of r k (view c.args.expr.now)))
+    (λ first found_is k r same. found_is k r (λ name. c.in_ok-context.ensures name ∙ same name)) c.unknown_inside.ensures
 
 pub unknown_inside-returns-in-Ref : goal.unknown_inside-returns-in-Ref
 unknown_inside-returns-in-Ref t c = λ k r same.

@@ -3,7 +3,7 @@ use Rattle.std.specs.List.{flat_map}
 use Rattle.av_tree.specs.Trees.{view_system}
 use Rattle.av_names.specs.Parts as list
 use Rattle.av_names.specs.inner.Seen.{part, equations_seen}
-use Rattle.av_names.proofs.index.all_parts.Given as goal
+use Rattle.av_names.proofs.index.parts_over.Given as goal
 
 abbrev pub invariant-loop-equation : goal.invariant-loop-equation
 invariant-loop-equation l =
