@@ -31,9 +31,17 @@ pub mod Lengths
 pub mod Owned
 pub mod FineLanes
 pub mod ProgramLanes
+pub mod CellValues
+pub mod TakenSources
+pub mod CellPieces
+pub mod PlanForm
+pub mod SharedKinds
 pub mod NotLater
 pub mod PlanShows
 pub mod Joined
 pub mod Connected
 pub mod Headline
+pub mod ListedLines
+pub mod ValueWidths
 pub mod WithinCount
+pub mod Promised
