@@ -19,8 +19,7 @@ use Rattle.av_kinds.specs.declared.program.Source.TheVariants.{Input, Line}
 use Rattle.av_kinds.specs.Counters.{counter_name, count_in}
 use Rattle.av_kinds.specs.Names.{output_name, value_name}
 use Rattle.av_kinds.specs.Programs.{Lane, Program, IsProgram}
-use Rattle.av_kinds.specs.Forms.{IsWire, IsRegister, IsCounterWire, MayTake, IsFormedBy}
-use Rattle.av_kinds.specs.Forms.{MayName as MayTakeName, MayLink as MayTakeLink}
+use Rattle.av_kinds.specs.Forms.{IsWire, IsRegister, IsCounterWire, MayTake, MayName as MayTakeName, MayLink as MayTakeLink, IsFormedBy}
 use Rattle.av_history.specs.Performing.{Array, Lanes}
 use Rattle.av_history.specs.Arranged.{IsArranged}
 use Rattle.av_build.specs.ArrayForm.{MayName, MayLink, HasFewOperators, IsArrayForm, IsLinked}

@@ -99,24 +99,18 @@ module _ (a : Array) (count : ℕ → ℕ) (lanes : Lanes) (program : Program) (
   abbrev EachIsOf : ℕ → Site → Type 0
   EachIsOf p site = (source : Source) → IsSourceOf site source → IsOf a program p source
 
-  site_is : (at : Spot) → slice_get (nodes a.system) at.node ≡ Some at.variable → slice_get at.variable.pieces at.number ≡ Some at.piece → (R : Point → Type 0) (P : Point → ℕ → Source → Type 0) (site : Site) → IsSiteFor a count at R P site
-      → ((c : ℕ) (z : Point) (source : Source) → Reading a at c z → R z → P z c source → IsOf a program at.cell source) → EachIsOf at.cell site
-  site_is at is_variable is_piece R P site h each_is source (inl e) = right source (subst Right (sym e) h.each.1)
-    where
-      Right : Source → Type 0
-      Right s = (s ≡ Word 0) ⊎ IsRight a at R P s
+  module _ (at : Spot) (is_variable : slice_get (nodes a.system) at.node ≡ Some at.variable) (is_piece : slice_get at.variable.pieces at.number ≡ Some at.piece) (R : Point → Type 0) (P : Point → ℕ → Source → Type 0)
+      (each_is : (c : ℕ) (z : Point) (source : Source) → Reading a at c z → R z → P z c source → IsOf a program at.cell source) where
+    abbrev Right : Source → Type 0
+    Right source = (source ≡ Word 0) ⊎ IsRight a at R P source
 
-      right : (s : Source) → Right s → IsOf a program at.cell s
-      right s (inl e) = subst (IsOf a program at.cell) (sym e) tt
-      right s (inr (c, z, computes, inside, read, is)) = each_is c z s (record { computes = computes; is_variable = is_variable; is_piece = is_piece; within = inside }) read is
-  site_is at is_variable is_piece R P site h each_is source (inr (i, l, is, e)) = right source (subst Right (sym e) (each_at (λ (k : Link). Right k.source) site.links i l h.each.0 is))
-    where
-      Right : Source → Type 0
-      Right s = (s ≡ Word 0) ⊎ IsRight a at R P s
+    right_is : (source : Source) → Right source → IsOf a program at.cell source
+    right_is source (inl e) = subst (IsOf a program at.cell) (sym e) tt
+    right_is source (inr (c, z, computes, inside, read, is)) = each_is c z source (record { computes = computes; is_variable = is_variable; is_piece = is_piece; within = inside }) read is
 
-      right : (s : Source) → Right s → IsOf a program at.cell s
-      right s (inl e) = subst (IsOf a program at.cell) (sym e) tt
-      right s (inr (c, z, computes, inside, read, is)) = each_is c z s (record { computes = computes; is_variable = is_variable; is_piece = is_piece; within = inside }) read is
+    site_is : (site : Site) → IsSiteFor a count at R P site → EachIsOf at.cell site
+    site_is site h source (inl e) = right_is source (subst Right (sym e) h.each.1)
+    site_is site h source (inr (i, l, is, e)) = right_is source (subst Right (sym e) (each_at (λ (k : Link). Right k.source) site.links i l h.each.0 is))
 
   -- ---- lanes
 
@@ -132,7 +126,7 @@ module _ (a : Array) (count : ℕ → ℕ) (lanes : Lanes) (program : Program) (
       let low = in_range m.work.sites k site is_site in
       let Sited : ℕ → ℕ → Tree → Type 0 = λ k i t. (s : Site) × (slice_get m.work.sites k ≡ Some s) × IsPlaceSite a count lanes first at i t s in
       let Good : ℕ → Type 0 = λ k. (s : Site) × (slice_get m.work.sites k ≡ Some s) × EachIsOf p s in
-      let good = numbered Sited Good (λ k i t x. (x.0, x.1, site_is at is_variable told.3 Always (λ z c source. IsPlaceSource a lanes at z c i t source) x.0 x.2.reads (λ c z source r read is. place_is at c z r i t source is)))
+      let good = numbered Sited Good (λ k i t x. (x.0, x.1, site_is at is_variable told.3 Always (λ z c source. IsPlaceSource a lanes at z c i t source) (λ c z source r read is. place_is at c z r i t source is) x.0 x.2.reads))
       0 0 told.1.tree work.sites k (omega arith) (omega (arith, many, low)) in
       subst (EachIsOf p) (some_is good.0 site (sym good.1 ∙ is_site)) good.2
 
@@ -151,12 +145,12 @@ module _ (a : Array) (count : ℕ → ℕ) (lanes : Lanes) (program : Program) (
       at = helper_spot a h v piece p
 
       entry : EachIsOf p l.entry_site
-      entry = site_is at is_variable is.is_piece (λ z. IsEntry piece.domain h.direction z) (λ z c source. IsReferenceSource a lanes at c h.site r.place r.map (entries h.direction) source) l.entry_site l.entry_reads
-          (λ c z source reading read s. reference_is at c z reading h.site r.place r.map (entries h.direction) (read, (r.place, (refl, refl), refl)) source s)
+      entry = site_is at is_variable is.is_piece (λ z. IsEntry piece.domain h.direction z) (λ z c source. IsReferenceSource a lanes at c h.site r.place r.map (entries h.direction) source)
+          (λ c z source reading read s. reference_is at c z reading h.site r.place r.map (entries h.direction) (read, (r.place, (refl, refl), refl)) source s) l.entry_site l.entry_reads
 
       own : EachIsOf p l.own_site
-      own = site_is at is_variable is.is_piece (λ z. IsTrue (has piece.domain (before z h.direction))) (λ z c source. IsHandSource a lanes at j h.direction h.site r.place r.map true c source) l.own_site l.own_reads
-          (λ c z source reading read s. hand_is j h at r is refl c z reading read source s)
+      own = site_is at is_variable is.is_piece (λ z. IsTrue (has piece.domain (before z h.direction))) (λ z c source. IsHandSource a lanes at j h.direction h.site r.place r.map true c source)
+          (λ c z source reading read s. hand_is j h at r is refl c z reading read source s) l.own_site l.own_reads
 
       by_mode : (i : ℕ) → slice_get (l.entry_mode ∷ l.own_mode ∷ []) i ≡ Some m → (k : ℕ) (site : Site) → slice_get m.work.sites k ≡ Some site → EachIsOf p site
       by_mode zero e k site is_site = one_site_is p l.entry_site (reference r.place r.map) l.entry_mode.work l.entry_work entry k site (ap (λ (x : Mode). slice_get x.work.sites k) (some_is l.entry_mode m e) ∙ is_site)
