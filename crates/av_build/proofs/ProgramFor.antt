@@ -30,7 +30,7 @@ use Rattle.av_build.specs.declared.blueprint.CellPlan.{CellPlan}
 use Rattle.av_build.specs.declared.blueprint.HelperPlan.{HelperPlan}
 use Rattle.av_build.specs.declared.blueprint.LanePlan.{LanePlan}
 use Rattle.av_build.specs.inner.Blueprints.{seen, lanes_of, value_in, helper_in, helpers_on, helper_place, of_helper, own_lanes, ArePieces, IsBlueprint, HasHelper}
-use Rattle.av_build.specs.inner.Lanes.{IsBuiltBy, AreBuilt}
+use Rattle.av_build.specs.inner.Lanes.{IsValueBuilt, IsBuiltBy, AreBuilt}
 use Rattle.av_build.specs.inner.Programmed.{IsValueLane, IsHelperLane, IsLaneFor, of_value, of_helper as for_helper, IsProgramFor}
 use Rattle.av_build.proofs.BlueprintLemmas.{helper_lane_at, value_lane_at, own_cases, own_size, lane_there, value_of, place_is, place_found}
 use Rattle.av_build.proofs.CellUses.{busy}
@@ -48,7 +48,7 @@ module _ (b : Blueprint) (is : IsBlueprint b) (counter : Counter) (made : List L
   -- ---- a lane of a cell
 
   module _ (p : ℕ) (plan : CellPlan) (is_plan : slice_get b.cells p ≡ Some plan) where
-    value_is : plan.lanes.value ≡ plan.lanes.first + length (helpers_on plan.pieces)
+    pub value_is : plan.lanes.value ≡ plan.lanes.first + length (helpers_on plan.pieces)
     value_is = value_of 0 b.cells is.plans.numbered p plan is_plan
 
     pieces : ArePieces w p plan.pieces
@@ -61,7 +61,7 @@ module _ (b : Blueprint) (is : IsBlueprint b) (counter : Counter) (made : List L
         built.each q own lane (ap (λ (l : List LanePlan). slice_get l q) is.plans.lanes_are ∙ there) is_lane
 
     -- there is one
-    lane_made : (q : ℕ) → plan.lanes.first ≤ q → q ≤ plan.lanes.value → (lane : LaneMade) × (slice_get made q ≡ Some lane)
+    pub lane_made : (q : ℕ) → plan.lanes.first ≤ q → q ≤ plan.lanes.value → (lane : LaneMade) × (slice_get made q ≡ Some lane)
     lane_made q low high =
         let number = value_is in
         let size = own_size p plan.pieces in
@@ -71,17 +71,20 @@ module _ (b : Blueprint) (is : IsBlueprint b) (counter : Counter) (made : List L
         let many = built.one_each in
         there_is made q (omega (arith, within, many))
 
+    pub value_built : (lane : LaneMade) → slice_get made plan.lanes.value ≡ Some lane → IsValueBuilt b counter p plan (lane_of lane)
+    value_built lane is_lane = lane_at (length (helpers_on plan.pieces)) (record { cell = p; helper = None }) (value_lane_at p plan.pieces) plan.lanes.value value_is lane is_lane plan is_plan
+
     value_lane : (lane : LaneMade) → slice_get made plan.lanes.value ≡ Some lane → (c n : ℕ) (z : Point) (v : Variable) → ComputesIn w p c n z → slice_get (nodes (system_of w)) n ≡ Some v
         → IsValueLane (seen w) (count_in counter) lanes plan.lanes.first p n v (lane_of lane)
     value_lane lane is_lane c n z v computes is_variable =
-        lane_at (length (helpers_on plan.pieces)) (record { cell = p; helper = None }) (value_lane_at p plan.pieces) plan.lanes.value value_is lane is_lane plan is_plan c n z v computes is_variable
+        (value_built lane is_lane).is_lane c n z v computes is_variable
 
-    of_value_is : lanes.of_value p ≡ plan.lanes.value
+    pub of_value_is : lanes.of_value p ≡ plan.lanes.value
     of_value_is = ap (λ (o : Option CellPlan). value_in o) is_plan
 
     -- that of a helper of the cell
     module _ (x : ℕ) (h : HelperPlan) (is_helper : slice_get (helpers_on plan.pieces) x ≡ Some h) (lane : LaneMade) (is_lane : slice_get made (plan.lanes.first + x) ≡ Some lane) where
-      helper_built : (helper : Helper) (v : Variable) (piece : Piece) (r : Reference) → IsHelper (seen w) h.number helper v piece r → IsHelperLane (seen w) (count_in counter) lanes (helper_spot (seen w) helper v piece p) h.number helper r (lane_of lane)
+      pub helper_built : (helper : Helper) (v : Variable) (piece : Piece) (r : Reference) → IsHelper (seen w) h.number helper v piece r → IsHelperLane (seen w) (count_in counter) lanes (helper_spot (seen w) helper v piece p) h.number helper r (lane_of lane)
       helper_built helper v piece r it = lane_at x (of_helper p h) (helper_lane_at p plan.pieces x h is_helper) (plan.lanes.first + x) refl lane is_lane helper v piece r it
 
     -- what each lane is for; the first place of a helper's number is its own
