@@ -14,7 +14,7 @@ use Rattle.av_space.specs.declared.layout.Slot.{Slot}
 use Rattle.av_space.specs.declared.spots.Site.{Site as PlaceMade}
 use Rattle.av_space.specs.declared.spots.Spot.{Spot as SpotMade}
 use Rattle.av_space.specs.Sites.{place_of}
-use Rattle.av_space.specs.Spots.{system_of, helpers_of, IsArray, IsSpot, IsSlotIn, AreSlotsIn, IsSiteOf, handing_by}
+use Rattle.av_space.specs.Spots.{system_of, helpers_of, IsArray, IsSpot, IsSiteOf, handing_by}
 use Rattle.av_space.specs.Taps.{Handing, helper_at, Place, places_in}
 use Rattle.av_space.proofs.Elements.{at_index, in_range}
 use Rattle.av_space.proofs.Helpers.{found_helper}
@@ -29,7 +29,7 @@ use Rattle.av_build.specs.inner.Sources.{AreHandMomentsTo}
 use Rattle.av_build.proofs.Appended.{get_right}
 use Rattle.av_build.proofs.HelpersOn.{IsFromPlace}
 use Rattle.av_build.proofs.MomentLemmas.{AreSpotSlots}
-use Rattle.av_build.proofs.SpotNodes.{node_of}
+use Rattle.av_build.proofs.SpotNodes.{node_of, spot_slots}
 
 -- a place with a helper is a reference
 pub record IsReference (p : Place) : Type 0 where
@@ -170,7 +170,7 @@ module _ (w : ArrayMade) (is : IsArray w) (p : ℕ) (pieces : Pieces) (are : Are
     same : e.helper ≡ other
     same = some_is e.helper other (sym e.helps.is_helper ∙ it.is_helper)
 
-    variable_is : view_variable at.var.now ≡ v
+    pub variable_is : view_variable at.var.now ≡ v
     variable_is = some_is (view_variable at.var.now) v (sym e.helps.is_variable ∙ ap (λ (k : Helper). slice_get s.variables k.var) same ∙ it.is_variable)
 
     piece_is : view_piece at.piece.now ≡ piece
@@ -209,10 +209,4 @@ module _ (w : ArrayMade) (is : IsArray w) (p : ℕ) (pieces : Pieces) (are : Are
 
     -- and so are its computations
     pub slots_are : AreSpotSlots (seen w) (helper_spot (seen w) other v piece p) at.slots
-    slots_are = subst (λ (x : Spot). AreSpotSlots (seen w) x at.slots) spot_is (record {
-      each = λ k slot found. (let t = at_index (IsSlotIn w at.cell at.node at.piece.now.domain) at.slots own.each k slot found in (t.computes, t.within));
-      all = own.all;
-    })
-      where
-        own : AreSlotsIn w at.cell at.node at.piece.now.domain at.slots
-        own = (spot_at h.piece at e.is_spot).2.are_slots
+    slots_are = subst (λ (x : Spot). AreSpotSlots (seen w) x at.slots) spot_is (spot_slots w at (spot_at h.piece at e.is_spot).2)

@@ -25,6 +25,14 @@ pub mod SortingSteps
 pub mod ValueLanes
 pub mod PlaceNumbers
 pub mod HelpersApart
+pub mod SeenArray
+pub mod Handovers
+pub mod HandPushes
+pub mod SpotsOn
+pub mod ValueSites
+pub mod PieceWorks
+pub mod ValueModes
+pub mod HelperModes
 pub mod ProgramFor
 pub mod Performed
 pub mod Lengths
