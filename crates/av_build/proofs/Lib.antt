@@ -45,3 +45,8 @@ pub mod Joined
 pub mod Connected
 pub mod Headline
 pub mod WithinCount
+pub mod HelperLaneOf
+pub mod AlikeLanes
+pub mod SortedCells
+pub mod PortPlaces
+pub mod WholeProgram
