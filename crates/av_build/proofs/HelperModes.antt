@@ -8,6 +8,7 @@ use Rattle.av_flat.specs.Trees.{Tree, Piece, Variable, FlatSystem, view, view_va
 use Rattle.av_flat.specs.Broadcasts.{Reference}
 use Rattle.av_space.specs.declared.array.Array.{Array as ArrayMade}
 use Rattle.av_space.specs.declared.spots.Spot.{Spot as SpotMade}
+use Rattle.av_space.specs.Links.{line_length}
 use Rattle.av_space.specs.Spots.{system_of, helpers_of, cells_of}
 use Rattle.av_space.proofs.Elements.{in_range}
 use Rattle.av_kinds.specs.declared.counter.Counter.{Counter}
@@ -23,10 +24,10 @@ use Rattle.av_build.specs.declared.blueprint.HelperPlan.{HelperPlan}
 use Rattle.av_build.specs.declared.moments.HandMoments.{HandMoments}
 use Rattle.av_build.specs.inner.Blueprints.{seen, spot_of, lanes_of, helpers_on, ArePieces, IsBlueprint, IsCounted}
 use Rattle.av_build.specs.inner.Intervals.{intervals_by}
-use Rattle.av_build.specs.inner.Lanes.{HasPlan, IsHelperFrame, AreHelperModes, IsHelperOn}
+use Rattle.av_build.specs.inner.Lanes.{HasPlan, IsHelperFrame, AreHelperModes, IsHelperOn, IsBuiltBy}
 use Rattle.av_build.specs.inner.Moments.{site_by}
 use Rattle.av_build.specs.inner.Orders.{IsInOrder}
-use Rattle.av_build.specs.inner.Programmed.{inlet_by, one_site}
+use Rattle.av_build.specs.inner.Programmed.{inlet_by, one_site, IsHelperLane}
 use Rattle.av_build.specs.inner.Sources.{AreHandMomentsTo}
 use Rattle.av_build.proofs.HandModes.{hand_lane}
 use Rattle.av_build.proofs.HelperPlaces.{IsHelped, helped, spot_at, variable_is, tree_is, spot_is, moments_are, slots_are}
@@ -138,3 +139,17 @@ module _ (b : Blueprint) (is : IsBlueprint b) (p : ℕ) (h : HelperPlan) (has : 
   piece_there =
       let x = helped b.array is.array p has.plan.pieces pieces_of h from in
       in_range has.plan.pieces.spots h.piece x.0 x.1.is_spot
+
+  -- the lane of its modes is what its plan says
+  pub lane_built : (counter : Counter) (at : SpotMade) → slice_get has.plan.pieces.spots h.piece ≡ Some at → (modes : List Mode) → AreHelperModes b counter at h modes
+      → (lane : Lane) → lane.home ≡ p → lane.rank ≡ suc h.number → lane.width.bits ≡ (view_variable at.var.now).width → lane.modes ≡ modes
+      → lane.length ≡ line_length (system_of b.array) (helpers_of b.array) (cells_of b.array) b.array.cells.now.links p (Some h.number) → IsBuiltBy b counter p (Some h) lane
+  lane_built counter at e modes made lane home rank width are size = λ helper v piece r it.
+      let cell = (planned at e).cell in
+      subst (λ (q : ℕ). IsHelperLane (seen b.array) (count_in counter) (lanes_of b.cells) (helper_spot (seen b.array) helper v piece q) h.number helper r lane) cell
+      (made lane (record {
+        home = home ∙ sym cell;
+        rank = rank;
+        width = width;
+        size = size ∙ ap (λ (q : ℕ). line_length (system_of b.array) (helpers_of b.array) (cells_of b.array) b.array.cells.now.links q (Some h.number)) (sym cell);
+      }) are helper v piece r it)

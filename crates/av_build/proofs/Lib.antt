@@ -32,6 +32,7 @@ pub mod SpotsOn
 pub mod ValueSites
 pub mod PieceWorks
 pub mod ValueModes
+pub mod PlansOn
 pub mod HelperModes
 pub mod ProgramFor
 pub mod Performed
