@@ -89,7 +89,7 @@ helpers_same k [] (ys ∷ qs) size each = absurd (omega (arith, size))
 helpers_same k (xs ∷ ps) [] size each = absurd (omega (arith, size))
 helpers_same k (xs ∷ ps) (ys ∷ qs) size each =
     ap (λ (l : List HelperPlan). l ++ helpers_from (suc k) ps) (site_helpers_same k 0 xs ys (each 0 xs ys refl refl))
-    ∙ ap (λ (l : List HelperPlan). site_helpers k 0 ys ++ l) (helpers_same (suc k) ps qs (omega (arith, size)) (λ j as bs is_a is_b. each (suc j) as bs is_a is_b))
+    ∙ ap (λ (l : List HelperPlan). site_helpers k 0 ys ++ l) (helpers_same (suc k) ps qs (omega (arith, size)) (λ j us vs is_u is_v. each (suc j) us vs is_u is_v))
 
 -- ---- one piece of one node on two cells
 
@@ -134,9 +134,11 @@ alike_helpers a count lanes j h v piece r p q l m x y = record {
   modes = subst (λ (ms : List Mode). Paired AreAlikeModes ms m.modes) (sym x.modes_are) (subst (λ (ms : List Mode). Paired AreAlikeModes (x.entry_mode ∷ x.own_mode ∷ []) ms) (sym y.modes_are) (
     one_alike x.entry_mode y.entry_mode x.entry_site y.entry_site (reference r.place r.map) x.entry_work y.entry_work
         (record { inlet = x.entry_inlet ∙ sym y.entry_inlet; width = width_is x.entry_site.width y.entry_site.width (x.entry_width ∙ sym y.entry_width) }),
-    (one_alike x.own_mode y.own_mode x.own_site y.own_site (reference r.place r.map) x.own_work y.own_work
-        (record { inlet = x.own_inlet ∙ sym y.own_inlet; width = width_is x.own_site.width y.own_site.width (x.own_width ∙ sym y.own_width) }),
-    tt),
+    (
+      one_alike x.own_mode y.own_mode x.own_site y.own_site (reference r.place r.map) x.own_work y.own_work
+          (record { inlet = x.own_inlet ∙ sym y.own_inlet; width = width_is x.own_site.width y.own_site.width (x.own_width ∙ sym y.own_width) }),
+      tt,
+    ),
   ));
 }
 
@@ -173,11 +175,11 @@ module _ (b : Blueprint) (is : IsBlueprint b) (p q : ℕ) (x y : CellPlan) (is_x
       let d = of_y.one_each in
       let e = same.0 in
       helpers_same 0 x.pieces.sites y.pieces.sites (omega (arith, a, d, e)) (λ j xs ys is_xs is_ys. (
-        let low = in_range x.pieces.sites j xs is_xs in
-        let at = there_is x.pieces.spots j (omega (arith, low, a)) in
-        let of = there_is y.pieces.spots j (omega (arith, low, a, e)) in
-        let f = same.1 j at.0 of.0 at.1 of.1 in
-        handings_same w at.0 of.0 (on_x j at.0 at.1).2 (on_y j of.0 of.1).2 f.0 f.1 xs ys (of_x.sites j at.0 xs at.1 is_xs) (of_y.sites j of.0 ys of.1 is_ys)))
+      let low = in_range x.pieces.sites j xs is_xs in
+      let at = there_is x.pieces.spots j (omega (arith, low, a)) in
+      let of = there_is y.pieces.spots j (omega (arith, low, a, e)) in
+      let f = same.1 j at.0 of.0 at.1 of.1 in
+      handings_same w at.0 of.0 (on_x j at.0 at.1).2 (on_y j of.0 of.1).2 f.0 f.1 xs ys (of_x.sites j at.0 xs at.1 is_xs) (of_y.sites j of.0 ys of.1 is_ys)))
 
   pipes_are : (j : ℕ) → pipe_in lanes p x.lanes.first j ≡ pipe_in lanes q y.lanes.first j
   pipes_are j =
@@ -219,9 +221,9 @@ module _ (b : Blueprint) (is : IsBlueprint b) (p q : ℕ) (x y : CellPlan) (is_x
           sites = paired_by_place AreAlikeSites m.work.sites n.work.sites (g.many ∙ ap (λ (z : Piece). site_count z.tree) piece_is ∙ sym h.many) (λ k c d is_c is_d. (
               let low = in_range m.work.sites k c is_c in
               numbered (λ k i u. A k i u × B k i u) Good (λ k i u z. λ c d is_c is_d. (
-                let e = some_is z.0.0 c (sym z.0.1 ∙ is_c) in
-                let f = some_is z.1.0 d (sym z.1.1 ∙ is_d) in
-                subst (λ (o : Site). AreAlikeSites o d) e (subst (λ (o : Site). AreAlikeSites z.0.0 o) f (site_alike i u z.0.0 z.1.0 z.0.2 z.1.2)))) 0 0 tree all k (omega arith) (omega (arith, low, many)) c d is_c is_d));
+              let e = some_is z.0.0 c (sym z.0.1 ∙ is_c) in
+              let f = some_is z.1.0 d (sym z.1.1 ∙ is_d) in
+              subst (λ (o : Site). AreAlikeSites o d) e (subst (λ (o : Site). AreAlikeSites z.0.0 o) f (site_alike i u z.0.0 z.1.0 z.0.2 z.1.2)))) 0 0 tree all k (omega arith) (omega (arith, low, many)) c d is_c is_d));
         }
 
   -- ---- the lanes of both cells
@@ -296,6 +298,6 @@ module _ (b : Blueprint) (is : IsBlueprint b) (p q : ℕ) (x y : CellPlan) (is_x
         subst (λ (k : ℕ). Paired AreAlikeLanes (take k (drop x.lanes.first all)) (take (suc (y.lanes.value - y.lanes.first)) (drop y.lanes.first all))) e
         (subst (λ (k : ℕ). Paired AreAlikeLanes (take n (drop x.lanes.first all)) (take k (drop y.lanes.first all))) f
         (paired_parts AreAlikeLanes all n x.lanes.first y.lanes.first (λ i j k lt a d. (
-          let l = lane_made b is counter made built p x is_x j (omega (arith, a)) (omega (arith, a, lt, u)) in
-          let m = lane_made b is counter made built q y is_y k (omega (arith, d)) (omega (arith, d, lt, v, size)) in
-          (lane_of l.0, lane_of m.0, get_mapped lane_of made j l.0 l.1, get_mapped lane_of made k m.0 m.1, lane_alike i (omega (arith, lt)) l.0 m.0 (ap (slice_get made) a ∙ l.1) (ap (slice_get made) d ∙ m.1))))))
+        let l = lane_made b is counter made built p x is_x j (omega (arith, a)) (omega (arith, a, lt, u)) in
+        let m = lane_made b is counter made built q y is_y k (omega (arith, d)) (omega (arith, d, lt, v, size)) in
+        (lane_of l.0, lane_of m.0, get_mapped lane_of made j l.0 l.1, get_mapped lane_of made k m.0 m.1, lane_alike i (omega (arith, lt)) l.0 m.0 (ap (slice_get made) a ∙ l.1) (ap (slice_get made) d ∙ m.1))))))

@@ -49,5 +49,6 @@ pub mod WithinCount
 pub mod HelperLaneOf
 pub mod AlikeLanes
 pub mod SortedCells
+pub mod OtherPlaces
 pub mod PortPlaces
 pub mod WholeProgram

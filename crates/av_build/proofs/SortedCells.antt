@@ -93,7 +93,7 @@ module _ (b : Blueprint) (is : IsBlueprint b) where
         let node : at.0.node ≡ u.node = sym (cell_node w p at.0 s.0 s.2 u.computes.cell u.computes.is_cell) ∙ u.computes.stands.node in
         let variable : view_variable at.0.var.now ≡ u.variable = some_is (view_variable at.0.var.now) u.variable (sym s.2.is_variable ∙ ap (slice_get (nodes (system_of w))) node ∙ u.is_variable) in
         let here : view_piece at.0.piece.now ≡ piece = some_is (view_piece at.0.piece.now) piece
-            (sym s.2.is_piece ∙ ap (λ (v : Variable). slice_get v.pieces at.0.number) variable ∙ ap (slice_get u.variable.pieces) at.2 ∙ u.is_piece) in
+        (sym s.2.is_piece ∙ ap (λ (v : Variable). slice_get v.pieces at.0.number) variable ∙ ap (slice_get u.variable.pieces) at.2 ∙ u.is_piece) in
         (i.0, at.0, at.1, at.2, here)
 
   -- ---- two cells
@@ -133,15 +133,15 @@ module _ (b : Blueprint) (is : IsBlueprint b) where
     same_numbers : (numbers x.pieces.spots ≡ numbers y.pieces.spots) → (c d : Cell) → slice_get (cells_of w) p ≡ Some c → slice_get (cells_of w) q ≡ Some d → c.node ≡ d.node → HaveSamePieces x.pieces.spots y.pieces.spots
     same_numbers e c d is_c is_d node = (
       (let a = length-map x.pieces.spots (λ (s : SpotMade). s.number) in
-      let f = length-map y.pieces.spots (λ (s : SpotMade). s.number) in
-      let size = ap (λ (l : List ℕ). length l) e in
-      omega (arith, a, f, size)),
+          let f = length-map y.pieces.spots (λ (s : SpotMade). s.number) in
+          let size = ap (λ (l : List ℕ). length l) e in
+          omega (arith, a, f, size)),
       (λ k at of is_at is_of. (
-        let s = on p x is_x k at is_at in
-        let t = on q y is_y k of is_of in (
-          sym (cell_node w p at s.0 s.2 c is_c) ∙ node ∙ cell_node w q of t.0 t.2 d is_d,
-          some_is at.number of.number (sym (get_mapped (λ (s : SpotMade). s.number) x.pieces.spots k at is_at) ∙ ap (λ (l : List ℕ). slice_get l k) e ∙ get_mapped (λ (s : SpotMade). s.number) y.pieces.spots k of is_of),
-        ))),
+          let s = on p x is_x k at is_at in
+          let t = on q y is_y k of is_of in (
+            sym (cell_node w p at s.0 s.2 c is_c) ∙ node ∙ cell_node w q of t.0 t.2 d is_d,
+            some_is at.number of.number (sym (get_mapped (λ (s : SpotMade). s.number) x.pieces.spots k at is_at) ∙ ap (λ (l : List ℕ). slice_get l k) e ∙ get_mapped (λ (s : SpotMade). s.number) y.pieces.spots k of is_of),
+          ))),
     )
 
   same_uses : (p q : ℕ) (x y : CellPlan) (is_x : slice_get b.cells p ≡ Some x) (is_y : slice_get b.cells q ≡ Some y) (c d : Cell) → slice_get (cells_of w) p ≡ Some c → slice_get (cells_of w) q ≡ Some d → c.node ≡ d.node
@@ -162,9 +162,9 @@ module _ (b : Blueprint) (is : IsBlueprint b) where
       let y = there_is b.cells q (omega (arith, high, many)) in
       let by = are.same p q j k x.0 y.0 x.1 y.1 is_j is_k in (
         (λ e. (
-          let same = by.0 e in (
-            node_same p q x.0 y.0 x.1 y.1 same c d is_c is_d,
-            λ n piece. (use_moved p q x.0 y.0 x.1 y.1 same n piece, use_moved q p y.0 x.0 y.1 x.1 (same_turned x.0.pieces.spots y.0.pieces.spots same) n piece),
-          ))),
+            let same = by.0 e in (
+              node_same p q x.0 y.0 x.1 y.1 same c d is_c is_d,
+              λ n piece. (use_moved p q x.0 y.0 x.1 y.1 same n piece, use_moved q p y.0 x.0 y.1 x.1 (same_turned x.0.pieces.spots y.0.pieces.spots same) n piece),
+            ))),
         (λ h. by.1 (same_uses p q x.0 y.0 x.1 y.1 c d is_c is_d h.0 h.1)),
       )

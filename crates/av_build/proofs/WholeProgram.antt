@@ -60,10 +60,10 @@ outputs_low b is =
     let n = length a.cells in
     let here : n ≡ length (cells_of w) = ap (λ (l : List Cell). length l) is.array.same_cells in
     all_by_place (λ (p : ℕ). p < length (cells_of w)) a.outputs (λ i p e. (
-      let listed = sym (ap (λ (l : List ℕ). slice_get l i) is.array.whole.list.outputs) ∙ e in
-      let place = place_of (is_output_cell (view_system w.timed.now.flat) a.cells) (range_with_len 0 n) i p listed in
-      let low = range_low 0 n place.0 p place.1 in
-      omega (arith, low, here)))
+    let listed = sym (ap (λ (l : List ℕ). slice_get l i) is.array.whole.list.outputs) ∙ e in
+    let place = place_of (is_output_cell (view_system w.timed.now.flat) a.cells) (range_with_len 0 n) i p listed in
+    let low = range_low 0 n place.0 p place.1 in
+    omega (arith, low, here)))
 
 -- ---- the lanes of one cell have different ranks
 
