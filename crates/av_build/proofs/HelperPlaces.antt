@@ -14,7 +14,7 @@ use Rattle.av_space.specs.declared.layout.Slot.{Slot}
 use Rattle.av_space.specs.declared.spots.Site.{Site as PlaceMade}
 use Rattle.av_space.specs.declared.spots.Spot.{Spot as SpotMade}
 use Rattle.av_space.specs.Sites.{place_of}
-use Rattle.av_space.specs.Spots.{system_of, helpers_of, IsArray, IsSpot, IsSlotIn, AreSlotsIn, IsSiteOf, handing_by}
+use Rattle.av_space.specs.Spots.{system_of, helpers_of, IsArray, IsSpot, IsSiteOf, handing_by}
 use Rattle.av_space.specs.Taps.{Handing, helper_at, Place, places_in}
 use Rattle.av_space.proofs.Elements.{at_index, in_range}
 use Rattle.av_space.proofs.Helpers.{found_helper}
@@ -29,7 +29,7 @@ use Rattle.av_build.specs.inner.Sources.{AreHandMomentsTo}
 use Rattle.av_build.proofs.Appended.{get_right}
 use Rattle.av_build.proofs.HelpersOn.{IsFromPlace}
 use Rattle.av_build.proofs.MomentLemmas.{AreSpotSlots}
-use Rattle.av_build.proofs.SpotNodes.{node_of}
+use Rattle.av_build.proofs.SpotNodes.{node_of, spot_slots}
 
 -- a place with a helper is a reference
 pub record IsReference (p : Place) : Type 0 where
@@ -52,7 +52,7 @@ by_tree hs own p (reduction o m u set) h e f = absurd cc
 -- ---- the place of a reference
 
 -- of each reference there is a place with its number, counted from n on
-abbrev Tells : ℕ → ℕ → List Place → List Reference → Type 0
+abbrev pub Tells : ℕ → ℕ → List Place → List Reference → Type 0
 Tells k n ps rs = (i : ℕ) (r : Reference) → slice_get rs i ≡ Some r → (j : ℕ) × (slice_get ps j ≡ Some (record { piece = k; site = n + i; tree = reference r.place r.map }))
 
 both_told : (k n m : ℕ) (ps qs : List Place) (rs more : List Reference) → m ≡ n + length rs → Tells k n ps rs → Tells k m qs more → Tells k n (ps ++ qs) (rs ++ more)
@@ -73,7 +73,7 @@ one k n place m zero r e =
     (0, ap (λ (x : ℕ). Some (record { piece = k; site = x; tree = reference place m })) a ∙ ap (λ (x : Reference). Some (record { piece = k; site = n + 0; tree = reference x.place x.map })) same)
 one k n place m (suc i) r e = absurd cc
 
-told : (k n : ℕ) (t : Tree) → Tells k n (places_in k n t) (references t)
+pub told : (k n : ℕ) (t : Tree) → Tells k n (places_in k n t) (references t)
 told k n (reference place m) = λ i r e. one k n place m i r e
 told k n (binary g l r) = both_told k n (n + length (references l)) (places_in k n l) (places_in k (n + length (references l)) r) (references l) (references r) refl (told k n l) (told k (n + length (references l)) r)
 told k n (choice l c r x y) =
@@ -170,7 +170,7 @@ module _ (w : ArrayMade) (is : IsArray w) (p : ℕ) (pieces : Pieces) (are : Are
     same : e.helper ≡ other
     same = some_is e.helper other (sym e.helps.is_helper ∙ it.is_helper)
 
-    variable_is : view_variable at.var.now ≡ v
+    pub variable_is : view_variable at.var.now ≡ v
     variable_is = some_is (view_variable at.var.now) v (sym e.helps.is_variable ∙ ap (λ (k : Helper). slice_get s.variables k.var) same ∙ it.is_variable)
 
     piece_is : view_piece at.piece.now ≡ piece
@@ -209,10 +209,4 @@ module _ (w : ArrayMade) (is : IsArray w) (p : ℕ) (pieces : Pieces) (are : Are
 
     -- and so are its computations
     pub slots_are : AreSpotSlots (seen w) (helper_spot (seen w) other v piece p) at.slots
-    slots_are = subst (λ (x : Spot). AreSpotSlots (seen w) x at.slots) spot_is (record {
-      each = λ k slot found. (let t = at_index (IsSlotIn w at.cell at.node at.piece.now.domain) at.slots own.each k slot found in (t.computes, t.within));
-      all = own.all;
-    })
-      where
-        own : AreSlotsIn w at.cell at.node at.piece.now.domain at.slots
-        own = (spot_at h.piece at e.is_spot).2.are_slots
+    slots_are = subst (λ (x : Spot). AreSpotSlots (seen w) x at.slots) spot_is (spot_slots w at (spot_at h.piece at e.is_spot).2)

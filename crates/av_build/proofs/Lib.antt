@@ -25,6 +25,15 @@ pub mod SortingSteps
 pub mod ValueLanes
 pub mod PlaceNumbers
 pub mod HelpersApart
+pub mod SeenArray
+pub mod Handovers
+pub mod HandPushes
+pub mod SpotsOn
+pub mod ValueSites
+pub mod PieceWorks
+pub mod ValueModes
+pub mod PlansOn
+pub mod HelperModes
 pub mod ProgramFor
 pub mod Performed
 pub mod Lengths
@@ -45,3 +54,9 @@ pub mod ListedLines
 pub mod ValueWidths
 pub mod WithinCount
 pub mod Promised
+pub mod HelperLaneOf
+pub mod AlikeLanes
+pub mod SortedCells
+pub mod OtherPlaces
+pub mod PortPlaces
+pub mod WholeProgram
