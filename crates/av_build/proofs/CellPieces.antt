@@ -1,5 +1,5 @@
 -- The lanes of a cell have the operators of the pieces with a computation there, and no more.
-use Rattle.std.proofs.Common.{◌≡◌, ◌≢◌, ℕ, zero, suc, ◌+◌, ◌-◌, ◌<◌, ◌≤◌, Some, List, [], ◌∷◌, length, map, take, get_or, refl, sym, subst, arith, ◌∙◌, ap, true, IsTrue}
+use Rattle.std.proofs.Common.{◌≡◌, ◌≢◌, ℕ, zero, suc, ◌+◌, ◌-◌, ◌<◌, ◌≤◌, Some, List, [], ◌∷◌, length, map, take, get_or, refl, sym, subst, arith, ◌∙◌, ap, IsTrue}
 use Rattle.std.specs.Prelude.{Contains, slice_get, sum, nat_lt}
 use Rattle.std.proofs.lemmas.List.{length-map}
 use Rattle.std.proofs.lemmas.List.Sums.{sum_by-cons}
@@ -8,7 +8,7 @@ use Rattle.av_base.proofs.Among.{among_at}
 use Rattle.av_base.proofs.Lists.{some_is, there_is}
 use Rattle.av_base.proofs.Truths.{both}
 use Rattle.av_tree.specs.Points.{Point}
-use Rattle.av_flat.specs.Trees.{Tree, Piece, Variable}
+use Rattle.av_flat.specs.Trees.{Piece, Variable}
 use Rattle.av_flat.specs.Points.{has}
 use Rattle.av_flat.specs.Signatures.{is_computed}
 use Rattle.av_flat.specs.Nodes.{is_node, nodes}
@@ -16,14 +16,13 @@ use Rattle.av_space.specs.declared.cells.Cell.{Cell}
 use Rattle.av_space.specs.Quantities.{IsUse}
 use Rattle.av_space.proofs.ByPlace.{from_map, pairs_by_place}
 use Rattle.av_space.proofs.Nodes.{passing}
-use Rattle.av_kinds.specs.declared.program.CellLanes.{CellLanes}
 use Rattle.av_kinds.specs.Programs.{Work, Mode, Lane, Program, lanes_of, IsProgram, is_active}
 use Rattle.av_kinds.specs.Sorts.{Sort, operators, lanes_operators}
 use Rattle.av_kinds.proofs.TopInstances.{in_cell, cell_within}
 use Rattle.av_history.specs.Arranged.{IsArranged}
-use Rattle.av_history.specs.Performing.{Array, ComputesOn, Lanes, Spot}
+use Rattle.av_history.specs.Performing.{Array, ComputesOn, Lanes}
 use Rattle.av_build.specs.ArrayForm.{ArePiecesOn}
-use Rattle.av_build.specs.inner.Programmed.{IsModeFor, IsWorkFor, IsLaneFor, of_value, of_helper, IsProgramFor}
+use Rattle.av_build.specs.inner.Programmed.{IsLaneFor, of_value, of_helper, IsProgramFor}
 use Rattle.av_build.proofs.CellValues.{HasValue}
 
 -- ---- numbers of pieces
@@ -70,8 +69,13 @@ same_operators k v none (m ∷ modes) (n ∷ ks) h =
     let here : operators k m.work.tree ≡ operators k (piece_at v none n).tree = ap (operators k) r.tree ∙ ap (λ (q : Piece). operators k q.tree) (sym piece) in
     let later = same_operators k v none modes ks (λ i t e. (let o = h (suc i) t e in record { number = o.number; piece = o.piece; at = o.at; is_piece = o.is_piece; tree = o.tree })) in
     let pieces = map (piece_at v none) (take (length modes) ks) in
-    omega (arith, here, later, sum_by-cons (λ x. x) (operators k m.work.tree) (map (λ (o : Mode). operators k o.work.tree) modes),
-    sum_by-cons (λ x. x) (operators k (piece_at v none n).tree) (map (λ (q : Piece). operators k q.tree) pieces))
+    omega (
+      arith,
+      here,
+      later,
+      sum_by-cons (λ x. x) (operators k m.work.tree) (map (λ (o : Mode). operators k o.work.tree) modes),
+      sum_by-cons (λ x. x) (operators k (piece_at v none n).tree) (map (λ (q : Piece). operators k q.tree) pieces),
+    )
 
 lanes_more : (k : Sort) (lane : Lane) (lanes : List Lane) → lanes_operators k (lane ∷ lanes) ≡ modes_operators k lane.modes + lanes_operators k lanes
 lanes_more k lane lanes = sum_by-cons (λ x. x) (modes_operators k lane.modes) (map (λ (l : Lane). modes_operators k l.modes) lanes)
@@ -95,7 +99,7 @@ module _ (a : Array) (count : ℕ → ℕ) (lanes : Lanes) (program : Program) (
   v = h.variable
 
   -- the piece that holds the point of the cell's computation
-  some_piece : (k : ℕ) × (piece : Piece) × (slice_get v.pieces k ≡ Some piece) × IsTrue (has piece.domain h.point)
+  pub some_piece : (k : ℕ) × (piece : Piece) × (slice_get v.pieces k ≡ Some piece) × IsTrue (has piece.domain h.point)
   some_piece =
       let own = passing is_node a.system.variables h.node v h.is_variable in
       let computation = h.computes.stands.computation in

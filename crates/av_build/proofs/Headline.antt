@@ -1,5 +1,5 @@
 -- The plan of an array: its listing on its ports, one solution for every input, which can be presented, and which the plan shows.
-use Rattle.std.proofs.Common.{◌≡◌, ℕ, zero, suc, ◌+◌, ◌*◌, ◌<◌, List, [], ◌∷◌, length, map, refl, sym, ap, subst, ◌∙◌, arith, All, Option, Some}
+use Rattle.std.proofs.Common.{◌≡◌, ℕ, ◌+◌, ◌*◌, ◌<◌, List, [], ◌∷◌, length, map, refl, sym, ap, subst, ◌∙◌, arith, All, Option, Some}
 use Rattle.std.specs.Prelude.{None, slice_get}
 use Rattle.std.specs.List.{AllByRecursion, range_with_len}
 use Rattle.std.proofs.lemmas.List.{length-map}
@@ -22,7 +22,6 @@ use Rattle.av_net.specs.declared.plan.Plan.{Plan}
 use Rattle.av_net.specs.Flat.{flat_of}
 use Rattle.av_net.specs.Shown.{Shows}
 use Rattle.av_space.specs.declared.cells.Cells.{Cells}
-use Rattle.av_space.specs.declared.cells.InPort.{InPort}
 use Rattle.av_space.specs.Taps.{node_place}
 use Rattle.av_space.specs.Listings.{input_name, output_name}
 use Rattle.av_space.specs.Ports.{IsPort}
@@ -58,7 +57,7 @@ widths_of : (name : ℕ → List ℕ) (m k : ℕ) (ws : List Width) → AllByRec
 widths_of name m k [] h = tt
 widths_of name m k (w ∷ ws) h = (h.0, widths_of name m (k + 1) ws h.1)
 
-ports_are : (name : ℕ → List ℕ) (number m : ℕ) (ws : List Width) (ports : List Port) → ports ≡ numbered_ports name 0 ws → length ws ≡ number → AllByRecursion (λ (w : Width). w.bits ≡ m) ws → ArePortsOf name number m ports
+pub ports_are : (name : ℕ → List ℕ) (number m : ℕ) (ws : List Width) (ports : List Port) → ports ≡ numbered_ports name 0 ws → length ws ≡ number → AllByRecursion (λ (w : Width). w.bits ≡ m) ws → ArePortsOf name number m ports
 ports_are name number m ws ports are size each = record {
   names = ap (λ (l : List Port). map (λ (p : Port). p.name) l) are ∙ names_of name 0 ws ∙ ap (λ n. map name (range_with_len 0 n)) size;
   widths = subst (λ (l : List Port). All (λ (p : Port). p.width.bits ≡ m) l) (sym are) (All-from_recursion (λ (p : Port). p.width.bits ≡ m) (numbered_ports name 0 ws) (widths_of name m 0 ws each));
@@ -73,7 +72,7 @@ module _ (t : Timed) (a : Cells) (legal : IsLegal t) (counter : Counter) (progra
   one_width place v is =
       (All-contains (IsChainedVariable (view_system t.flat)) (view_system t.flat).variables v legal.chained.each (among_at (view_system t.flat).variables place v is)).width
 
-  input_width : (k : ℕ) (w : Width) → slice_get program.inputs k ≡ Some w → w.bits ≡ (view_system t.flat).width
+  pub input_width : (k : ℕ) (w : Width) → slice_get program.inputs k ≡ Some w → w.bits ≡ (view_system t.flat).width
   input_width k w is =
       let size = g.ports.one_each in
       let low = in_range program.inputs k w is in
@@ -114,11 +113,11 @@ module _ (t : Timed) (a : Cells) (legal : IsLegal t) (counter : Counter) (progra
       let low : y.0 < length a.cells = output_within (view_system t.flat) a.cells i y.0 (sym (ap (λ (ps : List ℕ). slice_get ps i) g.whole.list.outputs) ∙ y.1) in
       ap (λ (v : Width). v.bits) (sym x.2) ∙ ap (λ (q : ℕ). (width_in (slice_get program.lanes q)).bits) (sym y.2) ∙ value_width y.0 low
 
-  outputs_wide : AllByRecursion (λ (w : Width). w.bits ≡ (view_system t.flat).width) (output_widths program)
+  pub outputs_wide : AllByRecursion (λ (w : Width). w.bits ≡ (view_system t.flat).width) (output_widths program)
   outputs_wide = each_by_place (λ (w : Width). w.bits ≡ (view_system t.flat).width) (output_widths program) output_width
 
   -- the listing, on its ports
-  pub carries : HasWholeListing t a (flat_of plan)
+  abbrev pub carries : HasWholeListing t a (flat_of plan)
   carries = record {
     whole = g.whole;
     listing = refl;

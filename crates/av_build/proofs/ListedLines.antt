@@ -1,5 +1,5 @@
 -- The lines of an array's listing may be listed at the ports and wires of its program's modules.
-use Rattle.std.proofs.Common.{◌≡◌, ℕ, ◌+◌, ◌≤◌, ◌<◌, Bool, true, false, not, IsTrue, List, length, map, Some, refl, sym, subst, arith, ap, ◌∙◌, inl, inr}
+use Rattle.std.proofs.Common.{◌≡◌, ℕ, ◌+◌, ◌≤◌, ◌<◌, Bool, true, false, not, IsTrue, List, length, Some, refl, sym, subst, arith, ap, ◌∙◌, inl, inr}
 use Rattle.std.specs.Prelude.{All, Contains, slice_get, nat_abs}
 use Rattle.std.proofs.lemmas.List.{length-map}
 use Rattle.std.proofs.lemmas.List.Elements.{Contains-append_left, Contains-append_right}
@@ -33,7 +33,6 @@ use Rattle.av_space.proofs.Elements.{in_range}
 use Rattle.av_space.proofs.Nodes.{chained_variable, small_of, passing}
 use Rattle.av_kinds.specs.declared.counter.Counter.{Counter}
 use Rattle.av_kinds.specs.declared.planning.Modules.{Modules}
-use Rattle.av_kinds.specs.Counters.{count_in}
 use Rattle.av_kinds.specs.Names.{Naming, input_name, output_name, value_name, labels}
 use Rattle.av_kinds.specs.Programs.{Lane, Program}
 use Rattle.av_kinds.specs.Tops.{port, numbered_ports, output_widths, width_in}

@@ -1,5 +1,5 @@
 -- The flat module of the program of an array is in array form, and its cells read registers of those cells alone that they are linked to.
-use Rattle.std.proofs.Common.{◌≡◌, ◌≢◌, ℕ, zero, suc, ◌<◌, ◌⊎◌, inl, inr, List, map, length, sym, arith, ◌∙◌, ap, Some}
+use Rattle.std.proofs.Common.{◌≡◌, ℕ, zero, suc, ◌<◌, ◌⊎◌, inl, inr, List, map, length, sym, arith, ◌∙◌, ap, Some}
 use Rattle.std.specs.Prelude.{All, Contains, slice_get}
 use Rattle.std.proofs.lemmas.List.Elements.{All-weaker}
 use Rattle.av_base.proofs.Lists.{some_is, get_mapped}
@@ -11,7 +11,6 @@ use Rattle.av_net.specs.declared.netlist.Drive.{Drive}
 use Rattle.av_net.specs.declared.netlist.Step.{Step}
 use Rattle.av_net.specs.declared.netlist.Module.{Module}
 use Rattle.av_net.specs.Rows.{operands_of}
-use Rattle.av_space.specs.declared.cells.Link.{Link as LinkMade}
 use Rattle.av_space.specs.Occupancy.{AreCells}
 use Rattle.av_space.specs.Ports.{output_cells}
 use Rattle.av_kinds.specs.declared.counter.Counter.{Counter}

@@ -1,5 +1,5 @@
 -- The flat design of an array's plan shows each solution for the inputs, some times as many cycles later as the counter has numbers.
-use Rattle.std.proofs.Common.{◌≡◌, ℕ, zero, suc, ◌+◌, ◌*◌, ◌<◌, List, [], ◌∷◌, map, length, refl, sym, ap, subst, ◌∙◌, arith, Option, Some}
+use Rattle.std.proofs.Common.{◌≡◌, ℕ, zero, suc, ◌+◌, ◌*◌, ◌<◌, List, [], ◌∷◌, map, length, sym, ap, subst, ◌∙◌, arith, Option, Some}
 use Rattle.std.specs.Prelude.{All, Contains, slice_get}
 use Rattle.std.proofs.lemmas.List.Elements.{All-contains, All-from_recursion, recursion_from_All, All-map}
 use Rattle.av_base.specs.declared.width.Width.{Width}
@@ -23,7 +23,7 @@ use Rattle.av_space.proofs.Elements.{in_range}
 use Rattle.av_space.proofs.Nodes.{passing}
 use Rattle.av_kinds.specs.declared.counter.Counter.{Counter}
 use Rattle.av_kinds.specs.declared.planning.Modules.{Modules}
-use Rattle.av_kinds.specs.Programs.{Lane, Program}
+use Rattle.av_kinds.specs.Programs.{Program}
 use Rattle.av_kinds.specs.Histories.{Signals, tasks_of}
 use Rattle.av_kinds.specs.Counters.{count_in}
 use Rattle.av_kinds.specs.Names.{Naming, input_name, labels}

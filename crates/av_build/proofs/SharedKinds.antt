@@ -1,19 +1,17 @@
 -- In the plan of an array each cell has an instance of its own, and cells of one signature have instances of one kind.
-use Rattle.std.proofs.Common.{◌≡◌, ℕ, ◌<◌, List, length, sym, subst, arith, ◌∙◌, ap, Some}
+use Rattle.std.proofs.Common.{◌≡◌, ℕ, ◌<◌, length, sym, arith, ◌∙◌, ap, Some}
 use Rattle.std.specs.Prelude.{All, Contains, slice_get}
 use Rattle.av_base.proofs.Lists.{some_is, there_is, place_in}
 use Rattle.av_base.proofs.Among.{among_at}
 use Rattle.av_net.specs.declared.design.Listing.{Listing}
 use Rattle.av_net.specs.declared.plan.Instance.{Instance}
-use Rattle.av_space.specs.declared.cells.Cell.{Cell}
 use Rattle.av_space.proofs.ByPlace.{all_by_place}
 use Rattle.av_space.proofs.Elements.{in_range}
 use Rattle.av_kinds.specs.declared.counter.Counter.{Counter}
 use Rattle.av_kinds.specs.declared.planning.Modules.{Modules}
-use Rattle.av_kinds.specs.declared.program.CellLanes.{CellLanes}
 use Rattle.av_kinds.specs.Names.{instance_name}
 use Rattle.av_kinds.specs.Programs.{Program, IsProgram}
-use Rattle.av_kinds.specs.Netlists.{plan_of, HasInstance, AreNetlistsOf}
+use Rattle.av_kinds.specs.Netlists.{plan_of, AreNetlistsOf}
 use Rattle.av_kinds.specs.Forms.{HaveOwnInstances}
 use Rattle.av_history.specs.Performing.{Array}
 use Rattle.av_build.specs.Shared.{HaveOneSignature, IsShared}

@@ -1,8 +1,7 @@
 -- What the places of a cell take is of the cell: a number, a port of it, a pipeline of it in the same cycle, or a lane of a cell that it is
 -- linked to.
-use Rattle.std.proofs.Common.{◌≡◌, ◌⊎◌, ℕ, zero, suc, ◌<◌, ◌≤◌, List, [], ◌∷◌, length, refl, sym, subst, arith, ◌∙◌, ap, true, IsTrue, Option, Some, None, inl, inr}
+use Rattle.std.proofs.Common.{◌≡◌, ◌⊎◌, ℕ, zero, suc, List, [], ◌∷◌, length, refl, sym, subst, arith, ◌∙◌, ap, true, IsTrue, Option, Some, None, inl, inr}
 use Rattle.std.specs.Prelude.{Contains, slice_get}
-use Rattle.std.specs.List.{AllByRecursion}
 use Rattle.av_base.proofs.Lists.{some_is, each_at}
 use Rattle.av_affine.specs.declared.map.Map.{Map}
 use Rattle.av_affine.specs.Maps.{image}
@@ -20,12 +19,11 @@ use Rattle.av_space.specs.declared.cells.Link.{Link as LinkMade}
 use Rattle.av_space.specs.Taps.{Way, Handing, each, entries, handed, IsTapRead}
 use Rattle.av_space.proofs.Elements.{in_range}
 use Rattle.av_space.proofs.NodePlaces.{node_at}
-use Rattle.av_space.proofs.Nodes.{passing}
 use Rattle.av_kinds.specs.declared.program.Source.{Source}
 use Rattle.av_kinds.specs.declared.program.Source.TheVariants.{Word, Input, Line}
 use Rattle.av_kinds.specs.declared.program.Link.{Link}
 use Rattle.av_kinds.specs.declared.program.Site.{Site}
-use Rattle.av_kinds.specs.Programs.{site_count, Work, Mode, Lane, Program, IsProgram}
+use Rattle.av_kinds.specs.Programs.{Work, Mode, Lane, Program, IsProgram}
 use Rattle.av_kinds.specs.Forms.{IsSourceOf, Takes}
 use Rattle.av_kinds.proofs.RunShown.{cell_of}
 use Rattle.av_history.specs.Performing.{Array, ComputesOn, Lanes, Spot, IsLinked, IsReferenceSource, by_port, by_link, IsHandSource, IsHelpedSource, IsPickSource, IsPlaceSource, handing_at, IsHelper, helper_spot}

@@ -1,9 +1,9 @@
 -- In the flat module of an array's plan each value wire is as wide as the words of its cell's variable.
-use Rattle.std.proofs.Common.{◌≡◌, ℕ, ◌<◌, List, sym, ap, ◌∙◌, Some}
+use Rattle.std.proofs.Common.{◌≡◌, ℕ, sym, ap, ◌∙◌, Some}
 use Rattle.std.specs.Prelude.{Contains, slice_get}
-use Rattle.std.proofs.lemmas.List.Elements.{All-from_recursion, recursion_from_All, All-contains, Contains-append_left}
+use Rattle.std.proofs.lemmas.List.Elements.{All-from_recursion, All-contains, Contains-append_left}
 use Rattle.std.specs.List.{flat_map}
-use Rattle.av_base.proofs.Lists.{some_is, each_by_place, each_at}
+use Rattle.av_base.proofs.Lists.{some_is, each_by_place}
 use Rattle.av_base.proofs.Among.{among_at}
 use Rattle.av_flat.specs.declared.timed.Timed.{Timed}
 use Rattle.av_flat.specs.Trees.{Variable, view_system}
