@@ -1,8 +1,7 @@
 -- The plan of the modules of an array's program is what is promised of plans of arrays.
-use Rattle.std.proofs.Common.{◌≡◌, ℕ, List, map, sym, ap, subst, ◌∙◌}
+use Rattle.std.proofs.Common.{◌≡◌, ℕ, List, map, ap, ◌∙◌}
 use Rattle.av_flat.specs.declared.timed.Timed.{Timed}
 use Rattle.av_flat.specs.Legal.{IsLegal}
-use Rattle.av_net.specs.declared.design.Listing.{Listing}
 use Rattle.av_net.specs.declared.plan.Plan.{Plan}
 use Rattle.av_net.specs.Designs.{IsSoundPlan}
 use Rattle.av_net.specs.Flat.{flat_module}
@@ -54,9 +53,5 @@ module _ (t : Timed) (a : Cells) (legal : IsLegal t) (within : (f : SpaceFault) 
     shared = shared own counter program g.is_program g.is_program_for.one_each g.sorted m netlists formed.instances a.listing;
   }
 
-  own_plan : IsCountingPlan t a counter plan
-  own_plan = record { is_plan = is_plan; shows = shown t a legal counter program g m netlists }
-
-  -- also with a copy of the listing
-  pub counting_plan : (l : Listing) → l ≡ a.listing → IsCountingPlan t a counter (plan_of l m)
-  counting_plan l same = subst (λ (x : Listing). IsCountingPlan t a counter (plan_of x m)) (sym same) own_plan
+  pub counting_plan : IsCountingPlan t a counter plan
+  counting_plan = record { is_plan = is_plan; shows = shown t a legal counter program g m netlists }
