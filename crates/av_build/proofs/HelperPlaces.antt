@@ -52,7 +52,7 @@ by_tree hs own p (reduction o m u set) h e f = absurd cc
 -- ---- the place of a reference
 
 -- of each reference there is a place with its number, counted from n on
-abbrev Tells : ℕ → ℕ → List Place → List Reference → Type 0
+abbrev pub Tells : ℕ → ℕ → List Place → List Reference → Type 0
 Tells k n ps rs = (i : ℕ) (r : Reference) → slice_get rs i ≡ Some r → (j : ℕ) × (slice_get ps j ≡ Some (record { piece = k; site = n + i; tree = reference r.place r.map }))
 
 both_told : (k n m : ℕ) (ps qs : List Place) (rs more : List Reference) → m ≡ n + length rs → Tells k n ps rs → Tells k m qs more → Tells k n (ps ++ qs) (rs ++ more)
@@ -73,7 +73,7 @@ one k n place m zero r e =
     (0, ap (λ (x : ℕ). Some (record { piece = k; site = x; tree = reference place m })) a ∙ ap (λ (x : Reference). Some (record { piece = k; site = n + 0; tree = reference x.place x.map })) same)
 one k n place m (suc i) r e = absurd cc
 
-told : (k n : ℕ) (t : Tree) → Tells k n (places_in k n t) (references t)
+pub told : (k n : ℕ) (t : Tree) → Tells k n (places_in k n t) (references t)
 told k n (reference place m) = λ i r e. one k n place m i r e
 told k n (binary g l r) = both_told k n (n + length (references l)) (places_in k n l) (places_in k (n + length (references l)) r) (references l) (references r) refl (told k n l) (told k (n + length (references l)) r)
 told k n (choice l c r x y) =
