@@ -1,4 +1,5 @@
 ghost use Rattle.std.specs.Prelude.{◌≡◌, IfOk};
+ghost use Rattle.av_flat.specs.Legal.{IsLegal};
 ghost use Rattle.av_space.specs.declared.fault.SpaceFault.{SpaceFault as Fault};
 ghost use Rattle.av_space.specs.declared.fault.SpaceFault.TheVariants as fault;
 ghost use Rattle.av_space.specs.SpaceFaults.{IsSpaceFault};
@@ -28,6 +29,8 @@ pub fn build_counting(
     cells: &Cells,
     counter: Counter,
 ) -> Result<Plan, Memory>
+    requires legal { IsLegal timed.now }
+
     // The cells are those that the mapping gives for the system.
     requires whole { IsWhole timed.now cells.now }
     requires within { (f : Fault) → IsSpaceFault timed.now f → f ≡ fault.Memory }
@@ -48,6 +51,8 @@ pub fn build_counting(
 
 /// The plan of an array that counts cycles, as `build_counting` makes it. Its flat design shows the solution for every input.
 pub fn build(alloc: Global, timed: &Timed, cells: &Cells) -> Result<Plan, Memory>
+    requires legal { IsLegal timed.now }
+
     // The cells are those that the mapping gives for the system.
     requires whole { IsWhole timed.now cells.now }
     requires within { (f : Fault) → IsSpaceFault timed.now f → f ≡ fault.Memory }
