@@ -33,6 +33,7 @@ pub mod ValueSites
 pub mod PieceWorks
 pub mod ValueModes
 pub mod PlansOn
+pub mod CellPieces
 pub mod HelperModes
 pub mod ProgramFor
 pub mod Performed

@@ -120,7 +120,7 @@ module _ (cells : List CellPlan) (firsts kinds : List ℕ) (n : ℕ) (h : AreKin
 pub kinds_are : (cells : List CellPlan) (firsts kinds : List ℕ) (n : ℕ) → n ≡ length cells → AreKindsTo cells firsts kinds n → AreKindsOf cells kinds
 kinds_are cells firsts kinds n end h = record {
   one_each = h.one_each ∙ end;
-  same = λ p q j k x y is_j is_k is_x is_y. (both p q j k x y is_x is_y is_j is_k);
+  same = λ p q j k x y is_x is_y is_j is_k. (both p q j k x y is_x is_y is_j is_k);
   numbered = λ p k j is_k lt.
       let size = h.one_each in
       let x = there_is cells p (let r = in_range kinds p k is_k in omega (arith, r, size, end)) in

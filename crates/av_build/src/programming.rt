@@ -234,6 +234,9 @@ fn from_blueprint<'a>(
     let own = blueprint.cell_lanes(alloc)?;
     let kinds = kinds_of(alloc, blueprint.cells.as_slice())?;
     let outputs = blueprint.values(alloc, cells.outputs.as_slice())?;
+    prove!(inputs.len() <= 1 << 30);
+    prove!(own.len() <= 1 << 30);
+    prove!(outputs.len() <= 1 << 30);
     Ok(Program {
         inputs,
         lanes,
@@ -258,6 +261,7 @@ pub(crate) fn program<'a>(
     requires apart { IsWithinCount timed.now cells.now counter }
     ensures { IfOk result (λ program. IsProgrammed timed.now cells.now counter (program_of program)) }
 {
+    prove!(timed.helpers.len() <= 1 << 30);
     let array = Array::new(alloc, timed, cells)?;
     let blueprint = plan_lanes(alloc, array, cells.cells.as_slice().len())?;
     from_blueprint(alloc, timed, cells, counter, &blueprint)
