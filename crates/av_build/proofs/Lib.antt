@@ -33,6 +33,7 @@ pub mod ValueSites
 pub mod PieceWorks
 pub mod ValueModes
 pub mod PlansOn
+pub mod PlacesOn
 pub mod CellPieces
 pub mod HelperModes
 pub mod ProgramFor

@@ -1,8 +1,7 @@
-use Rattle.std.proofs.Common.{◌∙◌, ◌<◌, List, length, map, refl, sym, ap, subst, arith, None}
+use Rattle.std.proofs.Common.{◌≡◌, ◌<◌, List, length, map, refl, ap, arith, rules}
 use Rattle.std.proofs.lemmas.List.{length-map}
 use Rattle.av_space.specs.declared.spots.Spot.{Spot}
-use Rattle.av_kinds.specs.Written.{ModeMade, mode_of, lane_of}
-use Rattle.av_build.specs.inner.Lanes.{IsBuiltBy}
+use Rattle.av_kinds.specs.Written.{mode_of, lane_of}
 use Rattle.av_build.proofs.CellPieces.{plan_at, spots_are, piece_at}
 use Rattle.av_build.proofs.CellUses.{some_spot}
 use Rattle.av_build.proofs.SeenArray.{arranged_seen, one_seen}
@@ -12,6 +11,21 @@ use Rattle.av_build.proofs.blueprint.Blueprint.value.Goals as goal
 
 pub bounds-spots-0 : goal.bounds-spots-0
 bounds-spots-0 c =
+    let b = c.args.self.now in
+    let is = c.requires.blueprint in
+    let p = c.args.cell in
+    let cells = c.as_slice.result.now in
+    let plan = c.index-as_slice-cell.result in
+    let many = is.plans.one_each in
+    let cell = c.requires.cell in
+    let low : p < length b.cells = omega (arith, many, cell) in
+    let here = plan_at b is p low cells plan c.as_slice.ensures c.index-as_slice-cell.is in
+    let some = some_spot b.array is.array p c.requires.cell plan.pieces.spots (is.plans.pieces p plan here).spots in
+    let same = ap (λ (l : List Spot). length l) (spots_are b is p low cells plan c.as_slice.ensures c.index-as_slice-cell.is c.as_slice-spots.result.now c.as_slice-spots.ensures) in
+    omega (arith, some, same)
+
+pub bounds-spots-0-2 : goal.bounds-spots-0-2
+bounds-spots-0-2 c =
     let b = c.args.self.now in
     let is = c.requires.blueprint in
     let p = c.args.cell in
@@ -39,8 +53,8 @@ value_mode-requires-clause-piece c =
     let test = c.loop-number-test.true in
     (plan, plan_at b is p low cells plan c.as_slice.ensures c.index-as_slice-cell.is, omega (arith, test, same))
 
-pub loop-number-starts : goal.loop-number-starts
-loop-number-starts c = no_modes c.args.self.now c.args.counter c.args.cell
+pub loop-number-init : goal.loop-number-init
+loop-number-init c = no_modes c.args.self.now c.args.counter c.args.cell
 
 pub loop-number-preserved : goal.loop-number-preserved
 loop-number-preserved c = mode_more c.args.self.now c.args.counter c.args.cell c.loop-number.number c.loop-number.modes c.push.new.self c.in_ok-value_mode.field-0 c.loop-number.invariant c.in_ok-value_mode.ensures c.in_ok-push.ensures.ok
