@@ -19,7 +19,7 @@ loop-site-preserved c =
     let h = c.in-Some.handing in
     let number = ap (λ (h : Handing). h.number) c.handing.view_is in
     some_step c.args.piece c.loop-site.site c.loop-site.helpers (c.args.helpers.now ++ site_helpers c.args.piece 0 sites) c.push.new.self sites c.index-sites-site.result h c.loop-site-test.true c.in-Some.is c.loop-site.invariant
-    (c.in_ok-push.ensures.ok ∙ ap (λ j. c.loop-site.helpers ++ record { number = j; piece = c.args.piece; site = c.loop-site.site } ∷ []) (sym number))
+    (c.in_ok-push.ensures.ok ∙ ap (λ j. c.loop-site.helpers ++ record { number = j; piece = c.args.piece; site = c.loop-site.site } ∷ []) number)
 
 pub returns : goal.returns
 returns c = λ own is.

@@ -1,4 +1,4 @@
-use Rattle.std.proofs.Common.{sym, subst}
+use Rattle.std.proofs.Common.{[], sym, subst}
 use Rattle.av_build.specs.inner.Blueprints.{AreCellPlans}
 use Rattle.av_build.proofs.BlueprintSteps.{no_cells, cell_step}
 use Rattle.av_build.proofs.blueprint.cell_plans.Goals as goal

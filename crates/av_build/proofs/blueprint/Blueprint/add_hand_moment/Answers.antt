@@ -1,4 +1,4 @@
-use Rattle.std.proofs.Common.{◌≡◌, ◌∙◌, ℕ, Option, Some, None, false, true, refl, sym, ap, subst, IsTrue}
+use Rattle.std.proofs.Common.{◌≡◌, ◌∙◌, Option, false, true, refl, sym, ap, subst, IsTrue}
 use Rattle.std.specs.Prelude.{MatchOption, not, is_some}
 use Rattle.std.proofs.lemmas.Result.{on_ok_weaker}
 use Rattle.av_flat.specs.Helped.{before}
@@ -8,7 +8,6 @@ use Rattle.av_space.specs.declared.stretch.Reading.{Reading}
 use Rattle.av_space.specs.Sites.{place_of}
 use Rattle.av_space.specs.Spots.{IsLinkedBy, handed_tap}
 use Rattle.av_space.specs.Taps.{Handing, IsReadAt}
-use Rattle.av_kinds.specs.declared.program.Source.TheVariants.{Line}
 use Rattle.av_build.specs.inner.Blueprints.{seen, spot_of, lanes_of}
 use Rattle.av_build.proofs.HandPushes.{handed_added, entry_added}
 use Rattle.av_build.proofs.Handovers.{helper_of_producer}

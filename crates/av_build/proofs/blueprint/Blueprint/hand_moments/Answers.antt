@@ -15,7 +15,8 @@ loop-k-init c =
     let b = c.args.self.now in
     let spot = c.args.spot.now in
     let site = c.args.site.now in
-    no_hands (seen b.array) (count_in c.args.counter) (lanes_of b.cells) (spot_of spot) site.place.site c.args.handing.now (view site.place.tree) spot.slots c.args.order.now _ refl refl refl refl
+    no_hands (seen b.array) (count_in c.args.counter) (lanes_of b.cells) (spot_of spot) site.place.site c.args.handing.now (view site.place.tree) spot.slots c.args.order.now
+    (record { entries = c.new.result; own = c.new-2.result; entry_marks = c.new-3.result; own_marks = c.new-4.result }) c.new.ensures c.new-2.ensures c.new-3.ensures c.new-4.ensures
 
 pub loop-k-preserved : goal.loop-k-preserved
 loop-k-preserved c =

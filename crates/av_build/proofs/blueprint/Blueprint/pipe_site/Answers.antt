@@ -16,7 +16,7 @@ overflow_sub-result c =
     let plan = c.index-as_slice-spot.result in
     let low = in_range b.cells p has.plan has.is_plan in
     let is = element_of b.cells c.as_slice.result.now p plan plan c.as_slice.ensures low c.index-as_slice-spot.is in
-    let first = ap (λ (x : CellPlan). x.lanes.first) (some_is plan has.plan (sym is ∙ has.is_plan)) in
+    let first = ap (λ (x : CellPlan). x.lanes.first) (sym c.index-as_slice-spot.is ∙ some_is plan has.plan (sym is ∙ has.is_plan)) in
     let between = (helper_between b c.requires.blueprint p c.args.helper has).0 in
     let lane = c.helper_lane-lane.ensures in
     omega (arith, first, between, lane)
@@ -30,7 +30,7 @@ returns c =
     let low = in_range b.cells p has.plan has.is_plan in
     let is = element_of b.cells c.as_slice.result.now p plan plan c.as_slice.ensures low c.index-as_slice-spot.is in
     record {
-      inlet = λ other is_other. ap₂ (λ (q first : ℕ). Pipe (q - first)) c.helper_lane-lane.ensures (ap (λ (x : CellPlan). x.lanes.first) (some_is plan other (sym is ∙ is_other)));
+      inlet = λ other is_other. ap₂ (λ (q first : ℕ). Pipe (q - first)) c.helper_lane-lane.ensures (ap (λ (x : CellPlan). x.lanes.first) (sym c.index-as_slice-spot.is ∙ some_is plan other (sym is ∙ is_other)));
       width = refl;
       links = c.new.ensures;
       otherwise = ap (λ (q : ℕ). Line q 0) c.helper_lane-lane.ensures;

@@ -1,4 +1,4 @@
-use Rattle.std.proofs.Common.{◌≡◌, ◌<◌, List, length, map, refl, ap, arith, rules}
+use Rattle.std.proofs.Common.{◌≡◌, ◌<◌, List, length, map, get_or, refl, sym, ap, subst, arith, rules}
 use Rattle.std.proofs.lemmas.List.{length-map}
 use Rattle.av_space.specs.declared.spots.Spot.{Spot}
 use Rattle.av_kinds.specs.Written.{mode_of, lane_of}
@@ -6,7 +6,7 @@ use Rattle.av_build.proofs.CellPieces.{plan_at, spots_are, piece_at}
 use Rattle.av_build.proofs.CellUses.{some_spot}
 use Rattle.av_build.proofs.SeenArray.{arranged_seen, one_seen}
 use Rattle.av_build.proofs.ValueLanes.{value_built}
-use Rattle.av_build.proofs.ValueModes.{no_modes, mode_more, each_mode}
+use Rattle.av_build.proofs.ValueModes.{AreModesTo, no_modes, mode_more, each_mode}
 use Rattle.av_build.proofs.blueprint.Blueprint.value.Goals as goal
 
 pub bounds-spots-0 : goal.bounds-spots-0
@@ -54,7 +54,7 @@ value_mode-requires-clause-piece c =
     (plan, plan_at b is p low cells plan c.as_slice.ensures c.index-as_slice-cell.is, omega (arith, test, same))
 
 pub loop-number-init : goal.loop-number-init
-loop-number-init c = no_modes c.args.self.now c.args.counter c.args.cell
+loop-number-init c = subst (AreModesTo c.args.self.now c.args.counter c.args.cell 0) (sym c.new-modes.ensures) (no_modes c.args.self.now c.args.counter c.args.cell)
 
 pub loop-number-preserved : goal.loop-number-preserved
 loop-number-preserved c = mode_more c.args.self.now c.args.counter c.args.cell c.loop-number.number c.loop-number.modes c.push.new.self c.in_ok-value_mode.field-0 c.loop-number.invariant c.in_ok-value_mode.ensures c.in_ok-push.ensures.ok
@@ -90,4 +90,4 @@ returns c =
     let all : length (map mode_of made) ≡ length plan.pieces.spots = omega (arith, size, end, test, one, mapped) in
     value_built b is c.args.counter c.requires.counter (arranged_seen b.array is.array) (one_seen b.array is.array) p plan is_plan (map mode_of made) all
     (each_mode b c.args.counter p n made c.loop-number.invariant) first is_first
-    (lane_of (record { home = p; rank = 0; width = first.var.now.width; modes = made; length = c.line_length.result })) refl refl refl refl c.line_length.ensures
+    (lane_of (record { home = p; rank = 0; width = (get_or spots 0 first).var.now.width; modes = made; length = c.line_length.result })) refl refl (ap (λ (x : Spot). x.var.now.width.bits) (sym c.index-spots-0.is)) refl c.line_length.ensures
