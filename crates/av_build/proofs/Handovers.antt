@@ -1,5 +1,5 @@
 -- The cells that have a lane for a helper: those with a computation of its piece, and with them the cells that hand its word on.
-use Rattle.std.proofs.Common.{◌≡◌, ℕ, ◌+◌, length, map, refl, sym, ap, subst, ◌∙◌, arith, IsTrue, Some}
+use Rattle.std.proofs.Common.{◌≡◌, ℕ, ◌+◌, List, length, map, refl, sym, ap, subst, ◌∙◌, arith, IsTrue, Some}
 use Rattle.std.specs.Prelude.{slice_get}
 use Rattle.av_base.proofs.Lists.{some_is, there_is, place_in}
 use Rattle.av_tree.specs.Points.{Point}

@@ -52,6 +52,7 @@ module _ (b : Blueprint) (is : IsBlueprint b) (at : SpotMade) (h : HelperPlan) (
   pieces_there = is.plans.pieces at.cell on.spot_on.plan on.spot_on.is_plan
 
   pub helped_there : IsHelped b.array is.array at.cell on.spot_on.plan.pieces pieces_there h at on.place on.handing
+  unfolding from_place
   helped_there =
       let x = helped b.array is.array at.cell on.spot_on.plan.pieces pieces_there h from_place in
       let e : slice_get on.spot_on.plan.pieces.spots h.piece ≡ Some at = ap (λ (k : ℕ). slice_get on.spot_on.plan.pieces.spots k) on.piece_is ∙ on.spot_on.is_spot in
@@ -83,6 +84,7 @@ module _ (b : Blueprint) (is : IsBlueprint b) (at : SpotMade) (h : HelperPlan) (
     mode_by inlet t = record { intervals = intervals_by found.entry_marks; work = one_site (site_by inlet entries.width found.entries) t }
 
     pub helper_modes : AreHelperModes b counter at h (entry_mode ∷ own_mode ∷ [])
+    unfolding from_place
     helper_modes = λ lane frame modes helper v piece r it.
         let pieces = on.spot_on.plan.pieces in
         let there = pieces_there in

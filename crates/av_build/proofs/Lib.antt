@@ -33,6 +33,7 @@ pub mod ValueSites
 pub mod PieceWorks
 pub mod ValueModes
 pub mod PlansOn
+pub mod PlacesOn
 pub mod CellPieces
 pub mod HelperModes
 pub mod ProgramFor
@@ -43,7 +44,7 @@ pub mod FineLanes
 pub mod ProgramLanes
 pub mod CellValues
 pub mod TakenSources
-pub mod CellPieces
+pub mod CellOperators
 pub mod PlanForm
 pub mod SharedKinds
 pub mod NotLater

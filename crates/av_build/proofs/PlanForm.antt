@@ -23,7 +23,7 @@ use Rattle.av_history.specs.Performing.{Array, Lanes}
 use Rattle.av_history.specs.Arranged.{IsArranged}
 use Rattle.av_build.specs.ArrayForm.{MayName, MayLink, HasFewOperators, IsArrayForm, IsLinked}
 use Rattle.av_build.specs.inner.Programmed.{IsProgramFor}
-use Rattle.av_build.proofs.CellPieces.{pieces, are_pieces, few}
+use Rattle.av_build.proofs.CellOperators.{pieces, are_pieces, few}
 use Rattle.av_build.proofs.CellValues.{value_of, value_labelled, output_within}
 use Rattle.av_build.proofs.TakenSources.{IsLinkedTo, IsOf, taken}
 

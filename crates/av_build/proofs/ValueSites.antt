@@ -1,5 +1,5 @@
 -- What brings the word of a place to the value of its cell: its moments, or the lane of its helper.
-use Rattle.std.proofs.Common.{◌≡◌, ℕ, ◌<◌, inl, inr, List, [], length, refl, sym, ap, ap₂, subst, ◌∙◌, IsTrue, Option, Some, None}
+use Rattle.std.proofs.Common.{◌≡◌, ◌⊎◌, ℕ, ◌<◌, inl, inr, List, [], length, refl, sym, ap, ap₂, subst, ◌∙◌, IsTrue, Option, Some, None}
 use Rattle.std.specs.Prelude.{slice_get}
 use Rattle.std.specs.List.{AllByRecursion}
 use Rattle.av_base.specs.declared.width.Width.{Width}

@@ -65,7 +65,8 @@ impl<'a> Blueprint<'a> {
             return Ok(self.pipe_site(alloc, spot, handing.number));
         }
         let moments = self.moments(alloc, counter, order, spot, place)?;
-        let tree = place.place.tree;
+        let read = &place.place;
+        let tree = read.tree;
         let width = width_read(flat, spot.var.width, tree);
         site(alloc, inlet_of(flat, tree), width, moments.as_slice())
     }

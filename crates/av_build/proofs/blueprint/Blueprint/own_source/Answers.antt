@@ -10,8 +10,8 @@ use Rattle.av_build.proofs.OriginCells.{value_in}
 use Rattle.av_build.proofs.PlaceSources.{own_source}
 use Rattle.av_build.proofs.blueprint.Blueprint.own_source.Goals as goal
 
-pub value_lane-requires-clause : goal.value_lane-requires-clause
-value_lane-requires-clause c =
+pub value_lane-requires : goal.value_lane-requires
+value_lane-requires c =
     let p = place_of c.args.site.now.place in
     let h = c.args.site.now.handing in
     let tree = view c.args.site.now.place.tree in

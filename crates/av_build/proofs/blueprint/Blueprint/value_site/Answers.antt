@@ -1,12 +1,16 @@
-use Rattle.std.proofs.Common.{◌∙◌, List, sym, ap, subst, refl}
+use Rattle.std.proofs.Common.{◌∙◌, List, None, sym, ap, subst}
 use Rattle.std.proofs.lemmas.Result.{IfOk-weaker}
-use Rattle.av_base.proofs.Lists.{some_is}
-use Rattle.av_flat.specs.Trees.{view}
+use Rattle.av_flat.specs.declared.flat.Flat.{Flat}
+use Rattle.av_flat.specs.Trees.{Tree, view, view_variable, view_system}
+use Rattle.av_space.specs.declared.tap.Place.{Place}
+use Rattle.av_space.specs.Spots.{system_of}
 use Rattle.av_space.specs.Taps.{Handing}
+use Rattle.av_history.specs.Widths.{read_width}
 use Rattle.av_build.specs.declared.moments.Moment.{Moment}
 use Rattle.av_build.specs.inner.Blueprints.{HasHelper, spot_of}
-use Rattle.av_build.specs.inner.Lanes.{IsPipeSite}
+use Rattle.av_build.specs.inner.Lanes.{HasVariable, IsPipeSite}
 use Rattle.av_build.specs.inner.Moments.{site_by}
+use Rattle.av_build.specs.inner.Programmed.{inlet_by}
 use Rattle.av_build.proofs.SpotsOn.{some_slots, spot_there, site_at, helper_on, variable_there}
 use Rattle.av_build.proofs.ValueSites.{plain_site, piped_site}
 use Rattle.av_build.proofs.blueprint.Blueprint.value_site.Goals as goal
@@ -41,7 +45,10 @@ width_read-width-requires c =
     let at = c.args.spot.now in
     let on = c.requires.place in
     let place = c.args.place.now in
-    variable_there b c.requires.blueprint at (spot_there b c.requires.blueprint at on.sites on.spot_on) (some_slots b c.requires.blueprint at on.sites on.spot_on) place (site_at b c.requires.blueprint at on.sites on.spot_on on.index place on.is_place)
+    let tree = ap (λ (x : Place). view x.tree) c.read.view_is in
+    subst (λ (f : Flat). HasVariable (view_system f) (view c.read.inside.tree.now)) (sym c.requires.flat)
+    (subst (λ (t : Tree). HasVariable (system_of b.array) t) (sym tree)
+    (variable_there b c.requires.blueprint at (spot_there b c.requires.blueprint at on.sites on.spot_on) (some_slots b c.requires.blueprint at on.sites on.spot_on) place (site_at b c.requires.blueprint at on.sites on.spot_on on.index place on.is_place)))
 
 pub returns : goal.returns
 returns c =
@@ -50,7 +57,13 @@ returns c =
     let on = c.requires.place in
     let place = c.args.place.now in
     let moments = c.in_ok-moments.moments in
+    let inlet = c.inlet_of.result in
+    let width = c.width_read-width.result in
+    let own = view c.read.inside.tree.now in
+    let tree = ap (λ (x : Place). view x.tree) c.read.view_is in
+    let inlet_is = c.inlet_of.ensures ∙ ap (λ (f : Flat). inlet_by (view_system f) (λ j. j) None own) c.requires.flat ∙ ap (λ (t : Tree). inlet_by (system_of b.array) (λ j. j) None t) tree in
+    let width_is = c.width_read-width.ensures ∙ ap (λ (f : Flat). read_width (view_system f) (view_variable at.var.now).width None own) c.requires.flat ∙ ap (λ (t : Tree). read_width (system_of b.array) (view_variable at.var.now).width None t) tree in
     IfOk-weaker c.site.result _ _ (λ site e plan is_plan.
         plain_site b c.requires.blueprint c.args.counter at (spot_there b c.requires.blueprint at on.sites on.spot_on) place (site_at b c.requires.blueprint at on.sites on.spot_on on.index place on.is_place) plan is_plan
-        c.in_default.is c.args.order.now c.requires.order moments c.in_ok-moments.ensures c.inlet_of.result c.inlet_of.ensures c.width_read-width.result c.width_read-width.ensures site
-        (e ∙ ap (λ (l : List Moment). site_by c.inlet_of.result c.width_read-width.result l) c.as_slice.ensures)) c.site.ensures
+        c.in_default.is c.args.order.now c.requires.order moments c.in_ok-moments.ensures inlet inlet_is width width_is site
+        (e ∙ ap (λ (l : List Moment). site_by inlet width l) c.as_slice.ensures)) c.site.ensures

@@ -29,7 +29,7 @@ value_site-requires-clause-place c = record {
 
 pub value_site-requires-clause-order : goal.value_site-requires-clause-order
 value_site-requires-clause-order c =
-    subst (λ order. IsInOrder (count_in c.args.counter) c.args.spot.now.slots order) (sym c.as_slice-2.ensures) (subst (λ slots. IsInOrder (count_in c.args.counter) slots c.in_ok-order.order) c.as_slice.ensures c.in_ok-order.ensures)
+    subst (λ order. IsInOrder (count_in c.args.counter) c.args.spot.now.slots order) (sym c.as_slice-in-loop-place.ensures) (subst (λ slots. IsInOrder (count_in c.args.counter) slots c.in_ok-order.order) c.as_slice.ensures c.in_ok-order.ensures)
 
 pub loop-place-preserved : goal.loop-place-preserved
 loop-place-preserved c =
