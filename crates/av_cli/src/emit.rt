@@ -4,7 +4,7 @@ ghost use Rattle.std.specs.Prelude.{◌≤◌, length};
 ghost use Rattle.av_cli.specs.inner.WithWords.{RefusesEmitWith, GivesEmitWith};
 ghost use Rattle.av_cli.specs.inner.Written.{IsAnswered};
 
-use crate::put::{put_alpha_refusal, put_design};
+use crate::put::{put_alpha_refusal, put_plan};
 use crate::sizes::sizes;
 use crate::status::Status;
 use av_base::{Memory, Name, Sink, Width};
@@ -30,6 +30,6 @@ pub(crate) fn emit<K: Sink>(
     };
     match compile(alloc, bytes, sizes.as_slice(), width, reach) {
         Err(refusal) => put_alpha_refusal(sink, &refusal),
-        Ok(compiled) => put_design(sink, &compiled.design),
+        Ok(compiled) => put_plan(sink, &compiled.plan),
     }
 }

@@ -14,10 +14,13 @@ returns-in-Err-compile g c =
     (λ some. subst (λ (xs : List Size). IsUnmapped c.args.bytes.now xs c.args.width.bits c.args.reach.size refusal) c.as_slice.ensures (c.in-Err-compile.ensures.refused refusal refl some))
     c.put_alpha_refusal.ensures.memory c.put_alpha_refusal.ensures.refused
 
+pub put_plan-requires : goal.put_plan-requires
+put_plan-requires g c = c.in-Ok-compile.ensures.headline.plan.is_plan.sound
+
 pub returns : goal.returns
 returns g c =
     let made = c.in-Ok-compile.compiled in
-    emit_given c.args.words.now c.in-Ok.sizes c.args.width.bits c.args.reach.size c.args.bytes.now made.timed made.cells made.design c.in-Ok.ensures.given
+    emit_given c.args.words.now c.in-Ok.sizes c.args.width.bits c.args.reach.size c.args.bytes.now made.timed made.cells made.plan c.in-Ok.ensures.given
     (subst (λ (xs : List Size). IsMapped c.args.bytes.now xs c.args.width.bits c.args.reach.size made.timed made.cells) c.as_slice.ensures c.in-Ok-compile.ensures.mapped)
-    (subst (λ (xs : List Size). Headline c.args.bytes.now xs c.args.width.bits c.args.reach.size made.timed made.cells made.design) c.as_slice.ensures c.in-Ok-compile.ensures.headline)
-    c.put_design.ensures
+    (subst (λ (xs : List Size). Headline c.args.bytes.now xs c.args.width.bits c.args.reach.size made.timed made.cells made.plan) c.as_slice.ensures c.in-Ok-compile.ensures.headline)
+    c.put_plan.ensures
