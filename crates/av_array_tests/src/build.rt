@@ -1,18 +1,24 @@
-//! The texts of compiled designs.
+//! The plans of compiled texts: their text, and the design that is read of it.
 
-use crate::asserts::same;
+ghost use Rattle.std.specs.Prelude.{IfOk};
+ghost use Rattle.av_net.specs.Designs.{IsSoundPlan};
+
+use crate::asserts::{assert_held, same};
 use av_base::{List, MemSink, Width};
 use av_compile::{Compiled, compile};
 use av_flat::Reach;
 use av_net::Design;
-use av_testing::texts::INCREMENT_DESIGN;
-use av_vtext::write_design;
+use av_testing::texts::INCREMENT_PLAN;
+use av_vread::read_design;
+use av_vtext::{write_design, write_plan};
 use std::alloc::Global;
 use std::process::Abort;
 use std::test::Fail;
 
 /// What a text compiles to, in words of 8 bits.
-fn compiled(alloc: Global, text: &str) -> Result<Compiled, Fail> {
+fn compiled(alloc: Global, text: &str) -> Result<Compiled, Fail>
+    ensures { IfOk result (λ found. IsSoundPlan found.plan) }
+{
     let width = Width::new(8).ok_or("a width")?;
     let reach = Reach::new(4).ok_or("a box")?;
     if text.len() > 100_000 {
@@ -20,25 +26,38 @@ fn compiled(alloc: Global, text: &str) -> Result<Compiled, Fail> {
     }
     match compile(alloc, text.as_bytes(), &[], width, reach) {
         Ok(found) => Ok(found),
-        Err(_) => Err(Fail::new("a design")),
+        Err(_) => Err(Fail::new("a plan")),
     }
 }
 
-fn assert_design(
+/// The design that is read of these bytes is this one: both have one text of the first version.
+fn assert_read_back(
     rt: &impl Abort,
     alloc: Global,
+    bytes: &[u8],
     design: &Design,
-    wanted: &str,
 ) -> Result<(), Fail> {
-    let mut sink = MemSink::new(alloc, 4096, 4096, List::new(alloc))?;
-    write_design(design, &mut sink)?;
-    same(rt, str::from_utf8(sink.held()).unwrap_or(""), wanted);
+    if bytes.len() >= 4_294_967_295 {
+        return Err(Fail::new("long"));
+    }
+    let Ok(read) = read_design(alloc, bytes) else {
+        return Err(Fail::new("a design"));
+    };
+    let mut again = MemSink::new(alloc, 8192, 8192, List::new(alloc))?;
+    write_design(&read, &mut again)?;
+    let mut flat = MemSink::new(alloc, 8192, 8192, List::new(alloc))?;
+    write_design(design, &mut flat)?;
+    assert_held(rt, &again, flat.held());
     Ok(())
 }
 
+/// The text of the plan is this one, and it is read back as the plan's flat design.
 fn assert_compiled(rt: &impl Abort, alloc: Global, text: &str, wanted: &str) -> Result<(), Fail> {
     let found = compiled(alloc, text)?;
-    assert_design(rt, alloc, &found.design, wanted)
+    let mut sink = MemSink::new(alloc, 8192, 8192, List::new(alloc))?;
+    write_plan(&found.plan, &mut sink)?;
+    same(rt, str::from_utf8(sink.held()).unwrap_or(""), wanted);
+    assert_read_back(rt, alloc, sink.held(), &found.design)
 }
 
 const INCREMENT: &str =
@@ -46,7 +65,7 @@ const INCREMENT: &str =
 
 #[test]
 fn the_increment_is_one_sum(rt: HostRuntime) -> Result<(), Fail> {
-    assert_compiled(&rt, rt.alloc(), INCREMENT, INCREMENT_DESIGN)
+    assert_compiled(&rt, rt.alloc(), INCREMENT, INCREMENT_PLAN)
 }
 
 /// A cell with two lanes: the scalar is handed on from cycle to cycle, and added to the sum before.

@@ -127,7 +127,7 @@ module array(input clk, input rst, input [3:0] i0, input [3:0] i1, input [3:0] i
 endmodule
 ";
 
-const EMPTY_TEXT: &str = "// alphav 1
+const EMPTY_TEXT: &str = "// alphav 2
 module array(input clk, input rst);
 endmodule
 ";
