@@ -97,24 +97,6 @@ module k0(input [11:0] cyc, input [7:0] i0, input [11:0] b0, input [11:0] b1, in
   assign w6 = w4 & w5;
   assign v = w6 ? 8'd7 : w3;
 endmodule
-module k0(input [11:0] cyc, input [7:0] i0, input [11:0] b0, input [11:0] b1, input [7:0] t0, input [11:0] b2, input [11:0] b3, input [7:0] t1, output [7:0] p0, output [7:0] v);
-  wire [0:0] w0;
-  wire [0:0] w1;
-  wire [0:0] w2;
-  wire [7:0] w3;
-  wire [0:0] w4;
-  wire [0:0] w5;
-  wire [0:0] w6;
-  assign w0 = cyc >= b0;
-  assign w1 = cyc <= b1;
-  assign w2 = w0 & w1;
-  assign p0 = w2 ? i0 : t0;
-  assign w3 = t1 + p0;
-  assign w4 = cyc >= b2;
-  assign w5 = cyc <= b3;
-  assign w6 = w4 & w5;
-  assign v = w6 ? 8'd7 : w3;
-endmodule
 module array(input clk, input rst, input [7:0] i0, output [7:0] o0);
   wire [7:0] c0_1;
   wire [7:0] c0;
