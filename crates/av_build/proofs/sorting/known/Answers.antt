@@ -27,9 +27,7 @@ loop-kind-preserved c = λ k first other lt is_first is_other same.
           let one : x ≡ other = some_is x other (sym is_x ∙ ap (slice_get cells) number ∙ is_other) in
           let left : c.as_slice.result.now ≡ other.pieces.spots = c.as_slice.ensures ∙ ap (λ (p : CellPlan). p.pieces.spots) one in
           let there = subst (λ (l : List Spot). HaveSamePieces l c.as_slice-in-loop-kind.result.now) (sym left) (subst (λ (l : List Spot). HaveSamePieces other.pieces.spots l) (sym c.as_slice-in-loop-kind.ensures) same) in
-          let holds = c.if-same_pieces.ensures.1 there in
-          let fails = c.if-same_pieces.false in
-          absurd (let f = sym fails ∙ holds in cc))
+          absurd (let holds = c.if-same_pieces.ensures.1 there in cc))
     ]
 
 pub returns : goal.returns
