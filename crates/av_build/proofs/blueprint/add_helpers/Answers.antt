@@ -1,4 +1,4 @@
-use Rattle.std.proofs.Common.{◌≡◌, ◌∙◌, ◌+◌, ◌++◌, [], ◌∷◌, List, sym, ap, subst}
+use Rattle.std.proofs.Common.{◌≡◌, ◌∙◌, ◌++◌, [], ◌∷◌, List, sym, ap, subst}
 use Rattle.av_base.proofs.Lists.{some_is}
 use Rattle.av_space.specs.declared.spots.Site.{Site}
 use Rattle.av_space.specs.Taps.{Handing}

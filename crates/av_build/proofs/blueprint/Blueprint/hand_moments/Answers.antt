@@ -1,4 +1,4 @@
-use Rattle.std.proofs.Common.{ℕ, refl, subst, arith, get_or}
+use Rattle.std.proofs.Common.{ℕ, subst, arith, get_or}
 use Rattle.std.proofs.lemmas.Option.{slice_get-get_or}
 use Rattle.av_flat.specs.Trees.{view}
 use Rattle.av_space.specs.Spots.{IsSlotIn}

@@ -1,4 +1,4 @@
-use Rattle.std.proofs.Common.{Option, None, Some, sym, subst, arith}
+use Rattle.std.proofs.Common.{Option, sym, subst, arith}
 use Rattle.std.proofs.lemmas.Result.{IfOk-weaker}
 use Rattle.av_kinds.specs.Written.{lane_of}
 use Rattle.av_build.specs.declared.blueprint.HelperPlan.{HelperPlan}
