@@ -15,10 +15,9 @@ use Rattle.av_space.specs.Links.{line_length}
 use Rattle.av_kinds.specs.declared.counter.Counter.{Counter}
 use Rattle.av_kinds.specs.declared.program.Inlet.{Inlet}
 use Rattle.av_kinds.specs.declared.program.Inlet.TheVariants.{Inputs, Taps}
-use Rattle.av_kinds.specs.Counters.{count_in}
+use Rattle.av_kinds.specs.Counters.{count_in, number_count}
 use Rattle.av_kinds.specs.Programs.{Mode, is_active, Lane}
 use Rattle.av_history.specs.Performing.{Array, ComputesOn, Lanes, Spot, IsReferenceSource, IsHandSource}
-use Rattle.av_history.specs.Problems.{number_count}
 use Rattle.av_history.specs.Widths.{width_at}
 use Rattle.av_space.specs.Taps.{entries}
 use Rattle.av_build.specs.declared.moments.HandMoments.{HandMoments}

@@ -33,11 +33,10 @@ use Rattle.av_space.proofs.Streams.{presentable}
 use Rattle.av_kinds.specs.declared.counter.Counter.{Counter}
 use Rattle.av_kinds.specs.declared.counter.Counter.TheVariants.{Cycles}
 use Rattle.av_kinds.specs.declared.planning.Modules.{Modules}
-use Rattle.av_kinds.specs.Counters.{count_in}
+use Rattle.av_kinds.specs.Counters.{count_in, number_count}
 use Rattle.av_kinds.specs.Programs.{Lane, Program}
 use Rattle.av_kinds.specs.Tops.{numbered_ports, width_in, output_widths}
 use Rattle.av_kinds.specs.Netlists.{plan_of, AreNetlistsOf}
-use Rattle.av_history.specs.Problems.{number_count}
 use Rattle.av_history.specs.Widths.{width_of}
 use Rattle.av_build.specs.Later.{later}
 use Rattle.av_build.specs.ArrayPlans.{ShowsSolution, IsPlanOf, IsCountingPlan, HasOnePoint}

@@ -25,13 +25,13 @@ use Rattle.av_kinds.specs.declared.counter.Counter.{Counter}
 use Rattle.av_kinds.specs.declared.planning.Modules.{Modules}
 use Rattle.av_kinds.specs.Programs.{Program}
 use Rattle.av_kinds.specs.Histories.{Signals, tasks_of}
-use Rattle.av_kinds.specs.Counters.{count_in}
+use Rattle.av_kinds.specs.Counters.{count_in, number_count}
 use Rattle.av_kinds.specs.Names.{Naming, input_name, labels}
 use Rattle.av_kinds.specs.Tops.{port, numbered_ports}
 use Rattle.av_kinds.specs.Netlists.{plan_of, AreNetlistsOf}
 use Rattle.av_history.specs.Performing.{Array, ComputesOn, Lanes}
 use Rattle.av_history.specs.Arranged.{IsArranged}
-use Rattle.av_history.specs.Problems.{Presents, HaveWords, number_count}
+use Rattle.av_history.specs.Problems.{Presents, HaveWords}
 use Rattle.av_history.proofs.Problems.{each_problem}
 use Rattle.av_history.proofs.Shown.{signature_at}
 use Rattle.av_build.specs.Later.{later_line, later_lines, later}

@@ -14,7 +14,7 @@ use Rattle.av_space.specs.Taps.{Handing, IsReadBy}
 use Rattle.av_space.proofs.Elements.{at_index, in_range}
 use Rattle.av_space.proofs.SpotReadings.{declared_read}
 use Rattle.av_kinds.specs.declared.counter.Counter.{Counter}
-use Rattle.av_history.specs.Problems.{number_count}
+use Rattle.av_kinds.specs.Counters.{number_count}
 use Rattle.av_build.specs.declared.blueprint.Blueprint.{Blueprint}
 use Rattle.av_build.specs.inner.Blueprints.{IsBlueprint, IsCounted, IsSpotOn, HasHelper}
 use Rattle.av_build.specs.inner.Lanes.{HasVariable}

@@ -15,6 +15,8 @@ use Rattle.av_names.specs.Sizes.{instance_of}
 use Rattle.av_net.specs.declared.netlist.Port.{Port}
 use Rattle.av_net.specs.declared.design.Entry.{Entry}
 use Rattle.av_net.specs.declared.design.Design.{Design}
+use Rattle.av_net.specs.declared.plan.Plan.{Plan}
+use Rattle.av_net.specs.Flat.{flat_of}
 use Rattle.av_net.specs.Presented.{HaveFittingWords}
 use Rattle.av_space.specs.declared.cells.Cells.{Cells}
 use Rattle.av_compile.specs.Mapped.{IsMapped}
@@ -33,9 +35,10 @@ residue_fits bits a = mod-lt a (one-le-pow bits 2 (omega arith))
 
 -- ---- a design can be clocked on the entries
 
-pub entered : (bytes : List ℕ) (sizes : List Size) (bits box : ℕ) (t : Timed) (a : Cells) (d : Design) → length bytes < 4294967295 → Headline bytes sizes bits box t a d → IsMapped bytes sizes bits box t a → IsEntered d bits
-entered bytes sizes bits box t a d short h m =
-    let ready = clockable bytes sizes bits box t a d h m in
+pub entered : (bytes : List ℕ) (sizes : List Size) (bits box : ℕ) (t : Timed) (a : Cells) (plan : Plan) → length bytes < 4294967295 → Headline bytes sizes bits box t a plan → IsMapped bytes sizes bits box t a → IsEntered (flat_of plan) bits
+entered bytes sizes bits box t a plan short h m =
+    let d = flat_of plan in
+    let ready = clockable bytes sizes bits box t a plan h m in
     record {
       sound = ready.sound;
       apart = ready.apart;
@@ -45,7 +48,7 @@ entered bytes sizes bits box t a d short h m =
             w,
             refl,
             All-weaker (λ (p : Port). p.width.bits ≡ bits) (λ (p : Port). line.wire ≡ p.name → IsWord p.width.bits w) (λ p is wire. subst (λ n. IsWord n w) (sym is) (residue_fits bits (entry line.variable line.point))) d.module.inputs
-                (port_widths bytes sizes bits box t a d short h m),
+                (port_widths bytes sizes bits box t a plan short h m),
           );
     }
 
@@ -84,19 +87,22 @@ matrices_entries i bits = record {
 pub product_short : length product_text < 4294967295
 product_short = omega arith
 
-module _ (k bits box : ℕ) (t : Timed) (a : Cells) (d : Design) (h : Headline product_text (product_sizes k) bits box t a d) (m : IsMapped product_text (product_sizes k) bits box t a)
+module _ (k bits box : ℕ) (t : Timed) (a : Cells) (plan : Plan) (h : Headline product_text (product_sizes k) bits box t a plan) (m : IsMapped product_text (product_sizes k) bits box t a)
     (short : length product_text < 4294967295) where
   abbrev own : Instance
   own = instance_of h.system (product_sizes k) bits
 
+  abbrev d : Design
+  d = flat_of plan
+
   same_on : All (λ line. matrices own bits line.variable line.point ≡ entries bits line.variable line.point) d.listing.ins
   same_on =
       All-weaker (λ (l : Entry). IsTrue (is_declared own.sizes own.system.inputs l.variable l.point)) (λ (l : Entry). matrices own bits l.variable l.point ≡ entries bits l.variable l.point)
-      (λ l declared. ap (λ (b : Bool). if b then entries bits l.variable l.point else None) declared) d.listing.ins (presented_inputs product_text (product_sizes k) bits box t a d short h m)
+      (λ l declared. ap (λ (b : Bool). if b then entries bits l.variable l.point else None) declared) d.listing.ins (presented_inputs product_text (product_sizes k) bits box t a plan short h m)
 
   fits : HaveFittingWords d (matrices own bits)
   fits = λ j e lt.
-      let (w, has, each) = (entered product_text (product_sizes k) bits box t a d short h m).fitting j e lt in
+      let (w, has, each) = (entered product_text (product_sizes k) bits box t a plan short h m).fitting j e lt in
       (w, same_on j e lt ∙ has, each)
 
   shown_too : (words : List ℕ) → AreShown d (entries bits) words → AreShown d (matrices own bits) words
@@ -123,7 +129,7 @@ module _ (k bits box : ℕ) (t : Timed) (a : Cells) (d : Design) (h : Headline p
       record {
         timed = t;
         cells = a;
-        design = d;
+        plan = plan;
         mapped = m;
         computes = h;
         inputs = x;

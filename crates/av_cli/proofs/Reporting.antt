@@ -30,7 +30,10 @@ use Rattle.av_net.specs.declared.netlist.Port.{Port}
 use Rattle.av_net.specs.declared.design.Entry.{Entry}
 use Rattle.av_net.specs.declared.design.Design.{Design}
 use Rattle.av_net.specs.declared.design.Listing.{Listing}
+use Rattle.av_net.specs.declared.plan.Plan.{Plan}
+use Rattle.av_net.specs.Flat.{flat_of}
 use Rattle.av_net.specs.Presented.{AreApart, HasFittingWord, HaveFittingWords}
+use Rattle.av_net.proofs.FlatDesigns.{flat_is_sound_design}
 use Rattle.av_space.specs.declared.cells.Cells.{Cells}
 use Rattle.av_space.specs.Listings.{AtLine, IsAtLine}
 use Rattle.av_space.specs.Whole.{IsPresented}
@@ -83,15 +86,15 @@ fitting_words t a d x declared presented widths inputs =
           (λ p is wire. subst (λ (n : ℕ). IsWord n w) (sym is) (inputs.words line.variable line.point w e)) d.module.inputs widths,
     )
 
-pub clockable : (bytes : List ℕ) (sizes : List Size) (bits box : ℕ) (t : Timed) (a : Cells) (d : Design) → Headline bytes sizes bits box t a d → IsMapped bytes sizes bits box t a → IsClockable t d
-clockable bytes sizes bits box t a d h m =
-    let carries = h.design.carries in
+pub clockable : (bytes : List ℕ) (sizes : List Size) (bits box : ℕ) (t : Timed) (a : Cells) (p : Plan) → Headline bytes sizes bits box t a p → IsMapped bytes sizes bits box t a → IsClockable t (flat_of p)
+clockable bytes sizes bits box t a p h m =
+    let carries = h.plan.is_plan.carries in
     let whole = carries.whole in
     record {
       chained = m.pipelined.legal.chained;
-      sound = h.design.sound;
+      sound = flat_is_sound_design p h.plan.is_plan.sound;
       apart = subst (λ (l : Listing). AreApart l.ins) (sym carries.listing) whole.apart;
-      fitting = λ x inputs. fitting_words t a d x (λ line is. is.0) (subst (λ (l : Listing). All (IsPresented (view_system t.flat) a) l.ins) (sym carries.listing) whole.presented) carries.inputs.widths inputs;
+      fitting = λ x inputs. fitting_words t a (flat_of p) x (λ line is. is.0) (subst (λ (l : Listing). All (IsPresented (view_system t.flat) a) l.ins) (sym carries.listing) whole.presented) carries.inputs.widths inputs;
     }
 
 -- ---- outputs
@@ -160,10 +163,13 @@ one_variable vs apart i j v w at there same = elim (cases_lt i j) [
   ]
 ]
 
-module _ (bytes : List ℕ) (sizes : List Size) (bits box : ℕ) (t : Timed) (a : Cells) (d : Design) (short : length bytes < 4294967295) (h : Headline bytes sizes bits box t a d)
+module _ (bytes : List ℕ) (sizes : List Size) (bits box : ℕ) (t : Timed) (a : Cells) (plan : Plan) (short : length bytes < 4294967295) (h : Headline bytes sizes bits box t a plan)
     (m : IsMapped bytes sizes bits box t a) where
   abbrev own : FlatSystem
   own = view_system t.flat
+
+  abbrev d : Design
+  d = flat_of plan
 
   same : SameMeaning (shows_in (instance_of h.system sizes bits)) (declares_in (instance_of h.system sizes bits)) (shows_of own) (declares_of own)
   same = meaning bytes sizes bits own short m.pipelined.serialises h.system h.program
@@ -187,7 +193,7 @@ module _ (bytes : List ℕ) (sizes : List Size) (bits box : ℕ) (t : Timed) (a 
   -- ---- ports and input lines
 
   pub port_widths : All (λ (p : Port). p.width.bits ≡ bits) d.module.inputs
-  port_widths = All-weaker (λ (p : Port). p.width.bits ≡ own.width) (λ (p : Port). p.width.bits ≡ bits) (λ p is. is ∙ width_is) d.module.inputs h.design.carries.inputs.widths
+  port_widths = All-weaker (λ (p : Port). p.width.bits ≡ own.width) (λ (p : Port). p.width.bits ≡ bits) (λ p is. is ∙ width_is) d.module.inputs h.plan.is_plan.carries.inputs.widths
 
   -- each of the listed input points is declared
   pub presented_inputs : All (λ line. IsTrue (is_declared (instance_of h.system sizes bits).sizes h.system.inputs line.variable line.point)) d.listing.ins
@@ -195,13 +201,13 @@ module _ (bytes : List ℕ) (sizes : List Size) (bits box : ℕ) (t : Timed) (a 
       All-weaker (IsPresented own a) (λ (l : Entry). IsTrue (is_declared (instance_of h.system sizes bits).sizes h.system.inputs l.variable l.point))
       (λ l is.
       let kinds = same_declared (is_kind kind.Input) is_input input_kind (signatures own) l.variable l.point in
-      (same.declared kind.Input refl l.variable l.point).1 (kinds ∙ is.0)) d.listing.ins (subst (λ (x : Listing). All (IsPresented own a) x.ins) (sym h.design.carries.listing) h.design.carries.whole.presented)
+      (same.declared kind.Input refl l.variable l.point).1 (kinds ∙ is.0)) d.listing.ins (subst (λ (x : Listing). All (IsPresented own a) x.ins) (sym h.plan.is_plan.carries.listing) h.plan.is_plan.carries.whole.presented)
 
   -- ---- the lines of outputs
 
   line_there : (i : ℕ) (line : Entry) → slice_get a.listing.ats i ≡ Some line → IsTrue (flat.is_declared is_shown (signatures own) line.variable line.point)
   line_there i line e =
-      let list = h.design.carries.whole.list in
+      let list = h.plan.is_plan.carries.whole.list in
       let b = from_map (λ (l : AtLine). l.entry) list.ats.lines i line (sym (ap (λ (es : List Entry). slice_get es i) list.ats.entries) ∙ e) in
       let is = all_at (IsAtLine own list.placings a.cells a.outputs) list.ats.lines i b.0 list.ats.each b.1 in
       let computation = is.computes.stands.computation in
@@ -240,13 +246,13 @@ module _ (bytes : List ℕ) (sizes : List Size) (bits box : ℕ) (t : Timed) (a 
       let i = instance_of h.system sizes bits in
       let tree_is = tree_inputs x inputs in
       let one = h.computes.one_solution x tree_is in
-      let fits = (clockable bytes sizes bits box t a d h m).fitting x inputs in
+      let fits = (clockable bytes sizes bits box t a plan h m).fitting x inputs in
       let lines_same : All (λ (l : Entry). names_output own l.variable ≡ is_result i l) d.listing.ats =
-      subst (λ (l : Listing). All (λ (e : Entry). names_output own e.variable ≡ is_result i e) l.ats) (sym h.design.carries.listing) (all_by_place (λ (e : Entry). names_output own e.variable ≡ is_result i e) a.listing.ats same_line) in
+      subst (λ (l : Listing). All (λ (e : Entry). names_output own e.variable ≡ is_result i e) l.ats) (sym h.plan.is_plan.carries.listing) (all_by_place (λ (e : Entry). names_output own e.variable ≡ is_result i e) a.listing.ats same_line) in
       record {
         timed = t;
         cells = a;
-        design = d;
+        plan = plan;
         inputs = x;
         has = record { before = bytes; rest = rest; first = first; divided = divided; mapped = m; computes = h; spelled = spelled; are_inputs = tree_is };
         solution = one.solution;
@@ -256,11 +262,11 @@ module _ (bytes : List ℕ) (sizes : List Size) (bits box : ℕ) (t : Timed) (a 
         lines = shows.lines ∙ same_results (λ (l : Entry). names_output own l.variable) (is_result i) d.listing.ats shows.words lines_same;
       }
 
-  pub trace_given : (x : Assignment) (out : List ℕ) (rest whole : List ℕ) (first : ℕ) → IsDivided whole bytes rest first → SpellsInputs own rest x → AreInputsOf own x → IsTraceOf a d x out → GivesTrace sizes bits box whole out
+  pub trace_given : (x : Assignment) (out : List ℕ) (rest whole : List ℕ) (first : ℕ) → IsDivided whole bytes rest first → SpellsInputs own rest x → AreInputsOf own x → IsTraceOf a plan d x out → GivesTrace sizes bits box whole out
   trace_given x out rest whole first divided spelled inputs shows = record {
     timed = t;
     cells = a;
-    design = d;
+    plan = plan;
     inputs = x;
     has = record { before = bytes; rest = rest; first = first; divided = divided; mapped = m; computes = h; spelled = spelled; are_inputs = tree_inputs x inputs };
     run = shows.run;
@@ -268,17 +274,18 @@ module _ (bytes : List ℕ) (sizes : List Size) (bits box : ℕ) (t : Timed) (a 
     lines = shows.lines;
   }
 
-  pub report_given : (report : Report) (out : List ℕ) (rest whole : List ℕ) (first : ℕ) → IsDivided whole bytes rest first → GivesReported report t a d rest out → GivesReport report sizes bits box whole out
+  pub report_given : (report : Report) (out : List ℕ) (rest whole : List ℕ) (first : ℕ) → IsDivided whole bytes rest first → GivesReported report t a plan d rest out → GivesReport report sizes bits box whole out
   report_given Results out rest whole first divided g = results_given g.inputs out rest whole first divided g.spelled g.are g.reports
   report_given Trace out rest whole first divided g = trace_given g.inputs out rest whole first divided g.spelled g.are g.reports
 
   -- the answer to the lines of data, as one to the whole input
-  pub report_answered : (words : List (List ℕ)) (report : Report) (rest whole : List ℕ) (first : ℕ) {sink sink' : SinkState} {status : Status} → IsDivided whole bytes rest first → GiveSizes words sizes
-      → IsAnswered (RefusesLines t first rest) (GivesReported report t a d rest) sink sink' status
+  pub report_answered : (design : Design) → design ≡ d → (words : List (List ℕ)) (report : Report) (rest whole : List ℕ) (first : ℕ) {sink sink' : SinkState} {status : Status} → IsDivided whole bytes rest first → GiveSizes words sizes
+      → IsAnswered (RefusesLines t first rest) (GivesReported report t a plan design rest) sink sink' status
       → IsAnswered (RefusesRunWith words bits box whole) (GivesReportWith report words bits box whole) sink sink' status
-  report_answered words report rest whole first divided give (refused r put) = refused (record { sizes = sizes; give = give; refuses = bad_data r.fault divided m r.is r.told }) put
-  report_answered words report rest whole first divided give (given {out} g put) = given (record { sizes = sizes; give = give; gives = report_given report out rest whole first divided g }) put
-  report_answered words report rest whole first divided give (no_memory x y) = no_memory x y
+  report_answered design is_flat words report rest whole first divided give (refused r put) = refused (record { sizes = sizes; give = give; refuses = bad_data r.fault divided m r.is r.told }) put
+  report_answered design is_flat words report rest whole first divided give (given {out} g put) =
+      given (record { sizes = sizes; give = give; gives = report_given report out rest whole first divided (subst (λ (e : Design). GivesReported report t a plan e rest out) is_flat g) }) put
+  report_answered design is_flat words report rest whole first divided give (no_memory x y) = no_memory x y
 
 -- ---- refusals
 
@@ -294,12 +301,12 @@ run_refused Given words sizes bits box before rest whole first f divided give is
 
 -- ---- refused or given, and not both
 
-pub exclusive_run : (sizes : List Size) (bits box : ℕ) (bytes reason : List ℕ) (t : Timed) (a : Cells) (d : Design) (x : Assignment) → RefusesRun sizes bits box bytes reason → HasData sizes bits box bytes t a d x → ⊥
-exclusive_run sizes bits box bytes reason t a d x (no_mark none e) has = let marked = has.divided.marked in omega (arith, none, marked)
-exclusive_run sizes bits box bytes reason t a d x (bad_system {before} divided r) has =
+pub exclusive_run : (sizes : List Size) (bits box : ℕ) (bytes reason : List ℕ) (t : Timed) (a : Cells) (p : Plan) (x : Assignment) → RefusesRun sizes bits box bytes reason → HasData sizes bits box bytes t a p x → ⊥
+exclusive_run sizes bits box bytes reason t a p x (no_mark none e) has = let marked = has.divided.marked in omega (arith, none, marked)
+exclusive_run sizes bits box bytes reason t a p x (bad_system {before} divided r) has =
     let same : has.before ≡ before = has.divided.text_is ∙ sym divided.text_is in
     not_unmapped sizes bits box before reason t a r (subst (λ b. IsMapped b sizes bits box t a) same has.mapped)
-exclusive_run sizes bits box bytes reason t a d x (bad_data {before} {rest} {first} {timed} {cells} fault divided mapped is e) has =
+exclusive_run sizes bits box bytes reason t a p x (bad_data {before} {rest} {first} {timed} {cells} fault divided mapped is e) has =
     let same : has.before ≡ before = has.divided.text_is ∙ sym divided.text_is in
     let behind : has.rest ≡ rest = has.divided.rest_is ∙ sym divided.rest_is in
     let own = subst (λ b. IsMapped b sizes bits box t a) same has.mapped in

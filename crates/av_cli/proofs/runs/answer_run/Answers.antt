@@ -1,17 +1,22 @@
-use Rattle.std.proofs.Common.{refl, subst, List, arith}
+use Rattle.std.proofs.Common.{refl, sym, subst, List, arith}
 use Rattle.av_names.specs.declared.size.Size.{Size}
+use Rattle.av_net.specs.declared.design.Design.{Design}
 use Rattle.av_compile.specs.Mapped.{IsMapped, IsUnmapped}
 use Rattle.av_compile.specs.Headline.{Headline}
 use Rattle.av_cli.specs.Runs.{no_mark}
 use Rattle.av_cli.specs.inner.Written.{refused}
-use Rattle.av_cli.specs.inner.Reported.{GivesReportWith}
+use Rattle.av_cli.specs.inner.Reported.{GivesReportWith, IsClockable}
 use Rattle.av_cli.proofs.Reporting.{clockable, run_refused, report_answered}
 use Rattle.av_cli.proofs.runs.answer_run.Goals as goal
+
+pub report_on-requires-clause-plan : goal.report_on-requires-clause-plan
+report_on-requires-clause-plan g c = c.in-Ok-compile.ensures.headline.plan.is_plan.sound
 
 pub report_on-requires-clause-clockable : goal.report_on-requires-clause-clockable
 report_on-requires-clause-clockable g c =
     let made = c.in-Ok-compile.compiled in
-    clockable c.in-Some.parts.text.now c.as_slice.result.now c.args.width.bits c.args.reach.size made.timed made.cells made.design c.in-Ok-compile.ensures.headline c.in-Ok-compile.ensures.mapped
+    subst (λ (d : Design). IsClockable made.timed d) (sym c.in-Ok-compile.ensures.design)
+    (clockable c.in-Some.parts.text.now c.as_slice.result.now c.args.width.bits c.args.reach.size made.timed made.cells made.plan c.in-Ok-compile.ensures.headline c.in-Ok-compile.ensures.mapped)
 
 pub returns-in_default : goal.returns-in_default
 returns-in_default g c = refused (record { sizes = c.in-Ok.sizes; give = c.in-Ok.ensures.given; refuses = no_mark c.in_default.ensures.none refl }) c.put.ensures
@@ -32,7 +37,7 @@ returns g c =
     let bits = c.args.width.bits in
     let box = c.args.reach.size in
     let text = c.in-Some.parts.text.now in
-    report_answered text c.in-Ok.sizes bits box made.timed made.cells made.design (omega (arith, c.in-Some.ensures.within, c.requires))
-    (subst (λ (xs : List Size). Headline text xs bits box made.timed made.cells made.design) c.as_slice.ensures c.in-Ok-compile.ensures.headline)
+    report_answered text c.in-Ok.sizes bits box made.timed made.cells made.plan (omega (arith, c.in-Some.ensures.within, c.requires))
+    (subst (λ (xs : List Size). Headline text xs bits box made.timed made.cells made.plan) c.as_slice.ensures c.in-Ok-compile.ensures.headline)
     (subst (λ (xs : List Size). IsMapped text xs bits box made.timed made.cells) c.as_slice.ensures c.in-Ok-compile.ensures.mapped)
-    c.args.words.now c.args.report c.in-Some.parts.rest.now c.args.bytes.now c.in-Some.parts.first_line c.in-Some.ensures.some c.in-Ok.ensures.given c.report_on.ensures
+    made.design c.in-Ok-compile.ensures.design c.args.words.now c.args.report c.in-Some.parts.rest.now c.args.bytes.now c.in-Some.parts.first_line c.in-Some.ensures.some c.in-Ok.ensures.given c.report_on.ensures

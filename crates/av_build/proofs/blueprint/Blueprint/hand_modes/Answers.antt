@@ -5,11 +5,10 @@ use Rattle.av_flat.specs.Trees.{Tree, view, view_variable, view_system}
 use Rattle.av_space.specs.declared.layout.Slot.{Slot}
 use Rattle.av_space.specs.declared.tap.Place.{Place}
 use Rattle.av_space.specs.Spots.{system_of}
-use Rattle.av_history.specs.Problems.{number_count}
 use Rattle.av_history.specs.Widths.{read_width}
 use Rattle.av_kinds.specs.declared.program.Inlet.TheVariants.{Taps}
 use Rattle.av_kinds.specs.declared.program.Interval.{Interval}
-use Rattle.av_kinds.specs.Counters.{count_in}
+use Rattle.av_kinds.specs.Counters.{count_in, number_count}
 use Rattle.av_kinds.specs.Programs.{Work, Mode}
 use Rattle.av_kinds.specs.Written.{ModeMade, mode_of}
 use Rattle.av_build.specs.declared.intervals.Mark.{Mark}

@@ -1,8 +1,7 @@
 use Rattle.std.proofs.Common.{◌<◌, refl, sym, subst}
 use Rattle.std.specs.Prelude.{AllPairs}
 use Rattle.av_space.specs.declared.layout.Slot.{Slot}
-use Rattle.av_history.specs.Problems.{number_count}
-use Rattle.av_kinds.specs.Counters.{count_in}
+use Rattle.av_kinds.specs.Counters.{count_in, number_count}
 use Rattle.av_build.specs.inner.Blueprints.{lanes_of}
 use Rattle.av_build.specs.inner.Lanes.{IsValueSite}
 use Rattle.av_build.specs.inner.Orders.{AreWithin, IsInOrder}
