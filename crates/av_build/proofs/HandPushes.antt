@@ -1,12 +1,10 @@
 -- One computation of a place with a helper: whether its point is entered, or the helper's word at the point before is read there.
-use Rattle.std.proofs.Common.{◌≡◌, ℕ, ◌++◌, ◌↔◌, inl, inr, List, [], ◌∷◌, sym, ◌∙◌, true, false, IsTrue}
-use Rattle.av_tree.specs.Points.{Point}
+use Rattle.std.proofs.Common.{◌≡◌, ℕ, ◌++◌, inl, inr, [], ◌∷◌, sym, ◌∙◌, true, false, IsTrue}
 use Rattle.av_flat.specs.Trees.{Tree}
 use Rattle.av_flat.specs.Points.{has}
-use Rattle.av_flat.specs.Helped.{before, IsEntry}
+use Rattle.av_flat.specs.Helped.{before}
 use Rattle.av_space.specs.declared.layout.Slot.{Slot}
 use Rattle.av_space.specs.Taps.{Handing}
-use Rattle.av_kinds.specs.declared.program.Source.{Source}
 use Rattle.av_history.specs.Performing.{Array, Lanes, Spot}
 use Rattle.av_build.specs.declared.intervals.Mark.{Mark}
 use Rattle.av_build.specs.declared.moments.Moment.{Moment}

@@ -1,5 +1,5 @@
 -- The cells that have a lane for a helper: those with a computation of its piece, and with them the cells that hand its word on.
-use Rattle.std.proofs.Common.{◌≡◌, ℕ, ◌+◌, List, length, map, refl, sym, ap, subst, ◌∙◌, arith, IsTrue, Some}
+use Rattle.std.proofs.Common.{◌≡◌, ℕ, ◌+◌, List, map, refl, sym, ap, subst, ◌∙◌, arith, IsTrue, Some}
 use Rattle.std.specs.Prelude.{slice_get}
 use Rattle.av_base.proofs.Lists.{some_is, there_is, place_in}
 use Rattle.av_tree.specs.Points.{Point}
@@ -76,7 +76,7 @@ module _ (b : Blueprint) (is : IsBlueprint b) (j : ℕ) (h : Helper) (v : Variab
         let spot = there.2 in
         let variable = spot_variable at.0 there.0 spot in
         let here : view_piece at.0.piece.now ≡ piece = some_is (view_piece at.0.piece.now) piece
-            (sym spot.is_piece ∙ ap (λ (i : ℕ). slice_get (view_variable at.0.var.now).pieces i) at.2 ∙ ap (λ (u : Variable). slice_get u.pieces h.piece) variable ∙ it.is_piece) in
+        (sym spot.is_piece ∙ ap (λ (i : ℕ). slice_get (view_variable at.0.var.now).pieces i) at.2 ∙ ap (λ (u : Variable). slice_get u.pieces h.piece) variable ∙ it.is_piece) in
         let read : slice_get (references (view_piece at.0.piece.now).tree) h.site ≡ Some r = ap (λ (q : Piece). slice_get (references q.tree) h.site) here ∙ it.is_reference in
         let place = told at.0.number 0 (view_piece at.0.piece.now).tree h.site r read in
         let number : 0 + h.site ≡ h.site = omega arith in
@@ -85,8 +85,8 @@ module _ (b : Blueprint) (is : IsBlueprint b) (j : ℕ) (h : Helper) (v : Variab
         let placed = at_index (IsSiteOf w at.0) own.0 sites.each place.0 site.0 site.1 in
         let var_is : at.0.place ≡ h.var = spot.place ∙ ap (node_place (system_of w)) (node_of_spot at.0 there.0 spot) ∙ own_place (system_of w) h.var v it.is_variable it.is_node in
         let handing : site.0.handing ≡ Some (record { number = j; direction = h.direction }) =
-            placed.handing ∙ ap (λ (q : Place). handing_by (helpers_of w) at.0.place q q.tree) site.2 ∙ ap (λ (i : ℕ). helper_at (helpers_of w) at.0.place at.0.number i) number
-            ∙ ap (λ (i : ℕ). helper_at (helpers_of w) i at.0.number h.site) var_is ∙ ap (λ (i : ℕ). helper_at (helpers_of w) h.var i h.site) at.2 ∙ it.is_first in
+        placed.handing ∙ ap (λ (q : Place). handing_by (helpers_of w) at.0.place q q.tree) site.2 ∙ ap (λ (i : ℕ). helper_at (helpers_of w) at.0.place at.0.number i) number
+        ∙ ap (λ (i : ℕ). helper_at (helpers_of w) i at.0.number h.site) var_is ∙ ap (λ (i : ℕ). helper_at (helpers_of w) h.var i h.site) at.2 ∙ it.is_first in
         let found = helper_of_place plan.pieces k.0 own.0 own.1 place.0 site.0 site.1 (record { number = j; direction = h.direction }) handing in
         (found.0, record { number = j; piece = k.0; site = place.0 }, found.1, refl)
 

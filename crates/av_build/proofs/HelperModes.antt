@@ -2,10 +2,8 @@
 use Rattle.std.proofs.Common.{◌≡◌, ℕ, suc, ◌<◌, List, [], ◌∷◌, length, refl, sym, ap, ap₂, subst, ◌∙◌, Some, None}
 use Rattle.std.specs.Prelude.{slice_get}
 use Rattle.av_base.specs.declared.width.Width.{Width}
-use Rattle.av_base.proofs.Lists.{some_is, there_is}
-use Rattle.av_flat.specs.declared.timed.Helper.{Helper}
-use Rattle.av_flat.specs.Trees.{Tree, Piece, Variable, FlatSystem, view, view_variable, reference}
-use Rattle.av_flat.specs.Broadcasts.{Reference}
+use Rattle.av_base.proofs.Lists.{some_is}
+use Rattle.av_flat.specs.Trees.{Tree, Variable, FlatSystem, view, view_variable, reference}
 use Rattle.av_space.specs.declared.array.Array.{Array as ArrayMade}
 use Rattle.av_space.specs.declared.spots.Spot.{Spot as SpotMade}
 use Rattle.av_space.specs.Links.{line_length}
@@ -17,20 +15,20 @@ use Rattle.av_kinds.specs.declared.program.Inlet.TheVariants.{Taps}
 use Rattle.av_kinds.specs.declared.program.Site.{Site}
 use Rattle.av_kinds.specs.Counters.{count_in}
 use Rattle.av_kinds.specs.Programs.{Mode, Lane}
-use Rattle.av_history.specs.Performing.{IsHelper, helper_spot}
+use Rattle.av_history.specs.Performing.{helper_spot}
 use Rattle.av_history.specs.Widths.{read_width}
 use Rattle.av_build.specs.declared.blueprint.Blueprint.{Blueprint}
 use Rattle.av_build.specs.declared.blueprint.HelperPlan.{HelperPlan}
 use Rattle.av_build.specs.declared.moments.HandMoments.{HandMoments}
-use Rattle.av_build.specs.inner.Blueprints.{seen, spot_of, lanes_of, helpers_on, ArePieces, IsBlueprint, IsCounted}
+use Rattle.av_build.specs.inner.Blueprints.{seen, spot_of, lanes_of, ArePieces, IsBlueprint, IsCounted}
 use Rattle.av_build.specs.inner.Intervals.{intervals_by}
-use Rattle.av_build.specs.inner.Lanes.{HasPlan, IsHelperFrame, AreHelperModes, IsHelperOn, IsBuiltBy}
+use Rattle.av_build.specs.inner.Lanes.{HasPlan, AreHelperModes, IsHelperOn, IsBuiltBy}
 use Rattle.av_build.specs.inner.Moments.{site_by}
 use Rattle.av_build.specs.inner.Orders.{IsInOrder}
 use Rattle.av_build.specs.inner.Programmed.{inlet_by, one_site, IsHelperLane}
 use Rattle.av_build.specs.inner.Sources.{AreHandMomentsTo}
 use Rattle.av_build.proofs.HandModes.{hand_lane}
-use Rattle.av_build.proofs.HelperPlaces.{IsHelped, helped, spot_at, variable_is, tree_is, spot_is, moments_are, slots_are}
+use Rattle.av_build.proofs.HelperPlaces.{IsHelped, helped, spot_at, variable_is, tree_is, moments_are, slots_are}
 use Rattle.av_build.proofs.HelpersOn.{IsFromPlace, place_of_helper}
 use Rattle.av_build.proofs.SeenArray.{one_seen}
 
@@ -93,9 +91,9 @@ module _ (b : Blueprint) (is : IsBlueprint b) (at : SpotMade) (h : HelperPlan) (
         let wide = ap (λ (u : Variable). u.width) variable in
         let read : tree ≡ reference r.place r.map = tree_is w is.array at.cell pieces there h from_place at x helper v piece r it in
         let first : entry_mode ≡ mode_by (inlet_by s (λ j. j) None (reference r.place r.map)) (reference r.place r.map) =
-            ap (λ (y : Site). record { intervals = intervals_by found.entry_marks; work = one_site y tree }) entries_are ∙ ap (λ (t : Tree). mode_by (inlet_by s (λ j. j) None t) t) read in
+        ap (λ (y : Site). record { intervals = intervals_by found.entry_marks; work = one_site y tree }) entries_are ∙ ap (λ (t : Tree). mode_by (inlet_by s (λ j. j) None t) t) read in
         let second : own_mode ≡ record { intervals = intervals_by found.own_marks; work = one_site (site_by Taps width found.own) (reference r.place r.map) } =
-            ap₂ (λ (y : Site) (t : Tree). record { intervals = intervals_by found.own_marks; work = one_site y t }) own_is read in
+        ap₂ (λ (y : Site) (t : Tree). record { intervals = intervals_by found.own_marks; work = one_site y t }) own_is read in
         hand_lane (seen w) counter (lanes_of b.cells) (helper_spot (seen w) helper v piece at.cell) h.number helper r
         (λ c d m n y z. counted.within at.cell c d m n y z) (λ c m n y z. one_seen w is.array at.cell c m n y z)
         at.slots (slots_are w is.array at.cell pieces there h from_place at x helper v piece r it) order in_order

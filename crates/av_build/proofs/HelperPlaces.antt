@@ -1,5 +1,5 @@
 -- The helpers of a cell as helpers of the array, and the modes of their lanes.
-use Rattle.std.proofs.Common.{◌≡◌, ℕ, zero, suc, ◌+◌, ◌<◌, List, [], ◌∷◌, ◌++◌, length, map, refl, sym, ap, subst, ◌∙◌, arith, inl, inr, Some, length-append}
+use Rattle.std.proofs.Common.{◌≡◌, ℕ, zero, suc, ◌+◌, ◌<◌, List, [], ◌∷◌, ◌++◌, length, refl, sym, ap, subst, ◌∙◌, arith, inl, inr, Some, length-append}
 use Rattle.std.specs.Prelude.{slice_get}
 use Rattle.av_base.proofs.Lists.{get_cases, get_first, some_is, there_is}
 use Rattle.av_affine.specs.declared.map.Map.{Map}
@@ -10,7 +10,6 @@ use Rattle.av_flat.specs.Broadcasts.{Reference, references}
 use Rattle.av_flat.specs.Nodes.{number_at}
 use Rattle.av_flat.specs.Signatures.{signatures}
 use Rattle.av_space.specs.declared.array.Array.{Array as ArrayMade}
-use Rattle.av_space.specs.declared.layout.Slot.{Slot}
 use Rattle.av_space.specs.declared.spots.Site.{Site as PlaceMade}
 use Rattle.av_space.specs.declared.spots.Spot.{Spot as SpotMade}
 use Rattle.av_space.specs.Sites.{place_of}
@@ -47,7 +46,6 @@ by_tree hs own p (restriction d u) h e f = absurd cc
 by_tree hs own p (cases ts) h e f = absurd cc
 by_tree hs own p (dependence m u) h e f = absurd cc
 by_tree hs own p (reduction o m u set) h e f = absurd cc
-
 
 -- ---- the place of a reference
 
@@ -142,28 +140,30 @@ module _ (w : ArrayMade) (is : IsArray w) (p : ℕ) (pieces : Pieces) (are : Are
       let handing : ◌≡◌ {A = Handing} on.handing (record { number = h.number; direction = f.helper.direction }) =
       ap (λ (k : ℕ). record { number = k; direction = on.handing.direction }) (sym on.number) ∙ ap (λ (z : Point). record { number = h.number; direction = z }) (sym f.direction_is) in
       let whole : slice_get (references (view at.piece.now.tree)) q.site ≡ Some (record { place = r.place; map = r.map_is }) =
-      subst (IsPlaceBy (signatures s) (references (view at.piece.now.tree)) q) r.tree (known w is at spot on.site placed) in
-      (at, record {
-        is_spot = here.1;
-        placed = placed;
-        helper = f.helper;
-        place = r.place;
-        map_is = r.map_is;
-        tree = r.tree;
-        helps = record {
-          is_helper = subst (λ (k : ℕ). slice_get (helpers_of w) k ≡ Some f.helper) same f.is_helper;
-          is_first = ap (λ (k : ℕ). helper_at (helpers_of w) k f.helper.piece f.helper.site) f.var_is ∙ ap (λ (k : ℕ). helper_at (helpers_of w) at.place k f.helper.site) f.piece_is
-              ∙ ap (λ (k : ℕ). helper_at (helpers_of w) at.place at.number k) f.site_is ∙ found ∙ ap (λ (x : Handing). Some x) handing;
-          is_variable = ap (slice_get s.variables) f.var_is ∙ n.variable;
-          is_node = n.node;
-          is_piece = ap (slice_get (view_variable at.var.now).pieces) f.piece_is ∙ spot.is_piece;
-          is_reference = ap (slice_get (references (view at.piece.now.tree))) f.site_is ∙ whole;
-        };
-        node = ap (number_at s) f.var_is ∙ n.number;
-        piece = f.piece_is;
-        site = f.site_is;
-        direction = f.direction_is;
-      })
+      subst (IsPlaceBy (signatures s) (references (view at.piece.now.tree)) q) r.tree (known w is at spot on.site placed) in (
+        at,
+        record {
+          is_spot = here.1;
+          placed = placed;
+          helper = f.helper;
+          place = r.place;
+          map_is = r.map_is;
+          tree = r.tree;
+          helps = record {
+            is_helper = subst (λ (k : ℕ). slice_get (helpers_of w) k ≡ Some f.helper) same f.is_helper;
+            is_first = ap (λ (k : ℕ). helper_at (helpers_of w) k f.helper.piece f.helper.site) f.var_is ∙ ap (λ (k : ℕ). helper_at (helpers_of w) at.place k f.helper.site) f.piece_is
+                ∙ ap (λ (k : ℕ). helper_at (helpers_of w) at.place at.number k) f.site_is ∙ found ∙ ap (λ (x : Handing). Some x) handing;
+            is_variable = ap (slice_get s.variables) f.var_is ∙ n.variable;
+            is_node = n.node;
+            is_piece = ap (slice_get (view_variable at.var.now).pieces) f.piece_is ∙ spot.is_piece;
+            is_reference = ap (slice_get (references (view at.piece.now.tree))) f.site_is ∙ whole;
+          };
+          node = ap (number_at s) f.var_is ∙ n.number;
+          piece = f.piece_is;
+          site = f.site_is;
+          direction = f.direction_is;
+        },
+      )
 
   -- whichever way the helper is told
   module _ (h : HelperPlan) (on : IsFromPlace pieces h) (at : SpotMade) (e : IsHelped h at on.site on.handing) (other : Helper) (v : Variable) (piece : Piece) (r : Reference) (it : IsHelper (seen w) h.number other v piece r) where

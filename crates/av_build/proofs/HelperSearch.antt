@@ -53,9 +53,9 @@ module _ (b : Blueprint) (is : IsBlueprint b) (p j : ℕ) (has : HasHelper b p j
       let same : of_helper p helper.0 ≡ lane = some_is (of_helper p helper.0) lane (sym own ∙ is_lane) in
       let same_number : helper.0.number ≡ j = equal helper.0.number j (ap (λ (l : LanePlan). is_of_helper l j) same ∙ holds) in
       let place : helper_place j (helpers_on plan.pieces) ≡ i = place_found j (helpers_on plan.pieces) i helper.0 helper.1 same_number (λ k g lt is_g e. (
-          let fails = none (plan.lanes.first + k) (of_helper p g) (omega arith) (omega (arith, lt, low)) (lane_at k g is_g) in
-          let also : nat_eq g.number j ≡ true = ap (λ (m : ℕ). nat_eq m j) e ∙ same_eq j in
-          absurd (let both = sym fails ∙ also in cc))) in
+      let fails = none (plan.lanes.first + k) (of_helper p g) (omega arith) (omega (arith, lt, low)) (lane_at k g is_g) in
+      let also : nat_eq g.number j ≡ true = ap (λ (m : ℕ). nat_eq m j) e ∙ same_eq j in
+      absurd (let both = sym fails ∙ also in cc))) in
       let told : (lanes_of b.cells).of_helper j p ≡ plan.lanes.first + helper_place j (helpers_on plan.pieces) = ap (λ (o : Option CellPlan). helper_in j o) has.is_plan in
       omega (arith, told, place, at)
     where

@@ -4,7 +4,6 @@ use Rattle.std.specs.Prelude.{slice_get}
 use Rattle.av_flat.specs.Trees.{FlatSystem, view_variable}
 use Rattle.av_flat.specs.Nodes.{is_node, number_at}
 use Rattle.av_space.specs.declared.array.Array.{Array as ArrayMade}
-use Rattle.av_space.specs.declared.layout.Slot.{Slot}
 use Rattle.av_space.specs.declared.spots.Spot.{Spot as SpotMade}
 use Rattle.av_space.specs.Spots.{system_of, IsSpot, IsSlotIn}
 use Rattle.av_space.specs.Taps.{node_place}

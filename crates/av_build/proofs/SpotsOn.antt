@@ -16,7 +16,7 @@ use Rattle.av_space.proofs.SpotReadings.{declared_read}
 use Rattle.av_kinds.specs.declared.counter.Counter.{Counter}
 use Rattle.av_kinds.specs.Counters.{number_count}
 use Rattle.av_build.specs.declared.blueprint.Blueprint.{Blueprint}
-use Rattle.av_build.specs.inner.Blueprints.{IsBlueprint, IsCounted, IsSpotOn, IsPlaceOn, HasHelper}
+use Rattle.av_build.specs.inner.Blueprints.{IsBlueprint, IsCounted, IsSpotOn, HasHelper}
 use Rattle.av_build.specs.inner.Lanes.{HasVariable}
 use Rattle.av_build.specs.inner.Orders.{AreWithin}
 use Rattle.av_build.proofs.HelperPlaces.{spot_at}

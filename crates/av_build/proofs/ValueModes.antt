@@ -17,7 +17,6 @@ use Rattle.av_space.proofs.ByPlace.{from_map}
 use Rattle.av_space.proofs.Elements.{at_index}
 use Rattle.av_space.proofs.OnCells.{slot_points}
 use Rattle.av_kinds.specs.declared.counter.Counter.{Counter}
-use Rattle.av_kinds.specs.Counters.{count_in}
 use Rattle.av_kinds.specs.Programs.{Work, Mode}
 use Rattle.av_kinds.specs.Written.{ModeMade, mode_of}
 use Rattle.av_build.specs.declared.blueprint.Blueprint.{Blueprint}

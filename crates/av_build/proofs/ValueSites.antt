@@ -1,5 +1,5 @@
 -- What brings the word of a place to the value of its cell: its moments, or the lane of its helper.
-use Rattle.std.proofs.Common.{◌≡◌, ◌⊎◌, ℕ, ◌<◌, inl, inr, List, [], length, refl, sym, ap, ap₂, subst, ◌∙◌, IsTrue, Option, Some, None}
+use Rattle.std.proofs.Common.{◌≡◌, ◌⊎◌, ℕ, ◌<◌, inr, List, length, refl, sym, ap, ap₂, subst, ◌∙◌, Option, Some, None}
 use Rattle.std.specs.Prelude.{slice_get}
 use Rattle.std.specs.List.{AllByRecursion}
 use Rattle.av_base.specs.declared.width.Width.{Width}
@@ -8,10 +8,8 @@ use Rattle.av_affine.specs.declared.map.Map.{Map}
 use Rattle.av_tree.specs.Points.{Point}
 use Rattle.av_flat.specs.Trees.{Tree, FlatSystem, view, view_variable, reference, constant, binary, choice, restriction, cases, dependence, reduction, pick}
 use Rattle.av_flat.specs.Broadcasts.{references}
-use Rattle.av_flat.specs.Points.{has}
 use Rattle.av_flat.specs.Signatures.{signatures}
 use Rattle.av_space.specs.declared.array.Array.{Array as ArrayMade}
-use Rattle.av_space.specs.declared.layout.Slot.{Slot}
 use Rattle.av_space.specs.declared.spots.Site.{Site as PlaceMade}
 use Rattle.av_space.specs.declared.spots.Spot.{Spot as SpotMade}
 use Rattle.av_space.specs.Sites.{place_of}
@@ -38,7 +36,7 @@ use Rattle.av_build.specs.inner.Lanes.{IsPipeSite}
 use Rattle.av_build.specs.inner.Moments.{site_by}
 use Rattle.av_build.specs.inner.Orders.{IsInOrder, AreMoments}
 use Rattle.av_build.specs.inner.Programmed.{Always, IsRight, IsSiteFor, inlet_by, pipe_in, IsPiped, IsPlaceSite}
-use Rattle.av_build.proofs.HelperPlaces.{IsReference, by_tree}
+use Rattle.av_build.proofs.HelperPlaces.{by_tree}
 use Rattle.av_build.proofs.MomentLemmas.{site_for}
 use Rattle.av_build.proofs.PlaceSources.{piped_source}
 use Rattle.av_build.proofs.SiteLemmas.{site_inlet, site_width}

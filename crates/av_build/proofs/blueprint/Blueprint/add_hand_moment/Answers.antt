@@ -44,9 +44,9 @@ returns-in-Some c =
     let is_own : c.is_some-is_own.result ≡ true = c.is_some-is_own.ensures ∙ ap is_some c.in-Some.is in
     let link = hand_link b.array lanes at mine c.requires.site c.args.slot.now c.args.handing.now c.requires.handing (view mine.place.tree) refl r.producer r.delay source c.handed_source-source.ensures told.1 in
     on_ok_weaker c.push-in-Some.result (λ pushed. handed_added (seen b.array) lanes (spot_of at) mine.place.site c.args.handing.now (view mine.place.tree) c.args.slot.now c.args.number c.args.moments.now
-        (record { entries = c.args.moments.now.entries; own = c.push-in-Some.new.self; entry_marks = c.push.new.self; own_marks = c.push-2.new.self })
-        (record { number = c.args.number; holds = not c.is_some-is_own.result }) (record { number = c.args.number; holds = c.is_some-is_own.result })
-        c.in_ok-push.ensures.ok refl c.in_ok-push-2.ensures.ok refl (record { number = c.args.number; source = source }) refl (ap not is_own) is_own told.0 pushed refl link) c.push-in-Some.ensures.ok
+    (record { entries = c.args.moments.now.entries; own = c.push-in-Some.new.self; entry_marks = c.push.new.self; own_marks = c.push-2.new.self })
+    (record { number = c.args.number; holds = not c.is_some-is_own.result }) (record { number = c.args.number; holds = c.is_some-is_own.result })
+    c.in_ok-push.ensures.ok refl c.in_ok-push-2.ensures.ok refl (record { number = c.args.number; source = source }) refl (ap not is_own) is_own told.0 pushed refl link) c.push-in-Some.ensures.ok
 
 pub returns-in-None : goal.returns-in-None
 returns-in-None c =
@@ -60,6 +60,6 @@ returns-in-None c =
     let not_own : c.is_some-is_own.result ≡ false = c.is_some-is_own.ensures ∙ ap is_some c.in-None.is in
     let own = hand_own b.array lanes at mine c.requires.site c.args.slot.now c.args.handing.now c.requires.handing (view mine.place.tree) refl source c.own_source-source.ensures in
     on_ok_weaker c.push-in-None.result (λ pushed. entry_added (seen b.array) lanes (spot_of at) mine.place.site c.args.handing.now (view mine.place.tree) c.args.slot.now c.args.number c.args.moments.now
-        (record { entries = c.push-in-None.new.self; own = c.args.moments.now.own; entry_marks = c.push.new.self; own_marks = c.push-2.new.self })
-        (record { number = c.args.number; holds = not c.is_some-is_own.result }) (record { number = c.args.number; holds = c.is_some-is_own.result })
-        c.in_ok-push.ensures.ok refl c.in_ok-push-2.ensures.ok refl (record { number = c.args.number; source = source }) refl (ap not not_own) not_own c.requires.slot.within told pushed refl own) c.push-in-None.ensures.ok
+    (record { entries = c.push-in-None.new.self; own = c.args.moments.now.own; entry_marks = c.push.new.self; own_marks = c.push-2.new.self })
+    (record { number = c.args.number; holds = not c.is_some-is_own.result }) (record { number = c.args.number; holds = c.is_some-is_own.result })
+    c.in_ok-push.ensures.ok refl c.in_ok-push-2.ensures.ok refl (record { number = c.args.number; source = source }) refl (ap not not_own) not_own c.requires.slot.within told pushed refl own) c.push-in-None.ensures.ok

@@ -91,5 +91,5 @@ returns c = λ other spot is_other is_spot.
     let mode = piece_mode b is p plan here k at is_at slots c.slots-all.ensures count c.as_slice-4.result.now order c.in_ok-marks.marks c.in_ok-marks.ensures work in
     let intervals = c.in_ok-intervals.ensures ∙ ap (λ (l : List Mark). intervals_by l) c.as_slice-5.ensures in
     let active =
-      subst (λ (l : List Interval). IsModeFor (seen b.array) count p (λ m z. m ≡ at.node) (λ m z. IsTrue (has at.piece.now.domain z)) (record { intervals = l; work = work })) (sym intervals) mode in
+    subst (λ (l : List Interval). IsModeFor (seen b.array) count p (λ m z. m ≡ at.node) (λ m z. IsTrue (has at.piece.now.domain z)) (record { intervals = l; work = work })) (sym intervals) mode in
     subst (λ (x : Spot). IsValueWork b c.args.counter x work × IsModeFor (seen b.array) count p (λ m z. m ≡ x.node) (λ m z. IsTrue (has x.piece.now.domain z)) (record { intervals = c.in_ok-intervals.field-0; work = work })) one (c.in_ok-work.ensures, active)

@@ -64,6 +64,6 @@ returns c =
     let inlet_is = c.inlet_of.ensures ∙ ap (λ (f : Flat). inlet_by (view_system f) (λ j. j) None own) c.requires.flat ∙ ap (λ (t : Tree). inlet_by (system_of b.array) (λ j. j) None t) tree in
     let width_is = c.width_read-width.ensures ∙ ap (λ (f : Flat). read_width (view_system f) (view_variable at.var.now).width None own) c.requires.flat ∙ ap (λ (t : Tree). read_width (system_of b.array) (view_variable at.var.now).width None t) tree in
     IfOk-weaker c.site.result _ _ (λ site e plan is_plan.
-        plain_site b c.requires.blueprint c.args.counter at (spot_there b c.requires.blueprint at on.sites on.spot_on) place (site_at b c.requires.blueprint at on.sites on.spot_on on.index place on.is_place) plan is_plan
-        c.in_default.is c.args.order.now c.requires.order moments c.in_ok-moments.ensures inlet inlet_is width width_is site
-        (e ∙ ap (λ (l : List Moment). site_by inlet width l) c.as_slice.ensures)) c.site.ensures
+    plain_site b c.requires.blueprint c.args.counter at (spot_there b c.requires.blueprint at on.sites on.spot_on) place (site_at b c.requires.blueprint at on.sites on.spot_on on.index place on.is_place) plan is_plan
+    c.in_default.is c.args.order.now c.requires.order moments c.in_ok-moments.ensures inlet inlet_is width width_is site
+    (e ∙ ap (λ (l : List Moment). site_by inlet width l) c.as_slice.ensures)) c.site.ensures
