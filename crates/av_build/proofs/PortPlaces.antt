@@ -1,5 +1,5 @@
 -- The place of a piece at which the words of an input port are read.
-use Rattle.std.proofs.Common.{◌≡◌, ℕ, ◌+◌, ◌<◌, List, length, map, refl, sym, ap, subst, ◌∙◌, arith, Bool, true, false, Some, None}
+use Rattle.std.proofs.Common.{◌≡◌, ℕ, ◌+◌, ◌<◌, List, length, map, refl, sym, ap, subst, ◌∙◌, arith, true, Some, None}
 use Rattle.std.specs.Prelude.{Contains, nat_eq, slice_get}
 use Rattle.av_base.specs.declared.width.Width.{Width}
 use Rattle.av_base.proofs.Among.{among_at}
@@ -18,20 +18,19 @@ use Rattle.av_space.specs.declared.spots.Spot.{Spot as SpotMade}
 use Rattle.av_space.specs.Ports.{IsPort}
 use Rattle.av_space.specs.Sites.{place_of}
 use Rattle.av_space.specs.Spots.{system_of, helpers_of, placings_of, cells_of, ComputesIn, IsSpot, IsSiteOf}
-use Rattle.av_space.specs.Taps.{Place, places_in}
+use Rattle.av_space.specs.Taps.{Place}
 use Rattle.av_space.proofs.ByPlace.{from_map}
-use Rattle.av_space.proofs.Elements.{at_index, in_range}
+use Rattle.av_space.proofs.Elements.{in_range}
 use Rattle.av_space.proofs.Helpers.{equal}
 use Rattle.av_space.proofs.SpotPlaces.{IsPlaceBy}
 use Rattle.av_space.proofs.SpotReadings.{known}
 use Rattle.std.proofs.lemmas.List.Elements.{All-contains}
-use Rattle.av_history.specs.Performing.{ComputesOn}
 use Rattle.av_history.specs.Widths.{read_width, width_at}
 use Rattle.av_build.specs.declared.blueprint.Blueprint.{Blueprint}
 use Rattle.av_build.specs.declared.blueprint.CellPlan.{CellPlan}
 use Rattle.av_build.specs.inner.Blueprints.{seen, ArePieces, IsBlueprint}
 use Rattle.av_build.specs.inner.Built.{IsPortWidth}
-use Rattle.av_build.specs.inner.Lanes.{HasVariable, is_reference_at, HasReference, IsReferenceIn, IsPortPlace, HasPortPlace}
+use Rattle.av_build.specs.inner.Lanes.{HasVariable, is_reference_at, HasReference, IsPortPlace, HasPortPlace}
 use Rattle.av_build.proofs.AlikeLanes.{cell_node}
 use Rattle.av_build.proofs.HelperPlaces.{told, spot_at}
 use Rattle.av_build.proofs.SpotsOn.{variable_there}
