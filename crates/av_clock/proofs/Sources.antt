@@ -21,9 +21,10 @@ use Rattle.av_clock.specs.declared.gate.Assignment.{Assignment}
 use Rattle.av_clock.specs.declared.gate.FlipFlop.{FlipFlop}
 use Rattle.av_clock.specs.declared.passes.Alias.{Alias}
 use Rattle.av_clock.specs.declared.passes.Fixed.{Fixed}
+use Rattle.av_clock.specs.declared.passes.Passes.{Passes}
 use Rattle.av_clock.specs.Named.{named}
 use Rattle.av_clock.specs.inner.Gates.{reading_word, IsWithin, AreStepped, AreTaken}
-use Rattle.av_clock.specs.inner.Passes.{IsFinal, IsCopied, IsCovered, AreFinalAt, AreInPasses, AreSources, AreNexts, IsSource, resolved, at_source}
+use Rattle.av_clock.specs.inner.Passes.{IsFinal, IsCopied, IsCovered, AreFinalAt, AreInPasses, AreSources, AreNexts, ArePasses, IsSource, resolved, at_source}
 use Rattle.av_clock.proofs.Edges.{no_flip_flop, for_read, next_within}
 use Rattle.av_clock.proofs.Edges as edges
 use Rattle.av_clock.proofs.Final.{no_alias}
@@ -92,19 +93,25 @@ no_copies inputs copied sources count own place lt = inl (own place lt, λ other
 -- one more copy, of an input port or not
 pub port_more : (inputs : ℕ) (before : List Alias) (alias : Alias) (place source : ℕ) → alias.source < inputs → IsSource inputs before place source → IsSource inputs (before ++ alias ∷ []) place source
 port_more inputs before alias place source low is = elim is [
-  | inl (own, only) ↦ inl (own, λ other there. elim (Contains-push_cases before alias (record { target = place; source = other }) there) [
-    | inl earlier ↦ only other earlier
-    | inr e ↦ let same : alias.source ≡ other = ap (λ (a : Alias). a.source) e in omega (arith, low, same)
-  ])
+  | inl (own, only) ↦ inl (
+    own,
+    λ other there. elim (Contains-push_cases before alias (record { target = place; source = other }) there) [
+      | inl earlier ↦ only other earlier
+      | inr e ↦ let same : alias.source ≡ other = ap (λ (a : Alias). a.source) e in omega (arith, low, same)
+    ],
+  )
   | inr (there, past) ↦ inr (Contains-append_left before (alias ∷ []) (record { target = place; source = source }) there, past)
 ]
 
 copy_more : (inputs : ℕ) (before : List Alias) (alias : Alias) (place source : ℕ) → place ≢ alias.target → IsSource inputs before place source → IsSource inputs (before ++ alias ∷ []) place source
 copy_more inputs before alias place source ne is = elim is [
-  | inl (own, only) ↦ inl (own, λ other there. elim (Contains-push_cases before alias (record { target = place; source = other }) there) [
-    | inl earlier ↦ only other earlier
-    | inr e ↦ absurd (ne (sym (ap (λ (a : Alias). a.target) e)))
-  ])
+  | inl (own, only) ↦ inl (
+    own,
+    λ other there. elim (Contains-push_cases before alias (record { target = place; source = other }) there) [
+      | inl earlier ↦ only other earlier
+      | inr e ↦ absurd (ne (sym (ap (λ (a : Alias). a.target) e)))
+    ],
+  )
   | inr (there, past) ↦ inr (Contains-append_left before (alias ∷ []) (record { target = place; source = source }) there, past)
 ]
 
@@ -122,16 +129,26 @@ sources_port count inputs copied k alias sources lt at low so_far =
 pub sources_copy : (count inputs : ℕ) (copied : List Alias) (k : ℕ) (alias : Alias) (sources : List ℕ) → k < length copied → alias ≡ get_or copied k alias → alias.target < count → inputs ≤ alias.source → HaveSources count inputs (take k copied) sources
     → HaveSources count inputs (take (k + 1) copied) (set sources alias.target alias.source)
 sources_copy count inputs copied k alias sources lt at there past so_far =
-    subst (λ (aliases : List Alias). HaveSources count inputs aliases (set sources alias.target alias.source)) (sym (one_longer copied k alias lt at))
-    (length-set sources alias.target alias.source ∙ so_far.0, λ place below. elim (cases_eq place alias.target) [
-      | inl e ↦
-          let wrote : get_or (set sources alias.target alias.source) alias.target 0 ≡ alias.source = get_or-set_same sources alias.target alias.source 0 (rw so_far.0 there) in
-          let last : Contains (take k copied ++ alias ∷ []) alias = Contains-push (take k copied) alias in
-          rw (e, wrote) (inr (last, past))
-      | inr ne ↦
-          let kept : get_or (set sources alias.target alias.source) place 0 ≡ get_or sources place 0 = get_or-set_other sources alias.target place alias.source 0 ne in
-          rw kept (copy_more inputs (take k copied) alias place (get_or sources place 0) ne (so_far.1 place below))
-    ])
+    subst (λ (aliases : List Alias). HaveSources count inputs aliases (set sources alias.target alias.source)) (sym (one_longer copied k alias lt at)) (
+      length-set sources alias.target alias.source ∙ so_far.0,
+      λ place below. elim (cases_eq place alias.target) [
+        | inl e ↦
+            let wrote : get_or (set sources alias.target alias.source) alias.target 0 ≡ alias.source = get_or-set_same sources alias.target alias.source 0 (rw so_far.0 there) in
+            let last : Contains (take k copied ++ alias ∷ []) alias = Contains-push (take k copied) alias in
+            rw (e, wrote) (inr (last, past))
+        | inr ne ↦
+            let kept : get_or (set sources alias.target alias.source) place 0 ≡ get_or sources place 0 = get_or-set_other sources alias.target place alias.source 0 ne in
+            rw kept (copy_more inputs (take k copied) alias place (get_or sources place 0) ne (so_far.1 place below))
+      ],
+    )
+
+-- one more copy, as it was entered
+pub sources_more : (count inputs : ℕ) (copied : List Alias) (k : ℕ) (alias : Alias) (items before now : List ℕ) → k < length copied → alias ≡ get_or copied k alias → alias.target < count → before ≡ items
+    → (alias.source < inputs → now ≡ before) → (inputs ≤ alias.source → now ≡ set before alias.target alias.source) → HaveSources count inputs (take k copied) items → HaveSources count inputs (take (k + 1) copied) now
+sources_more count inputs copied k alias items before now lt at there is port copy so_far = elim (cases_lt alias.source inputs) [
+  | inl low ↦ subst (HaveSources count inputs (take (k + 1) copied)) (sym (port low ∙ is)) (sources_port count inputs copied k alias items lt at low so_far)
+  | inr past ↦ subst (HaveSources count inputs (take (k + 1) copied)) (sym (copy past ∙ ap (λ xs. set xs alias.target alias.source) is)) (sources_copy count inputs copied k alias items lt at there past so_far)
+]
 
 pub all_sources : (count inputs : ℕ) (copied : List Alias) (k : ℕ) (sources : List ℕ) → length copied ≤ k → HaveSources count inputs (take k copied) sources → HaveSources count inputs copied sources
 all_sources count inputs copied k sources past so_far = subst (λ (aliases : List Alias). HaveSources count inputs aliases sources) (take_all k copied past) so_far
@@ -244,10 +261,12 @@ pub are_nexts : (m : Module) (sources : List ℕ) (flip_flops : List FlipFlop) (
 are_nexts m sources flip_flops nexts sound are stepped is = record {
   count = size ∙ stepped.count;
   within = λ k d lt.
-      let step = for k (rw (sym size) lt) in
-      rw (at k d (rw (sym size) lt)) (source_within m sources (get_or flip_flops k no_flip_flop).next are (subst (λ n. IsWithin n (get_or flip_flops k no_flip_flop).next) are.size (next_within m sources k (get_or flip_flops k no_flip_flop) are.size step)));
+      let below : k < length flip_flops = rw (sym size) lt in
+      let step = for k below in
+      let here : get_or nexts k d ≡ at_source sources (get_or flip_flops k no_flip_flop).next = at k d below in
+      rw here (source_within m sources (get_or flip_flops k no_flip_flop).next are (subst (λ n. IsWithin n (get_or flip_flops k no_flip_flop).next) are.size (next_within m sources k (get_or flip_flops k no_flip_flop) are.size step)));
   gives = λ words long k d e lt.
-      let below = rw (sym size) lt in
+      let below : k < length flip_flops = rw (sym size) lt in
       let step = for k below in
       let flip_flop = get_or flip_flops k no_flip_flop in
       let here : get_or m.steps k e ≡ step.step = get_or_default m.steps k e step.step step.within ∙ sym step.at in
@@ -265,6 +284,30 @@ are_nexts m sources flip_flops nexts sound are stepped is = record {
 
     at : (k : ℕ) (d : Reading) → k < length flip_flops → get_or nexts k d ≡ at_source sources (get_or flip_flops k no_flip_flop).next
     at k d lt = ap (λ (rs : List Reading). get_or rs k d) is ∙ get_or-map (λ (f : FlipFlop). at_source sources f.next) flip_flops k no_flip_flop d lt
+
+-- passes as they are put together, from what each part was lent
+pub passes_found : (m : Module) (passes : Passes) (copied lent lent' : List Alias) (sources : List ℕ) (flip_flops : List FlipFlop) (size inputs : ℕ) → IsSound m → AreAll m passes.computed.items copied passes.fixed.items → AreStepped m (length m.steps) flip_flops
+    → size ≡ length (all_names m) → inputs ≡ length m.inputs → lent ≡ copied → lent' ≡ copied → sources ≡ passes.sources.items → length passes.sources.items ≡ size
+    → ((place : ℕ) → place < size → IsSource inputs lent place (get_or passes.sources.items place 0))
+    → All (Contains lent') passes.copied.items → All (λ (a : Alias). a.source < inputs → Contains passes.copied.items a) lent'
+    → passes.nexts.items ≡ map (λ (f : FlipFlop). at_source sources f.next) flip_flops → ArePasses m passes
+passes_found m passes copied lent lent' sources flip_flops size inputs sound all stepped same ports is is' own count each among kept taken =
+    let P : ℕ → Type 0 = λ n. (place : ℕ) → place < n → IsSource (length m.inputs) copied place (get_or passes.sources.items place 0) in
+    let Q : ℕ → Type 0 = λ i. (place : ℕ) → place < size → IsSource i copied place (get_or passes.sources.items place 0) in
+    let R : List Alias → Type 0 = λ aliases. (place : ℕ) → place < size → IsSource inputs aliases place (get_or passes.sources.items place 0) in
+    let each' : P (length (all_names m)) = subst P same (subst Q ports (subst R is each)) in
+    let among' : All (Contains copied) passes.copied.items = subst (λ (aliases : List Alias). All (Contains aliases) passes.copied.items) is' among in
+    let S : ℕ → Type 0 = λ i. All (λ (a : Alias). a.source < i → Contains passes.copied.items a) copied in
+    let T : List Alias → Type 0 = λ aliases. All (λ (a : Alias). a.source < inputs → Contains passes.copied.items a) aliases in
+    let kept' : S (length m.inputs) = subst S ports (subst T is' kept) in
+    let U : List ℕ → Type 0 = λ places. passes.nexts.items ≡ map (λ (f : FlipFlop). at_source places f.next) flip_flops in
+    let found : AreSources m passes.sources.items = are_sources m passes.computed.items copied passes.copied.items passes.fixed.items passes.sources.items sound all (count ∙ same) each' among' kept' in
+    record {
+      each = in_passes m passes.computed.items copied passes.copied.items passes.fixed.items passes.sources.items sound all (count ∙ same) each' among' kept';
+      sources = found;
+      covered = sources_covered m passes.computed.items copied passes.copied.items passes.fixed.items passes.sources.items sound all (count ∙ same) each' among' kept';
+      nexts = are_nexts m passes.sources.items flip_flops passes.nexts.items sound found stepped (subst U own taken);
+    }
 
 -- one more word of a register
 pub nexts_more : (m : Module) (sources words next : List ℕ) (nexts : List Reading) (k word : ℕ) (reading : Reading) → AreNexts m sources nexts → length words ≡ length (all_names m) → length next ≡ length m.steps → k < length nexts → reading ≡ get_or nexts k reading

@@ -105,6 +105,7 @@ impl<'a> Circuit<'a> {
 
     /// All drives but the copies that are left out: each place has its word at its source.
     pub(crate) fn settle(&self, passes: &Passes, words: &mut [u64])
+        requires sound { IsSound self.now }
         requires passes { ArePasses self.now passes.now }
         requires size { length words.old ≡ length (all_names self.now) }
         requires fit { AllFit self.now words.old }
@@ -119,6 +120,7 @@ impl<'a> Circuit<'a> {
 
     // The drives that compute, in order.
     fn compute_words(&self, passes: &Passes, words: &mut [u64])
+        requires sound { IsSound self.now }
         requires passes { ArePasses self.now passes.now }
         requires size { length words.old ≡ length (all_names self.now) }
         requires fit { AllFit self.now words.old }
@@ -131,6 +133,7 @@ impl<'a> Circuit<'a> {
 
     // The copies of input ports.
     fn copy_ports(&self, passes: &Passes, words: &mut [u64])
+        requires sound { IsSound self.now }
         requires passes { ArePasses self.now passes.now }
         requires size { length words.old ≡ length (all_names self.now) }
         ensures { (before : Items ℕ) → AreFinalAt self.now before words.old (IsKnown self.now passes.now.computed.items)
@@ -143,6 +146,7 @@ impl<'a> Circuit<'a> {
 
     // The drives of a constant.
     fn give_constants(&self, passes: &Passes, words: &mut [u64])
+        requires sound { IsSound self.now }
         requires passes { ArePasses self.now passes.now }
         requires size { length words.old ≡ length (all_names self.now) }
         ensures { (before : Items ℕ) → AreFinalAt self.now before words.old (IsCovered self.now passes.now.computed.items passes.now.copied.items [])

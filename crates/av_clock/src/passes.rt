@@ -1,4 +1,4 @@
-ghost use Rattle.std.specs.Prelude.{◌≡◌, ◌<◌, ℕ, length, map, slice_get, slice_index, slice_index_or, Some, All, Contains, IfOk};
+ghost use Rattle.std.specs.Prelude.{◌≡◌, ◌<◌, ◌≤◌, ℕ, length, map, slice_get, slice_set, slice_index, slice_index_or, Some, All, Contains, IfOk};
 ghost use Rattle.av_net.specs.Names.{all_names};
 ghost use Rattle.av_net.specs.Sound.{IsSound};
 ghost use Rattle.av_clock.specs.declared.gate.Reading.TheVariants.{At as AtPlace};
@@ -6,7 +6,7 @@ ghost use Rattle.av_clock.specs.inner.Gates.{AreAssigned, AreStepped, IsWithin};
 ghost use Rattle.av_clock.specs.inner.Passes.{ArePasses, IsSource, at_source};
 
 use crate::gate::{Assignment, FlipFlop, Gate, Reading};
-use crate::resolver::size_of_module;
+use crate::resolver::{inputs_of_module, size_of_module};
 use av_base::Memory;
 use av_net::Module;
 use std::alloc::Global;
@@ -52,7 +52,9 @@ impl Passes {
         requires stepped { AreStepped of.now (length of.now.steps) flip_flops.now }
         ensures { IfOk result (λ passes. ArePasses of.now passes) }
     {
-        let mut roots = own_roots(alloc, size_of_module(of))?;
+        let size = size_of_module(of);
+        let inputs = inputs_of_module(of);
+        let mut roots = own_roots(alloc, size)?;
         let mut computed = Vec::new(alloc);
         let mut copied = Vec::new(alloc);
         let mut fixed = Vec::new(alloc);
@@ -75,8 +77,7 @@ impl Passes {
             };
             roots[target] = root;
         }
-        let inputs = of.inputs.as_slice().len();
-        let sources = sources(alloc, size_of_module(of), inputs, &copied)?;
+        let sources = sources(alloc, size, inputs, &copied)?;
         let copied = copies_of_ports(alloc, inputs, &copied)?;
         let nexts = nexts(alloc, &sources, flip_flops)?;
         Ok(Passes {
@@ -131,11 +132,20 @@ fn sources(
 {
     let mut sources = own_sources(alloc, count)?;
     for alias in copied {
-        if alias.source >= inputs {
-            sources[alias.target] = alias.source;
-        }
+        leave_out(alias.target, alias.source, inputs, &mut sources);
     }
     Ok(sources)
+}
+
+// Makes the source of a copy the source of its target, unless it is an input port.
+fn leave_out(target: usize, source: usize, inputs: usize, sources: &mut [usize])
+    requires { target < length sources.old }
+    ensures port { source < inputs → sources.new ≡ sources.old }
+    ensures copy { inputs ≤ source → sources.new ≡ slice_set sources.old target source }
+{
+    if source >= inputs {
+        sources[target] = source;
+    }
 }
 
 // Those of the copies that copy one of the first places, the input ports.

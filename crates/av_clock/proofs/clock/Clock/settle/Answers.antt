@@ -60,10 +60,10 @@ invariant_of-self c = record {
   size = size_call c.self.inside.words _ c.settle_marked-computed.new.words c.settle_marked-computed.auto.words c.deref_mut.ensures.value ∙ c.self.invariant.size;
   fit = fit_call c.self.inside.circuit c.self.inside.words _ c.settle_marked-computed.new.words c.settle_marked-computed.auto.words c.deref_mut.ensures.value c.settle_marked-computed.ensures.fit;
   settled = λ flag. plain_to (IsFinal c.self.inside.circuit) c.self.inside.pending c.self.inside.passes.sources.items _ (c.self.invariant.none c.if-self.false) (record {
-        size = size_call c.self.inside.words _ c.settle_marked-computed.new.words c.settle_marked-computed.auto.words c.deref_mut.ensures.value ∙ c.self.invariant.size;
-        settled = settled_call c.self.inside.circuit c.self.inside.words _ c.settle_marked-computed.new.words c.settle_marked-computed.auto.words c.deref_mut.ensures.value c.settle_marked-computed.ensures.settled;
-        fit = fit_call c.self.inside.circuit c.self.inside.words _ c.settle_marked-computed.new.words c.settle_marked-computed.auto.words c.deref_mut.ensures.value c.settle_marked-computed.ensures.fit;
-      });
+    size = size_call c.self.inside.words _ c.settle_marked-computed.new.words c.settle_marked-computed.auto.words c.deref_mut.ensures.value ∙ c.self.invariant.size;
+    settled = settled_call c.self.inside.circuit c.self.inside.words _ c.settle_marked-computed.new.words c.settle_marked-computed.auto.words c.deref_mut.ensures.value c.settle_marked-computed.ensures.settled;
+    fit = fit_call c.self.inside.circuit c.self.inside.words _ c.settle_marked-computed.new.words c.settle_marked-computed.auto.words c.deref_mut.ensures.value c.settle_marked-computed.ensures.fit;
+  });
   passes = c.self.invariant.passes;
   none = c.self.invariant.none;
   next = c.self.invariant.next;

@@ -60,7 +60,7 @@ pub invariant_of-self : goal.invariant_of-self
 invariant_of-self c = record {
   sound = c.self.invariant.sound;
   size = size_call (with_items c.self.inside.words c.write_copies.new.words) _ c.tick_marked.new.words c.tick_marked.auto.words c.deref_mut-2.ensures.value ∙ ap length (copies_call c.self.inside.circuit c.self.inside.words c.self.inside.passes.sources.items _ c.write_copies.new.words c.self.inside.pending c.self.invariant.passes.sources (c.self.invariant.settled (ap (λ (s : Seen). s.settled) c.self.view_is ∙ c.requires))
-    c.write_copies.auto.words c.deref_mut.ensures.value c.write_copies.ensures) ∙ (c.self.invariant.settled (ap (λ (s : Seen). s.settled) c.self.view_is ∙ c.requires)).size;
+      c.write_copies.auto.words c.deref_mut.ensures.value c.write_copies.ensures) ∙ (c.self.invariant.settled (ap (λ (s : Seen). s.settled) c.self.view_is ∙ c.requires)).size;
   fit = fit_call c.self.inside.circuit (with_items c.self.inside.words c.write_copies.new.words) _ c.tick_marked.new.words c.tick_marked.auto.words c.deref_mut-2.ensures.value c.tick_marked.ensures.fit;
   settled = λ flag. absurd (let e : false ≡ true = flag in cc);
   passes = c.self.invariant.passes;
