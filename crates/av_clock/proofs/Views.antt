@@ -195,7 +195,7 @@ next_call m v u sources pending seen given room read sound are final same taken 
     rw whole (next_fits m (resolved sources seen) given sound (rw words final.fit) taken)
 
 -- the words after a reset
-pub reset_call : {ms : List Bool} (s : Seen) (m : Module) (v : Vec ℕ Global) (sources before new : List ℕ) (pending : Bool) → IsSound m → AreSources m sources → length v.items ≡ length (all_names m) → length new ≡ length before → before ≡ v.items
+pub reset_call : (s : Seen) (m : Module) (v : Vec ℕ Global) (sources before new : List ℕ) (pending : Bool) → IsSound m → AreSources m sources → length v.items ≡ length (all_names m) → length new ≡ length before → before ≡ v.items
     → Edge m true (named m before) (named m new) → Edge m true (carried s) (named m (shown_in pending sources (with_items v new).items))
 reset_call s m v sources before new pending sound are long same is edge k d lt =
     shown_given pending m sources (with_items v new).items (get_or m.steps k d).register sound are (size_call v before new same is ∙ long) (register_given m k d sound lt)

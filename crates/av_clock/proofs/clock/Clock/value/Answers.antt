@@ -9,8 +9,8 @@ index-requires c =
     (value_within c.self.inside.circuit c.args.wire c.target-place.result
     (drive_seen c.args.self.now c.self.inside.circuit _ c.self.inside.settled c.self.inside.work c.args.wire c.self.view_is c.requires.place) c.target-place.ensures)
 
-pub index-2-requires : goal.index-2-requires
-index-2-requires c =
+pub index-requires-2 : goal.index-requires-2
+index-requires-2 c =
     source_there c.self.inside.circuit c.self.inside.passes.sources c.self.inside.words c.target-place.result c.index.result.now c.self.invariant.passes.sources c.self.invariant.size
     (value_within c.self.inside.circuit c.args.wire c.target-place.result
     (drive_seen c.args.self.now c.self.inside.circuit _ c.self.inside.settled c.self.inside.work c.args.wire c.self.view_is c.requires.place) c.target-place.ensures) c.index.ensures
