@@ -8,7 +8,7 @@ use crate::put::{put_alpha_refusal, put_plan};
 use crate::sizes::sizes;
 use crate::status::Status;
 use av_base::{Memory, Name, Sink, Width};
-use av_compile::compile;
+use av_compile::planned;
 use av_flat::Reach;
 use std::alloc::Global;
 
@@ -28,8 +28,8 @@ pub(crate) fn emit<K: Sink>(
         Err(Memory) => return Status::Memory,
         Ok(sizes) => sizes,
     };
-    match compile(alloc, bytes, sizes.as_slice(), width, reach) {
+    match planned(alloc, bytes, sizes.as_slice(), width, reach) {
         Err(refusal) => put_alpha_refusal(sink, &refusal),
-        Ok(compiled) => put_plan(sink, &compiled.plan),
+        Ok(plan) => put_plan(sink, &plan),
     }
 }
