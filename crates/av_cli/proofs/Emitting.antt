@@ -1,5 +1,5 @@
 -- How the answers of `emit` follow from what its steps did.
-use Rattle.std.proofs.Common.{ℕ, List, Option, refl}
+use Rattle.std.proofs.Common.{ℕ, List, refl}
 use Rattle.std.specs.Prelude.{codes}
 use Rattle.av_base.specs.Outside.{SinkState}
 use Rattle.av_names.specs.declared.size.Size.{Size}

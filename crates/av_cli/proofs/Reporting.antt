@@ -1,5 +1,5 @@
 -- How the answers of `run` and `trace` follow from what their steps did.
-use Rattle.std.proofs.Common.{◌≡◌, ℕ, zero, suc, ◌+◌, ◌<◌, Bool, true, false, ◌||◌, ◌&&◌, List, [], ◌∷◌, ◌++◌, length, Option, Some, None, slice_get, refl, sym, ap, ◌∙◌, subst, arith, inl, inr, IsTrue, true≢false}
+use Rattle.std.proofs.Common.{◌≡◌, ℕ, zero, suc, ◌<◌, Bool, true, false, ◌||◌, ◌&&◌, List, [], ◌∷◌, ◌++◌, length, Option, Some, None, slice_get, refl, sym, ap, ◌∙◌, subst, arith, inl, inr, IsTrue, true≢false}
 use Rattle.std.specs.Prelude.{◌≢◌, if◌then◌else◌, codes, bytes_eq, All, AllPairs, IsSome}
 use Rattle.std.specs.List.{list_any}
 use Rattle.std.proofs.lemmas.Bool.{cases_lt}
@@ -40,7 +40,6 @@ use Rattle.av_space.specs.Whole.{IsPresented}
 use Rattle.av_space.proofs.ByPlace.{from_map, pair_at, all_by_place, place_of}
 use Rattle.av_data.proofs.Outcome.{readable}
 use Rattle.av_data.proofs.OneData.{not_both}
-use Rattle.av_data.specs.declared.fault.DataFault.TheVariants as data_fault
 use Rattle.av_data.specs.Divisions.{IsDivided}
 use Rattle.av_data.specs.Results.{result_line}
 use Rattle.av_data.specs.Data.{SpellsInputs}

@@ -5,10 +5,7 @@ use Rattle.av_base.specs.Outside.{SinkState}
 use Rattle.av_flat.specs.declared.timed.Timed.{Timed}
 use Rattle.av_flat.specs.Trees.{FlatSystem, view_system}
 use Rattle.av_names.specs.declared.size.Size.{Size}
-use Rattle.av_normal.specs.NormalFaults as normalised
-use Rattle.av_normal.proofs.Unique as normal
 use Rattle.av_serial.specs.SerialFaults as serialised
-use Rattle.av_serial.proofs.Unique as serial
 use Rattle.av_sched.specs.SchedFaults as searched
 use Rattle.av_data.specs.Schedules.{schedule_text}
 use Rattle.av_compile.specs.declared.refusal.Refusal.{Refusal}

@@ -1,5 +1,5 @@
 -- What it comes to when the program puts a text into a sink.
-use Rattle.std.specs.Prelude.{◌≡◌, ◌⊎◌, ℕ, List, Option}
+use Rattle.std.specs.Prelude.{◌≡◌, ◌⊎◌, ℕ, List}
 use Rattle.av_base.specs.Outside.{SinkState, Adds, AddsPrefix, HasRisen}
 use Rattle.av_net.specs.declared.netlist.Module.{Module}
 use Rattle.av_net.specs.Clocked.{Stream, Run, IsRun}

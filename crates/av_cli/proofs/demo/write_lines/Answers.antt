@@ -1,4 +1,4 @@
-use Rattle.std.proofs.Common.{◌≡◌, ap, ◌∙◌, ◌++◌, append_assoc, codes}
+use Rattle.std.proofs.Common.{ap, ◌∙◌, ◌++◌, append_assoc, codes}
 use Rattle.std.specs.Prelude.{decimal}
 use Rattle.av_base.proofs.Moves.{on_err}
 use Rattle.av_page.proofs.Putting.{Puts-more, Puts-is, Puts-then_sent, front}

@@ -1,4 +1,4 @@
-use Rattle.std.proofs.Common.{◌≡◌, ◌<◌, ◌≤◌, ◌+◌, ◌∙◌, Bool, length, get_or, refl, sym, ap, subst, arith}
+use Rattle.std.proofs.Common.{◌≡◌, ◌<◌, ◌≤◌, ◌+◌, ◌∙◌, Bool, length, get_or, sym, subst, arith}
 use Rattle.std.proofs.lemmas.List.{length-map}
 use Rattle.av_base.specs.declared.word.Word.{Word}
 use Rattle.av_base.specs.Outside.{Adds}

@@ -1,6 +1,4 @@
-use Rattle.std.proofs.Common.{◌≡◌, ℕ, length, true, refl, ap, ◌∙◌, sym, subst, arith, List}
-use Rattle.std.proofs.lemmas.List.{length-map}
-use Rattle.av_base.specs.declared.word.Word.{Word}
+use Rattle.std.proofs.Common.{◌≡◌, true, subst, arith}
 use Rattle.av_net.specs.Clocked.{Edge}
 use Rattle.av_clock.specs.Seen.{carried}
 use Rattle.av_cli.specs.inner.Watching.{bits_of, watched}

@@ -1,4 +1,4 @@
-use Rattle.std.proofs.Common.{◌≡◌, ◌∙◌, ap, length}
+use Rattle.std.proofs.Common.{◌∙◌, ap, length}
 use Rattle.std.proofs.lemmas.List.{length-map, length-set}
 use Rattle.av_base.specs.declared.word.Word.{Word}
 use Rattle.av_clock.specs.Seen.{carried}

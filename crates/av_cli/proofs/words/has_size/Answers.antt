@@ -1,4 +1,4 @@
-use Rattle.std.proofs.Common.{◌≡◌, ◌∙◌, get_or, refl, sym, subst}
+use Rattle.std.proofs.Common.{◌≡◌, ◌∙◌, refl, sym, subst}
 use Rattle.av_cli.specs.Commands.{IsSize}
 use Rattle.av_cli.proofs.DemoPlaces.{give_none, none_next, no_sizes}
 use Rattle.av_cli.proofs.words.has_size.Goals as goal
