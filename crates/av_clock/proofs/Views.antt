@@ -37,7 +37,7 @@ use Rattle.av_clock.proofs.Marking.{none_clear}
 use Rattle.av_clock.proofs.Touched.{all_touched}
 use Rattle.av_clock.proofs.Lookup.{look_at, look_set, look_zero, contains_at}
 use Rattle.av_clock.proofs.Settling.{fit_with}
-use Rattle.av_clock.proofs.Edges.{next_fits, reset_fits}
+use Rattle.av_clock.proofs.Edges.{next_fits}
 use Rattle.av_clock.proofs.Sources.{resolved_at, resolved_size, final_resolved, given_resolved, set_resolved}
 
 -- ---- words as they are seen
