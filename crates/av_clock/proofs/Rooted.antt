@@ -3,12 +3,11 @@ use Rattle.std.proofs.Common.{◌≡◌, ◌≢◌, ◌⊎◌, ℕ, ◌+◌, ◌
 use Rattle.std.specs.Prelude.{Contains}
 use Rattle.std.proofs.Math.ListN.{get_or-append, length-set}
 use Rattle.std.proofs.lemmas.Bool.{cases_eq, cases_lt}
-use Rattle.std.proofs.lemmas.List.{get_or-map, length-map, get_or_default, get_or-set_same, get_or-set_other, get_or_push, map-append, take-append-le, take_all, append-nil, ext_get_or}
+use Rattle.std.proofs.lemmas.List.{get_or-map, length-map, get_or_default, get_or-set_same, get_or-set_other, get_or_push, map-append, take-append-le, take_all, append-nil}
 use Rattle.std.proofs.lemmas.List.Elements.{All-contains, All-weaker, All-contains_itself, Contains-push, Contains-push_cases, Contains-append_left, Contains-append_cases}
 use Rattle.std.proofs.lemmas.Option.{slice_get-get_or, slice_get_within, get_or_from_slice_get}
 use Rattle.av_base.specs.Words.{IsWord}
 use Rattle.av_base.specs.declared.width.Width.{Width}
-use Rattle.av_base.proofs.Among.{none_among}
 use Rattle.av_net.specs.declared.operation.Operand.{Operand}
 use Rattle.av_net.specs.declared.operation.Operand.TheVariants.{Name, Literal}
 use Rattle.av_net.specs.declared.operation.Operation.{Operation}
@@ -17,7 +16,7 @@ use Rattle.av_net.specs.declared.netlist.Drive.{Drive}
 use Rattle.av_net.specs.declared.netlist.Module.{Module}
 use Rattle.av_net.specs.Meaning.{Words, Widths, EachOperand}
 use Rattle.av_net.specs.Names.{IsAmong, given_names, wire_names, all_names, targets_of, width_of}
-use Rattle.av_net.specs.Settled.{Settled, Agree, Holds, FitAt}
+use Rattle.av_net.specs.Settled.{Agree, Holds, FitAt}
 use Rattle.av_net.specs.Sound.{IsSound}
 use Rattle.av_net.proofs.Fits.{settled_fit}
 use Rattle.av_net.proofs.Once.{agree_by, same_result}

@@ -1,5 +1,5 @@
 -- Words of places read at their sources.
-use Rattle.std.proofs.Common.{◌≡◌, ◌≢◌, ℕ, ◌+◌, ◌<◌, ◌≤◌, Bool, true, false, if◌then◌else◌, List, [], ◌∷◌, ◌++◌, map, length, get_or, set, take, slice_get, Some, refl, sym, ◌∙◌, ap, subst, arith, inl, inr, add-one, take-suc, length-append}
+use Rattle.std.proofs.Common.{◌≡◌, ◌≢◌, ℕ, ◌+◌, ◌<◌, ◌≤◌, false, List, [], ◌∷◌, ◌++◌, map, length, get_or, set, take, slice_get, Some, refl, sym, ◌∙◌, ap, subst, arith, inl, inr, add-one, take-suc, length-append}
 use Rattle.std.specs.Prelude.{All, Contains}
 use Rattle.std.proofs.Math.ListN.{get_or-append, length-set}
 use Rattle.std.proofs.lemmas.Bool.{cases_eq, cases_lt}
@@ -13,7 +13,6 @@ use Rattle.av_net.specs.Meaning.{word_of}
 use Rattle.av_net.specs.Names.{names_of, given_names, wire_names, all_names}
 use Rattle.av_net.specs.Settled.{Agree}
 use Rattle.av_net.specs.Sound.{IsSound}
-use Rattle.av_net.proofs.Once.{agree_by}
 use Rattle.av_net.proofs.Settles.{names_distinct}
 use Rattle.av_clock.specs.declared.gate.Reading.{Reading}
 use Rattle.av_clock.specs.declared.gate.Reading.TheVariants.{At, Constant}
@@ -27,10 +26,9 @@ use Rattle.av_clock.specs.inner.Gates.{reading_word, IsWithin, AreStepped, AreTa
 use Rattle.av_clock.specs.inner.Passes.{IsFinal, IsCopied, IsCovered, AreFinalAt, AreInPasses, AreSources, AreNexts, ArePasses, IsSource, resolved, at_source}
 use Rattle.av_clock.proofs.Edges.{no_flip_flop, for_read, next_within}
 use Rattle.av_clock.proofs.Edges as edges
-use Rattle.av_clock.proofs.Final.{no_alias}
 use Rattle.av_clock.proofs.Lookup.{look_at}
 use Rattle.av_clock.proofs.Rooted.{AreAll, final_words, starts_as}
-use Rattle.av_clock.proofs.Settling.{read_word, read_within}
+use Rattle.av_clock.proofs.Settling.{read_word}
 
 -- ---- resolved words
 

@@ -1,4 +1,4 @@
-use Rattle.std.proofs.Common.{◌+◌, ◌<◌, ◌∙◌, List, length, get_or, take, ap, sym, subst}
+use Rattle.std.proofs.Common.{◌+◌, ◌<◌, ◌∙◌, length, get_or, take, ap, sym, subst}
 use Rattle.std.proofs.lemmas.List.{with_items_is, get_or_default}
 use Rattle.av_clock.proofs.Final.{no_alias}
 use Rattle.av_clock.proofs.Sources.{HaveSources, sources_more, all_sources}

@@ -1,4 +1,4 @@
-use Rattle.std.proofs.Common.{◌<◌, ◌≤◌, ◌∙◌, List, length, get_or, subst, arith}
+use Rattle.std.proofs.Common.{◌≤◌, ◌∙◌, List, length, get_or, subst}
 use Rattle.std.proofs.lemmas.List.{get_or_default}
 use Rattle.av_clock.specs.declared.passes.Alias.{Alias}
 use Rattle.av_clock.proofs.Final.{no_alias, item_at, copies_none, copies_more, all_copied}

@@ -1,4 +1,4 @@
-use Rattle.std.proofs.Common.{◌<◌, ◌≤◌, ◌∙◌, List, length, get_or, subst, arith}
+use Rattle.std.proofs.Common.{◌≤◌, ◌∙◌, List, length, get_or, subst}
 use Rattle.std.proofs.lemmas.List.{get_or_default}
 use Rattle.av_clock.specs.declared.passes.Fixed.{Fixed}
 use Rattle.av_clock.proofs.Final.{no_fixed, item_at, fixes_none, fixes_more, all_fixed}

@@ -1,4 +1,4 @@
-use Rattle.std.proofs.Common.{◌∙◌, ap, false}
+use Rattle.std.proofs.Common.{◌∙◌, ap}
 use Rattle.av_clock.specs.Seen.{Seen}
 use Rattle.av_clock.proofs.Views.{ports_call, next_call, tick_call}
 use Rattle.av_clock.proofs.clock.Clock.tick_all.Goals as goal

@@ -1,4 +1,4 @@
-use Rattle.std.proofs.Common.{◌∙◌, ◌<◌, ap, arith, length}
+use Rattle.std.proofs.Common.{◌∙◌, ap}
 use Rattle.av_clock.specs.Seen.{Seen}
 use Rattle.av_clock.proofs.Views.{value_within, place_there, source_there, value_read, value_word, value_fits, value_settled, drive_seen}
 use Rattle.av_clock.proofs.clock.Clock.value.Goals as goal
