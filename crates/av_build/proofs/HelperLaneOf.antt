@@ -1,5 +1,5 @@
 -- The lane of each helper of an array's program is a lane of a program.
-use Rattle.std.proofs.Common.{◌≡◌, ℕ, suc, ◌^◌, ◌<◌, List, [], ◌∷◌, length, refl, sym, ap, subst, ◌∙◌, arith, IsTrue, Bool, true, false, Some}
+use Rattle.std.proofs.Common.{◌≡◌, ℕ, ◌^◌, ◌<◌, List, [], length, refl, sym, ap, subst, ◌∙◌, arith, IsTrue, Bool, true, false, Some}
 use Rattle.std.specs.Prelude.{slice_get}
 use Rattle.std.specs.List.{AllByRecursion}
 use Rattle.av_tree.specs.Points.{Point}

@@ -1,5 +1,5 @@
 -- The place of a piece at which the words of an input port are read.
-use Rattle.std.proofs.Common.{◌≡◌, ℕ, ◌+◌, ◌<◌, List, length, map, refl, sym, ap, subst, ◌∙◌, arith, Bool, true, false, Some, None}
+use Rattle.std.proofs.Common.{◌≡◌, ℕ, ◌+◌, ◌<◌, List, length, map, refl, sym, ap, subst, ◌∙◌, arith, true, Some, None}
 use Rattle.std.specs.Prelude.{Contains, nat_eq, slice_get}
 use Rattle.av_base.specs.declared.width.Width.{Width}
 use Rattle.av_base.proofs.Among.{among_at}
@@ -7,7 +7,7 @@ use Rattle.av_base.proofs.Lists.{some_is, there_is, place_in}
 use Rattle.av_base.proofs.Pieces.{same_eq}
 use Rattle.av_affine.specs.declared.map.Map.{Map}
 use Rattle.av_tree.specs.Points.{Point}
-use Rattle.av_flat.specs.Trees.{Tree, Piece, Variable, FlatSystem, view, view_piece, view_variable, reference, constant, binary, choice, restriction, cases, dependence, reduction, pick}
+use Rattle.av_flat.specs.Trees.{Tree, Piece, Variable, FlatSystem, view, view_piece, reference, constant, binary, choice, restriction, cases, dependence, reduction, pick}
 use Rattle.av_flat.specs.Broadcasts.{Reference, references}
 use Rattle.av_flat.specs.Nodes.{nodes}
 use Rattle.av_flat.specs.Signatures.{signatures}
@@ -18,21 +18,20 @@ use Rattle.av_space.specs.declared.spots.Spot.{Spot as SpotMade}
 use Rattle.av_space.specs.Ports.{IsPort}
 use Rattle.av_space.specs.Sites.{place_of}
 use Rattle.av_space.specs.Spots.{system_of, helpers_of, placings_of, cells_of, ComputesIn, IsSpot, IsSiteOf}
-use Rattle.av_space.specs.Taps.{Place, places_in}
+use Rattle.av_space.specs.Taps.{Place}
 use Rattle.av_space.proofs.ByPlace.{from_map}
-use Rattle.av_space.proofs.Elements.{at_index, in_range}
+use Rattle.av_space.proofs.Elements.{in_range}
 use Rattle.av_space.proofs.Helpers.{equal}
 use Rattle.av_space.proofs.SpotPlaces.{IsPlaceBy}
 use Rattle.av_space.proofs.SpotReadings.{known}
 use Rattle.std.proofs.lemmas.List.Elements.{All-contains}
-use Rattle.av_history.specs.Performing.{ComputesOn}
 use Rattle.av_history.specs.Widths.{read_width, width_at}
 use Rattle.av_build.specs.declared.blueprint.Blueprint.{Blueprint}
 use Rattle.av_build.specs.declared.blueprint.CellPlan.{CellPlan}
 use Rattle.av_build.specs.inner.Blueprints.{seen, ArePieces, IsBlueprint}
 use Rattle.av_build.specs.inner.Built.{IsPortWidth}
-use Rattle.av_build.specs.inner.Lanes.{HasVariable, is_reference_at, HasReference, IsReferenceIn, IsPortPlace, HasPortPlace}
-use Rattle.av_build.proofs.AlikeLanes.{cell_node}
+use Rattle.av_build.specs.inner.Lanes.{HasVariable, is_reference_at, HasReference, IsPortPlace, HasPortPlace}
+use Rattle.av_build.proofs.SpotNodes.{computed_piece}
 use Rattle.av_build.proofs.HelperPlaces.{told, spot_at}
 use Rattle.av_build.proofs.SpotsOn.{variable_there}
 
@@ -87,10 +86,7 @@ module _ (b : Blueprint) (is : IsBlueprint b) (port : InPort) (among : Contains 
 
       -- is that of each computation there
       piece_is : (c n : ℕ) (z : Point) (v : Variable) (piece : Piece) → ComputesIn w port.cell c n z → slice_get (nodes s) n ≡ Some v → slice_get v.pieces port.piece ≡ Some piece → view_piece at.piece.now ≡ piece
-      piece_is c n z v piece computes is_variable is_piece =
-          let node : at.node ≡ n = sym (cell_node w port.cell at here spot computes.cell computes.is_cell) ∙ computes.stands.node in
-          let variable : view_variable at.var.now ≡ v = some_is (view_variable at.var.now) v (sym spot.is_variable ∙ ap (slice_get (nodes s)) node ∙ is_variable) in
-          some_is (view_piece at.piece.now) piece (sym spot.is_piece ∙ ap (λ (u : Variable). slice_get u.pieces at.number) variable ∙ ap (slice_get v.pieces) number ∙ is_piece)
+      piece_is c n z v piece computes is_variable is_piece = computed_piece w port.cell at here spot c n z computes v is_variable port.piece piece is_piece number
 
       abbrev read : Reference
       read = record { place = is_port.4.place; map = is_port.3 }

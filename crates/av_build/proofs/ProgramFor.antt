@@ -1,24 +1,17 @@
 -- The lanes of a blueprint, each as it is built, are a program for the array.
-use Rattle.std.proofs.Common.{◌≡◌, ℕ, suc, ◌+◌, ◌-◌, ◌<◌, ◌≤◌, inl, inr, List, length, map, refl, sym, ap, subst, ◌∙◌, arith, IsTrue, Option, Some, None}
+use Rattle.std.proofs.Common.{◌≡◌, ℕ, suc, ◌+◌, ◌-◌, ◌<◌, ◌≤◌, inl, inr, List, length, map, refl, sym, ap, subst, ◌∙◌, arith, Option, Some, None}
 use Rattle.std.specs.Prelude.{slice_get}
 use Rattle.std.proofs.lemmas.List.{length-map}
-use Rattle.av_base.proofs.Lists.{get_mapped, some_is, there_is, place_in}
+use Rattle.av_base.proofs.Lists.{get_mapped, there_is}
 use Rattle.av_tree.specs.Points.{Point}
 use Rattle.av_flat.specs.declared.timed.Helper.{Helper}
-use Rattle.av_flat.specs.Trees.{Piece, Variable, view_piece, view_variable, reference}
-use Rattle.av_flat.specs.Broadcasts.{Reference, references}
-use Rattle.av_flat.specs.Points.{has}
+use Rattle.av_flat.specs.Trees.{Piece, Variable, view_piece, view_variable}
+use Rattle.av_flat.specs.Broadcasts.{Reference}
 use Rattle.av_flat.specs.Nodes.{nodes, number_at}
 use Rattle.av_space.specs.declared.array.Array.{Array as ArrayMade}
-use Rattle.av_space.specs.declared.spots.Site.{Site as PlaceMade}
-use Rattle.av_space.specs.declared.spots.Spot.{Spot as SpotMade}
-use Rattle.av_space.specs.Sites.{place_of}
-use Rattle.av_space.specs.Spots.{system_of, helpers_of, cells_of, ComputesIn, IsSpot, IsSlotIn, IsSiteOf, handing_by}
-use Rattle.av_space.specs.Taps.{helper_at, node_place, Place}
+use Rattle.av_space.specs.Spots.{system_of, helpers_of, cells_of, ComputesIn, IsSlotIn}
 use Rattle.av_space.proofs.ByPlace.{from_map}
 use Rattle.av_space.proofs.Elements.{at_index, in_range}
-use Rattle.av_space.proofs.Nodes.{own_place}
-use Rattle.av_space.proofs.NodePlaces.{node_at}
 use Rattle.av_kinds.specs.declared.counter.Counter.{Counter}
 use Rattle.av_kinds.specs.declared.program.CellLanes.{CellLanes}
 use Rattle.av_kinds.specs.Counters.{count_in}
@@ -29,7 +22,7 @@ use Rattle.av_build.specs.declared.blueprint.Blueprint.{Blueprint}
 use Rattle.av_build.specs.declared.blueprint.CellPlan.{CellPlan}
 use Rattle.av_build.specs.declared.blueprint.HelperPlan.{HelperPlan}
 use Rattle.av_build.specs.declared.blueprint.LanePlan.{LanePlan}
-use Rattle.av_build.specs.inner.Blueprints.{seen, lanes_of, value_in, helper_in, helpers_on, helper_place, of_helper, own_lanes, ArePieces, IsBlueprint, HasHelper}
+use Rattle.av_build.specs.inner.Blueprints.{seen, lanes_of, value_in, helper_in, helpers_on, helper_place, of_helper, own_lanes, ArePieces, IsBlueprint}
 use Rattle.av_build.specs.inner.Lanes.{IsValueBuilt, IsBuiltBy, AreBuilt}
 use Rattle.av_build.specs.inner.Programmed.{IsValueLane, IsHelperLane, IsLaneFor, of_value, of_helper as for_helper, IsProgramFor}
 use Rattle.av_build.proofs.BlueprintLemmas.{helper_lane_at, value_lane_at, own_cases, own_size, lane_there, value_of, place_is, place_found}

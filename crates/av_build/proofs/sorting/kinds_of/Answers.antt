@@ -1,9 +1,9 @@
-use Rattle.std.proofs.Common.{◌≡◌, ◌∙◌, ◌+◌, ◌<◌, ◌++◌, ◌∷◌, [], ℕ, List, length, get_or, arith, sym, ap, subst}
+use Rattle.std.proofs.Common.{◌≡◌, ◌∙◌, ◌+◌, ◌++◌, ◌∷◌, [], ℕ, List, length, get_or, arith, sym, ap, subst}
 use Rattle.std.proofs.lemmas.Option.{get_or_from_slice_get}
 use Rattle.av_base.proofs.Lists.{there_is}
 use Rattle.av_build.specs.inner.Lanes.{HasNoKind, IsKind}
 use Rattle.av_build.proofs.Pairwise.{element}
-use Rattle.av_build.proofs.SortingSteps.{AreKindsTo, no_kinds, known_kind, new_kind, kinds_are}
+use Rattle.av_build.proofs.SortingSteps.{AreKindsTo, known_kind, new_kind, kinds_are}
 use Rattle.av_build.proofs.sorting.kinds_of.Goals as goal
 use Rattle.av_build.proofs.sorting.kinds_of.Goals.{in-Some, in-None+in_ok-push-in-None}
 

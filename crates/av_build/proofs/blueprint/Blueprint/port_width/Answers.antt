@@ -1,5 +1,4 @@
-use Rattle.std.proofs.Common.{◌≡◌, ◌∙◌, List, length, arith, sym, ap, subst, Some, None}
-use Rattle.std.specs.Prelude.{slice_get}
+use Rattle.std.proofs.Common.{◌≡◌, ◌∙◌, List, length, arith, sym, ap, subst, None}
 use Rattle.av_flat.specs.declared.flat.Flat.{Flat}
 use Rattle.av_flat.specs.Trees.{Tree, view, view_system}
 use Rattle.av_space.specs.declared.spots.Site.{Site}
