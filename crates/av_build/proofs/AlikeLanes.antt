@@ -11,11 +11,10 @@ use Rattle.av_flat.specs.Trees.{Tree, Piece, Variable, FlatSystem, view_piece, v
 use Rattle.av_flat.specs.Broadcasts.{Reference}
 use Rattle.av_flat.specs.Nodes.{nodes}
 use Rattle.av_space.specs.declared.array.Array.{Array as ArrayMade}
-use Rattle.av_space.specs.declared.cells.Cell.{Cell}
 use Rattle.av_space.specs.declared.spots.Site.{Site as PlaceMade}
 use Rattle.av_space.specs.declared.spots.Spot.{Spot as SpotMade}
 use Rattle.av_space.specs.Sites.{place_of}
-use Rattle.av_space.specs.Spots.{system_of, helpers_of, cells_of, IsSpot, IsSiteOf, AreSites, handing_by}
+use Rattle.av_space.specs.Spots.{system_of, helpers_of, IsSpot, IsSiteOf, AreSites, handing_by}
 use Rattle.av_space.specs.Taps.{node_place, Handing, helper_at, Place, places_in}
 use Rattle.av_space.proofs.Elements.{in_range}
 use Rattle.av_kinds.specs.declared.counter.Counter.{Counter}
@@ -40,6 +39,7 @@ use Rattle.av_build.proofs.FineLanes.{numbered}
 use Rattle.av_build.proofs.HelperPlaces.{helped, spot_at}
 use Rattle.av_build.proofs.HelpersOn.{place_of_helper}
 use Rattle.av_build.proofs.ProgramFor.{value_is, lane_made, value_built, helper_built}
+use Rattle.av_build.proofs.SpotNodes.{cell_node}
 
 -- ---- lists side by side
 
@@ -89,10 +89,6 @@ helpers_same k (xs ∷ ps) (ys ∷ qs) size each =
     ∙ ap (λ (l : List HelperPlan). site_helpers k 0 ys ++ l) (helpers_same (suc k) ps qs (omega (arith, size)) (λ j us vs is_u is_v. each (suc j) us vs is_u is_v))
 
 -- ---- one piece of one node on two cells
-
--- a cell is of the node of each piece on it
-pub cell_node : (w : ArrayMade) (p : ℕ) (at : SpotMade) → at.cell ≡ p → IsSpot w at → (cell : Cell) → slice_get (cells_of w) p ≡ Some cell → cell.node ≡ at.node
-cell_node w p at e s cell is = ap (λ (x : Cell). x.node) (some_is cell s.cell (sym is ∙ ap (slice_get (cells_of w)) (sym e) ∙ s.is_cell)) ∙ s.node
 
 module _ (w : ArrayMade) (at of : SpotMade) (s : IsSpot w at) (t : IsSpot w of) (node : at.node ≡ of.node) (number : at.number ≡ of.number) where
   pub variable_same : view_variable at.var.now ≡ view_variable of.var.now

@@ -1,11 +1,13 @@
 -- The pieces of a cell and their places, as they are looked up in a blueprint.
 use Rattle.std.proofs.Common.{◌≡◌, ℕ, ◌<◌, List, length, get_or, sym, ap, ◌∙◌, arith, Some}
 use Rattle.std.specs.Prelude.{slice_get}
+use Rattle.av_base.proofs.Lists.{some_is}
 use Rattle.av_space.specs.declared.spots.Site.{Site as PlaceMade}
 use Rattle.av_space.specs.declared.spots.Spot.{Spot as SpotMade}
 use Rattle.av_build.specs.declared.blueprint.Blueprint.{Blueprint}
 use Rattle.av_build.specs.declared.blueprint.CellPlan.{CellPlan}
 use Rattle.av_build.specs.inner.Blueprints.{IsBlueprint}
+use Rattle.av_build.specs.inner.Lanes.{HasPiece}
 use Rattle.av_build.proofs.Pairwise.{element_of}
 
 module _ (b : Blueprint) (is : IsBlueprint b) (p : ℕ) (low : p < length b.cells) (cells : List CellPlan) (plan : CellPlan) (cells_are : cells ≡ b.cells) (plan_is : plan ≡ get_or cells p plan) where
@@ -20,6 +22,12 @@ module _ (b : Blueprint) (is : IsBlueprint b) (p : ℕ) (low : p < length b.cell
 
   pub many_sites : length plan.pieces.sites ≡ length plan.pieces.spots
   many_sites = (is.plans.pieces p plan plan_at).one_each
+
+  pub has_within : (k : ℕ) → HasPiece b p k → k < length plan.pieces.spots
+  has_within k has =
+      let few = has.2 in
+      let size = ap (λ (x : CellPlan). length x.pieces.spots) (some_is has.0 plan (sym has.1 ∙ plan_at)) in
+      omega (arith, few, size)
 
   module _ (k : ℕ) (within : k < length plan.pieces.spots) where
     pub piece_at : (spots : List SpotMade) (spot : SpotMade) → spots ≡ (get_or cells p plan).pieces.spots → spot ≡ get_or spots k spot → slice_get plan.pieces.spots k ≡ Some spot

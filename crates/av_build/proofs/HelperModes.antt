@@ -1,5 +1,5 @@
 -- The lane of a helper on a cell, from its place in the blueprint.
-use Rattle.std.proofs.Common.{◌≡◌, ℕ, suc, ◌<◌, List, [], ◌∷◌, length, refl, sym, ap, ap₂, subst, ◌∙◌, Some, None}
+use Rattle.std.proofs.Common.{◌≡◌, ℕ, suc, ◌<◌, List, [], ◌∷◌, length, get_or, arith, refl, sym, ap, ap₂, subst, ◌∙◌, Some, None}
 use Rattle.std.specs.Prelude.{slice_get}
 use Rattle.av_base.specs.declared.width.Width.{Width}
 use Rattle.av_base.proofs.Lists.{some_is}
@@ -18,6 +18,7 @@ use Rattle.av_kinds.specs.Programs.{Mode, Lane}
 use Rattle.av_history.specs.Performing.{helper_spot}
 use Rattle.av_history.specs.Widths.{read_width}
 use Rattle.av_build.specs.declared.blueprint.Blueprint.{Blueprint}
+use Rattle.av_build.specs.declared.blueprint.CellPlan.{CellPlan}
 use Rattle.av_build.specs.declared.blueprint.HelperPlan.{HelperPlan}
 use Rattle.av_build.specs.declared.moments.HandMoments.{HandMoments}
 use Rattle.av_build.specs.inner.Blueprints.{seen, spot_of, lanes_of, ArePieces, IsBlueprint, IsCounted}
@@ -30,6 +31,7 @@ use Rattle.av_build.specs.inner.Sources.{AreHandMomentsTo}
 use Rattle.av_build.proofs.HandModes.{hand_lane}
 use Rattle.av_build.proofs.HelperPlaces.{IsHelped, helped, spot_at, variable_is, tree_is, moments_are, slots_are}
 use Rattle.av_build.proofs.HelpersOn.{IsFromPlace, place_of_helper}
+use Rattle.av_build.proofs.Pairwise.{element_of}
 use Rattle.av_build.proofs.SeenArray.{one_seen}
 
 -- ---- a helper of a piece, as one of a place of its cell
@@ -135,10 +137,32 @@ module _ (b : Blueprint) (is : IsBlueprint b) (p : ℕ) (h : HelperPlan) (has : 
         few = in_range (helpers_of b.array) h.number x.1.helper x.1.helps.is_helper;
       }
 
-  pub piece_there : h.piece < length has.plan.pieces.spots
-  piece_there =
-      let x = helped b.array is.array p has.plan.pieces pieces_of h from in
-      in_range has.plan.pieces.spots h.piece x.0 x.1.is_spot
+  pub cell_there : p < length (cells_of b.array)
+  cell_there =
+      let low = in_range b.cells p has.plan has.is_plan in
+      let many = is.plans.one_each in
+      omega (arith, low, many)
+
+  -- as it is looked up
+  module _ (cells : List CellPlan) (plan : CellPlan) (cells_are : cells ≡ b.cells) (plan_is : plan ≡ get_or cells p plan) (spots : List SpotMade) (spots_are : spots ≡ (get_or cells p plan).pieces.spots) where
+    same_spots : spots ≡ has.plan.pieces.spots
+    same_spots =
+        let here = element_of b.cells cells p plan plan cells_are (in_range b.cells p has.plan has.is_plan) plan_is in
+        spots_are ∙ ap (λ (x : CellPlan). x.pieces.spots) (sym plan_is ∙ some_is plan has.plan (sym here ∙ has.is_plan))
+
+    piece_there : h.piece < length has.plan.pieces.spots
+    piece_there =
+        let x = helped b.array is.array p has.plan.pieces pieces_of h from in
+        in_range has.plan.pieces.spots h.piece x.0 x.1.is_spot
+
+    pub piece_low : h.piece < length spots
+    piece_low =
+        let low = piece_there in
+        let size = ap (λ (l : List SpotMade). length l) same_spots in
+        omega (arith, low, size)
+
+    pub piece_is : (at : SpotMade) → at ≡ get_or spots h.piece at → slice_get has.plan.pieces.spots h.piece ≡ Some at
+    piece_is at e = element_of has.plan.pieces.spots spots h.piece at at same_spots piece_there e
 
   -- the lane of its modes is what its plan says
   pub lane_built : (counter : Counter) (at : SpotMade) → slice_get has.plan.pieces.spots h.piece ≡ Some at → (modes : List Mode) → AreHelperModes b counter at h modes

@@ -59,6 +59,5 @@ pub mod Promised
 pub mod HelperLaneOf
 pub mod AlikeLanes
 pub mod SortedCells
-pub mod OtherPlaces
 pub mod PortPlaces
 pub mod WholeProgram

@@ -7,7 +7,7 @@ use Rattle.av_base.proofs.Lists.{some_is, there_is, place_in}
 use Rattle.av_base.proofs.Pieces.{same_eq}
 use Rattle.av_affine.specs.declared.map.Map.{Map}
 use Rattle.av_tree.specs.Points.{Point}
-use Rattle.av_flat.specs.Trees.{Tree, Piece, Variable, FlatSystem, view, view_piece, view_variable, reference, constant, binary, choice, restriction, cases, dependence, reduction, pick}
+use Rattle.av_flat.specs.Trees.{Tree, Piece, Variable, FlatSystem, view, view_piece, reference, constant, binary, choice, restriction, cases, dependence, reduction, pick}
 use Rattle.av_flat.specs.Broadcasts.{Reference, references}
 use Rattle.av_flat.specs.Nodes.{nodes}
 use Rattle.av_flat.specs.Signatures.{signatures}
@@ -31,7 +31,7 @@ use Rattle.av_build.specs.declared.blueprint.CellPlan.{CellPlan}
 use Rattle.av_build.specs.inner.Blueprints.{seen, ArePieces, IsBlueprint}
 use Rattle.av_build.specs.inner.Built.{IsPortWidth}
 use Rattle.av_build.specs.inner.Lanes.{HasVariable, is_reference_at, HasReference, IsPortPlace, HasPortPlace}
-use Rattle.av_build.proofs.AlikeLanes.{cell_node}
+use Rattle.av_build.proofs.SpotNodes.{computed_piece}
 use Rattle.av_build.proofs.HelperPlaces.{told, spot_at}
 use Rattle.av_build.proofs.SpotsOn.{variable_there}
 
@@ -86,10 +86,7 @@ module _ (b : Blueprint) (is : IsBlueprint b) (port : InPort) (among : Contains 
 
       -- is that of each computation there
       piece_is : (c n : ℕ) (z : Point) (v : Variable) (piece : Piece) → ComputesIn w port.cell c n z → slice_get (nodes s) n ≡ Some v → slice_get v.pieces port.piece ≡ Some piece → view_piece at.piece.now ≡ piece
-      piece_is c n z v piece computes is_variable is_piece =
-          let node : at.node ≡ n = sym (cell_node w port.cell at here spot computes.cell computes.is_cell) ∙ computes.stands.node in
-          let variable : view_variable at.var.now ≡ v = some_is (view_variable at.var.now) v (sym spot.is_variable ∙ ap (slice_get (nodes s)) node ∙ is_variable) in
-          some_is (view_piece at.piece.now) piece (sym spot.is_piece ∙ ap (λ (u : Variable). slice_get u.pieces at.number) variable ∙ ap (slice_get v.pieces) number ∙ is_piece)
+      piece_is c n z v piece computes is_variable is_piece = computed_piece w port.cell at here spot c n z computes v is_variable port.piece piece is_piece number
 
       abbrev read : Reference
       read = record { place = is_port.4.place; map = is_port.3 }

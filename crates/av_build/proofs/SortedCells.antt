@@ -4,8 +4,7 @@ use Rattle.std.specs.Prelude.{AllPairs, slice_get}
 use Rattle.std.proofs.lemmas.List.{length-map}
 use Rattle.av_base.proofs.Among.{among_at}
 use Rattle.av_base.proofs.Lists.{each_by_place, get_mapped, pairs_first, pairs_rest, place_in, some_is, there_is}
-use Rattle.av_flat.specs.Trees.{Piece, Variable, view_piece, view_variable}
-use Rattle.av_flat.specs.Nodes.{nodes}
+use Rattle.av_flat.specs.Trees.{Piece, view_piece, view_variable}
 use Rattle.av_space.specs.declared.array.Array.{Array as ArrayMade}
 use Rattle.av_space.specs.declared.cells.Cell.{Cell}
 use Rattle.av_space.specs.declared.spots.Spot.{Spot as SpotMade}
@@ -19,10 +18,11 @@ use Rattle.av_build.specs.declared.blueprint.CellPlan.{CellPlan}
 use Rattle.av_build.specs.inner.Blueprints.{seen, ArePieces, IsBlueprint}
 use Rattle.av_build.specs.inner.Built.{AreSorted}
 use Rattle.av_build.specs.inner.Lanes.{HaveSamePieces, AreKindsOf}
-use Rattle.av_build.proofs.AlikeLanes.{cell_node, piece_same}
+use Rattle.av_build.proofs.AlikeLanes.{piece_same}
 use Rattle.av_build.proofs.CellUses.{some_spot}
 use Rattle.av_build.proofs.HelperPlaces.{spot_at}
 use Rattle.av_build.proofs.SortingSteps.{same_turned}
+use Rattle.av_build.proofs.SpotNodes.{cell_node, computed_piece}
 
 -- ---- numbers
 
@@ -90,10 +90,7 @@ module _ (b : Blueprint) (is : IsBlueprint b) where
         let i = place_in (numbers plan.pieces.spots) n among in
         let at = from_map (λ (s : SpotMade). s.number) plan.pieces.spots i.0 n i.1 in
         let s = on i.0 at.0 at.1 in
-        let node : at.0.node ≡ u.node = sym (cell_node w p at.0 s.0 s.2 u.computes.cell u.computes.is_cell) ∙ u.computes.stands.node in
-        let variable : view_variable at.0.var.now ≡ u.variable = some_is (view_variable at.0.var.now) u.variable (sym s.2.is_variable ∙ ap (slice_get (nodes (system_of w))) node ∙ u.is_variable) in
-        let here : view_piece at.0.piece.now ≡ piece = some_is (view_piece at.0.piece.now) piece
-        (sym s.2.is_piece ∙ ap (λ (v : Variable). slice_get v.pieces at.0.number) variable ∙ ap (slice_get u.variable.pieces) at.2 ∙ u.is_piece) in
+        let here = computed_piece w p at.0 s.0 s.2 u.cycle u.node u.point u.computes u.variable u.is_variable n piece u.is_piece at.2 in
         (i.0, at.0, at.1, at.2, here)
 
   -- ---- two cells

@@ -1,5 +1,5 @@
 -- Cells sorted by what stands on them, one cell after another.
-use Rattle.std.proofs.Common.{◌≡◌, ◌↔◌, ℕ, zero, suc, ◌+◌, ◌<◌, ◌≤◌, ◌⊎◌, inl, inr, List, [], ◌∷◌, ◌++◌, length, refl, sym, ap, subst, ◌∙◌, arith, Some, length-append}
+use Rattle.std.proofs.Common.{◌≡◌, ◌↔◌, ℕ, zero, suc, ◌+◌, ◌<◌, ◌⊎◌, inl, inr, List, [], ◌∷◌, ◌++◌, length, refl, sym, ap, subst, ◌∙◌, arith, Some, length-append}
 use Rattle.std.specs.Prelude.{slice_get}
 use Rattle.av_base.proofs.Lists.{get_cases, get_first, some_is, there_is}
 use Rattle.av_space.specs.declared.spots.Spot.{Spot as SpotMade}
@@ -28,9 +28,6 @@ same_through a b c h g = (
 -- up to a number
 abbrev pub AreSameUpTo : List SpotMade → List SpotMade → ℕ → Type 0
 AreSameUpTo a b n = (k : ℕ) (x y : SpotMade) → k < n → slice_get a k ≡ Some x → slice_get b k ≡ Some y → (x.node ≡ y.node) × (x.number ≡ y.number)
-
-pub same_all : (a b : List SpotMade) (n : ℕ) → length a ≡ length b → length a ≤ n → AreSameUpTo a b n → HaveSamePieces a b
-same_all a b n size end h = (size, λ k x y is_x is_y. let low = in_range a k x is_x in h k x y (omega (arith, low, end)) is_x is_y)
 
 -- ---- kinds of the first n cells
 

@@ -1,4 +1,4 @@
-use Rattle.std.proofs.Common.{◌≡◌, ◌∙◌, ◌<◌, List, length, sym, ap, subst, arith, IsTrue, Some}
+use Rattle.std.proofs.Common.{◌≡◌, ◌∙◌, List, sym, ap, subst, IsTrue, Some}
 use Rattle.std.specs.Prelude.{slice_get}
 use Rattle.av_base.proofs.Lists.{some_is}
 use Rattle.av_flat.specs.Points.{has}
@@ -15,7 +15,7 @@ use Rattle.av_build.specs.inner.Intervals.{intervals_by}
 use Rattle.av_build.specs.inner.Lanes.{IsValueWork}
 use Rattle.av_build.specs.inner.Orders.{IsInOrder}
 use Rattle.av_build.specs.inner.Programmed.{IsModeFor}
-use Rattle.av_build.proofs.CellPieces.{plan_at, piece_at, places_at}
+use Rattle.av_build.proofs.CellPieces.{plan_at, has_within, piece_at, places_at}
 use Rattle.av_build.proofs.SpotsOn.{cell_within}
 use Rattle.av_build.proofs.ValueModes.{is_on, cell_points, piece_mode}
 use Rattle.av_build.proofs.blueprint.Blueprint.value_mode.Goals as goal
@@ -37,10 +37,7 @@ marks-requires-clause-points c =
     let own = c.requires.piece in
     let low = in_range b.cells p own.0 own.1 in
     let here = plan_at b is p low cells plan c.as_slice.ensures c.index-as_slice-cell.is in
-    let same = some_is own.0 plan (sym own.1 ∙ here) in
-    let few = own.2 in
-    let size = ap (λ (x : CellPlan). length x.pieces.spots) same in
-    let within : k < length plan.pieces.spots = omega (arith, few, size) in
+    let within = has_within b is p low cells plan c.as_slice.ensures c.index-as_slice-cell.is k own in
     let at = c.index-as_slice-number.result in
     let is_at = piece_at b is p low cells plan c.as_slice.ensures c.index-as_slice-cell.is k within c.as_slice-2.result.now at c.as_slice-2.ensures c.index-as_slice-number.is in
     cell_points b is p plan here k at is_at c.slots-all.result.now c.slots-all.ensures
@@ -56,10 +53,7 @@ work-requires-clause-spot c =
     let own = c.requires.piece in
     let low = in_range b.cells p own.0 own.1 in
     let here = plan_at b is p low cells plan c.as_slice.ensures c.index-as_slice-cell.is in
-    let same = some_is own.0 plan (sym own.1 ∙ here) in
-    let few = own.2 in
-    let size = ap (λ (x : CellPlan). length x.pieces.spots) same in
-    let within : k < length plan.pieces.spots = omega (arith, few, size) in
+    let within = has_within b is p low cells plan c.as_slice.ensures c.index-as_slice-cell.is k own in
     let at = c.index-as_slice-number.result in
     let is_at = piece_at b is p low cells plan c.as_slice.ensures c.index-as_slice-cell.is k within c.as_slice-2.result.now at c.as_slice-2.ensures c.index-as_slice-number.is in
     let places = c.index-as_slice-number-2.result in
@@ -77,10 +71,7 @@ returns c = λ other spot is_other is_spot.
     let own = c.requires.piece in
     let low = in_range b.cells p own.0 own.1 in
     let here = plan_at b is p low cells plan c.as_slice.ensures c.index-as_slice-cell.is in
-    let same = some_is own.0 plan (sym own.1 ∙ here) in
-    let few = own.2 in
-    let size = ap (λ (x : CellPlan). length x.pieces.spots) same in
-    let within : k < length plan.pieces.spots = omega (arith, few, size) in
+    let within = has_within b is p low cells plan c.as_slice.ensures c.index-as_slice-cell.is k own in
     let at = c.index-as_slice-number.result in
     let is_at = piece_at b is p low cells plan c.as_slice.ensures c.index-as_slice-cell.is k within c.as_slice-2.result.now at c.as_slice-2.ensures c.index-as_slice-number.is in
     let one : at ≡ spot = some_is at spot (sym is_at ∙ ap (λ (x : CellPlan). slice_get x.pieces.spots k) (some_is plan other (sym here ∙ is_other)) ∙ is_spot) in
