@@ -28,7 +28,7 @@ use Rattle.av_history.proofs.Serving.{IsMovedBy, moved_by, Reading, linked}
 use Rattle.av_build.specs.declared.blueprint.Blueprint.{Blueprint}
 use Rattle.av_build.specs.declared.blueprint.CellPlan.{CellPlan}
 use Rattle.av_build.specs.declared.blueprint.HelperPlan.{HelperPlan}
-use Rattle.av_build.specs.inner.Blueprints.{seen, spot_of, helpers_on, ArePieces, IsBlueprint, HasHelper}
+use Rattle.av_build.specs.inner.Blueprints.{seen, spot_of, spots_on, helpers_on, ArePieces, IsBlueprint, HasHelper}
 use Rattle.av_build.proofs.HelperPlaces.{IsReference, by_tree, told, spot_at}
 use Rattle.av_build.proofs.HelpersOn.{helper_of_place}
 use Rattle.av_build.proofs.PlaceSources.{as_linked}
@@ -59,10 +59,10 @@ module _ (b : Blueprint) (is : IsBlueprint b) (j : ℕ) (h : Helper) (v : Variab
     pub on_cell : (x : ℕ) × (g : HelperPlan) × (slice_get (helpers_on plan.pieces) x ≡ Some g) × (g.number ≡ j)
     on_cell =
         let among = pieces.spots.all c (number_at (system_of w) h.var) z v h.piece piece computes node it.is_piece inside in
-        let k = place_in (map (λ (at : SpotMade). at.number) plan.pieces.spots) h.piece among in
-        let at = from_map (λ (at : SpotMade). at.number) plan.pieces.spots k.0 h.piece k.1 in
+        let k = place_in (map (λ (at : SpotMade). at.number) (spots_on w plan.pieces)) h.piece among in
+        let at = from_map (λ (at : SpotMade). at.number) (spots_on w plan.pieces) k.0 h.piece k.1 in
         let many = pieces.one_each in
-        let low = in_range plan.pieces.spots k.0 at.0 at.1 in
+        let low = in_range (spots_on w plan.pieces) k.0 at.0 at.1 in
         let own = there_is plan.pieces.sites k.0 (omega (arith, low, many)) in
         let sites = pieces.sites k.0 at.0 own.0 at.1 own.1 in
         let there = spot_at w is.array p plan.pieces pieces k.0 at.0 at.1 in

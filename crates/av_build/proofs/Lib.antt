@@ -22,6 +22,8 @@ pub mod HelpersOn
 pub mod HelperSearch
 pub mod HelperPlaces
 pub mod SortingSteps
+pub mod SamePieces
+pub mod SpotsAgain
 pub mod ValueLanes
 pub mod PlaceNumbers
 pub mod HelpersApart

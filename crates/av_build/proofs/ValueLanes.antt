@@ -25,7 +25,7 @@ use Rattle.av_history.specs.Performing.{Spot}
 use Rattle.av_history.specs.Arranged.{IsArranged}
 use Rattle.av_build.specs.declared.blueprint.Blueprint.{Blueprint}
 use Rattle.av_build.specs.declared.blueprint.CellPlan.{CellPlan}
-use Rattle.av_build.specs.inner.Blueprints.{seen, spot_of, lanes_of, IsBlueprint, IsCounted}
+use Rattle.av_build.specs.inner.Blueprints.{seen, spot_of, spots_on, lanes_of, IsBlueprint, IsCounted}
 use Rattle.av_build.specs.inner.Lanes.{IsValueMode, IsBuiltBy}
 use Rattle.av_build.specs.inner.Programmed.{IsWorkFor, IsModeFor, AreAlone, IsValueLane}
 use Rattle.av_build.proofs.AloneLemmas.{both_hold}
@@ -38,7 +38,7 @@ module _ (b : Blueprint) (is : IsBlueprint b) (counter : Counter) (counted : IsC
   w = b.array
 
   abbrev spots : List SpotMade
-  spots = plan.pieces.spots
+  spots = spots_on w plan.pieces
 
   are : AreSpots w p spots
   are = (is.plans.pieces p plan is_plan).spots
@@ -168,6 +168,6 @@ module _ (b : Blueprint) (is : IsBlueprint b) (counter : Counter) (counted : IsC
         let wide : lane.width.bits ≡ v.width = width ∙ ap (λ (u : Variable). u.width) (variable_is c n z v computes is_variable first s.0 s.2) in
         subst (λ (x : CellPlan). IsValueLane (seen w) (count_in counter) (lanes_of b.cells) x.lanes.first p n v lane) (some_is plan other (sym is_plan ∙ is_other))
         (value_lane c n z v computes is_variable modes many each lane home rank wide are_modes size);
-    one_each = subst (λ (x : CellPlan). length lane.modes ≡ length x.pieces.spots) (some_is plan other (sym is_plan ∙ is_other)) (ap (λ (l : List Mode). length l) are_modes ∙ many);
+    one_each = subst (λ (x : CellPlan). length lane.modes ≡ length (spots_on w x.pieces)) (some_is plan other (sym is_plan ∙ is_other)) (ap (λ (l : List Mode). length l) are_modes ∙ many);
     works = λ k mode at is_mode is_at. (each k mode (ap (λ (l : List Mode). slice_get l k) (sym are_modes) ∙ is_mode) other at is_other is_at).0;
   }

@@ -21,7 +21,7 @@ use Rattle.av_kinds.specs.Written.{ModeMade, mode_of}
 use Rattle.av_build.specs.declared.blueprint.Blueprint.{Blueprint}
 use Rattle.av_build.specs.declared.blueprint.CellPlan.{CellPlan}
 use Rattle.av_build.specs.declared.intervals.Mark.{Mark}
-use Rattle.av_build.specs.inner.Blueprints.{seen, IsBlueprint, IsSpotOn}
+use Rattle.av_build.specs.inner.Blueprints.{seen, spots_on, IsBlueprint, IsSpotOn}
 use Rattle.av_build.specs.inner.Intervals.{intervals_by}
 use Rattle.av_build.specs.inner.Lanes.{IsValueMode}
 use Rattle.av_build.specs.inner.Orders.{IsInOrder, AreMarks}
@@ -31,7 +31,7 @@ use Rattle.av_build.proofs.ModeLemmas.{mode_for}
 use Rattle.av_build.proofs.Pairwise.{one_longer}
 use Rattle.av_build.proofs.SpotNodes.{computed_node}
 
-module _ (b : Blueprint) (is : IsBlueprint b) (p : ℕ) (plan : CellPlan) (is_plan : slice_get b.cells p ≡ Some plan) (k : ℕ) (at : SpotMade) (is_at : slice_get plan.pieces.spots k ≡ Some at) where
+module _ (b : Blueprint) (is : IsBlueprint b) (p : ℕ) (plan : CellPlan) (is_plan : slice_get b.cells p ≡ Some plan) (k : ℕ) (at : SpotMade) (is_at : slice_get (spots_on b.array plan.pieces) k ≡ Some at) where
   here : (at.cell ≡ p) × (0 < length at.slots) × IsSpot b.array at
   here = spot_at b.array is.array p plan.pieces (is.plans.pieces p plan is_plan) k at is_at
 
