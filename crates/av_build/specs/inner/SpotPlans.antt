@@ -1,5 +1,5 @@
 -- The pieces on cells without their computations, which are found again among all that the array has on the cell.
-use Rattle.std.specs.Prelude.{ℕ, List, [], Option, Some, None, slice_get, filter}
+use Rattle.std.specs.Prelude.{List, [], Option, Some, None, slice_get, filter}
 use Rattle.av_flat.specs.Points.{has}
 use Rattle.av_space.specs.declared.array.Array.{Array as ArrayMade}
 use Rattle.av_space.specs.declared.layout.Slot.{Slot}
