@@ -11,11 +11,10 @@ use Rattle.av_flat.specs.Trees.{Tree, Piece, Variable, FlatSystem, view_piece, v
 use Rattle.av_flat.specs.Broadcasts.{Reference}
 use Rattle.av_flat.specs.Nodes.{nodes}
 use Rattle.av_space.specs.declared.array.Array.{Array as ArrayMade}
-use Rattle.av_space.specs.declared.cells.Cell.{Cell}
 use Rattle.av_space.specs.declared.spots.Site.{Site as PlaceMade}
 use Rattle.av_space.specs.declared.spots.Spot.{Spot as SpotMade}
 use Rattle.av_space.specs.Sites.{place_of}
-use Rattle.av_space.specs.Spots.{system_of, helpers_of, cells_of, IsSpot, IsSiteOf, AreSites, handing_by}
+use Rattle.av_space.specs.Spots.{system_of, helpers_of, IsSpot, IsSiteOf, AreSites, handing_by}
 use Rattle.av_space.specs.Taps.{node_place, Handing, helper_at, Place, places_in}
 use Rattle.av_space.proofs.Elements.{in_range}
 use Rattle.av_kinds.specs.declared.counter.Counter.{Counter}
@@ -32,7 +31,7 @@ use Rattle.av_history.proofs.Words.{place_both}
 use Rattle.av_build.specs.declared.blueprint.Blueprint.{Blueprint}
 use Rattle.av_build.specs.declared.blueprint.CellPlan.{CellPlan}
 use Rattle.av_build.specs.declared.blueprint.HelperPlan.{HelperPlan}
-use Rattle.av_build.specs.inner.Blueprints.{seen, spot_of, with_helper, site_helpers, helpers_from, helpers_on, helper_in, helper_place, lanes_of, ArePieces, IsBlueprint}
+use Rattle.av_build.specs.inner.Blueprints.{seen, spot_of, spots_on, with_helper, site_helpers, helpers_from, helpers_on, helper_in, helper_place, lanes_of, ArePieces, IsBlueprint}
 use Rattle.av_build.specs.inner.Lanes.{HaveSamePieces, AreBuilt}
 use Rattle.av_build.specs.inner.Programmed.{inlet_by, pipe_in, one_site, IsPlaceSite, IsWorkFor, IsHelperLane}
 use Rattle.av_build.proofs.CellUses.{busy, some_spot}
@@ -40,6 +39,8 @@ use Rattle.av_build.proofs.FineLanes.{numbered}
 use Rattle.av_build.proofs.HelperPlaces.{helped, spot_at}
 use Rattle.av_build.proofs.HelpersOn.{place_of_helper}
 use Rattle.av_build.proofs.ProgramFor.{value_is, lane_made, value_built, helper_built}
+use Rattle.av_build.proofs.SamePieces.{HaveSameSpots, same_spots}
+use Rattle.av_build.proofs.SpotNodes.{cell_node}
 
 -- ---- lists side by side
 
@@ -89,10 +90,6 @@ helpers_same k (xs ∷ ps) (ys ∷ qs) size each =
     ∙ ap (λ (l : List HelperPlan). site_helpers k 0 ys ++ l) (helpers_same (suc k) ps qs (omega (arith, size)) (λ j us vs is_u is_v. each (suc j) us vs is_u is_v))
 
 -- ---- one piece of one node on two cells
-
--- a cell is of the node of each piece on it
-pub cell_node : (w : ArrayMade) (p : ℕ) (at : SpotMade) → at.cell ≡ p → IsSpot w at → (cell : Cell) → slice_get (cells_of w) p ≡ Some cell → cell.node ≡ at.node
-cell_node w p at e s cell is = ap (λ (x : Cell). x.node) (some_is cell s.cell (sym is ∙ ap (slice_get (cells_of w)) (sym e) ∙ s.is_cell)) ∙ s.node
 
 module _ (w : ArrayMade) (at of : SpotMade) (s : IsSpot w at) (t : IsSpot w of) (node : at.node ≡ of.node) (number : at.number ≡ of.number) where
   pub variable_same : view_variable at.var.now ≡ view_variable of.var.now
@@ -154,28 +151,31 @@ module _ (b : Blueprint) (is : IsBlueprint b) (p q : ℕ) (x y : CellPlan) (is_x
   abbrev lanes : Lanes
   lanes = lanes_of b.cells
 
+  alike : HaveSameSpots (spots_on w x.pieces) (spots_on w y.pieces)
+  alike = same_spots w x.pieces.spots y.pieces.spots same
+
   of_x : ArePieces w p x.pieces
   of_x = is.plans.pieces p x is_x
 
   of_y : ArePieces w q y.pieces
   of_y = is.plans.pieces q y is_y
 
-  on_x : (k : ℕ) (at : SpotMade) → slice_get x.pieces.spots k ≡ Some at → (at.cell ≡ p) × (0 < length at.slots) × IsSpot w at
+  on_x : (k : ℕ) (at : SpotMade) → slice_get (spots_on w x.pieces) k ≡ Some at → (at.cell ≡ p) × (0 < length at.slots) × IsSpot w at
   on_x k at e = spot_at w is.array p x.pieces of_x k at e
 
-  on_y : (k : ℕ) (at : SpotMade) → slice_get y.pieces.spots k ≡ Some at → (at.cell ≡ q) × (0 < length at.slots) × IsSpot w at
+  on_y : (k : ℕ) (at : SpotMade) → slice_get (spots_on w y.pieces) k ≡ Some at → (at.cell ≡ q) × (0 < length at.slots) × IsSpot w at
   on_y k at e = spot_at w is.array q y.pieces of_y k at e
 
   pub helpers_are : helpers_on x.pieces ≡ helpers_on y.pieces
   helpers_are =
       let a = of_x.one_each in
       let d = of_y.one_each in
-      let e = same.0 in
+      let e = alike.0 in
       helpers_same 0 x.pieces.sites y.pieces.sites (omega (arith, a, d, e)) (λ j xs ys is_xs is_ys. (
       let low = in_range x.pieces.sites j xs is_xs in
-      let at = there_is x.pieces.spots j (omega (arith, low, a)) in
-      let of = there_is y.pieces.spots j (omega (arith, low, a, e)) in
-      let f = same.1 j at.0 of.0 at.1 of.1 in
+      let at = there_is (spots_on w x.pieces) j (omega (arith, low, a)) in
+      let of = there_is (spots_on w y.pieces) j (omega (arith, low, a, e)) in
+      let f = alike.1 j at.0 of.0 at.1 of.1 in
       handings_same w at.0 of.0 (on_x j at.0 at.1).2 (on_y j of.0 of.1).2 f.0 f.1 xs ys (of_x.sites j at.0 xs at.1 is_xs) (of_y.sites j of.0 ys of.1 is_ys)))
 
   pipes_are : (j : ℕ) → pipe_in lanes p x.lanes.first j ≡ pipe_in lanes q y.lanes.first j
@@ -235,24 +235,24 @@ module _ (b : Blueprint) (is : IsBlueprint b) (p q : ℕ) (x y : CellPlan) (is_x
         let high = in_range b.cells q y is_y in
         let u = busy w is.array p (omega (arith, low, many)) in
         let v = busy w is.array q (omega (arith, high, many)) in
-        let some = some_spot w is.array p (omega (arith, low, many)) x.pieces.spots of_x.spots in
-        let e = same.0 in
-        let at = there_is x.pieces.spots 0 some in
-        let of = there_is y.pieces.spots 0 (omega (arith, some, e)) in
+        let some = some_spot w is.array p (omega (arith, low, many)) (spots_on w x.pieces) of_x.spots in
+        let e = alike.0 in
+        let at = there_is (spots_on w x.pieces) 0 some in
+        let of = there_is (spots_on w y.pieces) 0 (omega (arith, some, e)) in
         let s = on_x 0 at.0 at.1 in
         let t = on_y 0 of.0 of.1 in
-        let node : u.cell.node ≡ v.cell.node = cell_node w p at.0 s.0 s.2 u.cell u.is_cell ∙ (same.1 0 at.0 of.0 at.1 of.1).0 ∙ sym (cell_node w q of.0 t.0 t.2 v.cell v.is_cell) in
+        let node : u.cell.node ≡ v.cell.node = cell_node w p at.0 s.0 s.2 u.cell u.is_cell ∙ (alike.1 0 at.0 of.0 at.1 of.1).0 ∙ sym (cell_node w q of.0 t.0 t.2 v.cell v.is_cell) in
         let variable : u.variable ≡ v.variable = some_is u.variable v.variable (sym u.is_variable ∙ ap (slice_get (nodes (system_of w))) node ∙ v.is_variable) in
         let wide = g.is_lane u.cycle u.cell.node u.point u.variable u.computes u.is_variable in
         let also = h.is_lane v.cycle v.cell.node v.point v.variable v.computes v.is_variable in
         record {
           width = width_is l.width m.width (wide.width_is ∙ ap (λ (z : Variable). z.width) variable ∙ sym also.width_is);
-          modes = paired_by_place AreAlikeModes (lane_of l).modes (lane_of m).modes (g.one_each ∙ same.0 ∙ sym h.one_each) (λ k a d is_a is_d. (
+          modes = paired_by_place AreAlikeModes (lane_of l).modes (lane_of m).modes (g.one_each ∙ alike.0 ∙ sym h.one_each) (λ k a d is_a is_d. (
               let within = in_range (lane_of l).modes k a is_a in
               let size = g.one_each in
-              let at = there_is x.pieces.spots k (omega (arith, within, size)) in
-              let of = there_is y.pieces.spots k (omega (arith, within, size, e)) in
-              let f = same.1 k at.0 of.0 at.1 of.1 in
+              let at = there_is (spots_on w x.pieces) k (omega (arith, within, size)) in
+              let of = there_is (spots_on w y.pieces) k (omega (arith, within, size, e)) in
+              let f = alike.1 k at.0 of.0 at.1 of.1 in
               let s = on_x k at.0 at.1 in
               let t = on_y k of.0 of.1 in
               works_alike (count_in counter) at.0 of.0 s.0 t.0 s.2 t.2 f.0 f.1 a d

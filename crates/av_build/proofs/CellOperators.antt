@@ -12,10 +12,10 @@ use Rattle.av_flat.specs.Trees.{Piece, Variable}
 use Rattle.av_flat.specs.Points.{has}
 use Rattle.av_flat.specs.Signatures.{is_computed}
 use Rattle.av_flat.specs.Nodes.{is_node, nodes}
-use Rattle.av_space.specs.declared.cells.Cell.{Cell}
 use Rattle.av_space.specs.Quantities.{IsUse}
 use Rattle.av_space.proofs.ByPlace.{from_map, pairs_by_place}
 use Rattle.av_space.proofs.Nodes.{passing}
+use Rattle.av_space.proofs.OneCell.{one_node}
 use Rattle.av_kinds.specs.Programs.{Work, Mode, Lane, Program, lanes_of, IsProgram, is_active}
 use Rattle.av_kinds.specs.Sorts.{Sort, operators, lanes_operators}
 use Rattle.av_kinds.proofs.TopInstances.{in_cell, cell_within}
@@ -153,9 +153,7 @@ module _ (a : Array) (count : ℕ → ℕ) (lanes : Lanes) (program : Program) (
 
   -- the node of a computation on the cell
   same_node : (c n : ℕ) (z : Point) → ComputesOn a p c n z → n ≡ h.node
-  same_node c n z computes =
-      let cell : computes.cell ≡ h.computes.cell = some_is computes.cell h.computes.cell (sym computes.is_cell ∙ h.computes.is_cell) in
-      sym computes.stands.node ∙ ap (λ (x : Cell). x.node) cell ∙ h.computes.stands.node
+  same_node c n z computes = one_node a.system a.times a.cells p c h.cycle n h.node z h.point computes h.computes
 
   use_of : (i k : ℕ) (piece : Piece) → slice_get numbers i ≡ Some k → slice_get pieces i ≡ Some piece → IsUse a.system a.times a.cells (record { cell = p; piece = k }) piece
   use_of i k piece is_number is_piece =

@@ -1,15 +1,13 @@
 -- Each cell of an array has computations, and with them a piece.
 use Rattle.std.proofs.Common.{◌≡◌, ℕ, ◌<◌, List, length, map, sym, ap, subst, ◌∙◌, arith, Some}
-use Rattle.std.specs.Prelude.{slice_get, Contains, nat_lt}
+use Rattle.std.specs.Prelude.{slice_get, nat_lt}
 use Rattle.av_tree.specs.Points.{Point}
 use Rattle.av_flat.specs.Trees.{Variable, FlatSystem}
 use Rattle.av_flat.specs.Signatures.{is_computed}
 use Rattle.av_flat.specs.Nodes.{is_node, nodes}
 use Rattle.av_space.specs.declared.array.Array.{Array as ArrayMade}
 use Rattle.av_space.specs.declared.cells.Cell.{Cell}
-use Rattle.av_space.specs.declared.layout.Slot.{Slot}
 use Rattle.av_space.specs.declared.spots.Spot.{Spot as SpotMade}
-use Rattle.av_space.specs.Layouts.{AreSlots}
 use Rattle.av_space.specs.Spots.{system_of, helpers_of, placings_of, cells_of, ComputesIn, IsArray, AreSpots}
 use Rattle.av_space.specs.Occupancy.{IsUsed}
 use Rattle.av_space.proofs.ByPlace.{from_map}
@@ -45,14 +43,6 @@ busy w is p low =
       variable = used.3.computation.variable;
       is_variable = ap (slice_get (nodes (system_of w))) node ∙ used.3.computation.is;
     }
-
-some_element : {X : Type 0} (xs : List X) (x : X) → Contains xs x → 0 < length xs
-some_element xs x at = let i = place_in xs x at in let l = in_range xs i.0 x i.1 in omega (arith, l)
-
-pub some_slot : (w : ArrayMade) → IsArray w → (p : ℕ) → p < length (cells_of w) → (slots : List Slot) → AreSlots (system_of w) (placings_of w) (cells_of w) p slots → 0 < length slots
-some_slot w is p low slots are =
-    let b = busy w is p low in
-    some_element slots (record { cycle = b.cycle; point = b.point }) (are.all b.cycle b.cell.node b.point b.computes)
 
 pub some_spot : (w : ArrayMade) → IsArray w → (p : ℕ) → p < length (cells_of w) → (spots : List SpotMade) → AreSpots w p spots → 0 < length spots
 some_spot w is p low spots are =

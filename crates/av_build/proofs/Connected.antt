@@ -11,12 +11,11 @@ use Rattle.av_flat.specs.Nodes.{is_node, nodes, IsComputation}
 use Rattle.av_flat.specs.Chained.{IsChainedVariable}
 use Rattle.av_flat.specs.Schedules.{cycle}
 use Rattle.av_flat.specs.Legal.{IsLegal}
-use Rattle.av_space.specs.declared.cells.Cell.{Cell}
 use Rattle.av_space.specs.declared.cells.Cells.{Cells}
 use Rattle.av_space.specs.Coordinates.{Placing, IsPlacing, point, space}
 use Rattle.av_space.specs.Occupancy.{Computes}
 use Rattle.av_space.specs.Arrays.{IsArrayOf}
-use Rattle.av_space.proofs.OneCell.{Inverts}
+use Rattle.av_space.proofs.OneCell.{Inverts, one_node}
 use Rattle.av_space.proofs.Placed.{inverts}
 use Rattle.av_space.proofs.Elements.{at_index}
 use Rattle.av_space.proofs.Nodes.{passing}
@@ -64,8 +63,7 @@ module _ (t : Timed) (a : Cells) (legal : IsLegal t) (array : IsArrayOf t a) whe
   -- no cell computes two points in one cycle
   pub one_computation : (p c m n : ℕ) (y z : Point) → Computes own array.placings a.cells p c m y → Computes own array.placings a.cells p c n z → (m ≡ n) × (y ≡ z)
   one_computation p c m n y z h k =
-      let cell : h.cell ≡ k.cell = some_is h.cell k.cell (sym h.is_cell ∙ k.is_cell) in
-      let same : m ≡ n = sym h.stands.node ∙ ap (λ (x : Cell). x.node) cell ∙ k.stands.node in
+      let same = one_node own array.placings a.cells p c c m n y z h k in
       (same, one_point (array_of t a array.placings) legal_array p c n y z (subst (λ (i : ℕ). Computes own array.placings a.cells p c i y) same h) k)
 
   -- the numbers of each piece are words of its variable

@@ -1,7 +1,7 @@
 -- The cells that have a lane for a helper: those with a computation of its piece, and with them the cells that hand its word on.
 use Rattle.std.proofs.Common.{◌≡◌, ℕ, ◌+◌, List, map, refl, sym, ap, subst, ◌∙◌, arith, IsTrue, Some}
 use Rattle.std.specs.Prelude.{slice_get}
-use Rattle.av_base.proofs.Lists.{some_is, there_is, place_in}
+use Rattle.av_base.proofs.Lists.{there_is, place_in}
 use Rattle.av_tree.specs.Points.{Point}
 use Rattle.av_flat.specs.declared.timed.Helper.{Helper}
 use Rattle.av_flat.specs.Trees.{Tree, Piece, Variable, FlatSystem, view, view_piece, view_variable, reference}
@@ -11,7 +11,6 @@ use Rattle.av_flat.specs.Nodes.{nodes, number_at}
 use Rattle.av_flat.specs.Points.{has}
 use Rattle.av_flat.specs.Signatures.{signatures}
 use Rattle.av_space.specs.declared.array.Array.{Array as ArrayMade}
-use Rattle.av_space.specs.declared.cells.Cell.{Cell}
 use Rattle.av_space.specs.declared.layout.Slot.{Slot}
 use Rattle.av_space.specs.declared.spots.Site.{Site as PlaceMade}
 use Rattle.av_space.specs.declared.spots.Spot.{Spot as SpotMade}
@@ -29,12 +28,12 @@ use Rattle.av_history.proofs.Serving.{IsMovedBy, moved_by, Reading, linked}
 use Rattle.av_build.specs.declared.blueprint.Blueprint.{Blueprint}
 use Rattle.av_build.specs.declared.blueprint.CellPlan.{CellPlan}
 use Rattle.av_build.specs.declared.blueprint.HelperPlan.{HelperPlan}
-use Rattle.av_build.specs.inner.Blueprints.{seen, spot_of, helpers_on, ArePieces, IsBlueprint, HasHelper}
+use Rattle.av_build.specs.inner.Blueprints.{seen, spot_of, spots_on, helpers_on, ArePieces, IsBlueprint, HasHelper}
 use Rattle.av_build.proofs.HelperPlaces.{IsReference, by_tree, told, spot_at}
 use Rattle.av_build.proofs.HelpersOn.{helper_of_place}
 use Rattle.av_build.proofs.PlaceSources.{as_linked}
 use Rattle.av_build.proofs.SeenArray.{arranged_seen}
-use Rattle.av_build.proofs.SpotNodes.{IsNodeOf, node_of}
+use Rattle.av_build.proofs.SpotNodes.{IsNodeOf, node_of, computed_node, computed_piece}
 
 -- ---- a helper whose piece has a computation on the cell
 
@@ -45,12 +44,6 @@ module _ (b : Blueprint) (is : IsBlueprint b) (j : ℕ) (h : Helper) (v : Variab
 
   node : slice_get (nodes (system_of w)) (number_at (system_of w) h.var) ≡ Some v
   node = node_at (system_of w).variables h.var v it.is_variable it.is_node
-
-  node_of_spot : (at : SpotMade) → at.cell ≡ p → IsSpot w at → at.node ≡ number_at (system_of w) h.var
-  node_of_spot at e s = sym s.node ∙ ap (λ (x : Cell). x.node) (some_is s.cell computes.cell (sym s.is_cell ∙ ap (λ (k : ℕ). slice_get (cells_of w) k) e ∙ computes.is_cell)) ∙ computes.stands.node
-
-  spot_variable : (at : SpotMade) → at.cell ≡ p → IsSpot w at → view_variable at.var.now ≡ v
-  spot_variable at e s = some_is (view_variable at.var.now) v (sym s.is_variable ∙ ap (λ (k : ℕ). slice_get (nodes (system_of w)) k) (node_of_spot at e s) ∙ node)
 
   plan_there : (plan : CellPlan) × (slice_get b.cells p ≡ Some plan)
   plan_there =
@@ -66,24 +59,22 @@ module _ (b : Blueprint) (is : IsBlueprint b) (j : ℕ) (h : Helper) (v : Variab
     pub on_cell : (x : ℕ) × (g : HelperPlan) × (slice_get (helpers_on plan.pieces) x ≡ Some g) × (g.number ≡ j)
     on_cell =
         let among = pieces.spots.all c (number_at (system_of w) h.var) z v h.piece piece computes node it.is_piece inside in
-        let k = place_in (map (λ (at : SpotMade). at.number) plan.pieces.spots) h.piece among in
-        let at = from_map (λ (at : SpotMade). at.number) plan.pieces.spots k.0 h.piece k.1 in
+        let k = place_in (map (λ (at : SpotMade). at.number) (spots_on w plan.pieces)) h.piece among in
+        let at = from_map (λ (at : SpotMade). at.number) (spots_on w plan.pieces) k.0 h.piece k.1 in
         let many = pieces.one_each in
-        let low = in_range plan.pieces.spots k.0 at.0 at.1 in
+        let low = in_range (spots_on w plan.pieces) k.0 at.0 at.1 in
         let own = there_is plan.pieces.sites k.0 (omega (arith, low, many)) in
         let sites = pieces.sites k.0 at.0 own.0 at.1 own.1 in
         let there = spot_at w is.array p plan.pieces pieces k.0 at.0 at.1 in
         let spot = there.2 in
-        let variable = spot_variable at.0 there.0 spot in
-        let here : view_piece at.0.piece.now ≡ piece = some_is (view_piece at.0.piece.now) piece
-        (sym spot.is_piece ∙ ap (λ (i : ℕ). slice_get (view_variable at.0.var.now).pieces i) at.2 ∙ ap (λ (u : Variable). slice_get u.pieces h.piece) variable ∙ it.is_piece) in
+        let here = computed_piece w p at.0 there.0 spot c (number_at (system_of w) h.var) z computes v node h.piece piece it.is_piece at.2 in
         let read : slice_get (references (view_piece at.0.piece.now).tree) h.site ≡ Some r = ap (λ (q : Piece). slice_get (references q.tree) h.site) here ∙ it.is_reference in
         let place = told at.0.number 0 (view_piece at.0.piece.now).tree h.site r read in
         let number : 0 + h.site ≡ h.site = omega arith in
         let mapped : slice_get (map (λ (s : PlaceMade). place_of s.place) own.0) place.0 ≡ Some (record { piece = at.0.number; site = 0 + h.site; tree = reference r.place r.map }) = ap (λ (l : List Place). slice_get l place.0) sites.places ∙ place.1 in
         let site = from_map (λ (s : PlaceMade). place_of s.place) own.0 place.0 (record { piece = at.0.number; site = 0 + h.site; tree = reference r.place r.map }) mapped in
         let placed = at_index (IsSiteOf w at.0) own.0 sites.each place.0 site.0 site.1 in
-        let var_is : at.0.place ≡ h.var = spot.place ∙ ap (node_place (system_of w)) (node_of_spot at.0 there.0 spot) ∙ own_place (system_of w) h.var v it.is_variable it.is_node in
+        let var_is : at.0.place ≡ h.var = spot.place ∙ ap (node_place (system_of w)) (computed_node w p at.0 there.0 spot c (number_at (system_of w) h.var) z computes) ∙ own_place (system_of w) h.var v it.is_variable it.is_node in
         let handing : site.0.handing ≡ Some (record { number = j; direction = h.direction }) =
         placed.handing ∙ ap (λ (q : Place). handing_by (helpers_of w) at.0.place q q.tree) site.2 ∙ ap (λ (i : ℕ). helper_at (helpers_of w) at.0.place at.0.number i) number
         ∙ ap (λ (i : ℕ). helper_at (helpers_of w) i at.0.number h.site) var_is ∙ ap (λ (i : ℕ). helper_at (helpers_of w) h.var i h.site) at.2 ∙ it.is_first in

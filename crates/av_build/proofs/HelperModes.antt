@@ -1,8 +1,9 @@
 -- The lane of a helper on a cell, from its place in the blueprint.
-use Rattle.std.proofs.Common.{◌≡◌, ℕ, suc, ◌<◌, List, [], ◌∷◌, length, refl, sym, ap, ap₂, subst, ◌∙◌, Some, None}
+use Rattle.std.proofs.Common.{◌≡◌, ℕ, suc, ◌<◌, List, [], ◌∷◌, length, get_or, arith, refl, sym, ap, ap₂, subst, ◌∙◌, Some, None}
 use Rattle.std.specs.Prelude.{slice_get}
+use Rattle.std.proofs.lemmas.List.{length-map}
 use Rattle.av_base.specs.declared.width.Width.{Width}
-use Rattle.av_base.proofs.Lists.{some_is}
+use Rattle.av_base.proofs.Lists.{get_mapped, some_is}
 use Rattle.av_flat.specs.Trees.{Tree, Variable, FlatSystem, view, view_variable, reference}
 use Rattle.av_space.specs.declared.array.Array.{Array as ArrayMade}
 use Rattle.av_space.specs.declared.spots.Spot.{Spot as SpotMade}
@@ -18,18 +19,22 @@ use Rattle.av_kinds.specs.Programs.{Mode, Lane}
 use Rattle.av_history.specs.Performing.{helper_spot}
 use Rattle.av_history.specs.Widths.{read_width}
 use Rattle.av_build.specs.declared.blueprint.Blueprint.{Blueprint}
+use Rattle.av_build.specs.declared.blueprint.CellPlan.{CellPlan}
 use Rattle.av_build.specs.declared.blueprint.HelperPlan.{HelperPlan}
 use Rattle.av_build.specs.declared.moments.HandMoments.{HandMoments}
-use Rattle.av_build.specs.inner.Blueprints.{seen, spot_of, lanes_of, ArePieces, IsBlueprint, IsCounted}
+use Rattle.av_build.specs.declared.spots.SpotPlan.{SpotPlan}
+use Rattle.av_build.specs.inner.Blueprints.{seen, spot_of, spots_on, lanes_of, ArePieces, IsBlueprint, IsCounted}
 use Rattle.av_build.specs.inner.Intervals.{intervals_by}
 use Rattle.av_build.specs.inner.Lanes.{HasPlan, AreHelperModes, IsHelperOn, IsBuiltBy}
 use Rattle.av_build.specs.inner.Moments.{site_by}
 use Rattle.av_build.specs.inner.Orders.{IsInOrder}
 use Rattle.av_build.specs.inner.Programmed.{inlet_by, one_site, IsHelperLane}
 use Rattle.av_build.specs.inner.Sources.{AreHandMomentsTo}
+use Rattle.av_build.specs.inner.SpotPlans.{spot_by}
 use Rattle.av_build.proofs.HandModes.{hand_lane}
 use Rattle.av_build.proofs.HelperPlaces.{IsHelped, helped, spot_at, variable_is, tree_is, moments_are, slots_are}
 use Rattle.av_build.proofs.HelpersOn.{IsFromPlace, place_of_helper}
+use Rattle.av_build.proofs.Pairwise.{element_of}
 use Rattle.av_build.proofs.SeenArray.{one_seen}
 
 -- ---- a helper of a piece, as one of a place of its cell
@@ -53,7 +58,7 @@ module _ (b : Blueprint) (is : IsBlueprint b) (at : SpotMade) (h : HelperPlan) (
   unfolding from_place
   helped_there =
       let x = helped b.array is.array at.cell on.spot_on.plan.pieces pieces_there h from_place in
-      let e : slice_get on.spot_on.plan.pieces.spots h.piece ≡ Some at = ap (λ (k : ℕ). slice_get on.spot_on.plan.pieces.spots k) on.piece_is ∙ on.spot_on.is_spot in
+      let e : slice_get (spots_on b.array on.spot_on.plan.pieces) h.piece ≡ Some at = ap (λ (k : ℕ). slice_get (spots_on b.array on.spot_on.plan.pieces) k) on.piece_is ∙ on.spot_on.is_spot in
       subst (λ (y : SpotMade). IsHelped b.array is.array at.cell on.spot_on.plan.pieces pieces_there h y on.place on.handing) (some_is x.0 at (sym x.1.is_spot ∙ e)) x.1
 
   -- ---- its modes
@@ -116,7 +121,7 @@ module _ (b : Blueprint) (is : IsBlueprint b) (p : ℕ) (h : HelperPlan) (has : 
     pub on : IsHelperOn b at h
     pub few : h.number < length (helpers_of b.array)
 
-  pub planned : (at : SpotMade) → slice_get has.plan.pieces.spots h.piece ≡ Some at → IsPlanned at
+  pub planned : (at : SpotMade) → slice_get (spots_on b.array has.plan.pieces) h.piece ≡ Some at → IsPlanned at
   planned at e =
       let there = spot_at b.array is.array p has.plan.pieces pieces_of h.piece at e in
       let x = helped b.array is.array p has.plan.pieces pieces_of h from in
@@ -135,13 +140,38 @@ module _ (b : Blueprint) (is : IsBlueprint b) (p : ℕ) (h : HelperPlan) (has : 
         few = in_range (helpers_of b.array) h.number x.1.helper x.1.helps.is_helper;
       }
 
-  pub piece_there : h.piece < length has.plan.pieces.spots
-  piece_there =
-      let x = helped b.array is.array p has.plan.pieces pieces_of h from in
-      in_range has.plan.pieces.spots h.piece x.0 x.1.is_spot
+  pub cell_there : p < length (cells_of b.array)
+  cell_there =
+      let low = in_range b.cells p has.plan has.is_plan in
+      let many = is.plans.one_each in
+      omega (arith, low, many)
+
+  -- as it is looked up
+  module _ (cells : List CellPlan) (plan : CellPlan) (cells_are : cells ≡ b.cells) (plan_is : plan ≡ get_or cells p plan) (spots : List SpotPlan) (spots_are : spots ≡ (get_or cells p plan).pieces.spots) where
+    same_spots : spots ≡ has.plan.pieces.spots
+    same_spots =
+        let here = element_of b.cells cells p plan plan cells_are (in_range b.cells p has.plan has.is_plan) plan_is in
+        spots_are ∙ ap (λ (x : CellPlan). x.pieces.spots) (sym plan_is ∙ some_is plan has.plan (sym here ∙ has.is_plan))
+
+    piece_there : h.piece < length has.plan.pieces.spots
+    piece_there =
+        let x = helped b.array is.array p has.plan.pieces pieces_of h from in
+        let low = in_range (spots_on b.array has.plan.pieces) h.piece x.0 x.1.is_spot in
+        let size = length-map has.plan.pieces.spots (spot_by b.array) in
+        omega (arith, low, size)
+
+    pub piece_low : h.piece < length spots
+    piece_low =
+        let low = piece_there in
+        let size = ap (λ (l : List SpotPlan). length l) same_spots in
+        omega (arith, low, size)
+
+    pub piece_is : (plan : SpotPlan) → plan ≡ get_or spots h.piece plan → (at : SpotMade) → at ≡ spot_by b.array plan → slice_get (spots_on b.array has.plan.pieces) h.piece ≡ Some at
+    piece_is plan e at made =
+        get_mapped (spot_by b.array) has.plan.pieces.spots h.piece plan (element_of has.plan.pieces.spots spots h.piece plan plan same_spots piece_there e) ∙ ap (λ (x : SpotMade). Some x) (sym made)
 
   -- the lane of its modes is what its plan says
-  pub lane_built : (counter : Counter) (at : SpotMade) → slice_get has.plan.pieces.spots h.piece ≡ Some at → (modes : List Mode) → AreHelperModes b counter at h modes
+  pub lane_built : (counter : Counter) (at : SpotMade) → slice_get (spots_on b.array has.plan.pieces) h.piece ≡ Some at → (modes : List Mode) → AreHelperModes b counter at h modes
       → (lane : Lane) → lane.home ≡ p → lane.rank ≡ suc h.number → lane.width.bits ≡ (view_variable at.var.now).width → lane.modes ≡ modes
       → lane.length ≡ line_length (system_of b.array) (helpers_of b.array) (cells_of b.array) b.array.cells.now.links p (Some h.number) → IsBuiltBy b counter p (Some h) lane
   lane_built counter at e modes made lane home rank width are size = λ helper v piece r it.

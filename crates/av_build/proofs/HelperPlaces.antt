@@ -23,7 +23,7 @@ use Rattle.av_history.specs.Performing.{Lanes, Spot, IsHelper, helper_spot}
 use Rattle.av_build.specs.declared.blueprint.HelperPlan.{HelperPlan}
 use Rattle.av_build.specs.declared.blueprint.Pieces.{Pieces}
 use Rattle.av_build.specs.declared.moments.HandMoments.{HandMoments}
-use Rattle.av_build.specs.inner.Blueprints.{seen, spot_of, ArePieces}
+use Rattle.av_build.specs.inner.Blueprints.{seen, spot_of, spots_on, ArePieces}
 use Rattle.av_build.specs.inner.Sources.{AreHandMomentsTo}
 use Rattle.av_build.proofs.Appended.{get_right}
 use Rattle.av_build.proofs.HelpersOn.{IsFromPlace}
@@ -103,12 +103,12 @@ module _ (w : ArrayMade) (is : IsArray w) (p : ℕ) (pieces : Pieces) (are : Are
   abbrev s : FlatSystem
   s = system_of w
 
-  pub spot_at : (k : ℕ) (at : SpotMade) → slice_get pieces.spots k ≡ Some at → (at.cell ≡ p) × (0 < length at.slots) × IsSpot w at
-  spot_at k at e = at_index (λ (at : SpotMade). (at.cell ≡ p) × (0 < length at.slots) × IsSpot w at) pieces.spots are.spots.each k at e
+  pub spot_at : (k : ℕ) (at : SpotMade) → slice_get (spots_on w pieces) k ≡ Some at → (at.cell ≡ p) × (0 < length at.slots) × IsSpot w at
+  spot_at k at e = at_index (λ (at : SpotMade). (at.cell ≡ p) × (0 < length at.slots) × IsSpot w at) (spots_on w pieces) are.spots.each k at e
 
   -- a place with a helper, as a helper of the array
   pub record IsHelped (h : HelperPlan) (at : SpotMade) (mine : PlaceMade) (handing : Handing) : Type 0 where
-    pub is_spot : slice_get pieces.spots h.piece ≡ Some at
+    pub is_spot : slice_get (spots_on w pieces) h.piece ≡ Some at
     pub placed : IsSiteOf w at mine
     pub helper : Helper
     pub place : ℕ
@@ -124,7 +124,7 @@ module _ (w : ArrayMade) (is : IsArray w) (p : ℕ) (pieces : Pieces) (are : Are
   helped h on =
       let many = are.one_each in
       let low = in_range pieces.sites h.piece on.sites on.are_sites in
-      let here = there_is pieces.spots h.piece (omega (arith, many, low)) in
+      let here = there_is (spots_on w pieces) h.piece (omega (arith, many, low)) in
       let at = here.0 in
       let spot = (spot_at h.piece at here.1).2 in
       let own = are.sites h.piece at on.sites here.1 on.are_sites in

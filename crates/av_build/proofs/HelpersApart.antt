@@ -16,7 +16,7 @@ use Rattle.av_kinds.specs.Programs.{AreInTurn}
 use Rattle.av_build.specs.declared.blueprint.CellPlan.{CellPlan}
 use Rattle.av_build.specs.declared.blueprint.HelperPlan.{HelperPlan}
 use Rattle.av_build.specs.declared.blueprint.Pieces.{Pieces}
-use Rattle.av_build.specs.inner.Blueprints.{with_helper, site_helpers, helpers_from, helpers_on, lanes_from, own_lanes, ArePieces, AreNumbered}
+use Rattle.av_build.specs.inner.Blueprints.{spots_on, with_helper, site_helpers, helpers_from, helpers_on, lanes_from, own_lanes, ArePieces, AreNumbered}
 use Rattle.av_build.proofs.BlueprintLemmas.{own_size}
 use Rattle.av_build.proofs.HelperPlaces.{helped}
 use Rattle.av_build.proofs.HelpersOn.{of_place, of_piece, place_of_helper}
@@ -72,11 +72,11 @@ one_place k (sites ∷ pieces) x y g h is_g is_h e f = elim (get_cases (site_hel
 -- ---- one helper of each number
 
 module _ (w : ArrayMade) (is : IsArray w) (p : ℕ) (pieces : Pieces) (are : ArePieces w p pieces) where
-  one_spot : (i j : ℕ) (x y : SpotMade) → slice_get pieces.spots i ≡ Some x → slice_get pieces.spots j ≡ Some y → x.number ≡ y.number → i ≡ j
+  one_spot : (i j : ℕ) (x y : SpotMade) → slice_get (spots_on w pieces) i ≡ Some x → slice_get (spots_on w pieces) j ≡ Some y → x.number ≡ y.number → i ≡ j
   one_spot i j x y is_x is_y e = elim (cases_lt i j) [
-    | inl l ↦ absurd (let h = pair_at (λ (a b : SpotMade). a.number < b.number) pieces.spots are.spots.order i j x y is_x is_y l in omega (arith, h, e))
+    | inl l ↦ absurd (let h = pair_at (λ (a b : SpotMade). a.number < b.number) (spots_on w pieces) are.spots.order i j x y is_x is_y l in omega (arith, h, e))
     | inr ge ↦ elim (cases_lt j i) [
-      | inl l ↦ absurd (let h = pair_at (λ (a b : SpotMade). a.number < b.number) pieces.spots are.spots.order j i y x is_y is_x l in omega (arith, h, e))
+      | inl l ↦ absurd (let h = pair_at (λ (a b : SpotMade). a.number < b.number) (spots_on w pieces) are.spots.order j i y x is_y is_x l in omega (arith, h, e))
       | inr le ↦ omega (arith, ge, le)
     ]
   ]
@@ -91,7 +91,7 @@ module _ (w : ArrayMade) (is : IsArray w) (p : ℕ) (pieces : Pieces) (are : Are
       let numbers : u.0.number ≡ v.0.number = sym u.1.piece ∙ ap (λ (k : Helper). k.piece) same ∙ v.1.piece in
       let piece : g.piece ≡ h.piece = one_spot g.piece h.piece u.0 v.0 u.1.is_spot v.1.is_spot numbers in
       let sites : a.site.place.site ≡ b.site.place.site = sym u.1.site ∙ ap (λ (k : Helper). k.site) same ∙ v.1.site in
-      let spot : u.0 ≡ v.0 = some_is u.0 v.0 (sym u.1.is_spot ∙ ap (λ (i : ℕ). slice_get pieces.spots i) piece ∙ v.1.is_spot) in
+      let spot : u.0 ≡ v.0 = some_is u.0 v.0 (sym u.1.is_spot ∙ ap (λ (i : ℕ). slice_get (spots_on w pieces) i) piece ∙ v.1.is_spot) in
       let own : a.sites ≡ b.sites = some_is a.sites b.sites (sym a.are_sites ∙ ap (λ (i : ℕ). slice_get pieces.sites i) piece ∙ b.are_sites) in
       let listed = are.sites h.piece v.0 b.sites v.1.is_spot b.are_sites in
       let at_a : slice_get (places_in v.0.number 0 (view v.0.piece.now.tree)) g.site ≡ Some (place_of a.site.place) =

@@ -12,7 +12,7 @@ use Rattle.av_build.specs.inner.Intervals.{extended, closed, intervals_from, int
 
 -- ---- tests
 
-at_most : (m n : ℕ) → m ≤ n → nat_le m n ≡ true
+pub at_most : (m n : ℕ) → m ≤ n → nat_le m n ≡ true
 at_most m n h = grind arith
 
 is_most : (m n : ℕ) → nat_le m n ≡ true → m ≤ n
@@ -120,7 +120,7 @@ abbrev InBegun : Option Interval → ℕ → List Mark → Type 0
 InBegun None x marks = ⊥
 InBegun (Some i) x marks = (i.first ≤ x) × AreAbove x marks
 
-above_at : (n : ℕ) (marks : List Mark) → AreAbove n marks → (k : ℕ) (t : Mark) → slice_get marks k ≡ Some t → n < t.number
+pub above_at : (n : ℕ) (marks : List Mark) → AreAbove n marks → (k : ℕ) (t : Mark) → slice_get marks k ≡ Some t → n < t.number
 above_at n [] h k t is = absurd cc
 above_at n (m ∷ marks) h zero t is = subst (λ (u : Mark). n < u.number) (some_is m t is) h.0
 above_at n (m ∷ marks) h (suc k) t is = above_at n marks h.1 k t is

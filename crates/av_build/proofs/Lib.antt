@@ -22,6 +22,8 @@ pub mod HelpersOn
 pub mod HelperSearch
 pub mod HelperPlaces
 pub mod SortingSteps
+pub mod SamePieces
+pub mod SpotsAgain
 pub mod ValueLanes
 pub mod PlaceNumbers
 pub mod HelpersApart
@@ -59,6 +61,5 @@ pub mod Promised
 pub mod HelperLaneOf
 pub mod AlikeLanes
 pub mod SortedCells
-pub mod OtherPlaces
 pub mod PortPlaces
 pub mod WholeProgram

@@ -1,5 +1,5 @@
 -- The intervals of marks are active at the numbers of just those computations that are marked.
-use Rattle.std.proofs.Common.{◌≡◌, ℕ, zero, suc, ◌<◌, ◌≤◌, ◌↔◌, List, [], ◌∷◌, length, refl, sym, ap, subst, ◌∙◌, arith, true, Some}
+use Rattle.std.proofs.Common.{◌≡◌, ℕ, zero, suc, ◌≤◌, ◌↔◌, List, [], ◌∷◌, length, refl, sym, ap, subst, ◌∙◌, arith, true, Some}
 use Rattle.std.specs.Prelude.{slice_get}
 use Rattle.std.specs.List.{list_any}
 use Rattle.av_base.proofs.Lists.{some_is, each_by_place}
@@ -11,15 +11,10 @@ use Rattle.av_build.specs.declared.intervals.Mark.{Mark}
 use Rattle.av_build.specs.inner.Intervals.{intervals_by}
 use Rattle.av_build.specs.inner.Orders.{IsInOrder, AreMarks}
 use Rattle.av_build.specs.inner.Programmed.{IsModeFor}
-use Rattle.av_build.proofs.IntervalLemmas.{AreAbove, AreRising, holds_there, there_holds, ends_are}
+use Rattle.av_build.proofs.IntervalLemmas.{AreRising, above_at, holds_there, there_holds, ends_are}
 use Rattle.av_build.proofs.IntervalSteps.{slot_of, rising, mark_of}
 
 -- ---- one number has one mark
-
-above_at : (n : ℕ) (marks : List Mark) → AreAbove n marks → (k : ℕ) (t : Mark) → slice_get marks k ≡ Some t → n < t.number
-above_at n [] h k t is = absurd cc
-above_at n (m ∷ marks) h zero t is = subst (λ (u : Mark). n < u.number) (some_is m t is) h.0
-above_at n (m ∷ marks) h (suc k) t is = above_at n marks h.1 k t is
 
 pub same_place : (marks : List Mark) → AreRising marks → (i j : ℕ) (t u : Mark) → slice_get marks i ≡ Some t → slice_get marks j ≡ Some u → t.number ≡ u.number → i ≡ j
 same_place [] up i j t u is_t is_u e = absurd cc

@@ -27,14 +27,6 @@ module _ (count : ℕ → ℕ) (slots : List Slot) where
         subst (λ (x : Slot). least ≤ count x.cycle) same le)
   ])
 
-  -- all of none
-  pub no_start : slots ≡ [] → IsStart count slots 0
-  no_start none = record {
-    high = omega arith;
-    before = λ k first t lt is_first is. absurd (omega (arith, lt));
-    next = λ first t is_first is. absurd (let r = in_range slots 0 first is_first in let e = ap (λ (l : List Slot). length l) none in omega (arith, r, e));
-  }
-
   module _ (first : Slot) (is_first : slice_get slots 0 ≡ Some first) (n : ℕ) (h : AreHigh count slots (count first.cycle) n) where
     before : (k : ℕ) (x t : Slot) → k < n → slice_get slots 0 ≡ Some x → slice_get slots k ≡ Some t → count x.cycle ≤ count t.cycle
     before k x t lt is_x is = subst (λ (y : Slot). count y.cycle ≤ count t.cycle) (some_is first x (sym is_first ∙ is_x)) (h k t lt is)
@@ -44,13 +36,6 @@ module _ (count : ℕ → ℕ) (slots : List Slot) where
       high = (let r = in_range slots n t is in omega (arith, r));
       before = before;
       next = λ x u is_x is_u. subst (λ (y : Slot). count u.cycle < count y.cycle) (some_is first x (sym is_first ∙ is_x)) (subst (λ (y : Slot). count y.cycle < count first.cycle) (some_is t u (sym is ∙ is_u)) lt);
-    }
-
-    pub start_at_end : length slots ≡ n → IsStart count slots n
-    start_at_end end = record {
-      high = omega (arith, end);
-      before = before;
-      next = λ x u is_x is_u. absurd (let r = in_range slots n u is_u in omega (arith, r, end));
     }
 
 -- ---- the order

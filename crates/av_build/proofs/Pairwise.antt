@@ -7,9 +7,6 @@ use Rattle.av_base.proofs.Lists.{get_cases, some_is}
 abbrev pub ArePairs : {X Y : Type 0} → (X → Y → Type 0) → List X → List Y → Type 0
 ArePairs {X} {Y} R xs ys = (k : ℕ) (x : X) (y : Y) → slice_get xs k ≡ Some x → slice_get ys k ≡ Some y → R x y
 
-pub no_pairs : {X Y : Type 0} (R : X → Y → Type 0) (xs : List X) → ArePairs R xs []
-no_pairs R xs = λ k x y a b. absurd cc
-
 last_pair : {X Y : Type 0} (R : X → Y → Type 0) (xs : List X) (n k j m : ℕ) (x a : X) (y b : Y) → m ≡ n → k ≡ m + j → slice_get xs n ≡ Some x → slice_get xs k ≡ Some a → R x y → slice_get (y ∷ []) j ≡ Some b → R a b
 last_pair {X} {Y} R xs n k zero m x a y b size e is is_a here f =
     let at : n ≡ k = omega (arith, e, size) in

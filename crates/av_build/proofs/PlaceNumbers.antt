@@ -56,9 +56,6 @@ both_numbered low m high l h ps qs a b = (
   joined low m high ps qs a.0 b.0 a.1 b.1,
 )
 
-none_numbered : (n high : ℕ) → AreNumbered n high []
-none_numbered n high = (tt, tt)
-
 numbered : (k n : ℕ) (t : Tree) → AreNumbered n (n + length (references t)) (places_in k n t)
 numbered k n (reference place m) = (((omega arith, omega arith), tt), (tt, tt))
 numbered k n (constant w) = (tt, tt)

@@ -1,5 +1,5 @@
 -- The place of a helper on a cell, as it is looked up in a blueprint.
-use Rattle.std.proofs.Common.{◌≡◌, ℕ, ◌<◌, List, length, get_or, sym, ap, ◌∙◌, arith, Some}
+use Rattle.std.proofs.Common.{◌≡◌, ℕ, ◌<◌, List, length, get_or, sym, ap, ◌∙◌, Some}
 use Rattle.std.specs.Prelude.{slice_get}
 use Rattle.av_base.proofs.Lists.{some_is}
 use Rattle.av_space.specs.declared.spots.Site.{Site as PlaceMade}
@@ -27,23 +27,11 @@ module _ (b : Blueprint) (at : SpotMade) (h : HelperPlan) (on : IsHelperOn b at 
       pub own_there : slice_get on.spot_on.plan.pieces.sites h.piece ≡ Some on.sites
       own_there = ap (λ (k : ℕ). slice_get on.spot_on.plan.pieces.sites k) on.piece_is ∙ on.spot_on.are_sites
 
-      pub sites_low : h.piece < length sites
-      sites_low =
-          let l = in_range on.spot_on.plan.pieces.sites h.piece on.sites own_there in
-          let e = ap (λ (l : List (List PlaceMade)). length l) same_sites in
-          omega (arith, l, e)
-
       module _ (own : List PlaceMade) (own_is : own ≡ get_or sites h.piece own) (places : List PlaceMade) (places_are : places ≡ own) where
         pub same_own : own ≡ on.sites
         same_own =
             let l = in_range on.spot_on.plan.pieces.sites h.piece on.sites own_there in
             some_is own on.sites (sym (element_of on.spot_on.plan.pieces.sites sites h.piece own own same_sites l own_is) ∙ own_there)
-
-        pub places_low : h.site < length places
-        places_low =
-            let l = in_range on.sites h.site on.place on.is_place in
-            let e = ap (λ (l : List PlaceMade). length l) (places_are ∙ same_own) in
-            omega (arith, l, e)
 
         module _ (mine : PlaceMade) (mine_is : mine ≡ get_or places h.site mine) where
           pub place_is : mine ≡ on.place

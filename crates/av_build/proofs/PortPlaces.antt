@@ -3,11 +3,11 @@ use Rattle.std.proofs.Common.{◌≡◌, ℕ, ◌+◌, ◌<◌, List, length, ma
 use Rattle.std.specs.Prelude.{Contains, nat_eq, slice_get}
 use Rattle.av_base.specs.declared.width.Width.{Width}
 use Rattle.av_base.proofs.Among.{among_at}
-use Rattle.av_base.proofs.Lists.{some_is, there_is, place_in}
+use Rattle.av_base.proofs.Lists.{get_mapped, some_is, there_is, place_in}
 use Rattle.av_base.proofs.Pieces.{same_eq}
 use Rattle.av_affine.specs.declared.map.Map.{Map}
 use Rattle.av_tree.specs.Points.{Point}
-use Rattle.av_flat.specs.Trees.{Tree, Piece, Variable, FlatSystem, view, view_piece, view_variable, reference, constant, binary, choice, restriction, cases, dependence, reduction, pick}
+use Rattle.av_flat.specs.Trees.{Tree, Piece, Variable, FlatSystem, view, view_piece, reference, constant, binary, choice, restriction, cases, dependence, reduction, pick}
 use Rattle.av_flat.specs.Broadcasts.{Reference, references}
 use Rattle.av_flat.specs.Nodes.{nodes}
 use Rattle.av_flat.specs.Signatures.{signatures}
@@ -28,10 +28,12 @@ use Rattle.std.proofs.lemmas.List.Elements.{All-contains}
 use Rattle.av_history.specs.Widths.{read_width, width_at}
 use Rattle.av_build.specs.declared.blueprint.Blueprint.{Blueprint}
 use Rattle.av_build.specs.declared.blueprint.CellPlan.{CellPlan}
-use Rattle.av_build.specs.inner.Blueprints.{seen, ArePieces, IsBlueprint}
+use Rattle.av_build.specs.declared.spots.SpotPlan.{SpotPlan}
+use Rattle.av_build.specs.inner.Blueprints.{seen, spots_on, ArePieces, IsBlueprint}
 use Rattle.av_build.specs.inner.Built.{IsPortWidth}
 use Rattle.av_build.specs.inner.Lanes.{HasVariable, is_reference_at, HasReference, IsPortPlace, HasPortPlace}
-use Rattle.av_build.proofs.AlikeLanes.{cell_node}
+use Rattle.av_build.specs.inner.SpotPlans.{spot_by}
+use Rattle.av_build.proofs.SpotNodes.{computed_piece}
 use Rattle.av_build.proofs.HelperPlaces.{told, spot_at}
 use Rattle.av_build.proofs.SpotsOn.{variable_there}
 
@@ -77,19 +79,19 @@ module _ (b : Blueprint) (is : IsBlueprint b) (port : InPort) (among : Contains 
 
     -- ---- a piece on the cell with the port's number
 
-    module _ (k : ℕ) (at : SpotMade) (is_at : slice_get plan.pieces.spots k ≡ Some at) (number : at.number ≡ port.piece) where
-      here : at.cell ≡ port.cell
-      here = (spot_at w is.array port.cell plan.pieces pieces k at is_at).0
+    module _ (k : ℕ) (at : SpotPlan) (is_at : slice_get plan.pieces.spots k ≡ Some at) (number : at.number ≡ port.piece) where
+      abbrev made : SpotMade
+      made = spot_by w at
 
-      spot : IsSpot w at
-      spot = (spot_at w is.array port.cell plan.pieces pieces k at is_at).2
+      is_made : slice_get (spots_on w plan.pieces) k ≡ Some made
+      is_made = get_mapped (spot_by w) plan.pieces.spots k at is_at
+
+      here : (at.cell ≡ port.cell) × (0 < length made.slots) × IsSpot w made
+      here = spot_at w is.array port.cell plan.pieces pieces k made is_made
 
       -- is that of each computation there
       piece_is : (c n : ℕ) (z : Point) (v : Variable) (piece : Piece) → ComputesIn w port.cell c n z → slice_get (nodes s) n ≡ Some v → slice_get v.pieces port.piece ≡ Some piece → view_piece at.piece.now ≡ piece
-      piece_is c n z v piece computes is_variable is_piece =
-          let node : at.node ≡ n = sym (cell_node w port.cell at here spot computes.cell computes.is_cell) ∙ computes.stands.node in
-          let variable : view_variable at.var.now ≡ v = some_is (view_variable at.var.now) v (sym spot.is_variable ∙ ap (slice_get (nodes s)) node ∙ is_variable) in
-          some_is (view_piece at.piece.now) piece (sym spot.is_piece ∙ ap (λ (u : Variable). slice_get u.pieces at.number) variable ∙ ap (slice_get v.pieces) number ∙ is_piece)
+      piece_is c n z v piece computes is_variable is_piece = computed_piece w port.cell made here.0 here.2 c n z computes v is_variable port.piece piece is_piece number
 
       abbrev read : Reference
       read = record { place = is_port.4.place; map = is_port.3 }
@@ -103,9 +105,9 @@ module _ (b : Blueprint) (is : IsBlueprint b) (port : InPort) (among : Contains 
       port_sites : (sites : List PlaceMade) × (slice_get plan.pieces.sites k ≡ Some sites) × HasReference sites port.site
       port_sites =
           let many = pieces.one_each in
-          let within = in_range plan.pieces.spots k at is_at in
+          let within = in_range (spots_on w plan.pieces) k made is_made in
           let own = there_is plan.pieces.sites k (omega (arith, within, many)) in
-          let sites = pieces.sites k at own.0 is_at own.1 in
+          let sites = pieces.sites k made own.0 is_made own.1 in
           let place = told at.number 0 (view_piece at.piece.now).tree port.site read reads in
           let e : 0 + port.site ≡ port.site = omega arith in
           let wanted : Place = record { piece = at.number; site = 0 + port.site; tree = reference read.place read.map } in
@@ -120,12 +122,14 @@ module _ (b : Blueprint) (is : IsBlueprint b) (port : InPort) (among : Contains 
     has_port_place =
         let f = is_port.4 in
         let found = pieces.spots.all is_port.0 f.node is_port.1 f.variable port.piece f.piece f.computes f.is_variable f.is_piece f.within in
-        let k = place_in (map (λ (at : SpotMade). at.number) plan.pieces.spots) port.piece found in
-        let at = from_map (λ (at : SpotMade). at.number) plan.pieces.spots k.0 port.piece k.1 in
-        let own = port_sites k.0 at.0 at.1 at.2 in
+        let k = place_in (map (λ (at : SpotMade). at.number) (spots_on w plan.pieces)) port.piece found in
+        let made = from_map (λ (at : SpotMade). at.number) (spots_on w plan.pieces) k.0 port.piece k.1 in
+        let at = from_map (spot_by w) plan.pieces.spots k.0 made.0 made.1 in
+        let number = ap (λ (x : SpotMade). x.number) at.2 ∙ made.2 in
+        let own = port_sites k.0 at.0 at.1 number in
         record {
           site = own.2.0;
-          is_place = record { number = k.0; at = at.0; is_spot = at.1; is_piece = at.2; sites = own.0; are_sites = own.1; is_reference = own.2.1 };
+          is_place = record { number = k.0; at = at.0; is_spot = at.1; is_piece = number; sites = own.0; are_sites = own.1; is_reference = own.2.1 };
           each = λ k at is_at number. port_sites k at is_at number;
         }
 
@@ -135,8 +139,17 @@ module _ (b : Blueprint) (is : IsBlueprint b) (port : InPort) (among : Contains 
       as_reference : IsReferenceAt port.site site.place.site (view site.place.tree)
       as_reference = reference_at port.site site.place.site (view site.place.tree) found.is_reference.1
 
-      placed : IsSiteOf w found.at site
-      placed = All-contains (IsSiteOf w found.at) found.sites site (pieces.sites found.number found.at found.sites found.is_spot found.are_sites).each found.is_reference.0
+      abbrev at : SpotMade
+      at = spot_by w found.at
+
+      is_at : slice_get (spots_on w plan.pieces) found.number ≡ Some at
+      is_at = get_mapped (spot_by w) plan.pieces.spots found.number found.at found.is_spot
+
+      spot : (at.cell ≡ port.cell) × (0 < length at.slots) × IsSpot w at
+      spot = spot_at w is.array port.cell plan.pieces pieces found.number at is_at
+
+      placed : IsSiteOf w at site
+      placed = All-contains (IsSiteOf w at) found.sites site (pieces.sites found.number at found.sites is_at found.are_sites).each found.is_reference.0
 
       abbrev own : Reference
       own = record { place = as_reference.place; map = as_reference.map_is }
@@ -147,13 +160,11 @@ module _ (b : Blueprint) (is : IsBlueprint b) (port : InPort) (among : Contains 
           let t = view_piece found.at.piece.now in
           let q = place_of site.place in
           let whole : slice_get (references t.tree) q.site ≡ Some own =
-          subst (IsPlaceBy (signatures s) (references t.tree) q) as_reference.tree (known w is.array found.at (spot found.number found.at found.is_spot found.is_piece) site placed) in
+          subst (IsPlaceBy (signatures s) (references t.tree) q) as_reference.tree (known w is.array at spot.2 site placed) in
           ap (slice_get (references t.tree)) (sym as_reference.number) ∙ whole
 
       pub has_variable : HasVariable s (view site.place.tree)
-      has_variable =
-          let at = spot_at w is.array port.cell plan.pieces pieces found.number found.at found.is_spot in
-          variable_there b is found.at at.2 at.1 site placed
+      has_variable = variable_there b is at spot.2 spot.1 site placed
 
       pub port_width_is : (width : Width) (bits : ℕ) → width.bits ≡ read_width s bits None (view site.place.tree) → IsPortWidth (seen w) port width
       port_width_is width bits e = λ c n z v piece r computes is_variable is_piece is_reference.

@@ -13,6 +13,7 @@ use Rattle.av_kinds.specs.declared.program.Link.{Link}
 use Rattle.av_kinds.specs.Programs.{source_by}
 use Rattle.av_build.specs.declared.moments.Moment.{Moment}
 use Rattle.av_build.specs.inner.Moments.{same_source, links_from, last_from, site_by}
+use Rattle.av_build.proofs.IntervalLemmas.{at_most}
 
 -- ---- one source
 
@@ -31,14 +32,11 @@ is_source (Line p d) (Line q e) t =
 
 -- ---- tests of a link
 
-up_to : (m n : ℕ) → m ≤ n → nat_le m n ≡ true
-up_to m n h = grind arith
-
 past : (m n : ℕ) → n < m → nat_le m n ≡ false
 past m n h = grind arith
 
 taken_up_to : (x last : ℕ) → x ≤ last → (a b : Source) → (if nat_le x last then a else b) ≡ a
-taken_up_to x last h a b = rw (up_to x last h) refl
+taken_up_to x last h a b = rw (at_most x last h) refl
 
 taken_past : (x last : ℕ) → last < x → (a b : Source) → (if nat_le x last then a else b) ≡ b
 taken_past x last h a b = rw (past x last h) refl

@@ -1,5 +1,5 @@
 -- The site of moments, one moment after another.
-use Rattle.std.proofs.Common.{◌≡◌, ℕ, ◌+◌, ◌<◌, ◌≤◌, List, [], ◌∷◌, ◌++◌, length, drop, refl, sym, ap, subst, ◌∙◌, Bool, true, false, if◌then◌else◌, append_assoc, get_or}
+use Rattle.std.proofs.Common.{◌≡◌, ℕ, ◌+◌, ◌<◌, ◌≤◌, List, [], ◌∷◌, ◌++◌, length, drop, sym, ap, ◌∙◌, Bool, true, false, if◌then◌else◌, append_assoc, get_or}
 use Rattle.std.proofs.lemmas.List.{append-nil}
 use Rattle.av_base.specs.declared.width.Width.{Width}
 use Rattle.av_base.proofs.Lists.{next_item, nothing_left}
@@ -18,9 +18,6 @@ pub record IsSoFar (all : List Link) (end : Source) (links : List Link) (last : 
 -- of a site
 abbrev pub IsSiteSoFar : Inlet → Width → List Moment → List Link → Moment → List Moment → Type 0
 IsSiteSoFar inlet width moments links last rest = IsSoFar (site_by inlet width moments).links (site_by inlet width moments).otherwise links last rest
-
-pub first_so_far : (inlet : Inlet) (width : Width) (moments : List Moment) (first : Moment) (rest : List Moment) → moments ≡ first ∷ rest → IsSiteSoFar inlet width moments [] first rest
-first_so_far inlet width moments first rest e = subst (λ (l : List Moment). IsSiteSoFar inlet width l [] first rest) (sym e) (record { links_are = refl; last_is = refl })
 
 site_is : (inlet : Inlet) (width : Width) (moments : List Moment) (links : List Link) (source : Source) → links ≡ (site_by inlet width moments).links → source ≡ (site_by inlet width moments).otherwise
     → ◌≡◌ {A = Site} (record { inlet = inlet; width = width; links = links; otherwise = source }) (site_by inlet width moments)

@@ -1,19 +1,19 @@
 -- Cells sorted by what stands on them, one cell after another.
-use Rattle.std.proofs.Common.{◌≡◌, ◌↔◌, ℕ, zero, suc, ◌+◌, ◌<◌, ◌≤◌, ◌⊎◌, inl, inr, List, [], ◌∷◌, ◌++◌, length, refl, sym, ap, subst, ◌∙◌, arith, Some, length-append}
+use Rattle.std.proofs.Common.{◌≡◌, ◌↔◌, ℕ, zero, suc, ◌+◌, ◌<◌, ◌⊎◌, inl, inr, List, [], ◌∷◌, ◌++◌, length, refl, sym, ap, subst, ◌∙◌, arith, Some, length-append}
 use Rattle.std.specs.Prelude.{slice_get}
 use Rattle.av_base.proofs.Lists.{get_cases, get_first, some_is, there_is}
-use Rattle.av_space.specs.declared.spots.Spot.{Spot as SpotMade}
 use Rattle.av_space.proofs.Elements.{in_range}
 use Rattle.av_build.specs.declared.blueprint.CellPlan.{CellPlan}
+use Rattle.av_build.specs.declared.spots.SpotPlan.{SpotPlan}
 use Rattle.av_build.specs.inner.Lanes.{HaveSamePieces, HasNoKind, IsKind, AreKindsOf}
 use Rattle.av_build.proofs.Appended.{get_right}
 
 -- ---- the same pieces
 
-pub same_turned : (a b : List SpotMade) → HaveSamePieces a b → HaveSamePieces b a
+pub same_turned : (a b : List SpotPlan) → HaveSamePieces a b → HaveSamePieces b a
 same_turned a b h = (sym h.0, λ k x y is_x is_y. let e = h.1 k y x is_y is_x in (sym e.0, sym e.1))
 
-pub same_through : (a b c : List SpotMade) → HaveSamePieces a b → HaveSamePieces b c → HaveSamePieces a c
+pub same_through : (a b c : List SpotPlan) → HaveSamePieces a b → HaveSamePieces b c → HaveSamePieces a c
 same_through a b c h g = (
   h.0 ∙ g.0,
   λ k x z is_x is_z. (
@@ -26,11 +26,8 @@ same_through a b c h g = (
 )
 
 -- up to a number
-abbrev pub AreSameUpTo : List SpotMade → List SpotMade → ℕ → Type 0
-AreSameUpTo a b n = (k : ℕ) (x y : SpotMade) → k < n → slice_get a k ≡ Some x → slice_get b k ≡ Some y → (x.node ≡ y.node) × (x.number ≡ y.number)
-
-pub same_all : (a b : List SpotMade) (n : ℕ) → length a ≡ length b → length a ≤ n → AreSameUpTo a b n → HaveSamePieces a b
-same_all a b n size end h = (size, λ k x y is_x is_y. let low = in_range a k x is_x in h k x y (omega (arith, low, end)) is_x is_y)
+abbrev pub AreSameUpTo : List SpotPlan → List SpotPlan → ℕ → Type 0
+AreSameUpTo a b n = (k : ℕ) (x y : SpotPlan) → k < n → slice_get a k ≡ Some x → slice_get b k ≡ Some y → (x.node ≡ y.node) × (x.number ≡ y.number)
 
 -- ---- kinds of the first n cells
 
@@ -97,7 +94,7 @@ module _ (cells : List CellPlan) (firsts kinds : List ℕ) (n : ℕ) (h : AreKin
           let size = h.one_each in
           let place : n ≡ p = (let g = b.0 in omega (arith, g, size)) in
           let here : cell ≡ x = some_is cell x (sym is_cell ∙ ap (λ (i : ℕ). slice_get cells i) place ∙ f) in
-          (n, cell, behind firsts n j b.1, is_cell, subst (λ (y : CellPlan). HaveSamePieces cell.pieces.spots y.pieces.spots) here (refl, λ k u v is_u is_v. let same = some_is u v (sym is_u ∙ is_v) in (ap (λ (s : SpotMade). s.node) same, ap (λ (s : SpotMade). s.number) same))))
+          (n, cell, behind firsts n j b.1, is_cell, subst (λ (y : CellPlan). HaveSamePieces cell.pieces.spots y.pieces.spots) here (refl, λ k u v is_u is_v. let same = some_is u v (sym is_u ∙ is_v) in (ap (λ (s : SpotPlan). s.node) same, ap (λ (s : SpotPlan). s.number) same))))
     ]);
     apart = λ j k f g x y at_f at_g is_x is_y same. (elim (last_or firsts n f j at_f) [
       | inl l ↦ elim (last_or firsts n g k at_g) [

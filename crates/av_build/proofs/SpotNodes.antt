@@ -1,11 +1,14 @@
 -- A piece on a cell: its node, by the place of its variable, and its computations.
 use Rattle.std.proofs.Common.{◌≡◌, ℕ, sym, ap, subst, ◌∙◌, true, Some}
 use Rattle.std.specs.Prelude.{slice_get}
-use Rattle.av_flat.specs.Trees.{FlatSystem, view_variable}
-use Rattle.av_flat.specs.Nodes.{is_node, number_at}
+use Rattle.av_base.proofs.Lists.{some_is}
+use Rattle.av_tree.specs.Points.{Point}
+use Rattle.av_flat.specs.Trees.{Piece, Variable, FlatSystem, view_piece, view_variable}
+use Rattle.av_flat.specs.Nodes.{is_node, nodes, number_at}
 use Rattle.av_space.specs.declared.array.Array.{Array as ArrayMade}
+use Rattle.av_space.specs.declared.cells.Cell.{Cell}
 use Rattle.av_space.specs.declared.spots.Spot.{Spot as SpotMade}
-use Rattle.av_space.specs.Spots.{system_of, IsSpot, IsSlotIn}
+use Rattle.av_space.specs.Spots.{system_of, cells_of, ComputesIn, IsSpot, IsSlotIn}
 use Rattle.av_space.specs.Taps.{node_place}
 use Rattle.av_space.proofs.Elements.{at_index}
 use Rattle.av_space.proofs.Nodes.{passing, own_place}
@@ -34,3 +37,21 @@ spot_slots w at spot = record {
   each = λ k slot found. (let t = at_index (IsSlotIn w at.cell at.node at.piece.now.domain) at.slots spot.are_slots.each k slot found in (t.computes, t.within));
   all = spot.are_slots.all;
 }
+
+-- ---- the node that a cell computes is that of each piece on it
+
+pub cell_node : (w : ArrayMade) (p : ℕ) (at : SpotMade) → at.cell ≡ p → IsSpot w at → (cell : Cell) → slice_get (cells_of w) p ≡ Some cell → cell.node ≡ at.node
+cell_node w p at e s cell is = ap (λ (x : Cell). x.node) (some_is cell s.cell (sym is ∙ ap (slice_get (cells_of w)) (sym e) ∙ s.is_cell)) ∙ s.node
+
+pub computed_node : (w : ArrayMade) (p : ℕ) (at : SpotMade) → at.cell ≡ p → IsSpot w at → (c n : ℕ) (z : Point) → ComputesIn w p c n z → at.node ≡ n
+computed_node w p at e s c n z computes = sym (cell_node w p at e s computes.cell computes.is_cell) ∙ computes.stands.node
+
+pub computed_variable : (w : ArrayMade) (p : ℕ) (at : SpotMade) → at.cell ≡ p → IsSpot w at → (c n : ℕ) (z : Point) → ComputesIn w p c n z → (v : Variable) → slice_get (nodes (system_of w)) n ≡ Some v → view_variable at.var.now ≡ v
+computed_variable w p at e s c n z computes v is =
+    some_is (view_variable at.var.now) v (sym s.is_variable ∙ ap (slice_get (nodes (system_of w))) (computed_node w p at e s c n z computes) ∙ is)
+
+pub computed_piece : (w : ArrayMade) (p : ℕ) (at : SpotMade) → at.cell ≡ p → IsSpot w at → (c n : ℕ) (z : Point) → ComputesIn w p c n z → (v : Variable) → slice_get (nodes (system_of w)) n ≡ Some v
+    → (k : ℕ) (piece : Piece) → slice_get v.pieces k ≡ Some piece → at.number ≡ k → view_piece at.piece.now ≡ piece
+computed_piece w p at e s c n z computes v is k piece is_piece number =
+    some_is (view_piece at.piece.now) piece
+    (sym s.is_piece ∙ ap (λ (u : Variable). slice_get u.pieces at.number) (computed_variable w p at e s c n z computes v is) ∙ ap (slice_get v.pieces) number ∙ is_piece)

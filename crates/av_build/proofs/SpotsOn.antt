@@ -11,7 +11,7 @@ use Rattle.av_space.specs.declared.layout.Slot.{Slot}
 use Rattle.av_space.specs.Layouts.{IsSlot, AreSlots}
 use Rattle.av_space.specs.Spots.{system_of, placings_of, cells_of, IsSpot, IsSlotIn, AreSites, IsSiteOf}
 use Rattle.av_space.specs.Taps.{Handing, IsReadBy}
-use Rattle.av_space.proofs.Elements.{at_index, in_range}
+use Rattle.av_space.proofs.Elements.{at_index}
 use Rattle.av_space.proofs.SpotReadings.{declared_read}
 use Rattle.av_kinds.specs.declared.counter.Counter.{Counter}
 use Rattle.av_kinds.specs.Counters.{number_count}
@@ -31,9 +31,6 @@ module _ (b : Blueprint) (is : IsBlueprint b) (at : SpotMade) (sites : List Plac
 
   pub sites_there : AreSites b.array at sites
   sites_there = (is.plans.pieces at.cell on.plan on.is_plan).sites on.number at sites on.is_spot on.are_sites
-
-  pub cell_there : at.cell < length (cells_of b.array)
-  cell_there = in_range (cells_of b.array) at.cell spot_there.cell spot_there.is_cell
 
   pub site_at : (i : ℕ) (place : PlaceMade) → slice_get sites i ≡ Some place → IsSiteOf b.array at place
   site_at i place e = at_index (IsSiteOf b.array at) sites sites_there.each i place e

@@ -11,13 +11,13 @@ use Rattle.av_flat.specs.Signatures.{is_computed}
 use Rattle.av_flat.specs.Nodes.{is_node, nodes}
 use Rattle.av_flat.specs.Points.{has}
 use Rattle.av_space.specs.declared.array.Array.{Array as ArrayMade}
-use Rattle.av_space.specs.declared.cells.Cell.{Cell}
 use Rattle.av_space.specs.declared.spots.Spot.{Spot as SpotMade}
 use Rattle.av_space.specs.Links.{line_length}
-use Rattle.av_space.specs.Spots.{system_of, helpers_of, cells_of, ComputesIn, IsSpot, IsSlotIn, AreSpots}
+use Rattle.av_space.specs.Spots.{system_of, helpers_of, placings_of, cells_of, ComputesIn, IsSpot, IsSlotIn, AreSpots}
 use Rattle.av_space.proofs.ByPlace.{from_map, pair_at}
 use Rattle.av_space.proofs.Elements.{at_index, in_range}
 use Rattle.av_space.proofs.Nodes.{passing}
+use Rattle.av_space.proofs.OneCell.{one_node}
 use Rattle.av_kinds.specs.declared.counter.Counter.{Counter}
 use Rattle.av_kinds.specs.Counters.{count_in}
 use Rattle.av_kinds.specs.Programs.{Mode, Lane}
@@ -25,10 +25,11 @@ use Rattle.av_history.specs.Performing.{Spot}
 use Rattle.av_history.specs.Arranged.{IsArranged}
 use Rattle.av_build.specs.declared.blueprint.Blueprint.{Blueprint}
 use Rattle.av_build.specs.declared.blueprint.CellPlan.{CellPlan}
-use Rattle.av_build.specs.inner.Blueprints.{seen, spot_of, lanes_of, IsBlueprint, IsCounted}
+use Rattle.av_build.specs.inner.Blueprints.{seen, spot_of, spots_on, lanes_of, IsBlueprint, IsCounted}
 use Rattle.av_build.specs.inner.Lanes.{IsValueMode, IsBuiltBy}
 use Rattle.av_build.specs.inner.Programmed.{IsWorkFor, IsModeFor, AreAlone, IsValueLane}
 use Rattle.av_build.proofs.AloneLemmas.{both_hold}
+use Rattle.av_build.proofs.SpotNodes.{computed_node, computed_variable}
 
 module _ (b : Blueprint) (is : IsBlueprint b) (counter : Counter) (counted : IsCounted b.array counter) (arranged : IsArranged (seen b.array))
     (one : (p c m n : ℕ) (y z : Point) → ComputesIn b.array p c m y → ComputesIn b.array p c n z → (m ≡ n) × (y ≡ z))
@@ -37,7 +38,7 @@ module _ (b : Blueprint) (is : IsBlueprint b) (counter : Counter) (counted : IsC
   w = b.array
 
   abbrev spots : List SpotMade
-  spots = plan.pieces.spots
+  spots = spots_on w plan.pieces
 
   are : AreSpots w p spots
   are = (is.plans.pieces p plan is_plan).spots
@@ -51,12 +52,10 @@ module _ (b : Blueprint) (is : IsBlueprint b) (counter : Counter) (counted : IsC
     spot k piece = record { cell = p; node = n; variable = v; number = k; piece = piece }
 
     node_is : (at : SpotMade) → at.cell ≡ p → IsSpot w at → at.node ≡ n
-    node_is at e s =
-        let same : s.cell ≡ computes.cell = some_is s.cell computes.cell (sym s.is_cell ∙ ap (λ (k : ℕ). slice_get (cells_of w) k) e ∙ computes.is_cell) in
-        sym s.node ∙ ap (λ (x : Cell). x.node) same ∙ computes.stands.node
+    node_is at e s = computed_node w p at e s c n z computes
 
     variable_is : (at : SpotMade) → at.cell ≡ p → IsSpot w at → view_variable at.var.now ≡ v
-    variable_is at e s = some_is (view_variable at.var.now) v (sym s.is_variable ∙ ap (λ (k : ℕ). slice_get (nodes (system_of w)) k) (node_is at e s) ∙ is_variable)
+    variable_is at e s = computed_variable w p at e s c n z computes v is_variable
 
     -- each piece is one of the node's variable
     spot_is : (at : SpotMade) → at.cell ≡ p → IsSpot w at → spot_of at ≡ spot at.number (view_piece at.piece.now)
@@ -86,8 +85,7 @@ module _ (b : Blueprint) (is : IsBlueprint b) (counter : Counter) (counted : IsC
     -- the piece of a point on the cell is the only one
     same_piece : (d m : ℕ) (y : Point) → ComputesIn w p d m y → (j k : ℕ) (s t : Piece) → slice_get v.pieces j ≡ Some s → slice_get v.pieces k ≡ Some t → IsTrue (has s.domain y) → IsTrue (has t.domain y) → j ≡ k
     same_piece d m y there j k s t is_s is_t in_s in_t =
-        let cell : there.cell ≡ computes.cell = some_is there.cell computes.cell (sym there.is_cell ∙ computes.is_cell) in
-        let node : m ≡ n = sym there.stands.node ∙ ap (λ (x : Cell). x.node) cell ∙ computes.stands.node in
+        let node = one_node (system_of w) (placings_of w) (cells_of w) p d c m n y z there computes in
         let computation = there.stands.computation in
         let variable : computation.variable ≡ v = some_is computation.variable v (sym computation.is ∙ ap (λ (i : ℕ). slice_get (nodes (system_of w)) i) node ∙ is_variable) in
         let declared : IsTrue (has v.domain y) = subst (λ (u : Variable). IsTrue (has u.domain y)) variable computation.declared in
@@ -128,8 +126,7 @@ module _ (b : Blueprint) (is : IsBlueprint b) (counter : Counter) (counted : IsC
       every : (k : ℕ) (piece : Piece) → slice_get v.pieces k ≡ Some piece → (d m : ℕ) (y : Point) → ComputesIn w p d m y → IsTrue (has piece.domain y)
           → (i : ℕ) × (mode : Mode) × (slice_get modes i ≡ Some mode) × (slice_get (map (λ (at : SpotMade). at.number) spots) i ≡ Some k)
       every k piece e d m y there inside =
-          let cell : there.cell ≡ computes.cell = some_is there.cell computes.cell (sym there.is_cell ∙ computes.is_cell) in
-          let node : m ≡ n = sym there.stands.node ∙ ap (λ (x : Cell). x.node) cell ∙ computes.stands.node in
+          let node = one_node (system_of w) (placings_of w) (cells_of w) p d c m n y z there computes in
           let here = are.all d m y v k piece there (ap (λ (i : ℕ). slice_get (nodes (system_of w)) i) node ∙ is_variable) e inside in
           let i = place_in (map (λ (at : SpotMade). at.number) spots) k here in
           let at = from_map (λ (at : SpotMade). at.number) spots i.0 k i.1 in
@@ -171,6 +168,6 @@ module _ (b : Blueprint) (is : IsBlueprint b) (counter : Counter) (counted : IsC
         let wide : lane.width.bits ≡ v.width = width ∙ ap (λ (u : Variable). u.width) (variable_is c n z v computes is_variable first s.0 s.2) in
         subst (λ (x : CellPlan). IsValueLane (seen w) (count_in counter) (lanes_of b.cells) x.lanes.first p n v lane) (some_is plan other (sym is_plan ∙ is_other))
         (value_lane c n z v computes is_variable modes many each lane home rank wide are_modes size);
-    one_each = subst (λ (x : CellPlan). length lane.modes ≡ length x.pieces.spots) (some_is plan other (sym is_plan ∙ is_other)) (ap (λ (l : List Mode). length l) are_modes ∙ many);
+    one_each = subst (λ (x : CellPlan). length lane.modes ≡ length (spots_on w x.pieces)) (some_is plan other (sym is_plan ∙ is_other)) (ap (λ (l : List Mode). length l) are_modes ∙ many);
     works = λ k mode at is_mode is_at. (each k mode (ap (λ (l : List Mode). slice_get l k) (sym are_modes) ∙ is_mode) other at is_other is_at).0;
   }

@@ -7,7 +7,6 @@ use Rattle.av_flat.specs.Trees.{view_piece, view_variable}
 use Rattle.av_flat.specs.Nodes.{nodes}
 use Rattle.av_flat.specs.Points.{has}
 use Rattle.av_depend.specs.SetPoints.{IsPointOf}
-use Rattle.av_space.specs.declared.cells.Cell.{Cell}
 use Rattle.av_space.specs.declared.layout.Slot.{Slot}
 use Rattle.av_space.specs.declared.spots.Site.{Site as PlaceMade}
 use Rattle.av_space.specs.declared.spots.Spot.{Spot as SpotMade}
@@ -22,7 +21,7 @@ use Rattle.av_kinds.specs.Written.{ModeMade, mode_of}
 use Rattle.av_build.specs.declared.blueprint.Blueprint.{Blueprint}
 use Rattle.av_build.specs.declared.blueprint.CellPlan.{CellPlan}
 use Rattle.av_build.specs.declared.intervals.Mark.{Mark}
-use Rattle.av_build.specs.inner.Blueprints.{seen, IsBlueprint, IsSpotOn}
+use Rattle.av_build.specs.inner.Blueprints.{seen, spots_on, IsBlueprint, IsSpotOn}
 use Rattle.av_build.specs.inner.Intervals.{intervals_by}
 use Rattle.av_build.specs.inner.Lanes.{IsValueMode}
 use Rattle.av_build.specs.inner.Orders.{IsInOrder, AreMarks}
@@ -30,8 +29,9 @@ use Rattle.av_build.specs.inner.Programmed.{IsModeFor}
 use Rattle.av_build.proofs.HelperPlaces.{spot_at}
 use Rattle.av_build.proofs.ModeLemmas.{mode_for}
 use Rattle.av_build.proofs.Pairwise.{one_longer}
+use Rattle.av_build.proofs.SpotNodes.{computed_node}
 
-module _ (b : Blueprint) (is : IsBlueprint b) (p : ℕ) (plan : CellPlan) (is_plan : slice_get b.cells p ≡ Some plan) (k : ℕ) (at : SpotMade) (is_at : slice_get plan.pieces.spots k ≡ Some at) where
+module _ (b : Blueprint) (is : IsBlueprint b) (p : ℕ) (plan : CellPlan) (is_plan : slice_get b.cells p ≡ Some plan) (k : ℕ) (at : SpotMade) (is_at : slice_get (spots_on b.array plan.pieces) k ≡ Some at) where
   here : (at.cell ≡ p) × (0 < length at.slots) × IsSpot b.array at
   here = spot_at b.array is.array p plan.pieces (is.plans.pieces p plan is_plan) k at is_at
 
@@ -43,7 +43,7 @@ module _ (b : Blueprint) (is : IsBlueprint b) (p : ℕ) (plan : CellPlan) (is_pl
 
   -- the cell has one node
   node_is : (c n : ℕ) (z : Point) → ComputesIn b.array p c n z → n ≡ at.node
-  node_is c n z computes = sym computes.stands.node ∙ ap (λ (x : Cell). x.node) (some_is computes.cell here.2.cell (sym computes.is_cell ∙ cell_is)) ∙ here.2.node
+  node_is c n z computes = sym (computed_node b.array p at here.0 here.2 c n z computes)
 
   module _ (slots : List Slot) (are : AreSlots (system_of b.array) (placings_of b.array) (cells_of b.array) p slots) where
     -- all computations of the cell are points as the piece's set is asked for

@@ -2,6 +2,7 @@ pub mod Intervals
 pub mod Moments
 pub mod Sources
 pub mod Orders
+pub mod SpotPlans
 pub mod Blueprints
 pub mod Programmed
 pub mod Built

@@ -4,9 +4,10 @@ ghost use Rattle.std.specs.Prelude.{◌≡◌, ◌<◌, ◌+◌, ◌++◌, [], l
 ghost use Rattle.av_space.specs.Spots.{IsArray, cells_of};
 ghost use Rattle.av_build.specs.inner.Blueprints.{is_of_helper, ArePieces, AddsHelpers, helpers_on, own_lanes, AreCellPlans, IsBlueprint};
 
+use crate::spots::{SpotPlan, spot_plans};
 use av_base::{List, Memory};
 use av_kinds::CellLanes;
-use av_space::{Array, Site, Spot};
+use av_space::{Array, Site};
 use std::alloc::Global;
 
 /// A helper on a cell: its number, and the piece on the cell and the place of the piece whose reference it moves.
@@ -27,7 +28,7 @@ pub(crate) struct LanePlan {
 /// The pieces on a cell, and the places of each that read.
 #[derive(Drop)]
 pub(crate) struct Pieces<'a> {
-    pub(crate) spots: List<Spot<'a>>,
+    pub(crate) spots: List<SpotPlan<'a>>,
     pub(crate) sites: List<List<Site<'a>>>,
 }
 
@@ -95,7 +96,11 @@ fn pieces_on<'a>(alloc: Global, array: &Array<'a>, cell: usize) -> Result<Pieces
     for spot in spots.as_slice() {
         sites.push(array.sites(alloc, spot)?)?;
     }
-    Ok(Pieces { spots, sites })
+    let plans = spot_plans(alloc, spots.as_slice())?;
+    Ok(Pieces {
+        spots: plans,
+        sites,
+    })
 }
 
 // Puts the helpers of a piece's places behind others.

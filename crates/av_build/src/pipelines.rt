@@ -16,6 +16,7 @@ use crate::intervals::{Mark, intervals};
 use crate::moments::{Moment, site};
 use crate::order::in_order;
 use crate::ports::{inlet_of, width_read};
+use crate::spots::planned_spot;
 use av_base::{List, Memory, Width};
 use av_flat::{Flat, Tree};
 use av_kinds::{Counter, Inlet, Lane, Mode, Site as ProgramSite, Work};
@@ -120,12 +121,13 @@ impl<'a> Blueprint<'a> {
         requires ranks { length (helpers_of self.now.array) < 18446744073709551615 }
         ensures { IfOk result (λ lane. IsBuiltBy self.now counter cell (Some helper) (lane_of lane)) }
     {
-        let spot = &self.cells.as_slice()[cell].pieces.spots.as_slice()[helper.piece];
+        let plan = &self.cells.as_slice()[cell].pieces.spots.as_slice()[helper.piece];
+        let spot = planned_spot(alloc, &self.array, plan)?;
         Ok(Lane {
             home: cell as u32,
             rank: helper.number + 1,
             width: spot.var.width,
-            modes: self.hand_modes(alloc, flat, counter, spot, helper)?,
+            modes: self.hand_modes(alloc, flat, counter, &spot, helper)?,
             length: self.array.line_length(cell, Some(helper.number)),
         })
     }

@@ -21,6 +21,7 @@ use crate::moments::site;
 use crate::order::in_order;
 use crate::ports::{inlet_of, width_read};
 use crate::sorting::kinds_of;
+use crate::spots::planned_spot;
 use av_base::{List, Memory};
 use av_flat::{Flat, Timed};
 use av_kinds::{CellLanes, Counter, Inlet, Lane, Mode, Program, Site as ProgramSite, Source, Work};
@@ -113,14 +114,15 @@ impl<'a> Blueprint<'a> {
         ensures { IfOk result (λ mode. IsValueMode self.now counter cell number (mode_of mode)) }
     {
         let pieces = &self.cells.as_slice()[cell].pieces;
-        let spot = &pieces.spots.as_slice()[number];
+        let plan = &pieces.spots.as_slice()[number];
+        let spot = planned_spot(alloc, &self.array, plan)?;
         let places = pieces.sites.as_slice()[number].as_slice();
         let all = self.array.slots(cell);
         let order = in_order(alloc, all, counter)?;
         let marks = marks(alloc, counter, order.as_slice(), all, &spot.piece.domain)?;
         Ok(Mode {
             intervals: intervals(alloc, marks.as_slice())?,
-            work: self.work(alloc, flat, counter, spot, places)?,
+            work: self.work(alloc, flat, counter, &spot, places)?,
         })
     }
 

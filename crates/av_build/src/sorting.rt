@@ -4,12 +4,12 @@ ghost use Rattle.std.specs.Prelude.{◌↔◌, ◌<◌, IsTrue, All, length, IfO
 ghost use Rattle.av_build.specs.inner.Lanes.{HaveSamePieces, HasNoKind, IsKind, AreKindsOf};
 
 use crate::blueprint::CellPlan;
+use crate::spots::SpotPlan;
 use av_base::{List, Memory};
-use av_space::Spot;
 use std::alloc::Global;
 
 // Whether the pieces on two cells are the same ones of one node.
-fn same_pieces(a: &[Spot<'_>], b: &[Spot<'_>]) -> bool
+fn same_pieces(a: &[SpotPlan<'_>], b: &[SpotPlan<'_>]) -> bool
     ensures { IsTrue result ↔ HaveSamePieces a.now b.now }
 {
     if a.len() != b.len() {

@@ -15,6 +15,7 @@ use Rattle.av_build.specs.declared.blueprint.CellPlan.{CellPlan}
 use Rattle.av_build.specs.declared.blueprint.HelperPlan.{HelperPlan}
 use Rattle.av_build.specs.declared.blueprint.LanePlan.{LanePlan}
 use Rattle.av_build.specs.declared.blueprint.Pieces.{Pieces}
+use Rattle.av_build.specs.inner.SpotPlans.{spot_by}
 
 -- ---- the array
 
@@ -24,11 +25,15 @@ seen w = record { system = system_of w; helpers = helpers_of w; times = placings
 abbrev pub spot_of : SpotMade → Spot
 spot_of at = record { cell = at.cell; node = at.node; variable = view_variable at.var.now; number = at.number; piece = view_piece at.piece.now }
 
+-- the pieces on a cell with their computations
+abbrev pub spots_on : ArrayMade → Pieces → List SpotMade
+spots_on w pieces = map (spot_by w) pieces.spots
+
 -- the pieces on the cell p, and the places of each that read
 pub record ArePieces (w : ArrayMade) (p : ℕ) (pieces : Pieces) : Type 0 where
-  pub spots : AreSpots w p pieces.spots
-  pub one_each : length pieces.sites ≡ length pieces.spots
-  pub sites : (k : ℕ) (spot : SpotMade) (own : List Place) → slice_get pieces.spots k ≡ Some spot → slice_get pieces.sites k ≡ Some own → AreSites w spot own
+  pub spots : AreSpots w p (spots_on w pieces)
+  pub one_each : length pieces.sites ≡ length (spots_on w pieces)
+  pub sites : (k : ℕ) (spot : SpotMade) (own : List Place) → slice_get (spots_on w pieces) k ≡ Some spot → slice_get pieces.sites k ≡ Some own → AreSites w spot own
 
 -- ---- the helpers on a cell, in the order of its pieces and their places
 
@@ -122,7 +127,7 @@ pub record IsSpotOn (b : Blueprint) (at : SpotMade) (sites : List Place) : Type 
   pub plan : CellPlan
   pub is_plan : slice_get b.cells at.cell ≡ Some plan
   pub number : ℕ
-  pub is_spot : slice_get plan.pieces.spots number ≡ Some at
+  pub is_spot : slice_get (spots_on b.array plan.pieces) number ≡ Some at
   pub are_sites : slice_get plan.pieces.sites number ≡ Some sites
 
 -- the place is one of such a piece

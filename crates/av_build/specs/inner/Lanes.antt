@@ -25,7 +25,8 @@ use Rattle.av_build.specs.declared.blueprint.CellPlan.{CellPlan}
 use Rattle.av_build.specs.declared.blueprint.HelperPlan.{HelperPlan}
 use Rattle.av_build.specs.declared.blueprint.LanePlan.{LanePlan}
 use Rattle.av_build.specs.declared.blueprint.Pieces.{Pieces}
-use Rattle.av_build.specs.inner.Blueprints.{seen, spot_of, lanes_of, helpers_on, IsSpotOn}
+use Rattle.av_build.specs.declared.spots.SpotPlan.{SpotPlan}
+use Rattle.av_build.specs.inner.Blueprints.{seen, spot_of, spots_on, lanes_of, helpers_on, IsSpotOn}
 use Rattle.av_build.specs.inner.Programmed.{IsPlaceSite, IsWorkFor, IsModeFor, IsValueLane, IsHelperLane, pipe_in}
 
 -- the variable that the place reads is there
@@ -63,7 +64,7 @@ HasPiece b p k = (plan : CellPlan) × (slice_get b.cells p ≡ Some plan) × (k 
 -- the mode of the piece with this number
 abbrev pub IsValueMode : Blueprint → Counter → ℕ → ℕ → Mode → Type 0
 IsValueMode b counter p k mode =
-    (plan : CellPlan) (at : SpotMade) → slice_get b.cells p ≡ Some plan → slice_get plan.pieces.spots k ≡ Some at
+    (plan : CellPlan) (at : SpotMade) → slice_get b.cells p ≡ Some plan → slice_get (spots_on b.array plan.pieces) k ≡ Some at
     → IsValueWork b counter at mode.work × IsModeFor (seen b.array) (count_in counter) p (λ m z. m ≡ at.node) (λ m z. IsTrue (has at.piece.now.domain z)) mode
 
 -- the lane of a helper on the cell p, but for what its modes are
@@ -99,8 +100,8 @@ IsPlanOn b p (Some h) = HasPlan b p h
 pub record IsValueBuilt (b : Blueprint) (counter : Counter) (p : ℕ) (plan : CellPlan) (lane : Lane) : Type 0 where
   pub is_lane : (c n : ℕ) (z : Point) (v : Variable) → ComputesIn b.array p c n z → slice_get (nodes (system_of b.array)) n ≡ Some v
       → IsValueLane (seen b.array) (count_in counter) (lanes_of b.cells) plan.lanes.first p n v lane
-  pub one_each : length lane.modes ≡ length plan.pieces.spots
-  pub works : (k : ℕ) (mode : Mode) (at : SpotMade) → slice_get lane.modes k ≡ Some mode → slice_get plan.pieces.spots k ≡ Some at → IsValueWork b counter at mode.work
+  pub one_each : length lane.modes ≡ length (spots_on b.array plan.pieces)
+  pub works : (k : ℕ) (mode : Mode) (at : SpotMade) → slice_get lane.modes k ≡ Some mode → slice_get (spots_on b.array plan.pieces) k ≡ Some at → IsValueWork b counter at mode.work
 
 -- the lane is what its plan says
 abbrev pub IsBuiltBy : Blueprint → Counter → ℕ → Option HelperPlan → Lane → Type 0
@@ -129,7 +130,7 @@ HasReference sites n = (site : Place) × IsReferenceIn sites n site
 -- the place is the reference of the port, among the pieces on its cell
 pub record IsPortPlace (pieces : Pieces) (port : InPort) (site : Place) : Type 0 where
   pub number : ℕ
-  pub at : SpotMade
+  pub at : SpotPlan
   pub is_spot : slice_get pieces.spots number ≡ Some at
   pub is_piece : at.number ≡ port.piece
   pub sites : List Place
@@ -140,13 +141,13 @@ pub record IsPortPlace (pieces : Pieces) (port : InPort) (site : Place) : Type 0
 pub record HasPortPlace (pieces : Pieces) (port : InPort) : Type 0 where
   pub site : Place
   pub is_place : IsPortPlace pieces port site
-  pub each : (k : ℕ) (at : SpotMade) → slice_get pieces.spots k ≡ Some at → at.number ≡ port.piece → (sites : List Place) × (slice_get pieces.sites k ≡ Some sites) × HasReference sites port.site
+  pub each : (k : ℕ) (at : SpotPlan) → slice_get pieces.spots k ≡ Some at → at.number ≡ port.piece → (sites : List Place) × (slice_get pieces.sites k ≡ Some sites) × HasReference sites port.site
 
 -- ---- kinds
 
 -- on both cells stand the same pieces of one node
-abbrev pub HaveSamePieces : List SpotMade → List SpotMade → Type 0
-HaveSamePieces a b = (length a ≡ length b) × ((k : ℕ) (x y : SpotMade) → slice_get a k ≡ Some x → slice_get b k ≡ Some y → (x.node ≡ y.node) × (x.number ≡ y.number))
+abbrev pub HaveSamePieces : List SpotPlan → List SpotPlan → Type 0
+HaveSamePieces a b = (length a ≡ length b) × ((k : ℕ) (x y : SpotPlan) → slice_get a k ≡ Some x → slice_get b k ≡ Some y → (x.node ≡ y.node) × (x.number ≡ y.number))
 
 -- the first cells of kinds, of which none has the pieces of the cell
 abbrev pub HasNoKind : List CellPlan → List ℕ → CellPlan → Type 0

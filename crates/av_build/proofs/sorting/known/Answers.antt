@@ -3,9 +3,9 @@ use Rattle.std.specs.Prelude.{slice_get}
 use Rattle.std.proofs.lemmas.Bool.{cases_lt}
 use Rattle.std.proofs.lemmas.Option.{slice_get-get_or}
 use Rattle.av_base.proofs.Lists.{some_is}
-use Rattle.av_space.specs.declared.spots.Spot.{Spot}
 use Rattle.av_space.proofs.Elements.{in_range}
 use Rattle.av_build.specs.declared.blueprint.CellPlan.{CellPlan}
+use Rattle.av_build.specs.declared.spots.SpotPlan.{SpotPlan}
 use Rattle.av_build.specs.inner.Lanes.{HaveSamePieces}
 use Rattle.av_build.proofs.Pairwise.{element}
 use Rattle.av_build.proofs.sorting.known.Goals as goal
@@ -26,7 +26,7 @@ loop-kind-preserved c = λ k first other lt is_first is_other same.
           let is_x : slice_get cells m ≡ Some x = element cells m x x (omega (arith, low, number)) c.index-cells-first.is in
           let one : x ≡ other = some_is x other (sym is_x ∙ ap (slice_get cells) number ∙ is_other) in
           let left : c.as_slice.result.now ≡ other.pieces.spots = c.as_slice.ensures ∙ ap (λ (p : CellPlan). p.pieces.spots) one in
-          let there = subst (λ (l : List Spot). HaveSamePieces l c.as_slice-in-loop-kind.result.now) (sym left) (subst (λ (l : List Spot). HaveSamePieces other.pieces.spots l) (sym c.as_slice-in-loop-kind.ensures) same) in
+          let there = subst (λ (l : List SpotPlan). HaveSamePieces l c.as_slice-in-loop-kind.result.now) (sym left) (subst (λ (l : List SpotPlan). HaveSamePieces other.pieces.spots l) (sym c.as_slice-in-loop-kind.ensures) same) in
           absurd (let holds = c.if-same_pieces.ensures.1 there in cc))
     ]
 
