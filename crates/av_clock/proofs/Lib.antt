@@ -12,5 +12,3 @@ pub mod Taking
 pub mod Extended
 pub mod Touched
 pub mod Rooted
-pub mod Final
-pub mod Sources

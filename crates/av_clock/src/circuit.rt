@@ -1,4 +1,4 @@
-ghost use Rattle.std.specs.Prelude.{◌≡◌, ◌≢◌, ◌<◌, ◌≤◌, ◌+◌, ℕ, List as Items, [], length, false, true, slice_get, slice_set, slice_index, slice_index_or, Some, Contains, IfOk, All};
+ghost use Rattle.std.specs.Prelude.{◌≡◌, ◌≢◌, ◌<◌, ◌≤◌, ◌+◌, ℕ, List as Items, length, false, true, slice_get, slice_set, slice_index, slice_index_or, Some, Contains, IfOk, All};
 ghost use Rattle.av_base.specs.Words.{IsWord};
 ghost use Rattle.av_net.specs.Meaning.{Words};
 ghost use Rattle.av_net.specs.Names.{all_names, given_names, names_of, registers_of, width_of};
@@ -9,7 +9,6 @@ ghost use Rattle.av_net.specs.Meaning.{word_of, EachOperand};
 ghost use Rattle.av_clock.specs.Named.{named, AllFit};
 ghost use Rattle.av_clock.specs.Marked.{IsClear, AreHeld, touched};
 ghost use Rattle.av_clock.specs.inner.Marking.{IsSet, ReadTheSame, AreAhead, AreTouched, AreDue};
-ghost use Rattle.av_clock.specs.inner.Passes.{IsFinal, IsKnown, IsCovered, AreFinalAt, AreSources, ArePasses, resolved};
 ghost use Rattle.av_clock.specs.inner.Readers.{IsOther};
 
 use crate::gate::{Assignment, FlipFlop};
@@ -29,6 +28,7 @@ pub(crate) struct Circuit<'a> {
     of: &'a Module,
     assignments: Vec<Assignment>,
     flip_flops: Vec<FlipFlop>,
+    passes: Passes,
     drives_reading: Vec<List<usize>>,
     steps_reading: Vec<List<usize>>,
 }
@@ -56,22 +56,17 @@ impl<'a> Circuit<'a> {
         let resolver = Resolver::new(alloc, of)?;
         let assignments = resolver.assignments(alloc)?;
         let flip_flops = resolver.flip_flops(alloc)?;
+        let passes = Passes::new(alloc, of, &assignments)?;
         let drives_reading = drives_reading(alloc, of, &assignments)?;
         let steps_reading = steps_reading(alloc, of, &flip_flops)?;
         Ok(Circuit {
             of,
             assignments,
             flip_flops,
+            passes,
             drives_reading,
             steps_reading,
         })
-    }
-
-    /// The drives and the steps in passes.
-    pub(crate) fn passes(&self, alloc: Global) -> Result<Passes, Memory>
-        ensures { IfOk result (λ passes. ArePasses self.now passes) }
-    {
-        Passes::new(alloc, self.of, &self.assignments, &self.flip_flops)
     }
 
     /// The number of words.
@@ -86,6 +81,11 @@ impl<'a> Circuit<'a> {
         ensures { result ≡ length self.now.drives }
     {
         self.assignments.len()
+    }
+
+    /// What it takes to compute all drives in passes, counted in drives that compute a word: eight copies take as long as one.
+    pub(crate) fn dense_work(&self) -> usize {
+        self.passes.computed.len() + self.passes.copied.len() / 8
     }
 
     /// The number of flip-flops.
@@ -103,73 +103,22 @@ impl<'a> Circuit<'a> {
         self.assignments[drive].target
     }
 
-    /// All drives but the copies that are left out: each place has its word at its source.
-    pub(crate) fn settle(&self, passes: &Passes, words: &mut [u64])
-        requires sound { IsSound self.now }
-        requires passes { ArePasses self.now passes.now }
+    /// All drives: those that compute, in order, then those that copy, and then those of a constant.
+    pub(crate) fn settle(&self, words: &mut [u64])
         requires size { length words.old ≡ length (all_names self.now) }
         requires fit { AllFit self.now words.old }
-        ensures settled { IsFinal self.now (resolved passes.now.sources.items words.new) }
-        ensures given { Agree (given_names self.now) (named self.now words.old) (named self.now (resolved passes.now.sources.items words.new)) }
+        ensures settled { Settled self.now (named self.now words.new) }
+        ensures given { Agree (given_names self.now) (named self.now words.old) (named self.now words.new) }
         ensures fit { AllFit self.now words.new }
     {
-        self.compute_words(passes, words);
-        self.copy_ports(passes, words);
-        self.give_constants(passes, words);
-    }
-
-    // The drives that compute, in order.
-    fn compute_words(&self, passes: &Passes, words: &mut [u64])
-        requires sound { IsSound self.now }
-        requires passes { ArePasses self.now passes.now }
-        requires size { length words.old ≡ length (all_names self.now) }
-        requires fit { AllFit self.now words.old }
-        ensures { AreFinalAt self.now words.old words.new (IsKnown self.now passes.now.computed.items) }
-    {
-        for assignment in &passes.computed {
+        for assignment in &self.passes.computed {
             words[assignment.target] = assignment.gate.word(words);
         }
-    }
-
-    // The copies of input ports.
-    fn copy_ports(&self, passes: &Passes, words: &mut [u64])
-        requires sound { IsSound self.now }
-        requires passes { ArePasses self.now passes.now }
-        requires size { length words.old ≡ length (all_names self.now) }
-        ensures { (before : Items ℕ) → AreFinalAt self.now before words.old (IsKnown self.now passes.now.computed.items)
-            → AreFinalAt self.now before words.new (IsCovered self.now passes.now.computed.items passes.now.copied.items []) }
-    {
-        for alias in &passes.copied {
+        for alias in &self.passes.copied {
             words[alias.target] = words[alias.source];
         }
-    }
-
-    // The drives of a constant.
-    fn give_constants(&self, passes: &Passes, words: &mut [u64])
-        requires sound { IsSound self.now }
-        requires passes { ArePasses self.now passes.now }
-        requires size { length words.old ≡ length (all_names self.now) }
-        ensures { (before : Items ℕ) → AreFinalAt self.now before words.old (IsCovered self.now passes.now.computed.items passes.now.copied.items [])
-            → AreFinalAt self.now before words.new (IsCovered self.now passes.now.computed.items passes.now.copied.items passes.now.fixed.items) }
-    {
-        for fixed in &passes.fixed {
+        for fixed in &self.passes.fixed {
             words[fixed.target] = fixed.word;
-        }
-    }
-
-    /// Where copies are pending, writes them: gives each place the word of its source.
-    pub(crate) fn write_copies(&self, pending: bool, passes: &Passes, words: &mut [u64])
-        requires sources { AreSources self.now passes.now.sources.items }
-        requires size { length words.old ≡ length (all_names self.now) }
-        requires settled { IsFinal self.now (resolved passes.now.sources.items words.old) }
-        requires none { pending ≡ false → resolved passes.now.sources.items words.old ≡ words.old }
-        ensures { words.new ≡ resolved passes.now.sources.items words.old }
-    {
-        if !pending {
-            return;
-        }
-        for (place, source) in passes.sources.iter().enumerate() {
-            words[place] = words[*source];
         }
     }
 
@@ -422,15 +371,14 @@ impl<'a> Circuit<'a> {
         due.fill(true);
     }
 
-    /// What each register takes at an edge without reset, in the order of the steps, where each place has its word at its source.
-    pub(crate) fn next_words(&self, passes: &Passes, words: &[u64], next: &mut [u64])
-        requires passes { ArePasses self.now passes.now }
+    /// What each register takes at an edge without reset, in the order of the steps.
+    pub(crate) fn next_words(&self, words: &[u64], next: &mut [u64])
         requires size { length words.now ≡ length (all_names self.now) }
         requires next { length next.old ≡ length self.now.steps }
-        ensures { AreTaken self.now false (named self.now (resolved passes.now.sources.items words.now)) (length self.now.steps) next.new }
+        ensures { AreTaken self.now false (named self.now words.now) (length self.now.steps) next.new }
     {
-        for (i, reading) in passes.nexts.iter().enumerate() {
-            next[i] = reading.word(words);
+        for (i, flip_flop) in self.flip_flops.iter().enumerate() {
+            next[i] = flip_flop.next.word(words);
         }
     }
 

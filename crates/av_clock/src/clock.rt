@@ -10,7 +10,6 @@ ghost use Rattle.av_clock.specs.Seen.{carried};
 
 use crate::circuit::Circuit;
 use crate::marks::{Marks, mark_anew};
-use crate::passes::Passes;
 use av_base::Memory;
 use av_net::Module;
 use std::alloc::Global;
@@ -23,7 +22,6 @@ const UNCOUNTED_TICKS: u32 = 15;
 #[derive(Drop)]
 pub struct Clock<'a> {
     circuit: Circuit<'a>,
-    passes: Passes,
     // The words of all names, in the order of declarations.
     words: Vec<u64>,
     // Room for the registers' next words, and for the steps that are taken.
@@ -34,8 +32,6 @@ pub struct Clock<'a> {
     due: Marks,
     // All drives are marked, whatever `stale` says, and each settle computes them.
     dense: bool,
-    // The last settle left copies out: each place has the word of its source, whatever its own is.
-    pending: bool,
     // The last settle by marks computed more than a third of what a settle of all drives takes.
     busy: bool,
     // The ticks to come before changed registers are counted again.
@@ -68,7 +64,6 @@ impl<'a> Clock<'a> {
         ensures marked { IfOk result (λ clock. clock.marked ≡ replicate (length of.now.drives) true) }
     {
         let circuit = Circuit::new(alloc, of)?;
-        let passes = circuit.passes(alloc)?;
         let words = vec![in alloc; 0u64; circuit.size()]?;
         let next = vec![in alloc; 0u64; circuit.steps()]?;
         let taken = vec![in alloc; 0usize; circuit.steps()]?;
@@ -76,14 +71,12 @@ impl<'a> Clock<'a> {
         let due = Marks::new(alloc, circuit.steps())?;
         Ok(Clock {
             circuit,
-            passes,
             words,
             next,
             taken,
             stale,
             due,
             dense: true,
-            pending: false,
             busy: true,
             uncounted: 0,
             settled: false,
@@ -112,7 +105,7 @@ impl<'a> Clock<'a> {
         let computed = self
             .circuit
             .settle_marked(&mut self.words, &mut self.stale, &mut self.due);
-        self.busy = computed > self.passes.dense_work() / 3;
+        self.busy = computed > self.circuit.dense_work() / 3;
         self.work = self.work.saturating_add(computed as u64);
         self.settled = true;
     }
@@ -131,9 +124,8 @@ impl<'a> Clock<'a> {
             → self.new.work + k ≤ self.old.work + length self.old.of.drives }
         ensures touched { self.new.work ≤ self.old.work + touched (carried self.old) (carried self.new) self.old.of.drives self.old.marked }
     {
-        self.circuit.settle(&self.passes, &mut self.words);
+        self.circuit.settle(&mut self.words);
         self.dense = true;
-        self.pending = true;
         self.work = self.work.saturating_add(self.circuit.drives() as u64);
         self.settled = true;
     }
@@ -161,8 +153,7 @@ impl<'a> Clock<'a> {
         ensures fits { (d : _) → IsWord (width_of self.now.of (slice_index_or self.now.of.drives wire d).target) result }
         ensures settled { Settled self.now.of (carried self.now) }
     {
-        let place = self.circuit.target(wire as usize);
-        self.words[self.passes.sources[place]]
+        self.words[self.circuit.target(wire as usize)]
     }
 
     /// Presents a value at an input port, by its place in the module's `inputs`.
@@ -214,8 +205,7 @@ impl<'a> Clock<'a> {
             return false;
         }
         self.uncounted = UNCOUNTED_TICKS;
-        self.circuit
-            .next_words(&self.passes, &self.words, &mut self.next);
+        self.circuit.next_words(&self.words, &mut self.next);
         let changed = self.circuit.changed(&self.words, &self.next);
         changed > self.circuit.steps() / 4
     }
@@ -229,9 +219,6 @@ impl<'a> Clock<'a> {
         ensures flag { self.new.settled ≡ false }
         ensures work { self.new.work ≡ self.old.work }
     {
-        self.circuit
-            .write_copies(self.pending, &self.passes, &mut self.words);
-        self.pending = false;
         mark_anew(self.dense, &mut self.stale, &mut self.due);
         self.dense = false;
         self.circuit.tick_marked(
@@ -253,8 +240,7 @@ impl<'a> Clock<'a> {
         ensures flag { self.new.settled ≡ false }
         ensures work { self.new.work ≡ self.old.work }
     {
-        self.circuit
-            .next_words(&self.passes, &self.words, &mut self.next);
+        self.circuit.next_words(&self.words, &mut self.next);
         self.circuit.store(&self.next, &mut self.words);
         self.dense = true;
         self.settled = false;

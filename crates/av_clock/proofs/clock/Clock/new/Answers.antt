@@ -1,4 +1,4 @@
-use Rattle.std.proofs.Common.{◌≡◌, List, ℕ, length, refl, ◌∙◌, ap, sym, subst, false, true}
+use Rattle.std.proofs.Common.{◌≡◌, List, ℕ, length, ◌∙◌, ap, sym, subst, false, true}
 use Rattle.std.proofs.lemmas.List.{length-replicate}
 use Rattle.av_net.specs.Sound.{IsSound}
 use Rattle.av_clock.specs.Named.{AllFit}
@@ -13,8 +13,6 @@ invariant_of-result c =
       size = sym c.in_ok-words.words.ok.0 ∙ c.in_ok-words.ensures.len ∙ c.size.ensures;
       fit = subst P (sym (c.in_ok-words.ensures.items_if_clones_equal (λ y same. same))) (zeros_fit c.in_ok-circuit.circuit c.size.result);
       settled = λ flag. absurd (let e : false ≡ true = flag in cc);
-      passes = c.in_ok-passes.ensures;
-      none = λ some. refl;
       next = sym c.in_ok-next.next.ok.0 ∙ c.in_ok-next.ensures.len ∙ c.steps.ensures;
       taken = sym c.in_ok-taken.taken.ok.0 ∙ c.in_ok-taken.ensures.len ∙ c.steps-2.ensures;
       stale = ap length c.in_ok-stale.ensures ∙ length-replicate c.drives.result false ∙ c.drives.ensures;

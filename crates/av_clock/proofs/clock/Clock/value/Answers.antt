@@ -1,34 +1,20 @@
-use Rattle.std.proofs.Common.{◌∙◌, ap}
-use Rattle.av_clock.specs.Seen.{Seen}
-use Rattle.av_clock.proofs.Views.{value_within, place_there, source_there, value_read, value_word, value_fits, value_settled, drive_seen}
+use Rattle.av_clock.proofs.Views.{value_within, value_word, value_fits, value_settled, drive_seen}
 use Rattle.av_clock.proofs.clock.Clock.value.Goals as goal
 
 pub index-requires : goal.index-requires
 index-requires c =
-    place_there c.self.inside.circuit c.self.inside.passes.sources c.target-place.result c.self.invariant.passes.sources
-    (value_within c.self.inside.circuit c.args.wire c.target-place.result
-    (drive_seen c.args.self.now c.self.inside.circuit _ c.self.inside.settled c.self.inside.work c.args.wire c.self.view_is c.requires.place) c.target-place.ensures)
-
-pub index-requires-2 : goal.index-requires-2
-index-requires-2 c =
-    source_there c.self.inside.circuit c.self.inside.passes.sources c.self.inside.words c.target-place.result c.index.result.now c.self.invariant.passes.sources c.self.invariant.size
-    (value_within c.self.inside.circuit c.args.wire c.target-place.result
-    (drive_seen c.args.self.now c.self.inside.circuit _ c.self.inside.settled c.self.inside.work c.args.wire c.self.view_is c.requires.place) c.target-place.ensures) c.index.ensures
+    value_within c.self.inside.circuit c.self.inside.words c.args.wire c.target.result c.self.invariant.size
+    (drive_seen c.args.self.now c.self.inside.circuit c.self.inside.words.items c.self.inside.settled c.self.inside.work c.args.wire c.self.view_is c.requires.place) c.target.ensures
 
 pub returns-clause-word : goal.returns-clause-word
 returns-clause-word c =
-    value_word c.args.self.now c.self.inside.circuit _ c.self.inside.settled c.self.inside.work c.args.wire c.target-place.result c.index-2.result.now c.self.view_is c.self.invariant.sound
-    (c.self.invariant.settled (ap (λ (s : Seen). s.settled) c.self.view_is ∙ c.requires.settled)).size c.target-place.ensures (value_read c.self.inside.pending c.self.inside.circuit c.self.inside.passes.sources.items c.self.inside.words.items c.target-place.result c.index.result.now c.index-2.result.now c.self.invariant.passes.sources c.self.invariant.size
-    (c.self.invariant.settled (ap (λ (s : Seen). s.settled) c.self.view_is ∙ c.requires.settled)) (value_within c.self.inside.circuit c.args.wire c.target-place.result
-    (drive_seen c.args.self.now c.self.inside.circuit _ c.self.inside.settled c.self.inside.work c.args.wire c.self.view_is c.requires.place) c.target-place.ensures) c.index.ensures c.index-2.ensures)
+    value_word c.args.self.now c.self.inside.circuit c.self.inside.words.items c.self.inside.settled c.self.inside.work c.args.wire c.target.result c.index.result.now c.self.view_is c.self.invariant.sound c.self.invariant.size
+    c.target.ensures c.index.ensures
 
 pub returns-clause-fits : goal.returns-clause-fits
 returns-clause-fits c =
-    value_fits c.args.self.now c.self.inside.circuit _ c.self.inside.settled c.self.inside.work c.args.wire c.target-place.result c.index-2.result.now c.self.view_is (c.self.invariant.settled (ap (λ (s : Seen). s.settled) c.self.view_is ∙ c.requires.settled)).fit c.target-place.ensures
-    (value_word c.args.self.now c.self.inside.circuit _ c.self.inside.settled c.self.inside.work c.args.wire c.target-place.result c.index-2.result.now c.self.view_is c.self.invariant.sound
-    (c.self.invariant.settled (ap (λ (s : Seen). s.settled) c.self.view_is ∙ c.requires.settled)).size c.target-place.ensures (value_read c.self.inside.pending c.self.inside.circuit c.self.inside.passes.sources.items c.self.inside.words.items c.target-place.result c.index.result.now c.index-2.result.now c.self.invariant.passes.sources c.self.invariant.size
-    (c.self.invariant.settled (ap (λ (s : Seen). s.settled) c.self.view_is ∙ c.requires.settled)) (value_within c.self.inside.circuit c.args.wire c.target-place.result
-    (drive_seen c.args.self.now c.self.inside.circuit _ c.self.inside.settled c.self.inside.work c.args.wire c.self.view_is c.requires.place) c.target-place.ensures) c.index.ensures c.index-2.ensures))
+    value_fits c.args.self.now c.self.inside.circuit c.self.inside.words.items c.self.inside.settled c.self.inside.work c.args.wire c.target.result c.index.result.now c.self.view_is c.self.invariant.fit c.target.ensures
+    (value_word c.args.self.now c.self.inside.circuit c.self.inside.words.items c.self.inside.settled c.self.inside.work c.args.wire c.target.result c.index.result.now c.self.view_is c.self.invariant.sound c.self.invariant.size c.target.ensures c.index.ensures)
 
 pub returns-clause-settled : goal.returns-clause-settled
-returns-clause-settled c = value_settled c.args.self.now c.self.inside.circuit _ c.self.inside.settled c.self.inside.work c.self.view_is (c.self.invariant.settled (ap (λ (s : Seen). s.settled) c.self.view_is ∙ c.requires.settled))
+returns-clause-settled c = value_settled c.args.self.now c.self.inside.circuit c.self.inside.words.items c.self.inside.settled c.self.inside.work c.self.view_is c.self.invariant.settled c.requires.settled
