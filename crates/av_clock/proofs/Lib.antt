@@ -11,4 +11,8 @@ pub mod Held
 pub mod Taking
 pub mod Extended
 pub mod Touched
-pub mod Rooted
+pub mod MergedModules
+pub mod Keys
+pub mod Merging
+pub mod Computing
+pub mod SourcedWords

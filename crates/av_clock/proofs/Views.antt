@@ -17,7 +17,7 @@ use Rattle.av_net.specs.declared.netlist.Drive.{Drive}
 use Rattle.av_net.specs.declared.netlist.Step.{Step}
 use Rattle.av_net.specs.declared.netlist.Module.{Module}
 use Rattle.av_net.specs.Meaning.{Words}
-use Rattle.av_net.specs.Names.{AreDistinct, names_of, given_names, wire_names, all_names, width_of}
+use Rattle.av_net.specs.Names.{AreDistinct, names_of, given_names, wire_names, all_names, registers_of, width_of}
 use Rattle.av_net.specs.Settled.{Settled, Agree, Holds}
 use Rattle.av_net.specs.Clocked.{Edge}
 use Rattle.av_net.specs.Sound.{IsSound}
@@ -29,7 +29,10 @@ use Rattle.av_clock.specs.Named.{named, AllFit}
 use Rattle.av_clock.specs.inner.Gates.{AreTaken, FitRegisters}
 use Rattle.av_clock.specs.Seen.{Seen, carried}
 use Rattle.av_clock.specs.Marked.{IsClear, AreHeld, touched}
+use Rattle.av_clock.specs.inner.Engine.{IsWhole}
+use Rattle.av_clock.specs.inner.Kept.{AreZero}
 use Rattle.av_clock.specs.inner.Marking.{ReadTheSame}
+use Rattle.av_clock.proofs.Computing.{settled_zero, edge_zero}
 use Rattle.av_clock.proofs.Held.{given_apart}
 use Rattle.av_clock.proofs.Marking.{none_clear}
 use Rattle.av_clock.proofs.Touched.{all_touched}
@@ -69,7 +72,7 @@ agree_call s m v before new names b w view same is h =
     subst Q view (subst P (sym (new_items v before new same is)) (subst R is h))
 
 -- a port's place among all names
-port_at : (m : Module) (k : ℕ) (port : Port) → slice_get m.inputs k ≡ Some port → slice_get (all_names m) k ≡ Some port.name
+pub port_at : (m : Module) (k : ℕ) (port : Port) → slice_get m.inputs k ≡ Some port → slice_get (all_names m) k ≡ Some port.name
 port_at m k port at =
     let lt : k < length m.inputs = slice_get_within m.inputs k port at in
     let inputs = names_of m.inputs in
@@ -83,7 +86,7 @@ port_at m k port at =
     ∙ ap Some (get_or-append (inputs ++ registers) (wire_names m) port.name k lt' ∙ get_or-append inputs registers port.name k (omega arith) ∙ here ∙ name)
 
 -- and among the names of the inputs
-input_at : (m : Module) (k : ℕ) (port : Port) → slice_get m.inputs k ≡ Some port → slice_get (names_of m.inputs) k ≡ Some port.name
+pub input_at : (m : Module) (k : ℕ) (port : Port) → slice_get m.inputs k ≡ Some port → slice_get (names_of m.inputs) k ≡ Some port.name
 input_at m k port at =
     let lt : k < length m.inputs = slice_get_within m.inputs k port at in
     let inputs = names_of m.inputs in
@@ -93,7 +96,7 @@ input_at m k port at =
     slice_get-get_or inputs k port.name (omega arith) ∙ ap Some (here ∙ name)
 
 -- a word at a port
-port_set : (m : Module) (words : List ℕ) (k value : ℕ) (port : Port) → IsSound m → length words ≡ length (all_names m) → slice_get m.inputs k ≡ Some port → named m (set words k value) ≡ with_word (named m words) port.name value
+pub port_set : (m : Module) (words : List ℕ) (k value : ℕ) (port : Port) → IsSound m → length words ≡ length (all_names m) → slice_get m.inputs k ≡ Some port → named m (set words k value) ≡ with_word (named m words) port.name value
 port_set m words k value port sound same at = look_set (all_names m) words k value port.name (names_distinct m sound) same (port_at m k port at)
 
 -- a word at a port fits
@@ -159,33 +162,6 @@ reset_call m u given room read sound taken long own is =
 -- the words after a store fit
 pub fit_call : (m : Module) (v : Vec ℕ Global) (before new : List ℕ) → length new ≡ length before → before ≡ v.items → AllFit m new → AllFit m (with_items v new).items
 fit_call m v before new same is h = let P : List ℕ → Type 0 = AllFit m in subst P (sym (new_items v before new same is)) h
-
--- the place of what a drive drives is there
-pub value_within : (m : Module) (v : Vec ℕ Global) (k place : ℕ) → length v.items ≡ length (all_names m) → k < length m.drives → ((d : Drive) → slice_get (all_names m) place ≡ Some (get_or m.drives k d).target) → place < v.len
-value_within m v k place same lt at = elim (slice_get_cases m.drives k).1 [
-  | inl (drive, within, found, here) ↦
-      let within' : place < length (all_names m) = slice_get_within (all_names m) place (get_or m.drives k drive).target (at drive) in
-      let long : v.len ≡ length v.items = v.ok.0 in
-      omega arith
-  | inr (past, none) ↦ absurd (omega arith)
-]
-
--- its word is the one that is seen
-pub value_word : {ms : List Bool} (s : Seen) (m : Module) (items : List ℕ) (b : Bool) (w : ℕ) (k place word : ℕ) → record { of = m; words = items; settled = b; work = w; marked = ms } ≡ s → IsSound m → length items ≡ length (all_names m)
-    → ((d : Drive) → slice_get (all_names m) place ≡ Some (get_or m.drives k d).target) → word ≡ get_or items place word → (d : Drive) → word ≡ carried s (get_or s.of.drives k d).target
-value_word s m items b w k place word view sound same at is d =
-    let P : Seen → Type 0 = λ t. word ≡ carried t (get_or t.of.drives k d).target in
-    let target = (get_or m.drives k d).target in
-    let within : place < length items = rw same (slice_get_within (all_names m) place target (at d)) in
-    subst P view (is ∙ get_or_default_zero items place word within ∙ sym (look_at (all_names m) items place target (names_distinct m sound) same (at d)))
-
--- and fits
-pub value_fits : {ms : List Bool} (s : Seen) (m : Module) (items : List ℕ) (b : Bool) (w : ℕ) (k place word : ℕ) → record { of = m; words = items; settled = b; work = w; marked = ms } ≡ s → AllFit m items
-    → ((d : Drive) → slice_get (all_names m) place ≡ Some (get_or m.drives k d).target) → ((d : Drive) → word ≡ carried s (get_or s.of.drives k d).target) → (d : Drive) → IsWord (width_of s.of (get_or s.of.drives k d).target) word
-value_fits s m items b w k place word view fit at is d =
-    let P : Seen → Type 0 = λ t. IsWord (width_of t.of (get_or t.of.drives k d).target) (carried t (get_or t.of.drives k d).target) in
-    let target = (get_or m.drives k d).target in
-    rw (is d) (subst P view (All-contains (λ name. IsWord (width_of m name) (named m items name)) (all_names m) target fit (contains_at (all_names m) place target (at d))))
 
 -- a clock that says so is settled
 pub value_settled : {ms : List Bool} (s : Seen) (m : Module) (items : List ℕ) (b : Bool) (w : ℕ) → record { of = m; words = items; settled = b; work = w; marked = ms } ≡ s → (IsTrue b → Settled m (named m items)) → IsTrue s.settled → Settled s.of (carried s)
@@ -371,3 +347,73 @@ pub all_count : (s : Seen) (v : Words) (old count next : ℕ) → next ≡ min (
 all_count s v old count next sum work all filled =
     subst (λ (ms : List Bool). next ≤ s.work + touched (carried s) v s.of.drives ms) (sym filled)
     (let e = all_touched (carried s) v s.of.drives in omega (arith, sum, work, all, e))
+
+-- ---- words of the constant 0
+
+-- of the words that a call is lent
+pub zero_lent : (m : Module) (v : Vec ℕ Global) (before : List ℕ) → before ≡ v.items → AreZero m v.items → AreZero m before
+zero_lent m v before is zeros = subst (AreZero m) (sym is) zeros
+
+-- of settled words that a call leaves
+pub zero_settled : (m : Module) (v : Vec ℕ Global) (before new : List ℕ) → length new ≡ length before → before ≡ v.items → Settled m (named m new) → AreZero m (with_items v new).items
+zero_settled m v before new same is settled = subst (AreZero m) (sym (new_items v before new same is)) (settled_zero m new settled)
+
+-- of the words after an edge
+pub zero_edge : (m : Module) (v : Vec ℕ Global) (before new : List ℕ) → IsSound m → length new ≡ length before → before ≡ v.items → ((name : List ℕ) → (Contains (registers_of m.steps) name → ⊥) → named m new name ≡ named m before name)
+    → AreZero m v.items → AreZero m (with_items v new).items
+zero_edge m v before new sound same is others zeros = subst (AreZero m) (sym (new_items v before new same is)) (edge_zero m before new sound others (zero_lent m v before is zeros))
+
+-- and of those after a word was set at a port
+pub zero_set : (m : Module) (v : Vec ℕ Global) (before new : List ℕ) (k value : ℕ) → IsSound m → length v.items ≡ length (all_names m) → k < length m.inputs → length new ≡ length before → before ≡ v.items → new ≡ set before k value
+    → AreZero m v.items → AreZero m (with_items v new).items
+zero_set m v before new k value sound size lt same is wrote zeros = elim (slice_get_cases m.inputs k).1 [
+  | inl (port, within, found, here) ↦
+      let set' = port_set m v.items k value port sound size found in
+      let given : Contains (given_names m) port.name =
+      Contains-append_left (names_of m.inputs) (names_of m.registers) port.name (contains_at (names_of m.inputs) k port.name (input_at m k port found)) in
+      subst (AreZero m) (sym (written_call v before new k value same is wrote)) (λ i d below zero'.
+      ap (λ (w : Words). w (get_or m.drives i d).target) set'
+      ∙ with_word_other (named m v.items) port.name value (get_or m.drives i d).target (given_apart m i d port.name sound below given)
+      ∙ zeros i d below zero')
+  | inr (past, none) ↦ absurd (omega arith)
+]
+
+-- ---- a word that is read
+
+-- its place is there
+pub word_within : {ms : List Bool} (s : Seen) (m : Module) (v : Vec ℕ Global) (b : Bool) (w : ℕ) (place : ℕ) → record { of = m; words = v.items; settled = b; work = w; marked = ms } ≡ s → length v.items ≡ length (all_names m) → place < length (all_names s.of) → place < v.len
+word_within s m v b w place view size lt =
+    let lt' : place < length (all_names m) = subst (λ (t : Seen). place < length (all_names t.of)) (sym view) lt in
+    let long : v.len ≡ length v.items = v.ok.0 in
+    omega arith
+
+-- it is the one that is seen
+pub word_seen : {ms : List Bool} (s : Seen) (m : Module) (v : Vec ℕ Global) (b : Bool) (w : ℕ) (place word : ℕ) → record { of = m; words = v.items; settled = b; work = w; marked = ms } ≡ s → length v.items ≡ length (all_names m) → place < length (all_names s.of)
+    → word ≡ get_or v.items place word → word ≡ get_or s.words place 0
+word_seen s m v b w place word view size lt is =
+    let lt' : place < length (all_names m) = subst (λ (t : Seen). place < length (all_names t.of)) (sym view) lt in
+    subst (λ (t : Seen). word ≡ get_or t.words place 0) view (is ∙ get_or_default_zero v.items place word (rw size lt'))
+
+-- and fits
+pub word_fits_seen : {ms : List Bool} (s : Seen) (m : Module) (v : Vec ℕ Global) (b : Bool) (w : ℕ) (place word : ℕ) → record { of = m; words = v.items; settled = b; work = w; marked = ms } ≡ s → IsSound m → length v.items ≡ length (all_names m) → AllFit m v.items
+    → place < length (all_names s.of) → word ≡ get_or v.items place word → (name : List ℕ) → slice_get (all_names s.of) place ≡ Some name → IsWord (width_of s.of name) word
+word_fits_seen s m v b w place word view sound size fit lt is name at =
+    let lt' : place < length (all_names m) = subst (λ (t : Seen). place < length (all_names t.of)) (sym view) lt in
+    let at' : slice_get (all_names m) place ≡ Some name = subst (λ (t : Seen). slice_get (all_names t.of) place ≡ Some name) (sym view) at in
+    let here : word ≡ named m v.items name = is ∙ get_or_default_zero v.items place word (rw size lt') ∙ sym (look_at (all_names m) v.items place name (names_distinct m sound) size at') in
+    subst (λ (t : Seen). IsWord (width_of t.of name) word) view
+    (subst (IsWord (width_of m name)) (sym here) (All-contains (λ n. IsWord (width_of m n) (named m v.items n)) (all_names m) name fit (contains_at (all_names m) place name at')))
+
+-- there is a word for each name, and a mark for each drive
+pub whole_seen : (s : Seen) (m : Module) (words : List ℕ) (b dense : Bool) (w : ℕ) (stale : List Bool) → record { of = m; words = words; settled = b; work = w; marked = if dense then replicate (length m.drives) true else stale } ≡ s
+    → length words ≡ length (all_names m) → length stale ≡ length m.drives → IsWhole s
+whole_seen s m words b dense w stale view size marks = subst IsWhole view (record { size = size; marks = by dense })
+  where
+    by : (t : Bool) → length (if t then replicate (length m.drives) true else stale) ≡ length m.drives
+    by true = length-replicate (length m.drives) true
+    by false = marks
+
+-- what is driven stands at its place
+pub target_seen : {ms : List Bool} (s : Seen) (m : Module) (items : List ℕ) (b : Bool) (w : ℕ) (k place : ℕ) → record { of = m; words = items; settled = b; work = w; marked = ms } ≡ s
+    → ((d : Drive) → slice_get (all_names m) place ≡ Some (get_or m.drives k d).target) → (d : Drive) → slice_get (all_names s.of) place ≡ Some (get_or s.of.drives k d).target
+target_seen s m items b w k place view at d = subst (λ (t : Seen). slice_get (all_names t.of) place ≡ Some (get_or t.of.drives k d).target) view (at d)

@@ -1,4 +1,4 @@
-ghost use Rattle.std.specs.Prelude.{◌≡◌, ◌≢◌, ◌<◌, ◌≤◌, ◌+◌, ℕ, List as Items, length, false, true, slice_get, slice_set, slice_index, slice_index_or, Some, Contains, IfOk, All};
+ghost use Rattle.std.specs.Prelude.{◌≡◌, ◌≢◌, ◌<◌, ◌≤◌, ◌+◌, ℕ, List as Items, length, false, true, slice_get, slice_set, slice_index, slice_index_or, Some, Contains, IfOk, All, filter};
 ghost use Rattle.av_base.specs.Words.{IsWord};
 ghost use Rattle.av_net.specs.Meaning.{Words};
 ghost use Rattle.av_net.specs.Names.{all_names, given_names, names_of, registers_of, width_of};
@@ -10,25 +10,27 @@ ghost use Rattle.av_clock.specs.Named.{named, AllFit};
 ghost use Rattle.av_clock.specs.Marked.{IsClear, AreHeld, touched};
 ghost use Rattle.av_clock.specs.inner.Marking.{IsSet, ReadTheSame, AreAhead, AreTouched, AreDue};
 ghost use Rattle.av_clock.specs.inner.Readers.{IsOther};
+ghost use Rattle.av_clock.specs.inner.Kept.{computes, AreZero};
+ghost use Rattle.av_clock.specs.inner.Merged.{merged as merged_module, IsMerging};
 
-use crate::gate::{Assignment, FlipFlop};
+use crate::gate::Assignment;
 use crate::marks::{Marks, set_all};
-use crate::passes::Passes;
+use crate::merged::Merged;
 use crate::readers::{drives_reading, steps_reading};
-use crate::resolver::{Resolver, size_of_module};
+use crate::resolver::size_of_module;
 use av_base::{List, Memory};
 use av_net::Module;
 use std::alloc::Global;
 use std::marker::Model;
 
-/// A sound module, as which contracts see it, with its names resolved. Words stand in the order of its
+/// The merged drives and steps of a sound module, as the module of which contracts see it. Words stand in the order of its
 /// declarations: input ports, registers, outputs and wires.
 #[derive(Drop)]
 pub(crate) struct Circuit<'a> {
     of: &'a Module,
-    assignments: Vec<Assignment>,
-    flip_flops: Vec<FlipFlop>,
-    passes: Passes,
+    merged: Merged,
+    // The assignments that compute a word: all but those of the constant 0.
+    computed: Vec<Assignment>,
     drives_reading: Vec<List<usize>>,
     steps_reading: Vec<List<usize>>,
 }
@@ -38,9 +40,9 @@ impl<'a> Model for Circuit<'a> {
 
     ghost Value = { Netlist };
 
-    ghost use Rattle.av_clock.specs.inner.Circuit.{IsCircuit};
+    ghost use Rattle.av_clock.specs.inner.Circuit.{net, IsCircuit};
 
-    ghost view = { λ c. c.of.now };
+    ghost view = { net };
 
     ghost invariant = { IsCircuit };
 }
@@ -48,22 +50,18 @@ impl<'a> Model for Circuit<'a> {
 impl<'a> Circuit<'a> {
     ghost use Rattle.av_clock.specs.inner.Gates.{AreTaken, FitRegisters};
 
-    /// The circuit of a sound module, with its names resolved.
-    pub(crate) fn new(alloc: Global, of: &'a Module) -> Result<Circuit<'a>, Memory>
-        requires { IsSound of.now }
-        ensures { IfOk result (λ circuit. circuit ≡ of.now) }
+    /// The circuit of a sound module's merged drives and steps.
+    pub(crate) fn new(alloc: Global, of: &'a Module, merged: Merged) -> Result<Circuit<'a>, Memory>
+        requires { IsMerging of.now merged }
+        ensures { IfOk result (λ circuit. circuit ≡ merged_module of.now merged.sources.items) }
     {
-        let resolver = Resolver::new(alloc, of)?;
-        let assignments = resolver.assignments(alloc)?;
-        let flip_flops = resolver.flip_flops(alloc)?;
-        let passes = Passes::new(alloc, of, &assignments)?;
-        let drives_reading = drives_reading(alloc, of, &assignments)?;
-        let steps_reading = steps_reading(alloc, of, &flip_flops)?;
+        let computed = computed(alloc, &merged.assignments)?;
+        let drives_reading = drives_reading(alloc, of, &merged)?;
+        let steps_reading = steps_reading(alloc, of, &merged)?;
         Ok(Circuit {
             of,
-            assignments,
-            flip_flops,
-            passes,
+            merged,
+            computed,
             drives_reading,
             steps_reading,
         })
@@ -80,19 +78,19 @@ impl<'a> Circuit<'a> {
     pub(crate) fn drives(&self) -> usize
         ensures { result ≡ length self.now.drives }
     {
-        self.assignments.len()
+        self.merged.assignments.len()
     }
 
-    /// What it takes to compute all drives in passes, counted in drives that compute a word: eight copies take as long as one.
+    /// The number of drives that a settle of all computes.
     pub(crate) fn dense_work(&self) -> usize {
-        self.passes.computed.len() + self.passes.copied.len() / 8
+        self.computed.len()
     }
 
     /// The number of flip-flops.
     pub(crate) fn steps(&self) -> usize
         ensures { result ≡ length self.now.steps }
     {
-        self.flip_flops.len()
+        self.merged.flip_flops.len()
     }
 
     /// The place of what a drive drives.
@@ -100,25 +98,20 @@ impl<'a> Circuit<'a> {
         requires { drive < length self.now.drives }
         ensures { (d : _) → slice_get (all_names self.now) result ≡ Some (slice_index_or self.now.drives drive d).target }
     {
-        self.assignments[drive].target
+        self.merged.assignments[drive].target
     }
 
-    /// All drives: those that compute, in order, then those that copy, and then those of a constant.
+    /// All drives in order, but those of the constant 0.
     pub(crate) fn settle(&self, words: &mut [u64])
         requires size { length words.old ≡ length (all_names self.now) }
         requires fit { AllFit self.now words.old }
+        requires zeros { AreZero self.now words.old }
         ensures settled { Settled self.now (named self.now words.new) }
         ensures given { Agree (given_names self.now) (named self.now words.old) (named self.now words.new) }
         ensures fit { AllFit self.now words.new }
     {
-        for assignment in &self.passes.computed {
+        for assignment in &self.computed {
             words[assignment.target] = assignment.gate.word(words);
-        }
-        for alias in &self.passes.copied {
-            words[alias.target] = words[alias.source];
-        }
-        for fixed in &self.passes.fixed {
-            words[fixed.target] = fixed.word;
         }
     }
 
@@ -158,7 +151,7 @@ impl<'a> Circuit<'a> {
         ensures touched { AreTouched self.now words.old words.new stale.old stale.new }
         ensures others { (d : _) (name : Items ℕ) → name ≢ (slice_index_or self.now.drives drive d).target → named self.now words.new name ≡ named self.now words.old name }
     {
-        let assignment = &self.assignments[drive];
+        let assignment = &self.merged.assignments[drive];
         let word = assignment.gate.word(words);
         stale.clear(drive);
         self.write(assignment.target, word, words, stale, due);
@@ -188,7 +181,7 @@ impl<'a> Circuit<'a> {
     {
         let mut computed = 0;
         let mut drive = stale.next(0);
-        while drive < self.assignments.len() {
+        while drive < self.merged.assignments.len() {
             self.compute(drive, words, stale, due);
             computed += 1;
             drive = stale.next(drive + 1);
@@ -272,10 +265,10 @@ impl<'a> Circuit<'a> {
     {
         let mut count = 0;
         let mut step = due.next(0);
-        while step < self.flip_flops.len() {
+        while step < self.merged.flip_flops.len() {
             due.clear(step);
             taken[count] = step;
-            next[count] = self.flip_flops[step].next.word(words);
+            next[count] = self.merged.flip_flops[step].next.word(words);
             count += 1;
             step = due.next(step + 1);
         }
@@ -310,7 +303,7 @@ impl<'a> Circuit<'a> {
         ensures others { (name : Items ℕ) → (Contains (registers_of self.now.steps) name → ⊥) → named self.now words.new name ≡ named self.now words.old name }
     {
         for i in 0..count {
-            let register = self.flip_flops[taken[i]].register;
+            let register = self.merged.flip_flops[taken[i]].register;
             self.write(register, next[i], words, stale, due);
         }
     }
@@ -338,6 +331,7 @@ impl<'a> Circuit<'a> {
         ensures edge { Edge self.now false (named self.now words.old) (named self.now words.new) }
         ensures ports { Agree (names_of self.now.inputs) (named self.now words.old) (named self.now words.new) }
         ensures held { AreHeld self.now words.new stale.new due.new }
+        ensures others { (name : Items ℕ) → (Contains (registers_of self.now.steps) name → ⊥) → named self.now words.new name ≡ named self.now words.old name }
     {
         let count = self.take_due(words, due, taken, next);
         self.store_taken(taken, next, count, words, stale, due);
@@ -365,6 +359,7 @@ impl<'a> Circuit<'a> {
         ensures edge { Edge self.now true (named self.now words.old) (named self.now words.new) }
         ensures ports { Agree (names_of self.now.inputs) (named self.now words.old) (named self.now words.new) }
         ensures held { AreHeld self.now words.old stale.old due.old → AreHeld self.now words.new stale.new due.new }
+        ensures others { (name : Items ℕ) → (Contains (registers_of self.now.steps) name → ⊥) → named self.now words.new name ≡ named self.now words.old name }
     {
         self.reset_words(taken, next);
         self.store_taken(taken, next, self.steps(), words, stale, due);
@@ -377,7 +372,7 @@ impl<'a> Circuit<'a> {
         requires next { length next.old ≡ length self.now.steps }
         ensures { AreTaken self.now false (named self.now words.now) (length self.now.steps) next.new }
     {
-        for (i, flip_flop) in self.flip_flops.iter().enumerate() {
+        for (i, flip_flop) in self.merged.flip_flops.iter().enumerate() {
             next[i] = flip_flop.next.word(words);
         }
     }
@@ -388,7 +383,7 @@ impl<'a> Circuit<'a> {
         requires next { length next.now ≡ length self.now.steps }
     {
         let mut changed = 0;
-        for (i, flip_flop) in self.flip_flops.iter().enumerate() {
+        for (i, flip_flop) in self.merged.flip_flops.iter().enumerate() {
             if next[i] != words[flip_flop.register] {
                 changed += 1;
             }
@@ -403,7 +398,7 @@ impl<'a> Circuit<'a> {
         ensures steps { (j : ℕ) → j < length self.now.steps → slice_index taken.new j ≡ j }
         ensures words { (old : Words) → AreTaken self.now true old (length self.now.steps) next.new }
     {
-        for (i, flip_flop) in self.flip_flops.iter().enumerate() {
+        for (i, flip_flop) in self.merged.flip_flops.iter().enumerate() {
             next[i] = flip_flop.reset;
             taken[i] = i;
         }
@@ -419,9 +414,23 @@ impl<'a> Circuit<'a> {
             → (d : _) → named self.now words.new (slice_index_or self.now.steps k d).register ≡ slice_index next.now k }
         ensures ports { Agree (names_of self.now.inputs) (named self.now words.old) (named self.now words.new) }
         ensures fit { AllFit self.now words.new }
+        ensures others { (name : Items ℕ) → (Contains (registers_of self.now.steps) name → ⊥) → named self.now words.new name ≡ named self.now words.old name }
     {
-        for (i, flip_flop) in self.flip_flops.iter().enumerate() {
+        for (i, flip_flop) in self.merged.flip_flops.iter().enumerate() {
             words[flip_flop.register] = next[i];
         }
     }
+}
+
+// The assignments that compute a word: all but those of the constant 0.
+fn computed(alloc: Global, assignments: &[Assignment]) -> Result<Vec<Assignment>, Memory>
+    ensures { IfOk result (λ computed. computed.items ≡ filter computes assignments.now) }
+{
+    let mut computed = Vec::new(alloc);
+    for assignment in assignments {
+        if !assignment.gate.is_zero() {
+            computed.push(*assignment)?;
+        }
+    }
+    Ok(computed)
 }

@@ -4,10 +4,13 @@
 
 mod circuit;
 mod clock;
+mod engine;
 mod gate;
+mod key;
 mod marks;
-mod passes;
+mod merged;
 mod readers;
 mod resolver;
+mod sourced;
 
 pub use clock::Clock;

@@ -1,17 +1,23 @@
 -- What a circuit keeps.
-use Rattle.std.specs.Prelude.{length}
+use Rattle.std.specs.Prelude.{◌≡◌, length, filter}
+use Rattle.av_net.specs.declared.netlist.Module.{Module}
 use Rattle.av_net.specs.Sound.{IsSound}
 use Rattle.av_clock.specs.declared.circuit.Circuit.TheInside.{Inside}
 use Rattle.av_clock.specs.inner.Gates.{AreAssigned, AreStepped}
-use Rattle.av_clock.specs.inner.Passes.{ArePasses}
+use Rattle.av_clock.specs.inner.Kept.{computes}
+use Rattle.av_clock.specs.inner.Merged.{merged}
 use Rattle.av_clock.specs.inner.Readers.{HaveDrives, HaveSteps}
 
--- its module is sound, its assignments and flip-flops stand for the module's drives and steps, the passes give each name its
--- word, and the lists have drives and steps by what they read
+-- the merged module
+abbrev pub net : Inside → Module
+net c = merged c.of.now c.merged.sources.items
+
+-- its merged module is sound, its assignments and flip-flops stand for that module's drives and steps, those that compute are known, and the
+-- lists have drives and steps by what they read
 pub record IsCircuit (c : Inside) : Type 0 where
-  pub sound : IsSound c.of.now
-  pub assignments : AreAssigned c.of.now (length c.of.now.drives) c.assignments.items
-  pub flip_flops : AreStepped c.of.now (length c.of.now.steps) c.flip_flops.items
-  pub passes : ArePasses c.of.now c.passes.computed.items c.passes.copied.items c.passes.fixed.items
-  pub drives_reading : HaveDrives c.of.now (length c.of.now.drives) c.drives_reading.items
-  pub steps_reading : HaveSteps c.of.now (length c.of.now.steps) c.steps_reading.items
+  pub sound : IsSound (net c)
+  pub assignments : AreAssigned (net c) (length (net c).drives) c.merged.assignments.items
+  pub flip_flops : AreStepped (net c) (length (net c).steps) c.merged.flip_flops.items
+  pub computed : c.computed.items ≡ filter computes c.merged.assignments.items
+  pub drives_reading : HaveDrives (net c) (length (net c).drives) c.drives_reading.items
+  pub steps_reading : HaveSteps (net c) (length (net c).steps) c.steps_reading.items

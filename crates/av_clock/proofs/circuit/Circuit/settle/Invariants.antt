@@ -1,11 +1,5 @@
-use Rattle.av_clock.proofs.Rooted.{Computes, Copies, Fixes}
+use Rattle.av_clock.proofs.Computing.{Computes}
 use Rattle.av_clock.proofs.circuit.Circuit.settle.Given as goal
 
 abbrev pub invariant-loop-assignment : goal.invariant-loop-assignment
-invariant-loop-assignment l = Computes l.self l.fn.words l.words l.self-inside.passes.computed.items l.assignment-index
-
-abbrev pub invariant-loop-alias : goal.invariant-loop-alias
-invariant-loop-alias l = Copies l.self l.fn.words l.words l.alias-items l.self-inside.passes.fixed.items l.alias-index 0
-
-abbrev pub invariant-loop-fixed : goal.invariant-loop-fixed
-invariant-loop-fixed l = Fixes l.self l.fn.words l.words l.fixed-items l.fixed-index
+invariant-loop-assignment l = Computes l.self l.assignment-items l.fn.words l.words l.assignment-index

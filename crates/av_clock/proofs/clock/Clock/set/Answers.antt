@@ -1,38 +1,21 @@
-use Rattle.std.proofs.Common.{◌≡◌, false, true, ◌∙◌}
-use Rattle.av_clock.proofs.Views.{set_call, set_port_call, set_others_call, set_fits_call, set_held_call, size_call, port_seen, fits_seen}
+use Rattle.std.proofs.Common.{◌≡◌, ◌≢◌, ℕ, ◌<◌, List, length, set, slice_get, false, subst, sym}
+use Rattle.std.specs.Prelude.{IfSome}
+use Rattle.std.specs.Option.{ForSome}
+use Rattle.av_base.specs.Words.{IsWord}
+use Rattle.av_clock.specs.Seen.{Seen, carried}
 use Rattle.av_clock.proofs.clock.Clock.set.Goals as goal
 
+pub set-requires-clause-port : goal.set-requires-clause-port
+set-requires-clause-port c = subst (λ (s : Seen). c.args.port < length s.of.inputs) (sym c.self.view_is) c.requires.port
+
+pub set-requires-clause-fits : goal.set-requires-clause-fits
+set-requires-clause-fits c = subst (λ (s : Seen). ForSome (slice_get s.of.inputs c.args.port) (λ p. IsWord p.width.bits c.args.value)) (sym c.self.view_is) c.requires.fits
+
 pub returns-clause-words : goal.returns-clause-words
-returns-clause-words c =
-    set_call c.args.self.now c.self.inside.circuit c.self.inside.words _ c.present.new.words c.self.inside.settled c.self.inside.work c.args.port c.args.value c.self.view_is c.present.auto.words c.deref_mut.ensures.value c.present.ensures.words
+returns-clause-words c = subst (λ (s : Seen). c.set.new.self ≡ record s { words = set s.words c.args.port c.args.value; settled = false; marked = c.set.new.self.marked }) c.self.view_is c.set.ensures.words
 
 pub returns-clause-port : goal.returns-clause-port
-returns-clause-port c =
-    set_port_call c.args.self.now c.self.inside.circuit c.self.inside.words _ c.present.new.words c.self.inside.settled c.self.inside.work c.args.port c.args.value c.self.view_is c.self.invariant.sound c.self.invariant.size
-    c.present.auto.words c.deref_mut.ensures.value c.present.ensures.words
+returns-clause-port c = subst (λ (s : Seen). IfSome (slice_get s.of.inputs c.args.port) (λ p. carried c.set.new.self p.name ≡ c.args.value)) c.self.view_is c.set.ensures.port
 
 pub returns-clause-others : goal.returns-clause-others
-returns-clause-others c =
-    set_others_call c.args.self.now c.self.inside.circuit c.self.inside.words _ c.present.new.words c.self.inside.settled c.self.inside.work c.args.port c.args.value c.self.view_is c.self.invariant.sound c.self.invariant.size
-    c.present.auto.words c.deref_mut.ensures.value c.present.ensures.words
-
-pub invariant_of-self : goal.invariant_of-self
-invariant_of-self c = record {
-  sound = c.self.invariant.sound;
-  size = size_call c.self.inside.words _ c.present.new.words c.present.auto.words c.deref_mut.ensures.value ∙ c.self.invariant.size;
-  fit = set_fits_call c.self.inside.circuit c.self.inside.words _ c.present.new.words c.args.port c.args.value c.self.invariant.sound c.self.invariant.size
-      (port_seen c.args.self.now c.self.inside.circuit c.self.inside.words.items c.self.inside.settled c.self.inside.work c.args.port c.self.view_is c.requires.port)
-      (fits_seen c.args.self.now c.self.inside.circuit c.self.inside.words.items c.self.inside.settled c.self.inside.work c.args.port c.args.value c.self.view_is c.requires.fits) c.self.invariant.fit
-      c.present.auto.words c.deref_mut.ensures.value c.present.ensures.words;
-  settled = λ flag. absurd (let e : false ≡ true = flag in cc);
-  next = c.self.invariant.next;
-  taken = c.self.invariant.taken;
-  stale = c.present.ensures.stale ∙ c.self.invariant.stale;
-  due = c.present.ensures.due ∙ c.self.invariant.due;
-  held = λ some.
-      set_held_call c.self.inside.circuit c.self.inside.words _ c.present.new.words c.args.port c.args.value c.self.inside.stale c.present.new.stale c.self.inside.due c.present.new.due c.self.invariant.sound c.self.invariant.size
-      (port_seen c.args.self.now c.self.inside.circuit c.self.inside.words.items c.self.inside.settled c.self.inside.work c.args.port c.self.view_is c.requires.port)
-      c.present.auto.words c.deref_mut.ensures.value c.present.ensures.words (c.present.ensures.same some) (c.self.invariant.held some);
-  first = c.self.invariant.first;
-  shown = λ none flag. absurd (let e : false ≡ true = flag in cc);
-}
+returns-clause-others c = subst (λ (s : Seen). IfSome (slice_get s.of.inputs c.args.port) (λ p. (name : List ℕ) → name ≢ p.name → carried c.set.new.self name ≡ carried s name)) c.self.view_is c.set.ensures.others
