@@ -13,6 +13,7 @@ They read what the program writes, or compute it a second time, and prove nothin
 | `svg` | colours, and the few shapes that the pictures are made of |
 | `picture`, `spacetime` | the two pictures |
 | `clocked` | a run on data, compared with what `run` and `trace` write |
+| `streamed` | a run on one problem after another, compared with what `run` and `trace` write of each |
 | `bench` | test benches in Verilog |
 | `designs` | a Verilog text with kinds and instances by its rules: grammar, faults, flat module, run |
 | `flat` | the flat module of an emitted text, in the first version of the text |

@@ -48,7 +48,7 @@ class Array:
 
     def _count(self):
         """Finds the words, cycle by cycle, of all names that come from the cycle counter alone."""
-        counters = [name for name in ("cyc",) if name in self.module.steps]
+        counters = [name for name in ("cyc", "phase") if name in self.module.steps]
         fixed = set(counters)
         for name, drive in self.module.drives.items():
             if all(not isinstance(it, str) or it in fixed for it in drive.operands):

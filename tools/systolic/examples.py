@@ -53,12 +53,17 @@ def constants():
                 yield f"{folder}/{file} {name}", unescaped(text)
 
 
+def first_set(data):
+    """Gives the data up to the mark of a second set."""
+    return "".join(re.split(r"(?m)^(?=%%\r?$)", data)[:2])
+
+
 def examples(kernels=()):
-    """Gives each text with its sizes once, by name: those of some kernels, or of all. A text has its data where it has any."""
+    """Gives each text with its sizes once, by name: those of some kernels, or of all. A text has its data where it has any, of several sets the first."""
     seen = set()
     for kernel, folder in folders(kernels):
         for variant in variants(folder):
             text, words, data = (held(folder, variant, name) for name in ("text.alpha", "words", "data"))
             if text and (text, words) not in seen:
                 seen.add((text, words))
-                yield f"{kernel}/{variant}".rstrip("/."), Given(words.split(), text + data)
+                yield f"{kernel}/{variant}".rstrip("/."), Given(words.split(), text + first_set(data))

@@ -31,7 +31,7 @@ fn compiled(alloc: Global, text: &str) -> Result<Compiled, Fail>
 }
 
 /// The design that is read of these bytes is this one: both have one text of the first version.
-fn assert_read_back(
+pub(crate) fn assert_read_back(
     rt: &impl Abort,
     alloc: Global,
     bytes: &[u8],

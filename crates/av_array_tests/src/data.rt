@@ -1,5 +1,6 @@
 //! Words of inputs, as lines of data tell them.
 
+mod sets;
 mod written;
 
 use crate::asserts::same;

@@ -13,6 +13,10 @@ mod data;
 #[cfg(test)]
 mod depend;
 #[cfg(test)]
+mod kernels;
+#[cfg(test)]
 mod pipe;
 #[cfg(test)]
 mod sched;
+#[cfg(test)]
+mod streams;

@@ -8,6 +8,7 @@ use Rattle.std.proofs.lemmas.Option.{slice_get-get_or, slice_get-map, slice_get_
 use Rattle.std.proofs.lemmas.List.Elements.{All-nil, All-cons, All-head, All-tail}
 use Rattle.av_base.specs.Words.{IsWord}
 use Rattle.av_net.specs.declared.netlist.Port.{Port}
+use Rattle.av_net.specs.declared.netlist.Module.{Module}
 use Rattle.av_net.specs.declared.design.Entry.{Entry}
 use Rattle.av_net.specs.declared.design.Design.{Design}
 use Rattle.av_net.specs.Names.{names_of}
@@ -47,6 +48,15 @@ port_of ports k name e = by (slice_get ports k) refl (sym (slice_get-map name_in
 pub at_index : {X : Type 0} (xs : List X) (k : ℕ) (x : X) → k < length xs → x ≡ get_or xs k x → slice_get xs k ≡ Some x
 at_index xs k x lt is = slice_get-get_or xs k x lt ∙ ap Some (sym is)
 
+-- ---- one value more
+
+-- a value whose port has none in its cycle is new
+pub new_given : (values : List Given) (g : Given) → AllPairs IsBefore values → ((h : Given) → Contains values h → IsSame g h → ⊥) → is_given values g ≡ false
+new_given values g ascending none = none_given values values g (record { ascending = ascending; same = λ h. (λ c. c, λ c. c) }) (all_of (λ h. IsSame g h → ⊥) values none)
+
+pub placed_ascending : (values : List Given) (g : Given) → AllPairs IsBefore values → is_given values g ≡ false → AllPairs IsBefore (placed g values)
+placed_ascending values g ascending new = (sorts_more values values g (record { ascending = ascending; same = λ h. (λ c. c, λ c. c) }) new).ascending
+
 -- ---- one line more
 
 -- two lines in one cycle at one port are one
@@ -67,14 +77,14 @@ module _ (d : Design) (x : Values) (n : ℕ) (values : List Given) (line : Entry
       line_apart d.listing.ins one.number n one.line line apart one.within one.is_line there wire cycle
 
   pub is_new : is_given values g ≡ false
-  is_new = none_given values values g (record { ascending = so.ascending; same = λ h. (λ c. c, λ c. c) }) (all_of (λ h. IsSame g h → ⊥) values none_same)
+  is_new = new_given values g so.ascending none_same
 
   later : (h : Given) → IsOfOne d x n h → IsOfOne d x (n + 1) h
   later h one = record { number = one.number; line = one.line; within = (let w = one.within in omega (arith, w)); is_line = one.is_line; is = one.is }
 
   more : AreOfLines d x (n + 1) (placed g values)
   more = record {
-    ascending = (sorts_more values values g (record { ascending = so.ascending; same = λ h. (λ c. c, λ c. c) }) is_new).ascending;
+    ascending = placed_ascending values g so.ascending is_new;
     each = λ h c. by_each h (placed_only g values h c);
     all = λ k l lt e. by_all k l e (cases_lt k n) lt;
   }
@@ -103,7 +113,7 @@ none_yet d x = record {
 -- ---- all lines
 
 -- what a value of its port and cycle is
-given_at : (values : List Given) (g : Given) → AllPairs IsBefore values → Contains values g → given_word values g.cycle g.port ≡ g.value
+pub given_at : (values : List Given) (g : Given) → AllPairs IsBefore values → Contains values g → given_word values g.cycle g.port ≡ g.value
 given_at [] g ascending c = absurd (let w = c.1 in omega (arith, w))
 given_at (h ∷ values) g ascending c = by (contains_cases h values g c) (given_at values g tail)
   where
@@ -126,7 +136,7 @@ given_at (h ∷ values) g ascending c = by (contains_cases h values g c) (given_
     by (inl e) rest = rw (ap (λ (k : Given). k.cycle) e, ap (λ (k : Given). k.port) e, eq-eqb g.cycle g.cycle refl, eq-eqb g.port g.port refl) (ap (λ (k : Given). k.value) e)
     by (inr c) rest = rw (apart (before c)) (rest c)
 
-given_none : (values : List Given) (cycle port : ℕ) → ((g : Given) → Contains values g → g.cycle ≡ cycle → g.port ≡ port → ⊥) → given_word values cycle port ≡ 0
+pub given_none : (values : List Given) (cycle port : ℕ) → ((g : Given) → Contains values g → g.cycle ≡ cycle → g.port ≡ port → ⊥) → given_word values cycle port ≡ 0
 given_none [] cycle port none = refl
 given_none (h ∷ values) cycle port none = by (nat_eq h.cycle cycle) (nat_eq h.port port) refl refl (given_none values cycle port (λ g c. none g (contains_later h values g c)))
   where
@@ -135,31 +145,41 @@ given_none (h ∷ values) cycle port none = by (nat_eq h.cycle cycle) (nat_eq h.
     by true false e f rest = rest
     by true true e f rest = absurd (none h (contains_here h values) (eqb-true h.cycle cycle e) (eqb-true h.port port f))
 
-module _ (d : Design) (x : Values) (values : List Given) (so : AreOfLines d x (length d.listing.ins) values) (fitting : HaveFittingWords d x) where
-  -- a value fits its port
-  for_port : (g : Given) → Contains values g → IsForPort d.module.inputs g
-  for_port g c =
-      let one = so.each g c in
-      let (port, at, named) = port_of d.module.inputs g.port one.line.wire one.is.port in
-      let (word, has, fits) = all_at (HasFittingWord d.module.inputs x) d.listing.ins one.number one.line fitting one.is_line in
-      let same : word ≡ g.value = one_some (sym has ∙ one.is.word) in
-      (port, at, subst (IsWord port.width.bits) same (all_at (λ (p : Port). one.line.wire ≡ p.name → IsWord p.width.bits word) d.module.inputs g.port port fits at (sym named)))
+-- the word that a line has for its point fits the port
+pub fits_port : (d : Design) (x : Values) (k : ℕ) (line : Entry) (g : Given) → HaveFittingWords d x → slice_get d.listing.ins k ≡ Some line → slice_get (names_of d.module.inputs) g.port ≡ Some line.wire
+    → x line.variable line.point ≡ Some g.value → IsForPort d.module.inputs g
+fits_port d x k line g fitting there place word_is =
+    let (port, at, named) = port_of d.module.inputs g.port line.wire place in
+    let (word, has, fits) = all_at (HasFittingWord d.module.inputs x) d.listing.ins k line fitting there in
+    let same : word ≡ g.value = one_some (sym has ∙ word_is) in
+    (port, at, subst (IsWord port.width.bits) same (all_at (λ (p : Port). line.wire ≡ p.name → IsWord p.width.bits word) d.module.inputs g.port port fits at (sym named)))
 
-  pub left : AreLeft d.module.inputs values 0 0 values
-  left = record {
-    words = λ c k from. refl;
-    ahead = first values;
-    ascending = so.ascending;
-    fit = all_of (IsForPort d.module.inputs) values for_port;
-  }
-    where
-      from_start : (c k : ℕ) → IsFrom 0 0 c k
-      from_start zero k = inr (refl, omega arith)
-      from_start (suc c) k = inl (omega arith)
+-- before the first cycle all values are left
+pub all_left : (inputs : List Port) (values : List Given) → AllPairs IsBefore values → ((g : Given) → Contains values g → IsForPort inputs g) → AreLeft inputs values 0 0 values
+all_left inputs values ascending for_port = record {
+  words = λ c k from. refl;
+  ahead = first values;
+  ascending = ascending;
+  fit = all_of (IsForPort inputs) values for_port;
+}
+  where
+    from_start : (c k : ℕ) → IsFrom 0 0 c k
+    from_start zero k = inr (refl, omega arith)
+    from_start (suc c) k = inl (omega arith)
 
-      first : (vs : List Given) → All (λ g. IsFrom 0 0 g.cycle g.port) vs
-      first [] = All-nil (λ g. IsFrom 0 0 g.cycle g.port)
-      first (g ∷ vs) = All-cons (λ g. IsFrom 0 0 g.cycle g.port) g vs (from_start g.cycle g.port) (first vs)
+    first : (vs : List Given) → All (λ g. IsFrom 0 0 g.cycle g.port) vs
+    first [] = All-nil (λ g. IsFrom 0 0 g.cycle g.port)
+    first (g ∷ vs) = All-cons (λ g. IsFrom 0 0 g.cycle g.port) g vs (from_start g.cycle g.port) (first vs)
+
+pub left : (d : Design) (x : Values) (values : List Given) → AreOfLines d x (length d.listing.ins) values → HaveFittingWords d x → AreLeft d.module.inputs values 0 0 values
+left d x values so fitting = all_left d.module.inputs values so.ascending (λ g c. let one = so.each g c in fits_port d x one.number one.line g fitting one.is_line one.is.port one.is.word)
+
+-- the port of a value carries it in its cycle
+pub carries : (m : Module) (s : Stimulus) (stream : Stream) (cycle : ℕ) (wire : List ℕ) (g : Given) → IsStimulated m s stream → AllPairs IsBefore s.values → Contains s.values g
+    → g.cycle ≡ cycle → slice_get (names_of m.inputs) g.port ≡ Some wire → stream.in_cycle cycle wire ≡ g.value
+carries m s stream cycle wire g stimulated ascending c now place =
+    let (port, at, named) = port_of m.inputs g.port wire place in
+    ap (stream.in_cycle cycle) (sym named) ∙ stimulated.in_cycles cycle g.port port at ∙ ap (λ n. given_word s.values n g.port) (sym now) ∙ given_at s.values g ascending c
 
 pub fed : (d : Design) (x : Values) (s : Stimulus) (stream : Stream) → AreOfLines d x (length d.listing.ins) s.values → IsStimulated d.module s stream → IsFed d x stream
 fed d x s stream so stimulated = record {
@@ -167,10 +187,7 @@ fed d x s stream so stimulated = record {
   listed = λ k e lt.
       let line = get_or d.listing.ins k e in
       let (g, c, is) = so.all k line lt (slice_get-get_or d.listing.ins k e lt) in
-      let (port, at, named) = port_of d.module.inputs g.port line.wire is.port in
-      let carried : stream.in_cycle line.cycle line.wire ≡ g.value =
-      ap (stream.in_cycle line.cycle) (sym named) ∙ stimulated.in_cycles line.cycle g.port port at ∙ ap (λ n. given_word s.values n g.port) (sym is.cycle) ∙ given_at s.values g so.ascending c in
-      ap Some carried ∙ sym is.word;
+      ap Some (carries d.module s stream line.cycle line.wire g stimulated so.ascending c is.cycle is.port) ∙ sym is.word;
   idle = λ c k e lt none.
       let port = get_or d.module.inputs k e in
       let at = slice_get-get_or d.module.inputs k e lt in

@@ -12,6 +12,12 @@ pub mod Sent
 pub mod Answered
 pub mod Scheduling
 pub mod LeastSchedules
+pub mod FedEach
+pub mod StreamOutputs
+pub mod StreamsShown
+pub mod SetsRead
+pub mod StreamSets
+pub mod StreamAnswers
 pub mod Tabling
 pub mod Emitting
 pub mod Fed

@@ -35,9 +35,8 @@ use Rattle.av_net.specs.Flat.{flat_of}
 use Rattle.av_net.specs.Presented.{AreApart, HasFittingWord, HaveFittingWords}
 use Rattle.av_net.proofs.FlatDesigns.{flat_is_sound_design}
 use Rattle.av_space.specs.declared.cells.Cells.{Cells}
-use Rattle.av_space.specs.Listings.{AtLine, IsAtLine}
-use Rattle.av_space.specs.Whole.{IsPresented}
-use Rattle.av_space.proofs.ByPlace.{from_map, pair_at, all_by_place, place_of}
+use Rattle.av_space.specs.Whole.{IsPresented, HasWholeListing}
+use Rattle.av_space.proofs.ByPlace.{pair_at, all_by_place}
 use Rattle.av_data.proofs.Outcome.{readable}
 use Rattle.av_data.proofs.OneData.{not_both}
 use Rattle.av_data.specs.Divisions.{IsDivided}
@@ -60,6 +59,7 @@ use Rattle.av_cli.specs.Runs.{RefusesRun, no_mark, bad_system, bad_data, HasData
 use Rattle.av_cli.specs.inner.Written.{IsPut, IsAnswered, refused, given, no_memory}
 use Rattle.av_cli.specs.inner.Reported.{GivesReport, RefusesRunWith, GivesReportWith, IsClockable, names_output, is_output_named, RefusesLines, AreResultsOf, IsTraceOf, GivesReported}
 use Rattle.av_compile.proofs.Meant.{meaning}
+use Rattle.av_compile.proofs.Promised.{line_declared}
 use Rattle.av_compile.proofs.OneRefusal.{memory_or_not}
 use Rattle.av_cli.proofs.Tabling.{not_unmapped}
 use Rattle.av_cli.proofs.Fed.{shows_words}
@@ -85,15 +85,19 @@ fitting_words t a d x declared presented widths inputs =
           (λ p is wire. subst (λ (n : ℕ). IsWord n w) (sym is) (inputs.words line.variable line.point w e)) d.module.inputs widths,
     )
 
+-- and so the flat design of a plan with the listing of the array has fitting words
+pub plan_fitting : (t : Timed) (a : Cells) (p : Plan) → HasWholeListing t a (flat_of p) → (x : Assignment) → AreInputsOf (view_system t.flat) x → HaveFittingWords (flat_of p) x
+plan_fitting t a p carries x inputs =
+    fitting_words t a (flat_of p) x (λ line is. is.0) (subst (λ (l : Listing). All (IsPresented (view_system t.flat) a) l.ins) (sym carries.listing) carries.whole.presented) carries.inputs.widths inputs
+
 pub clockable : (bytes : List ℕ) (sizes : List Size) (bits box : ℕ) (t : Timed) (a : Cells) (p : Plan) → Headline bytes sizes bits box t a p → IsMapped bytes sizes bits box t a → IsClockable t (flat_of p)
 clockable bytes sizes bits box t a p h m =
     let carries = h.plan.is_plan.carries in
-    let whole = carries.whole in
     record {
       chained = m.pipelined.legal.chained;
       sound = flat_is_sound_design p h.plan.is_plan.sound;
-      apart = subst (λ (l : Listing). AreApart l.ins) (sym carries.listing) whole.apart;
-      fitting = λ x inputs. fitting_words t a (flat_of p) x (λ line is. is.0) (subst (λ (l : Listing). All (IsPresented (view_system t.flat) a) l.ins) (sym carries.listing) whole.presented) carries.inputs.widths inputs;
+      apart = subst (λ (l : Listing). AreApart l.ins) (sym carries.listing) carries.whole.apart;
+      fitting = plan_fitting t a p carries;
     }
 
 -- ---- outputs
@@ -204,19 +208,6 @@ module _ (bytes : List ℕ) (sizes : List Size) (bits box : ℕ) (t : Timed) (a 
 
   -- ---- the lines of outputs
 
-  line_there : (i : ℕ) (line : Entry) → slice_get a.listing.ats i ≡ Some line → IsTrue (flat.is_declared is_shown (signatures own) line.variable line.point)
-  line_there i line e =
-      let list = h.plan.is_plan.carries.whole.list in
-      let b = from_map (λ (l : AtLine). l.entry) list.ats.lines i line (sym (ap (λ (es : List Entry). slice_get es i) list.ats.entries) ∙ e) in
-      let is = all_at (IsAtLine own list.placings a.cells a.outputs) list.ats.lines i b.0 list.ats.each b.1 in
-      let computation = is.computes.stands.computation in
-      let one : computation.variable ≡ is.variable = some_is computation.variable is.variable (sym computation.is ∙ is.is_variable) in
-      let within : IsTrue (has is.variable.domain b.0.entry.point) = subst (λ (v : Variable). IsTrue (has v.domain b.0.entry.point)) one computation.declared in
-      let at = place_of is_node own.variables b.0.node is.variable is.is_variable in
-      let there = declares own.variables is_shown at.0 is.variable b.0.entry.point at.1 within is.shown in
-      subst (λ (l : Entry). IsTrue (flat.is_declared is_shown (signatures own) l.variable l.point)) b.2
-      (subst (λ (n : Text). IsTrue (flat.is_declared is_shown (signatures own) n b.0.entry.point)) (sym is.variable_is) there)
-
   same_line : (i : ℕ) (line : Entry) → slice_get a.listing.ats i ≡ Some line → names_output own line.variable ≡ is_result (instance_of h.system sizes bits) line
   same_line i line e = same_truth (names_output own line.variable) (is_result (instance_of h.system sizes bits) line) into back
     where
@@ -226,7 +217,7 @@ module _ (bytes : List ℕ) (sizes : List Size) (bits box : ℕ) (t : Timed) (a 
       into : names_output own line.variable ≡ true → is_result (instance_of h.system sizes bits) line ≡ true
       into is =
           let (place, v, at, output, named) = named_output own.variables line.variable is in
-          let from = declared_from own.variables is_shown line.variable line.point (line_there i line e) in
+          let from = declared_from own.variables is_shown line.variable line.point (line_declared t a h.plan.is_plan.carries.whole i line e) in
           let one : from.variable ≡ v = one_variable own.variables names from.place place from.variable v from.at at (from.named ∙ sym named) in
           let within : IsTrue (has v.domain line.point) = subst (λ (u : Variable). IsTrue (has u.domain line.point)) one from.within in
           let there = declares own.variables (is_kind kind.Output) place v line.point at within (sym (output_kind v.kind) ∙ output) in

@@ -71,6 +71,28 @@ module _ (m : Module) (s : Stimulus) (lines : List Entry) (inputs c : ℕ) (cloc
         ∙ watched_more run.in_cycle (carried seen') c lines (agree_on m (carried seen') (run.in_cycle c) lines (agrees stream run stimulated is lt) named);
   }
 
+-- ---- a run under a stimulus
+
+-- the stream that a stimulus gives, and the run under it whose registers are 0 before the reset edge
+pub record HasRunUnder (m : Module) (s : Stimulus) : Type 0 where
+  pub stream : Stream
+  pub run : Run
+  pub stimulated : IsStimulated m s stream
+  pub is : IsRun m s.cycles stream run
+  pub powered : All (λ port. run.before port.name ≡ 0) m.registers
+
+pub run_under : (m : Module) (s : Stimulus) → IsSound m → HasRunUnder m s
+run_under m s sound =
+    let stream = stream_of m s in
+    let (run, is, before) = has_runs m sound s.cycles stream (λ name. 0) in
+    record {
+      stream = stream;
+      run = run;
+      stimulated = is_stream m s sound;
+      is = is;
+      powered = λ k e lt. ap (λ (v : Words). v (get_or m.registers k e).name) before;
+    }
+
 -- ---- a design
 
 -- the stream that a stimulus gives, and the run under it
@@ -83,15 +105,13 @@ pub record HasRun (d : Design) (x : Values) (s : Stimulus) : Type 0 where
 
 pub has_run : (d : Design) (x : Values) (s : Stimulus) → IsSound d.module → AreOfLines d x (length d.listing.ins) s.values → HasRun d x s
 has_run d x s sound so =
-    let stream = stream_of d.module s in
-    let stimulated = is_stream d.module s sound in
-    let (run, is, before) = has_runs d.module sound s.cycles stream (λ name. 0) in
+    let under = run_under d.module s sound in
     record {
-      stream = stream;
-      run = run;
-      stimulated = stimulated;
-      is = is;
-      clocked = record { stream = stream; fed = fed d x s stream so stimulated; powered = λ k e lt. ap (λ (v : Words). v (get_or d.module.registers k e).name) before; clocked = is };
+      stream = under.stream;
+      run = under.run;
+      stimulated = under.stimulated;
+      is = under.is;
+      clocked = record { stream = under.stream; fed = fed d x s under.stream so under.stimulated; powered = under.powered; clocked = under.is };
     }
 
 pub shown_so : (d : Design) (x : Values) (s : Stimulus) (words : List Word) → IsSound d.module → AreOfLines d x (length d.listing.ins) s.values → All (λ line. line.cycle < s.cycles) d.listing.ats

@@ -114,6 +114,9 @@ IsTrace words bits reach found = Asks (codes "trace") words bits reach found
 abbrev pub IsBest : List (List ℕ) → ℕ → ℕ → List Size → Type 0
 IsBest words bits reach found = Asks (codes "best") words bits reach found
 
+abbrev pub IsStream : List (List ℕ) → ℕ → ℕ → List Size → Type 0
+IsStream words bits reach found = Asks (codes "stream") words bits reach found
+
 -- nothing, or `--` alone
 abbrev pub IsBare : List (List ℕ) → Type 0
 IsBare words = (words ≡ []) ⊎ (words ≡ codes "--" ∷ [])
@@ -152,6 +155,7 @@ TakeInput words =
     ⊎ ((bits : ℕ) × (reach : ℕ) × (found : List Size) × IsRun words bits reach found)
     ⊎ ((bits : ℕ) × (reach : ℕ) × (found : List Size) × IsTrace words bits reach found)
     ⊎ ((bits : ℕ) × (reach : ℕ) × (found : List Size) × IsBest words bits reach found)
+    ⊎ ((bits : ℕ) × (reach : ℕ) × (found : List Size) × IsStream words bits reach found)
 
 -- `demo`, which reads none
 abbrev pub AskDemo : List (List ℕ) → Type 0
@@ -161,4 +165,4 @@ abbrev pub AreRead : List (List ℕ) → Type 0
 AreRead words = TakeInput words ⊎ AskDemo words
 
 abbrev pub usage_line : List ℕ
-usage_line = codes "usage: alphav check|schedule|table|emit|run|trace|best [--width W] [--box C] [NAME=VALUE ...] | sim | demo K\n"
+usage_line = codes "usage: alphav check|schedule|table|emit|run|trace|best|stream [--width W] [--box C] [NAME=VALUE ...] | sim | demo K\n"

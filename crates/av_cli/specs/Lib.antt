@@ -11,5 +11,6 @@ pub mod Tables
 pub mod Shown
 pub mod Runs
 pub mod Bests
+pub mod Streams
 pub mod Demos
 pub mod inner

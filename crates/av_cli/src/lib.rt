@@ -20,6 +20,7 @@ mod size_word;
 mod sizes;
 mod standard;
 mod status;
+mod stream;
 mod table;
 mod words;
 

@@ -15,6 +15,7 @@ use crate::runs::{Report, answer_run};
 use crate::schedule::schedule;
 use crate::sim::sim;
 use crate::status::Status;
+use crate::stream::stream;
 use crate::table::table;
 use crate::words::{Command, read_words};
 use av_base::limits::MOST_BYTES;
@@ -22,7 +23,7 @@ use av_base::{Name, ReadAll, Sink, Source, read_all};
 use std::alloc::Global;
 
 const USAGE: &str =
-    "usage: alphav check|schedule|table|emit|run|trace|best [--width W] [--box C] [NAME=VALUE ...] | sim | demo K\n";
+    "usage: alphav check|schedule|table|emit|run|trace|best|stream [--width W] [--box C] [NAME=VALUE ...] | sim | demo K\n";
 
 const TOO_LONG: &str = "refused: too long\n";
 
@@ -85,6 +86,7 @@ fn answer<K: Sink>(
             answer_run(alloc, words, bytes, width, reach, Report::Trace, sink)
         }
         Command::Best { width, reach } => best(alloc, words, bytes, width, reach, sink),
+        Command::Stream { width, reach } => stream(alloc, words, bytes, width, reach, sink),
         Command::Sim => sim(alloc, bytes, sink),
         Command::Demo { width, reach, size } => demo(alloc, size, width, reach, sink),
     }

@@ -1,6 +1,6 @@
 //! What a design shows of words that its inputs are given.
 
-ghost use Rattle.std.specs.Prelude.{◌≡◌, ◌<◌, ◌≤◌, ◌+◌, ◌^◌, ◌∷◌, [], map, length, drop, slice_get, Some, None, IsTrue, All, AllPairs, Contains, IfOk, OnOk, IfSome, IfNone};
+ghost use Rattle.std.specs.Prelude.{◌≡◌, ◌<◌, ◌≤◌, ◌+◌, ◌*◌, ◌^◌, ◌∷◌, [], map, length, drop, slice_get, Some, None, IsTrue, All, AllPairs, Contains, IfOk, OnOk, IfSome, IfNone};
 ghost use Rattle.av_net.specs.Clocked.{Stream as Ports, Run as Clocked, IsRun};
 ghost use Rattle.av_net.specs.Designs.{IsSoundDesign};
 ghost use Rattle.av_net.specs.Names.{names_of, targets_of, wire_names, AreDistinct};
@@ -8,11 +8,13 @@ ghost use Rattle.av_net.specs.Presented.{AreApart, HaveFittingWords};
 ghost use Rattle.av_net.specs.Shown.{Values};
 ghost use Rattle.av_net.specs.Sound.{IsSound};
 ghost use Rattle.av_clock.specs.Seen.{carried};
+ghost use Rattle.av_stream.specs.Streams.{AreApartEach};
 ghost use Rattle.av_data.specs.Inputs.{words_of};
 ghost use Rattle.av_cli.specs.Simulated.{IsStimulated};
 ghost use Rattle.av_cli.specs.inner.Clocking.{AreLeft};
 ghost use Rattle.av_cli.specs.Shown.{AreSmall, AreShown};
 ghost use Rattle.av_cli.specs.inner.Feeding.{AreOfLines};
+ghost use Rattle.av_cli.specs.inner.Streaming.{AreOfProblems};
 ghost use Rattle.av_cli.specs.inner.Watching.{bits_of, AreTaps, noted, watched};
 
 use crate::simulation::{are_numbered, place_of, present, targets, zeros};
@@ -76,6 +78,42 @@ pub(crate) fn feed<D: Data>(
     let mut timeline = Timeline::new(alloc);
     for line in design.listing.ins.as_slice() {
         timeline.give(given_of(&ports, values, line))?;
+    }
+    Ok(Stimulus {
+        cycles,
+        values: timeline.list(alloc)?,
+    })
+}
+
+/// What the `in` lines of a design present of each of these inputs, a period later than of the one before it, in so many cycles.
+pub(crate) fn feed_each<D: Data>(
+    alloc: Global,
+    design: &Design,
+    problems: &[D],
+    period: u32,
+    cycles: u32,
+) -> Result<Stimulus, Memory>
+    requires sound { IsSoundDesign design.now }
+    requires apart { AreApartEach design.now.listing.ins period }
+    requires words { All (λ x. HaveFittingWords design.now (D.words x)) problems.now }
+    requires few { length problems.now * period ≤ 8192 }
+    ensures cycles { IfOk result (λ s. s.cycles ≡ cycles) }
+    ensures values { IfOk result (λ s. AreOfProblems design.now period (map D.words problems.now) s.values) }
+{
+    let ports = port_places(alloc, design.module.inputs.as_slice())?;
+    are_numbered(&design.module.inputs);
+    let mut timeline = Timeline::new(alloc);
+    let mut start = 0;
+    for values in problems {
+        for line in design.listing.ins.as_slice() {
+            let given = given_of(&ports, values, line);
+            timeline.give(Given {
+                cycle: given.cycle + start,
+                port: given.port,
+                value: given.value,
+            })?;
+        }
+        start += period;
     }
     Ok(Stimulus {
         cycles,

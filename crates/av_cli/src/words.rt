@@ -49,6 +49,11 @@ pub(crate) enum Command {
         width: Width,
         reach: Reach,
     },
+    /// The design of a system's array that takes problem after problem, and each cycle of it on data sets. Its sizes stand in the words.
+    Stream {
+        width: Width,
+        reach: Reach,
+    },
     /// The run of a module under a stimulus.
     Sim,
     /// The product of two matrices of a size, by an array.
@@ -73,6 +78,7 @@ impl Command {
             | Command::Run { .. }
             | Command::Trace { .. }
             | Command::Best { .. }
+            | Command::Stream { .. }
             | Command::Sim => true,
         }
     }
@@ -111,6 +117,10 @@ pub(crate) fn read_words(words: &[Name]) -> Option<Command>
         "best" => {
             let (width, reach) = read_width_and_reach(words)?;
             Some(Command::Best { width, reach })
+        }
+        "stream" => {
+            let (width, reach) = read_width_and_reach(words)?;
+            Some(Command::Stream { width, reach })
         }
         "sim" if is_bare(words) => Some(Command::Sim),
         "demo" => {

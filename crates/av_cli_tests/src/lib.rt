@@ -33,6 +33,8 @@ mod standard;
 #[cfg(test)]
 mod stimuli;
 #[cfg(test)]
+mod streams;
+#[cfg(test)]
 mod tables;
 #[cfg(test)]
 mod texts;

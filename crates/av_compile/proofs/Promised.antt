@@ -19,6 +19,7 @@ use Rattle.av_flat.specs.Signatures as flat
 use Rattle.av_flat.specs.Signatures.{rank, is_kind, is_shown, is_computed, signatures}
 use Rattle.av_flat.specs.Shown.{SameMeaning}
 use Rattle.av_flat.specs.Solutions.{shows_of, declares_of, Shows as ShowsFlat}
+use Rattle.av_flat.specs.OneSolution.{HasOneSolution}
 use Rattle.av_flat.specs.Nodes.{is_node, number_at}
 use Rattle.av_flat.proofs.Cycles.{node_at, is_node_with}
 use Rattle.av_flat.proofs.Solving.{declared_from, declares}
@@ -36,7 +37,7 @@ use Rattle.av_names.proofs.Declared.{declared_parts}
 use Rattle.av_normal.specs.NormalForm.{IsNormalForm}
 use Rattle.av_space.specs.declared.cells.Cells.{Cells}
 use Rattle.av_space.specs.Listings.{AtLine, IsAtLine}
-use Rattle.av_space.specs.Whole.{IsListedOnce}
+use Rattle.av_space.specs.Whole.{IsListedOnce, IsWhole}
 use Rattle.av_space.proofs.ByPlace.{from_map, all_by_place, place_of}
 use Rattle.av_build.specs.ArrayPlans.{IsPlanOf, ShowsSolution}
 use Rattle.av_compile.specs.Scheduled.{HasOneSolutionEach}
@@ -62,6 +63,46 @@ either : (a b : Bool) → IsTrue (a || b) → IsTrue a ⊎ IsTrue b
 either true b h = inl refl
 either false b h = inr h
 
+-- ---- the lines of what is shown
+
+-- the point of a line is one that the chained system shows
+pub line_declared : (t : Timed) (a : Cells) → IsWhole t a → (i : ℕ) (line : Entry) → slice_get a.listing.ats i ≡ Some line → IsTrue (flat.is_declared is_shown (signatures (view_system t.flat)) line.variable line.point)
+line_declared t a whole i line e =
+    let own = view_system t.flat in
+    let list = whole.list in
+    let b = from_map (λ (l : AtLine). l.entry) list.ats.lines i line (sym (ap (λ (es : List Entry). slice_get es i) list.ats.entries) ∙ e) in
+    let is = all_at (IsAtLine own list.placings a.cells a.outputs) list.ats.lines i b.0 list.ats.each b.1 in
+    let computation = is.computes.stands.computation in
+    let one : computation.variable ≡ is.variable = some_is computation.variable is.variable (sym computation.is ∙ is.is_variable) in
+    let within : IsTrue (has is.variable.domain b.0.entry.point) = subst (λ (v : Variable). IsTrue (has v.domain b.0.entry.point)) one computation.declared in
+    let at = place_of is_node own.variables b.0.node is.variable is.is_variable in
+    let there = declares own.variables is_shown at.0 is.variable b.0.entry.point at.1 within is.shown in
+    subst (λ (l : Entry). IsTrue (flat.is_declared is_shown (signatures own) l.variable l.point)) b.2
+    (subst (λ (n : Text). IsTrue (flat.is_declared is_shown (signatures own) n b.0.entry.point)) (sym is.variable_is) there)
+
+-- ---- solutions
+
+module _ (bytes : List ℕ) (words : List Size) (width c : ℕ) (t : Timed) (a : Cells) (short : length bytes < 4294967295) (h : IsMapped bytes words width c t a) (s : System) (program : IsProgramText bytes s)
+    (each : HasOneSolutionEach bytes words width) where
+  abbrev chained : FlatSystem
+  chained = view_system t.flat
+
+  same : SameMeaning (shows_in (instance_of s words width)) (declares_in (instance_of s words width)) (shows_of chained) (declares_of chained)
+  same = meaning bytes words width chained short h.pipelined.serialises s program
+
+  module _ (x u : Assignment) (are : text.AreInputs (instance_of s words width) x) (solves : text.IsSolution (instance_of s words width) x u) (one : HasOneSolution chained x) where
+    -- where the chained system's solution has a word, the text's has it
+    agrees : (variable : Text) (z : Point) (w : ℕ) → IsTrue (flat.is_declared is_shown (signatures chained) variable z) → one.solution variable z ≡ Some w → u variable z ≡ Some w
+    agrees variable z w declared e =
+        let said : ShowsFlat chained x variable z w = record { solution = one.solution; solves = one.solves; shown = declared; word = e } in
+        let told = (same.shown x variable z w).1 said in
+        let only = each s program x are in
+        ap (λ (v : Assignment). v variable z) (only.only u solves ∙ sym (only.only told.solution told.solves)) ∙ told.word
+
+    -- a line that has the word of the chained system's solution has that of the text's
+    pub line_agrees : (n : ℕ) (in_cycle : ℕ → Words) (line : Entry) → IsTrue (flat.is_declared is_shown (signatures chained) line.variable line.point) → HasListed n in_cycle one.solution line → HasListed n in_cycle u line
+    line_agrees n in_cycle line declared has = λ lt. sym (agrees line.variable line.point (in_cycle line.cycle line.wire) declared (sym (has lt)))
+
 module _ (bytes : List ℕ) (words : List Size) (width c : ℕ) (t : Timed) (a : Cells) (p : Plan) (short : length bytes < 4294967295) (wide : 1 ≤ width)
     (h : IsMapped bytes words width c t a) (g : IsPlanOf t a p) (s : System) (program : IsProgramText bytes s) (each : HasOneSolutionEach bytes words width) where
   abbrev own : FlatSystem
@@ -70,14 +111,11 @@ module _ (bytes : List ℕ) (words : List Size) (width c : ℕ) (t : Timed) (a :
   abbrev d : Design
   d = flat_of p
 
-  same : SameMeaning (shows_in (instance_of s words width)) (declares_in (instance_of s words width)) (shows_of own) (declares_of own)
-  same = meaning bytes words width own short h.pipelined.serialises s program
-
   -- ---- every declared point is listed once
 
   listed_as : (k : Kind) → IsTrue (is_shown k) → IsTrue (is_computed k) → (variable : Text) (z : Point) → declares_in (instance_of s words width) k variable z → IsListedOnce a.listing.ats variable z
   listed_as k shown computes variable z declared =
-      let there = (same.declared k shown variable z).0 declared in
+      let there = ((same bytes words width c t a short h s program each).declared k shown variable z).0 declared in
       let from = declared_from own.variables (is_kind k) variable z there in
       let computed = computed_as k from.variable.kind from.kind computes in
       let node = node_at is_node own.variables from.place from.variable from.at (is_node_with own h.pipelined.legal.proper from.place from.variable z from.at computed from.within) in
@@ -103,34 +141,9 @@ module _ (bytes : List ℕ) (words : List Size) (width c : ℕ) (t : Timed) (a :
 
   -- ---- the listed wires have the words of the text's solution
 
-  -- the point of a line is one that the chained system shows
-  line_declared : (i : ℕ) (line : Entry) → slice_get a.listing.ats i ≡ Some line → IsTrue (flat.is_declared is_shown (signatures own) line.variable line.point)
-  line_declared i line e =
-      let list = h.whole.list in
-      let b = from_map (λ (l : AtLine). l.entry) list.ats.lines i line (sym (ap (λ (es : List Entry). slice_get es i) list.ats.entries) ∙ e) in
-      let is = all_at (IsAtLine own list.placings a.cells a.outputs) list.ats.lines i b.0 list.ats.each b.1 in
-      let computation = is.computes.stands.computation in
-      let one : computation.variable ≡ is.variable = some_is computation.variable is.variable (sym computation.is ∙ is.is_variable) in
-      let within : IsTrue (has is.variable.domain b.0.entry.point) = subst (λ (v : Variable). IsTrue (has v.domain b.0.entry.point)) one computation.declared in
-      let at = place_of is_node own.variables b.0.node is.variable is.is_variable in
-      let there = declares own.variables is_shown at.0 is.variable b.0.entry.point at.1 within is.shown in
-      subst (λ (l : Entry). IsTrue (flat.is_declared is_shown (signatures own) l.variable l.point)) b.2
-      (subst (λ (n : Text). IsTrue (flat.is_declared is_shown (signatures own) n b.0.entry.point)) (sym is.variable_is) there)
-
   module _ (x u : Assignment) (are : text.AreInputs (instance_of s words width) x) (solves : text.IsSolution (instance_of s words width) x u) where
     shown : ShowsSolution t d x
     shown = g.shows x (inputs bytes words width own short h.pipelined.serialises s program wide x are)
-
-    -- where the chained system's solution has a word, the text's has it
-    agrees : (variable : Text) (z : Point) (w : ℕ) → IsTrue (flat.is_declared is_shown (signatures own) variable z) → shown.one.solution variable z ≡ Some w → u variable z ≡ Some w
-    agrees variable z w declared e =
-        let said : ShowsFlat own x variable z w = record { solution = shown.one.solution; solves = shown.one.solves; shown = declared; word = e } in
-        let told = (same.shown x variable z w).1 said in
-        let one = each s program x are in
-        ap (λ (v : Assignment). v variable z) (one.only u solves ∙ sym (one.only told.solution told.solves)) ∙ told.word
-
-    line_shows : (n : ℕ) (in_cycle : ℕ → Words) (i : ℕ) (line : Entry) → slice_get a.listing.ats i ≡ Some line → HasListed n in_cycle shown.one.solution line → HasListed n in_cycle u line
-    line_shows n in_cycle i line e has = λ lt. sym (agrees line.variable line.point (in_cycle line.cycle line.wire) (line_declared i line e) (sym (has lt)))
 
     shows : Shows d x u
     shows = λ n stream run is presents.
@@ -138,7 +151,9 @@ module _ (bytes : List ℕ) (words : List Size) (width c : ℕ) (t : Timed) (a :
         let all = subst (λ (l : Listing). All (HasListed n run.in_cycle shown.one.solution) l.ats) g.is_plan.carries.listing ats in
         subst (λ (l : Listing). All (HasListed n run.in_cycle u) l.ats) (sym g.is_plan.carries.listing)
         (all_by_place (HasListed n run.in_cycle u) a.listing.ats
-        (λ i line e. line_shows n run.in_cycle i line e (all_at (HasListed n run.in_cycle shown.one.solution) a.listing.ats i line all e)))
+        (λ i line e.
+        line_agrees bytes words width c t a short h s program each x u are solves shown.one n run.in_cycle line (line_declared t a h.whole i line e)
+        (all_at (HasListed n run.in_cycle shown.one.solution) a.listing.ats i line all e)))
 
   computes : Computes (instance_of s words width) d
   computes = record {

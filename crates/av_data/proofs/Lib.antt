@@ -23,6 +23,7 @@ pub mod Sorting
 pub mod Lined
 pub mod Told
 pub mod Divided
+pub mod SetLines
 pub mod Fits
 pub mod Timeds
 pub mod Tabled

@@ -4,6 +4,7 @@ pub mod Stimuli
 pub mod Reading
 pub mod Kept
 pub mod Divisions
+pub mod Sets
 pub mod Schedules
 pub mod Tables
 pub mod Inputs

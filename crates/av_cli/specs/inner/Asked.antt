@@ -2,14 +2,15 @@
 use Rattle.std.specs.Prelude.{ℕ, List}
 use Rattle.av_names.specs.declared.size.Size.{Size}
 use Rattle.av_cli.specs.declared.words.Command.{Command}
-use Rattle.av_cli.specs.declared.words.Command.TheVariants.{Check, Schedule, Table, Emit, Run, Trace, Best, Sim, Demo}
-use Rattle.av_cli.specs.Commands.{IsCheck, IsSchedule, IsTable, IsEmit, IsRun, IsTrace, IsBest}
+use Rattle.av_cli.specs.declared.words.Command.TheVariants.{Check, Schedule, Table, Emit, Run, Trace, Best, Stream, Sim, Demo}
+use Rattle.av_cli.specs.Commands.{IsCheck, IsSchedule, IsTable, IsEmit, IsRun, IsTrace, IsBest, IsStream}
 use Rattle.av_cli.specs.Checks.{RefusesCheck, GivesCheck}
 use Rattle.av_cli.specs.Schedules.{RefusesSchedule, GivesSchedule}
 use Rattle.av_cli.specs.Tables.{RefusesTable, GivesTable}
 use Rattle.av_cli.specs.Sims.{RefusesSim, GivesSim}
 use Rattle.av_cli.specs.Runs.{RefusesRun, GivesResults, GivesTrace}
 use Rattle.av_cli.specs.Bests.{RefusesBest, GivesBest}
+use Rattle.av_cli.specs.Streams.{RefusesStream, GivesStream}
 use Rattle.av_cli.specs.Demos.{GivesDemo}
 use Rattle.av_cli.specs.inner.WithWords.{GivesMapped}
 
@@ -21,6 +22,7 @@ Refuses (Emit width reach) words bytes reason = (sizes : List Size) × IsEmit wo
 Refuses (Run width reach) words bytes reason = (sizes : List Size) × IsRun words width.bits reach.size sizes × RefusesRun sizes width.bits reach.size bytes reason
 Refuses (Trace width reach) words bytes reason = (sizes : List Size) × IsTrace words width.bits reach.size sizes × RefusesRun sizes width.bits reach.size bytes reason
 Refuses (Best width reach) words bytes reason = (sizes : List Size) × IsBest words width.bits reach.size sizes × RefusesBest sizes width.bits reach.size bytes reason
+Refuses (Stream width reach) words bytes reason = (sizes : List Size) × IsStream words width.bits reach.size sizes × RefusesStream sizes width.bits reach.size bytes reason
 Refuses (Demo width reach k) words bytes reason = ⊥
 Refuses Sim words bytes reason = RefusesSim bytes reason
 
@@ -32,5 +34,6 @@ Gives (Emit width reach) words bytes out = (sizes : List Size) × IsEmit words w
 Gives (Run width reach) words bytes out = (sizes : List Size) × IsRun words width.bits reach.size sizes × GivesResults sizes width.bits reach.size bytes out
 Gives (Trace width reach) words bytes out = (sizes : List Size) × IsTrace words width.bits reach.size sizes × GivesTrace sizes width.bits reach.size bytes out
 Gives (Best width reach) words bytes out = (sizes : List Size) × IsBest words width.bits reach.size sizes × GivesBest sizes width.bits reach.size bytes out
+Gives (Stream width reach) words bytes out = (sizes : List Size) × IsStream words width.bits reach.size sizes × GivesStream sizes width.bits reach.size bytes out
 Gives (Demo width reach k) words bytes out = GivesDemo k width.bits reach.size out
 Gives Sim words bytes out = GivesSim bytes out

@@ -1,6 +1,6 @@
 use Rattle.std.proofs.Common.{subst}
 use Rattle.av_cli.specs.declared.words.Command.{Command}
-use Rattle.av_cli.specs.declared.words.Command.TheVariants.{Check, Schedule, Table, Emit, Run, Trace, Best, Sim, Demo}
+use Rattle.av_cli.specs.declared.words.Command.TheVariants.{Check, Schedule, Table, Emit, Run, Trace, Best, Stream, Sim, Demo}
 use Rattle.av_cli.specs.inner.CommandsSeen.{Are}
 use Rattle.av_cli.proofs.Answered.{by_command}
 use Rattle.av_cli.proofs.Checking.{check_answered}
@@ -9,6 +9,7 @@ use Rattle.av_cli.proofs.Tabling.{table_answered}
 use Rattle.av_cli.proofs.Emitting.{emit_answered}
 use Rattle.av_cli.proofs.Reporting.{run_words, trace_words}
 use Rattle.av_cli.proofs.LeastSchedules.{best_answered}
+use Rattle.av_cli.proofs.StreamAnswers.{stream_answered}
 use Rattle.av_cli.proofs.Outputs.{puts_given}
 use Rattle.av_cli.proofs.program.answer.Goals as goal
 
@@ -75,6 +76,15 @@ returns-in-Best g c =
     let reach = c.in-Best.reach in
     by_command c.args.command (Best width reach) words bytes c.in-Best.is
     (best_answered words width.bits reach.size bytes (subst (λ (x : Command). Are x words) c.in-Best.is c.requires.read) c.best.ensures)
+
+pub returns-in-Stream : goal.returns-in-Stream
+returns-in-Stream g c =
+    let words = c.args.words.now in
+    let bytes = c.args.bytes.now in
+    let width = c.in-Stream.width in
+    let reach = c.in-Stream.reach in
+    by_command c.args.command (Stream width reach) words bytes c.in-Stream.is
+    (stream_answered words width.bits reach.size bytes (subst (λ (x : Command). Are x words) c.in-Stream.is c.requires.read) c.stream.ensures)
 
 pub returns-in-Demo : goal.returns-in-Demo
 returns-in-Demo g c = by_command c.args.command (Demo c.in-Demo.width c.in-Demo.reach c.in-Demo.size) c.args.words.now c.args.bytes.now c.in-Demo.is (puts_given (λ out given. given) c.demo.ensures)

@@ -1,0 +1,11 @@
+pub mod Images
+pub mod NodeVariables
+pub mod StandingPoints
+pub mod Quotients
+pub mod CellSpans
+pub mod PeriodSteps
+pub mod Apart
+pub mod EachProblem
+pub mod Presenting
+pub mod Counted
+pub mod StreamOf

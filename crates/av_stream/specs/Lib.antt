@@ -1,0 +1,5 @@
+pub mod Periods
+pub mod Streams
+pub mod StreamPlans
+pub mod StreamTexts
+pub mod inner
