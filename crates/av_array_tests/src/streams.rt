@@ -84,11 +84,7 @@ const MATRICES: &[Row] = &[
     (MATRIX_VECTOR, &[("N", 2)], 3),
     (MATRIX_VECTOR, &[("N", 4)], 5),
     (MATRIX_PRODUCT, &[("N", 2)], 2),
-    (
-        RECTANGULAR_PRODUCT,
-        &[("N", 2), ("K", 3), ("M", 4)],
-        4,
-    ),
+    (RECTANGULAR_PRODUCT, &[("N", 2), ("K", 3), ("M", 4)], 4),
     (FORWARD, &[("N", 3)], 5),
     (TRIANGULAR_SOLVE, &[("N", 4), ("M", 3)], 3),
     (ROW_SUMS, &[], 3),

@@ -15,11 +15,7 @@ pub struct DataSet<'a> {
 }
 
 /// The data sets that lines `%%` divide, of which there is one more than there are such lines. The first line of the bytes has this number.
-pub fn data_sets(
-    alloc: Global,
-    bytes: &[u8],
-    first_line: u32,
-) -> Result<List<DataSet<'_>>, Memory>
+pub fn data_sets(alloc: Global, bytes: &[u8], first_line: u32) -> Result<List<DataSet<'_>>, Memory>
     requires { first_line + length bytes.now < 4294967294 }
     ensures sets { IfOk result (AreSets bytes.now first_line) }
     ensures within { IfOk result (All (λ set. set.first_line + length set.bytes.now < 4294967295)) }

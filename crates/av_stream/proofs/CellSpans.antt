@@ -123,12 +123,15 @@ module _ (t : Timed) (cycles : ℕ) (cell : Cell) (v : Variable) (time : Time) (
   stands placings are c n z h =
       let node : n ≡ cell.node = sym h.node in
       let p : h.placing ≡ placing = some_is h.placing placing (sym h.is_placing ∙ ap (slice_get placings) node ∙ there placings are) in
-      let here = computed_has own cell.node v z of.is_variable (subst (λ k. IsComputation own k z) node h.computation) in
-      (z, here, record {
-        size = (of_point z here).size ∙ sym indices;
-        coordinates = h.at ∙ ap (λ (q : Placing). along q.rows z) p;
-        in_cycle = h.in_cycle ∙ ap (λ (q : Placing). cycle q.time z) p;
-      })
+      let here = computed_has own cell.node v z of.is_variable (subst (λ k. IsComputation own k z) node h.computation) in (
+        z,
+        here,
+        record {
+          size = (of_point z here).size ∙ sym indices;
+          coordinates = h.at ∙ ap (λ (q : Placing). along q.rows z) p;
+          in_cycle = h.in_cycle ∙ ap (λ (q : Placing). cycle q.time z) p;
+        },
+      )
 
   -- and such a point is a computation on the cell
   pub occupies : (placings : List Placing) → ArePlacings t.times placings → (c : ℕ) → (h : Stands v placing cell.at c) → Occupies own placings cell c cell.node h.0

@@ -20,7 +20,6 @@ use Rattle.av_build.proofs.WithinCount.{few_cycles_of}
 use Rattle.av_stream.specs.Periods.{IsSpan, IsPeriod, HasPeriod}
 
 module _ (t : Timed) (a : Cells) (period : ℕ) (has : HasPeriod t a period) where
-
   pub within_count : IsWithinCount t a (Phases period)
   within_count = λ placings are p c d m n y z h g.
       (subst (λ (q : List Placing). IsPeriod (view_system t.flat) q a.cells period) (one_placings t.times has.placings placings has.are_placings are) has.is_period).enough p c d m n y z h g
