@@ -340,7 +340,8 @@ exclude_demo words bytes demo (reason, inr (inr (inr (inr (inl (short, (bits, bo
 exclude_demo words bytes demo (reason, inr (inr (inr (inr (inr (inl (short, (bits, box, sizes, other, r)))))))) = demo_alone words (inr (inr (inr (inr (inl (bits, box, sizes, other)))))) demo
 exclude_demo words bytes demo (reason, inr (inr (inr (inr (inr (inr (inl (short, (bits, box, sizes, other, r))))))))) = demo_alone words (inr (inr (inr (inr (inr (inl (bits, box, sizes, other))))))) demo
 exclude_demo words bytes demo (reason, inr (inr (inr (inr (inr (inr (inr (inl (short, (bits, box, sizes, other, r)))))))))) = demo_alone words (inr (inr (inr (inr (inr (inr (inl (bits, box, sizes, other)))))))) demo
-exclude_demo words bytes demo (reason, inr (inr (inr (inr (inr (inr (inr (inr (short, (bits, box, sizes, other, r)))))))))) = demo_alone words (inr (inr (inr (inr (inr (inr (inr (bits, box, sizes, other)))))))) demo
+exclude_demo words bytes demo (reason, inr (inr (inr (inr (inr (inr (inr (inr (inl (short, (bits, box, sizes, other, r))))))))))) = demo_alone words (inr (inr (inr (inr (inr (inr (inr (inl (bits, box, sizes, other))))))))) demo
+exclude_demo words bytes demo (reason, inr (inr (inr (inr (inr (inr (inr (inr (inr (short, (bits, box, sizes, other, r))))))))))) = demo_alone words (inr (inr (inr (inr (inr (inr (inr (inr (bits, box, sizes, other))))))))) demo
 
 exclusive : (command : Command) (words : List (List ℕ)) (bytes out : List ℕ) → Are command words → length bytes ≤ 1048576 → Gives command words bytes out → HasRefusal words bytes → ⊥
 exclusive (Check width) words bytes out are within g refusal = exclude_check words width.bits bytes out g.0 g.1 within g.2 refusal

@@ -19,7 +19,6 @@ use Rattle.av_flat.specs.Trees.{FlatSystem, Variable, view_system}
 use Rattle.av_flat.specs.Signatures as flat
 use Rattle.av_flat.specs.Signatures.{Signature, signatures, is_input, is_kind, is_shown}
 use Rattle.av_flat.specs.Points.{has}
-use Rattle.av_flat.specs.Nodes.{is_node}
 use Rattle.av_flat.proofs.Solving.{declared_from, declares}
 use Rattle.av_flat.specs.Shown.{SameMeaning}
 use Rattle.av_flat.specs.Solutions.{shows_of, declares_of}
@@ -65,7 +64,7 @@ use Rattle.av_cli.proofs.Tabling.{not_unmapped}
 use Rattle.av_cli.proofs.Fed.{shows_words}
 use Rattle.av_compile.proofs.OneChain.{one_chained}
 use Rattle.av_base.proofs.Truths.{and_true, same_truth}
-use Rattle.av_base.proofs.Lists.{all_at, some_is}
+use Rattle.av_base.proofs.Lists.{some_is}
 
 -- ---- a design of a text can be clocked
 

@@ -2,7 +2,6 @@ use Rattle.std.proofs.Common.{refl, sym, subst, map}
 use Rattle.std.proofs.lemmas.List.Elements.{All-map}
 use Rattle.av_net.specs.declared.design.Design.{Design}
 use Rattle.av_net.specs.Designs.{IsSoundDesign}
-use Rattle.av_net.specs.Flat.{flat_of}
 use Rattle.av_net.specs.Presented.{HaveFittingWords}
 use Rattle.av_net.specs.Sound.{IsSound}
 use Rattle.av_net.proofs.FlatDesigns.{flat_is_sound_design}

@@ -1,4 +1,4 @@
-use Rattle.std.proofs.Common.{ℕ, List, All, length, map, sym, subst, arith}
+use Rattle.std.proofs.Common.{ℕ, List, All, length, sym, subst, arith}
 use Rattle.std.proofs.lemmas.List.Elements.{All-weaker}
 use Rattle.av_flat.specs.Trees.{view_system}
 use Rattle.av_net.specs.declared.design.Design.{Design}
@@ -8,7 +8,6 @@ use Rattle.av_net.specs.Presented.{HaveFittingWords}
 use Rattle.av_stream.specs.Streams.{AreApartEach}
 use Rattle.av_stream.proofs.Counted.{counts}
 use Rattle.av_data.specs.Inputs.{InputWords, words_of, AreInputsOf}
-use Rattle.av_cli.specs.inner.Streaming.{IsStreamed}
 use Rattle.av_cli.proofs.FedEach.{few_starts}
 use Rattle.av_cli.proofs.Outputs.{puts_more}
 use Rattle.av_cli.proofs.Reporting.{plan_fitting}

@@ -1,4 +1,4 @@
-use Rattle.std.proofs.Common.{◌≡◌, ◌∙◌, ℕ, ◌+◌, ◌<◌, List, All, length, map, ap, refl, sym, subst, arith}
+use Rattle.std.proofs.Common.{◌≡◌, ◌∙◌, ◌+◌, ◌<◌, List, All, length, map, ap, sym, subst, arith}
 use Rattle.av_data.specs.declared.fault.DataFault.TheVariants as data_fault
 use Rattle.av_data.specs.declared.sets.DataSet.{DataSet}
 use Rattle.av_data.specs.Inputs.{InputWords, words_of, AreInputsOf}

@@ -1,4 +1,4 @@
-use Rattle.std.proofs.Common.{◌≡◌, ◌++◌, ℕ, List, subst, sym}
+use Rattle.std.proofs.Common.{◌++◌, subst}
 use Rattle.std.specs.Prelude.{codes}
 use Rattle.av_base.specs.Outside.{Adds, AddsPrefix}
 use Rattle.av_base.proofs.Moves.{on_err, Adds-more}
