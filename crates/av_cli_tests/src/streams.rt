@@ -169,7 +169,7 @@ const STREAMED: &[(&[&str], &str, &str, &str, &str)] = &[
     (
         &["stream", "--width", "4"],
         RUNNING_SUMS,
-        "%%\nX (0) = 7\nX (1) = 9\nX (2) = 1\n%%\r\nX (0) = 1\nX (1) = 2\nX (2) = 3\n%%\nX (0) = 0\nX (1) = 0\nX (2) = 15",
+        "\n%%\nX (0) = 7\nX (1) = 9\nX (2) = 1\n%%\r\nX (0) = 1\nX (1) = 2\nX (2) = 3\n%%\nX (0) = 0\nX (1) = 0\nX (2) = 15",
         "// alphav 2\n// period 3\n",
         "0 i0=7 i1=0 o0=7\n1 i0=0 i1=9 o0=0\n2 i0=0 i1=1 o0=1\n3 i0=1 i1=0 o0=1\n4 i0=0 i1=2 o0=3\n5 i0=0 i1=3 o0=6\n\
          6 i0=0 i1=0 o0=0\n7 i0=0 i1=0 o0=0\n8 i0=0 i1=15 o0=15\n",
