@@ -55,7 +55,7 @@ def period(text):
 
 def data_sets(given, count, chance):
     """Gives so many sets of data for a text, each word by chance; those of points that no cell reads are 0."""
-    points = values(with_data(given).data)
+    points = values(with_data(Given(given.words, given.system)).data)
     design = Design(given.answer("emit"))
     widths = {line.point: design.module.inputs[line.name] for line in design.ins}
 
