@@ -1,0 +1,12 @@
+pub mod Named
+pub mod Numbers
+pub mod Codes
+pub mod Binaries
+pub mod Values
+pub mod Lines
+pub mod Forms
+pub mod PartSteps
+pub mod Rests
+pub mod Runs
+pub mod Reached
+pub mod Faults
