@@ -10,3 +10,4 @@ pub mod Rests
 pub mod Runs
 pub mod Reached
 pub mod Faults
+pub mod Written

@@ -1,6 +1,6 @@
 -- A wave in the making.
 use Rattle.std.specs.Prelude.{◌≡◌, ◌≢◌, ◌⊎◌, ℕ, ◌+◌, ◌<◌, ◌≤◌, List, [], ◌∷◌, ◌++◌, length, slice_index, slice_get, Some, All, AllPairs}
-use Rattle.std.specs.List.{range_with_len}
+use Rattle.std.specs.List.{AllByRecursion, range_with_len}
 use Rattle.av_base.specs.Words.{IsWord}
 use Rattle.av_net.specs.declared.netlist.Port.{Port}
 use Rattle.av_net.specs.Lexemes.{IsName}
@@ -76,3 +76,39 @@ pub record IsPart (p : Part) : Type 0 where
 pub record HasWords (p : Part) (words : List ℕ) : Type 0 where
   pub count : length words ≡ length p.ports
   pub each : (k : ℕ) → k < length p.ports → slice_index words k ≡ values_now p k
+
+-- a port was told of, and has this value
+pub record IsTold (p : Part) (port value : ℕ) (q : Part) : Type 0 where
+  pub name : q.name ≡ p.name
+  pub ports : q.ports ≡ p.ports
+  pub cycle : q.cycle ≡ p.cycle
+  pub first : p.cycle ≡ 0 → q.told ≡ port + 1
+  pub later : q.told ≤ port + 1
+  pub more : List Change
+  pub changes : q.changes ≡ p.changes ++ more
+  pub here : AllByRecursion (λ g. g.cycle ≡ p.cycle) more
+  pub value : values_now q port ≡ value
+  pub others : (k : ℕ) → k ≢ port → values_now q k ≡ values_now p k
+
+-- the first n ports were told of, and have these words
+pub record AreTold (p : Part) (n : ℕ) (words : List ℕ) (q : Part) : Type 0 where
+  pub name : q.name ≡ p.name
+  pub ports : q.ports ≡ p.ports
+  pub cycle : q.cycle ≡ p.cycle
+  pub first : p.cycle ≡ 0 → q.told ≡ n
+  pub later : q.told ≤ n
+  pub more : List Change
+  pub changes : q.changes ≡ p.changes ++ more
+  pub here : AllByRecursion (λ g. g.cycle ≡ p.cycle) more
+  pub values : (k : ℕ) → k < n → values_now q k ≡ slice_index words k
+
+-- all ports were told of, and the next cycle begins
+pub record Records (p : Part) (words : List ℕ) (q : Part) : Type 0 where
+  pub name : q.name ≡ p.name
+  pub ports : q.ports ≡ p.ports
+  pub cycle : q.cycle ≡ p.cycle + 1
+  pub told : q.told ≡ 0
+  pub more : List Change
+  pub changes : q.changes ≡ p.changes ++ more
+  pub here : AllByRecursion (λ g. g.cycle ≡ p.cycle) more
+  pub values : (k : ℕ) → k < length p.ports → values_now q k ≡ slice_index words k
