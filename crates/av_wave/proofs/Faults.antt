@@ -1,5 +1,5 @@
 -- A dump that is read, the first faulty line of bytes that are none, and the laws on both.
-use Rattle.std.proofs.Common.{◌≡◌, ◌≢◌, ℕ, zero, suc, ◌+◌, ◌-◌, ◌<◌, ◌≤◌, ◌^◌, ◌×◌, ◌⊎◌, inl, inr, List, [], ◌∷◌, ◌++◌, length, take, drop, refl, sym, ◌∙◌, ap, arith, subst, All, append_assoc}
+use Rattle.std.proofs.Common.{◌≡◌, ◌≢◌, ℕ, zero, suc, ◌+◌, ◌-◌, ◌<◌, ◌≤◌, ◌^◌, ◌⊎◌, inl, inr, List, [], ◌∷◌, ◌++◌, length, take, drop, refl, sym, ◌∙◌, ap, arith, subst, All, append_assoc}
 use Rattle.std.specs.Prelude.{Result, Ok, Err}
 use Rattle.std.specs.List.{AllByRecursion}
 use Rattle.std.proofs.lemmas.Bool.{cases_lt}
@@ -19,7 +19,7 @@ use Rattle.av_wave.specs.Dumps.{timescale_line, scope_line, port_line, port_line
 use Rattle.av_wave.specs.Fronts.{whole_lines, Begin, IsWaveFault, GivesWave, RefusesWave}
 use Rattle.av_wave.specs.inner.Parts.{Part, wave_of, FitsPort}
 use Rattle.av_wave.specs.inner.Stages.{Takes, EndsAs}
-use Rattle.av_wave.proofs.Forms.{timescale_whole, upscope_whole, definitions_whole, scope_whole, port_whole, time_whole, says_whole}
+use Rattle.av_wave.proofs.OneForm.{timescale_whole, upscope_whole, definitions_whole, scope_whole, port_whole, time_whole, says_whole}
 use Rattle.av_wave.proofs.Lines.{IsLine, lines_back, joined_back}
 use Rattle.av_wave.proofs.Rests.{AreLeft, end_left, change_left, cycle_left, wave_rest, wave_left, dump_rest}
 use Rattle.av_wave.proofs.Reached.{IsReached, leads_reach, reached_begins, told_wave, told_lines}

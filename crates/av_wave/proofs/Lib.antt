@@ -1,10 +1,10 @@
 pub mod Named
-pub mod Numbers
+pub mod Digits
 pub mod Codes
 pub mod Binaries
 pub mod Values
 pub mod Lines
-pub mod Forms
+pub mod OneForm
 pub mod PartSteps
 pub mod Rests
 pub mod Runs

@@ -1,5 +1,5 @@
 -- What is left of a dump behind the line that begins a cycle, or behind the line of one of its changes.
-use Rattle.std.proofs.Common.{◌≡◌, ◌≢◌, ℕ, zero, suc, ◌+◌, ◌-◌, ◌<◌, ◌≤◌, ◌×◌, ◌⊎◌, inl, inr, List, [], ◌∷◌, ◌++◌, map, length, get_or, refl, sym, ◌∙◌, ap, arith, subst, All, append_assoc}
+use Rattle.std.proofs.Common.{◌≡◌, ◌≢◌, ℕ, zero, suc, ◌+◌, ◌-◌, ◌<◌, ◌≤◌, ◌⊎◌, inl, inr, List, [], ◌∷◌, ◌++◌, map, length, get_or, refl, sym, ◌∙◌, ap, arith, subst, All, append_assoc}
 use Rattle.std.specs.Prelude.{AllPairs}
 use Rattle.std.specs.List.{AllByRecursion, flat_map, range_with_len}
 use Rattle.std.proofs.lemmas.List.{append-nil}
@@ -45,7 +45,7 @@ left_lines {ports = ports} (change_left {m} {c} {g} {gs} {lines} here rest) =
     let later : g.cycle < c + 1 = omega arith in
     ap (λ changes. ((time_line c ∷ map (change_line ports) changes) ++ flat_map (cycle_lines ports (g ∷ gs)) (range_with_len (c + 1) m)) ++ time_line (c + suc m) ∷ []) (in_here c g gs here)
     ∙ ap (λ more. ((time_line c ∷ change_line ports g ∷ map (change_line ports) (changes_in c gs)) ++ more) ++ time_line (c + suc m) ∷ []) (without_first ports g gs (c + 1) m later)
-    ∙ ap (λ more. time_line c ∷ change_line ports g ∷ more) (same_tail (time_line c) (time_line c) _ lines (left_lines rest))
+    ∙ ap (λ more. time_line c ∷ change_line ports g ∷ more) (same_tail (time_line c) (time_line c) ((map (change_line ports) (changes_in c gs) ++ flat_map (cycle_lines ports gs) (range_with_len (c + 1) m)) ++ time_line (c + suc m) ∷ []) lines (left_lines rest))
 left_lines {ports = ports} (cycle_left {m} {c} {gs} {lines} rest) =
     let none : changes_in c gs ≡ [] = in_none c gs (each_weaker (λ (g : Change). c + 1 ≤ g.cycle) (λ (g : Change). c < g.cycle) (λ g le. omega arith) gs (left_later rest)) in
     let last : c + suc m ≡ c + 1 + m = omega arith in
@@ -88,23 +88,33 @@ left_times ports (suc k) m c d gs lines e rest =
     let n : suc (k + m) ≡ suc k + m = omega arith in
     subst (λ j. AreLeft ports j c gs (map time_line (range_with_len (c + 1) (suc k)) ++ lines)) n (cycle_left (left_times ports k m (c + 1) d gs lines (omega arith) rest))
 
--- what is written is what is left
-pub left_written : (ports : List Port) (gs : List Change) (m c n : ℕ) → c + m ≡ n → Rise c n gs → AreLeft ports m c gs (lines_to ports c gs ++ times (last_cycle c gs) n)
-left_written ports [] m c n e rise =
-    let k : n - c ≡ m = omega arith in
+-- a change behind some cycles without one
+written_change : (ports : List Port) (g : Change) (gs : List Change) (lines : List (List ℕ)) (m c k l : ℕ) → c + k ≡ g.cycle → k + suc l ≡ m → AreLeft ports (suc l) g.cycle gs lines
+    → AreLeft ports m c (g ∷ gs) (times c g.cycle ++ change_line ports g ∷ lines)
+written_change ports g gs lines m c k l here all rest =
+    let count : k ≡ g.cycle - c = omega arith in
+    let goes : AreLeft ports (k + suc l) c (g ∷ gs) (map time_line (range_with_len (c + 1) k) ++ change_line ports g ∷ lines) =
+        left_times ports k (suc l) c g.cycle (g ∷ gs) (change_line ports g ∷ lines) here (change_left refl rest) in
+    subst (λ j. AreLeft ports m c (g ∷ gs) (map time_line (range_with_len (c + 1) j) ++ change_line ports g ∷ lines)) count
+    (subst (λ j. AreLeft ports j c (g ∷ gs) (map time_line (range_with_len (c + 1) k) ++ change_line ports g ∷ lines)) all goes)
+
+-- no change, and some cycles
+written_end : (ports : List Port) (m c n : ℕ) → c + m ≡ n → AreLeft ports m c [] (times c n)
+written_end ports m c n e =
+    let count : m ≡ n - c = omega arith in
     let whole : m + 0 ≡ m = omega arith in
     let goes : AreLeft ports (m + 0) c [] (map time_line (range_with_len (c + 1) m) ++ []) = left_times ports m 0 c n [] [] e end_left in
-    subst (λ lines. AreLeft ports m c [] lines) (append-nil _ ∙ ap (λ j. map time_line (range_with_len (c + 1) j)) (sym k)) (subst (λ j. AreLeft ports j c [] (map time_line (range_with_len (c + 1) m) ++ [])) whole goes)
+    subst (λ j. AreLeft ports m c [] (map time_line (range_with_len (c + 1) j))) count
+    (subst (λ lines. AreLeft ports m c [] lines) (append-nil (map time_line (range_with_len (c + 1) m)))
+    (subst (λ j. AreLeft ports j c [] (map time_line (range_with_len (c + 1) m) ++ [])) whole goes))
+
+-- what is written is what is left
+pub left_written : (ports : List Port) (gs : List Change) (m c n : ℕ) → c + m ≡ n → Rise c n gs → AreLeft ports m c gs (lines_to ports c gs ++ times (last_cycle c gs) n)
+left_written ports [] m c n e rise = written_end ports m c n e
 left_written ports (g ∷ gs) m c n e (from, within, rise) =
-    let k = g.cycle - c in
-    let l = n - (g.cycle + 1) in
-    let more : g.cycle + suc l ≡ n = omega arith in
-    let all : k + suc l ≡ m = omega arith in
-    let here : c + k ≡ g.cycle = omega arith in
-    let rest : AreLeft ports (suc l) g.cycle (g ∷ gs) (change_line ports g ∷ (lines_to ports g.cycle gs ++ times (last_cycle g.cycle gs) n)) = change_left refl (left_written ports gs (suc l) g.cycle n more rise) in
-    let goes = left_times ports k (suc l) c g.cycle (g ∷ gs) _ here rest in
     subst (λ lines. AreLeft ports m c (g ∷ gs) lines) (sym (append_assoc (times c g.cycle) (change_line ports g ∷ lines_to ports g.cycle gs) (times (last_cycle g.cycle gs) n)))
-    (subst (λ j. AreLeft ports j c (g ∷ gs) (times c g.cycle ++ (change_line ports g ∷ (lines_to ports g.cycle gs ++ times (last_cycle g.cycle gs) n)))) all goes)
+    (written_change ports g gs (lines_to ports g.cycle gs ++ times (last_cycle g.cycle gs) n) m c (g.cycle - c) (n - (g.cycle + 1)) (omega arith) (omega arith)
+    (left_written ports gs (suc (n - (g.cycle + 1))) g.cycle n (omega arith) rise))
 
 -- the lines of a wave behind the one that begins the first cycle
 abbrev pub wave_rest : Recording → List (List ℕ)

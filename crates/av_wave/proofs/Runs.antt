@@ -1,5 +1,5 @@
 -- A dump that is read line by line: where it leads, and that it leads nowhere else.
-use Rattle.std.proofs.Common.{◌≡◌, ◌≢◌, ℕ, zero, suc, ◌+◌, ◌<◌, ◌≤◌, ◌×◌, ◌⊎◌, inl, inr, List, [], ◌∷◌, ◌++◌, length, get_or, refl, sym, ◌∙◌, ap, arith, subst, All, append_assoc}
+use Rattle.std.proofs.Common.{◌≡◌, ◌≢◌, ℕ, zero, suc, ◌+◌, ◌<◌, ◌≤◌, ◌⊎◌, inl, inr, List, [], ◌∷◌, ◌++◌, length, get_or, refl, sym, ◌∙◌, ap, arith, subst, All, append_assoc}
 use Rattle.std.specs.Prelude.{slice_get, Some, AllPairs, Contains, codes}
 use Rattle.std.specs.List.{AllByRecursion, range_with_len}
 use Rattle.std.proofs.lemmas.List.{append-nil, map-append, length_push}
@@ -18,7 +18,7 @@ use Rattle.av_wave.specs.Dumps.{timescale_line, scope_line, port_line, port_line
 use Rattle.av_wave.specs.inner.Heads.{Head}
 use Rattle.av_wave.specs.inner.Parts.{Part, values_now, at_first, told_of, next_cycle, wave_of, IsNext, FitsPort, MayEnd}
 use Rattle.av_wave.specs.inner.Stages.{Takes, TakesPort, TakesChange, TakesTime, Says}
-use Rattle.av_wave.proofs.Forms.{scope_once, port_once, port_not_upscope, says_once, says_no_time}
+use Rattle.av_wave.proofs.OneForm.{scope_once, port_once, port_not_upscope, says_once, says_no_time}
 use Rattle.av_wave.proofs.Rests.{AreLeft, end_left, change_left, cycle_left, left_later, wave_rest, wave_left, dump_rest}
 use Rattle.av_wave.proofs.Values.{changed_on, in_here, in_none, behind_first}
 

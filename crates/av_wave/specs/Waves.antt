@@ -31,7 +31,7 @@ all_changed values (g ∷ changes) = all_changed (changed values g) changes
 
 -- before any change
 abbrev pub zeros : Values
-zeros port = 0
+zeros = λ port. 0
 
 -- the changes of a cycle
 abbrev pub changes_in : ℕ → List Change → List Change

@@ -1,7 +1,7 @@
 //! The forms of a dump's lines.
 
 ghost use Rattle.std.specs.Prelude.{◌≡◌, ◌≤◌, ◌++◌, ◌↔◌, ℕ, List, IsTrue, IfSome, IfNone, codes, length};
-ghost use Rattle.av_net.specs.declared.netlist.Port.{Port as Declaration};
+ghost use Rattle.av_net.specs.declared.netlist.Port.{Port as AnyPort};
 ghost use Rattle.av_net.specs.Lexemes.{IsName};
 ghost use Rattle.av_wave.specs.Dumps.{scope_line, port_line, time_line};
 ghost use Rattle.av_wave.specs.inner.Stages.{Says, SaysBit, SaysVector};
@@ -15,7 +15,7 @@ use itoa::Buffer;
 
 /// A port that a line declares.
 #[derive(Clone, Copy)]
-pub(crate) struct Declared<'a> {
+pub(crate) struct Declaration<'a> {
     pub(crate) width: Width,
     pub(crate) name: &'a [u8],
 }
@@ -45,14 +45,14 @@ pub(crate) fn scope_name(line: &[u8]) -> Option<&[u8]>
 }
 
 /// The port on the line that declares the one with this number.
-pub(crate) fn declared(line: &[u8], number: u32) -> Option<Declared<'_>>
+pub(crate) fn declared(line: &[u8], number: u32) -> Option<Declaration<'_>>
     ensures some { IfSome result (λ found. IsName found.name.now × (line.now ≡ port_line number (record { name = found.name.now; width = found.width }))) }
-    ensures none { IfNone result ((port : Declaration) → IsName port.name → line.now ≡ port_line number port → ⊥) }
+    ensures none { IfNone result ((port : AnyPort) → IsName port.name → line.now ≡ port_line number port → ⊥) }
 {
     let (width, text) = width_in(behind(line, b"$var wire ".as_slice())?)?;
     let text = behind(text, Code::new(number).as_bytes())?;
     let name = name_in(behind(text, b" ".as_slice())?)?;
-    Some(Declared { width, name })
+    Some(Declaration { width, name })
 }
 
 // Whether a text is these digits and the end of a line.

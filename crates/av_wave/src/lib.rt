@@ -6,12 +6,12 @@ mod code;
 mod fault;
 mod forms;
 mod laws;
+mod numbers;
 mod pieces;
 mod reader;
 mod recorder;
 mod stage;
 mod wave;
-mod try_tests;
 mod writer;
 
 pub use fault::WaveFault;

@@ -1,6 +1,6 @@
 //! Numbers on the lines of a dump.
 
-ghost use Rattle.std.specs.Prelude.{◌≡◌, ◌+◌, ◌<◌, ◌^◌, ◌++◌, ◌∷◌, ℕ, List, IfSome, IfNone, decimal};
+ghost use Rattle.std.specs.Prelude.{◌≡◌, ◌+◌, ◌<◌, ◌^◌, ◌++◌, ◌∷◌, [], ℕ, List, IfSome, IfNone, decimal};
 ghost use Rattle.av_base.specs.declared.width.Width.{Width as Bits};
 ghost use Rattle.av_wave.specs.Dumps.{binary};
 ghost use Rattle.av_wave.specs.inner.Codes.{AreDigits};
@@ -11,18 +11,18 @@ use av_base::{Width, digits_len};
 
 // The digits that a text begins with, and what stands behind them and a blank.
 #[derive(Clone, Copy)]
-struct Parted<'a> {
+struct Parts<'a> {
     digits: &'a [u8],
     rest: &'a [u8],
 }
 
-fn parted(text: &[u8]) -> Option<Parted<'_>>
+fn parted(text: &[u8]) -> Option<Parts<'_>>
     ensures some { IfSome result (λ parts. AreDigits parts.digits.now × (text.now ≡ parts.digits.now ++ 32 ∷ parts.rest.now)) }
     ensures none { IfNone result ((digits rest : List ℕ) → AreDigits digits → text.now ≡ digits ++ 32 ∷ rest → ⊥) }
 {
     let len = digits_len(text);
     let rest = behind(&text[len..], b" ".as_slice())?;
-    Some(Parted {
+    Some(Parts {
         digits: &text[..len],
         rest,
     })

@@ -41,7 +41,8 @@ impl Model for Recorder {
     ghost invariant = { IsKept };
 }
 
-fn zeros(alloc: Global, count: usize) -> Result<List<u64>, Memory>
+/// So many words that are 0.
+pub(crate) fn zeros(alloc: Global, count: usize) -> Result<List<u64>, Memory>
     ensures { IfOk result (λ words. words ≡ replicate count 0) }
 {
     let mut words = List::new(alloc);

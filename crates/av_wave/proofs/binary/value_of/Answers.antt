@@ -1,5 +1,5 @@
 use Rattle.std.proofs.Common.{◌^◌, arith}
-use Rattle.av_wave.proofs.Numbers.{binary_above}
+use Rattle.av_wave.proofs.Digits.{binary_above}
 use Rattle.av_wave.proofs.binary.value_of.Goals as goal
 
 pub returns-in_err-twice-clause-none : goal.returns-in_err-twice-clause-none

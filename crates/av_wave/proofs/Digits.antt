@@ -1,5 +1,5 @@
 -- Digits in binary and in decimal, and what is read of them.
-use Rattle.std.proofs.Common.{◌≡◌, ◌≢◌, ℕ, zero, suc, ◌+◌, ◌-◌, ◌*◌, ◌/◌, ◌%◌, ◌^◌, ◌<◌, ◌≤◌, ◌×◌, List, [], ◌∷◌, ◌++◌, length, get_or, drop, eqb, true, false, true≢false, Bool, refl, sym, ◌∙◌, ap, arith, drop-cons, inl, inr, subst}
+use Rattle.std.proofs.Common.{◌≡◌, ◌≢◌, ℕ, zero, suc, ◌+◌, ◌-◌, ◌*◌, ◌/◌, ◌%◌, ◌^◌, ◌<◌, ◌≤◌, List, [], ◌∷◌, ◌++◌, length, get_or, drop, eqb, true, false, true≢false, Bool, refl, sym, ◌∙◌, ap, arith, drop-cons, inl, inr, subst}
 use Rattle.std.specs.Prelude.{if◌then◌else◌, ◌==◌, decimal, cond}
 use Rattle.std.specs.Char.{is_ascii_digit}
 use Rattle.std.specs.Fmt.{digits, digits_onto, digit_glyph}

@@ -1,10 +1,11 @@
 -- The lines of a dump: what each tells is told by no other line.
-use Rattle.std.proofs.Common.{◌≡◌, ◌≢◌, ℕ, zero, suc, ◌+◌, ◌<◌, ◌≤◌, ◌^◌, ◌×◌, ◌⊎◌, inl, inr, List, [], ◌∷◌, ◌++◌, length, eqb, true, false, true≢false, Bool, refl, sym, ◌∙◌, ap, arith, subst, append_assoc}
+use Rattle.std.proofs.Common.{◌≡◌, ◌≢◌, ℕ, zero, suc, ◌+◌, ◌<◌, ◌≤◌, ◌^◌, ◌⊎◌, inl, inr, List, [], ◌∷◌, ◌++◌, length, eqb, true, false, true≢false, Bool, refl, sym, ◌∙◌, ap, arith, subst, append_assoc}
 use Rattle.std.specs.Prelude.{if◌then◌else◌, codes, decimal, not, nat_eq, slice_get, Some, IsTrue}
 use Rattle.std.specs.Char.{is_ascii_digit}
 use Rattle.std.specs.List.{AllByRecursion, list_all}
 use Rattle.av_base.proofs.Truths.{both, not_true}
-use Rattle.std.proofs.lemmas.Bool.{eqb-true, eqb-false, eq-eqb, ne_eqb, cases_eq}
+use Rattle.std.proofs.lemmas.Bool.{eqb-true, eqb-false, eq-eqb, ne_eqb, cases_eq, cases_lt}
+use Rattle.std.proofs.lemmas.Nat.{pow_below}
 use Rattle.std.proofs.lemmas.Fmt.{decimal_injective}
 use Rattle.std.proofs.lemmas.List.{append_cancel_left, append_cancel_right}
 use Rattle.std.proofs.lemmas.List.Elements.{recursion_from_All}
@@ -19,7 +20,7 @@ use Rattle.av_wave.specs.Dumps.{timescale_line, scope_line, port_line, upscope_l
 use Rattle.av_wave.specs.inner.Codes.{AreDigits}
 use Rattle.av_wave.specs.inner.Stages.{Says, SaysBit, SaysVector}
 use Rattle.av_wave.proofs.Codes.{code_injective, code_plain}
-use Rattle.av_wave.proofs.Numbers.{binary_injective, binary_digits, bit_digit, decimal_digits, blank_once}
+use Rattle.av_wave.proofs.Digits.{binary_injective, binary_digits, bit_digit, decimal_digits, blank_once}
 use Rattle.av_wave.proofs.Lines.{IsPlain, IsLine}
 
 -- ---- names
@@ -106,7 +107,10 @@ bit_first {rest = rest} {number = number} {value = value} bit e =
 
 -- a word has at most 64 bits
 small_word : (w : Width) (value : ℕ) → IsWord w.bits value → value < 2 ^ 64
-small_word w value fits = let most : w.bits ≤ 64 = w.most in let grows : 2 ^ w.bits ≤ 2 ^ 64 = omega (arith, most) in omega arith
+small_word w value fits = elim (cases_lt w.bits 64) [
+  | inl lt ↦ (let below : 2 ^ w.bits < 2 ^ 64 = pow_below w.bits 64 lt in omega arith)
+  | inr ge ↦ subst (λ n. value < 2 ^ n) (let most : w.bits ≤ 64 = w.most in let is : w.bits ≡ 64 = omega arith in is) fits
+]
 
 pub bit_once : {ports : List Port} {text : List ℕ} {m n v w : ℕ} → SaysBit ports text m v → SaysBit ports text n w → (m ≡ n) × (v ≡ w)
 bit_once {m = m} {n = n} {v = v} {w = w} some other =
