@@ -1,12 +1,14 @@
 -- Digits in binary and in decimal, and what is read of them.
-use Rattle.std.proofs.Common.{◌≡◌, ◌≢◌, ℕ, zero, suc, ◌+◌, ◌-◌, ◌*◌, ◌/◌, ◌%◌, ◌^◌, ◌<◌, ◌≤◌, List, [], ◌∷◌, ◌++◌, length, get_or, drop, eqb, true, false, true≢false, Bool, refl, sym, ◌∙◌, ap, arith, drop-cons, inl, inr, subst}
+use Rattle.std.proofs.Common.{◌≡◌, ◌≢◌, ℕ, zero, suc, ◌+◌, ◌-◌, ◌*◌, ◌/◌, ◌%◌, ◌^◌, ◌<◌, ◌≤◌, List, [], ◌∷◌, ◌++◌, length, get_or, take, drop, eqb, true, false, true≢false, Bool, refl, sym, ◌∙◌, ap, arith, drop-cons, inl, inr, ◌⊎◌, subst}
 use Rattle.std.specs.Prelude.{if◌then◌else◌, ◌==◌, decimal, cond}
 use Rattle.std.specs.Char.{is_ascii_digit}
 use Rattle.std.specs.Fmt.{digits, digits_onto, digit_glyph}
 use Rattle.std.specs.List.{AllByRecursion, prefix_len}
-use Rattle.std.proofs.lemmas.Bool.{eqb-true}
-use Rattle.std.proofs.lemmas.Fmt.{decimal_by_steps}
+use Rattle.std.proofs.lemmas.Bool.{eqb-true, cases_lt}
+use Rattle.std.proofs.lemmas.Fmt.{decimal_by_steps, decimal_step, decimal_digit}
+use Rattle.std.proofs.lemmas.List.{take-append-drop, drop_at}
 use Rattle.av_base.proofs.Lists.{same_head, same_tail, each_append}
+use Rattle.av_base.proofs.Runs.{run_all}
 use Rattle.av_wave.specs.Dumps.{binary}
 use Rattle.av_wave.specs.inner.Codes.{binary_from, binary_value, AreDigits}
 
@@ -117,3 +119,35 @@ blank_once (x ∷ d) (y ∷ e) r s are be same =
 pub digits_end : (d r : List ℕ) → AreDigits d → prefix_len is_ascii_digit (d ++ 32 ∷ r) ≡ length d
 digits_end [] r are = refl
 digits_end (x ∷ d) r are = rw are.0 (omega (arith, digits_end d r are.1))
+
+-- ---- the parts of a text
+
+pub parted_is : (text rest : List ℕ) (len : ℕ) → len ≡ prefix_len is_ascii_digit text → drop len text ≡ 32 ∷ rest → AreDigits (take len text) × (text ≡ take len text ++ 32 ∷ rest)
+parted_is text rest len is at =
+    (subst (λ n. AreDigits (take n text)) (sym is) (run_all is_ascii_digit text), sym (take-append-drop len text) ∙ ap (λ back. take len text ++ back) at)
+
+pub parted_none : (text : List ℕ) (len : ℕ) → len ≡ prefix_len is_ascii_digit text → ((rest : List ℕ) → drop len text ≢ 32 ∷ rest) → (digits rest : List ℕ) → AreDigits digits → text ≡ digits ++ 32 ∷ rest → ⊥
+parted_none text len is none digits rest are e =
+    let count : length digits ≡ len = sym (is ∙ ap (prefix_len is_ascii_digit) e ∙ digits_end digits rest are) in
+    none rest (ap (drop len) e ∙ drop_at digits (32 ∷ rest) len count)
+
+-- ---- numbers below a hundred
+
+pub two_decimal : (t o : ℕ) → 0 < t → t < 10 → o < 10 → decimal (10 * t + o) ≡ (48 + t) ∷ (48 + o) ∷ []
+two_decimal t o some small little =
+    let high : (10 * t + o) / 10 ≡ t = omega arith in
+    let low : (10 * t + o) % 10 ≡ o = omega arith in
+    decimal_step (10 * t + o) (omega arith) (omega arith) ∙ ap (λ n. decimal n ++ (48 + (10 * t + o) % 10) ∷ []) high ∙ ap (λ front. front ++ (48 + (10 * t + o) % 10) ∷ []) (decimal_digit t small)
+    ∙ ap (λ n. (48 + t) ∷ (48 + n) ∷ []) low
+
+-- the digits of such a number
+pub record AreOf (n : ℕ) (digits : List ℕ) : Type 0 where
+  pub ends : ((n < 10) × (digits ≡ (48 + n) ∷ [])) ⊎ ((t : ℕ) × (o : ℕ) × (0 < t) × (t < 10) × (o < 10) × (n ≡ 10 * t + o) × (digits ≡ (48 + t) ∷ (48 + o) ∷ []))
+
+pub small_decimal : (n : ℕ) → n < 100 → AreOf n (decimal n)
+small_decimal n small = elim (cases_lt n 10) [
+  | inl lt ↦ record { ends = inl (lt, decimal_digit n lt) }
+  | inr ge ↦
+      let whole : n ≡ 10 * (n / 10) + n % 10 = omega arith in
+      record { ends = inr (n / 10, n % 10, omega arith, omega arith, omega arith, whole, ap decimal whole ∙ two_decimal (n / 10) (n % 10) (omega arith) (omega arith) (omega arith)) }
+]

@@ -139,11 +139,11 @@ fault_at_end bytes at line s read end none =
 
 -- or are the text of a wave
 pub read_whole : (bytes : List ℕ) (at line : ℕ) (s : Stage) (w : Recording) → IsRead bytes at line s → length bytes ≤ at → EndsAs s w → bytes ≡ dump_text w
-read_whole bytes at line Timescale w read end as = absurd as
-read_whole bytes at line Scope w read end as = absurd as
-read_whole bytes at line (Ports head) w read end as = absurd as
-read_whole bytes at line (Definitions head) w read end as = absurd as
-read_whole bytes at line (Start head) w read end as = absurd as
+read_whole bytes at line Timescale w read end ends = absurd ends
+read_whole bytes at line Scope w read end ends = absurd ends
+read_whole bytes at line (Ports head) w read end ends = absurd ends
+read_whole bytes at line (Definitions head) w read end ends = absurd ends
+read_whole bytes at line (Start head) w read end ends = absurd ends
 read_whole bytes at line (Cycles p) w read end (none, is) =
     let goes = all_read bytes at line (Cycles p) read end in
     let tells = leads_reach Timescale (Cycles p) [] (whole_lines bytes) refl goes in

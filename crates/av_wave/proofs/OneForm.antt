@@ -65,7 +65,7 @@ second (a ∷ b ∷ line) = b
 second _ = 0
 
 pub port_not_upscope : (number : ℕ) (p : Port) → port_line number p ≡ upscope_line → ⊥
-port_not_upscope number p e = let f : 118 ≡ 117 = ap second (sym (port_parts number p) ∙ e) in absurd (omega arith)
+port_not_upscope number p e = eqb-false 118 117 refl (ap second (sym (port_parts number p) ∙ e))
 
 -- ---- changes
 
@@ -148,7 +148,7 @@ says_no_time {number = number} {value = value} cycle says e = elim (says_cases s
       let text : one.0 ≡ (48 + value) ∷ code number = bit.text_is ∙ ap (λ front. front ++ code number) (bit_digit value bit.fits) in
       let f : 48 + value ≡ 35 = ap first (ap (λ front. front ++ codes "\n") (sym text) ∙ sym one.1 ∙ e) in
       absurd (omega arith)
-  | inr one ↦ let f : 98 ≡ 35 = ap first (sym one.1 ∙ e) in absurd (omega arith)
+  | inr one ↦ eqb-false 98 35 refl (ap first (sym one.1 ∙ e))
 ]
 
 -- ---- each line ends with one line feed
@@ -199,11 +199,12 @@ pub port_whole : (number : ℕ) (port : Port) → IsName port.name → IsLine (p
 port_whole number port named =
     let bits = digits_plain (decimal port.width.bits) (decimal_digits port.width.bits (small_width port.width)) in
     let blank : IsPlain (codes " ") = plain_test (codes " ") refl in
-    let one = append_plain (codes "$var wire ") (decimal port.width.bits) (plain_test (codes "$var wire ") refl) bits in
-    let two = append_plain _ (codes " ") one blank in
-    let three = append_plain _ (code number) two (code_plain number) in
-    let four = append_plain _ (codes " ") three blank in
-    ended (codes "$var wire " ++ decimal port.width.bits ++ codes " " ++ code number ++ codes " " ++ port.name) (append_plain _ port.name four (name_plain port.name named))
+    let front : List ℕ = codes "$var wire " ++ decimal port.width.bits in
+    let one : IsPlain front = append_plain (codes "$var wire ") (decimal port.width.bits) (plain_test (codes "$var wire ") refl) bits in
+    let two : IsPlain (front ++ codes " ") = append_plain front (codes " ") one blank in
+    let three : IsPlain (front ++ codes " " ++ code number) = append_plain (front ++ codes " ") (code number) two (code_plain number) in
+    let four : IsPlain (front ++ codes " " ++ code number ++ codes " ") = append_plain (front ++ codes " " ++ code number) (codes " ") three blank in
+    ended (front ++ codes " " ++ code number ++ codes " " ++ port.name) (append_plain (front ++ codes " " ++ code number ++ codes " ") port.name four (name_plain port.name named))
 
 pub time_whole : (cycle : ℕ) → cycle < 2 ^ 64 → IsLine (time_line cycle)
 time_whole cycle small = record {

@@ -83,8 +83,8 @@ change_goes : (p : Part) (back : List (List ℕ)) (g : Change) (line : List ℕ)
     → ((m : ℕ) (more : List Change) (lines : List (List ℕ)) → (m ≡ 0 → p.told ≡ 0) → AreLeft p.ports m p.cycle more lines → AreLeft p.ports (p.cycle + m) 0 (p.changes ++ more) (back ++ lines))
     → (m : ℕ) (more : List Change) (lines : List (List ℕ)) → (m ≡ 0 → g.port + 1 ≡ 0) → AreLeft p.ports m p.cycle more lines
     → AreLeft p.ports (p.cycle + m) 0 ((p.changes ++ g ∷ []) ++ more) ((back ++ line ∷ []) ++ lines)
-change_goes p back g line here is goes zero more lines open left = absurd (let e : g.port + 1 ≡ 0 = open refl in omega arith)
-change_goes p back g line here is goes (suc m) more lines open left =
+change_goes p back g line here is goes zero more lines closed left = absurd (let e : g.port + 1 ≡ 0 = closed refl in omega arith)
+change_goes p back g line here is goes (suc m) more lines closed left =
     let whole = goes (suc m) (g ∷ more) (change_line p.ports g ∷ lines) (λ none. absurd (omega arith)) (change_left here left) in
     let changes : p.changes ++ g ∷ more ≡ (p.changes ++ g ∷ []) ++ more = sym (append_assoc p.changes (g ∷ []) more) in
     let rest : back ++ change_line p.ports g ∷ lines ≡ (back ++ line ∷ []) ++ lines = ap (λ (l : List ℕ). back ++ l ∷ lines) (sym is) ∙ sym (append_assoc back (line ∷ []) lines) in
@@ -110,7 +110,7 @@ time_tells p front tells may =
       part = part_next p tells.part may;
       back = tells.back ++ line ∷ [];
       front_is = ap (λ f. f ++ line ∷ []) tells.front_is ∙ append_assoc (head_lines p.name p.ports) (time_line 0 ∷ tells.back) (line ∷ []);
-      goes = λ m more lines open left.
+      goes = λ m more lines closed left.
           let all : p.cycle + suc m ≡ (p.cycle + 1) + m = omega arith in
           subst (λ k. AreLeft p.ports k 0 (p.changes ++ more) ((tells.back ++ line ∷ []) ++ lines)) all
           (subst (λ rest. AreLeft p.ports (p.cycle + suc m) 0 (p.changes ++ more) rest) (sym (append_assoc tells.back (line ∷ []) lines)) (tells.goes (suc m) more (line ∷ lines) (λ none. absurd (omega arith)) (cycle_left left)));
@@ -122,7 +122,7 @@ start_tells head front is front_is = record {
   part = first_part head.name head.ports is.named is.ports_named is.apart;
   back = [];
   front_is = ap (λ f. f ++ time_line 0 ∷ []) front_is;
-  goes = λ m more lines open left. let all : m ≡ 0 + m = omega arith in subst (λ k. AreLeft head.ports k 0 more lines) all left;
+  goes = λ m more lines closed left. let all : m ≡ 0 + m = omega arith in subst (λ k. AreLeft head.ports k 0 more lines) all left;
 }
 
 pub reached_on : (s t : Stage) (front : List (List ℕ)) (line : List ℕ) → IsReached s front → Takes s line t → IsReached t (front ++ line ∷ [])

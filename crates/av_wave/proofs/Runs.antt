@@ -174,8 +174,8 @@ says_change ports g fit = record { port = fit.port; at = fit.at; fits = fit.fits
 change_again : (p : Part) (g : Change) → g.cycle ≡ p.cycle → again p g ≡ g
 change_again p g here = let made : ℕ → Change = λ c. record { cycle = c; port = g.port; value = g.value } in ap made (sym here)
 
-left_arrives : (p : Part) {ports : List Port} {m c : ℕ} {gs : List Change} {lines : List (List ℕ)} → AreLeft ports m c gs lines → ports ≡ p.ports → c ≡ p.cycle → Come p m gs → Arrives p m gs lines
-left_arrives p end_left same here come = record {
+left_arrives : {ports : List Port} {m c : ℕ} {gs : List Change} {lines : List (List ℕ)} → AreLeft ports m c gs lines → (p : Part) → ports ≡ p.ports → c ≡ p.cycle → Come p m gs → Arrives p m gs lines
+left_arrives end_left p same here come = record {
   last = p;
   goes = refl;
   open_is = come.closed refl;
@@ -184,9 +184,9 @@ left_arrives p end_left same here come = record {
   cycle = omega arith;
   changes = sym (append-nil p.changes);
 }
-left_arrives p {ports} (change_left {m} {c} {g} {gs} {lines} is left) same here come =
+left_arrives {ports} (change_left {m} {c} {g} {gs} {lines} is left) p same here come =
     let cycle : g.cycle ≡ p.cycle = is ∙ here in
-    let rest = left_arrives (told_of p (again p g)) left same here (come_on p m g gs cycle come) in
+    let rest = left_arrives left (told_of p (again p g)) same here (come_on p m g gs cycle come) in
     let says : Says p.ports (change_line ports g) g.port g.value = subst (λ list. Says p.ports (change_line list g) g.port g.value) (sym same) (says_change p.ports g come.fit.0) in
     record {
       last = rest.last;
@@ -197,8 +197,8 @@ left_arrives p {ports} (change_left {m} {c} {g} {gs} {lines} is left) same here 
       cycle = rest.cycle;
       changes = rest.changes ∙ append_assoc p.changes (again p g ∷ []) gs ∙ ap (λ (h : Change). p.changes ++ h ∷ gs) (change_again p g cycle);
     }
-left_arrives p (cycle_left {m} {c} {gs} {lines} left) same here come =
-    let rest = left_arrives (next_cycle p) left same (ap (λ k. k + 1) here) (come_next p m gs come) in
+left_arrives (cycle_left {m} {c} {gs} {lines} left) p same here come =
+    let rest = left_arrives left (next_cycle p) same (ap (λ k. k + 1) here) (come_next p m gs come) in
     record {
       last = rest.last;
       goes = (Cycles (next_cycle p), inr (record { line_is = ap (λ k. time_line (k + 1)) here; may = may_end p m gs come (λ zeroth. no_change left (here ∙ zeroth)); next_is = refl }), rest.goes);
@@ -258,7 +258,7 @@ pub record Told (w : Recording) : Type 0 where
 pub dump_leads : (w : Recording) → IsWave w → Told w
 dump_leads w is =
     let head : Head = record { name = w.name; ports = w.ports } in
-    let rest = left_arrives (at_first w.name w.ports) (wave_left w is) refl refl (wave_comes w is) in
+    let rest = left_arrives (wave_left w is) (at_first w.name w.ports) refl refl (wave_comes w is) in
     let goes : Leads (Start head) (time_line 0 ∷ wave_rest w) (Cycles rest.last) = (Cycles (at_first w.name w.ports), (refl, refl), rest.goes) in
     let made : List ℕ → List Port → ℕ → List Change → Recording = λ n p c g. record { name = n; ports = p; cycles = c; changes = g } in
     let cycle : rest.last.cycle ≡ w.cycles = omega (arith, rest.cycle) in

@@ -57,7 +57,7 @@ range_on a (suc n) =
 -- each later element stands behind the first
 pub behind_first : {X : Type 0} (R : X → X → Type 0) (x : X) (xs : List X) → AllPairs R (x ∷ xs) → AllByRecursion (R x) xs
 behind_first R x [] pairs = tt
-behind_first R x (y ∷ ys) pairs = (pairs 0 1 x (omega arith) (omega arith), behind_first R x ys (λ i j d lt within. by_place i j d lt within))
+behind_first {X = X} R x (y ∷ ys) pairs = (pairs 0 1 x (omega arith) (omega arith), behind_first R x ys (λ i j d lt within. by_place i j d lt within))
   where
     by_place : (i j : ℕ) (d : X) → i < j → j < length (x ∷ ys) → R (get_or (x ∷ ys) i d) (get_or (x ∷ ys) j d)
     by_place zero zero d lt within = absurd (omega arith)

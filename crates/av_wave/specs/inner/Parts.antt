@@ -78,7 +78,7 @@ pub record HasWords (p : Part) (words : List ℕ) : Type 0 where
   pub each : (k : ℕ) → k < length p.ports → slice_index words k ≡ values_now p k
 
 -- a port was told of, and has this value
-pub record IsTold (p : Part) (port value : ℕ) (q : Part) : Type 0 where
+pub record IsTold (p : Part) (port word : ℕ) (q : Part) : Type 0 where
   pub name : q.name ≡ p.name
   pub ports : q.ports ≡ p.ports
   pub cycle : q.cycle ≡ p.cycle
@@ -87,7 +87,7 @@ pub record IsTold (p : Part) (port value : ℕ) (q : Part) : Type 0 where
   pub more : List Change
   pub changes : q.changes ≡ p.changes ++ more
   pub here : AllByRecursion (λ g. g.cycle ≡ p.cycle) more
-  pub value : values_now q port ≡ value
+  pub value : values_now q port ≡ word
   pub others : (k : ℕ) → k ≢ port → values_now q k ≡ values_now p k
 
 -- the first n ports were told of, and have these words
