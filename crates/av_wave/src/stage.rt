@@ -50,7 +50,7 @@ pub(crate) enum Stage<'a> {
 impl<'a> Stage<'a> {
     /// Takes a line. `None` is answered where it may not stand here.
     pub(crate) fn take(self, alloc: Global, line: &'a [u8]) -> Result<Option<Stage<'a>>, Memory>
-        ensures { Turns self line.now result }
+        ensures { Turns self.entry line.now result }
     {
         match self {
             Stage::Timescale => Ok(after_timescale(line)),
@@ -64,8 +64,8 @@ impl<'a> Stage<'a> {
 
     /// The wave, where the text may end here.
     pub(crate) fn wave(self) -> Option<Wave>
-        ensures some { IfSome result (λ wave. EndsAs self wave) }
-        ensures none { IfNone result ((wave : Recording) → EndsAs self wave → ⊥) }
+        ensures some { IfSome result (λ wave. EndsAs self.entry wave) }
+        ensures none { IfNone result ((wave : Recording) → EndsAs self.entry wave → ⊥) }
     {
         match self {
             Stage::Cycles(recorder) => {
@@ -107,7 +107,7 @@ fn open<'a>(alloc: Global, line: &'a [u8]) -> Result<Option<Stage<'a>>, Memory>
 impl<'a> Header<'a> {
     // Takes the line of a port, or the one behind the last port.
     fn take(self, alloc: Global, line: &'a [u8]) -> Result<Option<Stage<'a>>, Memory>
-        ensures { Turns (stage.Ports self) line.now result }
+        ensures { Turns (stage.Ports self.entry) line.now result }
     {
         if line == b"$upscope $end\n".as_slice() {
             return Ok(Some(Stage::Definitions(self)));
@@ -118,7 +118,7 @@ impl<'a> Header<'a> {
     // Takes the line of a port.
     fn declare(mut self, alloc: Global, line: &'a [u8]) -> Result<Option<Stage<'a>>, Memory>
         requires { line.now ≡ upscope_line → ⊥ }
-        ensures { Turns (stage.Ports self) line.now result }
+        ensures { Turns (stage.Ports self.entry) line.now result }
     {
         let Some(found) = declared(line, self.ports.len() as u32) else {
             return Ok(None);
@@ -135,7 +135,7 @@ impl<'a> Header<'a> {
 
     // Takes the line that begins the first cycle.
     fn start(self, alloc: Global, line: &[u8]) -> Result<Option<Stage<'a>>, Memory>
-        ensures { Turns (stage.Start self) line.now result }
+        ensures { Turns (stage.Start self.entry) line.now result }
     {
         if begins_cycle(line, 0) {
             let recorder = Recorder::new(alloc, self.name, self.ports)?;
@@ -147,7 +147,7 @@ impl<'a> Header<'a> {
 }
 
 fn after_definitions<'a>(header: Header<'a>, line: &[u8]) -> Option<Stage<'a>>
-    ensures { Turns (stage.Definitions header) line.now (Ok result) }
+    ensures { Turns (stage.Definitions header.entry) line.now (Ok result) }
 {
     if line == b"$enddefinitions $end\n".as_slice() {
         Some(Stage::Start(header))
