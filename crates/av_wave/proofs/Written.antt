@@ -1,13 +1,18 @@
 -- The text of a dump, piece by piece in the order in which it is written.
-use Rattle.std.proofs.Common.{◌≡◌, ℕ, zero, suc, ◌+◌, ◌-◌, ◌<◌, ◌≤◌, List, [], ◌∷◌, ◌++◌, map, length, take, get_or, refl, sym, ◌∙◌, ap, arith, append_assoc}
-use Rattle.std.specs.Prelude.{codes}
+use Rattle.std.proofs.Common.{◌≡◌, ℕ, zero, suc, ◌+◌, ◌-◌, ◌<◌, ◌≤◌, List, [], ◌∷◌, ◌++◌, map, length, take, get_or, refl, sym, ◌∙◌, ap, arith, subst, append_assoc, ◌⊎◌, inl, inr, Option, Some, false}
+use Rattle.std.specs.Prelude.{codes, All, Result, Ok, Err, OnOk}
 use Rattle.std.specs.List.{flat_map, range_with_len}
 use Rattle.std.proofs.lemmas.Grind.{flat_map-append}
-use Rattle.std.proofs.lemmas.List.{append-nil, map-append}
+use Rattle.std.proofs.lemmas.List.{append-nil, map-append, take_more, length-take-le}
+use Rattle.std.proofs.lemmas.Option.{slice_get-get_or, slice_get_within}
+use Rattle.av_base.specs.Outside.{SinkState, Adds}
+use Rattle.av_base.proofs.Lists.{next_taken}
+use Rattle.av_page.specs.Pages.{Draft, Puts}
+use Rattle.av_page.proofs.Putting.{whole}
 use Rattle.av_net.specs.declared.netlist.Port.{Port}
 use Rattle.av_wave.specs.declared.wave.Change.{Change}
 use Rattle.av_wave.specs.Waves.{Recording, IsWave}
-use Rattle.av_wave.specs.Dumps.{timescale_line, scope_line, port_line, port_lines, upscope_line, definitions_line, time_line, change_line, head_lines, dump_lines, dump_text, joined}
+use Rattle.av_wave.specs.Dumps.{timescale_line, scope_line, port_line, port_lines, upscope_line, definitions_line, time_line, value_line, value_line_at, change_line, head_lines, dump_lines, dump_text, joined}
 use Rattle.av_wave.specs.inner.Written.{times, lines_to, last_cycle}
 use Rattle.av_wave.proofs.Rests.{dump_rest}
 use Rattle.av_wave.proofs.Values.{range_on}
@@ -80,3 +85,59 @@ text_is w is =
   where
     regroup : (a b c d : List ℕ) → a ++ b ++ c ++ d ≡ a ++ (b ++ (c ++ d))
     regroup a b c d = simp append_assoc
+
+-- no cycle
+pub times_none : (from : ℕ) → [] ≡ joined (times from from)
+times_none from = let none : from - from ≡ 0 = omega arith in ap (λ n. joined (map time_line (range_with_len (from + 1) n))) (sym none)
+
+-- the cycles up to the last
+pub times_end : (from to cycle : ℕ) → to ≤ cycle → (cycle ≡ from) ⊎ (cycle ≤ to) → joined (times from cycle) ≡ joined (times from to)
+times_end from to cycle above (inl none) = let count : cycle - from ≡ to - from = omega arith in ap (λ n. joined (map time_line (range_with_len (from + 1) n))) count
+times_end from to cycle above (inr below) = let same : cycle ≡ to = omega arith in ap (λ n. joined (times from n)) same
+
+-- ---- as the parts of a wave are read
+
+pub head_said : (name name' : List ℕ) (ports ports' : List Port) → name ≡ name' → ports ≡ ports'
+    → timescale_line ++ codes "$scope module " ++ name ++ codes " $end\n" ++ joined (port_lines 0 ports) ++ upscope_line ++ definitions_line ≡ joined (head_lines name' ports')
+head_said name name' ports ports' e f = head_is name ports ∙ ap (λ (n : List ℕ). joined (head_lines n ports)) e ∙ ap (λ (p : List Port). joined (head_lines name' p)) f
+
+pub port_taken : (xs ports : List Port) (i : ℕ) (port : Port) → xs ≡ ports → i < length xs → port ≡ get_or xs i port
+    → joined (port_lines 0 (take i ports)) ++ port_line i port ≡ joined (port_lines 0 (take (i + 1) ports))
+port_taken xs ports i port e lt at =
+    let within : i < length ports = subst (λ (ys : List Port). i < length ys) e lt in
+    let there : port ≡ get_or ports i port = at ∙ ap (λ (ys : List Port). get_or ys i port) e in
+    ports_more ports i port (take (i + 1) ports) (next_taken ports i port within there) (length-take-le i ports (omega arith))
+
+pub change_text : (ports : List Port) (g : Change) (port : Port) → g.port < length ports → port ≡ get_or ports g.port port → value_line port g.port g.value ≡ change_line ports g
+change_text ports g port lt at = ap (λ (o : Option Port). value_line_at o g.port g.value) (ap (λ (p : Port). Some p) at ∙ sym (slice_get-get_or ports g.port port lt))
+
+pub change_taken : (ports : List Port) (gs : List Change) (i : ℕ) (d : Change) (cycle : ℕ) → i < length gs → cycle ≡ last_cycle 0 (take i gs)
+    → joined (lines_to ports 0 (take i gs)) ++ joined (times cycle (get_or gs i d).cycle) ++ change_line ports (get_or gs i d) ≡ joined (lines_to ports 0 (take (i + 1) gs))
+change_taken ports gs i d cycle lt e =
+    ap (λ (c : ℕ). joined (lines_to ports 0 (take i gs)) ++ joined (times c (get_or gs i d).cycle) ++ change_line ports (get_or gs i d)) e
+    ∙ changes_more ports (take i gs) (get_or gs i d) ∙ ap (λ (hs : List Change). joined (lines_to ports 0 hs)) (sym (take_more gs i d lt))
+
+pub last_taken : (gs : List Change) (i : ℕ) (d : Change) → i < length gs → (get_or gs i d).cycle ≡ last_cycle 0 (take (i + 1) gs)
+last_taken gs i d lt = sym (last_more 0 (take i gs) (get_or gs i d)) ∙ ap (λ (hs : List Change). last_cycle 0 hs) (sym (take_more gs i d lt))
+
+pub text_said : (w : Recording) → IsWave w → (ports : List Port) (changes : List Change) (cycle cycles : ℕ) → ports ≡ w.ports → changes ≡ w.changes → cycle ≡ last_cycle 0 changes → cycles ≡ w.cycles
+    → joined (head_lines w.name w.ports) ++ time_line 0 ++ joined (lines_to ports 0 changes) ++ joined (times cycle cycles) ≡ dump_text w
+text_said w is ports changes cycle cycles e f last all =
+    let front : List ℕ = joined (head_lines w.name w.ports) ++ time_line 0 in
+    let at : cycle ≡ last_cycle 0 w.changes = last ∙ ap (λ (gs : List Change). last_cycle 0 gs) f in
+    ap (λ (p : List Port). front ++ joined (lines_to p 0 changes) ++ joined (times cycle cycles)) e
+    ∙ ap (λ (gs : List Change). front ++ joined (lines_to w.ports 0 gs) ++ joined (times cycle cycles)) f
+    ∙ ap (λ (c : ℕ). front ++ joined (lines_to w.ports 0 w.changes) ++ joined (times c cycles)) at
+    ∙ ap (λ (n : ℕ). front ++ joined (lines_to w.ports 0 w.changes) ++ joined (times (last_cycle 0 w.changes) n)) all
+    ∙ text_is w is
+
+pub ports_within : (w : Recording) → IsWave w → (ports : List Port) (changes : List Change) → ports ≡ w.ports → changes ≡ w.changes → All (λ g. g.port < length ports) changes
+ports_within w is ports changes e f =
+    subst (λ (gs : List Change). All (λ g. g.port < length ports) gs) (sym f)
+    (λ k d lt. let of = is.changes k d lt in subst (λ (ps : List Port). (get_or w.changes k d).port < length ps) (sym e) (slice_get_within w.ports (get_or w.changes k d).port of.port of.at))
+
+-- a page that was sent
+pub all_added : {T E : Type 0} (r : Result T E) {sink sink' : SinkState} {a b : Draft} {t : List ℕ} → Puts sink sink' a b t → a ≡ record { waiting = []; failed = false }
+    → OnOk r (b ≡ record { waiting = []; failed = false }) → OnOk r (Adds sink.held sink'.held t)
+all_added (Ok x) p start sent = whole p start (ap (λ d. d.waiting) sent) (ap (λ d. d.failed) sent)
+all_added (Err e) p start sent = tt
