@@ -1,0 +1,13 @@
+pub mod Named
+pub mod Digits
+pub mod Codes
+pub mod Binaries
+pub mod Values
+pub mod Lines
+pub mod OneForm
+pub mod PartSteps
+pub mod Rests
+pub mod Runs
+pub mod Reached
+pub mod Faults
+pub mod Written

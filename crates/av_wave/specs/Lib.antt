@@ -1,0 +1,4 @@
+pub mod Waves
+pub mod Dumps
+pub mod Fronts
+pub mod inner
