@@ -1,7 +1,6 @@
 pub mod Commands
 pub mod Refusals
 pub mod AlphaRefusals
-pub mod Simulated
 pub mod Emits
 pub mod Sims
 pub mod Checks

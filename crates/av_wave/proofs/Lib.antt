@@ -11,3 +11,7 @@ pub mod Runs
 pub mod Reached
 pub mod Faults
 pub mod Written
+pub mod Walking
+pub mod Presenting
+pub mod Targets
+pub mod Capturing

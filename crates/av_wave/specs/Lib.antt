@@ -1,4 +1,5 @@
 pub mod Waves
 pub mod Dumps
 pub mod Fronts
+pub mod Recorded
 pub mod inner

@@ -1,3 +1,4 @@
+pub mod Clocking
 pub mod Codes
 pub mod Heads
 pub mod Lines

@@ -2,8 +2,10 @@
 #![tactic(auto)]
 
 mod binary;
+mod capture;
 mod code;
 mod fault;
+mod feed;
 mod forms;
 mod laws;
 mod numbers;
@@ -14,6 +16,7 @@ mod stage;
 mod wave;
 mod writer;
 
+pub use capture::capture;
 pub use fault::WaveFault;
 pub use laws::{dumps_are_unique, dumps_have_one_fault};
 pub use reader::read_wave;

@@ -1,9 +1,9 @@
 //! A wave in the making.
 
-ghost use Rattle.std.specs.Prelude.{◌≡◌, ◌<◌, ◌≤◌, ◌+◌, ◌↔◌, IsTrue, IfOk, OnOk, All, length, replicate};
+ghost use Rattle.std.specs.Prelude.{◌≡◌, ◌<◌, ◌≤◌, ◌+◌, ◌↔◌, ℕ, slice_index, IsTrue, IfOk, OnOk, All, length, replicate};
 ghost use Rattle.av_net.specs.Lexemes.{IsName};
 ghost use Rattle.av_net.specs.Names.{names_of, AreDistinct};
-ghost use Rattle.av_wave.specs.inner.Parts.{at_first, told_of, next_cycle, wave_of, IsNext, FitsPort, MayEnd};
+ghost use Rattle.av_wave.specs.inner.Parts.{at_first, told_of, next_cycle, wave_of, IsNext, FitsPort, MayEnd, IsTold, Records};
 
 use crate::wave::{Change, Wave};
 use av_base::limits::MOST_CYCLES;
@@ -138,6 +138,37 @@ impl Recorder {
         })?;
         self.words.set(port as usize, value);
         self.told = port + 1;
+        Ok(())
+    }
+
+    // The port has this value in the cycle, which is a change in the first cycle, and later where it had another one.
+    fn tell(&mut self, port: u32, value: u64) -> Result<(), Memory>
+        requires cycle { self.old.cycle < 4096 }
+        requires fits { FitsPort self.old.ports port value }
+        requires order { self.old.told ≤ port }
+        requires first { self.old.cycle ≡ 0 → self.old.told ≡ port }
+        ensures { OnOk result (IsTold self.old port value self.new) }
+    {
+        if self.may_change(port, value) {
+            self.change(port, value)
+        } else {
+            Ok(())
+        }
+    }
+
+    /// Tells the value of each port in the cycle, and goes on to the next one.
+    pub(crate) fn record_cycle(&mut self, words: &[u64]) -> Result<(), Memory>
+        requires cycle { self.old.cycle < 4096 }
+        requires open { self.old.told ≡ 0 }
+        requires count { length words.now ≡ length self.old.ports }
+        requires fits { (k : ℕ) → k < length words.now → FitsPort self.old.ports k (slice_index words.now k) }
+        ensures { OnOk result (Records self.old words.now self.new) }
+    {
+        let _most = self.ports.len();
+        for (port, word) in words.iter().enumerate() {
+            self.tell(port as u32, *word)?;
+        }
+        self.end_cycle();
         Ok(())
     }
 
