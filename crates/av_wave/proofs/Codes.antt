@@ -169,6 +169,13 @@ value_falls [] (suc at) = omega arith
 value_falls (d ∷ text) zero = omega arith
 value_falls (d ∷ text) (suc at) = omega (arith, value_falls text at)
 
+-- where its last digits are no less than a bound, it is not either
+pub value_above : (text : List ℕ) (i at value bound : ℕ) → at ≡ suc i → i < length text → value ≡ code_value (drop at text) → bound ≤ (get_or text i 0 - 33) + 94 * value → bound ≤ code_value text
+value_above text i at value bound next lt is above =
+    let more : code_value (drop i text) ≡ (get_or text i 0 - 33) + 94 * code_value (drop (suc i) text) = value_more text i lt in
+    let here : value ≡ code_value (drop (suc i) text) = is ∙ ap (λ k. code_value (drop k text)) next in
+    omega (arith, value_falls text i)
+
 -- ---- what a code is made of
 
 codes_plain : (most n : ℕ) → AllByRecursion (λ b. b ≢ 10) (code_of most n)

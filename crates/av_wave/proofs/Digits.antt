@@ -151,3 +151,25 @@ small_decimal n small = elim (cases_lt n 10) [
       let whole : n ≡ 10 * (n / 10) + n % 10 = omega arith in
       record { ends = inr (n / 10, n % 10, omega arith, omega arith, omega arith, whole, ap decimal whole ∙ two_decimal (n / 10) (n % 10) (omega arith) (omega arith) (omega arith)) }
 ]
+
+-- and what they are, where there are two
+pub two_of : (number high low : ℕ) → number < 100 → decimal number ≡ high ∷ low ∷ [] → (t : ℕ) × (o : ℕ) × (0 < t) × (t < 10) × (o < 10) × (high ≡ 48 + t) × (low ≡ 48 + o)
+two_of number high low small e = elim (small_decimal number small).ends [
+  | inl one ↦ absurd (let f : high ∷ low ∷ [] ≡ (48 + number) ∷ [] = sym e ∙ one.1 in cc)
+  | inr two ↦
+      let f : high ∷ low ∷ [] ≡ (48 + two.0) ∷ (48 + two.1) ∷ [] = sym e ∙ two.6 in
+      (two.0, two.1, two.2, two.3, two.4, same_head _ _ _ _ f, same_head _ _ _ _ (same_tail _ _ _ _ f))
+]
+
+-- or one
+pub one_of : (number only : ℕ) → number < 100 → decimal number ≡ only ∷ [] → (number < 10) × (only ≡ 48 + number)
+one_of number only small e = elim (small_decimal number small).ends [
+  | inl one ↦ (one.0, same_head _ _ _ _ (sym e ∙ one.1))
+  | inr two ↦ absurd (let f : only ∷ [] ≡ (48 + two.0) ∷ (48 + two.1) ∷ [] = sym e ∙ two.6 in cc)
+]
+
+pub count_of : (number : ℕ) → number < 100 → (0 < length (decimal number)) × (length (decimal number) < 3)
+count_of number small = elim (small_decimal number small).ends [
+  | inl one ↦ (let n : length (decimal number) ≡ 1 = ap length one.1 in (omega arith, omega arith))
+  | inr two ↦ (let n : length (decimal number) ≡ 2 = ap length two.6 in (omega arith, omega arith))
+]
