@@ -20,7 +20,7 @@ use Rattle.av_data.specs.declared.stimulus.Stimulus.{Stimulus}
 use Rattle.av_data.specs.Stimuli.{IsBefore, IsSame}
 use Rattle.av_data.specs.Kept.{is_given, placed}
 use Rattle.av_data.proofs.Sorting.{contains_here, contains_later, contains_cases, none_given, all_of, sorts_more, placed_has, placed_keeps, placed_only}
-use Rattle.av_data.specs.Simulated.{given_word, IsStimulated}
+use Rattle.av_wave.specs.Simulated.{given_word, IsStimulated}
 use Rattle.av_cli.specs.inner.Clocking.{IsFrom, IsForPort, AreLeft}
 use Rattle.av_cli.specs.Shown.{IsIdle, IsFed, word_on, AreShown}
 use Rattle.av_cli.specs.inner.Feeding.{IsOfLine, IsOfOne, AreOfLines}

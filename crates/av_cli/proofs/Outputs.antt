@@ -29,7 +29,7 @@ use Rattle.av_cli.specs.declared.runs.Report.TheVariants.{Results, Trace}
 use Rattle.av_cli.specs.Refusals.{refusal_line, data_reason}
 use Rattle.av_cli.specs.Runs.{results}
 use Rattle.av_cli.specs.Shown.{IsFedRun, AreShown}
-use Rattle.av_data.specs.Simulated.{IsStimulated, run_lines}
+use Rattle.av_wave.specs.Simulated.{IsStimulated, run_lines}
 use Rattle.av_cli.specs.inner.Written.{IsPut, IsAnswered, refused, given, no_memory}
 use Rattle.av_cli.specs.inner.DemoData.{entries, IsSummed}
 use Rattle.av_cli.specs.inner.Feeding.{AreOfLines}

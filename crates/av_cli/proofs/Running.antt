@@ -21,7 +21,7 @@ use Rattle.av_clock.specs.Seen.{Seen, carried}
 use Rattle.av_data.specs.declared.stimulus.Stimulus.{Stimulus}
 use Rattle.av_data.specs.Cycles.{cycle_line}
 use Rattle.av_cli.specs.declared.simulation.Prepared.{Prepared}
-use Rattle.av_data.specs.Simulated.{given_word, IsStimulated, header_ports, port_words, words_line, run_lines}
+use Rattle.av_wave.specs.Simulated.{given_word, IsStimulated, header_ports, port_words, words_line, run_lines}
 use Rattle.av_cli.specs.inner.Clocking.{AreLeft, ArePresented, IsPrepared}
 use Rattle.av_cli.proofs.Presenting.{words_noted}
 use Rattle.av_data.proofs.Lined.{name_there}

@@ -26,7 +26,7 @@ use Rattle.av_data.proofs.Lined.{place_at}
 use Rattle.av_cli.specs.declared.status.Status.{Status}
 use Rattle.av_cli.specs.declared.status.Status.TheVariants.{Done, Refused, WriteFault, Memory as OutOfMemory}
 use Rattle.av_cli.specs.Refusals.{refusal_line, verilog_reason, data_reason}
-use Rattle.av_data.specs.Simulated.{given_word, IsStimulated, run_lines}
+use Rattle.av_wave.specs.Simulated.{given_word, IsStimulated, run_lines}
 use Rattle.av_cli.specs.Sims.{RefusesSim, bad_text, bad_stimulus, GivesSim}
 use Rattle.av_cli.specs.inner.WithModule.{RefusesStimulus, GivesRun}
 use Rattle.av_cli.specs.inner.Written.{IsPut, IsAnswered, refused, given, no_memory, IsClocked}

@@ -11,7 +11,7 @@ use Rattle.av_data.specs.declared.stimulus.Given.{Given}
 use Rattle.av_data.specs.declared.stimulus.Stimulus.{Stimulus}
 use Rattle.av_data.specs.Stimuli.{IsBefore, SpellsStimulus}
 use Rattle.av_data.proofs.Fits.{IsFor, values_fit}
-use Rattle.av_data.specs.Simulated.{given_word}
+use Rattle.av_wave.specs.Simulated.{given_word}
 use Rattle.av_cli.specs.inner.Clocking.{is_here, word_next, rest_next, IsFrom, IsForPort, AreLeft}
 use Rattle.av_data.proofs.Sorting.{pairs_head, pairs_tail}
 use Rattle.av_base.proofs.Truths.{both}

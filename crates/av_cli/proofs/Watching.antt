@@ -16,7 +16,7 @@ use Rattle.av_net.specs.Clocked.{Stream, Run, IsRun, Edge}
 use Rattle.av_net.specs.Sound.{IsSound}
 use Rattle.av_clock.specs.Seen.{Seen, carried}
 use Rattle.av_data.specs.declared.stimulus.Stimulus.{Stimulus}
-use Rattle.av_data.specs.Simulated.{IsStimulated}
+use Rattle.av_wave.specs.Simulated.{IsStimulated}
 use Rattle.av_cli.specs.inner.Clocking.{AreLeft, ArePresented}
 use Rattle.av_cli.specs.Shown.{IsFedRun, AreShown}
 use Rattle.av_cli.specs.inner.Feeding.{AreOfLines}

@@ -23,7 +23,7 @@ use Rattle.av_compile.specs.Headline.{Headline}
 use Rattle.av_cli.specs.Refusals.{data_reason}
 use Rattle.av_cli.specs.Commands.{GiveSizes}
 use Rattle.av_cli.specs.Tables.{RefusesTable}
-use Rattle.av_data.specs.Simulated.{run_lines}
+use Rattle.av_wave.specs.Simulated.{run_lines}
 use Rattle.av_cli.specs.Shown.{IsFedRun}
 
 -- ---- refusals

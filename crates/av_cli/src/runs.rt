@@ -9,7 +9,7 @@ ghost use Rattle.av_net.specs.PlanTexts.{text2};
 ghost use Rattle.av_data.specs.Inputs.{words_of, AreInputsOf};
 ghost use Rattle.av_cli.specs.inner.Clocking.{AreLeft, IsPrepared};
 ghost use Rattle.av_cli.specs.Runs.{results};
-ghost use Rattle.av_data.specs.Simulated.{IsStimulated, run_lines};
+ghost use Rattle.av_wave.specs.Simulated.{IsStimulated, run_lines};
 ghost use Rattle.av_cli.specs.inner.Written.{IsAnswered};
 ghost use Rattle.av_cli.specs.inner.Reported.{RefusesRunWith, GivesReportWith, IsClockable, is_output_named, names_output, RefusesLines, IsReport, GivesReported};
 ghost use Rattle.av_cli.specs.inner.Outputs.{PutsOneOf};

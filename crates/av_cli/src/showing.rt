@@ -9,7 +9,7 @@ ghost use Rattle.av_net.specs.Shown.{Values};
 ghost use Rattle.av_net.specs.Sound.{IsSound};
 ghost use Rattle.av_clock.specs.Seen.{carried};
 ghost use Rattle.av_data.specs.Inputs.{words_of};
-ghost use Rattle.av_data.specs.Simulated.{IsStimulated};
+ghost use Rattle.av_wave.specs.Simulated.{IsStimulated};
 ghost use Rattle.av_cli.specs.inner.Clocking.{AreLeft};
 ghost use Rattle.av_cli.specs.Shown.{AreSmall, AreShown};
 ghost use Rattle.av_cli.specs.inner.Feeding.{AreOfLines};

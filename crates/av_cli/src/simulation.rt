@@ -8,7 +8,7 @@ ghost use Rattle.av_net.specs.Settled.{Agree};
 ghost use Rattle.av_net.specs.Sound.{IsSound};
 ghost use Rattle.av_net.specs.declared.netlist.Module.{Module as Netlist};
 ghost use Rattle.av_clock.specs.Seen.{carried};
-ghost use Rattle.av_data.specs.Simulated.{header_ports, port_words, run_lines, IsStimulated};
+ghost use Rattle.av_wave.specs.Simulated.{header_ports, port_words, run_lines, IsStimulated};
 ghost use Rattle.av_cli.specs.inner.Clocking.{word_next, rest_next, AreLeft, ArePresented, AreWires, IsPrepared};
 
 use av_base::{List, Memory, Name, Sink, WriteFault};

@@ -1,7 +1,6 @@
 pub mod Cycles
 pub mod Lines
 pub mod Stimuli
-pub mod Simulated
 pub mod Reading
 pub mod Kept
 pub mod Divisions

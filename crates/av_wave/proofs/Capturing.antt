@@ -25,7 +25,7 @@ use Rattle.av_data.specs.Reading.{place_of}
 use Rattle.av_data.proofs.Lined.{name_there, place_at}
 use Rattle.av_wave.specs.declared.wave.Change.{Change}
 use Rattle.av_wave.specs.Waves.{Recording, IsWave, zeros, all_changed, changes_to, values_in}
-use Rattle.av_data.specs.Simulated.{given_word, IsStimulated, header_ports, port_words}
+use Rattle.av_wave.specs.Simulated.{given_word, IsStimulated, header_ports, port_words}
 use Rattle.av_wave.specs.Recorded.{IsRecorded, IsCaptured}
 use Rattle.av_wave.specs.inner.Clocking.{AreLeft, ArePresented}
 use Rattle.av_wave.specs.inner.Parts.{Part, IsPart, IsPast, Records, values_now, wave_of}

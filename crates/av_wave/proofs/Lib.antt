@@ -1,3 +1,5 @@
+pub mod Nones
+pub mod Ends
 pub mod Named
 pub mod Digits
 pub mod Codes
@@ -7,9 +9,11 @@ pub mod Lines
 pub mod OneForm
 pub mod PartSteps
 pub mod Rests
+pub mod Parting
 pub mod Runs
 pub mod Reached
 pub mod Faults
+pub mod Reading
 pub mod Written
 pub mod Walking
 pub mod Presenting

@@ -46,7 +46,7 @@ port_parts number p = regroup (codes "$var wire ") (decimal p.width.bits) (code 
     regroup : (a b c d e : List ℕ) → a ++ b ++ (32 ∷ []) ++ c ++ (32 ∷ []) ++ d ++ e ≡ a ++ (b ++ 32 ∷ (c ++ 32 ∷ (d ++ e)))
     regroup a b c d e = simp append_assoc
 
-small_width : (w : Width) → w.bits < 2 ^ 64
+pub small_width : (w : Width) → w.bits < 2 ^ 64
 small_width w = let most : w.bits ≤ 64 = w.most in omega arith
 
 pub port_once : (number : ℕ) (p q : Port) → port_line number p ≡ port_line number q → p ≡ q
@@ -106,7 +106,7 @@ bit_first {rest = rest} {number = number} {value = value} bit e =
     absurd (omega arith)
 
 -- a word has at most 64 bits
-small_word : (w : Width) (value : ℕ) → IsWord w.bits value → value < 2 ^ 64
+pub small_word : (w : Width) (value : ℕ) → IsWord w.bits value → value < 2 ^ 64
 small_word w value fits = elim (cases_lt w.bits 64) [
   | inl lt ↦ (let below : 2 ^ w.bits < 2 ^ 64 = pow_below w.bits 64 lt in omega arith)
   | inr ge ↦ subst (λ n. value < 2 ^ n) (let most : w.bits ≤ 64 = w.most in let is : w.bits ≡ 64 = omega arith in is) fits

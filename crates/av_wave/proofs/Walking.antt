@@ -11,7 +11,7 @@ use Rattle.av_data.specs.declared.stimulus.Given.{Given}
 use Rattle.av_data.specs.declared.stimulus.Stimulus.{Stimulus}
 use Rattle.av_data.specs.Stimuli.{IsBefore}
 use Rattle.av_wave.specs.Recorded.{IsForPort, IsFor}
-use Rattle.av_data.specs.Simulated.{given_word}
+use Rattle.av_wave.specs.Simulated.{given_word}
 use Rattle.av_wave.specs.inner.Clocking.{is_here, word_next, rest_next, IsFrom, AreLeft}
 use Rattle.av_data.proofs.Sorting.{pairs_head, pairs_tail}
 use Rattle.av_base.proofs.Truths.{both}

@@ -1,5 +1,6 @@
 pub mod Waves
 pub mod Dumps
 pub mod Fronts
+pub mod Simulated
 pub mod Recorded
 pub mod inner

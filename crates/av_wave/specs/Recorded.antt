@@ -8,7 +8,7 @@ use Rattle.av_net.specs.Clocked.{Stream, Run, IsRun}
 use Rattle.av_data.specs.declared.stimulus.Given.{Given}
 use Rattle.av_data.specs.declared.stimulus.Stimulus.{Stimulus}
 use Rattle.av_data.specs.Stimuli.{IsBefore}
-use Rattle.av_data.specs.Simulated.{header_ports, IsStimulated}
+use Rattle.av_wave.specs.Simulated.{header_ports, IsStimulated}
 use Rattle.av_wave.specs.Waves.{Recording, IsWave, values_in}
 
 -- the value is for an input port, and fits it

@@ -5,7 +5,7 @@ ghost use Rattle.av_net.specs.Names.{AreDistinct, names_of, targets_of};
 ghost use Rattle.av_net.specs.Settled.{Agree};
 ghost use Rattle.av_net.specs.Sound.{IsSound};
 ghost use Rattle.av_clock.specs.Seen.{carried};
-ghost use Rattle.av_data.specs.Simulated.{header_ports, port_words};
+ghost use Rattle.av_wave.specs.Simulated.{header_ports, port_words};
 ghost use Rattle.av_wave.specs.inner.Clocking.{word_next, rest_next, AreLeft, ArePresented, AreWires};
 
 use av_base::{List, Memory, Name};

@@ -1,6 +1,6 @@
 //! The forms of a dump's lines.
 
-ghost use Rattle.std.specs.Prelude.{◌≡◌, ◌≤◌, ◌++◌, ◌↔◌, ℕ, List, IsTrue, IfSome, IfNone, codes, length};
+ghost use Rattle.std.specs.Prelude.{◌≡◌, ◌<◌, ◌≤◌, ◌+◌, ◌++◌, ◌↔◌, ℕ, List, IsTrue, IfSome, IfNone, codes, length};
 ghost use Rattle.av_net.specs.declared.netlist.Port.{Port as AnyPort};
 ghost use Rattle.av_net.specs.Lexemes.{IsName};
 ghost use Rattle.av_wave.specs.Dumps.{scope_line, port_line, time_line};
@@ -75,17 +75,26 @@ pub(crate) fn begins_cycle(line: &[u8], cycle: u32) -> bool
     }
 }
 
+// The bit that a byte is written for.
+fn bit(byte: u8) -> Option<u64>
+    ensures some { IfSome result (λ value. (value < 2) × (byte ≡ 48 + value)) }
+    ensures none { IfNone result ((value : ℕ) → value < 2 → byte ≡ 48 + value → ⊥) }
+{
+    match byte {
+        b'0' => Some(0),
+        b'1' => Some(1),
+        _ => None,
+    }
+}
+
 // What is told of a port of one bit: the bit and the code of the port.
 fn bit_in(text: &[u8], ports: &[Port]) -> Option<Told>
     requires { length ports.now ≤ 1073741824 }
     ensures some { IfSome result (λ told. SaysBit ports.now text.now told.port told.value) }
     ensures none { IfNone result ((number value : ℕ) → SaysBit ports.now text.now number value → ⊥) }
 {
-    let (value, code) = match text {
-        [b'0', code @ ..] => (0, code),
-        [b'1', code @ ..] => (1, code),
-        _ => return None,
-    };
+    let (first, code) = text.split_first()?;
+    let value = bit(*first)?;
     let port = port_of(code, ports.len() as u32)?;
     if ports[port as usize].width.bits == 1 {
         Some(Told { port, value })
@@ -117,8 +126,8 @@ pub(crate) fn told_by(line: &[u8], ports: &[Port]) -> Option<Told>
     ensures none { IfNone result ((number value : ℕ) → Says ports.now line.now number value → ⊥) }
 {
     let text = before(line, b"\n".as_slice())?;
-    match text {
-        [b'b', text @ ..] => vector_in(text, ports),
-        _ => bit_in(text, ports),
+    match behind(text, b"b".as_slice()) {
+        Some(vector) => vector_in(vector, ports),
+        None => bit_in(text, ports),
     }
 }

@@ -9,7 +9,7 @@ use Rattle.av_net.specs.Sound.{IsSound}
 use Rattle.av_data.specs.declared.stimulus.Given.{Given}
 use Rattle.av_data.specs.Stimuli.{IsBefore}
 use Rattle.av_cli.specs.declared.simulation.Prepared.{Prepared}
-use Rattle.av_data.specs.Simulated.{given_word, header_ports}
+use Rattle.av_wave.specs.Simulated.{given_word, header_ports}
 
 -- ---- the next value
 

@@ -23,7 +23,7 @@ use Rattle.av_cli.specs.declared.runs.Report.{Report}
 use Rattle.av_cli.specs.declared.runs.Report.TheVariants.{Results, Trace}
 use Rattle.av_cli.specs.Commands.{GiveSizes}
 use Rattle.av_cli.specs.Refusals.{data_reason}
-use Rattle.av_data.specs.Simulated.{run_lines}
+use Rattle.av_wave.specs.Simulated.{run_lines}
 use Rattle.av_cli.specs.Shown.{AreShown, IsFedRun}
 use Rattle.av_cli.specs.Runs.{RefusesRun, GivesResults, GivesTrace, results}
 

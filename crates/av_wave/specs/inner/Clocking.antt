@@ -7,7 +7,7 @@ use Rattle.av_net.specs.Meaning.{Words}
 use Rattle.av_net.specs.Names.{targets_of}
 use Rattle.av_data.specs.declared.stimulus.Given.{Given}
 use Rattle.av_data.specs.Stimuli.{IsBefore}
-use Rattle.av_data.specs.Simulated.{given_word}
+use Rattle.av_wave.specs.Simulated.{given_word}
 use Rattle.av_wave.specs.Recorded.{IsForPort}
 
 -- ---- the next value

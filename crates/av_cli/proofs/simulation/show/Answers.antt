@@ -1,7 +1,7 @@
 use Rattle.std.proofs.Common.{◌≡◌, ◌+◌, length, take, ap, ◌∙◌}
 use Rattle.std.proofs.lemmas.List.{length-set}
 use Rattle.av_clock.specs.Seen.{carried}
-use Rattle.av_data.specs.Simulated.{header_ports}
+use Rattle.av_wave.specs.Simulated.{header_ports}
 use Rattle.av_cli.proofs.Presenting.{wire_within, shows_more}
 use Rattle.av_cli.proofs.simulation.show.Goals as goal
 

@@ -1,6 +1,6 @@
 use Rattle.std.proofs.Common.{◌≡◌, ◌+◌, ◌++◌, length, take}
 use Rattle.av_clock.specs.Seen.{carried}
-use Rattle.av_data.specs.Simulated.{port_words}
+use Rattle.av_wave.specs.Simulated.{port_words}
 use Rattle.av_cli.proofs.simulation.show.Given as goal
 
 abbrev pub invariant-loop-i : goal.invariant-loop-i

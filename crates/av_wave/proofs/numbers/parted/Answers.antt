@@ -1,10 +1,7 @@
-use Rattle.std.proofs.Common.{◌≡◌, ◌-◌, ◌++◌, ℕ, List, length, take, drop, ap, sym, ◌∙◌, arith, length-drop}
-use Rattle.std.proofs.lemmas.List.{take_all}
+use Rattle.std.proofs.Common.{◌++◌, ap, sym, ◌∙◌}
 use Rattle.av_wave.proofs.Digits.{parted_is, parted_none}
+use Rattle.av_wave.proofs.Ends.{to_end}
 use Rattle.av_wave.proofs.numbers.parted.Goals as goal
-
-to_end : (text : List ℕ) (len : ℕ) → take (length text - len) (drop len text) ≡ drop len text
-to_end text len = take_all (length text - len) (drop len text) (omega (arith, length-drop len text))
 
 pub returns-in_err-rest-clause-none : goal.returns-in_err-rest-clause-none
 returns-in_err-rest-clause-none c =

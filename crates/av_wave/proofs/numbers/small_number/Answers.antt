@@ -1,18 +1,15 @@
-use Rattle.std.proofs.Common.{◌≡◌, ◌+◌, ◌<◌, ◌≤◌, ◌∷◌, [], ℕ, zero, suc, List, length, get_or, Option, Some, None, sym, ap, ◌∙◌, arith, refl}
-use Rattle.std.specs.Prelude.{IfNone, decimal}
+use Rattle.std.proofs.Common.{◌≡◌, ◌+◌, ◌<◌, ◌≤◌, ◌∷◌, [], ℕ, zero, suc, List, length, get_or, sym, ap, ◌∙◌, arith, refl}
+use Rattle.std.specs.Prelude.{decimal}
 use Rattle.std.proofs.lemmas.Fmt.{decimal_digit}
 use Rattle.std.proofs.lemmas.Option.{IfSome_then}
 use Rattle.av_wave.proofs.Digits.{one_of, count_of}
+use Rattle.av_wave.proofs.Nones.{none_then}
 use Rattle.av_wave.proofs.numbers.small_number.Goals as goal
 
 single : (digits : List ℕ) → 1 ≤ length digits → length digits < 2 → digits ≡ get_or digits 0 0 ∷ []
 single [] some few = absurd (omega arith)
 single (d ∷ []) some few = refl
 single (d ∷ e ∷ digits) some few = absurd (omega arith)
-
-none_then : {X : Type 0} (r : Option X) {P Q : Type 0} → IfNone r P → (P → Q) → IfNone r Q
-none_then None p f = f p
-none_then (Some x) p f = p
 
 other_count : (digits : List ℕ) (number : ℕ) → number < 100 → digits ≡ decimal number → (0 < length digits) × (length digits < 3)
 other_count digits number small e = let n : length digits ≡ length (decimal number) = ap length e in let c = count_of number small in (omega (arith, c.0), omega (arith, c.1))
