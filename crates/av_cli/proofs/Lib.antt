@@ -1,8 +1,5 @@
 pub mod Digits
-pub mod Walking
-pub mod Presenting
 pub mod Running
-pub mod Targets
 mod OptionWords
 mod SizeWords
 pub mod GivenSizes
@@ -23,3 +20,4 @@ pub mod Entering
 mod ResultLines
 mod Totals
 mod Outputs
+mod Unwaving

@@ -10,5 +10,6 @@ pub mod Tables
 pub mod Shown
 pub mod Runs
 pub mod Bests
+pub mod Waves
 pub mod Demos
 pub mod inner

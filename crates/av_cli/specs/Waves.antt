@@ -42,11 +42,15 @@ abbrev pub wave_lines : Recording → ℕ → List ℕ
 wave_lines w zero = []
 wave_lines w (suc n) = wave_lines w n ++ cycle_line n w.ports (port_values w n)
 
+-- as `wave syntax 16`
+abbrev pub wave_reason : ℕ → List ℕ
+wave_reason line = codes "wave syntax " ++ decimal line
+
 -- the bytes are no dump, and this is the first faulty line
 pub record RefusesUnwave (bytes reason : List ℕ) : Type 0 where
   pub line : ℕ
   pub fault : IsWaveFault bytes line
-  pub told : reason ≡ codes "wave syntax " ++ decimal line
+  pub told : reason ≡ wave_reason line
 
 -- the bytes are the dump of a wave, and these are the lines of its cycles
 pub record GivesUnwave (bytes out : List ℕ) : Type 0 where

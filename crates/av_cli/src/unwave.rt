@@ -8,11 +8,10 @@ ghost use Rattle.av_cli.specs.inner.Outputs.{PutsOneOf};
 ghost use Rattle.av_cli.specs.inner.Written.{IsAnswered};
 
 use crate::put::put_wave_refusal;
-use crate::simulation::zeros;
 use crate::status::Status;
 use av_base::{List, Memory, Sink, WriteFault};
 use av_data::write_cycle;
-use av_wave::{Change, Wave, read_wave};
+use av_wave::{Change, Wave, read_wave, zeros};
 use std::alloc::Global;
 
 /// Answers a value change dump.

@@ -8,7 +8,6 @@ use Rattle.std.proofs.lemmas.List.Elements.{All-append, All-map, All-contains, C
 use Rattle.std.proofs.lemmas.Option.{slice_get-get_or, slice_get_within, get_or_from_slice_get}
 use Rattle.av_base.proofs.Lists.{each_append, each_weaker, get_mapped}
 use Rattle.av_net.specs.declared.netlist.Port.{Port}
-use Rattle.av_net.specs.declared.netlist.Step.{Step}
 use Rattle.av_net.specs.declared.netlist.Module.{Module}
 use Rattle.av_net.specs.Meaning.{Words}
 use Rattle.av_net.specs.Names.{names_of, registers_of, given_names, wire_names, all_names}
@@ -16,26 +15,20 @@ use Rattle.av_net.specs.Settled.{Settled, Agree}
 use Rattle.av_net.specs.Clocked.{Stream, Run, IsRun, Edge}
 use Rattle.av_net.specs.Sound.{IsSound}
 use Rattle.av_net.proofs.Cycles.{has_runs}
-use Rattle.av_net.proofs.Distinct.{front_distinct}
-use Rattle.av_net.proofs.Once.{agree_within, same_word, one_settled}
 use Rattle.av_clock.specs.Seen.{Seen, carried}
 use Rattle.av_data.specs.declared.stimulus.Given.{Given}
 use Rattle.av_data.specs.declared.stimulus.Stimulus.{Stimulus}
-use Rattle.av_data.specs.Reading.{place_of}
-use Rattle.av_data.proofs.Lined.{name_there, place_at}
+use Rattle.av_data.proofs.Lined.{name_there}
 use Rattle.av_wave.specs.declared.wave.Change.{Change}
 use Rattle.av_wave.specs.Waves.{Recording, IsWave, zeros, all_changed, changes_to, values_in}
 use Rattle.av_wave.specs.Simulated.{given_word, IsStimulated, header_ports, port_words}
 use Rattle.av_wave.specs.Recorded.{IsRecorded, IsCaptured}
-use Rattle.av_wave.specs.inner.Clocking.{AreLeft, ArePresented}
+use Rattle.av_wave.specs.Clocking.{AreLeft, ArePresented}
 use Rattle.av_wave.specs.inner.Parts.{Part, IsPart, IsPast, Records, values_now, wave_of}
 use Rattle.av_wave.proofs.PartSteps.{part_wave}
-use Rattle.av_wave.proofs.Presenting.{words_noted, given_distinct}
+use Rattle.av_wave.proofs.Presenting.{words_noted}
+use Rattle.av_wave.proofs.Cycling.{ForRuns, tick_registers, presented, settled_cycle, header_named, stream_of, is_stream}
 use Rattle.av_wave.proofs.Values.{to_on}
-
--- what holds of each run under the stimulus
-abbrev pub ForRuns : Module → Stimulus → (Run → Type 0) → Type 0
-ForRuns m s P = (stream : Stream) (run : Run) → IsStimulated m s stream → IsRun m s.cycles stream run → P run
 
 -- the values in the first cycles are those of the run
 abbrev pub AreValues : Module → Part → ℕ → Run → Type 0
@@ -53,46 +46,6 @@ pub record IsCapturing (m : Module) (s : Stimulus) (c : ℕ) (clock : Seen) (wor
   pub registers : ForRuns m s (λ run. c < s.cycles → Agree (names_of m.registers) (carried clock) (run.in_cycle c))
   pub left : AreLeft m.inputs s.values c 0 (drop next s.values)
   pub within : next ≤ length s.values
-
--- ---- registers
-
--- registers that took the same words agree
-stepped : (m : Module) (v w : Words) → IsSound m → All (λ step. v step.register ≡ w step.register) m.steps → Agree (names_of m.registers) v w
-stepped m v w sound steps = agree_within (registers_of m.steps) (names_of m.registers) v w (All-map (λ name. v name ≡ w name) (λ (step : Step). step.register) m.steps steps) sound.registers_stepped
-
-pub reset_registers : (m : Module) (s : Stimulus) (before v : Words) → IsSound m → Edge m true before v → ForRuns m s (λ run. 0 < s.cycles → Agree (names_of m.registers) v (run.in_cycle 0))
-reset_registers m s before v sound edge = λ stream run stimulated is lt. stepped m v (run.in_cycle 0) sound (λ k d at. edge k d at ∙ sym (is.reset k d at))
-
-tick_registers : (m : Module) (s : Stimulus) (c : ℕ) (v v' : Words) → IsSound m → Edge m false v v' → ForRuns m s (λ run. c < s.cycles → Agree (all_names m) v (run.in_cycle c))
-    → ForRuns m s (λ run. c + 1 < s.cycles → Agree (names_of m.registers) v' (run.in_cycle (c + 1)))
-tick_registers m s c v v' sound edge same = λ stream run stimulated is lt.
-    stepped m v' (run.in_cycle (c + 1)) sound
-    (λ k d at. edge k d at ∙ same_word (all_names m) v (run.in_cycle c) (get_or m.steps k d).next (same stream run stimulated is (omega (arith, lt))) (sound.steps_read k d at) ∙ sym (is.edges c lt k d at))
-
--- ---- a settled cycle
-
--- the input ports have what is given to them
-presented : (m : Module) (s : Stimulus) (c : ℕ) (v : Words) → ((k : ℕ) (port : Port) → slice_get m.inputs k ≡ Some port → v port.name ≡ given_word s.values c k)
-    → ForRuns m s (λ run. c < s.cycles → Agree (names_of m.inputs) v (run.in_cycle c))
-presented m s c v given = λ stream run stimulated is lt.
-    All-map (λ name. v name ≡ run.in_cycle c name) (λ (port : Port). port.name) m.inputs
-    (λ k d at.
-    let port = get_or m.inputs k d in
-    let there = slice_get-get_or m.inputs k d at in
-    given k port there ∙ sym (stimulated.in_cycles c k port there) ∙ sym (is.ports c lt k d at))
-
-settled_cycle : (m : Module) (s : Stimulus) (c : ℕ) (v w : Words) → IsSound m → ForRuns m s (λ run. c < s.cycles → Agree (names_of m.inputs) v (run.in_cycle c))
-    → ForRuns m s (λ run. c < s.cycles → Agree (names_of m.registers) v (run.in_cycle c)) → Agree (given_names m) v w → Settled m w → ForRuns m s (λ run. c < s.cycles → Agree (all_names m) w (run.in_cycle c))
-settled_cycle m s c v w sound inputs registers kept settled = λ stream run stimulated is lt.
-    let both : Agree (given_names m) v (run.in_cycle c) = All-append (λ name. v name ≡ run.in_cycle c name) (names_of m.inputs) (names_of m.registers) (inputs stream run stimulated is lt) (registers stream run stimulated is lt) in
-    let given : Agree (given_names m) w (run.in_cycle c) = λ k d at. sym (kept k d at) ∙ both k d at in
-    All-append (λ name. w name ≡ run.in_cycle c name) (given_names m) (wire_names m) given (one_settled m sound w (run.in_cycle c) given settled (is.settled c lt))
-
--- the ports of the header are declared
-header_named : (m : Module) → All (λ port. Contains (all_names m) port.name) (header_ports m)
-header_named m = All-append (λ port. Contains (all_names m) port.name) m.inputs m.outputs
-    (λ k d lt. let port = get_or m.inputs k d in Contains-append_left (given_names m) (wire_names m) port.name (Contains-append_left (names_of m.inputs) (names_of m.registers) port.name (name_there m.inputs k port (slice_get-get_or m.inputs k d lt))))
-    (λ k d lt. let port = get_or m.outputs k d in Contains-append_right (given_names m) (wire_names m) port.name (Contains-append_left (names_of m.outputs) (names_of m.wires) port.name (name_there m.outputs k port (slice_get-get_or m.outputs k d lt))))
 
 -- ---- changes by cycles
 
@@ -187,20 +140,6 @@ captures_on m s c inputs next next' clock seen seen' clock' before words words' 
     }
 
 -- ---- the whole run
-
-abbrev word_by : List Given → ℕ → Option ℕ → ℕ
-word_by values c None = 0
-word_by values c (Some k) = given_word values c k
-
-stream_of : Module → Stimulus → Stream
-stream_of m s = record { on_reset = λ name. 0; in_cycle = λ c name. word_by s.values c (place_of m.inputs name) }
-
-is_stream : (m : Module) (s : Stimulus) → IsSound m → IsStimulated m s (stream_of m s)
-unfolding stream_of
-is_stream m s sound = record {
-  on_reset = λ k d lt. refl;
-  in_cycles = λ c k port e. ap (word_by s.values c) (place_at m.inputs k port (front_distinct (names_of m.inputs) (names_of m.registers) (given_distinct m sound)) e);
-}
 
 pub captured : (m : Module) (s : Stimulus) (c : ℕ) (clock : Seen) (words : List ℕ) (p : Part) (next : ℕ) (w : Recording) → IsSound m → IsPart p → IsCapturing m s c clock words p next → c ≡ s.cycles → w ≡ wave_of p → IsCaptured m s w
 captured m s c clock words p next w sound part so_far all is =

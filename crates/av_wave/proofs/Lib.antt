@@ -8,6 +8,7 @@ pub mod Values
 pub mod Lines
 pub mod OneForm
 pub mod PartSteps
+pub mod Telling
 pub mod Rests
 pub mod Parting
 pub mod Runs
@@ -17,5 +18,6 @@ pub mod Reading
 pub mod Written
 pub mod Walking
 pub mod Presenting
-pub mod Targets
+pub mod Driven
+pub mod Cycling
 pub mod Capturing

@@ -16,7 +16,7 @@ use Rattle.av_net.proofs.Distinct.{apart, front_distinct, rest_distinct}
 use Rattle.av_clock.specs.Seen.{Seen, carried}
 use Rattle.av_data.specs.declared.stimulus.Given.{Given}
 use Rattle.av_wave.specs.Simulated.{given_word, port_words}
-use Rattle.av_wave.specs.inner.Clocking.{ArePresented, AreWires}
+use Rattle.av_wave.specs.Clocking.{ArePresented, AreWires}
 use Rattle.av_data.proofs.Lined.{name_there}
 
 abbrev name_in : Port → List ℕ

@@ -12,7 +12,7 @@ use Rattle.av_data.specs.declared.stimulus.Stimulus.{Stimulus}
 use Rattle.av_data.specs.Stimuli.{IsBefore}
 use Rattle.av_wave.specs.Recorded.{IsForPort, IsFor}
 use Rattle.av_wave.specs.Simulated.{given_word}
-use Rattle.av_wave.specs.inner.Clocking.{is_here, word_next, rest_next, IsFrom, AreLeft}
+use Rattle.av_wave.specs.Clocking.{is_here, word_next, rest_next, IsFrom, AreLeft}
 use Rattle.av_data.proofs.Sorting.{pairs_head, pairs_tail}
 use Rattle.av_base.proofs.Truths.{both}
 use Rattle.av_data.proofs.Lined.{one_some}
@@ -167,12 +167,12 @@ cycle_left inputs given c n left is ready = record {
         (next values (All-tail (λ g. IsFrom c n g.cycle g.port) g values all) (All-tail (IsForPort inputs) g values fit))
 
 -- at first all values are left
-pub all_left : (inputs : List Port) (s : Stimulus) → IsFor inputs s → AreLeft inputs s.values 0 0 s.values
-all_left inputs s is = record {
+pub values_left : (inputs : List Port) (values : List Given) → AllPairs IsBefore values → All (IsForPort inputs) values → AreLeft inputs values 0 0 values
+values_left inputs given ascending fit = record {
   words = λ c k from. refl;
-  ahead = first s.values;
-  ascending = is.ascending;
-  fit = is.fit;
+  ahead = first given;
+  ascending = ascending;
+  fit = fit;
 }
   where
     from_start : (c k : ℕ) → IsFrom 0 0 c k
@@ -182,3 +182,6 @@ all_left inputs s is = record {
     first : (values : List Given) → All (λ g. IsFrom 0 0 g.cycle g.port) values
     first [] = All-nil (λ g. IsFrom 0 0 g.cycle g.port)
     first (g ∷ values) = All-cons (λ g. IsFrom 0 0 g.cycle g.port) g values (from_start g.cycle g.port) (first values)
+
+pub all_left : (inputs : List Port) (s : Stimulus) → IsFor inputs s → AreLeft inputs s.values 0 0 s.values
+all_left inputs s is = values_left inputs s.values is.ascending is.fit

@@ -3,4 +3,5 @@ pub mod Dumps
 pub mod Fronts
 pub mod Simulated
 pub mod Recorded
+pub mod Clocking
 pub mod inner

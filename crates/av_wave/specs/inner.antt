@@ -1,4 +1,3 @@
-pub mod Clocking
 pub mod Codes
 pub mod Heads
 pub mod Lines

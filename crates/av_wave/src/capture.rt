@@ -3,8 +3,8 @@ ghost use Rattle.av_net.specs.Sound.{IsSound};
 ghost use Rattle.av_net.specs.Designs.{HasSpelling};
 ghost use Rattle.av_wave.specs.Recorded.{IsFor, IsCaptured};
 
-use crate::feed::{header_ports, present, show, wires};
-use crate::recorder::{Recorder, zeros};
+use crate::feed::{header_ports, present, show, wires, zeros};
+use crate::recorder::Recorder;
 use crate::wave::Wave;
 use av_base::{Memory, Name};
 use av_clock::Clock;

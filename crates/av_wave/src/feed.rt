@@ -1,12 +1,12 @@
 //! A clock whose ports are fed and read cycle by cycle.
 
-ghost use Rattle.std.specs.Prelude.{◌≡◌, ◌<◌, ◌≤◌, ◌+◌, ◌++◌, ◌^◌, IsTrue, length, take, drop, slice_get, Some, Contains, IfOk, OnOk};
+ghost use Rattle.std.specs.Prelude.{◌≡◌, ◌<◌, ◌≤◌, ◌+◌, ◌++◌, ◌^◌, IsTrue, length, take, drop, replicate, slice_get, Some, Contains, IfOk, OnOk};
 ghost use Rattle.av_net.specs.Names.{AreDistinct, names_of, targets_of};
 ghost use Rattle.av_net.specs.Settled.{Agree};
 ghost use Rattle.av_net.specs.Sound.{IsSound};
 ghost use Rattle.av_clock.specs.Seen.{carried};
 ghost use Rattle.av_wave.specs.Simulated.{header_ports, port_words};
-ghost use Rattle.av_wave.specs.inner.Clocking.{word_next, rest_next, AreLeft, ArePresented, AreWires};
+ghost use Rattle.av_wave.specs.Clocking.{word_next, rest_next, AreLeft, ArePresented, AreWires};
 
 use av_base::{List, Memory, Name};
 use av_clock::Clock;
@@ -14,6 +14,18 @@ use av_data::Given;
 use av_net::{Drive, Module, Port};
 use av_table::NameSet;
 use std::alloc::Global;
+
+/// So many words that are 0.
+pub fn zeros(alloc: Global, count: usize) -> Result<List<u64>, Memory>
+    ensures zeros { IfOk result (λ words. words ≡ replicate count 0) }
+    ensures count { IfOk result (λ words. length words ≡ count) }
+{
+    let mut words = List::new(alloc);
+    for _ in 0..count {
+        words.push(0)?;
+    }
+    Ok(words)
+}
 
 fn push_ports(alloc: Global, list: &mut List<Port>, ports: &[Port]) -> Result<(), Memory>
     ensures { OnOk result (list.new ≡ list.old ++ ports.now) }
@@ -25,7 +37,7 @@ fn push_ports(alloc: Global, list: &mut List<Port>, ports: &[Port]) -> Result<()
 }
 
 /// The ports of a module but `clk` and `rst`, in the order of the header.
-pub(crate) fn header_ports(alloc: Global, of: &Module) -> Result<List<Port>, Memory>
+pub fn header_ports(alloc: Global, of: &Module) -> Result<List<Port>, Memory>
     ensures { IfOk result (λ ports. ports ≡ header_ports of.now) }
 {
     let mut ports = List::new(alloc);
@@ -34,8 +46,8 @@ pub(crate) fn header_ports(alloc: Global, of: &Module) -> Result<List<Port>, Mem
     Ok(ports)
 }
 
-// The targets of the drives, in order.
-fn targets(alloc: Global, drives: &[Drive]) -> Result<NameSet<'_>, Memory>
+/// The targets of the drives, in order.
+pub fn targets(alloc: Global, drives: &[Drive]) -> Result<NameSet<'_>, Memory>
     requires { AreDistinct (targets_of drives.now) }
     ensures { IfOk result (λ targets. targets ≡ targets_of drives.now) }
 {
@@ -46,15 +58,15 @@ fn targets(alloc: Global, drives: &[Drive]) -> Result<NameSet<'_>, Memory>
     Ok(targets)
 }
 
-// 32 bits number the items of a list.
-fn are_numbered<T>(items: &List<T>)
+/// 32 bits number the items of a list.
+pub fn are_numbered<T>(items: &List<T>)
     ensures { length items.now < 2 ^ 32 }
 {
     let _count = items.len();
 }
 
-// The place of a name, as a number of 32 bits.
-fn place_of(targets: &NameSet, name: &Name) -> u32
+/// The place of a name, as a number of 32 bits.
+pub fn place_of(targets: &NameSet, name: &Name) -> u32
     requires among { Contains targets.now name.now }
     requires few { length targets.now < 2 ^ 32 }
     ensures { slice_get targets.now result ≡ Some name.now }
@@ -66,7 +78,7 @@ fn place_of(targets: &NameSet, name: &Name) -> u32
 }
 
 /// The place of the drive of each output.
-pub(crate) fn wires(alloc: Global, of: &Module) -> Result<List<u32>, Memory>
+pub fn wires(alloc: Global, of: &Module) -> Result<List<u32>, Memory>
     requires { IsSound of.now }
     ensures { IfOk result (λ wires. AreWires of.now (length of.now.outputs) wires) }
 {
@@ -97,7 +109,7 @@ fn word_next(given: &[Given], next: usize, cycle: u32, port: u32) -> (u64, usize
 
 /// Presents at all input ports what is given to them in a cycle, and notes it. The values for it begin at
 /// `first`, and where those for the next cycle begin is the answer.
-pub(crate) fn present(
+pub fn present(
     clock: &mut Clock<'_>,
     inputs: u32,
     given: &[Given],
@@ -128,7 +140,7 @@ pub(crate) fn present(
 }
 
 /// Notes the words of the outputs behind those of the input ports.
-pub(crate) fn show(clock: &Clock<'_>, inputs: u32, wires: &[u32], words: &mut List<u64>)
+pub fn show(clock: &Clock<'_>, inputs: u32, wires: &[u32], words: &mut List<u64>)
     requires settled { IsTrue clock.now.settled }
     requires wires { AreWires clock.now.of (length clock.now.of.outputs) wires.now }
     requires room { length words.old ≡ length (header_ports clock.now.of) }

@@ -18,6 +18,7 @@ mod writer;
 
 pub use capture::capture;
 pub use fault::WaveFault;
+pub use feed::{are_numbered, header_ports, place_of, present, show, targets, wires, zeros};
 pub use laws::{dumps_are_unique, dumps_have_one_fault};
 pub use reader::read_wave;
 pub use wave::{Change, Wave};

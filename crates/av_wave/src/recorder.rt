@@ -5,6 +5,7 @@ ghost use Rattle.av_net.specs.Lexemes.{IsName};
 ghost use Rattle.av_net.specs.Names.{names_of, AreDistinct};
 ghost use Rattle.av_wave.specs.inner.Parts.{at_first, told_of, next_cycle, wave_of, IsNext, FitsPort, MayEnd, IsTold, Records};
 
+use crate::feed::zeros;
 use crate::wave::{Change, Wave};
 use av_base::limits::MOST_CYCLES;
 use av_base::{List, Memory, Name};
@@ -39,17 +40,6 @@ impl Model for Recorder {
     ghost view = { part_of };
 
     ghost invariant = { IsKept };
-}
-
-/// So many words that are 0.
-pub(crate) fn zeros(alloc: Global, count: usize) -> Result<List<u64>, Memory>
-    ensures { IfOk result (λ words. words ≡ replicate count 0) }
-{
-    let mut words = List::new(alloc);
-    for _ in 0..count {
-        words.push(0)?;
-    }
-    Ok(words)
 }
 
 impl Recorder {

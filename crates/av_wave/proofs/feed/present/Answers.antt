@@ -2,7 +2,7 @@ use Rattle.std.proofs.Common.{◌≡◌, ◌+◌, ◌<◌, length, drop, sym, ap
 use Rattle.std.proofs.lemmas.List.{length-set}
 use Rattle.av_clock.specs.Seen.{carried}
 use Rattle.av_net.specs.declared.netlist.Module.{Module}
-use Rattle.av_wave.specs.inner.Clocking.{AreLeft, ArePresented}
+use Rattle.av_wave.specs.Clocking.{AreLeft, ArePresented}
 use Rattle.av_wave.proofs.Walking.{word_is, port_left, cycle_left}
 use Rattle.av_wave.proofs.Presenting.{turn}
 use Rattle.av_wave.proofs.feed.present.Goals as goal

@@ -2,7 +2,7 @@ use Rattle.std.proofs.Common.{◌≡◌, ◌≤◌, length, drop}
 use Rattle.av_net.specs.Names.{names_of}
 use Rattle.av_net.specs.Settled.{Agree}
 use Rattle.av_clock.specs.Seen.{carried}
-use Rattle.av_wave.specs.inner.Clocking.{AreLeft, ArePresented}
+use Rattle.av_wave.specs.Clocking.{AreLeft, ArePresented}
 use Rattle.av_wave.proofs.feed.present.Given as goal
 
 abbrev pub invariant-loop-port : goal.invariant-loop-port

@@ -2,7 +2,7 @@ use Rattle.std.proofs.Common.{◌++◌, ◌∷◌, [], sym, ap, ◌∙◌}
 use Rattle.av_net.specs.Names.{targets_of}
 use Rattle.av_net.specs.Rows.{is_in}
 use Rattle.av_data.proofs.Named.{added, is_new, one_named}
-use Rattle.av_wave.proofs.Targets.{target_name}
+use Rattle.av_wave.proofs.Driven.{target_name}
 use Rattle.av_wave.proofs.feed.targets.Goals as goal
 
 pub loop-drive-preserved : goal.loop-drive-preserved

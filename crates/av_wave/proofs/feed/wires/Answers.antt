@@ -2,7 +2,7 @@ use Rattle.std.proofs.Common.{◌≡◌, Some, slice_get, sym, ap, ◌∙◌, su
 use Rattle.std.specs.Prelude.{Contains}
 use Rattle.std.proofs.lemmas.Option.{slice_get-get_or}
 use Rattle.av_net.specs.Names.{targets_of}
-use Rattle.av_wave.proofs.Targets.{few_targets, output_driven, wires_more}
+use Rattle.av_wave.proofs.Driven.{few_targets, output_driven, wires_more}
 use Rattle.av_wave.proofs.feed.wires.Goals as goal
 
 pub place_of-requires-clause-few : goal.place_of-requires-clause-few

@@ -1,4 +1,4 @@
-use Rattle.av_wave.specs.inner.Clocking.{AreWires}
+use Rattle.av_wave.specs.Clocking.{AreWires}
 use Rattle.av_wave.proofs.feed.wires.Given as goal
 
 abbrev pub invariant-loop-port : goal.invariant-loop-port

@@ -9,7 +9,7 @@ use Rattle.av_net.specs.declared.netlist.Drive.{Drive}
 use Rattle.av_net.specs.declared.netlist.Module.{Module}
 use Rattle.av_net.specs.Names.{names_of, targets_of, wire_names}
 use Rattle.av_net.specs.Sound.{IsSound}
-use Rattle.av_wave.specs.inner.Clocking.{AreWires}
+use Rattle.av_wave.specs.Clocking.{AreWires}
 use Rattle.av_data.proofs.Lined.{name_there}
 
 pub target_name : (drives : List Drive) (i : ℕ) (drive : Drive) → i < length drives → drive ≡ get_or drives i drive → (i < length (targets_of drives)) × (drive.target ≡ get_or (targets_of drives) i drive.target)
