@@ -1,4 +1,5 @@
 pub mod Digits
+pub mod Prefixes
 pub mod Running
 mod OptionWords
 mod SizeWords

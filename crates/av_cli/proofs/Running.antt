@@ -25,6 +25,7 @@ use Rattle.av_wave.specs.Simulated.{given_word, IsStimulated, header_ports, port
 use Rattle.av_wave.specs.Clocking.{AreLeft, ArePresented}
 use Rattle.av_cli.specs.inner.Clocking.{IsPrepared}
 use Rattle.av_wave.proofs.Presenting.{words_noted}
+use Rattle.av_cli.proofs.Prefixes.{lines_split}
 use Rattle.av_wave.proofs.Cycling.{ForRuns, tick_registers, presented, settled_cycle, header_named}
 use Rattle.av_data.proofs.Lined.{name_there}
 
@@ -53,21 +54,6 @@ shown_line m s c w same = λ stream run stimulated is lt.
 
 -- ---- lines
 
--- the lines of a run begin with those of its first cycles
-lines_split : (m : Module) (in_cycle : ℕ → Words) (c n : ℕ) → c < n → (rest : List ℕ) × (run_lines m in_cycle n ≡ run_lines m in_cycle c ++ (words_line m (in_cycle c) c ++ rest))
-lines_split m in_cycle c zero lt = absurd (omega arith)
-lines_split m in_cycle c (suc n) lt = elim (cases_lt c n) [
-  | inl less ↦
-      let (rest, is) = lines_split m in_cycle c n less in
-      let last = words_line m (in_cycle n) n in (
-        rest ++ last,
-        ap (λ z. z ++ last) is ∙ append_assoc (run_lines m in_cycle c) (words_line m (in_cycle c) c ++ rest) last ∙ ap (λ z. run_lines m in_cycle c ++ z) (append_assoc (words_line m (in_cycle c) c) rest last),
-      )
-  | inr ge ↦
-      let same : n ≡ c = omega (arith, ge, lt) in
-      ([], ap (λ k. run_lines m in_cycle k ++ words_line m (in_cycle k) k) same ∙ ap (λ z. run_lines m in_cycle c ++ z) (sym (append-nil (words_line m (in_cycle c) c))))
-]
-
 pub line_added : (m : Module) (s : Stimulus) (c : ℕ) (held held' held'' : Option (List ℕ)) (line : List ℕ) → c < s.cycles → ForRuns m s (λ run. Adds held held' (run_lines m run.in_cycle c)) → Adds held' held'' line
     → ForRuns m s (λ run. c < s.cycles → line ≡ words_line m (run.in_cycle c) c) → ForRuns m s (λ run. Adds held held'' (run_lines m run.in_cycle (c + 1)))
 line_added m s c held held' held'' line lt so adds is = λ stream run stimulated clocked.
@@ -79,7 +65,7 @@ pub front_added : (m : Module) (s : Stimulus) (c : ℕ) (held held' held'' : Opt
     → ForRuns m s (λ run. c < s.cycles → line ≡ words_line m (run.in_cycle c) c) → ForRuns m s (λ run. AddsPrefix held held'' (run_lines m run.in_cycle s.cycles))
 front_added m s c held held' held'' line lt so (n, adds) is = λ stream run stimulated clocked.
     let before = run_lines m run.in_cycle c in
-    let (rest, split) = lines_split m run.in_cycle c s.cycles lt in
+    let (rest, split) = lines_split (run_lines m run.in_cycle) (λ k. words_line m (run.in_cycle k) k) (λ k. refl) c s.cycles lt in
     let same : run_lines m run.in_cycle s.cycles ≡ before ++ (line ++ rest) = split ∙ ap (λ z. before ++ (z ++ rest)) (sym (is stream run stimulated clocked lt)) in
     let all : Adds held held'' (before ++ take n line) = Adds-more held held' held'' before (take n line) (so stream run stimulated clocked) adds in
     let front : take (length before + length (take n line)) (before ++ (line ++ rest)) ≡ before ++ take n line = take-append-add before (line ++ rest) (length (take n line)) ∙ ap (λ z. before ++ z) (begins n line rest) in

@@ -49,11 +49,13 @@ fn write_cycles<K: Sink>(
     ensures fault { IsErr result → HasRisen (K.state sink.old).faults (K.state sink.new).faults }
     ensures front { OnErr result (AddsPrefix (K.state sink.old).held (K.state sink.new).held (wave_lines wave.now wave.now.cycles)) }
 {
+    let ports = wave.ports.as_slice();
     let changes = wave.changes.as_slice();
+    let cycles = wave.cycles;
     let mut next = 0;
-    for cycle in 0..wave.cycles {
+    for cycle in 0..cycles {
         next = make_changes(words, changes, next, cycle);
-        write_cycle(cycle, wave.ports.as_slice(), words.as_slice(), sink)?;
+        write_cycle(cycle, ports, words.as_slice(), sink)?;
     }
     Ok(())
 }

@@ -137,6 +137,17 @@ fault_at_end bytes at line s read end none =
         let same : Cycles told.last ≡ s = leads_once Timescale (Cycles told.last) s (dump_lines w) told.goes goes in
         none w (subst (λ a. EndsAs a w) same (told.open_is, sym told.wave_is))
 
+pub read_is_wave : (bytes : List ℕ) (at line : ℕ) (s : Stage) (w : Recording) → IsRead bytes at line s → length bytes ≤ at → EndsAs s w → IsWave w
+read_is_wave bytes at line Timescale w read end ends = absurd ends
+read_is_wave bytes at line Scope w read end ends = absurd ends
+read_is_wave bytes at line (Ports head) w read end ends = absurd ends
+read_is_wave bytes at line (Definitions head) w read end ends = absurd ends
+read_is_wave bytes at line (Start head) w read end ends = absurd ends
+read_is_wave bytes at line (Cycles p) w read end (none, is) =
+    let goes = all_read bytes at line (Cycles p) read end in
+    let tells = leads_reach Timescale (Cycles p) [] (whole_lines bytes) refl goes in
+    subst IsWave (sym is) (told_wave p (whole_lines bytes) tells none)
+
 -- or are the text of a wave
 pub read_whole : (bytes : List ℕ) (at line : ℕ) (s : Stage) (w : Recording) → IsRead bytes at line s → length bytes ≤ at → EndsAs s w → bytes ≡ dump_text w
 read_whole bytes at line Timescale w read end ends = absurd ends

@@ -14,7 +14,7 @@ use Rattle.av_wave.specs.inner.Lines.{first_line}
 use Rattle.av_wave.specs.inner.Stages.{Takes, EndsAs}
 use Rattle.av_wave.proofs.Ends.{to_end}
 use Rattle.av_wave.proofs.Lines.{next_line, line_some, line_within}
-use Rattle.av_wave.proofs.Faults.{IsRead, read_on, fault_here, fault_at_end, fault_once, read_whole, found_only}
+use Rattle.av_wave.proofs.Faults.{IsRead, read_on, fault_here, fault_at_end, fault_once, read_is_wave, read_whole, found_only}
 
 -- ---- the first line
 
@@ -98,14 +98,17 @@ faulty_end bytes at line s read end none = answers_fault bytes line (fault_at_en
 
 -- what holds where a wave is answered
 pub record AnswersWave (bytes : List ℕ) (wave : Recording) : Type 0 where
+  pub is : IsWave wave
   pub found : bytes ≡ dump_text wave
   pub only : (other : Recording) → IsWave other → bytes ≡ dump_text other → wave ≡ other
   pub refused : (line : ℕ) → IsWaveFault bytes line → ⊥
 
-pub answers_wave : (bytes : List ℕ) (at line : ℕ) (s : Stage) (wave : Recording) → IsWave wave → IsRead bytes at line s → length bytes ≤ at → EndsAs s wave → AnswersWave bytes wave
-answers_wave bytes at line s wave is read end ends =
+pub answers_wave : (bytes : List ℕ) (at line : ℕ) (s : Stage) (wave : Recording) → IsRead bytes at line s → length bytes ≤ at → EndsAs s wave → AnswersWave bytes wave
+answers_wave bytes at line s wave read end ends =
+    let is = read_is_wave bytes at line s wave read end ends in
     let text = read_whole bytes at line s wave read end ends in
     record {
+      is = is;
       found = text;
       only = λ other other_is e. found_only bytes wave other is text other_is e;
       refused = λ n fault. fault.none wave is text;

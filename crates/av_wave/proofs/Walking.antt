@@ -185,3 +185,14 @@ values_left inputs given ascending fit = record {
 
 pub all_left : (inputs : List Port) (s : Stimulus) → IsFor inputs s → AreLeft inputs s.values 0 0 s.values
 all_left inputs s is = values_left inputs s.values is.ascending is.fit
+
+-- what is given to a port fits it
+pub given_fits : (inputs : List Port) (values : List Given) (c k : ℕ) (port : Port) → All (IsForPort inputs) values → slice_get inputs k ≡ Some port → IsWord port.width.bits (given_word values c k)
+given_fits inputs [] c k port fit there = one-le-pow port.width.bits 2 (omega arith)
+given_fits inputs (g ∷ values) c k port fit there = one (is_here c k g) refl (All-head (IsForPort inputs) g values fit) (given_fits inputs values c k port (All-tail (IsForPort inputs) g values fit) there)
+  where
+    one : (t : Bool) → is_here c k g ≡ t → IsForPort inputs g → IsWord port.width.bits (given_word values c k) → IsWord port.width.bits (if t then g.value else given_word values c k)
+    one true e (p, declared, fits) rest =
+        let same : p ≡ port = one_some (sym declared ∙ ap (slice_get inputs) (here_is c k g e).1 ∙ there) in
+        subst (λ (q : Port). IsWord q.width.bits g.value) same fits
+    one false e fits rest = rest

@@ -2,7 +2,6 @@
 #![tactic(auto)]
 
 mod binary;
-mod capture;
 mod code;
 mod fault;
 mod feed;
@@ -12,14 +11,15 @@ mod numbers;
 mod pieces;
 mod reader;
 mod recorder;
+mod recording;
 mod stage;
 mod wave;
 mod writer;
 
-pub use capture::capture;
 pub use fault::WaveFault;
 pub use feed::{are_numbered, header_ports, place_of, present, show, targets, wires, zeros};
 pub use laws::{dumps_are_unique, dumps_have_one_fault};
 pub use reader::read_wave;
+pub use recording::capture;
 pub use wave::{Change, Wave};
 pub use writer::write_wave;

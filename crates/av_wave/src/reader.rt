@@ -18,6 +18,7 @@ pub fn read_wave(alloc: Global, bytes: &[u8]) -> Result<Wave, WaveFault>
     requires { length bytes.now < 4294967295 }
 
     // What is read is the wave's text, and a wave's text is read, unless memory runs out.
+    ensures wave { IfOk result IsWave }
     ensures found { IfOk result (λ wave. bytes.now ≡ dump_text wave) }
     ensures only { (wave : Recording) → IsWave wave → bytes.now ≡ dump_text wave → GivesWave result wave }
 

@@ -3,7 +3,7 @@
 ghost use Rattle.std.specs.Prelude.{◌≡◌, ◌<◌, ◌≤◌, ◌+◌, ◌↔◌, ℕ, slice_index, IsTrue, IfOk, OnOk, All, length, replicate};
 ghost use Rattle.av_net.specs.Lexemes.{IsName};
 ghost use Rattle.av_net.specs.Names.{names_of, AreDistinct};
-ghost use Rattle.av_wave.specs.inner.Parts.{at_first, told_of, next_cycle, wave_of, IsNext, FitsPort, MayEnd, IsTold, Records};
+ghost use Rattle.av_wave.specs.inner.Parts.{at_first, told_of, next_cycle, wave_of, IsPart, IsNext, FitsPort, MayEnd, IsTold, Records};
 
 use crate::feed::zeros;
 use crate::wave::{Change, Wave};
@@ -48,7 +48,8 @@ impl Recorder {
         requires named { IsName name }
         requires ports_named { All IsName (names_of ports) }
         requires apart { AreDistinct (names_of ports) }
-        ensures { IfOk result (λ recorder. recorder ≡ at_first name ports) }
+        ensures first { IfOk result (λ recorder. recorder ≡ at_first name ports) }
+        ensures part { IfOk result IsPart }
     {
         let words = zeros(alloc, ports.len())?;
         Ok(Recorder {
@@ -96,7 +97,8 @@ impl Recorder {
     /// Goes on to the next cycle.
     pub(crate) fn end_cycle(&mut self)
         requires { MayEnd self.old }
-        ensures { self.new ≡ next_cycle self.old }
+        ensures next { self.new ≡ next_cycle self.old }
+        ensures part { IsPart self.new }
     {
         self.cycle += 1;
         self.told = 0;
@@ -152,7 +154,8 @@ impl Recorder {
         requires open { self.old.told ≡ 0 }
         requires count { length words.now ≡ length self.old.ports }
         requires fits { (k : ℕ) → k < length words.now → FitsPort self.old.ports k (slice_index words.now k) }
-        ensures { OnOk result (Records self.old words.now self.new) }
+        ensures records { OnOk result (Records self.old words.now self.new) }
+        ensures part { OnOk result (IsPart self.new) }
     {
         let _most = self.ports.len();
         for (port, word) in words.iter().enumerate() {

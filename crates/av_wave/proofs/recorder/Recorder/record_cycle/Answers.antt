@@ -25,7 +25,7 @@ end_cycle-requires c =
     let all : c.loop-port.port ≡ length c.args.self.now.ports = omega arith in
     told_ends c.requires.cycle c.loop-port.invariant.0 all
 
-pub returns : goal.returns
-returns c =
+pub returns-clause-records : goal.returns-clause-records
+returns-clause-records c =
     let all : c.loop-port.port ≡ length c.args.self.now.ports = omega arith in
-    told_records c.args.self.now c.loop-port.self c.end_cycle.new.self c.loop-port.port c.args.words.now c.loop-port.invariant.0 all c.end_cycle.ensures
+    told_records c.args.self.now c.loop-port.self c.end_cycle.new.self c.loop-port.port c.args.words.now c.loop-port.invariant.0 all c.end_cycle.ensures.next

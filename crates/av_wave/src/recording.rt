@@ -1,3 +1,5 @@
+//! The wave of a run.
+
 ghost use Rattle.std.specs.Prelude.{◌≡◌, IfOk};
 ghost use Rattle.av_net.specs.Sound.{IsSound};
 ghost use Rattle.av_net.specs.Designs.{HasSpelling};
