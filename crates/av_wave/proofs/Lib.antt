@@ -1,6 +1,7 @@
 pub mod Nones
 pub mod Ends
 pub mod Named
+pub mod Spelled
 pub mod Digits
 pub mod Codes
 pub mod Binaries
@@ -15,6 +16,7 @@ pub mod Runs
 pub mod Reached
 pub mod Faults
 pub mod Reading
+pub mod Staging
 pub mod Written
 pub mod Walking
 pub mod Presenting
