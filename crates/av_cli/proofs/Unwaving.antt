@@ -10,6 +10,7 @@ use Rattle.av_base.proofs.Lists.{some_is}
 use Rattle.av_wave.specs.declared.wave.Change.{Change}
 use Rattle.av_wave.specs.Waves.{Recording, Values, zeros, changed, all_changed, changes_to, IsBefore, IsWave}
 use Rattle.av_wave.proofs.Values.{changed_on}
+use Rattle.av_wave.proofs.Written.{ports_within}
 use Rattle.av_base.specs.Outside.{SinkState, Adds, AddsPrefix, HasRisen}
 use Rattle.av_base.proofs.Moves.{Adds-more, Adds-none}
 use Rattle.av_data.specs.Cycles.{cycle_line}
@@ -172,6 +173,18 @@ values_long n changes = length-map (range_with_len 0 n) (all_changed zeros chang
 
 pub words_long : {w : Recording} {c next : ℕ} {words : List ℕ} {sink sink' : SinkState} → IsUnwaving w c next words sink sink' → length words ≡ length w.ports
 words_long {w = w} {next = next} so_far = ap length so_far.words_are ∙ values_long (length w.ports) (take next w.changes)
+
+-- what making the changes of a cycle asks for, with the changes as they are read
+pub make_first : {w : Recording} {c next : ℕ} {words : List ℕ} {sink sink' : SinkState} (changes : List Change) → changes ≡ w.changes → IsUnwaving w c next words sink sink' → next ≤ length changes
+make_first {next = next} changes e so_far = subst (λ (gs : List Change). next ≤ length gs) (sym e) so_far.within
+
+pub make_ports : {w : Recording} {c next : ℕ} {words : List ℕ} {sink sink' : SinkState} (changes : List Change) → changes ≡ w.changes → IsWave w → IsUnwaving w c next words sink sink' → All (λ g. g.port < length words) changes
+make_ports {w = w} changes e wave so_far =
+    subst (λ (n : ℕ). All (λ g. g.port < n) changes) (sym (words_long so_far)) (ports_within w wave w.ports changes refl e)
+
+pub make_words : {w : Recording} {c next : ℕ} {words : List ℕ} {sink sink' : SinkState} (changes : List Change) → changes ≡ w.changes → IsUnwaving w c next words sink sink' → words ≡ values_of (length words) (take next changes)
+make_words {w = w} {next = next} {words = words} changes e so_far =
+    so_far.words_are ∙ ap (λ (n : ℕ). values_of n (take next w.changes)) (sym (words_long so_far)) ∙ ap (λ (gs : List Change). values_of (length words) (take next gs)) (sym e)
 
 -- the words once a cycle's changes have been made
 pub words_made : {w : Recording} {c next : ℕ} {words : List ℕ} {sink sink' : SinkState} (next' : ℕ) (words' : List ℕ) → IsWave w → IsUnwaving w c next words sink sink' → words' ≡ values_of (length words) (take next' w.changes)

@@ -10,6 +10,7 @@ pub mod Lines
 pub mod OneForm
 pub mod PartSteps
 pub mod Telling
+pub mod Kept
 pub mod Rests
 pub mod Parting
 pub mod Runs

@@ -18,8 +18,9 @@ use Rattle.av_wave.specs.declared.wave.Change.{Change}
 use Rattle.av_wave.specs.declared.stage.Stage.{Stage}
 use Rattle.av_wave.specs.declared.stage.Stage.TheVariants.{Timescale, Scope, Ports, Definitions, Start, Cycles}
 use Rattle.av_wave.specs.inner.Heads.{Head, IsHead}
-use Rattle.av_wave.specs.inner.Parts.{Part, told_of, next_cycle, IsNext, FitsPort, MayEnd}
-use Rattle.av_wave.specs.inner.Stages.{Takes, TakesPort, Says, Turns}
+use Rattle.av_wave.specs.Waves.{Recording}
+use Rattle.av_wave.specs.inner.Parts.{Part, told_of, next_cycle, wave_of, IsNext, FitsPort, MayEnd}
+use Rattle.av_wave.specs.inner.Stages.{Takes, TakesPort, Says, Turns, EndsAs}
 use Rattle.av_wave.proofs.OneForm.{port_once, says_once, says_no_time}
 
 -- ---- the scope
@@ -119,3 +120,19 @@ says_fits says = record { port = says.port; at = says.at; fits = says.fits }
 
 pub turns_as : (s t : Stage) (line : List ℕ) (result : Result (Option Stage) Memory) → s ≡ t → Turns t line result → Turns s line result
 turns_as s t line result e turns = subst (λ (x : Stage). Turns x line result) (sym e) turns
+
+-- ---- the end of a text
+
+pub ends_some : (s : Stage) (p : Part) (w : Recording) → s ≡ Cycles p → p.told ≡ 0 → w ≡ wave_of p → EndsAs s w
+ends_some s p w e none is = subst (λ (x : Stage). EndsAs x w) (sym e) (none, is)
+
+pub ends_none : (s : Stage) (p : Part) → s ≡ Cycles p → (p.told ≡ 0 → ⊥) → (w : Recording) → EndsAs s w → ⊥
+ends_none s p e some w ends = some (subst (λ (x : Stage). EndsAs x w) e ends).0
+
+pub ends_other : (s : Stage) → ((p : Part) → s ≡ Cycles p → ⊥) → (w : Recording) → EndsAs s w → ⊥
+ends_other Timescale none w ends = ends
+ends_other Scope none w ends = ends
+ends_other (Ports head) none w ends = ends
+ends_other (Definitions head) none w ends = ends
+ends_other (Start head) none w ends = ends
+ends_other (Cycles p) none w ends = none p refl
