@@ -1,6 +1,6 @@
 -- What comes of a line that stands in a dump, by what was read of it.
 use Rattle.std.proofs.Common.{◌≡◌, ◌≢◌, ℕ, zero, suc, ◌+◌, ◌<◌, ◌≤◌, ◌⊎◌, inl, inr, List, [], ◌∷◌, ◌++◌, length, Bool, true, false, true≢false, not, refl, sym, ◌∙◌, ap, arith, subst}
-use Rattle.std.specs.Prelude.{All, Contains, codes, if◌then◌else◌, Result, Ok, Err, OnOk, IfOk, Option, Some, None}
+use Rattle.std.specs.Prelude.{All, Contains, if◌then◌else◌, Result, Ok, Err, IfOk, IfSome, Option, Some, None}
 use Rattle.std.specs.List.{list_any}
 use Rattle.std.specs.Str.{bytes_eq}
 use Rattle.std.proofs.lemmas.Cmp.{nat_list_eq_equiv}
@@ -20,7 +20,7 @@ use Rattle.av_wave.specs.declared.stage.Stage.TheVariants.{Timescale, Scope, Por
 use Rattle.av_wave.specs.inner.Heads.{Head, IsHead}
 use Rattle.av_wave.specs.Waves.{Recording}
 use Rattle.av_wave.specs.inner.Parts.{Part, told_of, next_cycle, wave_of, IsNext, FitsPort, MayEnd}
-use Rattle.av_wave.specs.inner.Stages.{Takes, TakesPort, Says, Turns, EndsAs}
+use Rattle.av_wave.specs.inner.Stages.{Takes, TakesPort, Says, Turns, EndsAs, Knows}
 use Rattle.av_wave.proofs.OneForm.{port_once, says_once, says_no_time}
 
 -- ---- the scope
@@ -136,3 +136,20 @@ ends_other (Ports head) none w ends = ends
 ends_other (Definitions head) none w ends = ends
 ends_other (Start head) none w ends = ends
 ends_other (Cycles p) none w ends = none p refl
+
+-- ---- the names of the ports so far
+
+-- where a line was taken, they are known of what comes of it, but behind the line of a port
+pub knows_next : (s t : Stage) (line : List ℕ) (names : List (List ℕ)) → Knows s names → Takes s line t → ((head : Head) → s ≡ Ports head → Knows t names) → Knows t names
+knows_next Timescale t line names knows takes ports = subst (λ (x : Stage). Knows x names) (sym takes.1) knows
+knows_next Scope t line names knows (name, named, is, next) ports = subst (λ (x : Stage). Knows x names) (sym next) knows
+knows_next (Ports head) t line names knows takes ports = ports head refl
+knows_next (Definitions head) t line names knows takes ports = subst (λ (x : Stage). Knows x names) (sym takes.1) tt
+knows_next (Start head) t line names knows takes ports = subst (λ (x : Stage). Knows x names) (sym takes.1) tt
+knows_next (Cycles part) t line names knows (inl takes) ports = subst (λ (x : Stage). Knows x names) (sym takes.next_is) tt
+knows_next (Cycles part) t line names knows (inr takes) ports = subst (λ (x : Stage). Knows x names) (sym takes.next_is) tt
+
+pub knows_turned : (s : Stage) (line : List ℕ) (result : Result (Option Stage) Memory) (names : List (List ℕ)) → Knows s names → Turns s line result → ((head : Head) → s ≡ Ports head → ⊥) → IfOk result (λ next. IfSome next (λ t. Knows t names))
+knows_turned s line (Ok (Some t)) names knows turns none = knows_next s t line names knows turns (λ head e. absurd (none head e))
+knows_turned s line (Ok None) names knows turns none = tt
+knows_turned s line (Err e) names knows turns none = tt

@@ -11,6 +11,7 @@ use crate::fault::WaveFault;
 use crate::stage::Stage;
 use crate::wave::Wave;
 use av_base::line_len;
+use av_table::NameSet;
 use std::alloc::Global;
 
 /// Reads a value change dump of one scope, with wires and the values 0 and 1 alone.
@@ -27,11 +28,12 @@ pub fn read_wave(alloc: Global, bytes: &[u8]) -> Result<Wave, WaveFault>
     ensures refused { (line : ℕ) → IsWaveFault bytes.now line → RefusesWave result line }
 {
     let mut stage = Stage::Timescale;
+    let mut names = NameSet::new(alloc);
     let mut line = 1;
     let mut at = 0;
     while at < bytes.len() {
         let text = first_line(&bytes[at..]);
-        match stage.take(alloc, text)? {
+        match stage.take(alloc, text, &mut names)? {
             Some(next) => stage = next,
             None => return Err(WaveFault::WaveSyntax(line)),
         }

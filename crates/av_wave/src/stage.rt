@@ -1,10 +1,11 @@
 //! How far a dump has been read.
 
-ghost use Rattle.std.specs.Prelude.{◌≡◌, ◌+◌, IfSome, IfNone, Ok};
+ghost use Rattle.std.specs.Prelude.{◌≡◌, ◌+◌, IfOk, IfSome, IfNone, Ok};
+ghost use Rattle.av_net.specs.Names.{names_of};
 ghost use Rattle.av_wave.specs.Waves.{Recording};
 ghost use Rattle.av_wave.specs.Dumps.{upscope_line, time_line};
 ghost use Rattle.av_wave.specs.declared.stage.Stage.TheVariants as stage;
-ghost use Rattle.av_wave.specs.inner.Stages.{Turns, EndsAs};
+ghost use Rattle.av_wave.specs.inner.Stages.{Turns, EndsAs, Knows};
 
 use crate::forms::{begins_cycle, declared, scope_name, told_by};
 use crate::recorder::Recorder;
@@ -17,45 +18,49 @@ use std::marker::Model;
 
 /// The name of the module, and the ports that are declared so far.
 #[derive(Drop)]
-pub(crate) struct Header<'a> {
+pub(crate) struct Header {
     name: Name,
     ports: List<Port>,
-    names: NameSet<'a>,
 }
 
-impl<'a> Model for Header<'a> {
+impl Model for Header {
     ghost use Rattle.av_wave.specs.inner.Heads.{Head, IsHead};
 
     ghost Value = { Head };
 
     ghost view = { λ h. record { name = h.name; ports = h.ports } };
 
-    ghost use Rattle.std.specs.Prelude.{◌≡◌};
-    ghost use Rattle.av_net.specs.Names.{names_of};
-
-    ghost invariant = { λ h. IsHead (record { name = h.name; ports = h.ports }) × (h.names ≡ names_of h.ports) };
+    ghost invariant = { λ h. IsHead (record { name = h.name; ports = h.ports }) };
 }
 
 /// What may stand on the next line.
 #[derive(Drop)]
-pub(crate) enum Stage<'a> {
+pub(crate) enum Stage {
     Timescale,
     Scope,
-    Ports(Header<'a>),
-    Definitions(Header<'a>),
-    Start(Header<'a>),
+    Ports(Header),
+    Definitions(Header),
+    Start(Header),
     Cycles(Recorder),
 }
 
-impl<'a> Stage<'a> {
-    /// Takes a line. `None` is answered where it may not stand here.
-    pub(crate) fn take(self, alloc: Global, line: &'a [u8]) -> Result<Option<Stage<'a>>, Memory>
-        ensures { Turns self.entry line.now result }
+impl Stage {
+    /// Takes a line. `None` is answered where it may not stand here. The names are those of the ports that are declared
+    /// so far.
+    pub(crate) fn take<'a>(
+        self,
+        alloc: Global,
+        line: &'a [u8],
+        names: &mut NameSet<'a>,
+    ) -> Result<Option<Stage>, Memory>
+        requires { Knows self names.old }
+        ensures turns { Turns self line.now result }
+        ensures names { IfOk result (λ next. IfSome next (λ stage. Knows stage names.new)) }
     {
         match self {
             Stage::Timescale => Ok(after_timescale(line)),
             Stage::Scope => open(alloc, line),
-            Stage::Ports(header) => header.take(alloc, line),
+            Stage::Ports(header) => header.take(alloc, line, names),
             Stage::Definitions(header) => Ok(after_definitions(header, line)),
             Stage::Start(header) => header.start(alloc, line),
             Stage::Cycles(recorder) => go_on(recorder, line),
@@ -64,8 +69,8 @@ impl<'a> Stage<'a> {
 
     /// The wave, where the text may end here.
     pub(crate) fn wave(self) -> Option<Wave>
-        ensures some { IfSome result (λ wave. EndsAs self.entry wave) }
-        ensures none { IfNone result ((wave : Recording) → EndsAs self.entry wave → ⊥) }
+        ensures some { IfSome result (λ wave. EndsAs self wave) }
+        ensures none { IfNone result ((wave : Recording) → EndsAs self wave → ⊥) }
     {
         match self {
             Stage::Cycles(recorder) => {
@@ -80,7 +85,7 @@ impl<'a> Stage<'a> {
     }
 }
 
-fn after_timescale<'a>(line: &[u8]) -> Option<Stage<'a>>
+fn after_timescale(line: &[u8]) -> Option<Stage>
     ensures { Turns stage.Timescale line.now (Ok result) }
 {
     if line == b"$timescale 1ns $end\n".as_slice() {
@@ -91,7 +96,7 @@ fn after_timescale<'a>(line: &[u8]) -> Option<Stage<'a>>
 }
 
 // Takes the line that opens the scope.
-fn open<'a>(alloc: Global, line: &'a [u8]) -> Result<Option<Stage<'a>>, Memory>
+fn open(alloc: Global, line: &[u8]) -> Result<Option<Stage>, Memory>
     ensures { Turns stage.Scope line.now result }
 {
     let Some(name) = scope_name(line) else {
@@ -100,30 +105,43 @@ fn open<'a>(alloc: Global, line: &'a [u8]) -> Result<Option<Stage<'a>>, Memory>
     Ok(Some(Stage::Ports(Header {
         name: Name::from_ascii(alloc, name)?,
         ports: List::new(alloc),
-        names: NameSet::new(alloc),
     })))
 }
 
-impl<'a> Header<'a> {
+impl Header {
     // Takes the line of a port, or the one behind the last port.
-    fn take(self, alloc: Global, line: &'a [u8]) -> Result<Option<Stage<'a>>, Memory>
-        ensures { Turns (stage.Ports self.entry) line.now result }
+    fn take<'a>(
+        self,
+        alloc: Global,
+        line: &'a [u8],
+        names: &mut NameSet<'a>,
+    ) -> Result<Option<Stage>, Memory>
+        requires { names.old ≡ names_of self.ports }
+        ensures turns { Turns (stage.Ports self) line.now result }
+        ensures names { IfOk result (λ next. IfSome next (λ stage. Knows stage names.new)) }
     {
         if line == b"$upscope $end\n".as_slice() {
             return Ok(Some(Stage::Definitions(self)));
         }
-        self.declare(alloc, line)
+        self.declare(alloc, line, names)
     }
 
     // Takes the line of a port.
-    fn declare(mut self, alloc: Global, line: &'a [u8]) -> Result<Option<Stage<'a>>, Memory>
-        requires { line.now ≡ upscope_line → ⊥ }
-        ensures { Turns (stage.Ports self.entry) line.now result }
+    fn declare<'a>(
+        mut self,
+        alloc: Global,
+        line: &'a [u8],
+        names: &mut NameSet<'a>,
+    ) -> Result<Option<Stage>, Memory>
+        requires other { line.now ≡ upscope_line → ⊥ }
+        requires names { names.old ≡ names_of self.ports }
+        ensures turns { Turns (stage.Ports self) line.now result }
+        ensures names { IfOk result (λ next. IfSome next (λ stage. Knows stage names.new)) }
     {
         let Some(found) = declared(line, self.ports.len() as u32) else {
             return Ok(None);
         };
-        if !self.names.insert(found.name)? {
+        if !names.insert(found.name)? {
             return Ok(None);
         }
         self.ports.push(Port {
@@ -134,8 +152,8 @@ impl<'a> Header<'a> {
     }
 
     // Takes the line that begins the first cycle.
-    fn start(self, alloc: Global, line: &[u8]) -> Result<Option<Stage<'a>>, Memory>
-        ensures { Turns (stage.Start self.entry) line.now result }
+    fn start(self, alloc: Global, line: &[u8]) -> Result<Option<Stage>, Memory>
+        ensures { Turns (stage.Start self) line.now result }
     {
         if begins_cycle(line, 0) {
             let recorder = Recorder::new(alloc, self.name, self.ports)?;
@@ -146,8 +164,8 @@ impl<'a> Header<'a> {
     }
 }
 
-fn after_definitions<'a>(header: Header<'a>, line: &[u8]) -> Option<Stage<'a>>
-    ensures { Turns (stage.Definitions header.entry) line.now (Ok result) }
+fn after_definitions(header: Header, line: &[u8]) -> Option<Stage>
+    ensures { Turns (stage.Definitions header) line.now (Ok result) }
 {
     if line == b"$enddefinitions $end\n".as_slice() {
         Some(Stage::Start(header))
@@ -157,7 +175,7 @@ fn after_definitions<'a>(header: Header<'a>, line: &[u8]) -> Option<Stage<'a>>
 }
 
 // Takes the line that begins the next cycle, or the line of a change.
-fn go_on<'a>(mut recorder: Recorder, line: &[u8]) -> Result<Option<Stage<'a>>, Memory>
+fn go_on(mut recorder: Recorder, line: &[u8]) -> Result<Option<Stage>, Memory>
     ensures { Turns (stage.Cycles recorder) line.now result }
 {
     if begins_cycle(line, recorder.cycle() + 1) {
@@ -171,7 +189,7 @@ fn go_on<'a>(mut recorder: Recorder, line: &[u8]) -> Result<Option<Stage<'a>>, M
 }
 
 // Takes the line of a change.
-fn tell<'a>(mut recorder: Recorder, line: &[u8]) -> Result<Option<Stage<'a>>, Memory>
+fn tell(mut recorder: Recorder, line: &[u8]) -> Result<Option<Stage>, Memory>
     requires { line.now ≡ time_line (recorder.cycle + 1) → ⊥ }
     ensures { Turns (stage.Cycles recorder) line.now result }
 {

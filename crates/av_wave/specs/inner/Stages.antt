@@ -78,3 +78,12 @@ EndsAs (Ports head) wave = ⊥
 EndsAs (Definitions head) wave = ⊥
 EndsAs (Start head) wave = ⊥
 EndsAs (Cycles part) wave = (part.told ≡ 0) × (wave ≡ wave_of part)
+
+-- where ports may be declared, these are the names of those so far
+abbrev pub Knows : Stage → List (List ℕ) → Type 0
+Knows Timescale names = names ≡ []
+Knows Scope names = names ≡ []
+Knows (Ports head) names = names ≡ names_of head.ports
+Knows (Definitions head) names = Unit {0}
+Knows (Start head) names = Unit {0}
+Knows (Cycles part) names = Unit {0}
