@@ -20,8 +20,10 @@ use Rattle.av_data.specs.declared.stimulus.Stimulus.{Stimulus}
 use Rattle.av_data.specs.Stimuli.{IsBefore, IsSame}
 use Rattle.av_data.specs.Kept.{is_given, placed}
 use Rattle.av_data.proofs.Sorting.{contains_here, contains_later, contains_cases, none_given, all_of, sorts_more, placed_has, placed_keeps, placed_only}
-use Rattle.av_cli.specs.Simulated.{given_word, IsStimulated}
-use Rattle.av_cli.specs.inner.Clocking.{IsFrom, IsForPort, AreLeft}
+use Rattle.av_wave.specs.Simulated.{given_word, IsStimulated}
+use Rattle.av_wave.specs.Clocking.{AreLeft}
+use Rattle.av_wave.specs.Recorded.{IsForPort, IsFor}
+use Rattle.av_wave.proofs.Walking.{values_left}
 use Rattle.av_cli.specs.Shown.{IsIdle, IsFed, word_on, AreShown}
 use Rattle.av_cli.specs.inner.Feeding.{IsOfLine, IsOfOne, AreOfLines}
 use Rattle.av_base.proofs.Lists.{all_at}
@@ -146,20 +148,15 @@ module _ (d : Design) (x : Values) (values : List Given) (so : AreOfLines d x (l
       (port, at, subst (IsWord port.width.bits) same (all_at (λ (p : Port). one.line.wire ≡ p.name → IsWord p.width.bits word) d.module.inputs g.port port fits at (sym named)))
 
   pub left : AreLeft d.module.inputs values 0 0 values
-  left = record {
-    words = λ c k from. refl;
-    ahead = first values;
-    ascending = so.ascending;
-    fit = all_of (IsForPort d.module.inputs) values for_port;
-  }
-    where
-      from_start : (c k : ℕ) → IsFrom 0 0 c k
-      from_start zero k = inr (refl, omega arith)
-      from_start (suc c) k = inl (omega arith)
+  left = values_left d.module.inputs values so.ascending (all_of (IsForPort d.module.inputs) values for_port)
 
-      first : (vs : List Given) → All (λ g. IsFrom 0 0 g.cycle g.port) vs
-      first [] = All-nil (λ g. IsFrom 0 0 g.cycle g.port)
-      first (g ∷ vs) = All-cons (λ g. IsFrom 0 0 g.cycle g.port) g vs (from_start g.cycle g.port) (first vs)
+-- the stimulus is one for the module's inputs
+pub is_for : (d : Design) (x : Values) (s : Stimulus) → AreOfLines d x (length d.listing.ins) s.values → HaveFittingWords d x → s.cycles ≤ 4096 → IsFor d.module.inputs s
+is_for d x s so fitting few = record {
+  most = few;
+  ascending = so.ascending;
+  fit = all_of (IsForPort d.module.inputs) s.values (for_port d x s.values so fitting);
+}
 
 pub fed : (d : Design) (x : Values) (s : Stimulus) (stream : Stream) → AreOfLines d x (length d.listing.ins) s.values → IsStimulated d.module s stream → IsFed d x stream
 fed d x s stream so stimulated = record {

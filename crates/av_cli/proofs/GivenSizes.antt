@@ -187,3 +187,6 @@ trace_is_no_size is = let k = text_is (codes "trace") is in cc
 
 pub best_is_no_size : IsSize (codes "best") → ⊥
 best_is_no_size is = let k = text_is (codes "best") is in cc
+
+pub wave_is_no_size : IsSize (codes "wave") → ⊥
+wave_is_no_size is = let k = text_is (codes "wave") is in cc

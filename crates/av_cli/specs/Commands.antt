@@ -114,6 +114,9 @@ IsTrace words bits reach found = Asks (codes "trace") words bits reach found
 abbrev pub IsBest : List (List ℕ) → ℕ → ℕ → List Size → Type 0
 IsBest words bits reach found = Asks (codes "best") words bits reach found
 
+abbrev pub AsksWave : List (List ℕ) → ℕ → ℕ → List Size → Type 0
+AsksWave words bits reach found = Asks (codes "wave") words bits reach found
+
 -- nothing, or `--` alone
 abbrev pub IsBare : List (List ℕ) → Type 0
 IsBare words = (words ≡ []) ⊎ (words ≡ codes "--" ∷ [])
@@ -122,6 +125,12 @@ IsBare words = (words ≡ []) ⊎ (words ≡ codes "--" ∷ [])
 pub record IsSim (words : List (List ℕ)) : Type 0 where
   pub rest : List (List ℕ)
   pub first : words ≡ codes "sim" ∷ rest
+  pub bare : IsBare rest
+
+-- `unwave`, with no option and no size
+pub record IsUnwave (words : List (List ℕ)) : Type 0 where
+  pub rest : List (List ℕ)
+  pub first : words ≡ codes "unwave" ∷ rest
   pub bare : IsBare rest
 
 -- `demo`, with the size of its matrices between whole options, and behind `--` nothing but that size. No word has the form of a
@@ -152,6 +161,8 @@ TakeInput words =
     ⊎ ((bits : ℕ) × (reach : ℕ) × (found : List Size) × IsRun words bits reach found)
     ⊎ ((bits : ℕ) × (reach : ℕ) × (found : List Size) × IsTrace words bits reach found)
     ⊎ ((bits : ℕ) × (reach : ℕ) × (found : List Size) × IsBest words bits reach found)
+    ⊎ ((bits : ℕ) × (reach : ℕ) × (found : List Size) × AsksWave words bits reach found)
+    ⊎ IsUnwave words
 
 -- `demo`, which reads none
 abbrev pub AskDemo : List (List ℕ) → Type 0
@@ -161,4 +172,4 @@ abbrev pub AreRead : List (List ℕ) → Type 0
 AreRead words = TakeInput words ⊎ AskDemo words
 
 abbrev pub usage_line : List ℕ
-usage_line = codes "usage: alphav check|schedule|table|emit|run|trace|best [--width W] [--box C] [NAME=VALUE ...] | sim | demo K\n"
+usage_line = codes "usage: alphav check|schedule|table|emit|run|trace|best|wave [--width W] [--box C] [NAME=VALUE ...] | sim | unwave | demo K\n"

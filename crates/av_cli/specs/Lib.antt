@@ -1,7 +1,6 @@
 pub mod Commands
 pub mod Refusals
 pub mod AlphaRefusals
-pub mod Simulated
 pub mod Emits
 pub mod Sims
 pub mod Checks
@@ -11,5 +10,6 @@ pub mod Tables
 pub mod Shown
 pub mod Runs
 pub mod Bests
+pub mod Waves
 pub mod Demos
 pub mod inner

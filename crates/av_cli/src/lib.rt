@@ -21,6 +21,7 @@ mod sizes;
 mod standard;
 mod status;
 mod table;
+mod unwave;
 mod words;
 
 pub use program::alphav;

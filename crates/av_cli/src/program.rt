@@ -16,13 +16,14 @@ use crate::schedule::schedule;
 use crate::sim::sim;
 use crate::status::Status;
 use crate::table::table;
+use crate::unwave::unwave;
 use crate::words::{Command, read_words};
 use av_base::limits::MOST_BYTES;
 use av_base::{Name, ReadAll, Sink, Source, read_all};
 use std::alloc::Global;
 
 const USAGE: &str =
-    "usage: alphav check|schedule|table|emit|run|trace|best [--width W] [--box C] [NAME=VALUE ...] | sim | demo K\n";
+    "usage: alphav check|schedule|table|emit|run|trace|best|wave [--width W] [--box C] [NAME=VALUE ...] | sim | unwave | demo K\n";
 
 const TOO_LONG: &str = "refused: too long\n";
 
@@ -85,7 +86,11 @@ fn answer<K: Sink>(
             answer_run(alloc, words, bytes, width, reach, Report::Trace, sink)
         }
         Command::Best { width, reach } => best(alloc, words, bytes, width, reach, sink),
+        Command::Wave { width, reach } => {
+            answer_run(alloc, words, bytes, width, reach, Report::Wave, sink)
+        }
         Command::Sim => sim(alloc, bytes, sink),
+        Command::Unwave => unwave(alloc, bytes, sink),
         Command::Demo { width, reach, size } => demo(alloc, size, width, reach, sink),
     }
 }

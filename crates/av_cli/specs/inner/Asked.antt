@@ -2,14 +2,15 @@
 use Rattle.std.specs.Prelude.{ℕ, List}
 use Rattle.av_names.specs.declared.size.Size.{Size}
 use Rattle.av_cli.specs.declared.words.Command.{Command}
-use Rattle.av_cli.specs.declared.words.Command.TheVariants.{Check, Schedule, Table, Emit, Run, Trace, Best, Sim, Demo}
-use Rattle.av_cli.specs.Commands.{IsCheck, IsSchedule, IsTable, IsEmit, IsRun, IsTrace, IsBest}
+use Rattle.av_cli.specs.declared.words.Command.TheVariants.{Check, Schedule, Table, Emit, Run, Trace, Best, Wave, Sim, Unwave, Demo}
+use Rattle.av_cli.specs.Commands.{IsCheck, IsSchedule, IsTable, IsEmit, IsRun, IsTrace, IsBest, AsksWave}
 use Rattle.av_cli.specs.Checks.{RefusesCheck, GivesCheck}
 use Rattle.av_cli.specs.Schedules.{RefusesSchedule, GivesSchedule}
 use Rattle.av_cli.specs.Tables.{RefusesTable, GivesTable}
 use Rattle.av_cli.specs.Sims.{RefusesSim, GivesSim}
 use Rattle.av_cli.specs.Runs.{RefusesRun, GivesResults, GivesTrace}
 use Rattle.av_cli.specs.Bests.{RefusesBest, GivesBest}
+use Rattle.av_cli.specs.Waves.{GivesDump, RefusesUnwave, GivesUnwave}
 use Rattle.av_cli.specs.Demos.{GivesDemo}
 use Rattle.av_cli.specs.inner.WithWords.{GivesMapped}
 
@@ -23,6 +24,8 @@ Refuses (Trace width reach) words bytes reason = (sizes : List Size) × IsTrace 
 Refuses (Best width reach) words bytes reason = (sizes : List Size) × IsBest words width.bits reach.size sizes × RefusesBest sizes width.bits reach.size bytes reason
 Refuses (Demo width reach k) words bytes reason = ⊥
 Refuses Sim words bytes reason = RefusesSim bytes reason
+Refuses (Wave width reach) words bytes reason = (sizes : List Size) × AsksWave words width.bits reach.size sizes × RefusesRun sizes width.bits reach.size bytes reason
+Refuses Unwave words bytes reason = RefusesUnwave bytes reason
 
 abbrev pub Gives : Command → List (List ℕ) → List ℕ → List ℕ → Type 0
 Gives (Check width) words bytes out = (sizes : List Size) × IsCheck words width.bits sizes × GivesCheck sizes width.bits bytes out
@@ -34,3 +37,5 @@ Gives (Trace width reach) words bytes out = (sizes : List Size) × IsTrace words
 Gives (Best width reach) words bytes out = (sizes : List Size) × IsBest words width.bits reach.size sizes × GivesBest sizes width.bits reach.size bytes out
 Gives (Demo width reach k) words bytes out = GivesDemo k width.bits reach.size out
 Gives Sim words bytes out = GivesSim bytes out
+Gives (Wave width reach) words bytes out = (sizes : List Size) × AsksWave words width.bits reach.size sizes × GivesDump sizes width.bits reach.size bytes out
+Gives Unwave words bytes out = GivesUnwave bytes out

@@ -1,0 +1,7 @@
+pub mod Codes
+pub mod Heads
+pub mod Lines
+pub mod Parts
+pub mod Recorders
+pub mod Stages
+pub mod Written
