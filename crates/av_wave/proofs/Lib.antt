@@ -24,3 +24,5 @@ pub mod Presenting
 pub mod Driven
 pub mod Cycling
 pub mod Capturing
+pub mod News
+pub mod Dumping

@@ -28,11 +28,11 @@ use Rattle.av_wave.proofs.Runs.{Leads}
 
 -- the lines tell of this part of a wave
 pub record Tells (p : Part) (front : List (List ℕ)) : Type 0 where
-  part : IsPart p
-  back : List (List ℕ)
-  front_is : front ≡ head_lines p.name p.ports ++ time_line 0 ∷ back
+  pub part : IsPart p
+  pub back : List (List ℕ)
+  pub front_is : front ≡ head_lines p.name p.ports ++ time_line 0 ∷ back
   -- with what may be left of a wave they are the rest of one
-  goes : (m : ℕ) (more : List Change) (lines : List (List ℕ)) → (m ≡ 0 → p.told ≡ 0) → AreLeft p.ports m p.cycle more lines
+  pub goes : (m : ℕ) (more : List Change) (lines : List (List ℕ)) → (m ≡ 0 → p.told ≡ 0) → AreLeft p.ports m p.cycle more lines
       → AreLeft p.ports (p.cycle + m) 0 (p.changes ++ more) (back ++ lines)
 
 abbrev opened : Head → List (List ℕ)
@@ -90,7 +90,7 @@ change_goes p back g line here is goes (suc m) more lines closed left =
     let rest : back ++ change_line p.ports g ∷ lines ≡ (back ++ line ∷ []) ++ lines = ap (λ (l : List ℕ). back ++ l ∷ lines) (sym is) ∙ sym (append_assoc back (line ∷ []) lines) in
     subst (λ gs. AreLeft p.ports (p.cycle + suc m) 0 gs ((back ++ line ∷ []) ++ lines)) changes (subst (λ ls. AreLeft p.ports (p.cycle + suc m) 0 (p.changes ++ g ∷ more) ls) rest whole)
 
-change_tells : (p : Part) (front : List (List ℕ)) (line : List ℕ) (n v : ℕ) → Tells p front → Says p.ports line n v → IsNext p n v
+pub change_tells : (p : Part) (front : List (List ℕ)) (line : List ℕ) (n v : ℕ) → Tells p front → Says p.ports line n v → IsNext p n v
     → Tells (told_of p (record { cycle = p.cycle; port = n; value = v })) (front ++ line ∷ [])
 change_tells p front line n v tells says next =
     let g : Change = record { cycle = p.cycle; port = n; value = v } in
@@ -103,7 +103,7 @@ change_tells p front line n v tells says next =
       goes = change_goes p tells.back g line refl is tells.goes;
     }
 
-time_tells : (p : Part) (front : List (List ℕ)) → Tells p front → MayEnd p → Tells (next_cycle p) (front ++ time_line (p.cycle + 1) ∷ [])
+pub time_tells : (p : Part) (front : List (List ℕ)) → Tells p front → MayEnd p → Tells (next_cycle p) (front ++ time_line (p.cycle + 1) ∷ [])
 time_tells p front tells may =
     let line = time_line (p.cycle + 1) in
     record {
@@ -117,7 +117,7 @@ time_tells p front tells may =
     }
 
 -- the head and the line that begins the first cycle
-start_tells : (head : Head) (front : List (List ℕ)) → IsHead head → front ≡ head_lines head.name head.ports → Tells (at_first head.name head.ports) (front ++ time_line 0 ∷ [])
+pub start_tells : (head : Head) (front : List (List ℕ)) → IsHead head → front ≡ head_lines head.name head.ports → Tells (at_first head.name head.ports) (front ++ time_line 0 ∷ [])
 start_tells head front is front_is = record {
   part = first_part head.name head.ports is.named is.ports_named is.apart;
   back = [];

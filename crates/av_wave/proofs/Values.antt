@@ -18,7 +18,7 @@ pub news_on : (values : Values) (xs ys : List Change) → AreNews values xs → 
 news_on values [] ys first rest = rest
 news_on values (g ∷ xs) ys first rest = (first.0, news_on (changed values g) xs ys first.1 rest)
 
-filter_on : {X : Type 0} (test : X → Bool) (xs ys : List X) → filter test (xs ++ ys) ≡ filter test xs ++ filter test ys
+pub filter_on : {X : Type 0} (test : X → Bool) (xs ys : List X) → filter test (xs ++ ys) ≡ filter test xs ++ filter test ys
 filter_on test [] ys = refl
 filter_on {X = X} test (x ∷ xs) ys = by_test (test x) (filter_on test xs ys)
   where

@@ -17,10 +17,10 @@ use Rattle.av_wave.specs.inner.Written.{times, lines_to, last_cycle}
 use Rattle.av_wave.proofs.Rests.{dump_rest}
 use Rattle.av_wave.proofs.Values.{range_on}
 
-joined_on : (xs ys : List (List ℕ)) → joined (xs ++ ys) ≡ joined xs ++ joined ys
+pub joined_on : (xs ys : List (List ℕ)) → joined (xs ++ ys) ≡ joined xs ++ joined ys
 joined_on xs ys = flat_map-append (λ (line : List ℕ). line) xs ys
 
-joined_one : (xs : List (List ℕ)) (line : List ℕ) → joined (xs ++ line ∷ []) ≡ joined xs ++ line
+pub joined_one : (xs : List (List ℕ)) (line : List ℕ) → joined (xs ++ line ∷ []) ≡ joined xs ++ line
 joined_one xs line = joined_on xs (line ∷ []) ∙ ap (λ t. joined xs ++ t) (append-nil line)
 
 -- the head, from its lines

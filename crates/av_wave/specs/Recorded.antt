@@ -1,5 +1,6 @@
 -- The wave of a run.
-use Rattle.std.specs.Prelude.{◌≡◌, ℕ, ◌<◌, ◌≤◌, List, slice_get, Some, All, AllPairs}
+use Rattle.std.specs.Prelude.{◌≡◌, ℕ, ◌<◌, ◌≤◌, List, Option, slice_get, Some, All, AllPairs}
+use Rattle.av_base.specs.Outside.{Adds, AddsPrefix}
 use Rattle.av_base.specs.Words.{IsWord}
 use Rattle.av_net.specs.declared.netlist.Port.{Port}
 use Rattle.av_net.specs.declared.netlist.Module.{Module}
@@ -10,6 +11,7 @@ use Rattle.av_data.specs.declared.stimulus.Stimulus.{Stimulus}
 use Rattle.av_data.specs.Stimuli.{IsBefore}
 use Rattle.av_wave.specs.Simulated.{header_ports, IsStimulated}
 use Rattle.av_wave.specs.Waves.{Recording, IsWave, values_in}
+use Rattle.av_wave.specs.Dumps.{dump_text}
 
 -- the value is for an input port, and fits it
 abbrev pub IsForPort : List Port → Given → Type 0
@@ -37,3 +39,15 @@ pub record IsCaptured (m : Module) (s : Stimulus) (w : Recording) : Type 0 where
   pub powered : All (λ port. run.before port.name ≡ 0) m.registers
   pub clocked : IsRun m s.cycles stream run
   pub recorded : IsRecorded m run.in_cycle s.cycles w
+
+-- the dump of that wave was added
+pub record AddsDump (m : Module) (s : Stimulus) (held held' : Option (List ℕ)) : Type 0 where
+  pub wave : Recording
+  pub captured : IsCaptured m s wave
+  pub added : Adds held held' (dump_text wave)
+
+-- a prefix of it was added
+pub record AddsDumpPrefix (m : Module) (s : Stimulus) (held held' : Option (List ℕ)) : Type 0 where
+  pub wave : Recording
+  pub captured : IsCaptured m s wave
+  pub added : AddsPrefix held held' (dump_text wave)

@@ -1,15 +1,15 @@
 //! A wave as a value change dump, written piece by piece, without memory.
 
-ghost use Rattle.std.specs.Prelude.{◌≡◌, ◌≤◌, ◌<◌, ◌++◌, ◌==◌, if◌then◌else◌, codes, length, IsErr, OnOk, OnErr, All};
+ghost use Rattle.std.specs.Prelude.{◌≡◌, ◌≤◌, ◌<◌, ◌++◌, ◌==◌, [], if◌then◌else◌, codes, length, map, IsErr, OnOk, OnErr, All};
 ghost use Rattle.av_base.specs.Outside.{Adds, AddsPrefix, HasRisen};
 ghost use Rattle.av_page.specs.Pages.{Puts};
 ghost use Rattle.av_wave.specs.Dumps.{code, binary, time_line, port_line, port_lines, change_line, head_lines, joined, dump_text};
-ghost use Rattle.av_wave.specs.inner.Written.{times, lines_to, last_cycle};
+ghost use Rattle.av_wave.specs.inner.Written.{times, lines_to, last_cycle, is_news, news};
 
 use crate::binary::Binary;
 use crate::code::Code;
 use crate::wave::{Change, Wave};
-use av_base::{List, Sink, WriteFault, ascii};
+use av_base::{List, Name, Sink, WriteFault, ascii};
 use av_net::Port;
 use av_page::Page;
 
@@ -28,21 +28,21 @@ pub fn write_wave<K: Sink>(wave: &Wave, sink: &mut K) -> Result<(), WriteFault>
 fn put_wave<K: Sink>(page: &mut Page, sink: &mut K, wave: &Wave)
     ensures { Puts (K.state sink.old) (K.state sink.new) page.old page.new (dump_text wave.now) }
 {
-    put_head(page, sink, wave);
+    put_head(page, sink, &wave.name, &wave.ports);
     put_time(page, sink, 0);
     let cycle = put_changes(page, sink, wave.ports.as_slice(), wave.changes.as_slice());
     put_times(page, sink, cycle, wave.cycles);
 }
 
-// The lines before the first cycle.
-fn put_head<K: Sink>(page: &mut Page, sink: &mut K, wave: &Wave)
-    ensures { Puts (K.state sink.old) (K.state sink.new) page.old page.new (joined (head_lines wave.now.name wave.now.ports)) }
+/// Puts the lines before the first cycle.
+pub(crate) fn put_head<K: Sink>(page: &mut Page, sink: &mut K, name: &Name, ports: &List<Port>)
+    ensures { Puts (K.state sink.old) (K.state sink.new) page.old page.new (joined (head_lines name.now ports.now)) }
 {
     page.put(sink, "$timescale 1ns $end\n");
     page.put(sink, "$scope module ");
-    page.put(sink, wave.name.as_str());
+    page.put(sink, name.as_str());
     page.put(sink, " $end\n");
-    put_ports(page, sink, &wave.ports);
+    put_ports(page, sink, ports);
     page.put(sink, "$upscope $end\n");
     page.put(sink, "$enddefinitions $end\n");
 }
@@ -76,13 +76,61 @@ fn put_code<K: Sink>(page: &mut Page, sink: &mut K, number: u32)
     page.put(sink, ascii(code.as_bytes()));
 }
 
-// As `#12`.
-fn put_time<K: Sink>(page: &mut Page, sink: &mut K, cycle: u32)
+/// Puts the line that begins a cycle, as `#12`.
+pub(crate) fn put_time<K: Sink>(page: &mut Page, sink: &mut K, cycle: u32)
     ensures { Puts (K.state sink.old) (K.state sink.new) page.old page.new (time_line cycle) }
 {
     page.put(sink, "#");
     page.put_number(sink, cycle);
     page.put(sink, "\n");
+}
+
+/// Puts the lines of the changes of a cycle in which the ports have these words, where they had those before.
+pub(crate) fn put_cycle<K: Sink>(
+    page: &mut Page,
+    sink: &mut K,
+    ports: &List<Port>,
+    cycle: u32,
+    before: &[u64],
+    words: &[u64],
+)
+    requires ports { length words.now ≡ length ports.now }
+    requires before { length words.now ≡ length before.now }
+    ensures { Puts (K.state sink.old) (K.state sink.new) page.old page.new (joined (map (change_line ports.now) (news cycle before.now words.now (length words.now)))) }
+{
+    let _most = ports.len();
+    let ports = ports.as_slice();
+    for (port, word) in words.iter().enumerate() {
+        let change = Change {
+            cycle,
+            port: port as u32,
+            value: *word,
+        };
+        put_news(page, sink, ports, before[port], change);
+    }
+}
+
+// Puts the line of a change, unless the port had that value before. In the first cycle each port changes.
+fn put_news<K: Sink>(
+    page: &mut Page,
+    sink: &mut K,
+    ports: &[Port],
+    before: u64,
+    change: Change,
+)
+    requires { change.port < length ports.now }
+    ensures { Puts (K.state sink.old) (K.state sink.new) page.old page.new (if is_news change.cycle before change.value then change_line ports.now change else []) }
+{
+    if !is_news(change.cycle, before, change.value) {
+        return;
+    }
+    put_change(page, sink, ports, change);
+}
+
+fn is_news(cycle: u32, before: u64, value: u64) -> bool
+    ensures { result ≡ is_news cycle before value }
+{
+    cycle == 0 || value != before
 }
 
 // The lines that begin the cycles behind one, up to another.
