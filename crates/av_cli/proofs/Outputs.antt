@@ -32,7 +32,7 @@ use Rattle.av_cli.specs.Shown.{IsFedRun, AreShown}
 use Rattle.av_wave.specs.Simulated.{IsStimulated, run_lines}
 use Rattle.av_wave.specs.Waves.{Recording}
 use Rattle.av_wave.specs.Dumps.{dump_text}
-use Rattle.av_wave.specs.Recorded.{IsRecorded, IsCaptured}
+use Rattle.av_wave.specs.Recorded.{IsRecorded, IsCaptured, AddsDump, AddsDumpPrefix}
 use Rattle.av_cli.proofs.Fed.{fed}
 use Rattle.av_cli.specs.inner.Written.{IsPut, IsAnswered, refused, given, no_memory}
 use Rattle.av_cli.specs.inner.DemoData.{entries, IsSummed}
@@ -140,11 +140,11 @@ module _ (t : Timed) (cells : Cells) (plan : Plan) (d : Design) (x : Values) (s 
 
   -- ---- a dump
 
-  pub dump_put : {sink sink' : SinkState} (w : Recording) → IsCaptured d.module s w → Adds sink.held sink'.held (dump_text w) → PutsOneOf (IsReport Wave t cells plan d x) sink sink' Done
-  dump_put w captured adds = puts (dump_of w captured) (record { ends = inl (refl, adds) })
+  pub dump_put : {sink sink' : SinkState} → AddsDump d.module s sink.held sink'.held → PutsOneOf (IsReport Wave t cells plan d x) sink sink' Done
+  dump_put dump = puts (dump_of dump.wave dump.captured) (record { ends = inl (refl, dump.added) })
 
-  pub dump_failed : {sink sink' : SinkState} (w : Recording) → IsCaptured d.module s w → HasRisen sink.faults sink'.faults → AddsPrefix sink.held sink'.held (dump_text w) → PutsOneOf (IsReport Wave t cells plan d x) sink sink' WriteFault
-  dump_failed w captured risen adds = puts (dump_of w captured) (record { ends = inr (refl, risen, adds) })
+  pub dump_failed : {sink sink' : SinkState} → HasRisen sink.faults sink'.faults → AddsDumpPrefix d.module s sink.held sink'.held → PutsOneOf (IsReport Wave t cells plan d x) sink sink' WriteFault
+  dump_failed risen dump = puts (dump_of dump.wave dump.captured) (record { ends = inr (refl, risen, dump.added) })
 
 -- ---- a demo
 

@@ -28,7 +28,7 @@ use av_data::{Inputs, Stimulus, divide, read_data, write_result};
 use av_flat::{Flat, Kind, Reach, Var};
 use av_net::Entry;
 use av_vtext::write_plan;
-use av_wave::{capture, write_wave};
+use av_wave::{RunFault, write_run};
 use std::alloc::Global;
 
 const NO_MARK: &str = "refused: no mark\n";
@@ -183,12 +183,10 @@ fn put_wave<K: Sink>(alloc: Global, compiled: &Compiled, inputs: &Inputs, sink: 
     let design = &compiled.design;
     match feed(alloc, design, inputs, compiled.cells.cycles) {
         Err(Memory) => Status::Memory,
-        Ok(stimulus) => match capture(alloc, &design.module, &stimulus) {
-            Err(Memory) => Status::Memory,
-            Ok(wave) => match write_wave(&wave, sink) {
-                Ok(()) => Status::Done,
-                Err(_) => Status::WriteFault,
-            },
+        Ok(stimulus) => match write_run(alloc, &design.module, &stimulus, sink) {
+            Ok(()) => Status::Done,
+            Err(RunFault::Memory) => Status::Memory,
+            Err(RunFault::Write) => Status::WriteFault,
         },
     }
 }

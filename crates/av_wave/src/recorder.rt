@@ -123,6 +123,7 @@ impl Recorder {
         requires fits { FitsPort self.old.ports port value }
         ensures { OnOk result (self.new ≡ told_of self.old (record { cycle = self.old.cycle; port = port; value = value })) }
     {
+        let _most = self.ports.len();
         self.changes.push(Change {
             cycle: self.cycle,
             port,

@@ -99,14 +99,14 @@ pub(crate) fn put_cycle<K: Sink>(
     ensures { Puts (K.state sink.old) (K.state sink.new) page.old page.new (joined (map (change_line ports.now) (news cycle before.now words.now (length words.now)))) }
 {
     let _most = ports.len();
-    let ports = ports.as_slice();
+    let slice = ports.as_slice();
     for (port, word) in words.iter().enumerate() {
         let change = Change {
             cycle,
             port: port as u32,
             value: *word,
         };
-        put_news(page, sink, ports, before[port], change);
+        put_news(page, sink, slice, before[port], change);
     }
 }
 

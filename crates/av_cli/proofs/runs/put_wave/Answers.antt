@@ -7,19 +7,19 @@ use Rattle.av_cli.proofs.runs.put_wave.Goals as goal
 pub feed-requires-clause-words : goal.feed-requires-clause-words
 feed-requires-clause-words g c = c.requires.clockable.fitting (words_of c.args.inputs.now) c.requires.inputs
 
-pub capture-requires-clause-stimulus : goal.capture-requires-clause-stimulus
-capture-requires-clause-stimulus g c =
+pub write_run-requires-clause-stimulus : goal.write_run-requires-clause-stimulus
+write_run-requires-clause-stimulus g c =
     let x = words_of c.args.inputs.now in
     is_for c.args.compiled.now.design x c.in-Ok.stimulus c.in-Ok.ensures.values (c.requires.clockable.fitting x c.requires.inputs) (subst (λ (n : ℕ). n ≤ 4096) (sym c.in-Ok.ensures.cycles) c.requires.cycles)
 
-pub returns-in-Ok-write_wave : goal.returns-in-Ok-write_wave
-returns-in-Ok-write_wave g c =
+pub returns-in-Ok-write_run : goal.returns-in-Ok-write_run
+returns-in-Ok-write_run g c =
     let compiled = c.args.compiled.now in
     dump_put compiled.timed compiled.cells compiled.plan compiled.design (words_of c.args.inputs.now) c.in-Ok.stimulus c.requires.clockable.sound.sound c.in-Ok.ensures.values c.in-Ok.ensures.cycles
-    c.in-Ok-capture.wave c.in-Ok-capture.ensures c.in-Ok-write_wave.ensures.added
+    c.in-Ok-write_run.ensures.added
 
 pub returns : goal.returns
 returns g c =
     let compiled = c.args.compiled.now in
     dump_failed compiled.timed compiled.cells compiled.plan compiled.design (words_of c.args.inputs.now) c.in-Ok.stimulus c.requires.clockable.sound.sound c.in-Ok.ensures.values c.in-Ok.ensures.cycles
-    c.in-Ok-capture.wave c.in-Ok-capture.ensures (c.in-Err-write_wave.ensures.fault refl) c.in-Err-write_wave.ensures.front
+    (c.in-Err-Write.ensures.fault refl) (c.in-Err-Write.ensures.front refl)

@@ -10,13 +10,13 @@ loop-port-init g c = Puts-none _ _
 
 pub put_news-requires : goal.put_news-requires
 put_news-requires g c =
-    let same : length c.as_slice-ports.result.now ≡ length c.args.ports.now = ap (λ (ps : List Port). length ps) c.as_slice-ports.ensures in
+    let same : length c.as_slice-slice.result.now ≡ length c.args.ports.now = ap (λ (ps : List Port). length ps) c.as_slice-slice.ensures in
     omega (arith, same, c.requires.ports, c.loop-port-test.true)
 
 pub loop-port-preserved : goal.loop-port-preserved
 loop-port-preserved g c =
     Puts-is (Puts-more c.loop-port.invariant c.put_news.ensures)
-    (text_more c.as_slice-ports.result.now c.args.ports.now c.args.cycle c.args.before.now c.args.words.now c.loop-port.port c.as_slice-ports.ensures)
+    (text_more c.as_slice-slice.result.now c.args.ports.now c.args.cycle c.args.before.now c.args.words.now c.loop-port.port c.as_slice-slice.ensures)
 
 pub returns : goal.returns
 returns g c =
