@@ -180,10 +180,9 @@ fn put_wave<K: Sink>(alloc: Global, compiled: &Compiled, inputs: &Inputs, sink: 
     requires inputs { AreInputsOf (view_system compiled.now.timed.flat) (words_of inputs.now) }
     ensures { PutsOneOf (IsReport report.Wave compiled.now.timed compiled.now.cells compiled.now.plan compiled.now.design (words_of inputs.now)) (K.state sink.old) (K.state sink.new) result }
 {
-    let design = &compiled.design;
-    match feed(alloc, design, inputs, compiled.cells.cycles) {
+    match feed(alloc, &compiled.design, inputs, compiled.cells.cycles) {
         Err(Memory) => Status::Memory,
-        Ok(stimulus) => match write_run(alloc, &design.module, &stimulus, sink) {
+        Ok(stimulus) => match write_run(alloc, &compiled.design.module, &stimulus, sink) {
             Ok(()) => Status::Done,
             Err(RunFault::Memory) => Status::Memory,
             Err(RunFault::Write) => Status::WriteFault,
