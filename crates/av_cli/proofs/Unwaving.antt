@@ -174,6 +174,9 @@ values_long n changes = length-map (range_with_len 0 n) (all_changed zeros chang
 pub words_long : {w : Recording} {c next : ℕ} {words : List ℕ} {sink sink' : SinkState} → IsUnwaving w c next words sink sink' → length words ≡ length w.ports
 words_long {w = w} {next = next} so_far = ap length so_far.words_are ∙ values_long (length w.ports) (take next w.changes)
 
+pub made_long : {w : Recording} {c next : ℕ} {words : List ℕ} {sink sink' : SinkState} (words' : List ℕ) (changes : List Change) → IsUnwaving w c next words sink sink' → words' ≡ values_of (length words) changes → length words' ≡ length w.ports
+made_long {words = words} words' changes so_far is = ap length is ∙ values_long (length words) changes ∙ words_long so_far
+
 -- what making the changes of a cycle asks for, with the changes as they are read
 pub make_first : {w : Recording} {c next : ℕ} {words : List ℕ} {sink sink' : SinkState} (changes : List Change) → changes ≡ w.changes → IsUnwaving w c next words sink sink' → next ≤ length changes
 make_first {next = next} changes e so_far = subst (λ (gs : List Change). next ≤ length gs) (sym e) so_far.within
