@@ -1,6 +1,6 @@
 -- What a recorder keeps, step by step.
 use Rattle.std.proofs.Common.{◌≡◌, ◌≢◌, ℕ, ◌+◌, ◌<◌, ◌≤◌, List, [], ◌∷◌, ◌++◌, length, get_or, set, replicate, refl, sym, ◌∙◌, ap, arith, subst, All}
-use Rattle.std.specs.Prelude.{slice_index, slice_get, Some, Result, Ok, Err, OnOk}
+use Rattle.std.specs.Prelude.{slice_index, slice_get, Some}
 use Rattle.std.proofs.lemmas.List.{get_or-replicate}
 use Rattle.std.proofs.lemmas.Option.{slice_get_within}
 use Rattle.av_net.specs.declared.netlist.Port.{Port}
@@ -14,12 +14,13 @@ use Rattle.av_wave.proofs.PartSteps.{first_part, part_told, part_next, words_fir
 
 -- ---- at first
 
-pub kept_first : (name : List ℕ) (ports : List Port) (words : List ℕ) (count : ℕ) → IsName name → All IsName (names_of ports) → AreDistinct (names_of ports) → words ≡ replicate count 0 → length words ≡ count → count ≡ length ports
-    → IsKept (record { name = name; ports = ports; cycle = 0; told = 0; changes = []; words = words })
-kept_first name ports words count named all apart zeros long is = record {
-  part = first_part name ports named all apart;
-  words = words_first name ports words (long ∙ is) (λ k lt. ap (λ (ws : List ℕ). slice_index ws k) zeros ∙ get_or-replicate count k 0 0 (omega arith));
-}
+pub kept_first : (name : List ℕ) (ports : List Port) (words : List ℕ) (count : ℕ) (changes : List Change) → IsName name → All IsName (names_of ports) → AreDistinct (names_of ports) → words ≡ replicate count 0 → length words ≡ count → count ≡ length ports
+    → changes ≡ [] → IsKept (record { name = name; ports = ports; cycle = 0; told = 0; changes = changes; words = words })
+kept_first name ports words count changes named all apart zeros long is none =
+    subst (λ (gs : List Change). IsKept (record { name = name; ports = ports; cycle = 0; told = 0; changes = gs; words = words })) (sym none) (record {
+      part = first_part name ports named all apart;
+      words = words_first name ports words (long ∙ is) (λ k lt. ap (λ (ws : List ℕ). slice_index ws k) zeros ∙ get_or-replicate count k 0 0 (omega arith));
+    })
 
 -- ---- one change more
 
@@ -49,9 +50,3 @@ kept_same r changes kept same = subst (λ (gs : List Change). IsKept (record { n
 
 pub kept_next : (r : Inside) → IsKept r → MayEnd (part_of r) → IsKept (record { name = r.name; ports = r.ports; cycle = r.cycle + 1; told = 0; changes = r.changes; words = r.words })
 kept_next r kept may = record { part = part_next (part_of r) kept.part may; words = record { count = kept.words.count; each = kept.words.each } }
-
--- ---- answers
-
-pub ok_then : {X E : Type 0} (r : Result X E) {P Q : Type 0} → OnOk r P → (P → Q) → OnOk r Q
-ok_then (Ok x) p f = f p
-ok_then (Err e) p f = p

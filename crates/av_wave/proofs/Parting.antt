@@ -1,12 +1,12 @@
 -- The lines of a dump, part by part as they are read.
-use Rattle.std.proofs.Common.{◌≡◌, ◌≢◌, ℕ, zero, suc, ◌+◌, ◌<◌, ◌≤◌, ◌^◌, List, [], ◌∷◌, ◌++◌, length, get_or, refl, sym, ◌∙◌, ap, arith, subst, append_assoc, false, true, true≢false, Bool, inl, inr, ◌⊎◌}
+use Rattle.std.proofs.Common.{◌≡◌, ◌≢◌, ℕ, zero, suc, ◌+◌, ◌<◌, ◌≤◌, ◌^◌, ◌%◌, List, [], ◌∷◌, ◌++◌, length, get_or, refl, sym, ◌∙◌, ap, arith, subst, append_assoc, false, true, true≢false, Bool, inl, inr, ◌⊎◌}
 use Rattle.std.specs.Prelude.{codes, decimal, slice_get, Some}
 use Rattle.std.proofs.lemmas.Bool.{cases_lt}
-use Rattle.std.proofs.lemmas.Nat.{pow_below}
+use Rattle.std.proofs.lemmas.Nat.{pow_pos}
 use Rattle.std.proofs.lemmas.List.{append_cancel_left, append_cancel_right}
 use Rattle.std.proofs.lemmas.Option.{slice_get-get_or, slice_get_within, get_or_from_slice_get}
 use Rattle.av_base.specs.declared.width.Width.{Width}
-use Rattle.av_base.specs.Words.{IsWord}
+use Rattle.av_base.specs.Words.{IsWord, residue}
 use Rattle.av_base.proofs.Lists.{same_head, same_tail}
 use Rattle.av_net.specs.declared.netlist.Port.{Port}
 use Rattle.av_net.specs.Lexemes.{IsName}
@@ -140,6 +140,22 @@ vector_port {ports = ports} {number = number} {value = value} read behind other 
     let same : number ≡ other = code_injective number other (sym parts.1 ∙ coded) in
     let there : vector.port ≡ port = at_place ports other port vector.port at lt (ap (slice_get ports) (sym same) ∙ vector.at) in
     (λ e. vector.wide (ap (λ (p : Port). p.width.bits) there ∙ e), subst (λ (p : Port). read < 2 ^ p.width.bits) there (subst (λ (n : ℕ). n < 2 ^ vector.port.width.bits) (sym parts.0) vector.fits))
+
+-- a value is its residue exactly where it fits
+pub residue_fits : {r : ℕ} (bits value : ℕ) → r ≡ residue bits value → r ≡ value → value < 2 ^ bits
+residue_fits bits value e same =
+    let some : 0 < 2 ^ bits = pow_pos bits in
+    let is : value % 2 ^ bits ≡ value = sym e ∙ same in
+    subst (λ (n : ℕ). n < 2 ^ bits) is (below (2 ^ bits) some)
+  where
+    below : (m : ℕ) → 0 < m → value % m < m
+    below m some = omega arith
+
+pub residue_same : {r : ℕ} (bits value : ℕ) → r ≡ residue bits value → value < 2 ^ bits → r ≡ value
+residue_same bits value e fits = e ∙ within (2 ^ bits) fits
+  where
+    within : (m : ℕ) → value < m → value % m ≡ value
+    within m lt = omega arith
 
 -- ---- the line of a change
 

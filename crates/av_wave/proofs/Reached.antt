@@ -3,6 +3,7 @@ use Rattle.std.proofs.Common.{◌≡◌, ◌≢◌, ℕ, zero, suc, ◌+◌, ◌
 use Rattle.std.specs.Prelude.{slice_get, Some, Contains, codes}
 use Rattle.std.proofs.lemmas.Bool.{cases_eq, cases_lt}
 use Rattle.std.proofs.lemmas.List.{append-nil, map-append}
+use Rattle.std.proofs.lemmas.Nat.{pow_pos}
 use Rattle.std.proofs.lemmas.List.Elements.{All-push, All-nil}
 use Rattle.av_base.specs.Words.{IsWord}
 use Rattle.av_base.proofs.Lists.{there_is}
@@ -174,17 +175,13 @@ begin_open p front tells none = record { wave = wave_of p; is = told_wave p fron
 begin_ended : (p : Part) (front : List (List ℕ)) → Tells p front → MayEnd p → Begin front
 begin_ended p front tells may = begin_before front (time_line (p.cycle + 1)) (begin_open (next_cycle p) (front ++ time_line (p.cycle + 1) ∷ []) (time_tells p front tells may) refl)
 
-some_power : (w : ℕ) → 0 < 2 ^ w
-some_power zero = omega arith
-some_power (suc w) = omega (arith, some_power w)
-
 -- in the first cycle by a change of each port that is left
 begin_first : (left : ℕ) (p : Part) (front : List (List ℕ)) → Tells p front → p.cycle ≡ 0 → p.told + left ≡ length p.ports → Begin front
 begin_first zero p front tells zeroth all = begin_ended p front tells (record { most = omega arith; whole = λ _. omega arith })
 begin_first (suc left) p front tells zeroth all =
     let there = there_is p.ports p.told (omega arith) in
     let g : Change = record { cycle = p.cycle; port = p.told; value = 0 } in
-    let says : Says p.ports (value_line there.0 p.told 0) p.told 0 = record { port = there.0; at = there.1; fits = some_power there.0.width.bits; line_is = refl } in
+    let says : Says p.ports (value_line there.0 p.told 0) p.told 0 = record { port = there.0; at = there.1; fits = pow_pos there.0.width.bits; line_is = refl } in
     let next : IsNext p p.told 0 = record { most = omega arith; first = λ _. refl; order = λ some. absurd (omega arith); news = λ some. absurd (omega arith) } in
     let line = value_line there.0 p.told 0 in
     begin_before front line (begin_first left (told_of p g) (front ++ line ∷ []) (change_tells p front line p.told 0 tells says next) zeroth (omega arith))

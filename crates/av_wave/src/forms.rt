@@ -96,7 +96,8 @@ fn bit_in(text: &[u8], ports: &[Port]) -> Option<Told>
     let (first, code) = text.split_first()?;
     let value = bit(*first)?;
     let port = port_of(code, ports.len() as u32)?;
-    if ports[port as usize].width.bits == 1 {
+    let width = ports[port as usize].width;
+    if width.bits == 1 {
         Some(Told { port, value })
     } else {
         None

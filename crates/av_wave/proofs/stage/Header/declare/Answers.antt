@@ -1,0 +1,21 @@
+use Rattle.std.proofs.Common.{◌≡◌, ℕ, List, ◌++◌, ◌∷◌, [], length, refl, sym, ap, ◌∙◌, subst}
+use Rattle.std.specs.Prelude.{Contains}
+use Rattle.av_net.specs.declared.netlist.Port.{Port}
+use Rattle.av_net.specs.Names.{names_of}
+use Rattle.av_wave.specs.inner.Heads.{Head, IsHead}
+use Rattle.av_wave.proofs.Spelled.{name_ascii}
+use Rattle.av_wave.proofs.Staging.{port_none, port_known, port_takes, known_by, unknown_by, names_more, head_more}
+use Rattle.av_wave.proofs.stage.Header.declare.Goals as goal
+
+pub returns-in_default-clause-turns : goal.returns-in_default-clause-turns
+returns-in_default-clause-turns c = port_none c.args.self c.args.line.now c.len.result (c.len.ensures.count ∙ ap (λ (h : Head). length h.ports) c.self.view_is) c.requires.other c.in_default.ensures.none
+
+pub from_ascii-requires : goal.from_ascii-requires
+from_ascii-requires c = name_ascii c.in-Some.found.name.now c.in-Some.ensures.some.0
+
+pub returns-then-insert-clause-turns : goal.returns-then-insert-clause-turns
+returns-then-insert-clause-turns c =
+    let head : Head = c.args.self in
+    let port : Port = record { name = c.in-Some.found.name.now; width = c.in-Some.found.width } in
+    port_known head c.args.line.now c.len.result port (c.len.ensures.count ∙ ap (λ (h : Head). length h.ports) c.self.view_is) c.requires.other c.in-Some.ensures.some.1
+    (subst (λ (names : List (List ℕ)). Contains names port.name) c.requires.names (known_by port.name c.args.names.now c.in_ok-insert.field-0 c.in_ok-insert.ensures.is_new c.if-insert.true))
