@@ -172,6 +172,13 @@ shown_fits m s c v words ports sound for lt agrees is same k within =
       fits = subst (λ (n : ℕ). IsWord port.width.bits n) (sym word) (named_fits m s c v sound for lt agrees port named (header_declared m k port there));
     }
 
+-- the words that are noted
+pub shown_here : (m : Module) (seen : Seen) (words : List ℕ) → seen.of ≡ m → words ≡ port_words (carried seen) (header_ports seen.of) → words ≡ port_words (carried seen) (header_ports m)
+shown_here m seen words of shown = shown ∙ ap (λ (x : Module). port_words (carried seen) (header_ports x)) of
+
+pub shown_long : (m : Module) (seen : Seen) (words : List ℕ) → words ≡ port_words (carried seen) (header_ports m) → length words ≡ length (header_ports m)
+shown_long m seen words shown = ap length shown ∙ length-map (header_ports m) (λ (port : Port). carried seen port.name)
+
 pub captures_on : (m : Module) (s : Stimulus) (c inputs next next' : ℕ) (clock seen seen' clock' : Seen) (before words words' : List ℕ) (p q : Part) → IsSound m → IsPart p → inputs ≡ length m.inputs → IsCapturing m s c clock before p next → c < s.cycles
     → seen.of ≡ clock.of → seen'.of ≡ seen.of → clock'.of ≡ seen'.of
     → ArePresented seen.of s.values c inputs (carried seen) words → Agree (names_of seen.of.registers) (carried clock) (carried seen)
@@ -183,10 +190,10 @@ captures_on m s c inputs next next' clock seen seen' clock' before words words' 
     let first_at : seen.of ≡ m = of ∙ so_far.of in
     let then_at : seen'.of ≡ m = of' ∙ first_at in
     let agrees = agrees_now m s c inputs clock seen seen' words sound count so_far.of so_far.registers of of' ports registers settled given in
-    let shown_at : words' ≡ port_words (carried seen') (header_ports m) = shown ∙ ap (λ (x : Module). port_words (carried seen') (header_ports x)) then_at in
+    let shown_at : words' ≡ port_words (carried seen') (header_ports m) = shown_here m seen' words' then_at shown in
     record {
       of = of'' ∙ then_at;
-      room = ap length shown_at ∙ length-map (header_ports m) (λ (port : Port). carried seen' port.name);
+      room = shown_long m seen' words' shown_at;
       name = records.name ∙ so_far.name;
       ports = records.ports ∙ so_far.ports;
       cycle = records.cycle ∙ ap (λ n. n + 1) so_far.cycle;

@@ -29,7 +29,7 @@ use Rattle.av_wave.proofs.PartSteps.{words_first}
 use Rattle.av_wave.proofs.Written.{joined_one}
 use Rattle.av_wave.proofs.Reached.{Tells, start_tells, told_lines}
 use Rattle.av_wave.proofs.Cycling.{ForRuns}
-use Rattle.av_wave.proofs.Capturing.{IsCapturing, header_apart, header_spelled, starts_capturing, captures_on, captured, agrees_now, shown_fits}
+use Rattle.av_wave.proofs.Capturing.{IsCapturing, header_apart, header_spelled, starts_capturing, captures_on, captured, agrees_now, shown_here, shown_long, shown_fits}
 use Rattle.av_wave.proofs.News.{MayTell, TellsCycle, cycle_tells, news_lines, cycle_news, cycle_text}
 
 -- c cycles were put, by lines that tell of a part of a wave, and the registers have the words of the next one
@@ -86,8 +86,8 @@ pub record IsShown (m : Module) (s : Stimulus) (c inputs : ℕ) (clock seen seen
 
 module _ (m : Module) (s : Stimulus) (c : ℕ) (parts : Prepared) (next : ℕ) (sink sink' : SinkState) (old mid : Draft) (so_far : IsDumping m s c parts next sink sink' old mid)
     (for : IsFor m.inputs s) (lt : c < s.cycles) (seen seen' : Seen) (words words' : List ℕ) (shows : IsShown m s c parts.inputs parts.clock seen seen' words words') where
-  shown_here : words' ≡ port_words (carried seen') (header_ports m)
-  shown_here = shows.shown ∙ ap (λ (x : Module). port_words (carried seen') (header_ports x)) (shows.of' ∙ shows.of ∙ so_far.prepared.clock)
+  shown : words' ≡ port_words (carried seen') (header_ports m)
+  shown = shown_here m seen' words' (shows.of' ∙ shows.of ∙ so_far.prepared.clock) shows.shown
 
   agrees : ForRuns m s (λ run. c < s.cycles → Agree (all_names m) (carried seen') (run.in_cycle c))
   agrees = agrees_now m s c parts.inputs parts.clock seen seen' words so_far.prepared.sound so_far.prepared.count so_far.prepared.clock so_far.capturing.registers shows.of shows.of' shows.ports shows.registers shows.settled shows.given
@@ -95,25 +95,21 @@ module _ (m : Module) (s : Stimulus) (c : ℕ) (parts : Prepared) (next : ℕ) (
   may_tell : MayTell so_far.part parts.before words'
   may_tell =
       let same : so_far.part.ports ≡ header_ports m = so_far.capturing.ports in
-      let fits = shown_fits m s c (carried seen') words' so_far.part.ports so_far.prepared.sound for lt agrees shown_here same in
+      let fits = shown_fits m s c (carried seen') words' so_far.part.ports so_far.prepared.sound for lt agrees shown same in
       record {
         fresh = so_far.capturing.told;
         most = omega (arith, so_far.capturing.cycle, lt, for.most);
-        count = ap length shown_here ∙ length_words (header_ports m) ∙ ap (λ (ps : List Port). length ps) (sym same);
+        count = shown_long m seen' words' shown ∙ ap (λ (ps : List Port). length ps) (sym same);
         has = so_far.has;
         fits = fits;
       }
-    where
-      length_words : (ports : List Port) → length (port_words (carried seen') ports) ≡ length ports
-      length_words [] = refl
-      length_words (port ∷ ports) = ap (λ n. n + 1) (length_words ports)
 
   -- the cycle is put, and the clock goes on
-  pub dumps_on : (clock' : Seen) (parts' : Prepared) (next' : ℕ) {sink'' sink''' : SinkState} {late new : Draft} (ports : List Port) (before : List ℕ) (shown : List ℕ) → parts'.clock ≡ clock' → parts'.ports ≡ parts.ports → parts'.wires ≡ parts.wires
-      → parts'.inputs ≡ parts.inputs → parts'.words ≡ parts.before → parts'.before ≡ words' → ports ≡ parts.ports → before ≡ parts.before → shown ≡ words' → clock'.of ≡ seen'.of → Edge clock'.of false (carried seen') (carried clock')
+  pub dumps_on : (clock' : Seen) (parts' : Prepared) (next' : ℕ) {sink'' sink''' : SinkState} {late new : Draft} (ports : List Port) (before noted : List ℕ) → parts'.clock ≡ clock' → parts'.ports ≡ parts.ports → parts'.wires ≡ parts.wires
+      → parts'.inputs ≡ parts.inputs → parts'.words ≡ parts.before → parts'.before ≡ words' → ports ≡ parts.ports → before ≡ parts.before → noted ≡ words' → clock'.of ≡ seen'.of → Edge clock'.of false (carried seen') (carried clock')
       → AreLeft seen.of.inputs s.values (c + 1) 0 (drop next' s.values) → next' ≤ length s.values
-      → Puts sink' sink'' mid late (joined (news_lines ports c before shown (length shown))) → Puts sink'' sink''' late new (time_line (c + 1)) → IsDumping m s (c + 1) parts' next' sink sink''' old new
-  dumps_on clock' parts' next' {sink''} {sink'''} {late} {new} ports before shown clock ports_same wires inputs swapped kept as_ports as_before as_shown of'' edge left within cycle time =
+      → Puts sink' sink'' mid late (joined (news_lines ports c before noted (length noted))) → Puts sink'' sink''' late new (time_line (c + 1)) → IsDumping m s (c + 1) parts' next' sink sink''' old new
+  dumps_on clock' parts' next' {sink''} {sink'''} {late} {new} ports before noted clock ports_same wires inputs swapped kept as_ports as_before as_noted of'' edge left within cycle time =
       let p : Part = so_far.part in
       let told = cycle_tells p so_far.lines parts.before words' may_tell so_far.tells in
       let q : Part = told.now in
@@ -121,11 +117,11 @@ module _ (m : Module) (s : Stimulus) (c : ℕ) (parts : Prepared) (next : ℕ) (
           shows.of shows.of' of'' shows.ports shows.registers shows.settled shows.given shows.shown told.records edge left within in
       let here : parts.ports ≡ p.ports = so_far.prepared.ports ∙ sym so_far.capturing.ports in
       let at : c ≡ p.cycle = sym so_far.capturing.cycle in
-      let first : joined (news_lines ports c before shown (length shown)) ≡ joined (news_lines p.ports p.cycle parts.before words' (length words')) =
-          ap (λ (ps : List Port). joined (news_lines ps c before shown (length shown))) (as_ports ∙ here)
-          ∙ ap (λ (k : ℕ). joined (news_lines p.ports k before shown (length shown))) at
-          ∙ ap (λ (ws : List ℕ). joined (news_lines p.ports p.cycle ws shown (length shown))) as_before
-          ∙ ap (λ (ws : List ℕ). joined (news_lines p.ports p.cycle parts.before ws (length ws))) as_shown in
+      let first : joined (news_lines ports c before noted (length noted)) ≡ joined (news_lines p.ports p.cycle parts.before words' (length words')) =
+          ap (λ (ps : List Port). joined (news_lines ps c before noted (length noted))) (as_ports ∙ here)
+          ∙ ap (λ (k : ℕ). joined (news_lines p.ports k before noted (length noted))) at
+          ∙ ap (λ (ws : List ℕ). joined (news_lines p.ports p.cycle ws noted (length noted))) as_before
+          ∙ ap (λ (ws : List ℕ). joined (news_lines p.ports p.cycle parts.before ws (length ws))) as_noted in
       let last : time_line (c + 1) ≡ time_line (p.cycle + 1) = ap (λ (k : ℕ). time_line (k + 1)) at in
       record {
         prepared = record {

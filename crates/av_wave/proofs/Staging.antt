@@ -9,6 +9,7 @@ use Rattle.std.proofs.lemmas.List.Elements.{All-nil, All-push}
 use Rattle.std.proofs.lemmas.Map.Views.{list_any-from_Contains, Contains-from_any}
 use Rattle.std.proofs.lemmas.Slice.Eq.{bytes_eq-Decides}
 use Rattle.av_base.specs.declared.memory.Memory.{Memory}
+use Rattle.av_base.specs.declared.width.Width.{Width}
 use Rattle.av_net.specs.declared.netlist.Port.{Port}
 use Rattle.av_net.specs.Lexemes.{IsName}
 use Rattle.av_net.specs.Names.{names_of, AreDistinct}
@@ -90,6 +91,15 @@ head_more head port is named unknown =
     only : (m n : List ℕ) → Contains (m ∷ []) n → m ≡ n
     only m n (zero, lt, at) = at
     only m n (suc k, lt, at) = absurd (omega arith)
+
+-- a head behind whose ports one was put
+pub pushed_head : (name : List ℕ) (ports ports' : List Port) (head : Head) (text text' : List ℕ) (width : Width) → record { name = name; ports = ports } ≡ head → ports' ≡ ports ++ record { name = text'; width = width } ∷ [] → text' ≡ text
+    → record { name = name; ports = ports' } ≡ record { name = head.name; ports = head.ports ++ record { name = text; width = width } ∷ [] }
+pushed_head name ports ports' head text text' width is more same =
+    let one : List ℕ → Port = λ t. record { name = t; width = width } in
+    let made : List Port → Head = λ ps. record { name = name; ports = ps } in
+    let behind : Head → Head = λ h. record { name = h.name; ports = h.ports ++ one text ∷ [] } in
+    ap made (more ∙ ap (λ (t : List ℕ). ports ++ one t ∷ []) same) ∙ ap behind is
 
 -- ---- a cycle
 

@@ -33,4 +33,4 @@ pub returns : goal.returns
 returns c =
     let p : Part = c.args.recorder in
     let says = subst (λ (ports : List Port). Says ports c.args.line.now c.in-Some.told.port c.in-Some.told.value) c.ports.ensures.ports c.in-Some.ensures.some in
-    change_takes p c.change.new.recorder c.args.line.now c.in-Some.told.port c.in-Some.told.value says (c.may_change.ensures.yes c.if-may_change.false) c.in_ok-change.ensures
+    change_takes p c.change.new.self c.args.line.now c.in-Some.told.port c.in-Some.told.value says (c.may_change.ensures.yes c.if-may_change.false) c.in_ok-change.ensures
