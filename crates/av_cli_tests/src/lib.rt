@@ -36,3 +36,5 @@ mod stimuli;
 mod tables;
 #[cfg(test)]
 mod texts;
+#[cfg(test)]
+mod waves;

@@ -93,8 +93,8 @@ head_more head port is named unknown =
     only m n (suc k, lt, at) = absurd (omega arith)
 
 -- a head behind whose ports one was put
-pub pushed_head : (name : List ℕ) (ports ports' : List Port) (head : Head) (text text' : List ℕ) (width : Width) → record { name = name; ports = ports } ≡ head → ports' ≡ ports ++ record { name = text'; width = width } ∷ [] → text' ≡ text
-    → record { name = name; ports = ports' } ≡ record { name = head.name; ports = head.ports ++ record { name = text; width = width } ∷ [] }
+pub pushed_head : (name : List ℕ) (ports ports' : List Port) (head : Head) (text text' : List ℕ) (width : Width) → ◌≡◌ {A = Head} (record { name = name; ports = ports }) head → ports' ≡ ports ++ record { name = text'; width = width } ∷ [] → text' ≡ text
+    → ◌≡◌ {A = Head} (record { name = name; ports = ports' }) (record { name = head.name; ports = head.ports ++ record { name = text; width = width } ∷ [] })
 pushed_head name ports ports' head text text' width is more same =
     let one : List ℕ → Port = λ t. record { name = t; width = width } in
     let made : List Port → Head = λ ps. record { name = name; ports = ps } in
