@@ -99,7 +99,7 @@ fn a_sink_may_fail_at_a_dump(rt: HostRuntime) -> Result<(), Fail> {
     let mut source = MemSource::new(joined(alloc, &[INCREMENT, DATA])?, 4096, calls(alloc, None)?);
     let mut sink = MemSink::new(alloc, 4096, 5, calls(alloc, Some(2))?)?;
     let status = answer(alloc, &["wave", "--width", "8"], &mut source, &mut sink)?;
-    assert_eq!(&rt; status, Status::WriteFault);
-    assert_eq!(&rt; sink.held(), b"$timescale".as_slice());
+    assert_eq!(rt; status, Status::WriteFault);
+    assert_eq!(rt; sink.held(), b"$timescale".as_slice());
     Ok(())
 }

@@ -33,10 +33,10 @@ pub fn read_wave(alloc: Global, bytes: &[u8]) -> Result<Wave, WaveFault>
     let mut at = 0;
     while at < bytes.len() {
         let text = first_line(&bytes[at..]);
-        match stage.take(alloc, text, &mut names)? {
-            Some(next) => stage = next,
-            None => return Err(WaveFault::WaveSyntax(line)),
-        }
+        let Some(next) = stage.take(alloc, text, &mut names)? else {
+            return Err(WaveFault::WaveSyntax(line));
+        };
+        stage = next;
         at += text.len();
         line += 1;
     }
