@@ -39,11 +39,7 @@ fn put_cycles<K: Sink>(alloc: Global, wave: &Wave, sink: &mut K) -> Status
 }
 
 // Writes the line of each cycle. The words are those of the ports before the first one. It takes no memory.
-fn write_cycles<K: Sink>(
-    wave: &Wave,
-    words: &mut List<u64>,
-    sink: &mut K,
-) -> Result<(), WriteFault>
+fn write_cycles<K: Sink>(wave: &Wave, words: &mut List<u64>, sink: &mut K) -> Result<(), WriteFault>
     requires { words.old ≡ replicate (length wave.now.ports) 0 }
     ensures added { OnOk result (Adds (K.state sink.old).held (K.state sink.new).held (wave_lines wave.now wave.now.cycles)) }
     ensures fault { IsErr result → HasRisen (K.state sink.old).faults (K.state sink.new).faults }

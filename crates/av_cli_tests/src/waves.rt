@@ -70,8 +70,18 @@ const ROWS: &[Row] = &[
         Status::Done,
         "0 i0=0 o0=1\n1 i0=254 o0=255\n2 i0=255 o0=0\n",
     ),
-    (&["unwave"], CUT, Status::Refused, "refused: wave syntax 16\n"),
-    (&["unwave"], ZEROS, Status::Refused, "refused: wave syntax 8\n"),
+    (
+        &["unwave"],
+        CUT,
+        Status::Refused,
+        "refused: wave syntax 16\n",
+    ),
+    (
+        &["unwave"],
+        ZEROS,
+        Status::Refused,
+        "refused: wave syntax 8\n",
+    ),
     (&["unwave"], "", Status::Refused, "refused: wave syntax 1\n"),
     (&["unwave", "--width", "8"], DUMP, Status::Words, USAGE),
     (&["unwave", "N=3"], DUMP, Status::Words, USAGE),
@@ -96,7 +106,11 @@ fn a_dump_fixes_status_and_output(rt: HostRuntime) -> Result<(), Fail> {
 #[test]
 fn a_sink_may_fail_at_a_dump(rt: HostRuntime) -> Result<(), Fail> {
     let alloc = rt.alloc();
-    let mut source = MemSource::new(joined(alloc, &[INCREMENT, DATA])?, 4096, calls(alloc, None)?);
+    let mut source = MemSource::new(
+        joined(alloc, &[INCREMENT, DATA])?,
+        4096,
+        calls(alloc, None)?,
+    );
     let mut sink = MemSink::new(alloc, 4096, 5, calls(alloc, Some(2))?)?;
     let status = answer(alloc, &["wave", "--width", "8"], &mut source, &mut sink)?;
     assert_eq!(rt; status, Status::WriteFault);

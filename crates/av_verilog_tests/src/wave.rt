@@ -47,14 +47,38 @@ const HEADS: &[(&str, u32)] = &[
     ("$timescale 1ns $end", 1),
     ("$timescale 1ns $end\n", 2),
     ("$timescale 1ns $end\n$scope module wire $end\n", 2),
-    ("$timescale 1ns $end\n$scope module m $end\n$var wire 08 ! a $end\n", 3),
-    ("$timescale 1ns $end\n$scope module m $end\n$var wire 65 ! a $end\n", 3),
-    ("$timescale 1ns $end\n$scope module m $end\n$var wire 8 \" a $end\n", 3),
-    ("$timescale 1ns $end\n$scope module m $end\n$var wire 8 ! a $end\n$var wire 8 \" a $end\n", 4),
-    ("$timescale 1ns $end\n$scope module m $end\n$upscope $end\n$enddefinitions $end\n", 5),
-    ("$timescale 1ns $end\n$scope module m $end\n$upscope $end\n$enddefinitions $end\n#1\n", 5),
-    ("$timescale 1ns $end\n$scope module m $end\n$upscope $end\n$enddefinitions $end\n#0\n#2\n", 6),
-    ("$timescale 1ns $end\n$scope module m $end\n$upscope $end\n$enddefinitions $end\n#0\n#1", 6),
+    (
+        "$timescale 1ns $end\n$scope module m $end\n$var wire 08 ! a $end\n",
+        3,
+    ),
+    (
+        "$timescale 1ns $end\n$scope module m $end\n$var wire 65 ! a $end\n",
+        3,
+    ),
+    (
+        "$timescale 1ns $end\n$scope module m $end\n$var wire 8 \" a $end\n",
+        3,
+    ),
+    (
+        "$timescale 1ns $end\n$scope module m $end\n$var wire 8 ! a $end\n$var wire 8 \" a $end\n",
+        4,
+    ),
+    (
+        "$timescale 1ns $end\n$scope module m $end\n$upscope $end\n$enddefinitions $end\n",
+        5,
+    ),
+    (
+        "$timescale 1ns $end\n$scope module m $end\n$upscope $end\n$enddefinitions $end\n#1\n",
+        5,
+    ),
+    (
+        "$timescale 1ns $end\n$scope module m $end\n$upscope $end\n$enddefinitions $end\n#0\n#2\n",
+        6,
+    ),
+    (
+        "$timescale 1ns $end\n$scope module m $end\n$upscope $end\n$enddefinitions $end\n#0\n#1",
+        6,
+    ),
 ];
 
 // Lines behind the head, and the first faulty line, or 0 where they are those of a dump.
@@ -78,7 +102,8 @@ const CYCLES: &[(&str, u32)] = &[
 ];
 
 // `o0` counts, and `o1` tells whether it is below two.
-const COUNTER: &str = "module array(input clk, input rst, input [7:0] i0, output [7:0] o0, output [0:0] o1);
+const COUNTER: &str =
+    "module array(input clk, input rst, input [7:0] i0, output [7:0] o0, output [0:0] o1);
   wire [7:0] more;
   reg [7:0] count;
   assign o0 = count;
@@ -121,12 +146,7 @@ fn read(alloc: Global, bytes: &[u8]) -> Result<Wave, WaveFault> {
     read_wave(alloc, bytes)
 }
 
-fn assert_written(
-    rt: &impl Abort,
-    alloc: Global,
-    wave: &Wave,
-    wanted: &str,
-) -> Result<(), Fail> {
+fn assert_written(rt: &impl Abort, alloc: Global, wave: &Wave, wanted: &str) -> Result<(), Fail> {
     let mut sink = empty_sink(alloc)?;
     write_wave(wave, &mut sink)?;
     assert_held(rt, &sink, wanted.as_bytes());

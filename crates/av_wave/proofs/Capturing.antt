@@ -92,7 +92,7 @@ values_on m s c p q v words part cycle told ports records shown lt agrees values
       let all : AllByRecursion (λ g. g.cycle ≤ c) q.changes = subst (AllByRecursion (λ g. g.cycle ≤ c)) (sym records.changes) (each_append (λ g. g.cycle ≤ c) p.changes records.more old new) in
       let room : k < length p.ports = omega (arith, slice_get_within (header_ports m) k port there, ap length ports) in
       let word : slice_index words k ≡ v port.name =
-          ap (λ (ws : List ℕ). slice_index ws k) shown ∙ get_or_from_slice_get (port_words v (header_ports m)) k (v port.name) 0 (get_mapped (λ (x : Port). v x.name) (header_ports m) k port there) in
+      ap (λ (ws : List ℕ). slice_index ws k) shown ∙ get_or_from_slice_get (port_words v (header_ports m)) k (v port.name) 0 (get_mapped (λ (x : Port). v x.name) (header_ports m) k port there) in
       ap (λ (e : ℕ). values_in q.changes e k) same
       ∙ ap (λ (gs : List Change). all_changed zeros gs k) (to_all c q.changes all)
       ∙ records.values k room ∙ word

@@ -114,14 +114,14 @@ module _ (m : Module) (s : Stimulus) (c : ℕ) (parts : Prepared) (next : ℕ) (
       let told = cycle_tells p so_far.lines parts.before words' may_tell so_far.tells in
       let q : Part = told.now in
       let goes = captures_on m s c parts.inputs next next' parts.clock seen seen' clock' parts.words words words' p q so_far.prepared.sound so_far.tells.part so_far.prepared.count so_far.capturing lt
-          shows.of shows.of' of'' shows.ports shows.registers shows.settled shows.given shows.shown told.records edge left within in
+      shows.of shows.of' of'' shows.ports shows.registers shows.settled shows.given shows.shown told.records edge left within in
       let here : parts.ports ≡ p.ports = so_far.prepared.ports ∙ sym so_far.capturing.ports in
       let at : c ≡ p.cycle = sym so_far.capturing.cycle in
       let first : joined (news_lines ports c before noted (length noted)) ≡ joined (news_lines p.ports p.cycle parts.before words' (length words')) =
-          ap (λ (ps : List Port). joined (news_lines ps c before noted (length noted))) (as_ports ∙ here)
-          ∙ ap (λ (k : ℕ). joined (news_lines p.ports k before noted (length noted))) at
-          ∙ ap (λ (ws : List ℕ). joined (news_lines p.ports p.cycle ws noted (length noted))) as_before
-          ∙ ap (λ (ws : List ℕ). joined (news_lines p.ports p.cycle parts.before ws (length ws))) as_noted in
+      ap (λ (ps : List Port). joined (news_lines ps c before noted (length noted))) (as_ports ∙ here)
+      ∙ ap (λ (k : ℕ). joined (news_lines p.ports k before noted (length noted))) at
+      ∙ ap (λ (ws : List ℕ). joined (news_lines p.ports p.cycle ws noted (length noted))) as_before
+      ∙ ap (λ (ws : List ℕ). joined (news_lines p.ports p.cycle parts.before ws (length ws))) as_noted in
       let last : time_line (c + 1) ≡ time_line (p.cycle + 1) = ap (λ (k : ℕ). time_line (k + 1)) at in
       record {
         prepared = record {

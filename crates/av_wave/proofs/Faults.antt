@@ -183,9 +183,9 @@ pub fault_once : (bytes : List ℕ) (m n : ℕ) → IsWaveFault bytes m → IsWa
 fault_once bytes m n one two = elim (cases_lt one.before two.before) [
   | inl lt ↦ absurd (no_later bytes m n one two lt)
   | inr ge ↦ elim (cases_lt two.before one.before) [
-      | inl lt ↦ absurd (no_later bytes n m two one lt)
-      | inr le ↦ omega (arith, one.number_is, two.number_is)
-    ]
+    | inl lt ↦ absurd (no_later bytes n m two one lt)
+    | inr le ↦ omega (arith, one.number_is, two.number_is)
+  ]
 ]
 
 -- ---- answers

@@ -36,4 +36,3 @@ pub name_to : (text : List ℕ) → IsName text → is_name text ≡ true
 name_to text h =
     and_true (is_identifier text) (not (is_reserved text)) (identifier_to text h.0)
     (is_false (is_reserved text) (λ found. h.1 (Contains-from_any (λ x y e. (bytes_eq-Decides x y).0 e) text reserved_words found)))
-

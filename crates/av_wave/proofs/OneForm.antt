@@ -52,9 +52,9 @@ small_width w = let most : w.bits ≤ 64 = w.most in omega arith
 pub port_once : (number : ℕ) (p q : Port) → port_line number p ≡ port_line number q → p ≡ q
 port_once number p q e =
     let same : codes "$var wire " ++ (decimal p.width.bits ++ 32 ∷ port_rest number p.name) ≡ codes "$var wire " ++ (decimal q.width.bits ++ 32 ∷ port_rest number q.name) =
-        sym (port_parts number p) ∙ e ∙ port_parts number q in
+    sym (port_parts number p) ∙ e ∙ port_parts number q in
     let parts = blank_once (decimal p.width.bits) (decimal q.width.bits) (port_rest number p.name) (port_rest number q.name)
-        (decimal_digits p.width.bits (small_width p.width)) (decimal_digits q.width.bits (small_width q.width)) (append_cancel_left (codes "$var wire ") _ _ same) in
+    (decimal_digits p.width.bits (small_width p.width)) (decimal_digits q.width.bits (small_width q.width)) (append_cancel_left (codes "$var wire ") _ _ same) in
     let bits : p.width.bits ≡ q.width.bits = decimal_injective p.width.bits q.width.bits (small_width p.width) (small_width q.width) parts.0 in
     let names : 32 ∷ (p.name ++ codes " $end\n") ≡ 32 ∷ (q.name ++ codes " $end\n") = append_cancel_left (code number) _ _ parts.1 in
     port_is p q (append_cancel_right p.name q.name (codes " $end\n") (same_tail 32 32 _ _ names)) (width_is p.width q.width bits)
@@ -82,21 +82,45 @@ value_vector port number value wide = rw (ne_eqb port.width.bits 1 wide) (regrou
 pub says_cases : {ports : List Port} {line : List ℕ} {number value : ℕ} → Says ports line number value
     → ((text : List ℕ) × (line ≡ text ++ codes "\n") × SaysBit ports text number value) ⊎ ((text : List ℕ) × (line ≡ (98 ∷ text) ++ codes "\n") × SaysVector ports text number value)
 says_cases {number = number} {value = value} says = elim (cases_eq says.port.width.bits 1) [
-  | inl single ↦ inl (binary value ++ code number, says.line_is ∙ value_bit says.port number value single, record {
-      port = says.port; at = says.at; single = single; fits = subst (λ w. value < 2 ^ w) single says.fits; text_is = refl })
-  | inr wide ↦ inr (binary value ++ 32 ∷ code number, says.line_is ∙ value_vector says.port number value wide, record {
-      port = says.port; at = says.at; wide = wide; fits = says.fits; text_is = refl })
+  | inl single ↦ inl (
+    binary value ++ code number,
+    says.line_is ∙ value_bit says.port number value single,
+    record {
+      port = says.port;
+      at = says.at;
+      single = single;
+      fits = subst (λ w. value < 2 ^ w) single says.fits;
+      text_is = refl;
+    },
+  )
+  | inr wide ↦ inr (
+    binary value ++ 32 ∷ code number,
+    says.line_is ∙ value_vector says.port number value wide,
+    record {
+      port = says.port;
+      at = says.at;
+      wide = wide;
+      fits = says.fits;
+      text_is = refl;
+    },
+  )
 ]
 
 pub from_bit : {ports : List Port} {text line : List ℕ} {number value : ℕ} → line ≡ text ++ codes "\n" → SaysBit ports text number value → Says ports line number value
 from_bit {number = number} {value = value} e bit = record {
-  port = bit.port; at = bit.at; fits = subst (λ w. value < 2 ^ w) (sym bit.single) bit.fits;
-  line_is = e ∙ ap (λ front. front ++ codes "\n") bit.text_is ∙ sym (value_bit bit.port number value bit.single) }
+  port = bit.port;
+  at = bit.at;
+  fits = subst (λ w. value < 2 ^ w) (sym bit.single) bit.fits;
+  line_is = e ∙ ap (λ front. front ++ codes "\n") bit.text_is ∙ sym (value_bit bit.port number value bit.single);
+}
 
 pub from_vector : {ports : List Port} {text line : List ℕ} {number value : ℕ} → line ≡ (98 ∷ text) ++ codes "\n" → SaysVector ports text number value → Says ports line number value
 from_vector {number = number} {value = value} e vector = record {
-  port = vector.port; at = vector.at; fits = vector.fits;
-  line_is = e ∙ ap (λ front. (98 ∷ front) ++ codes "\n") vector.text_is ∙ sym (value_vector vector.port number value vector.wide) }
+  port = vector.port;
+  at = vector.at;
+  fits = vector.fits;
+  line_is = e ∙ ap (λ front. (98 ∷ front) ++ codes "\n") vector.text_is ∙ sym (value_vector vector.port number value vector.wide);
+}
 
 -- the text of a bit does not begin as that of a vector
 pub bit_first : {ports : List Port} {text rest : List ℕ} {number value : ℕ} → SaysBit ports text number value → text ≡ 98 ∷ rest → ⊥
@@ -126,13 +150,13 @@ vector_once {m = m} {n = n} {v = v} {w = w} some other =
 pub says_once : {ports : List Port} {line : List ℕ} {m n v w : ℕ} → Says ports line m v → Says ports line n w → (m ≡ n) × (v ≡ w)
 says_once {ports} {line} {m} {n} {v} {w} some other = elim (says_cases some) [
   | inl one ↦ elim (says_cases other) [
-      | inl two ↦ bit_once (subst (λ t. SaysBit ports t m v) (append_cancel_right one.0 two.0 (codes "\n") (sym one.1 ∙ two.1)) one.2) two.2
-      | inr two ↦ absurd (bit_first one.2 (append_cancel_right one.0 (98 ∷ two.0) (codes "\n") (sym one.1 ∙ two.1)))
-    ]
+    | inl two ↦ bit_once (subst (λ t. SaysBit ports t m v) (append_cancel_right one.0 two.0 (codes "\n") (sym one.1 ∙ two.1)) one.2) two.2
+    | inr two ↦ absurd (bit_first one.2 (append_cancel_right one.0 (98 ∷ two.0) (codes "\n") (sym one.1 ∙ two.1)))
+  ]
   | inr one ↦ elim (says_cases other) [
-      | inl two ↦ absurd (bit_first two.2 (append_cancel_right two.0 (98 ∷ one.0) (codes "\n") (sym two.1 ∙ one.1)))
-      | inr two ↦ vector_once (subst (λ t. SaysVector ports t m v) (same_tail 98 98 one.0 two.0 (append_cancel_right (98 ∷ one.0) (98 ∷ two.0) (codes "\n") (sym one.1 ∙ two.1))) one.2) two.2
-    ]
+    | inl two ↦ absurd (bit_first two.2 (append_cancel_right two.0 (98 ∷ one.0) (codes "\n") (sym two.1 ∙ one.1)))
+    | inr two ↦ vector_once (subst (λ t. SaysVector ports t m v) (same_tail 98 98 one.0 two.0 (append_cancel_right (98 ∷ one.0) (98 ∷ two.0) (codes "\n") (sym one.1 ∙ two.1))) one.2) two.2
+  ]
 ]
 
 -- ---- a line of a change begins no cycle
@@ -216,13 +240,13 @@ time_whole cycle small = record {
 pub says_whole : {ports : List Port} {line : List ℕ} {number value : ℕ} → Says ports line number value → IsLine line
 says_whole {line = line} {number = number} {value = value} says = elim (says_cases says) [
   | inl one ↦ record {
-      text = one.0;
-      plain = subst IsPlain (sym one.2.text_is) (append_plain (binary value) (code number) (digits_plain (binary value) (binary_digits value)) (code_plain number));
-      whole = one.1;
-    }
+    text = one.0;
+    plain = subst IsPlain (sym one.2.text_is) (append_plain (binary value) (code number) (digits_plain (binary value) (binary_digits value)) (code_plain number));
+    whole = one.1;
+  }
   | inr one ↦ record {
-      text = 98 ∷ one.0;
-      plain = ((λ e. absurd (omega arith)), subst IsPlain (sym one.2.text_is) (append_plain (binary value) (32 ∷ code number) (digits_plain (binary value) (binary_digits value)) ((λ e. absurd (omega arith)), code_plain number)));
-      whole = one.1;
-    }
+    text = 98 ∷ one.0;
+    plain = ((λ e. absurd (omega arith)), subst IsPlain (sym one.2.text_is) (append_plain (binary value) (32 ∷ code number) (digits_plain (binary value) (binary_digits value)) ((λ e. absurd (omega arith)), code_plain number)));
+    whole = one.1;
+  }
 ]

@@ -53,7 +53,7 @@ pub declares_some : (line first second third fourth name : List ℕ) (number : �
 declares_some line first second third fourth name number width parts ends =
     parts.wire
     ∙ ap (λ (t : List ℕ). codes "$var wire " ++ t)
-      (parts.bits ∙ ap (λ (t : List ℕ). decimal width.bits ++ 32 ∷ t) (parts.named ∙ ap (λ (t : List ℕ). code number ++ t) (parts.blank ∙ ap (λ (t : List ℕ). 32 ∷ t) ends)))
+    (parts.bits ∙ ap (λ (t : List ℕ). decimal width.bits ++ 32 ∷ t) (parts.named ∙ ap (λ (t : List ℕ). code number ++ t) (parts.blank ∙ ap (λ (t : List ℕ). 32 ∷ t) ends)))
     ∙ sym (port_parts number (record { name = name; width = width }))
 
 -- a line that declares a port has these parts

@@ -69,7 +69,7 @@ port_reached head port is named unknown =
       named = is.named;
       ports_named = subst (All IsName) (sym names) (All-push IsName (names_of head.ports) port.name is.ports_named named);
       apart = subst AreDistinct (sym names) (append_distinct (names_of head.ports) (port.name ∷ []) is.apart (one_distinct port.name)
-      (λ name there here. unknown (subst (Contains (names_of head.ports)) (only_one port.name name here) there)));
+          (λ name there here. unknown (subst (Contains (names_of head.ports)) (only_one port.name name here) there)));
     }
   where
     only_one : (a b : List ℕ) → Contains (a ∷ []) b → b ≡ a
@@ -135,9 +135,10 @@ reached_on (Ports head) t front line (is, e) (inl takes) =
     let lines : port_lines 0 (head.ports ++ takes.port ∷ []) ≡ port_lines 0 head.ports ++ port_line (0 + length head.ports) takes.port ∷ [] = port_lines_on 0 head.ports takes.port in
     let count : length head.ports ≡ 0 + length head.ports = omega arith in
     let line_is : line ≡ port_line (0 + length head.ports) takes.port = takes.line_is ∙ ap (λ k. port_line k takes.port) count in
-    subst (λ a. IsReached a (front ++ line ∷ [])) (sym takes.next_is)
-    (port_reached head takes.port is takes.named takes.unknown,
-    ap (λ f. f ++ line ∷ []) e ∙ ap (λ (l : List ℕ). opened head ++ l ∷ []) line_is ∙ ap (λ rest. timescale_line ∷ scope_line head.name ∷ rest) (sym lines))
+    subst (λ a. IsReached a (front ++ line ∷ [])) (sym takes.next_is) (
+      port_reached head takes.port is takes.named takes.unknown,
+      ap (λ f. f ++ line ∷ []) e ∙ ap (λ (l : List ℕ). opened head ++ l ∷ []) line_is ∙ ap (λ rest. timescale_line ∷ scope_line head.name ∷ rest) (sym lines),
+    )
 reached_on (Ports head) t front line (is, e) (inr (line_is, next)) =
     subst (λ a. IsReached a (front ++ line ∷ [])) (sym next) (is, ap (λ f. f ++ line ∷ []) e ∙ ap (λ (l : List ℕ). opened head ++ l ∷ []) line_is)
 reached_on (Definitions head) t front line (is, e) (line_is, next) =
@@ -160,7 +161,7 @@ told_lines p front tells none =
     let all : p.cycle + 0 ≡ p.cycle = omega arith in
     let left : AreLeft p.ports (p.cycle + 0) 0 (p.changes ++ []) (tells.back ++ []) = tells.goes 0 [] [] (λ _. none) end_left in
     let rest = subst (λ ls. AreLeft p.ports p.cycle 0 p.changes ls) (append-nil tells.back)
-        (subst (λ gs. AreLeft p.ports p.cycle 0 gs (tells.back ++ [])) (append-nil p.changes) (subst (λ k. AreLeft p.ports k 0 (p.changes ++ []) (tells.back ++ [])) all left)) in
+    (subst (λ gs. AreLeft p.ports p.cycle 0 gs (tells.back ++ [])) (append-nil p.changes) (subst (λ k. AreLeft p.ports k 0 (p.changes ++ []) (tells.back ++ [])) all left)) in
     tells.front_is ∙ sym (dump_from (wave_of p) tells.back rest)
 
 -- ---- each stage can go on to a whole text
@@ -190,9 +191,9 @@ begin_cycles : (p : Part) (front : List (List ℕ)) → Tells p front → Begin 
 begin_cycles p front tells = elim (cases_eq p.told 0) [
   | inl none ↦ begin_open p front tells none
   | inr some ↦ elim (cases_eq p.cycle 0) [
-      | inl zeroth ↦ (let told : p.told ≤ length p.ports = tells.part.told in begin_first (length p.ports - p.told) p front tells zeroth (omega arith))
-      | inr later ↦ begin_ended p front tells (record { most = tells.part.room (omega (arith, some)); whole = λ zeroth. absurd (later zeroth) })
-    ]
+    | inl zeroth ↦ (let told : p.told ≤ length p.ports = tells.part.told in begin_first (length p.ports - p.told) p front tells zeroth (omega arith))
+    | inr later ↦ begin_ended p front tells (record { most = tells.part.room (omega (arith, some)); whole = λ zeroth. absurd (later zeroth) })
+  ]
 ]
 
 begin_start : (head : Head) (front : List (List ℕ)) → IsReached (Start head) front → Begin front

@@ -94,7 +94,7 @@ written_change : (ports : List Port) (g : Change) (gs : List Change) (lines : Li
 written_change ports g gs lines m c k l here all rest =
     let count : k ≡ g.cycle - c = omega arith in
     let goes : AreLeft ports (k + suc l) c (g ∷ gs) (map time_line (range_with_len (c + 1) k) ++ change_line ports g ∷ lines) =
-        left_times ports k (suc l) c g.cycle (g ∷ gs) (change_line ports g ∷ lines) here (change_left refl rest) in
+    left_times ports k (suc l) c g.cycle (g ∷ gs) (change_line ports g ∷ lines) here (change_left refl rest) in
     subst (λ j. AreLeft ports m c (g ∷ gs) (map time_line (range_with_len (c + 1) j) ++ change_line ports g ∷ lines)) count
     (subst (λ j. AreLeft ports j c (g ∷ gs) (map time_line (range_with_len (c + 1) k) ++ change_line ports g ∷ lines)) all goes)
 

@@ -234,19 +234,25 @@ heads_lead name done [] n count named distinct = ap (λ (ports : List Port). Por
 heads_lead name done (port ∷ ports) n count named distinct =
     let whole : (done ++ port ∷ []) ++ ports ≡ done ++ port ∷ ports = append_assoc done (port ∷ []) ports in
     let goes = heads_lead name (done ++ port ∷ []) ports (n + 1) (omega (arith, length_push done port)) named.1 (subst (λ list. AreDistinct (names_of list)) (sym whole) distinct) in
-    let unknown : Contains (names_of done) port.name → ⊥ = λ there. apart (names_of done) (names_of (port ∷ ports)) port.name (subst AreDistinct (map-append (λ (p : Port). p.name) done (port ∷ ports)) distinct) there (first_among port.name (names_of ports)) in
-    (Ports (record { name = name; ports = done ++ port ∷ [] }),
-    inl (record { port = port; line_is = ap (λ k. port_line k port) count; named = named.0; unknown = unknown; next_is = refl }),
-    subst (λ list. Leads (Ports (record { name = name; ports = done ++ port ∷ [] })) (port_lines (n + 1) ports) (Ports (record { name = name; ports = list }))) whole goes)
+    let unknown : Contains (names_of done) port.name → ⊥ = λ there. apart (names_of done) (names_of (port ∷ ports)) port.name (subst AreDistinct (map-append (λ (p : Port). p.name) done (port ∷ ports)) distinct) there (first_among port.name (names_of ports)) in (
+      Ports (record { name = name; ports = done ++ port ∷ [] }),
+      inl (record { port = port; line_is = ap (λ k. port_line k port) count; named = named.0; unknown = unknown; next_is = refl }),
+      subst (λ list. Leads (Ports (record { name = name; ports = done ++ port ∷ [] })) (port_lines (n + 1) ports) (Ports (record { name = name; ports = list }))) whole goes,
+    )
 
 head_leads : (w : Recording) → IsWave w → Leads Timescale (head_lines w.name w.ports) (Start (record { name = w.name; ports = w.ports }))
 head_leads w is =
     let head : Head = record { name = w.name; ports = w.ports } in
-    let ports = heads_lead w.name [] w.ports 0 refl (recursion_from_All IsName (names_of w.ports) is.ports_named) is.apart in
-    (Scope, (refl, refl),
-    (Ports (record { name = w.name; ports = [] }), (w.name, is.named, refl, refl),
-    leads_on (Ports (record { name = w.name; ports = [] })) (Ports head) (Start head) (port_lines 0 w.ports) (upscope_line ∷ definitions_line ∷ []) ports
-    (Definitions head, inr (refl, refl), (Start head, (refl, refl), refl))))
+    let ports = heads_lead w.name [] w.ports 0 refl (recursion_from_All IsName (names_of w.ports) is.ports_named) is.apart in (
+      Scope,
+      (refl, refl),
+      (
+        Ports (record { name = w.name; ports = [] }),
+        (w.name, is.named, refl, refl),
+        leads_on (Ports (record { name = w.name; ports = [] })) (Ports head) (Start head) (port_lines 0 w.ports) (upscope_line ∷ definitions_line ∷ []) ports
+            (Definitions head, inr (refl, refl), (Start head, (refl, refl), refl)),
+      ),
+    )
 
 -- where a wave's lines lead
 pub record Told (w : Recording) : Type 0 where

@@ -111,13 +111,7 @@ pub(crate) fn put_cycle<K: Sink>(
 }
 
 // Puts the line of a change, unless the port had that value before. In the first cycle each port changes.
-fn put_news<K: Sink>(
-    page: &mut Page,
-    sink: &mut K,
-    ports: &[Port],
-    before: u64,
-    change: Change,
-)
+fn put_news<K: Sink>(page: &mut Page, sink: &mut K, ports: &[Port], before: u64, change: Change)
     requires { change.port < length ports.now }
     ensures { Puts (K.state sink.old) (K.state sink.new) page.old page.new (if is_news change.cycle before change.value then change_line ports.now change else []) }
 {
@@ -143,12 +137,7 @@ fn put_times<K: Sink>(page: &mut Page, sink: &mut K, from: u32, to: u32)
 }
 
 // The changes, and the lines that begin the cycles up to the last change. Its cycle is the answer.
-fn put_changes<K: Sink>(
-    page: &mut Page,
-    sink: &mut K,
-    ports: &[Port],
-    changes: &[Change],
-) -> u32
+fn put_changes<K: Sink>(page: &mut Page, sink: &mut K, ports: &[Port], changes: &[Change]) -> u32
     requires ports { All (λ g. g.port < length ports.now) changes.now }
     ensures put { Puts (K.state sink.old) (K.state sink.new) page.old page.new (joined (lines_to ports.now 0 changes.now)) }
     ensures last { result ≡ last_cycle 0 changes.now }

@@ -67,13 +67,14 @@ returns-clause-some c =
     let second = c.in_ok-width.text.now in
     let third = c.in_ok-text.text.now in
     let fourth = c.in_ok-behind-2.field-0.now in
-    let found = c.in_ok-name.ensures.some in
-    (found.0,
-    declares_some c.args.line.now first second third fourth c.in_ok-name.name.now c.args.number c.in_ok-width.width
-    (record {
-      wire = c.in_ok-behind.ensures ∙ ap (λ piece. piece ++ first) c.as_slice.ensures;
-      bits = c.in_ok-width.ensures.some;
-      named = c.in_ok-text.ensures ∙ ap (λ piece. piece ++ third) (c.as_bytes.ensures ∙ c.new.ensures);
-      blank = c.in_ok-behind-2.ensures ∙ ap (λ piece. piece ++ fourth) c.as_slice-2.ensures;
-    })
-    found.1)
+    let found = c.in_ok-name.ensures.some in (
+      found.0,
+      declares_some c.args.line.now first second third fourth c.in_ok-name.name.now c.args.number c.in_ok-width.width
+          (record {
+            wire = c.in_ok-behind.ensures ∙ ap (λ piece. piece ++ first) c.as_slice.ensures;
+            bits = c.in_ok-width.ensures.some;
+            named = c.in_ok-text.ensures ∙ ap (λ piece. piece ++ third) (c.as_bytes.ensures ∙ c.new.ensures);
+            blank = c.in_ok-behind-2.ensures ∙ ap (λ piece. piece ++ fourth) c.as_slice-2.ensures;
+          })
+          found.1,
+    )

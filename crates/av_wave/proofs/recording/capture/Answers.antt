@@ -56,7 +56,7 @@ record_cycle-requires-clause-fits c =
     let so_far = c.loop-cycle.invariant.1 in
     let shown = shown_here m c.settle.new.self c.show.new.words (c.settle.ensures.of ∙ c.present-next.ensures.of ∙ so_far.of) c.show.ensures in
     let agrees = agrees_now m s c.loop-cycle.cycle c.len-inputs.result c.loop-cycle.clock c.present-next.new.clock c.settle.new.self c.present-next.new.words c.requires.sound c.len-inputs.ensures.count so_far.of so_far.registers
-        c.present-next.ensures.of c.settle.ensures.of (rw c.as_slice-given.ensures at c.present-next.ensures.ports) c.present-next.ensures.registers c.settle.ensures.settled c.settle.ensures.given in
+    c.present-next.ensures.of c.settle.ensures.of (rw c.as_slice-given.ensures at c.present-next.ensures.ports) c.present-next.ensures.registers c.settle.ensures.settled c.settle.ensures.given in
     shown_fits m s c.loop-cycle.cycle (carried c.settle.new.self) c.as_slice.result.now c.loop-cycle.recorder.ports c.requires.sound c.requires.stimulus c.loop-cycle-test.true agrees (c.as_slice.ensures ∙ shown) so_far.ports
 
 pub loop-cycle-preserved : goal.loop-cycle-preserved

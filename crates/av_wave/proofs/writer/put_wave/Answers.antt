@@ -6,9 +6,11 @@ use Rattle.av_wave.proofs.Written.{text_said, ports_within}
 use Rattle.av_wave.proofs.writer.put_wave.Goals as goal
 
 pub put_changes-cycle-requires : goal.put_changes-cycle-requires
-put_changes-cycle-requires g c = record { ports =
-    ports_within c.args.wave.now (subst IsWave c.wave.view_is c.wave.invariant) c.as_slice.result.now c.as_slice-2.result.now
-    (c.as_slice.ensures ∙ ap (λ (w : Recording). w.ports) c.wave.view_is) (c.as_slice-2.ensures ∙ ap (λ (w : Recording). w.changes) c.wave.view_is) }
+put_changes-cycle-requires g c = record {
+  ports =
+      ports_within c.args.wave.now (subst IsWave c.wave.view_is c.wave.invariant) c.as_slice.result.now c.as_slice-2.result.now
+      (c.as_slice.ensures ∙ ap (λ (w : Recording). w.ports) c.wave.view_is) (c.as_slice-2.ensures ∙ ap (λ (w : Recording). w.changes) c.wave.view_is);
+}
 
 pub returns : goal.returns
 returns g c =
