@@ -33,7 +33,7 @@ stepped m v w sound steps = agree_within (registers_of m.steps) (names_of m.regi
 pub reset_registers : (m : Module) (s : Stimulus) (before v : Words) → IsSound m → Edge m true before v → ForRuns m s (λ run. 0 < s.cycles → Agree (names_of m.registers) v (run.in_cycle 0))
 reset_registers m s before v sound edge = λ stream run stimulated is lt. stepped m v (run.in_cycle 0) sound (λ k d at. edge k d at ∙ sym (is.reset k d at))
 
-tick_registers : (m : Module) (s : Stimulus) (c : ℕ) (v v' : Words) → IsSound m → Edge m false v v' → ForRuns m s (λ run. c < s.cycles → Agree (all_names m) v (run.in_cycle c))
+pub tick_registers : (m : Module) (s : Stimulus) (c : ℕ) (v v' : Words) → IsSound m → Edge m false v v' → ForRuns m s (λ run. c < s.cycles → Agree (all_names m) v (run.in_cycle c))
     → ForRuns m s (λ run. c + 1 < s.cycles → Agree (names_of m.registers) v' (run.in_cycle (c + 1)))
 tick_registers m s c v v' sound edge same = λ stream run stimulated is lt.
     stepped m v' (run.in_cycle (c + 1)) sound

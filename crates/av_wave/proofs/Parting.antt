@@ -1,7 +1,8 @@
 -- The lines of a dump, part by part as they are read.
-use Rattle.std.proofs.Common.{◌≡◌, ◌≢◌, ℕ, zero, suc, ◌+◌, ◌<◌, ◌≤◌, ◌^◌, ◌%◌, List, [], ◌∷◌, ◌++◌, length, get_or, refl, sym, ◌∙◌, ap, arith, subst, append_assoc, false, true, true≢false, Bool, inl, inr, ◌⊎◌}
+use Rattle.std.proofs.Common.{◌≡◌, ◌≢◌, ℕ, zero, suc, ◌+◌, ◌<◌, ◌≤◌, ◌^◌, List, [], ◌∷◌, ◌++◌, length, get_or, refl, sym, ◌∙◌, ap, arith, subst, append_assoc, false, true, true≢false, Bool, inl, inr, ◌⊎◌}
 use Rattle.std.specs.Prelude.{codes, decimal, slice_get, Some}
 use Rattle.std.proofs.lemmas.Bool.{cases_lt}
+use Rattle.std.proofs.Math.Nat.{mod-lt, mod-eq_of_lt}
 use Rattle.std.proofs.lemmas.Nat.{pow_pos}
 use Rattle.std.proofs.lemmas.List.{append_cancel_left, append_cancel_right}
 use Rattle.std.proofs.lemmas.Option.{slice_get-get_or, slice_get_within, get_or_from_slice_get}
@@ -21,12 +22,12 @@ use Rattle.av_wave.proofs.OneForm.{port_rest, port_parts, small_width, small_wor
 -- ---- a name before the end of a line
 
 pub name_some : (text name : List ℕ) (t : Bool) → text ≡ name ++ codes " $end\n" → t ≡ is_name name → t ≡ true → IsName name × (text ≡ name ++ codes " $end\n")
-name_some text name t is told yes = (name_from name (sym told ∙ yes), is)
+name_some text name t is told holds = (name_from name (sym told ∙ holds), is)
 
 pub name_none : (text name : List ℕ) (t : Bool) → text ≡ name ++ codes " $end\n" → t ≡ is_name name → t ≡ false → (other : List ℕ) → IsName other → text ≡ other ++ codes " $end\n" → ⊥
-name_none text name t is told no other named e =
+name_none text name t is told fails other named e =
     let same : other ≡ name = append_cancel_right other name (codes " $end\n") (sym e ∙ is) in
-    true≢false (sym (name_to name (subst (λ (n : List ℕ). IsName n) same named)) ∙ sym told ∙ no)
+    true≢false (sym (name_to name (subst (λ (n : List ℕ). IsName n) same named)) ∙ sym told ∙ fails)
 
 -- ---- the line that opens the scope
 
@@ -133,6 +134,9 @@ vector_parts {number = number} {value = value} read behind vector is small =
     let parts = blank_once (binary read) (binary value) behind (code number) (binary_digits read) (binary_digits value) (sym is ∙ vector.text_is) in
     (binary_injective read value small (vector_small vector) parts.0, parts.1)
 
+pub vector_code : {ports : List Port} {text : List ℕ} {number value : ℕ} (read : ℕ) (behind : List ℕ) → SaysVector ports text number value → text ≡ binary read ++ 32 ∷ behind → behind ≡ code number
+vector_code {number = number} {value = value} read behind vector is = (blank_once (binary read) (binary value) behind (code number) (binary_digits read) (binary_digits value) (sym is ∙ vector.text_is)).1
+
 pub vector_port : {ports : List Port} {text : List ℕ} {number value : ℕ} (read : ℕ) (behind : List ℕ) (other : ℕ) (port : Port) → SaysVector ports text number value → text ≡ binary read ++ 32 ∷ behind → read < 2 ^ 64
     → behind ≡ code other → other < length ports → port ≡ get_or ports other port → (port.width.bits ≢ 1) × (read < 2 ^ port.width.bits)
 vector_port {ports = ports} {number = number} {value = value} read behind other port vector is small coded lt at =
@@ -143,19 +147,10 @@ vector_port {ports = ports} {number = number} {value = value} read behind other 
 
 -- a value is its residue exactly where it fits
 pub residue_fits : {r : ℕ} (bits value : ℕ) → r ≡ residue bits value → r ≡ value → value < 2 ^ bits
-residue_fits bits value e same =
-    let some : 0 < 2 ^ bits = pow_pos bits in
-    let is : value % 2 ^ bits ≡ value = sym e ∙ same in
-    subst (λ (n : ℕ). n < 2 ^ bits) is (below (2 ^ bits) some)
-  where
-    below : (m : ℕ) → 0 < m → value % m < m
-    below m some = omega arith
+residue_fits bits value e same = subst (λ (n : ℕ). n < 2 ^ bits) (sym e ∙ same) (mod-lt value (pow_pos bits))
 
 pub residue_same : {r : ℕ} (bits value : ℕ) → r ≡ residue bits value → value < 2 ^ bits → r ≡ value
-residue_same bits value e fits = e ∙ within (2 ^ bits) fits
-  where
-    within : (m : ℕ) → value < m → value % m ≡ value
-    within m lt = omega arith
+residue_same bits value e fits = e ∙ mod-eq_of_lt fits
 
 -- ---- the line of a change
 

@@ -1,5 +1,6 @@
 use Rattle.std.proofs.Common.{◌≡◌, ℕ, suc, List, ◌∷◌, length, sym, ap, ◌∙◌, arith}
 use Rattle.av_base.proofs.Lists.{same_head}
+use Rattle.av_net.specs.declared.netlist.Port.{Port}
 use Rattle.av_wave.specs.Dumps.{code}
 use Rattle.av_wave.proofs.Parting.{bit_some, bit_head, bit_within, bit_code, bit_wide}
 use Rattle.av_wave.proofs.forms.bit_in.Goals as goal
@@ -25,10 +26,10 @@ returns-then-width-eq1-clause-some c =
     let bit = c.in_ok-value.ensures.some in
     let port = c.in_ok-port.ensures.some in
     bit_some c.args.ports.now c.args.text.now c.in_ok-first.code.now c.in_ok-port.port c.in_ok-value.value c.index-ports-port.result (is ∙ ap (λ (b : ℕ). b ∷ c.in_ok-first.code.now) bit.1) bit.0 port.1 port.0 c.index-ports-port.is
-    c.if-width-eq1.true
+    (ap (λ (p : Port). p.width.bits) c.index-ports-port.is ∙ c.if-width-eq1.true)
 
 pub returns-else-width-eq1-clause-none : goal.returns-else-width-eq1-clause-none
 returns-else-width-eq1-clause-none c = λ number value says.
     let is = c.in_ok-first.ensures.cases.0 in
     let port = c.in_ok-port.ensures.some in
-    bit_wide c.in_ok-first.first.now c.in_ok-first.code.now c.in_ok-port.port c.index-ports-port.result says is port.1 port.0 c.index-ports-port.is c.if-width-eq1.false
+    bit_wide c.in_ok-first.first.now c.in_ok-first.code.now c.in_ok-port.port c.index-ports-port.result says is port.1 port.0 c.index-ports-port.is (λ e. c.if-width-eq1.false (ap (λ (p : Port). p.width.bits) (sym c.index-ports-port.is) ∙ e))

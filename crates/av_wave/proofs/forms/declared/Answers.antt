@@ -29,7 +29,7 @@ returns-in_err-text-clause-none c =
     rw c.from_residual-in_err-text.ensures
     (λ port named e.
     let behind = width_next first second number c.in_ok-width.width port c.in_ok-width.ensures.some (wire_next c.args.line.now first number port wire e) in
-    let rest = 32 ∷ (port.name ++ codes " $end\n") in
+    let rest : List ℕ = 32 ∷ (port.name ++ codes " $end\n") in
     c.in_err-text.ensures rest (behind ∙ ap (λ piece. piece ++ rest) (sym c.new.ensures ∙ sym c.as_bytes.ensures)))
 
 pub returns-in_err-behind-2-clause-none : goal.returns-in_err-behind-2-clause-none
@@ -40,7 +40,7 @@ returns-in_err-behind-2-clause-none c =
     let third = c.in_ok-text.text.now in
     let wire = c.in_ok-behind.ensures ∙ ap (λ piece. piece ++ first) c.as_slice.ensures in
     let coded = c.in_ok-text.ensures ∙ ap (λ piece. piece ++ third) (c.as_bytes.ensures ∙ c.new.ensures) in
-    rw c.from_residual-in_err-behind.ensures
+    rw c.from_residual-in_err-behind-2.ensures
     (λ port named e.
     let behind = width_next first second number c.in_ok-width.width port c.in_ok-width.ensures.some (wire_next c.args.line.now first number port wire e) in
     let rest = port.name ++ codes " $end\n" in

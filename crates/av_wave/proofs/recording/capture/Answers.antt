@@ -11,14 +11,14 @@ use Rattle.av_wave.proofs.Cycling.{reset_registers}
 use Rattle.av_wave.proofs.Capturing.{header_apart, header_spelled, starts_capturing, inputs_noted, agrees_now, shown_here, shown_long, shown_fits, captures_on, captured}
 use Rattle.av_wave.proofs.recording.capture.Goals as goal
 
-pub new-recorder-requires-clause-named : goal.new-recorder-requires-clause-named
-new-recorder-requires-clause-named c = subst (λ (name : List ℕ). IsName name) (sym (c.in_ok-name.ensures ∙ c.as_str.ensures)) c.requires.spelled.module_name
+pub new-requires-2-clause-named : goal.new-requires-2-clause-named
+new-requires-2-clause-named c = subst (λ (name : List ℕ). IsName name) (sym (c.in_ok-name.ensures ∙ c.as_str.ensures)) c.requires.spelled.module_name
 
-pub new-recorder-requires-clause-ports_named : goal.new-recorder-requires-clause-ports_named
-new-recorder-requires-clause-ports_named c = subst (λ (ports : List Port). All IsName (names_of ports)) (sym c.in_ok-ports.ensures) (header_spelled c.args.of.now c.requires.spelled)
+pub new-requires-2-clause-ports_named : goal.new-requires-2-clause-ports_named
+new-requires-2-clause-ports_named c = subst (λ (ports : List Port). All IsName (names_of ports)) (sym c.in_ok-ports.ensures) (header_spelled c.args.of.now c.requires.spelled)
 
-pub new-recorder-requires-clause-apart : goal.new-recorder-requires-clause-apart
-new-recorder-requires-clause-apart c = subst (λ (ports : List Port). AreDistinct (names_of ports)) (sym c.in_ok-ports.ensures) (header_apart c.args.of.now c.requires.sound)
+pub new-requires-2-clause-apart : goal.new-requires-2-clause-apart
+new-requires-2-clause-apart c = subst (λ (ports : List Port). AreDistinct (names_of ports)) (sym c.in_ok-ports.ensures) (header_apart c.args.of.now c.requires.sound)
 
 pub loop-cycle-init : goal.loop-cycle-init
 loop-cycle-init c =
@@ -47,7 +47,7 @@ record_cycle-requires-clause-count c =
     let m : Module = c.args.of.now in
     let so_far = c.loop-cycle.invariant.1 in
     let shown = shown_here m c.settle.new.self c.show.new.words (c.settle.ensures.of ∙ c.present-next.ensures.of ∙ so_far.of) c.show.ensures in
-    ap (λ (ws : List ℕ). length ws) c.as_slice.ensures ∙ shown_long m c.settle.new.self c.show.new.words shown ∙ ap (λ (ports : List Port). length ports) (sym so_far.ports)
+    ap (λ (ws : List ℕ). length ws) c.as_slice-in-loop-cycle.ensures ∙ shown_long m c.settle.new.self c.show.new.words shown ∙ ap (λ (ports : List Port). length ports) (sym so_far.ports)
 
 pub record_cycle-requires-clause-fits : goal.record_cycle-requires-clause-fits
 record_cycle-requires-clause-fits c =
@@ -57,7 +57,7 @@ record_cycle-requires-clause-fits c =
     let shown = shown_here m c.settle.new.self c.show.new.words (c.settle.ensures.of ∙ c.present-next.ensures.of ∙ so_far.of) c.show.ensures in
     let agrees = agrees_now m s c.loop-cycle.cycle c.len-inputs.result c.loop-cycle.clock c.present-next.new.clock c.settle.new.self c.present-next.new.words c.requires.sound c.len-inputs.ensures.count so_far.of so_far.registers
     c.present-next.ensures.of c.settle.ensures.of (rw c.as_slice-given.ensures at c.present-next.ensures.ports) c.present-next.ensures.registers c.settle.ensures.settled c.settle.ensures.given in
-    shown_fits m s c.loop-cycle.cycle (carried c.settle.new.self) c.as_slice.result.now c.loop-cycle.recorder.ports c.requires.sound c.requires.stimulus c.loop-cycle-test.true agrees (c.as_slice.ensures ∙ shown) so_far.ports
+    shown_fits m s c.loop-cycle.cycle (carried c.settle.new.self) c.as_slice-in-loop-cycle.result.now c.loop-cycle.recorder.ports c.requires.sound c.requires.stimulus c.loop-cycle-test.true agrees (c.as_slice-in-loop-cycle.ensures ∙ shown) so_far.ports
 
 pub loop-cycle-preserved : goal.loop-cycle-preserved
 loop-cycle-preserved c =
@@ -66,7 +66,7 @@ loop-cycle-preserved c =
       captures_on c.args.of.now c.args.stimulus.now c.loop-cycle.cycle c.len-inputs.result c.loop-cycle.next c.present-next.result c.loop-cycle.clock c.present-next.new.clock c.settle.new.self c.tick.new.self
           c.loop-cycle.words c.present-next.new.words c.show.new.words c.loop-cycle.recorder c.record_cycle.new.self c.requires.sound so_far.0 c.len-inputs.ensures.count so_far.1 c.loop-cycle-test.true
           c.present-next.ensures.of c.settle.ensures.of c.tick.ensures.of (rw c.as_slice-given.ensures at c.present-next.ensures.ports) c.present-next.ensures.registers c.settle.ensures.settled c.settle.ensures.given
-          c.show.ensures (rw c.as_slice.ensures at c.in_ok-record_cycle.ensures.records) c.tick.ensures.edge
+          c.show.ensures (rw c.as_slice-in-loop-cycle.ensures at c.in_ok-record_cycle.ensures.records) c.tick.ensures.edge
           (rw c.as_slice-given.ensures at c.present-next.ensures.left) (rw c.as_slice-given.ensures at c.present-next.ensures.within),
     )
 

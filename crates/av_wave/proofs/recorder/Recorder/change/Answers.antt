@@ -7,7 +7,7 @@ pub overflow_add-self : goal.overflow_add-self
 overflow_add-self c =
     let within : c.args.port < length c.args.self.now.ports = port_within c.requires.fits in
     let same : length c.self.inside.ports ≡ length c.args.self.now.ports = ap (λ (p : Part). length p.ports) c.self.view_is in
-    omega (arith, within, same, c.len.ensures.most)
+    omega (arith, within, same, c.len-most.ensures.most)
 
 pub invariant_of-self-2 : goal.invariant_of-self-2
 invariant_of-self-2 c =
