@@ -60,7 +60,7 @@ fn digit(number: u64) -> u8
 
 // The number that the bytes stand for as digits, where it has 64 bits.
 fn value_of(digits: &[u8]) -> Option<u64>
-    ensures some { IfSome result (λ value. value ≡ binary_value digits.now) }
+    ensures some { IfSome result (λ value. (value < 2 ^ 64) × (value ≡ binary_value digits.now)) }
     ensures none { IfNone result (2 ^ 64 ≤ binary_value digits.now) }
 {
     let mut value = 0u64;
@@ -73,7 +73,7 @@ fn value_of(digits: &[u8]) -> Option<u64>
 
 /// The number that is written so in binary.
 pub(crate) fn binary_in(digits: &[u8]) -> Option<u64>
-    ensures some { IfSome result (λ value. digits.now ≡ binary value) }
+    ensures some { IfSome result (λ value. (value < 2 ^ 64) × (digits.now ≡ binary value)) }
     ensures none { IfNone result ((value : ℕ) → value < 2 ^ 64 → digits.now ≡ binary value → ⊥) }
 {
     let value = value_of(digits)?;

@@ -77,7 +77,7 @@ pub(crate) fn width_in(text: &[u8]) -> Option<(Width, &[u8])>
 
 /// A value in binary, and what stands behind it and a blank.
 pub(crate) fn value_in(text: &[u8]) -> Option<(u64, &[u8])>
-    ensures some { IfSome result (λ found. text.now ≡ binary found.0 ++ 32 ∷ found.1.now) }
+    ensures some { IfSome result (λ found. (found.0 < 2 ^ 64) × (text.now ≡ binary found.0 ++ 32 ∷ found.1.now)) }
     ensures none { IfNone result ((value : ℕ) (rest : List ℕ) → value < 2 ^ 64 → text.now ≡ binary value ++ 32 ∷ rest → ⊥) }
 {
     let parts = parted(text)?;

@@ -14,5 +14,5 @@ returns-in_err-value-clause-none c = rw c.from_residual.ensures (λ value small 
 
 pub returns-else-eq-clause-none : goal.returns-else-eq-clause-none
 returns-else-eq-clause-none c = λ value small e.
-    let is : c.in_ok-value.value ≡ value = c.in_ok-value.ensures.some ∙ ap binary_value e ∙ binary_read value small in
+    let is : c.in_ok-value.value ≡ value = c.in_ok-value.ensures.some.1 ∙ ap binary_value e ∙ binary_read value small in
     true≢false (sym ((slice_eq-Decides Decides-eqb c.args.digits.now c.as_bytes.result.now false c.if-eq.ensures).1 (e ∙ ap (λ (n : ℕ). binary n) (sym is) ∙ sym c.new.ensures ∙ sym c.as_bytes.ensures)))
