@@ -3,6 +3,7 @@ use Rattle.std.proofs.Common.{◌≡◌, ◌≢◌, ℕ, zero, suc, ◌+◌, ◌
 use Rattle.std.specs.Prelude.{Result, Ok, Err, if◌then◌else◌, nat_eq, Option, Some, None, IfSome, IfNone}
 use Rattle.std.specs.List.{prefix_len}
 use Rattle.std.proofs.lemmas.List.{take_all, drop-drop, take-append-drop}
+use Rattle.std.proofs.lemmas.Option.{none-some, same_Some}
 use Rattle.av_base.specs.Spelling.{is_not_feed}
 use Rattle.av_wave.specs.declared.stage.Stage.{Stage}
 use Rattle.av_wave.specs.declared.fault.WaveFault.{WaveFault}
@@ -11,7 +12,7 @@ use Rattle.av_wave.specs.Waves.{Recording, IsWave}
 use Rattle.av_wave.specs.Dumps.{dump_text}
 use Rattle.av_wave.specs.Fronts.{whole_lines, IsWaveFault, GivesWave, RefusesWave}
 use Rattle.av_wave.specs.inner.Lines.{first_line}
-use Rattle.av_wave.specs.inner.Stages.{Takes, EndsAs}
+use Rattle.av_wave.specs.inner.Stages.{Takes, Turns, EndsAs, Knows}
 use Rattle.av_wave.proofs.Ends.{to_end}
 use Rattle.av_wave.proofs.Lines.{next_line, line_some, line_within}
 use Rattle.av_wave.proofs.Faults.{IsRead, read_on, fault_here, fault_at_end, fault_once, read_is_wave, read_whole, found_only}
@@ -74,6 +75,20 @@ line_small read lt most = omega (arith, read.count, read.few)
 
 pub line_taken : (bytes text : List ℕ) (at line : ℕ) (s t : Stage) → IsRead bytes at line s → IsLineAt bytes at text → Takes s text t → IsRead bytes (at + length text) (line + 1) t
 line_taken bytes text at line s t read here takes = read_on bytes at line (length text) s t text read here.next here.some takes
+
+-- ---- what a line was taken for
+
+pub taken : (o : Option Stage) (s t : Stage) (text : List ℕ) → o ≡ Some t → Turns s text (Ok o) → Takes s text t
+taken None s t text e turns = absurd (none-some t e)
+taken (Some u) s t text e turns = subst (λ (x : Stage). Takes s text x) (same_Some u t e) turns
+
+pub not_taken : (o : Option Stage) (s : Stage) (text : List ℕ) → ((t : Stage) → o ≡ Some t → ⊥) → Turns s text (Ok o) → (t : Stage) → Takes s text t → ⊥
+not_taken None s text none turns = turns
+not_taken (Some u) s text none turns = absurd (none u refl)
+
+pub known : (o : Option Stage) (t : Stage) (names : List (List ℕ)) → o ≡ Some t → IfSome o (λ stage. Knows stage names) → Knows t names
+known None t names e knows = absurd (none-some t e)
+known (Some u) t names e knows = subst (λ (x : Stage). Knows x names) (same_Some u t e) knows
 
 -- ---- answers
 

@@ -61,14 +61,14 @@ port_takes head line number port count is named unknown = inl (record {
 
 -- whether a name is among others
 pub known_by : (name : List ℕ) (names : List (List ℕ)) (new : Bool) → new ≡ not (list_any (bytes_eq name) names) → new ≡ false → Contains names name
-known_by name names new is no = by (list_any (bytes_eq name) names) refl
+known_by name names new is fails = by (list_any (bytes_eq name) names) refl
   where
     by : (t : Bool) → list_any (bytes_eq name) names ≡ t → Contains names name
     by true e = Contains-from_any (λ x y e. (bytes_eq-Decides x y).0 e) name names e
-    by false e = absurd (true≢false (sym (is ∙ ap not e) ∙ no))
+    by false e = absurd (true≢false (sym (is ∙ ap not e) ∙ fails))
 
 pub unknown_by : (name : List ℕ) (names : List (List ℕ)) (new : Bool) → new ≡ not (list_any (bytes_eq name) names) → new ≡ true → Contains names name → ⊥
-unknown_by name names new is yes there = true≢false (sym yes ∙ is ∙ ap not (list_any-from_Contains nat_list_eq_equiv name names there))
+unknown_by name names new is holds there = true≢false (sym holds ∙ is ∙ ap not (list_any-from_Contains nat_list_eq_equiv name names there))
 
 pub names_more : (ports : List Port) (port : Port) (names names' : List (List ℕ)) → names ≡ names_of ports → names' ≡ (if list_any (bytes_eq port.name) names then names else names ++ port.name ∷ [])
     → (Contains names port.name → ⊥) → names' ≡ names_of (ports ++ port ∷ [])

@@ -1,6 +1,6 @@
 //! Numbers in binary.
 
-ghost use Rattle.std.specs.Prelude.{◌≡◌, ◌<◌, ◌≤◌, ◌+◌, ◌%◌, ◌^◌, ℕ, IfSome, IfNone};
+ghost use Rattle.std.specs.Prelude.{◌≡◌, ◌<◌, ◌≤◌, ◌+◌, ◌%◌, ◌^◌, ℕ, IsTrue, IfSome, IfNone};
 ghost use Rattle.av_wave.specs.inner.Codes.{binary_value};
 ghost use Rattle.av_wave.specs.Dumps.{binary};
 
@@ -60,7 +60,7 @@ fn digit(number: u64) -> u8
 
 // The number that the bytes stand for as digits, where it has 64 bits.
 fn value_of(digits: &[u8]) -> Option<u64>
-    ensures some { IfSome result (λ value. (value < 2 ^ 64) × (value ≡ binary_value digits.now)) }
+    ensures some { IfSome result (λ value. value ≡ binary_value digits.now) }
     ensures none { IfNone result (2 ^ 64 ≤ binary_value digits.now) }
 {
     let mut value = 0u64;
@@ -71,13 +71,21 @@ fn value_of(digits: &[u8]) -> Option<u64>
     Some(value)
 }
 
+// Whether a number is written so in binary.
+fn are_digits_of(digits: &[u8], number: u64) -> bool
+    ensures yes { IsTrue result → (number < 2 ^ 64) × (digits.now ≡ binary number) }
+    ensures no { digits.now ≡ binary number → IsTrue result }
+{
+    digits == Binary::new(number).as_bytes()
+}
+
 /// The number that is written so in binary.
 pub(crate) fn binary_in(digits: &[u8]) -> Option<u64>
     ensures some { IfSome result (λ value. (value < 2 ^ 64) × (digits.now ≡ binary value)) }
     ensures none { IfNone result ((value : ℕ) → value < 2 ^ 64 → digits.now ≡ binary value → ⊥) }
 {
     let value = value_of(digits)?;
-    if digits == Binary::new(value).as_bytes() {
+    if are_digits_of(digits, value) {
         Some(value)
     } else {
         None

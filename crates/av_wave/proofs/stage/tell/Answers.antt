@@ -17,14 +17,14 @@ returns-in_default c =
 pub may_change-requires : goal.may_change-requires
 may_change-requires c = port_within (says_fits (subst (λ (ports : List Port). Says ports c.args.line.now c.in-Some.told.port c.in-Some.told.value) c.ports.ensures.ports c.in-Some.ensures.some))
 
-pub returns-then-may_change : goal.returns-then-may_change
-returns-then-may_change c =
+pub returns-then-not-may_change : goal.returns-then-not-may_change
+returns-then-not-may_change c =
     let p : Part = c.args.recorder in
     let says = subst (λ (ports : List Port). Says ports c.args.line.now c.in-Some.told.port c.in-Some.told.value) c.ports.ensures.ports c.in-Some.ensures.some in
-    change_barred p c.args.line.now c.in-Some.told.port c.in-Some.told.value c.requires says (λ next. true≢false (sym (c.may_change.ensures.no next) ∙ c.if-may_change.true))
+    change_barred p c.args.line.now c.in-Some.told.port c.in-Some.told.value c.requires says (λ next. true≢false (sym (c.may_change.ensures.no next) ∙ c.if-not-may_change.true))
 
 pub change-requires-clause-next : goal.change-requires-clause-next
-change-requires-clause-next c = c.may_change.ensures.yes c.if-may_change.false
+change-requires-clause-next c = c.may_change.ensures.yes c.if-not-may_change.false
 
 pub change-requires-clause-fits : goal.change-requires-clause-fits
 change-requires-clause-fits c = says_fits (subst (λ (ports : List Port). Says ports c.args.line.now c.in-Some.told.port c.in-Some.told.value) c.ports.ensures.ports c.in-Some.ensures.some)
@@ -33,4 +33,4 @@ pub returns : goal.returns
 returns c =
     let p : Part = c.args.recorder in
     let says = subst (λ (ports : List Port). Says ports c.args.line.now c.in-Some.told.port c.in-Some.told.value) c.ports.ensures.ports c.in-Some.ensures.some in
-    change_takes p c.change.new.self c.args.line.now c.in-Some.told.port c.in-Some.told.value says (c.may_change.ensures.yes c.if-may_change.false) c.in_ok-change.ensures
+    change_takes p c.change.new.self c.args.line.now c.in-Some.told.port c.in-Some.told.value says (c.may_change.ensures.yes c.if-not-may_change.false) c.in_ok-change.ensures
