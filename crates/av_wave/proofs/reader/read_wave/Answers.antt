@@ -21,9 +21,9 @@ pub loop-at-preserved : goal.loop-at-preserved
 loop-at-preserved c =
     let text = c.first_line-text.result.now in
     let here : IsLineAt c.args.bytes.now c.loop-at.at text = line_at c.args.bytes.now text c.loop-at.at c.loop-at-test.true c.first_line-text.ensures in (
-      line_taken c.args.bytes.now text c.loop-at.at c.loop-at.line c.loop-at.stage c.in-Some.next c.loop-at.invariant.0 here (taken c.in_ok-take.field-0 c.loop-at.stage c.in-Some.next text c.in-Some.is c.in_ok-take.ensures.turns),
+      line_taken c.args.bytes.now text c.loop-at.at c.loop-at.line c.loop-at.stage c.in-Some.next c.loop-at.invariant.0 here (taken c.in_ok-next.field-0 c.loop-at.stage c.in-Some.next text c.in-Some.is c.in_ok-next.ensures.turns),
       here.within,
-      known c.in_ok-take.field-0 c.in-Some.next c.take.new.names c.in-Some.is c.in_ok-take.ensures.names,
+      known c.in_ok-next.field-0 c.in-Some.next c.take.new.names c.in-Some.is c.in_ok-next.ensures.names,
     )
 
 pub loop-at-smaller : goal.loop-at-smaller
@@ -36,19 +36,19 @@ pub returns-in_default-clause-only : goal.returns-in_default-clause-only
 returns-in_default-clause-only c =
     let text = c.first_line-text.result.now in
     let here : IsLineAt c.args.bytes.now c.loop-at.at text = line_at c.args.bytes.now text c.loop-at.at c.loop-at-test.true c.first_line-text.ensures in
-    (faulty c.args.bytes.now text c.loop-at.at c.loop-at.line c.loop-at.stage c.loop-at.invariant.0 here (not_taken c.in_ok-take.field-0 c.loop-at.stage text c.in_default.not-Some c.in_ok-take.ensures.turns)).only
+    (faulty c.args.bytes.now text c.loop-at.at c.loop-at.line c.loop-at.stage c.loop-at.invariant.0 here (not_taken c.in_ok-next.field-0 c.loop-at.stage text c.in_default.not-Some c.in_ok-next.ensures.turns)).only
 
 pub returns-in_default-clause-fault : goal.returns-in_default-clause-fault
 returns-in_default-clause-fault c =
     let text = c.first_line-text.result.now in
     let here : IsLineAt c.args.bytes.now c.loop-at.at text = line_at c.args.bytes.now text c.loop-at.at c.loop-at-test.true c.first_line-text.ensures in
-    (faulty c.args.bytes.now text c.loop-at.at c.loop-at.line c.loop-at.stage c.loop-at.invariant.0 here (not_taken c.in_ok-take.field-0 c.loop-at.stage text c.in_default.not-Some c.in_ok-take.ensures.turns)).fault
+    (faulty c.args.bytes.now text c.loop-at.at c.loop-at.line c.loop-at.stage c.loop-at.invariant.0 here (not_taken c.in_ok-next.field-0 c.loop-at.stage text c.in_default.not-Some c.in_ok-next.ensures.turns)).fault
 
 pub returns-in_default-clause-refused : goal.returns-in_default-clause-refused
 returns-in_default-clause-refused c =
     let text = c.first_line-text.result.now in
     let here : IsLineAt c.args.bytes.now c.loop-at.at text = line_at c.args.bytes.now text c.loop-at.at c.loop-at-test.true c.first_line-text.ensures in
-    (faulty c.args.bytes.now text c.loop-at.at c.loop-at.line c.loop-at.stage c.loop-at.invariant.0 here (not_taken c.in_ok-take.field-0 c.loop-at.stage text c.in_default.not-Some c.in_ok-take.ensures.turns)).refused
+    (faulty c.args.bytes.now text c.loop-at.at c.loop-at.line c.loop-at.stage c.loop-at.invariant.0 here (not_taken c.in_ok-next.field-0 c.loop-at.stage text c.in_default.not-Some c.in_ok-next.ensures.turns)).refused
 
 -- the end of a dump
 pub returns-in-Some-wave-clause-found : goal.returns-in-Some-wave-clause-found
