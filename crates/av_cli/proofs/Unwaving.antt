@@ -142,8 +142,21 @@ one_made changes first cycle next d so_far within is = record {
   ];
 }
 
-pub all_made : (changes : List Change) (first cycle next : ℕ) → AreMaking changes first cycle next → ((g : Change) → slice_get changes next ≡ Some g → g.cycle ≡ cycle → ⊥) → AreMade changes first cycle next
-all_made changes first cycle next so_far ends = record { onward = so_far.onward; here = so_far.here; ends = ends }
+-- the next change is in a later cycle
+pub some_made : (changes : List Change) (first cycle next : ℕ) (d : Change) → AreMaking changes first cycle next → ((get_or changes next d).cycle ≢ cycle) → AreMade changes first cycle next
+some_made changes first cycle next d so_far other = record {
+  onward = so_far.onward;
+  here = so_far.here;
+  ends = λ g e same. other (ap (λ (h : Change). h.cycle) (get_or_from_slice_get changes next g d e) ∙ same);
+}
+
+-- there is no next change
+pub all_made : (changes : List Change) (first cycle next : ℕ) → AreMaking changes first cycle next → length changes ≤ next → AreMade changes first cycle next
+all_made changes first cycle next so_far end = record {
+  onward = so_far.onward;
+  here = so_far.here;
+  ends = λ g e same. let lt : next < length changes = slice_get_within changes next g e in omega arith;
+}
 
 -- ---- the lines
 

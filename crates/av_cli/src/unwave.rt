@@ -66,8 +66,11 @@ fn make_changes(words: &mut List<u64>, changes: &[Change], first: usize, cycle: 
     ensures made { AreMade changes.now first cycle result }
 {
     let mut next = first;
-    while next < changes.len() && changes[next].cycle == cycle {
+    while next < changes.len() {
         let change = changes[next];
+        if change.cycle != cycle {
+            return next;
+        }
         words.set(change.port as usize, change.value);
         next += 1;
     }

@@ -1,4 +1,4 @@
-use Rattle.std.proofs.Common.{◌≡◌, ◌<◌, List, length, ap, sym, ◌∙◌, subst, arith}
+use Rattle.std.proofs.Common.{◌≡◌, ◌<◌, ℕ, List, length, ap, sym, ◌∙◌, subst, arith}
 use Rattle.av_net.specs.declared.netlist.Port.{Port}
 use Rattle.av_page.proofs.Putting.{Puts-none, Puts-more, Puts-is}
 use Rattle.av_wave.specs.Dumps.{joined}
@@ -20,5 +20,6 @@ loop-port-preserved g c =
 
 pub returns : goal.returns
 returns g c =
+    let text : ℕ → List ℕ = λ n. joined (news_lines c.args.ports.now c.args.cycle c.args.before.now c.args.words.now n) in
     let all : c.loop-port.port ≡ length c.args.words.now = omega (arith, c.loop-port-test.false, c.loop-port.auto.port-end) in
-    Puts-is c.loop-port.invariant (ap (λ n. joined (news_lines c.args.ports.now c.args.cycle c.args.before.now c.args.words.now n)) all)
+    Puts-is {s = text c.loop-port.port} c.loop-port.invariant (ap text all)
