@@ -1,10 +1,10 @@
 -- A run that is clocked and recorded cycle by cycle.
-use Rattle.std.proofs.Common.{◌≡◌, ℕ, zero, suc, ◌+◌, ◌<◌, ◌≤◌, true, false, List, [], ◌∷◌, ◌++◌, length, get_or, take, drop, Option, Some, None, slice_get, refl, sym, ap, ◌∙◌, subst, arith, inl, inr, length-append, Bool, leb}
+use Rattle.std.proofs.Common.{◌≡◌, ℕ, ◌+◌, ◌<◌, ◌≤◌, true, false, List, [], ◌∷◌, ◌++◌, length, get_or, take, drop, Some, slice_get, refl, sym, ap, ◌∙◌, subst, arith, inl, inr, length-append, Bool}
 use Rattle.std.specs.Prelude.{All, Contains, slice_index, nat_le}
 use Rattle.std.specs.List.{AllByRecursion}
 use Rattle.std.proofs.lemmas.Bool.{cases_lt, le-leb, leb-true}
 use Rattle.std.proofs.lemmas.List.{append-nil, length-map, map-append}
-use Rattle.std.proofs.lemmas.List.Elements.{All-append, All-map, All-contains, Contains-append_left, Contains-append_right, Contains-append_cases, recursion_from_All}
+use Rattle.std.proofs.lemmas.List.Elements.{All-map, All-contains, Contains-append_left, Contains-append_cases, recursion_from_All}
 use Rattle.std.proofs.lemmas.Option.{slice_get-get_or, slice_get_within, get_or_from_slice_get}
 use Rattle.av_base.specs.Words.{IsWord}
 use Rattle.av_base.proofs.Lists.{each_append, each_weaker, get_mapped, there_is}
@@ -13,7 +13,7 @@ use Rattle.av_net.specs.declared.netlist.Module.{Module}
 use Rattle.av_net.specs.Meaning.{Words}
 use Rattle.av_net.specs.Names.{AreDistinct, clk, rst, names_of, given_names, wire_names, all_names, declarations, width_of}
 use Rattle.av_net.specs.Settled.{Settled, Agree}
-use Rattle.av_net.specs.Clocked.{Stream, Run, IsRun, Edge, FitPorts}
+use Rattle.av_net.specs.Clocked.{Run, Edge, FitPorts}
 use Rattle.av_net.specs.Designs.{HasSpelling}
 use Rattle.av_net.specs.Lexemes.{IsName}
 use Rattle.av_net.proofs.Declared.{declared_width, input_declared, output_declared}
@@ -22,15 +22,14 @@ use Rattle.av_net.proofs.RunFits.{runs_fit}
 use Rattle.av_net.specs.Sound.{IsSound}
 use Rattle.av_net.proofs.Cycles.{has_runs}
 use Rattle.av_clock.specs.Seen.{Seen, carried}
-use Rattle.av_data.specs.declared.stimulus.Given.{Given}
 use Rattle.av_data.specs.declared.stimulus.Stimulus.{Stimulus}
 use Rattle.av_data.proofs.Lined.{name_there}
 use Rattle.av_wave.specs.declared.wave.Change.{Change}
-use Rattle.av_wave.specs.Waves.{Recording, IsWave, zeros, all_changed, changes_to, values_in}
-use Rattle.av_wave.specs.Simulated.{given_word, IsStimulated, header_ports, port_words}
+use Rattle.av_wave.specs.Waves.{Recording, zeros, all_changed, changes_to, values_in}
+use Rattle.av_wave.specs.Simulated.{header_ports, port_words}
 use Rattle.av_wave.specs.Recorded.{IsFor, IsRecorded, IsCaptured}
 use Rattle.av_wave.specs.Clocking.{AreLeft, ArePresented}
-use Rattle.av_wave.specs.inner.Parts.{Part, IsPart, IsPast, Records, FitsPort, at_first, values_now, wave_of}
+use Rattle.av_wave.specs.inner.Parts.{Part, IsPart, IsPast, Records, FitsPort, at_first, wave_of}
 use Rattle.av_wave.proofs.PartSteps.{part_wave}
 use Rattle.av_wave.proofs.Walking.{given_fits, all_left}
 use Rattle.av_wave.proofs.Presenting.{words_noted}

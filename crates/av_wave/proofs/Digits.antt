@@ -1,9 +1,9 @@
 -- Digits in binary and in decimal, and what is read of them.
 use Rattle.std.proofs.Common.{◌≡◌, ◌≢◌, ℕ, zero, suc, ◌+◌, ◌-◌, ◌*◌, ◌/◌, ◌%◌, ◌^◌, ◌<◌, ◌≤◌, List, [], ◌∷◌, ◌++◌, length, get_or, take, drop, eqb, true, false, true≢false, Bool, refl, sym, ◌∙◌, ap, arith, drop-cons, inl, inr, ◌⊎◌, subst}
-use Rattle.std.specs.Prelude.{if◌then◌else◌, ◌==◌, decimal, cond}
+use Rattle.std.specs.Prelude.{if◌then◌else◌, ◌==◌, decimal}
 use Rattle.std.specs.Char.{is_ascii_digit}
 use Rattle.std.specs.Fmt.{digits, digits_onto, digit_glyph}
-use Rattle.std.specs.List.{AllByRecursion, prefix_len}
+use Rattle.std.specs.List.{prefix_len}
 use Rattle.std.proofs.lemmas.Bool.{eqb-true, cases_lt}
 use Rattle.std.proofs.lemmas.Fmt.{decimal_by_steps, decimal_step, decimal_digit}
 use Rattle.std.proofs.lemmas.List.{take-append-drop, drop_at}

@@ -1,15 +1,13 @@
 -- A run that is clocked and put on a page as a dump, cycle by cycle.
-use Rattle.std.proofs.Common.{◌≡◌, ℕ, ◌+◌, ◌<◌, ◌≤◌, true, false, List, [], ◌∷◌, ◌++◌, length, take, drop, replicate, map, refl, sym, ap, ◌∙◌, subst, arith}
-use Rattle.std.specs.Prelude.{slice_index, All}
+use Rattle.std.proofs.Common.{◌≡◌, ℕ, ◌+◌, ◌<◌, ◌≤◌, false, List, [], ◌∷◌, ◌++◌, length, drop, replicate, refl, sym, ap, ◌∙◌, subst, arith}
+use Rattle.std.specs.Prelude.{slice_index}
 use Rattle.std.proofs.lemmas.List.{get_or-replicate, length-replicate}
 use Rattle.av_base.specs.Outside.{SinkState}
 use Rattle.av_page.specs.Pages.{Draft, Puts}
 use Rattle.av_page.proofs.Putting.{Puts-more, Puts-is}
 use Rattle.av_net.specs.declared.netlist.Port.{Port}
 use Rattle.av_net.specs.declared.netlist.Module.{Module}
-use Rattle.av_net.specs.Lexemes.{IsName}
-use Rattle.av_net.specs.Meaning.{Words}
-use Rattle.av_net.specs.Names.{names_of, given_names, all_names, AreDistinct}
+use Rattle.av_net.specs.Names.{names_of, given_names, all_names}
 use Rattle.av_net.specs.Settled.{Settled, Agree}
 use Rattle.av_net.specs.Clocked.{Edge}
 use Rattle.av_net.specs.Designs.{HasSpelling}
@@ -17,20 +15,19 @@ use Rattle.av_net.specs.Sound.{IsSound}
 use Rattle.av_clock.specs.Seen.{Seen, carried}
 use Rattle.av_data.specs.declared.stimulus.Stimulus.{Stimulus}
 use Rattle.av_wave.specs.declared.run.Prepared.{Prepared}
-use Rattle.av_wave.specs.Waves.{Recording}
 use Rattle.av_wave.specs.Simulated.{header_ports, port_words}
-use Rattle.av_wave.specs.Recorded.{IsFor, IsCaptured}
+use Rattle.av_wave.specs.Recorded.{IsFor}
 use Rattle.av_wave.specs.Clocking.{AreLeft, ArePresented, AreWires}
-use Rattle.av_wave.specs.Dumps.{time_line, head_lines, dump_lines, dump_text, joined}
-use Rattle.av_wave.specs.inner.Heads.{Head, IsHead}
-use Rattle.av_wave.specs.inner.Parts.{Part, IsPart, HasWords, FitsPort, Records, at_first, wave_of}
+use Rattle.av_wave.specs.Dumps.{time_line, head_lines, joined}
+use Rattle.av_wave.specs.inner.Heads.{IsHead}
+use Rattle.av_wave.specs.inner.Parts.{Part, HasWords, at_first, wave_of}
 use Rattle.av_wave.specs.inner.Running.{IsPrepared, PutsDump}
 use Rattle.av_wave.proofs.PartSteps.{words_first}
 use Rattle.av_wave.proofs.Written.{joined_one}
 use Rattle.av_wave.proofs.Reached.{Tells, start_tells, told_lines}
 use Rattle.av_wave.proofs.Cycling.{ForRuns}
 use Rattle.av_wave.proofs.Capturing.{IsCapturing, header_apart, header_spelled, starts_capturing, captures_on, captured, agrees_now, shown_here, shown_long, shown_fits}
-use Rattle.av_wave.proofs.News.{MayTell, TellsCycle, cycle_tells, news_lines, cycle_news, cycle_text}
+use Rattle.av_wave.proofs.News.{MayTell, cycle_tells, news_lines, cycle_news, cycle_text}
 
 -- c cycles were put, by lines that tell of a part of a wave, and the registers have the words of the next one
 pub record IsDumping (m : Module) (s : Stimulus) (c : ℕ) (parts : Prepared) (next : ℕ) (sink sink' : SinkState) (old new : Draft) : Type 0 where

@@ -1,28 +1,25 @@
 -- A dump that is read, the first faulty line of bytes that are none, and the laws on both.
-use Rattle.std.proofs.Common.{◌≡◌, ◌≢◌, ℕ, zero, suc, ◌+◌, ◌-◌, ◌<◌, ◌≤◌, ◌^◌, ◌⊎◌, inl, inr, List, [], ◌∷◌, ◌++◌, length, take, drop, refl, sym, ◌∙◌, ap, arith, subst, All, append_assoc}
-use Rattle.std.specs.Prelude.{Result, Ok, Err}
+use Rattle.std.proofs.Common.{◌≡◌, ℕ, suc, ◌+◌, ◌<◌, ◌≤◌, inl, inr, List, [], ◌∷◌, ◌++◌, length, take, drop, refl, sym, ◌∙◌, ap, arith, subst, append_assoc}
 use Rattle.std.specs.List.{AllByRecursion}
 use Rattle.std.proofs.lemmas.Bool.{cases_lt}
 use Rattle.std.proofs.lemmas.List.{append-nil, take_at, take_all, take-take, take-append-drop, length_push, length-append, drop_all}
 use Rattle.std.proofs.lemmas.List.Elements.{recursion_from_All}
-use Rattle.av_base.proofs.Lists.{each_append, each_weaker}
+use Rattle.av_base.proofs.Lists.{each_append}
 use Rattle.av_net.specs.declared.netlist.Port.{Port}
 use Rattle.av_net.specs.Lexemes.{IsName}
 use Rattle.av_net.specs.Names.{names_of}
 use Rattle.av_wave.specs.declared.wave.Change.{Change}
 use Rattle.av_wave.specs.declared.stage.Stage.{Stage}
 use Rattle.av_wave.specs.declared.stage.Stage.TheVariants.{Timescale, Scope, Ports, Definitions, Start, Cycles}
-use Rattle.av_wave.specs.declared.fault.WaveFault.{WaveFault}
-use Rattle.av_wave.specs.declared.fault.WaveFault.TheVariants.{WaveSyntax, Memory}
 use Rattle.av_wave.specs.Waves.{Recording, IsWave}
-use Rattle.av_wave.specs.Dumps.{timescale_line, scope_line, port_line, port_lines, upscope_line, definitions_line, time_line, change_line, head_lines, dump_lines, dump_text, joined}
-use Rattle.av_wave.specs.Fronts.{whole_lines, Begin, IsWaveFault, GivesWave, RefusesWave}
-use Rattle.av_wave.specs.inner.Parts.{Part, wave_of, FitsPort}
+use Rattle.av_wave.specs.Dumps.{port_lines, upscope_line, definitions_line, time_line, head_lines, dump_lines, dump_text, joined}
+use Rattle.av_wave.specs.Fronts.{whole_lines, Begin, IsWaveFault}
+use Rattle.av_wave.specs.inner.Parts.{FitsPort}
 use Rattle.av_wave.specs.inner.Stages.{Takes, EndsAs}
 use Rattle.av_wave.proofs.OneForm.{timescale_whole, upscope_whole, definitions_whole, scope_whole, port_whole, time_whole, says_whole}
 use Rattle.av_wave.proofs.Lines.{IsLine, lines_back, joined_back}
 use Rattle.av_wave.proofs.Rests.{AreLeft, end_left, change_left, cycle_left, wave_rest, wave_left, dump_rest}
-use Rattle.av_wave.proofs.Reached.{IsReached, leads_reach, reached_begins, told_wave, told_lines}
+use Rattle.av_wave.proofs.Reached.{leads_reach, reached_begins, told_wave, told_lines}
 use Rattle.av_wave.proofs.Runs.{Leads, leads_on, leads_apart, leads_once, dump_leads, lines_once, says_change, all_fit}
 
 -- ---- the lines of a dump are those of its text

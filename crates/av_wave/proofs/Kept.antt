@@ -1,6 +1,6 @@
 -- What a recorder keeps, step by step.
-use Rattle.std.proofs.Common.{◌≡◌, ◌≢◌, ℕ, ◌+◌, ◌<◌, ◌≤◌, List, [], ◌∷◌, ◌++◌, length, get_or, set, replicate, refl, sym, ◌∙◌, ap, arith, subst, All}
-use Rattle.std.specs.Prelude.{slice_index, slice_get, Some}
+use Rattle.std.proofs.Common.{◌≡◌, ℕ, ◌+◌, ◌<◌, List, [], ◌∷◌, ◌++◌, length, set, replicate, refl, sym, ◌∙◌, ap, arith, subst, All}
+use Rattle.std.specs.Prelude.{slice_index}
 use Rattle.std.proofs.lemmas.List.{get_or-replicate}
 use Rattle.std.proofs.lemmas.Option.{slice_get_within}
 use Rattle.av_net.specs.declared.netlist.Port.{Port}
@@ -8,7 +8,7 @@ use Rattle.av_net.specs.Lexemes.{IsName}
 use Rattle.av_net.specs.Names.{names_of, AreDistinct}
 use Rattle.av_wave.specs.declared.wave.Change.{Change}
 use Rattle.av_wave.specs.declared.recorder.Recorder.TheInside.{Inside}
-use Rattle.av_wave.specs.inner.Parts.{Part, values_now, at_first, told_of, next_cycle, IsNext, FitsPort, MayEnd, IsPart, HasWords}
+use Rattle.av_wave.specs.inner.Parts.{IsNext, FitsPort, MayEnd}
 use Rattle.av_wave.specs.inner.Recorders.{part_of, IsKept}
 use Rattle.av_wave.proofs.PartSteps.{first_part, part_told, part_next, words_first, words_told}
 

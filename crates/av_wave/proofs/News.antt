@@ -1,5 +1,5 @@
 -- The changes of a cycle, by the words of the ports before it and in it.
-use Rattle.std.proofs.Common.{◌≡◌, ◌≢◌, ℕ, zero, suc, ◌+◌, ◌<◌, ◌≤◌, List, [], ◌∷◌, ◌++◌, map, length, get_or, Bool, true, false, true≢false, not, ◌||◌, refl, sym, ◌∙◌, ap, arith, subst, append_assoc, Option, Some}
+use Rattle.std.proofs.Common.{◌≡◌, ◌≢◌, ℕ, zero, suc, ◌+◌, ◌<◌, ◌≤◌, List, [], ◌∷◌, ◌++◌, map, length, Bool, true, false, true≢false, not, ◌||◌, refl, sym, ◌∙◌, ap, arith, subst, append_assoc, Option}
 use Rattle.std.specs.Prelude.{if◌then◌else◌, nat_eq, filter, slice_index, slice_get}
 use Rattle.std.specs.List.{range_with_len}
 use Rattle.std.proofs.lemmas.Bool.{eq-eqb, ne_eqb, eqb-true, eqb-false}
@@ -7,7 +7,7 @@ use Rattle.std.proofs.lemmas.List.{append-nil, map-append}
 use Rattle.av_net.specs.declared.netlist.Port.{Port}
 use Rattle.av_wave.specs.declared.wave.Change.{Change}
 use Rattle.av_wave.specs.Dumps.{time_line, value_line_at, change_line, joined}
-use Rattle.av_wave.specs.inner.Parts.{Part, values_now, told_of, next_cycle, IsNext, FitsPort, MayEnd, IsPart, HasWords, IsTold, AreTold, Records}
+use Rattle.av_wave.specs.inner.Parts.{Part, values_now, told_of, next_cycle, IsNext, FitsPort, HasWords, IsTold, AreTold, Records}
 use Rattle.av_wave.specs.inner.Stages.{Says}
 use Rattle.av_wave.specs.inner.Written.{is_news, change_at, news}
 use Rattle.av_wave.proofs.Values.{filter_on, range_on}

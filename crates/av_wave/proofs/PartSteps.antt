@@ -1,17 +1,17 @@
 -- A wave in the making, change by change and cycle by cycle.
-use Rattle.std.proofs.Common.{◌≡◌, ◌≢◌, ℕ, zero, suc, ◌+◌, ◌<◌, ◌≤◌, ◌⊎◌, inl, inr, List, [], ◌∷◌, ◌++◌, length, get_or, set, eqb, true, false, Bool, refl, sym, ◌∙◌, ap, arith, subst, All}
-use Rattle.std.specs.Prelude.{slice_get, Some, AllPairs, slice_index}
+use Rattle.std.proofs.Common.{◌≡◌, ℕ, ◌+◌, ◌<◌, ◌≤◌, inl, inr, List, [], ◌∷◌, ◌++◌, length, get_or, set, eqb, true, false, Bool, refl, sym, ◌∙◌, ap, arith, All}
+use Rattle.std.specs.Prelude.{slice_index}
 use Rattle.std.specs.List.{range_with_len}
 use Rattle.std.proofs.lemmas.Bool.{eqb-true, eqb-false, cases_eq}
-use Rattle.std.proofs.lemmas.List.{append-nil, map-append, length-set, get_or-set_same, get_or-set_other, get_or-replicate, length-replicate}
-use Rattle.std.proofs.lemmas.List.Elements.{All-push, All-nil}
+use Rattle.std.proofs.lemmas.List.{append-nil, map-append, length-set, get_or-set_same, get_or-set_other}
+use Rattle.std.proofs.lemmas.List.Elements.{All-push}
 use Rattle.std.proofs.lemmas.List.Quantifiers.{all_pairs_push}
 use Rattle.std.proofs.lemmas.Option.{slice_get_within}
 use Rattle.av_net.specs.declared.netlist.Port.{Port}
 use Rattle.av_net.specs.Lexemes.{IsName}
 use Rattle.av_net.specs.Names.{names_of, AreDistinct}
 use Rattle.av_wave.specs.declared.wave.Change.{Change}
-use Rattle.av_wave.specs.Waves.{zeros, changed, all_changed, changes_in, ports_of, IsBefore, IsOf, AreNews, IsWave}
+use Rattle.av_wave.specs.Waves.{zeros, changed, changes_in, ports_of, IsBefore, IsOf, IsWave}
 use Rattle.av_wave.specs.inner.Parts.{Part, values_now, at_first, told_of, next_cycle, wave_of, IsNext, FitsPort, MayEnd, IsPast, IsPart, HasWords}
 use Rattle.av_wave.proofs.Values.{changed_on, news_on, in_on, in_here, in_other, range_on}
 

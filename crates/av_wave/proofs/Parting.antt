@@ -1,14 +1,13 @@
 -- The lines of a dump, part by part as they are read.
-use Rattle.std.proofs.Common.{◌≡◌, ◌≢◌, ℕ, zero, suc, ◌+◌, ◌<◌, ◌≤◌, ◌^◌, List, [], ◌∷◌, ◌++◌, length, get_or, refl, sym, ◌∙◌, ap, arith, subst, append_assoc, false, true, true≢false, Bool, inl, inr, ◌⊎◌}
+use Rattle.std.proofs.Common.{◌≡◌, ◌≢◌, ℕ, ◌+◌, ◌<◌, ◌^◌, List, ◌∷◌, ◌++◌, length, get_or, sym, ◌∙◌, ap, subst, append_assoc, false, true, true≢false, Bool, inl, inr}
 use Rattle.std.specs.Prelude.{codes, decimal, slice_get, Some}
-use Rattle.std.proofs.lemmas.Bool.{cases_lt}
 use Rattle.std.proofs.Math.Nat.{mod-lt, mod-eq_of_lt}
 use Rattle.std.proofs.lemmas.Nat.{pow_pos}
 use Rattle.std.proofs.lemmas.List.{append_cancel_left, append_cancel_right}
 use Rattle.std.proofs.lemmas.Option.{slice_get-get_or, slice_get_within, get_or_from_slice_get}
 use Rattle.av_base.specs.declared.width.Width.{Width}
-use Rattle.av_base.specs.Words.{IsWord, residue}
-use Rattle.av_base.proofs.Lists.{same_head, same_tail}
+use Rattle.av_base.specs.Words.{residue}
+use Rattle.av_base.proofs.Lists.{same_tail}
 use Rattle.av_net.specs.declared.netlist.Port.{Port}
 use Rattle.av_net.specs.Lexemes.{IsName}
 use Rattle.av_net.specs.Spelling.{is_name}

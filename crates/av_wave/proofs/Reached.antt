@@ -1,11 +1,10 @@
 -- Lines that were read begin the text of some wave.
-use Rattle.std.proofs.Common.{◌≡◌, ◌≢◌, ℕ, zero, suc, ◌+◌, ◌-◌, ◌<◌, ◌≤◌, ◌^◌, ◌⊎◌, inl, inr, List, [], ◌∷◌, ◌++◌, length, refl, sym, ◌∙◌, ap, arith, subst, All, append_assoc, Bool, true, false}
-use Rattle.std.specs.Prelude.{slice_get, Some, Contains, codes}
-use Rattle.std.proofs.lemmas.Bool.{cases_eq, cases_lt}
+use Rattle.std.proofs.Common.{◌≡◌, ℕ, zero, suc, ◌+◌, ◌-◌, ◌≤◌, inl, inr, List, [], ◌∷◌, ◌++◌, length, refl, sym, ◌∙◌, ap, arith, subst, All, append_assoc}
+use Rattle.std.specs.Prelude.{Contains, codes}
+use Rattle.std.proofs.lemmas.Bool.{cases_eq}
 use Rattle.std.proofs.lemmas.List.{append-nil, map-append}
 use Rattle.std.proofs.lemmas.Nat.{pow_pos}
-use Rattle.std.proofs.lemmas.List.Elements.{All-push, All-nil}
-use Rattle.av_base.specs.Words.{IsWord}
+use Rattle.std.proofs.lemmas.List.Elements.{All-push}
 use Rattle.av_base.proofs.Lists.{there_is}
 use Rattle.av_net.specs.declared.netlist.Port.{Port}
 use Rattle.av_net.specs.Lexemes.{IsName}
@@ -14,12 +13,12 @@ use Rattle.av_net.proofs.Distinct.{append_distinct}
 use Rattle.av_wave.specs.declared.wave.Change.{Change}
 use Rattle.av_wave.specs.declared.stage.Stage.{Stage}
 use Rattle.av_wave.specs.declared.stage.Stage.TheVariants.{Timescale, Scope, Ports, Definitions, Start, Cycles}
-use Rattle.av_wave.specs.Waves.{Recording, IsWave}
+use Rattle.av_wave.specs.Waves.{IsWave}
 use Rattle.av_wave.specs.Dumps.{timescale_line, scope_line, port_line, port_lines, upscope_line, definitions_line, time_line, value_line, value_line_at, change_line, head_lines, dump_lines}
 use Rattle.av_wave.specs.Fronts.{Begin}
 use Rattle.av_wave.specs.inner.Heads.{Head, IsHead}
 use Rattle.av_wave.specs.inner.Parts.{Part, at_first, told_of, next_cycle, wave_of, IsNext, FitsPort, MayEnd, IsPart}
-use Rattle.av_wave.specs.inner.Stages.{Takes, TakesPort, TakesChange, TakesTime, Says}
+use Rattle.av_wave.specs.inner.Stages.{Takes, Says}
 use Rattle.av_wave.proofs.Named.{name_from}
 use Rattle.av_wave.proofs.PartSteps.{first_part, part_told, part_next, part_wave}
 use Rattle.av_wave.proofs.Rests.{AreLeft, end_left, change_left, cycle_left, dump_from}

@@ -1,16 +1,16 @@
 -- Bytes that are read line by line, and what is answered then.
-use Rattle.std.proofs.Common.{◌≡◌, ◌≢◌, ℕ, zero, suc, ◌+◌, ◌-◌, ◌<◌, ◌≤◌, ◌^◌, List, [], ◌∷◌, ◌++◌, length, take, drop, Bool, true, false, not, cond, refl, sym, ◌∙◌, ap, arith, subst, length-drop, true≢false}
-use Rattle.std.specs.Prelude.{Result, Ok, Err, if◌then◌else◌, nat_eq, Option, Some, None, IfSome, IfNone}
+use Rattle.std.proofs.Common.{◌≡◌, ℕ, suc, ◌+◌, ◌-◌, ◌<◌, ◌≤◌, List, [], ◌∷◌, length, take, drop, Bool, true, false, not, cond, refl, sym, ◌∙◌, ap, arith, subst, length-drop}
+use Rattle.std.specs.Prelude.{Result, Ok, Err, if◌then◌else◌, nat_eq, Option, Some, None, IfSome}
 use Rattle.std.specs.List.{prefix_len}
-use Rattle.std.proofs.lemmas.List.{take_all, drop-drop, take-append-drop}
+use Rattle.std.proofs.lemmas.List.{drop-drop}
 use Rattle.std.proofs.lemmas.Option.{none-some, same_Some}
 use Rattle.av_base.specs.Spelling.{is_not_feed}
 use Rattle.av_wave.specs.declared.stage.Stage.{Stage}
 use Rattle.av_wave.specs.declared.fault.WaveFault.{WaveFault}
-use Rattle.av_wave.specs.declared.fault.WaveFault.TheVariants.{WaveSyntax, Memory}
+use Rattle.av_wave.specs.declared.fault.WaveFault.TheVariants.{WaveSyntax}
 use Rattle.av_wave.specs.Waves.{Recording, IsWave}
 use Rattle.av_wave.specs.Dumps.{dump_text}
-use Rattle.av_wave.specs.Fronts.{whole_lines, IsWaveFault, GivesWave, RefusesWave}
+use Rattle.av_wave.specs.Fronts.{whole_lines, IsWaveFault}
 use Rattle.av_wave.specs.inner.Lines.{first_line}
 use Rattle.av_wave.specs.inner.Stages.{Takes, Turns, EndsAs, Knows}
 use Rattle.av_wave.proofs.Ends.{to_end}

@@ -1,14 +1,14 @@
 -- What is left of a dump behind the line that begins a cycle, or behind the line of one of its changes.
-use Rattle.std.proofs.Common.{◌≡◌, ◌≢◌, ℕ, zero, suc, ◌+◌, ◌-◌, ◌<◌, ◌≤◌, ◌⊎◌, inl, inr, List, [], ◌∷◌, ◌++◌, map, length, get_or, refl, sym, ◌∙◌, ap, arith, subst, All, append_assoc}
+use Rattle.std.proofs.Common.{◌≡◌, ℕ, zero, suc, ◌+◌, ◌-◌, ◌<◌, ◌≤◌, inl, inr, List, [], ◌∷◌, ◌++◌, map, refl, sym, ◌∙◌, ap, arith, subst, All, append_assoc}
 use Rattle.std.specs.Prelude.{AllPairs}
 use Rattle.std.specs.List.{AllByRecursion, flat_map, range_with_len}
 use Rattle.std.proofs.lemmas.List.{append-nil}
-use Rattle.std.proofs.lemmas.List.Elements.{All-head, All-tail, recursion_from_All}
+use Rattle.std.proofs.lemmas.List.Elements.{All-head, All-tail}
 use Rattle.av_base.proofs.Lists.{same_tail, each_weaker, pairs_rest}
 use Rattle.av_net.specs.declared.netlist.Port.{Port}
 use Rattle.av_wave.specs.declared.wave.Change.{Change}
 use Rattle.av_wave.specs.Waves.{Recording, changes_in, IsBefore, IsOf, IsWave}
-use Rattle.av_wave.specs.Dumps.{time_line, change_line, cycle_lines, head_lines, dump_lines, dump_text, joined}
+use Rattle.av_wave.specs.Dumps.{time_line, change_line, cycle_lines, head_lines, dump_lines}
 use Rattle.av_wave.specs.inner.Written.{times, lines_to, last_cycle}
 use Rattle.av_wave.proofs.Values.{in_here, in_other, in_none, behind_first}
 

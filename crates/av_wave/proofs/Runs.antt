@@ -1,23 +1,23 @@
 -- A dump that is read line by line: where it leads, and that it leads nowhere else.
-use Rattle.std.proofs.Common.{◌≡◌, ◌≢◌, ℕ, zero, suc, ◌+◌, ◌<◌, ◌≤◌, ◌⊎◌, inl, inr, List, [], ◌∷◌, ◌++◌, length, get_or, refl, sym, ◌∙◌, ap, arith, subst, All, append_assoc}
-use Rattle.std.specs.Prelude.{slice_get, Some, AllPairs, Contains, codes}
+use Rattle.std.proofs.Common.{◌≡◌, ℕ, zero, suc, ◌+◌, ◌<◌, ◌≤◌, inl, inr, List, [], ◌∷◌, ◌++◌, length, refl, sym, ◌∙◌, ap, arith, subst, append_assoc}
+use Rattle.std.specs.Prelude.{AllPairs, Contains}
 use Rattle.std.specs.List.{AllByRecursion, range_with_len}
 use Rattle.std.proofs.lemmas.List.{append-nil, map-append, length_push}
-use Rattle.std.proofs.lemmas.List.Elements.{All-head, All-tail, recursion_from_All, All-nil}
+use Rattle.std.proofs.lemmas.List.Elements.{recursion_from_All}
 use Rattle.av_base.proofs.Among.{first_among}
 use Rattle.av_base.proofs.Lists.{same_head, same_tail, each_weaker, pairs_rest}
 use Rattle.av_net.specs.declared.netlist.Port.{Port}
 use Rattle.av_net.specs.Lexemes.{IsName}
 use Rattle.av_net.specs.Names.{names_of, AreDistinct}
-use Rattle.av_net.proofs.Distinct.{rest_distinct, apart}
+use Rattle.av_net.proofs.Distinct.{apart}
 use Rattle.av_wave.specs.declared.wave.Change.{Change}
 use Rattle.av_wave.specs.declared.stage.Stage.{Stage}
 use Rattle.av_wave.specs.declared.stage.Stage.TheVariants.{Timescale, Scope, Ports, Definitions, Start, Cycles}
-use Rattle.av_wave.specs.Waves.{Recording, zeros, changed, all_changed, changes_in, ports_of, IsBefore, IsOf, AreNews, IsWave}
-use Rattle.av_wave.specs.Dumps.{timescale_line, scope_line, port_line, port_lines, upscope_line, definitions_line, time_line, value_line_at, change_line, head_lines, dump_lines}
+use Rattle.av_wave.specs.Waves.{Recording, zeros, changes_in, ports_of, IsBefore, IsOf, AreNews, IsWave}
+use Rattle.av_wave.specs.Dumps.{port_line, port_lines, upscope_line, definitions_line, time_line, value_line_at, change_line, head_lines, dump_lines}
 use Rattle.av_wave.specs.inner.Heads.{Head}
 use Rattle.av_wave.specs.inner.Parts.{Part, values_now, at_first, told_of, next_cycle, wave_of, IsNext, FitsPort, MayEnd}
-use Rattle.av_wave.specs.inner.Stages.{Takes, TakesPort, TakesChange, TakesTime, Says}
+use Rattle.av_wave.specs.inner.Stages.{Takes, Says}
 use Rattle.av_wave.proofs.OneForm.{scope_once, port_once, port_not_upscope, says_once, says_no_time}
 use Rattle.av_wave.proofs.Rests.{AreLeft, end_left, change_left, cycle_left, left_later, wave_rest, wave_left, dump_rest}
 use Rattle.av_wave.proofs.Values.{changed_on, in_here, in_none, behind_first}

@@ -1,5 +1,5 @@
 -- What comes of a line that stands in a dump, by what was read of it.
-use Rattle.std.proofs.Common.{◌≡◌, ◌≢◌, ℕ, zero, suc, ◌+◌, ◌<◌, ◌≤◌, ◌⊎◌, inl, inr, List, [], ◌∷◌, ◌++◌, length, Bool, true, false, true≢false, not, refl, sym, ◌∙◌, ap, arith, subst}
+use Rattle.std.proofs.Common.{◌≡◌, ℕ, zero, suc, ◌+◌, inl, inr, List, [], ◌∷◌, ◌++◌, length, Bool, true, false, true≢false, not, refl, sym, ◌∙◌, ap, arith, subst}
 use Rattle.std.specs.Prelude.{All, Contains, if◌then◌else◌, Result, Ok, Err, IfOk, IfSome, Option, Some, None}
 use Rattle.std.specs.List.{list_any}
 use Rattle.std.specs.Str.{bytes_eq}
@@ -15,13 +15,12 @@ use Rattle.av_net.specs.Lexemes.{IsName}
 use Rattle.av_net.specs.Names.{names_of, AreDistinct}
 use Rattle.av_net.proofs.Distinct.{append_distinct, cons_distinct}
 use Rattle.av_wave.specs.Dumps.{scope_line, port_line, upscope_line, time_line}
-use Rattle.av_wave.specs.declared.wave.Change.{Change}
 use Rattle.av_wave.specs.declared.stage.Stage.{Stage}
 use Rattle.av_wave.specs.declared.stage.Stage.TheVariants.{Timescale, Scope, Ports, Definitions, Start, Cycles}
 use Rattle.av_wave.specs.inner.Heads.{Head, IsHead}
 use Rattle.av_wave.specs.Waves.{Recording}
 use Rattle.av_wave.specs.inner.Parts.{Part, told_of, next_cycle, wave_of, IsNext, FitsPort, MayEnd}
-use Rattle.av_wave.specs.inner.Stages.{Takes, TakesPort, Says, Turns, EndsAs, Knows}
+use Rattle.av_wave.specs.inner.Stages.{Takes, Says, Turns, EndsAs, Knows}
 use Rattle.av_wave.proofs.OneForm.{port_once, says_once, says_no_time}
 
 -- ---- the scope

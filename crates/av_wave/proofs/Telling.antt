@@ -1,13 +1,12 @@
 -- The values of a cycle, told port by port.
-use Rattle.std.proofs.Common.{◌≡◌, ◌≢◌, ℕ, zero, suc, ◌+◌, ◌<◌, ◌≤◌, ◌⊎◌, inl, inr, List, [], ◌∷◌, ◌++◌, length, eqb, true, false, Bool, refl, sym, ◌∙◌, ap, arith, subst, append_assoc}
-use Rattle.std.specs.Prelude.{slice_index, slice_get}
-use Rattle.std.specs.List.{AllByRecursion}
-use Rattle.std.proofs.lemmas.Bool.{eq-eqb, ne_eqb, cases_eq, cases_lt}
+use Rattle.std.proofs.Common.{◌≡◌, ℕ, ◌+◌, ◌<◌, ◌≤◌, inl, inr, List, [], ◌∷◌, ◌++◌, length, eqb, true, false, refl, sym, ◌∙◌, ap, arith, subst, append_assoc}
+use Rattle.std.specs.Prelude.{slice_index}
+use Rattle.std.proofs.lemmas.Bool.{eq-eqb, ne_eqb, cases_eq}
 use Rattle.std.proofs.lemmas.List.{append-nil}
 use Rattle.av_base.proofs.Lists.{each_append, each_weaker}
 use Rattle.av_net.specs.declared.netlist.Port.{Port}
 use Rattle.av_wave.specs.declared.wave.Change.{Change}
-use Rattle.av_wave.specs.Waves.{zeros, changed, all_changed}
+use Rattle.av_wave.specs.Waves.{zeros, changed}
 use Rattle.av_wave.specs.inner.Parts.{Part, values_now, told_of, next_cycle, IsNext, FitsPort, MayEnd, IsTold, AreTold, Records}
 use Rattle.av_wave.proofs.Values.{changed_on}
 

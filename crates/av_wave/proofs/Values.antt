@@ -1,12 +1,10 @@
 -- Changes of values, one after another.
-use Rattle.std.proofs.Common.{◌≡◌, ◌≢◌, ℕ, zero, suc, ◌+◌, ◌<◌, ◌≤◌, ◌⊎◌, inl, inr, List, [], ◌∷◌, ◌++◌, length, map, get_or, eqb, leb, true, false, Bool, refl, sym, ◌∙◌, ap, arith, subst}
-use Rattle.std.specs.Prelude.{if◌then◌else◌, nat_eq, nat_le, filter, AllPairs, All, slice_get, Some}
+use Rattle.std.proofs.Common.{◌≡◌, ◌≢◌, ℕ, zero, suc, ◌+◌, ◌<◌, List, [], ◌∷◌, ◌++◌, length, get_or, true, false, Bool, refl, ◌∙◌, ap, arith}
+use Rattle.std.specs.Prelude.{if◌then◌else◌, nat_eq, nat_le, filter, AllPairs}
 use Rattle.std.specs.List.{AllByRecursion, range_with_len}
-use Rattle.std.proofs.lemmas.Bool.{eqb-true, eqb-false, eq-eqb, ne_eqb, leb-true, leb-false}
-use Rattle.std.proofs.lemmas.List.{map-append, append-nil}
-use Rattle.av_base.proofs.Lists.{each_weaker, pairs_rest}
+use Rattle.std.proofs.lemmas.Bool.{eq-eqb, ne_eqb}
 use Rattle.av_wave.specs.declared.wave.Change.{Change}
-use Rattle.av_wave.specs.Waves.{Values, changed, all_changed, zeros, changes_in, changes_to, values_in, ports_of, IsBefore, AreNews}
+use Rattle.av_wave.specs.Waves.{Values, changed, all_changed, changes_in, changes_to, AreNews}
 
 -- ---- one list of changes after another
 

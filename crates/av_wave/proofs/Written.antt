@@ -1,7 +1,7 @@
 -- The text of a dump, piece by piece in the order in which it is written.
-use Rattle.std.proofs.Common.{◌≡◌, ℕ, zero, suc, ◌+◌, ◌-◌, ◌<◌, ◌≤◌, List, [], ◌∷◌, ◌++◌, map, length, take, get_or, refl, sym, ◌∙◌, ap, arith, subst, append_assoc, ◌⊎◌, inl, inr, Option, Some, false}
+use Rattle.std.proofs.Common.{◌≡◌, ℕ, suc, ◌+◌, ◌-◌, ◌<◌, ◌≤◌, List, [], ◌∷◌, ◌++◌, map, length, take, get_or, refl, sym, ◌∙◌, ap, arith, subst, append_assoc, ◌⊎◌, inl, inr, Option, Some, false}
 use Rattle.std.specs.Prelude.{codes, All, Result, Ok, Err, OnOk}
-use Rattle.std.specs.List.{flat_map, range_with_len}
+use Rattle.std.specs.List.{range_with_len}
 use Rattle.std.proofs.lemmas.Grind.{flat_map-append}
 use Rattle.std.proofs.lemmas.List.{append-nil, map-append, take_more, length-take-le}
 use Rattle.std.proofs.lemmas.Option.{slice_get-get_or, slice_get_within}
@@ -12,7 +12,7 @@ use Rattle.av_page.proofs.Putting.{whole}
 use Rattle.av_net.specs.declared.netlist.Port.{Port}
 use Rattle.av_wave.specs.declared.wave.Change.{Change}
 use Rattle.av_wave.specs.Waves.{Recording, IsWave}
-use Rattle.av_wave.specs.Dumps.{timescale_line, scope_line, port_line, port_lines, upscope_line, definitions_line, time_line, value_line, value_line_at, change_line, head_lines, dump_lines, dump_text, joined}
+use Rattle.av_wave.specs.Dumps.{timescale_line, scope_line, port_line, port_lines, upscope_line, definitions_line, time_line, value_line, value_line_at, change_line, head_lines, dump_text, joined}
 use Rattle.av_wave.specs.inner.Written.{times, lines_to, last_cycle}
 use Rattle.av_wave.proofs.Rests.{dump_rest}
 use Rattle.av_wave.proofs.Values.{range_on}

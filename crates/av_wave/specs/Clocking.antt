@@ -1,6 +1,5 @@
 -- How a module is clocked port by port and wire by wire.
 use Rattle.std.specs.Prelude.{◌≡◌, ◌⊎◌, ℕ, ◌<◌, ◌≤◌, ◌&&◌, if◌then◌else◌, nat_eq, Bool, List, [], ◌∷◌, length, slice_index, slice_get, Some, All, AllPairs}
-use Rattle.av_base.specs.Words.{IsWord}
 use Rattle.av_net.specs.declared.netlist.Port.{Port}
 use Rattle.av_net.specs.declared.netlist.Module.{Module}
 use Rattle.av_net.specs.Meaning.{Words}

@@ -1,5 +1,4 @@
 -- What a recorder keeps.
-use Rattle.std.specs.Prelude.{ℕ}
 use Rattle.av_wave.specs.declared.recorder.Recorder.TheInside.{Inside}
 use Rattle.av_wave.specs.inner.Parts.{Part, IsPart, HasWords}
 

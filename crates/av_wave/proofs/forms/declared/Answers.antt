@@ -1,7 +1,5 @@
-use Rattle.std.proofs.Common.{◌≡◌, ℕ, List, [], ◌∷◌, ◌++◌, sym, ap, ◌∙◌}
+use Rattle.std.proofs.Common.{ℕ, List, ◌∷◌, ◌++◌, sym, ap, ◌∙◌}
 use Rattle.std.specs.Prelude.{codes, decimal}
-use Rattle.av_net.specs.declared.netlist.Port.{Port}
-use Rattle.av_wave.specs.Dumps.{port_line, code}
 use Rattle.av_wave.proofs.OneForm.{port_rest, port_parts}
 use Rattle.av_wave.proofs.Parting.{declares_some, wire_next, width_next, code_next, blank_next}
 use Rattle.av_wave.proofs.forms.declared.Goals as goal

@@ -1,4 +1,4 @@
-use Rattle.std.proofs.Common.{◌≡◌, ◌<◌, ◌^◌, ℕ, sym, ap, ◌∙◌, subst}
+use Rattle.std.proofs.Common.{◌<◌, ◌^◌, sym, ap, ◌∙◌, subst}
 use Rattle.av_net.specs.declared.netlist.Port.{Port}
 use Rattle.av_wave.proofs.Parting.{vector_some, vector_within, vector_code, vector_port, residue_fits, residue_same}
 use Rattle.av_wave.proofs.forms.vector_in.Goals.{else-width-ne1-via-then-width-ne1+else-of-value, else-width-ne1-via-else-width-ne1}

@@ -1,4 +1,4 @@
-use Rattle.std.proofs.Common.{◌≡◌, ◌+◌, ◌<◌, ◌∷◌, [], ℕ, sym, ap, ◌∙◌, arith}
+use Rattle.std.proofs.Common.{◌+◌, ◌<◌, ◌∷◌, [], ℕ, sym, ap, ◌∙◌, arith}
 use Rattle.av_wave.proofs.Digits.{two_of, two_decimal}
 use Rattle.av_wave.proofs.numbers.two_digits.Goals as goal
 

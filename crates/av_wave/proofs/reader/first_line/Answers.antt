@@ -1,4 +1,3 @@
-use Rattle.std.proofs.Common.{arith}
 use Rattle.av_wave.proofs.Reading.{first_whole, first_all}
 use Rattle.av_wave.proofs.reader.first_line.Goals as goal
 

@@ -1,6 +1,6 @@
-use Rattle.std.proofs.Common.{◌≡◌, ◌+◌, ◌<◌, ◌≤◌, ◌-◌, length, take, drop, refl, sym, ap, ◌∙◌, arith}
+use Rattle.std.proofs.Common.{arith}
 use Rattle.av_wave.proofs.Faults.{nothing_read}
-use Rattle.av_wave.proofs.Reading.{IsLineAt, AnswersFault, AnswersWave, line_at, line_small, line_taken, taken, not_taken, known, faulty, faulty_end, answers_wave}
+use Rattle.av_wave.proofs.Reading.{IsLineAt, line_at, line_small, line_taken, taken, not_taken, known, faulty, faulty_end, answers_wave}
 use Rattle.av_wave.proofs.reader.read_wave.Goals as goal
 
 pub loop-at-init : goal.loop-at-init

@@ -1,12 +1,10 @@
-use Rattle.std.proofs.Common.{◌≡◌, ◌<◌, ◌≤◌, ℕ, List, length, refl, sym, ap, ◌∙◌, arith, subst, true, All}
-use Rattle.std.proofs.lemmas.List.{length-map}
+use Rattle.std.proofs.Common.{◌≡◌, ℕ, List, length, sym, ap, ◌∙◌, arith, subst, true, All}
 use Rattle.av_net.specs.declared.netlist.Port.{Port}
 use Rattle.av_net.specs.declared.netlist.Module.{Module}
 use Rattle.av_net.specs.Lexemes.{IsName}
 use Rattle.av_net.specs.Names.{names_of, AreDistinct}
 use Rattle.av_net.specs.Clocked.{Edge}
 use Rattle.av_clock.specs.Seen.{carried}
-use Rattle.av_wave.specs.Simulated.{header_ports}
 use Rattle.av_wave.proofs.Cycling.{reset_registers}
 use Rattle.av_wave.proofs.Capturing.{header_apart, header_spelled, starts_capturing, inputs_noted, agrees_now, shown_here, shown_long, shown_fits, captures_on, captured}
 use Rattle.av_wave.proofs.recording.capture.Goals as goal

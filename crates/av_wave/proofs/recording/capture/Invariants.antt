@@ -1,4 +1,3 @@
-use Rattle.std.proofs.Common.{◌≡◌, length}
 use Rattle.av_wave.specs.inner.Parts.{IsPart}
 use Rattle.av_wave.proofs.Capturing.{IsCapturing}
 use Rattle.av_wave.proofs.recording.capture.Given as goal

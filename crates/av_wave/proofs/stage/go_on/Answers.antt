@@ -1,6 +1,5 @@
-use Rattle.std.proofs.Common.{◌≡◌, ℕ, ◌+◌, ap, sym, ◌∙◌, subst, true≢false}
+use Rattle.std.proofs.Common.{ℕ, ◌+◌, ap, sym, ◌∙◌, subst, true≢false}
 use Rattle.av_wave.specs.Dumps.{time_line}
-use Rattle.av_wave.specs.declared.stage.Stage.{Stage}
 use Rattle.av_wave.specs.declared.stage.Stage.TheVariants.{Cycles}
 use Rattle.av_wave.specs.inner.Parts.{Part}
 use Rattle.av_wave.specs.inner.Stages.{Takes}

@@ -1,6 +1,5 @@
-use Rattle.std.proofs.Common.{refl}
 use Rattle.av_wave.proofs.Spelled.{name_ascii}
-use Rattle.av_wave.proofs.Staging.{scope_none, first_head}
+use Rattle.av_wave.proofs.Staging.{scope_none}
 use Rattle.av_wave.proofs.stage.open.Goals as goal
 
 pub from_ascii-requires : goal.from_ascii-requires

@@ -1,4 +1,4 @@
-use Rattle.std.proofs.Common.{◌≡◌, ◌≤◌, ℕ, List, length, ap, sym, ◌∙◌, subst, true≢false}
+use Rattle.std.proofs.Common.{◌≤◌, List, length, sym, ◌∙◌, subst, true≢false}
 use Rattle.av_net.specs.declared.netlist.Port.{Port}
 use Rattle.av_wave.specs.inner.Parts.{Part}
 use Rattle.av_wave.specs.inner.Stages.{Says}

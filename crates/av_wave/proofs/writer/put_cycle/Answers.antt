@@ -1,4 +1,4 @@
-use Rattle.std.proofs.Common.{◌≡◌, ◌<◌, ℕ, List, length, ap, sym, ◌∙◌, subst, arith}
+use Rattle.std.proofs.Common.{◌≡◌, ℕ, List, length, ap, arith}
 use Rattle.av_net.specs.declared.netlist.Port.{Port}
 use Rattle.av_page.proofs.Putting.{Puts-none, Puts-more, Puts-is}
 use Rattle.av_wave.specs.Dumps.{joined}

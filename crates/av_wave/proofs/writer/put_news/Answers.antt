@@ -1,4 +1,4 @@
-use Rattle.std.proofs.Common.{sym, ap, ◌∙◌}
+use Rattle.std.proofs.Common.{sym, ◌∙◌}
 use Rattle.av_page.proofs.Putting.{Puts-none, Puts-is}
 use Rattle.av_wave.specs.Dumps.{change_line}
 use Rattle.av_wave.proofs.News.{if_news, if_no_news}

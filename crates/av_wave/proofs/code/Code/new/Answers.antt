@@ -1,5 +1,5 @@
-use Rattle.std.proofs.Common.{arith, ◌≡◌, ◌+◌, ◌%◌, subst}
-use Rattle.av_wave.proofs.Codes.{Writes, writes_more, written}
+use Rattle.std.proofs.Common.{arith}
+use Rattle.av_wave.proofs.Codes.{writes_more, written}
 use Rattle.av_wave.proofs.code.Code.new.Goals as goal
 
 pub loop-left-preserved : goal.loop-left-preserved

@@ -1,4 +1,4 @@
-use Rattle.std.proofs.Common.{◌≡◌, ◌<◌, ◌≤◌, ℕ, length, refl, sym, ap, ◌∙◌, arith, subst}
+use Rattle.std.proofs.Common.{◌≡◌, ◌<◌, length, refl, sym, ap, arith, subst}
 use Rattle.av_wave.specs.inner.Parts.{Part, IsNext, FitsPort}
 use Rattle.av_wave.proofs.Kept.{port_within, kept_told}
 use Rattle.av_wave.proofs.recorder.Recorder.change.Goals as goal

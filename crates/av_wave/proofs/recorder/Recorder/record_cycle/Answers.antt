@@ -1,4 +1,4 @@
-use Rattle.std.proofs.Common.{◌≡◌, ℕ, length, refl, arith}
+use Rattle.std.proofs.Common.{◌≡◌, length, refl, arith}
 use Rattle.av_wave.proofs.Telling.{none_told, tell_more, tell_room, tell_first, tell_fits, told_ends, told_records}
 use Rattle.av_wave.proofs.recorder.Recorder.record_cycle.Goals as goal
 
