@@ -11,12 +11,13 @@ ghost use Rattle.av_clock.specs.Marked.{IsClear, AreHeld, touched};
 ghost use Rattle.av_clock.specs.inner.Marking.{IsSet, ReadTheSame, AreAhead, AreTouched, AreDue};
 ghost use Rattle.av_clock.specs.inner.Passes.{IsFinal, IsKnown, IsCovered, AreFinalAt, AreSources, ArePasses, resolved};
 ghost use Rattle.av_clock.specs.inner.Readers.{IsOther};
+ghost use Rattle.av_clock.specs.inner.Merged.{merged as merged_module, IsMerging};
 
-use crate::gate::{Assignment, FlipFlop};
+use crate::merged::Merged;
 use crate::marks::{Marks, set_all};
 use crate::passes::Passes;
 use crate::readers::{drives_reading, steps_reading};
-use crate::resolver::{Resolver, size_of_module};
+use crate::resolver::size_of_module;
 use av_base::{List, Memory};
 use av_net::Module;
 use std::alloc::Global;
@@ -27,8 +28,7 @@ use std::marker::Model;
 #[derive(Drop)]
 pub(crate) struct Circuit<'a> {
     of: &'a Module,
-    assignments: Vec<Assignment>,
-    flip_flops: Vec<FlipFlop>,
+    merged: Merged,
     drives_reading: Vec<List<usize>>,
     steps_reading: Vec<List<usize>>,
 }
@@ -40,7 +40,9 @@ impl<'a> Model for Circuit<'a> {
 
     ghost use Rattle.av_clock.specs.inner.Circuit.{IsCircuit};
 
-    ghost view = { λ c. c.of.now };
+    ghost use Rattle.av_clock.specs.inner.Merged.{merged};
+
+    ghost view = { λ c. merged c.of.now c.merged.sources.items };
 
     ghost invariant = { IsCircuit };
 }
@@ -48,20 +50,16 @@ impl<'a> Model for Circuit<'a> {
 impl<'a> Circuit<'a> {
     ghost use Rattle.av_clock.specs.inner.Gates.{AreTaken, FitRegisters};
 
-    /// The circuit of a sound module, with its names resolved.
-    pub(crate) fn new(alloc: Global, of: &'a Module) -> Result<Circuit<'a>, Memory>
-        requires { IsSound of.now }
-        ensures { IfOk result (λ circuit. circuit ≡ of.now) }
+    /// The circuit of a sound module's merged drives and steps.
+    pub(crate) fn new(alloc: Global, of: &'a Module, merged: Merged) -> Result<Circuit<'a>, Memory>
+        requires { IsMerging of.now merged }
+        ensures { IfOk result (λ circuit. circuit ≡ merged_module of.now merged.sources.items) }
     {
-        let resolver = Resolver::new(alloc, of)?;
-        let assignments = resolver.assignments(alloc)?;
-        let flip_flops = resolver.flip_flops(alloc)?;
-        let drives_reading = drives_reading(alloc, of, &assignments)?;
-        let steps_reading = steps_reading(alloc, of, &flip_flops)?;
+        let drives_reading = drives_reading(alloc, of, &merged.assignments)?;
+        let steps_reading = steps_reading(alloc, of, &merged.flip_flops)?;
         Ok(Circuit {
             of,
-            assignments,
-            flip_flops,
+            merged,
             drives_reading,
             steps_reading,
         })
@@ -71,7 +69,7 @@ impl<'a> Circuit<'a> {
     pub(crate) fn passes(&self, alloc: Global) -> Result<Passes, Memory>
         ensures { IfOk result (λ passes. ArePasses self.now passes) }
     {
-        Passes::new(alloc, self.of, &self.assignments, &self.flip_flops)
+        Passes::new(alloc, self.of, &self.merged.assignments, &self.merged.flip_flops)
     }
 
     /// The number of words.
@@ -85,14 +83,14 @@ impl<'a> Circuit<'a> {
     pub(crate) fn drives(&self) -> usize
         ensures { result ≡ length self.now.drives }
     {
-        self.assignments.len()
+        self.merged.assignments.len()
     }
 
     /// The number of flip-flops.
     pub(crate) fn steps(&self) -> usize
         ensures { result ≡ length self.now.steps }
     {
-        self.flip_flops.len()
+        self.merged.flip_flops.len()
     }
 
     /// The place of what a drive drives.
@@ -100,7 +98,7 @@ impl<'a> Circuit<'a> {
         requires { drive < length self.now.drives }
         ensures { (d : _) → slice_get (all_names self.now) result ≡ Some (slice_index_or self.now.drives drive d).target }
     {
-        self.assignments[drive].target
+        self.merged.assignments[drive].target
     }
 
     /// All drives but the copies that are left out: each place has its word at its source.
@@ -209,7 +207,7 @@ impl<'a> Circuit<'a> {
         ensures touched { AreTouched self.now words.old words.new stale.old stale.new }
         ensures others { (d : _) (name : Items ℕ) → name ≢ (slice_index_or self.now.drives drive d).target → named self.now words.new name ≡ named self.now words.old name }
     {
-        let assignment = &self.assignments[drive];
+        let assignment = &self.merged.assignments[drive];
         let word = assignment.gate.word(words);
         stale.clear(drive);
         self.write(assignment.target, word, words, stale, due);
@@ -239,7 +237,7 @@ impl<'a> Circuit<'a> {
     {
         let mut computed = 0;
         let mut drive = stale.next(0);
-        while drive < self.assignments.len() {
+        while drive < self.merged.assignments.len() {
             self.compute(drive, words, stale, due);
             computed += 1;
             drive = stale.next(drive + 1);
@@ -323,10 +321,10 @@ impl<'a> Circuit<'a> {
     {
         let mut count = 0;
         let mut step = due.next(0);
-        while step < self.flip_flops.len() {
+        while step < self.merged.flip_flops.len() {
             due.clear(step);
             taken[count] = step;
-            next[count] = self.flip_flops[step].next.word(words);
+            next[count] = self.merged.flip_flops[step].next.word(words);
             count += 1;
             step = due.next(step + 1);
         }
@@ -361,7 +359,7 @@ impl<'a> Circuit<'a> {
         ensures others { (name : Items ℕ) → (Contains (registers_of self.now.steps) name → ⊥) → named self.now words.new name ≡ named self.now words.old name }
     {
         for i in 0..count {
-            let register = self.flip_flops[taken[i]].register;
+            let register = self.merged.flip_flops[taken[i]].register;
             self.write(register, next[i], words, stale, due);
         }
     }
@@ -440,7 +438,7 @@ impl<'a> Circuit<'a> {
         requires next { length next.now ≡ length self.now.steps }
     {
         let mut changed = 0;
-        for (i, flip_flop) in self.flip_flops.iter().enumerate() {
+        for (i, flip_flop) in self.merged.flip_flops.iter().enumerate() {
             if next[i] != words[flip_flop.register] {
                 changed += 1;
             }
@@ -455,7 +453,7 @@ impl<'a> Circuit<'a> {
         ensures steps { (j : ℕ) → j < length self.now.steps → slice_index taken.new j ≡ j }
         ensures words { (old : Words) → AreTaken self.now true old (length self.now.steps) next.new }
     {
-        for (i, flip_flop) in self.flip_flops.iter().enumerate() {
+        for (i, flip_flop) in self.merged.flip_flops.iter().enumerate() {
             next[i] = flip_flop.reset;
             taken[i] = i;
         }
@@ -472,7 +470,7 @@ impl<'a> Circuit<'a> {
         ensures ports { Agree (names_of self.now.inputs) (named self.now words.old) (named self.now words.new) }
         ensures fit { AllFit self.now words.new }
     {
-        for (i, flip_flop) in self.flip_flops.iter().enumerate() {
+        for (i, flip_flop) in self.merged.flip_flops.iter().enumerate() {
             words[flip_flop.register] = next[i];
         }
     }

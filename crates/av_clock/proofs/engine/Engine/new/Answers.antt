@@ -3,7 +3,7 @@ use Rattle.std.proofs.lemmas.List.{length-replicate}
 use Rattle.av_net.specs.Sound.{IsSound}
 use Rattle.av_clock.specs.Named.{AllFit}
 use Rattle.av_clock.proofs.Views.{zeros_fit}
-use Rattle.av_clock.proofs.clock.Clock.new.Goals as goal
+use Rattle.av_clock.proofs.engine.Engine.new.Goals as goal
 
 pub invariant_of-result : goal.invariant_of-result
 invariant_of-result c =

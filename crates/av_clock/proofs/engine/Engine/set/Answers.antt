@@ -1,6 +1,6 @@
 use Rattle.std.proofs.Common.{◌≡◌, false, true, ◌∙◌}
 use Rattle.av_clock.proofs.Views.{shown_size, shown_call, set_call, set_port_call, set_others_call, set_fits_call, set_held_call, size_call, port_seen, fits_seen}
-use Rattle.av_clock.proofs.clock.Clock.set.Goals as goal
+use Rattle.av_clock.proofs.engine.Engine.set.Goals as goal
 
 pub returns-clause-words : goal.returns-clause-words
 returns-clause-words c =

@@ -1,7 +1,7 @@
 use Rattle.std.proofs.Common.{◌∙◌, ap}
 use Rattle.av_clock.specs.Seen.{Seen}
 use Rattle.av_clock.proofs.Views.{ports_call, next_call, tick_call}
-use Rattle.av_clock.proofs.clock.Clock.tick_all.Goals as goal
+use Rattle.av_clock.proofs.engine.Engine.tick_all.Goals as goal
 
 pub store-requires-clause-fitting : goal.store-requires-clause-fitting
 store-requires-clause-fitting c =

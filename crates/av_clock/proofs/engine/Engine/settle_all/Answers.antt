@@ -1,7 +1,7 @@
 use Rattle.std.proofs.Common.{◌≡◌, ◌∙◌, ap, sym, subst, ℕ, ◌+◌, ◌≤◌, length, false, true}
 use Rattle.av_clock.specs.Seen.{Seen}
 use Rattle.av_clock.proofs.Views.{final_call, given_call, size_call, fit_call, first_count, all_computed, all_count}
-use Rattle.av_clock.proofs.clock.Clock.settle_all.Goals as goal
+use Rattle.av_clock.proofs.engine.Engine.settle_all.Goals as goal
 
 pub returns-clause-settled : goal.returns-clause-settled
 returns-clause-settled c = (final_call c.self.inside.circuit c.self.inside.words c.self.inside.passes.sources.items _ c.settle.new.words c.settle.auto.words c.deref_mut.ensures.value c.settle.ensures.settled).settled

@@ -6,7 +6,7 @@ use Rattle.av_clock.specs.Seen.{Seen, carried}
 use Rattle.av_clock.specs.inner.Passes.{IsFinal}
 use Rattle.av_clock.specs.Marked.{IsClear, touched}
 use Rattle.av_clock.proofs.Views.{agree_call, settled_call, size_call, fit_call, held_lent, held_call, first_none, first_empty, own_marks, all_marked, few_computed, touched_call, plain_view, plain_to}
-use Rattle.av_clock.proofs.clock.Clock.settle.Goals as goal
+use Rattle.av_clock.proofs.engine.Engine.settle.Goals as goal
 
 pub settle_marked-computed-requires-clause-held : goal.settle_marked-computed-requires-clause-held
 settle_marked-computed-requires-clause-held c = held_lent c.self.inside.circuit c.self.inside.words _ c.self.inside.stale c.self.inside.due c.deref_mut.ensures.value (c.self.invariant.held c.if-self.false)

@@ -1,7 +1,7 @@
 use Rattle.std.proofs.Common.{◌∙◌, ap}
 use Rattle.av_clock.specs.Seen.{Seen}
 use Rattle.av_clock.proofs.Views.{value_within, place_there, source_there, value_read, value_word, value_fits, value_settled, drive_seen}
-use Rattle.av_clock.proofs.clock.Clock.value.Goals as goal
+use Rattle.av_clock.proofs.engine.Engine.value.Goals as goal
 
 pub index-requires : goal.index-requires
 index-requires c =

@@ -1,6 +1,6 @@
 use Rattle.std.proofs.Common.{◌≡◌, ◌∙◌, true, false}
 use Rattle.av_clock.proofs.Views.{ports_call, reset_call, size_call, fit_call, held_lent, held_call}
-use Rattle.av_clock.proofs.clock.Clock.reset.Goals as goal
+use Rattle.av_clock.proofs.engine.Engine.reset.Goals as goal
 
 pub returns-clause-edge : goal.returns-clause-edge
 returns-clause-edge c =

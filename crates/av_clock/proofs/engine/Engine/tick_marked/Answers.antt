@@ -4,7 +4,7 @@ use Rattle.av_clock.specs.Named.{AllFit}
 use Rattle.av_clock.specs.Seen.{Seen}
 use Rattle.av_clock.specs.inner.Passes.{IsFinal}
 use Rattle.av_clock.proofs.Views.{agree_call, edge_seen, size_call, fit_call, held_lent, held_call, anew_held, anew_size, lent_final, lent_plain, copies_call, written_view, written_held}
-use Rattle.av_clock.proofs.clock.Clock.tick_marked.Goals as goal
+use Rattle.av_clock.proofs.engine.Engine.tick_marked.Goals as goal
 
 pub write_copies-requires-clause-settled : goal.write_copies-requires-clause-settled
 write_copies-requires-clause-settled c =

@@ -1,5 +1,5 @@
 use Rattle.av_clock.proofs.Views.{unmarked_hold}
-use Rattle.av_clock.proofs.clock.Clock.unmarked_drives_hold.Goals as goal
+use Rattle.av_clock.proofs.engine.Engine.unmarked_drives_hold.Goals as goal
 
 pub returns : goal.returns
 returns c =
