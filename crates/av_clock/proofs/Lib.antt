@@ -14,3 +14,4 @@ pub mod Touched
 pub mod Rooted
 pub mod Final
 pub mod Sources
+pub mod Merged
