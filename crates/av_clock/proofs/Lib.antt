@@ -12,3 +12,6 @@ pub mod Taking
 pub mod Extended
 pub mod Touched
 pub mod Rooted
+pub mod Final
+pub mod Sources
+pub mod Merged

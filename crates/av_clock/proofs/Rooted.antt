@@ -1,14 +1,13 @@
--- Drives in two passes, over words by place.
+-- Drives in passes as they are made, over words by place.
 use Rattle.std.proofs.Common.{◌≡◌, ◌≢◌, ◌⊎◌, ℕ, ◌+◌, ◌<◌, ◌≤◌, List, [], ◌∷◌, ◌++◌, map, length, get_or, set, take, slice_get, Some, refl, sym, ◌∙◌, ap, subst, arith, inl, inr, add-one, take-suc, append_assoc, length-append}
 use Rattle.std.specs.Prelude.{Contains}
 use Rattle.std.proofs.Math.ListN.{get_or-append, length-set}
 use Rattle.std.proofs.lemmas.Bool.{cases_eq, cases_lt}
-use Rattle.std.proofs.lemmas.List.{get_or-map, length-map, get_or_default, get_or-set_same, get_or-set_other, get_or_push, map-append, take-append-le, take_all, append-nil, ext_get_or}
+use Rattle.std.proofs.lemmas.List.{get_or-map, length-map, get_or_default, get_or-set_same, get_or-set_other, get_or_push, map-append, take-append-le, take_all, append-nil}
 use Rattle.std.proofs.lemmas.List.Elements.{All-contains, All-weaker, All-contains_itself, Contains-push, Contains-push_cases, Contains-append_left, Contains-append_cases}
 use Rattle.std.proofs.lemmas.Option.{slice_get-get_or, slice_get_within, get_or_from_slice_get}
 use Rattle.av_base.specs.Words.{IsWord}
 use Rattle.av_base.specs.declared.width.Width.{Width}
-use Rattle.av_base.proofs.Among.{none_among}
 use Rattle.av_net.specs.declared.operation.Operand.{Operand}
 use Rattle.av_net.specs.declared.operation.Operand.TheVariants.{Name, Literal}
 use Rattle.av_net.specs.declared.operation.Operation.{Operation}
@@ -17,7 +16,7 @@ use Rattle.av_net.specs.declared.netlist.Drive.{Drive}
 use Rattle.av_net.specs.declared.netlist.Module.{Module}
 use Rattle.av_net.specs.Meaning.{Words, Widths, EachOperand}
 use Rattle.av_net.specs.Names.{IsAmong, given_names, wire_names, all_names, targets_of, width_of}
-use Rattle.av_net.specs.Settled.{Settled, Agree, Holds, FitAt}
+use Rattle.av_net.specs.Settled.{Agree, Holds, FitAt}
 use Rattle.av_net.specs.Sound.{IsSound}
 use Rattle.av_net.proofs.Fits.{settled_fit}
 use Rattle.av_net.proofs.Once.{agree_by, same_result}
@@ -31,7 +30,8 @@ use Rattle.av_clock.specs.declared.passes.Alias.{Alias}
 use Rattle.av_clock.specs.declared.passes.Fixed.{Fixed}
 use Rattle.av_clock.specs.Named.{named, AllFit}
 use Rattle.av_clock.specs.inner.Gates.{reading_word, IsWithin, EachReading, Takes, CanTake, gate_word, IsRead, IsResolved, AreAssigned}
-use Rattle.av_clock.specs.inner.Passes.{IsRoot, IsRooted, IsFinal, IsKnown, IsKnownReading, IsComputed, IsCopied, IsAliased, IsFixed, ArePasses}
+use Rattle.av_clock.specs.inner.Passes.{IsRoot, IsRooted, IsFinal, StartsAs, IsKnown, IsKnownReading, IsComputed, IsCopied, IsCovered, AreInPasses}
+use Rattle.av_clock.proofs.Held.{given_apart}
 use Rattle.av_clock.proofs.Lookup.{look_at}
 use Rattle.av_clock.proofs.Reading.{one_place, in_order_at}
 use Rattle.av_clock.proofs.Resolved.{at_item, target_declared}
@@ -61,7 +61,7 @@ each_root roots P Q (Extender input width by) (Extender input' width' by') one e
 each_root roots P Q gate gate' one each is = absurd is
 
 -- what holds of each reading, and so what is weaker
-each_weaker : (P Q : Reading → Type 0) (gate : Gate) → ((reading : Reading) → P reading → Q reading) → EachReading P gate → EachReading Q gate
+pub each_weaker : (P Q : Reading → Type 0) (gate : Gate) → ((reading : Reading) → P reading → Q reading) → EachReading P gate → EachReading Q gate
 each_weaker P Q (Buffer input) one each = one input each
 each_weaker P Q (Operator left symbol right width) one each = (one left each.0, one right each.1)
 each_weaker P Q (Comparator left symbol right width) one each = (one left each.0, one right each.1)
@@ -131,10 +131,10 @@ rooted_takes words roots gate gate' are within is takes = absurd is
 
 -- ---- gates that read the same words
 
-abbrev ReadsSame : List ℕ → List ℕ → Reading → Type 0
+abbrev pub ReadsSame : List ℕ → List ℕ → Reading → Type 0
 ReadsSame words final reading = reading_word words reading ≡ reading_word final reading
 
-gate_same : (words final : List ℕ) (gate : Gate) → EachReading (ReadsSame words final) gate → gate_word words gate ≡ gate_word final gate
+pub gate_same : (words final : List ℕ) (gate : Gate) → EachReading (ReadsSame words final) gate → gate_word words gate ≡ gate_word final gate
 gate_same words final (Buffer input) same = same
 gate_same words final (Operator left symbol right width) same =
     let a : reading_word words left ≡ reading_word final left = same.0 in
@@ -155,7 +155,7 @@ gate_same words final (Extender input width by) same = let a : reading_word word
 same_takes : (words final : List ℕ) (bits : ℕ) (reading : Reading) → length words ≡ length final → ReadsSame words final reading → Takes final bits reading → Takes words bits reading
 same_takes words final bits reading long same takes = record { within = rw long takes.within; fits = rw same takes.fits }
 
-takes_same : (words final : List ℕ) (gate : Gate) → length words ≡ length final → EachReading (ReadsSame words final) gate → CanTake final gate → CanTake words gate
+pub takes_same : (words final : List ℕ) (gate : Gate) → length words ≡ length final → EachReading (ReadsSame words final) gate → CanTake final gate → CanTake words gate
 takes_same words final (Buffer input) long same takes = rw long takes
 takes_same words final (Operator left symbol right width) long same takes = (same_takes words final width.bits left long same.0 takes.0, same_takes words final width.bits right long same.1 takes.1)
 takes_same words final (Comparator left symbol right width) long same takes = (same_takes words final width.bits left long same.0 takes.0, same_takes words final width.bits right long same.1 takes.1)
@@ -164,10 +164,10 @@ takes_same words final (Slice input from width) long same takes = rw long takes
 takes_same words final (Extender input width by) long same takes = (same_takes words final width.bits input long same takes.0, takes.1)
 
 -- words that are final where they are known
-abbrev AreKnown : Module → List Assignment → List ℕ → List ℕ → Type 0
+abbrev pub AreKnown : Module → List Assignment → List ℕ → List ℕ → Type 0
 AreKnown m computed words final = (place : ℕ) → IsKnown m computed place → get_or words place 0 ≡ get_or final place 0
 
-known_same : (m : Module) (computed : List Assignment) (words final : List ℕ) → AreKnown m computed words final → (reading : Reading) → IsKnownReading m computed reading → ReadsSame words final reading
+pub known_same : (m : Module) (computed : List Assignment) (words final : List ℕ) → AreKnown m computed words final → (reading : Reading) → IsKnownReading m computed reading → ReadsSame words final reading
 known_same m computed words final same (At place) known = same place known
 known_same m computed words final same (Constant word) known = refl
 
@@ -227,10 +227,7 @@ final_words m before sound fit =
       given = agree_by (given_names m) (named m before) (named m words) (λ name at. sym (same name (Contains-append_left (given_names m) (wire_names m) name at) ∙ as_given m sound (named m before) name at));
     }
 
--- the places of input ports and registers have the same words
-abbrev pub StartsAs : Module → List ℕ → List ℕ → Type 0
-StartsAs m before words = (place : ℕ) → place < length (given_names m) → get_or before place 0 ≡ get_or words place 0
-
+-- where input ports and registers have the same words, so have their places
 pub starts_as : (m : Module) (before words : List ℕ) → IsSound m → length before ≡ length (all_names m) → length words ≡ length (all_names m) → Agree (given_names m) (named m before) (named m words) → StartsAs m before words
 starts_as m before words sound long long' agree place lt =
     let name = get_or (given_names m) place [] in
@@ -259,10 +256,6 @@ AreAliases m gates aliases = (k : ℕ) (d : Alias) → k < length aliases → Is
 
 abbrev AreFixed : Module → List Assignment → List Fixed → Type 0
 AreFixed m gates fixeds = (k : ℕ) (d : Fixed) → k < length fixeds → IsCopied m gates (get_or fixeds k d).target (Constant (get_or fixeds k d).word)
-
--- the passes give the place its word
-abbrev pub IsCovered : Module → List Assignment → List Alias → List Fixed → ℕ → Type 0
-IsCovered m gates aliases fixeds place = IsKnown m gates place ⊎ (IsAliased aliases place ⊎ IsFixed fixeds place)
 
 -- after the first n drives
 pub record SoFar (m : Module) (n : ℕ) (roots : List Reading) (gates : List Assignment) (aliases : List Alias) (fixeds : List Fixed) : Type 0 where
@@ -310,6 +303,7 @@ none_yet m roots gates aliases fixeds count sound is size own none none' none'' 
 -- a gate that reads the roots of a drive's readings
 pub record IsTurn (m : Module) (computed : List Assignment) (place : ℕ) (gate : Gate) : Type 0 where
   pub target : place < length (all_names m)
+  pub wire : length (given_names m) ≤ place
   pub reads : EachReading (IsKnownReading m computed) gate
   pub within : EachReading (IsWithin (length (all_names m))) gate
   pub takes : (words : List ℕ) → IsFinal m words → CanTake words gate
@@ -322,6 +316,10 @@ pub is_turn : (m : Module) (n : ℕ) (roots : List Reading) (computed : List Ass
     → IsTurn m computed assignment.target gate
 is_turn m n roots computed copied fixeds assignment gate sound for rooted so_far = record {
   target = slice_get_within (all_names m) assignment.target for.drive.target for.assigned.target;
+  wire = elim (cases_lt assignment.target (length (given_names m))) [
+    | inl lt ↦ absurd (given_apart m n for.drive for.drive.target sound for.within (assignment.target, lt, at_target lt) (ap (λ (drive : Drive). drive.target) (sym for.at)))
+    | inr past ↦ past
+  ];
   reads = each_root roots (HasKnownRoot m computed roots) (IsKnownReading m computed) assignment.gate gate (λ reading root has is. has root is)
       (each_reading (width_of m) (all_names m) (IsAmong (known_names m n)) (HasKnownRoot m computed roots) for.drive.operation assignment.gate known
       (in_order_at (given_names m) m.drives n for.drive sound.in_order for.within for.at) for.assigned.gate) rooted;
@@ -335,6 +333,11 @@ is_turn m n roots computed copied fixeds assignment gate sound for rooted so_far
       ∙ look_at (all_names m) words assignment.target for.drive.target (names_distinct m sound) final.size for.assigned.target;
 }
   where
+    at_target : assignment.target < length (given_names m) → get_or (given_names m) assignment.target for.drive.target ≡ for.drive.target
+    at_target lt =
+        sym (get_or-append (given_names m) (wire_names m) for.drive.target assignment.target lt)
+        ∙ get_or_from_slice_get (all_names m) assignment.target for.drive.target for.drive.target for.assigned.target
+
     known : (operand : Operand) (reading : Reading) → IsAmong (known_names m n) operand → IsRead (all_names m) operand reading → HasKnownRoot m computed roots reading
     known (Name name) (At place) among at root is = so_far.known place name root at among is
     known (Literal width value) (Constant word) among at root is = subst (IsKnownReading m computed) (sym is) tt
@@ -431,6 +434,7 @@ each_push P xs x each last k d lt = elim (cases_lt k (length xs)) [
 copied_weaker : (m : Module) (computed computed' : List Assignment) (target : ℕ) (root : Reading) → ((place : ℕ) → IsKnown m computed place → IsKnown m computed' place) → IsCopied m computed target root → IsCopied m computed' target root
 copied_weaker m computed computed' target root grown before = record {
   target = before.target;
+  wire = before.wire;
   reads = known_weaker m computed computed' grown root before.reads;
   within = before.within;
   gives = before.gives;
@@ -467,7 +471,7 @@ computed_more m n roots computed copied fixeds assignment rooted sound for same 
 turn_copies : (m : Module) (computed : List Assignment) (target : ℕ) (root : Reading) (gate : Gate) → gate ≡ Buffer root → IsTurn m computed target gate → IsCopied m computed target root
 turn_copies m computed target root gate is turn =
     let turn' : IsTurn m computed target (Buffer root) = subst (IsTurn m computed target) is turn in
-    record { target = turn'.target; reads = turn'.reads; within = turn'.within; gives = turn'.gives }
+    record { target = turn'.target; wire = turn'.wire; reads = turn'.reads; within = turn'.within; gives = turn'.gives }
 
 -- a drive that copies
 pub copied_more : (m : Module) (n : ℕ) (roots : List Reading) (computed : List Assignment) (copied : List Alias) (fixeds : List Fixed) (assignment : Assignment) (source : ℕ) (gate : Gate) (alias : Alias) → IsSound m → IsFor m n assignment → gate ≡ Buffer (At source)
@@ -519,13 +523,16 @@ pub fixed_turn : (m : Module) (n : ℕ) (roots : List Reading) (gates gates' : L
 fixed_turn m n roots gates gates' aliases aliases' fixeds fixeds' assignment word root gate sound for is turn own same same' pushed so_far =
     rw (own, same, same', pushed) (fixed_more m n roots gates aliases fixeds assignment word gate (record { target = assignment.target; word = word }) sound for is refl turn so_far)
 
+-- all drives in passes, every copy among them
+pub record AreAll (m : Module) (gates : List Assignment) (aliases : List Alias) (fixeds : List Fixed) : Type 0 where
+  pub each : AreInPasses m gates aliases fixeds
+  pub all : (place : ℕ) → place < length (all_names m) → IsCovered m gates aliases fixeds place
+
 -- after the last drive
 pub all_passes : (m : Module) (n : ℕ) (assignments : List Assignment) (roots : List Reading) (computed : List Assignment) (copied : List Alias) (fixeds : List Fixed) → IsSound m → AreAssigned m (length m.drives) assignments → length assignments ≤ n → SoFar m n roots computed copied fixeds
-    → ArePasses m computed copied fixeds
+    → AreAll m computed copied fixeds
 all_passes m n assignments roots computed copied fixeds sound are past so_far = record {
-  computed = so_far.computed;
-  copied = so_far.copied;
-  fixed = so_far.fixed;
+  each = record { computed = so_far.computed; copied = so_far.copied; fixed = so_far.fixed };
   all = λ place lt.
       let count : length assignments ≡ length m.drives = are.count in
       let name = get_or (all_names m) place [] in
@@ -533,191 +540,3 @@ all_passes m n assignments roots computed copied fixeds sound are past so_far = 
       let known : Contains (known_names m n) name = rw whole (given_or_driven m sound name (place, lt, get_or_default (all_names m) place name [] lt)) in
       so_far.all place name (slice_get-get_or (all_names m) place [] lt) known;
 }
-
--- ---- the passes
-
--- an element of a list as it was read
-pub item_at : {X : Type 0} (items xs : List X) (k : ℕ) (x : X) → items ≡ xs → k < length items → x ≡ get_or items k x → (k < length xs) × (x ≡ get_or xs k x)
-item_at items xs k x same lt at = (rw same at lt, rw same at at)
-
--- what the first of the computed drives give is final
-pub record Computes (m : Module) (before words : List ℕ) (computed : List Assignment) (k : ℕ) : Type 0 where
-  pub each : (final : List ℕ) → IsFinal m final → StartsAs m before final → AreKnown m (take k computed) words final
-
--- and what the first of the copied ones and of the fixed ones give, after all computed ones
-pub record Copies (m : Module) (before words : List ℕ) (aliases : List Alias) (fixeds : List Fixed) (k j : ℕ) : Type 0 where
-  pub gates : List Assignment
-  pub passes : ArePasses m gates aliases fixeds
-  pub each : (final : List ℕ) → IsFinal m final → StartsAs m before final → (place : ℕ) → IsCovered m gates (take k aliases) (take j fixeds) place → get_or words place 0 ≡ get_or final place 0
-
-pub computes_none : (m : Module) (words : List ℕ) (computed : List Assignment) → Computes m words words computed 0
-computes_none m words computed = record {
-  each = λ final is starts place known. elim known [
-    | inl given ↦ starts place given
-    | inr there ↦ absurd (none_among place there)
-  ];
-}
-
--- a gate can take the words
-pub computed_takes : (m : Module) (before words : List ℕ) (computed : List Assignment) (copied : List Alias) (fixeds : List Fixed) (k : ℕ) (assignment : Assignment) → IsSound m → AllFit m before → length before ≡ length (all_names m) → length words ≡ length (all_names m)
-    → ArePasses m computed copied fixeds → k < length computed → assignment ≡ get_or computed k assignment → Computes m before words computed k → CanTake words assignment.gate
-computed_takes m before words computed copied fixeds k assignment sound fit long long' passes lt at so_far =
-    let has = final_words m before sound fit in
-    let this : IsComputed m (take k computed) assignment = subst (IsComputed m (take k computed)) (sym at) (passes.computed k assignment lt) in
-    let same = so_far.each has.words has.final (starts_as m before has.words sound long has.final.size has.given) in
-    takes_same words has.words assignment.gate (long' ∙ sym has.final.size)
-    (each_weaker (IsKnownReading m (take k computed)) (ReadsSame words has.words) assignment.gate (known_same m (take k computed) words has.words same) this.reads) (this.takes has.words has.final)
-
--- its target is there
-pub computed_within : (m : Module) (words : List ℕ) (computed : List Assignment) (copied : List Alias) (fixeds : List Fixed) (k : ℕ) (assignment : Assignment) → length words ≡ length (all_names m) → ArePasses m computed copied fixeds → k < length computed → assignment ≡ get_or computed k assignment
-    → assignment.target < length words
-computed_within m words computed copied fixeds k assignment long passes lt at = rw (long, at) (passes.computed k assignment lt).target
-
--- one more computed word
-pub computes_more : (m : Module) (before words : List ℕ) (computed : List Assignment) (copied : List Alias) (fixeds : List Fixed) (k : ℕ) (assignment : Assignment) (word : ℕ) → length words ≡ length (all_names m) → ArePasses m computed copied fixeds → k < length computed → assignment ≡ get_or computed k assignment
-    → word ≡ gate_word words assignment.gate → Computes m before words computed k → Computes m before (set words assignment.target word) computed (k + 1)
-computes_more m before words computed copied fixeds k assignment word long passes lt at given so_far = record {
-  each = λ final is starts place known.
-      let same = so_far.each final is starts in
-      let here : word ≡ get_or final assignment.target 0 =
-      given ∙ gate_same words final assignment.gate (each_weaker (IsKnownReading m (take k computed)) (ReadsSame words final) assignment.gate (known_same m (take k computed) words final same) this.reads) ∙ this.gives final is in
-      elim (cases_eq place assignment.target) [
-        | inl e ↦ rw e (get_or-set_same words assignment.target word 0 (computed_within m words computed copied fixeds k assignment long passes lt at) ∙ here)
-        | inr ne ↦ get_or-set_other words assignment.target place word 0 ne ∙ same place (elim known [
-          | inl first ↦ inl first
-          | inr there ↦ elim (Contains-push_cases (computed_targets (take k computed)) assignment.target place (subst (λ targets. Contains targets place) longer there)) [
-            | inl before ↦ inr before
-            | inr e ↦ absurd (ne (sym e))
-          ]
-        ])
-      ];
-}
-  where
-    this : IsComputed m (take k computed) assignment
-    this = subst (IsComputed m (take k computed)) (sym at) (passes.computed k assignment lt)
-
-    longer : computed_targets (take (k + 1) computed) ≡ computed_targets (take k computed) ++ assignment.target ∷ []
-    longer = rw (add-one, take-suc computed k assignment lt, sym at, map-append) refl
-
--- after all of them
-pub copies_none : (m : Module) (before words : List ℕ) (computed : List Assignment) (copied : List Alias) (fixeds : List Fixed) (k : ℕ) → ArePasses m computed copied fixeds → length computed ≤ k → Computes m before words computed k → Copies m before words copied fixeds 0 0
-copies_none m before words computed copied fixeds k passes past so_far = record {
-  gates = computed;
-  passes = passes;
-  each = λ final is starts place known. elim known [
-    | inl known ↦ so_far.each final is starts place (rw (take_all k computed past) known)
-    | inr (inl there) ↦ absurd (none_among place there)
-    | inr (inr there) ↦ absurd (none_among place there)
-  ];
-}
-
--- what a copy reads, and its target, are there
-pub copied_within : (m : Module) (before words : List ℕ) (copied : List Alias) (fixeds : List Fixed) (k : ℕ) (alias : Alias) → length words ≡ length (all_names m) → k < length copied → alias ≡ get_or copied k alias → Copies m before words copied fixeds k 0
-    → (alias.source < length words) × (alias.target < length words)
-copied_within m before words copied fixeds k alias long lt at so_far =
-    let this : IsCopied m so_far.gates alias.target (At alias.source) = subst (λ (a : Alias). IsCopied m so_far.gates a.target (At a.source)) (sym at) (so_far.passes.copied k alias lt) in
-    (rw long this.within, rw long this.target)
-
--- one more copied word
-pub copies_more : (m : Module) (before words : List ℕ) (copied : List Alias) (fixeds : List Fixed) (k : ℕ) (alias : Alias) → length words ≡ length (all_names m) → k < length copied → alias ≡ get_or copied k alias
-    → Copies m before words copied fixeds k 0 → Copies m before (set words alias.target (get_or words alias.source 0)) copied fixeds (k + 1) 0
-copies_more m before words copied fixeds k alias long lt at so_far = record {
-  gates = so_far.gates;
-  passes = so_far.passes;
-  each = λ final is starts place known.
-      let same = so_far.each final is starts in
-      let here : get_or words alias.source 0 ≡ get_or final alias.target 0 = known_same m so_far.gates words final (λ place known. same place (inl known)) (At alias.source) this.reads ∙ this.gives final is in
-      elim (cases_eq place alias.target) [
-        | inl e ↦ rw e (get_or-set_same words alias.target (get_or words alias.source 0) 0 (copied_within m before words copied fixeds k alias long lt at so_far).1 ∙ here)
-        | inr ne ↦ get_or-set_other words alias.target place (get_or words alias.source 0) 0 ne ∙ same place (elim known [
-          | inl first ↦ inl first
-          | inr (inl there) ↦ elim (Contains-push_cases (copied_targets (take k copied)) alias.target place (subst (λ targets. Contains targets place) longer there)) [
-            | inl before ↦ inr (inl before)
-            | inr e ↦ absurd (ne (sym e))
-          ]
-          | inr (inr there) ↦ inr (inr there)
-        ])
-      ];
-}
-  where
-    this : IsCopied m so_far.gates alias.target (At alias.source)
-    this = subst (λ (a : Alias). IsCopied m so_far.gates a.target (At a.source)) (sym at) (so_far.passes.copied k alias lt)
-
-    longer : copied_targets (take (k + 1) copied) ≡ copied_targets (take k copied) ++ alias.target ∷ []
-    longer = rw (add-one, take-suc copied k alias lt, sym at, map-append) refl
-
--- after all copies, what the first of the fixed ones give
-pub record Fixes (m : Module) (before words : List ℕ) (fixeds : List Fixed) (j : ℕ) : Type 0 where
-  pub copied : List Alias
-  pub copies : Copies m before words copied fixeds (length copied) j
-
-pub fixes_none : (m : Module) (before words : List ℕ) (copied : List Alias) (fixeds fixeds' : List Fixed) (k : ℕ) → fixeds' ≡ fixeds → length copied ≤ k → Copies m before words copied fixeds k 0 → Fixes m before words fixeds' 0
-fixes_none m before words copied fixeds fixeds' k same past so_far = rw same (record {
-  copied = copied;
-  copies = record {
-    gates = so_far.gates;
-    passes = so_far.passes;
-    each = λ final is starts place known. so_far.each final is starts place (subst (λ (aliases : List Alias). IsCovered m so_far.gates aliases (take 0 fixeds) place) (take_all (length copied) copied (omega arith) ∙ sym (take_all k copied past)) known);
-  };
-})
-
--- the target of a constant is there
-pub fixed_within : (m : Module) (before words : List ℕ) (fixeds : List Fixed) (j : ℕ) (fixed : Fixed) → length words ≡ length (all_names m) → j < length fixeds → fixed ≡ get_or fixeds j fixed → Fixes m before words fixeds j → fixed.target < length words
-fixed_within m before words fixeds j fixed long lt at so_far =
-    let gates = so_far.copies.gates in
-    let this : IsCopied m gates fixed.target (Constant fixed.word) = subst (λ (f : Fixed). IsCopied m gates f.target (Constant f.word)) (sym at) (so_far.copies.passes.fixed j fixed lt) in
-    rw long this.target
-
--- one more constant
-pub fixes_more : (m : Module) (before words : List ℕ) (fixeds : List Fixed) (j : ℕ) (fixed : Fixed) → length words ≡ length (all_names m) → j < length fixeds → fixed ≡ get_or fixeds j fixed → Fixes m before words fixeds j
-    → Fixes m before (set words fixed.target fixed.word) fixeds (j + 1)
-fixes_more m before words fixeds j fixed long lt at so_far = record {
-  copied = so_far.copied;
-  copies = record {
-    gates = so_far.copies.gates;
-    passes = so_far.copies.passes;
-    each = λ final is starts place known.
-        elim (cases_eq place fixed.target) [
-          | inl e ↦ rw e (get_or-set_same words fixed.target fixed.word 0 (fixed_within m before words fixeds j fixed long lt at so_far) ∙ this.gives final is)
-          | inr ne ↦ get_or-set_other words fixed.target place fixed.word 0 ne ∙ so_far.copies.each final is starts place (elim known [
-            | inl first ↦ inl first
-            | inr (inl there) ↦ inr (inl there)
-            | inr (inr there) ↦ elim (Contains-push_cases (fixed_targets (take j fixeds)) fixed.target place (subst (λ targets. Contains targets place) longer there)) [
-              | inl before ↦ inr (inr before)
-              | inr e ↦ absurd (ne (sym e))
-            ]
-          ])
-        ];
-  };
-}
-  where
-    this : IsCopied m so_far.copies.gates fixed.target (Constant fixed.word)
-    this = subst (λ (f : Fixed). IsCopied m so_far.copies.gates f.target (Constant f.word)) (sym at) (so_far.copies.passes.fixed j fixed lt)
-
-    longer : fixed_targets (take (j + 1) fixeds) ≡ fixed_targets (take j fixeds) ++ fixed.target ∷ []
-    longer = rw (add-one, take-suc fixeds j fixed lt, sym at, map-append) refl
-
--- the value of a copy past the end of a list
-abbrev pub no_alias : Alias
-no_alias = record { target = 0; source = 0 }
-
--- and of a constant
-abbrev pub no_fixed : Fixed
-no_fixed = record { target = 0; word = 0 }
-
--- after all passes
-pub record HaveSettled (m : Module) (before words : List ℕ) : Type 0 where
-  pub settled : Settled m (named m words)
-  pub given : Agree (given_names m) (named m before) (named m words)
-  pub fit : AllFit m words
-
-pub have_settled : (m : Module) (before words : List ℕ) (fixeds : List Fixed) (j : ℕ) → IsSound m → AllFit m before → length before ≡ length (all_names m) → length words ≡ length (all_names m) → length fixeds ≤ j → Fixes m before words fixeds j → HaveSettled m before words
-have_settled m before words fixeds j sound fit long long' past so_far =
-    let has = final_words m before sound fit in
-    let copied = so_far.copied in
-    let gates = so_far.copies.gates in
-    let each = so_far.copies.each has.words has.final (starts_as m before has.words sound long has.final.size has.given) in
-    let covered : (place : ℕ) → place < length words → IsCovered m gates (take (length copied) copied) (take j fixeds) place =
-    λ place lt. rw (take_all (length copied) copied (omega arith), take_all j fixeds past) (so_far.copies.passes.all place (rw (sym long') lt)) in
-    let same : words ≡ has.words = ext_get_or 0 words has.words (long' ∙ sym has.final.size) (λ place lt. each place (covered place lt)) in
-    rw same (record { settled = has.final.settled; given = has.given; fit = has.final.fit })

@@ -1,33 +1,36 @@
 -- What a clock keeps.
-use Rattle.std.specs.Prelude.{◌≡◌, IsTrue, Bool, true, false, List, if◌then◌else◌, length, replicate}
-use Rattle.av_net.specs.Names.{all_names}
-use Rattle.av_net.specs.Settled.{Settled}
+use Rattle.std.specs.Prelude.{◌≡◌, ℕ, List, [], ◌∷◌, map, Bool, false, ◌||◌, if◌then◌else◌}
+use Rattle.std.specs.Str.{bytes_eq}
+use Rattle.av_net.specs.declared.netlist.Drive.{Drive}
+use Rattle.av_net.specs.declared.netlist.Module.{Module}
 use Rattle.av_net.specs.Sound.{IsSound}
 use Rattle.av_clock.specs.declared.clock.Clock.TheInside.{Inside}
-use Rattle.av_clock.specs.Named.{named, AllFit}
 use Rattle.av_clock.specs.Seen.{Seen}
-use Rattle.av_clock.specs.Marked.{AreHeld}
+use Rattle.av_clock.specs.inner.Passes.{resolved}
+use Rattle.av_clock.specs.inner.Merged.{merged, source_of, AreMerged}
 
--- all drives of a dense clock are marked
-abbrev pub marks_of : Inside → List Bool
-marks_of c = if c.dense then replicate (length c.circuit.drives) true else c.stale
+-- the mark of the drive of a name, clear where nothing drives it
+abbrev pub mark_of : List Drive → List Bool → List ℕ → Bool
+mark_of (drive ∷ drives) (mark ∷ marks) name = if bytes_eq drive.target name then mark else mark_of drives marks name
+mark_of _ _ name = false
 
+-- a drive is marked where it is, or the one that gives its target's word
+abbrev pub marks_of : Module → List ℕ → List Bool → List Drive → List Bool → List Bool
+marks_of m sources all (drive ∷ drives) (mark ∷ marks) = (mark || mark_of m.drives all (source_of m sources drive.target)) ∷ marks_of m sources all drives marks
+marks_of m sources all _ _ = []
+
+-- each place has the word of its source
 abbrev pub seen : Inside → Seen
-seen c = record { of = c.circuit; words = c.words.items; settled = c.settled; work = c.work; marked = marks_of c }
+seen c = record {
+  of = c.of.now;
+  words = resolved c.sources.items c.engine.words;
+  settled = c.engine.settled;
+  work = c.engine.work;
+  marked = marks_of c.of.now c.sources.items c.engine.marked c.of.now.drives c.engine.marked;
+}
 
--- a word for each name, within its width, settled where the clock says so, room for the next words and their steps, and a
--- mark for each drive and each step
+-- its engine clocks the merged module
 pub record IsKept (c : Inside) : Type 0 where
-  pub sound : IsSound c.circuit
-  pub size : length c.words.items ≡ length (all_names c.circuit)
-  pub fit : AllFit c.circuit c.words.items
-  pub settled : IsTrue c.settled → Settled c.circuit (named c.circuit c.words.items)
-  pub next : length c.next.items ≡ length c.circuit.steps
-  pub taken : length c.taken.items ≡ length c.circuit.steps
-  pub stale : length c.stale ≡ length c.circuit.drives
-  pub due : length c.due ≡ length c.circuit.steps
-  -- what is not marked holds, where the clock is not dense
-  pub held : c.dense ≡ false → AreHeld c.circuit c.words.items c.stale c.due
-  -- a clock that settled, or is not dense, computed its drives
-  pub first : c.work ≡ 0 → c.dense ≡ false → length c.circuit.drives ≡ 0
-  pub shown : c.work ≡ 0 → IsTrue c.settled → length c.circuit.drives ≡ 0
+  pub sound : IsSound c.of.now
+  pub merged : AreMerged c.of.now c.sources.items
+  pub engine : c.engine.of ≡ merged c.of.now c.sources.items

@@ -5,3 +5,5 @@ pub mod Circuit
 pub mod Readers
 pub mod Marking
 pub mod Passes
+pub mod Merged
+pub mod Engine

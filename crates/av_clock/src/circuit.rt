@@ -1,4 +1,4 @@
-ghost use Rattle.std.specs.Prelude.{◌≡◌, ◌≢◌, ◌<◌, ◌≤◌, ◌+◌, ℕ, List as Items, length, false, true, slice_get, slice_set, slice_index, slice_index_or, Some, Contains, IfOk, All};
+ghost use Rattle.std.specs.Prelude.{◌≡◌, ◌≢◌, ◌<◌, ◌≤◌, ◌+◌, ℕ, List as Items, [], length, false, true, slice_get, slice_set, slice_index, slice_index_or, Some, Contains, IfOk, All};
 ghost use Rattle.av_base.specs.Words.{IsWord};
 ghost use Rattle.av_net.specs.Meaning.{Words};
 ghost use Rattle.av_net.specs.Names.{all_names, given_names, names_of, registers_of, width_of};
@@ -9,13 +9,15 @@ ghost use Rattle.av_net.specs.Meaning.{word_of, EachOperand};
 ghost use Rattle.av_clock.specs.Named.{named, AllFit};
 ghost use Rattle.av_clock.specs.Marked.{IsClear, AreHeld, touched};
 ghost use Rattle.av_clock.specs.inner.Marking.{IsSet, ReadTheSame, AreAhead, AreTouched, AreDue};
+ghost use Rattle.av_clock.specs.inner.Passes.{IsFinal, IsKnown, IsCovered, AreFinalAt, AreSources, ArePasses, resolved};
 ghost use Rattle.av_clock.specs.inner.Readers.{IsOther};
+ghost use Rattle.av_clock.specs.inner.Merged.{merged as merged_module, IsMerging};
 
-use crate::gate::{Assignment, FlipFlop};
+use crate::merged::Merged;
 use crate::marks::{Marks, set_all};
 use crate::passes::Passes;
 use crate::readers::{drives_reading, steps_reading};
-use crate::resolver::{Resolver, size_of_module};
+use crate::resolver::size_of_module;
 use av_base::{List, Memory};
 use av_net::Module;
 use std::alloc::Global;
@@ -26,9 +28,7 @@ use std::marker::Model;
 #[derive(Drop)]
 pub(crate) struct Circuit<'a> {
     of: &'a Module,
-    assignments: Vec<Assignment>,
-    flip_flops: Vec<FlipFlop>,
-    passes: Passes,
+    merged: Merged,
     drives_reading: Vec<List<usize>>,
     steps_reading: Vec<List<usize>>,
 }
@@ -40,7 +40,9 @@ impl<'a> Model for Circuit<'a> {
 
     ghost use Rattle.av_clock.specs.inner.Circuit.{IsCircuit};
 
-    ghost view = { λ c. c.of.now };
+    ghost use Rattle.av_clock.specs.inner.Merged.{merged};
+
+    ghost view = { λ c. merged c.of.now c.merged.sources.items };
 
     ghost invariant = { IsCircuit };
 }
@@ -48,25 +50,26 @@ impl<'a> Model for Circuit<'a> {
 impl<'a> Circuit<'a> {
     ghost use Rattle.av_clock.specs.inner.Gates.{AreTaken, FitRegisters};
 
-    /// The circuit of a sound module, with its names resolved.
-    pub(crate) fn new(alloc: Global, of: &'a Module) -> Result<Circuit<'a>, Memory>
-        requires { IsSound of.now }
-        ensures { IfOk result (λ circuit. circuit ≡ of.now) }
+    /// The circuit of a sound module's merged drives and steps.
+    pub(crate) fn new(alloc: Global, of: &'a Module, merged: Merged) -> Result<Circuit<'a>, Memory>
+        requires { IsMerging of.now merged }
+        ensures { IfOk result (λ circuit. circuit ≡ merged_module of.now merged.sources.items) }
     {
-        let resolver = Resolver::new(alloc, of)?;
-        let assignments = resolver.assignments(alloc)?;
-        let flip_flops = resolver.flip_flops(alloc)?;
-        let passes = Passes::new(alloc, of, &assignments)?;
-        let drives_reading = drives_reading(alloc, of, &assignments)?;
-        let steps_reading = steps_reading(alloc, of, &flip_flops)?;
+        let drives_reading = drives_reading(alloc, of, &merged.assignments)?;
+        let steps_reading = steps_reading(alloc, of, &merged.flip_flops)?;
         Ok(Circuit {
             of,
-            assignments,
-            flip_flops,
-            passes,
+            merged,
             drives_reading,
             steps_reading,
         })
+    }
+
+    /// The drives and the steps in passes.
+    pub(crate) fn passes(&self, alloc: Global) -> Result<Passes, Memory>
+        ensures { IfOk result (λ passes. ArePasses self.now passes) }
+    {
+        Passes::new(alloc, self.of, &self.merged.assignments, &self.merged.flip_flops)
     }
 
     /// The number of words.
@@ -80,19 +83,14 @@ impl<'a> Circuit<'a> {
     pub(crate) fn drives(&self) -> usize
         ensures { result ≡ length self.now.drives }
     {
-        self.assignments.len()
-    }
-
-    /// What it takes to compute all drives in passes, counted in drives that compute a word: eight copies take as long as one.
-    pub(crate) fn dense_work(&self) -> usize {
-        self.passes.computed.len() + self.passes.copied.len() / 8
+        self.merged.assignments.len()
     }
 
     /// The number of flip-flops.
     pub(crate) fn steps(&self) -> usize
         ensures { result ≡ length self.now.steps }
     {
-        self.flip_flops.len()
+        self.merged.flip_flops.len()
     }
 
     /// The place of what a drive drives.
@@ -100,25 +98,76 @@ impl<'a> Circuit<'a> {
         requires { drive < length self.now.drives }
         ensures { (d : _) → slice_get (all_names self.now) result ≡ Some (slice_index_or self.now.drives drive d).target }
     {
-        self.assignments[drive].target
+        self.merged.assignments[drive].target
     }
 
-    /// All drives: those that compute, in order, then those that copy, and then those of a constant.
-    pub(crate) fn settle(&self, words: &mut [u64])
+    /// All drives but the copies that are left out: each place has its word at its source.
+    pub(crate) fn settle(&self, passes: &Passes, words: &mut [u64])
+        requires sound { IsSound self.now }
+        requires passes { ArePasses self.now passes.now }
         requires size { length words.old ≡ length (all_names self.now) }
         requires fit { AllFit self.now words.old }
-        ensures settled { Settled self.now (named self.now words.new) }
-        ensures given { Agree (given_names self.now) (named self.now words.old) (named self.now words.new) }
+        ensures settled { IsFinal self.now (resolved passes.now.sources.items words.new) }
+        ensures given { Agree (given_names self.now) (named self.now words.old) (named self.now (resolved passes.now.sources.items words.new)) }
         ensures fit { AllFit self.now words.new }
     {
-        for assignment in &self.passes.computed {
+        self.compute_words(passes, words);
+        self.copy_ports(passes, words);
+        self.give_constants(passes, words);
+    }
+
+    // The drives that compute, in order.
+    fn compute_words(&self, passes: &Passes, words: &mut [u64])
+        requires sound { IsSound self.now }
+        requires passes { ArePasses self.now passes.now }
+        requires size { length words.old ≡ length (all_names self.now) }
+        requires fit { AllFit self.now words.old }
+        ensures { AreFinalAt self.now words.old words.new (IsKnown self.now passes.now.computed.items) }
+    {
+        for assignment in &passes.computed {
             words[assignment.target] = assignment.gate.word(words);
         }
-        for alias in &self.passes.copied {
+    }
+
+    // The copies of input ports.
+    fn copy_ports(&self, passes: &Passes, words: &mut [u64])
+        requires sound { IsSound self.now }
+        requires passes { ArePasses self.now passes.now }
+        requires size { length words.old ≡ length (all_names self.now) }
+        ensures { (before : Items ℕ) → AreFinalAt self.now before words.old (IsKnown self.now passes.now.computed.items)
+            → AreFinalAt self.now before words.new (IsCovered self.now passes.now.computed.items passes.now.copied.items []) }
+    {
+        for alias in &passes.copied {
             words[alias.target] = words[alias.source];
         }
-        for fixed in &self.passes.fixed {
+    }
+
+    // The drives of a constant.
+    fn give_constants(&self, passes: &Passes, words: &mut [u64])
+        requires sound { IsSound self.now }
+        requires passes { ArePasses self.now passes.now }
+        requires size { length words.old ≡ length (all_names self.now) }
+        ensures { (before : Items ℕ) → AreFinalAt self.now before words.old (IsCovered self.now passes.now.computed.items passes.now.copied.items [])
+            → AreFinalAt self.now before words.new (IsCovered self.now passes.now.computed.items passes.now.copied.items passes.now.fixed.items) }
+    {
+        for fixed in &passes.fixed {
             words[fixed.target] = fixed.word;
+        }
+    }
+
+    /// Where copies are pending, writes them: gives each place the word of its source.
+    pub(crate) fn write_copies(&self, pending: bool, passes: &Passes, words: &mut [u64])
+        requires sources { AreSources self.now passes.now.sources.items }
+        requires size { length words.old ≡ length (all_names self.now) }
+        requires settled { IsFinal self.now (resolved passes.now.sources.items words.old) }
+        requires none { pending ≡ false → resolved passes.now.sources.items words.old ≡ words.old }
+        ensures { words.new ≡ resolved passes.now.sources.items words.old }
+    {
+        if !pending {
+            return;
+        }
+        for (place, source) in passes.sources.iter().enumerate() {
+            words[place] = words[*source];
         }
     }
 
@@ -158,7 +207,7 @@ impl<'a> Circuit<'a> {
         ensures touched { AreTouched self.now words.old words.new stale.old stale.new }
         ensures others { (d : _) (name : Items ℕ) → name ≢ (slice_index_or self.now.drives drive d).target → named self.now words.new name ≡ named self.now words.old name }
     {
-        let assignment = &self.assignments[drive];
+        let assignment = &self.merged.assignments[drive];
         let word = assignment.gate.word(words);
         stale.clear(drive);
         self.write(assignment.target, word, words, stale, due);
@@ -188,7 +237,7 @@ impl<'a> Circuit<'a> {
     {
         let mut computed = 0;
         let mut drive = stale.next(0);
-        while drive < self.assignments.len() {
+        while drive < self.merged.assignments.len() {
             self.compute(drive, words, stale, due);
             computed += 1;
             drive = stale.next(drive + 1);
@@ -272,10 +321,10 @@ impl<'a> Circuit<'a> {
     {
         let mut count = 0;
         let mut step = due.next(0);
-        while step < self.flip_flops.len() {
+        while step < self.merged.flip_flops.len() {
             due.clear(step);
             taken[count] = step;
-            next[count] = self.flip_flops[step].next.word(words);
+            next[count] = self.merged.flip_flops[step].next.word(words);
             count += 1;
             step = due.next(step + 1);
         }
@@ -310,7 +359,7 @@ impl<'a> Circuit<'a> {
         ensures others { (name : Items ℕ) → (Contains (registers_of self.now.steps) name → ⊥) → named self.now words.new name ≡ named self.now words.old name }
     {
         for i in 0..count {
-            let register = self.flip_flops[taken[i]].register;
+            let register = self.merged.flip_flops[taken[i]].register;
             self.write(register, next[i], words, stale, due);
         }
     }
@@ -371,14 +420,15 @@ impl<'a> Circuit<'a> {
         due.fill(true);
     }
 
-    /// What each register takes at an edge without reset, in the order of the steps.
-    pub(crate) fn next_words(&self, words: &[u64], next: &mut [u64])
+    /// What each register takes at an edge without reset, in the order of the steps, where each place has its word at its source.
+    pub(crate) fn next_words(&self, passes: &Passes, words: &[u64], next: &mut [u64])
+        requires passes { ArePasses self.now passes.now }
         requires size { length words.now ≡ length (all_names self.now) }
         requires next { length next.old ≡ length self.now.steps }
-        ensures { AreTaken self.now false (named self.now words.now) (length self.now.steps) next.new }
+        ensures { AreTaken self.now false (named self.now (resolved passes.now.sources.items words.now)) (length self.now.steps) next.new }
     {
-        for (i, flip_flop) in self.flip_flops.iter().enumerate() {
-            next[i] = flip_flop.next.word(words);
+        for (i, reading) in passes.nexts.iter().enumerate() {
+            next[i] = reading.word(words);
         }
     }
 
@@ -388,7 +438,7 @@ impl<'a> Circuit<'a> {
         requires next { length next.now ≡ length self.now.steps }
     {
         let mut changed = 0;
-        for (i, flip_flop) in self.flip_flops.iter().enumerate() {
+        for (i, flip_flop) in self.merged.flip_flops.iter().enumerate() {
             if next[i] != words[flip_flop.register] {
                 changed += 1;
             }
@@ -403,7 +453,7 @@ impl<'a> Circuit<'a> {
         ensures steps { (j : ℕ) → j < length self.now.steps → slice_index taken.new j ≡ j }
         ensures words { (old : Words) → AreTaken self.now true old (length self.now.steps) next.new }
     {
-        for (i, flip_flop) in self.flip_flops.iter().enumerate() {
+        for (i, flip_flop) in self.merged.flip_flops.iter().enumerate() {
             next[i] = flip_flop.reset;
             taken[i] = i;
         }
@@ -420,7 +470,7 @@ impl<'a> Circuit<'a> {
         ensures ports { Agree (names_of self.now.inputs) (named self.now words.old) (named self.now words.new) }
         ensures fit { AllFit self.now words.new }
     {
-        for (i, flip_flop) in self.flip_flops.iter().enumerate() {
+        for (i, flip_flop) in self.merged.flip_flops.iter().enumerate() {
             words[flip_flop.register] = next[i];
         }
     }

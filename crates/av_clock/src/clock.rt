@@ -8,37 +8,21 @@ ghost use Rattle.av_net.specs.Sound.{IsSound};
 ghost use Rattle.av_clock.specs.Marked.{IsClear, touched};
 ghost use Rattle.av_clock.specs.Seen.{carried};
 
-use crate::circuit::Circuit;
-use crate::marks::{Marks, mark_anew};
+use crate::engine::Engine;
+use crate::merged::Merged;
 use av_base::Memory;
 use av_net::Module;
 use std::alloc::Global;
 use std::marker::Model;
 
-// The ticks between two at which changed registers are counted.
-const UNCOUNTED_TICKS: u32 = 15;
-
 /// A module that is clocked.
 #[derive(Drop)]
 pub struct Clock<'a> {
-    circuit: Circuit<'a>,
-    // The words of all names, in the order of declarations.
-    words: Vec<u64>,
-    // Room for the registers' next words, and for the steps that are taken.
-    next: Vec<u64>,
-    taken: Vec<usize>,
-    // The drives and the steps of which an operand changed.
-    stale: Marks,
-    due: Marks,
-    // All drives are marked, whatever `stale` says, and each settle computes them.
-    dense: bool,
-    // The last settle by marks computed more than a third of what a settle of all drives takes.
-    busy: bool,
-    // The ticks to come before changed registers are counted again.
-    uncounted: u32,
-    settled: bool,
-    // The drives computed so far.
-    work: u64,
+    of: &'a Module,
+    // The source of each place, where its word stands.
+    sources: Vec<usize>,
+    // Clocks the merged module, in which what gives the same word is computed once.
+    engine: Engine<'a>,
 }
 
 impl<'a> Model for Clock<'a> {
@@ -63,24 +47,16 @@ impl<'a> Clock<'a> {
         ensures work { IfOk result (λ clock. clock.work ≡ 0) }
         ensures marked { IfOk result (λ clock. clock.marked ≡ replicate (length of.now.drives) true) }
     {
-        let circuit = Circuit::new(alloc, of)?;
-        let words = vec![in alloc; 0u64; circuit.size()]?;
-        let next = vec![in alloc; 0u64; circuit.steps()]?;
-        let taken = vec![in alloc; 0usize; circuit.steps()]?;
-        let stale = Marks::new(alloc, circuit.drives())?;
-        let due = Marks::new(alloc, circuit.steps())?;
+        let merged = Merged::new(alloc, of)?;
+        let mut sources = Vec::new(alloc);
+        for source in &merged.sources {
+            sources.push(*source)?;
+        }
+        let engine = Engine::new(alloc, of, merged)?;
         Ok(Clock {
-            circuit,
-            words,
-            next,
-            taken,
-            stale,
-            due,
-            dense: true,
-            busy: true,
-            uncounted: 0,
-            settled: false,
-            work: 0,
+            of,
+            sources,
+            engine,
         })
     }
 
@@ -98,36 +74,7 @@ impl<'a> Clock<'a> {
             → self.new.work + k ≤ self.old.work + length self.old.of.drives }
         ensures touched { self.new.work ≤ self.old.work + touched (carried self.old) (carried self.new) self.old.of.drives self.old.marked }
     {
-        if self.dense {
-            self.settle_all();
-            return;
-        }
-        let computed = self
-            .circuit
-            .settle_marked(&mut self.words, &mut self.stale, &mut self.due);
-        self.busy = computed > self.circuit.dense_work() / 3;
-        self.work = self.work.saturating_add(computed as u64);
-        self.settled = true;
-    }
-
-    // Settles a clock of which all drives are marked.
-    fn settle_all(&mut self)
-        requires { self.old.marked ≡ replicate (length self.old.of.drives) true }
-        ensures of { self.new.of ≡ self.old.of }
-        ensures settled { Settled self.new.of (carried self.new) }
-        ensures given { Agree (given_names self.new.of) (carried self.old) (carried self.new) }
-        ensures flag { IsTrue self.new.settled }
-        ensures work { self.old.work ≤ self.new.work }
-        ensures first { self.old.work ≡ 0 → self.new.work ≡ length self.new.of.drives }
-        ensures most { self.new.work ≤ self.old.work + length self.new.of.drives }
-        ensures alone { (k : ℕ) → k ≤ length self.old.of.drives → ((j : ℕ) → j < k → IsClear self.old.marked j)
-            → self.new.work + k ≤ self.old.work + length self.old.of.drives }
-        ensures touched { self.new.work ≤ self.old.work + touched (carried self.old) (carried self.new) self.old.of.drives self.old.marked }
-    {
-        self.circuit.settle(&mut self.words);
-        self.dense = true;
-        self.work = self.work.saturating_add(self.circuit.drives() as u64);
-        self.settled = true;
+        self.engine.settle();
     }
 
     /// A law on clocks: each drive that is not marked holds.
@@ -135,14 +82,14 @@ impl<'a> Clock<'a> {
         ensures { (k : ℕ) (d : _) → k < length self.now.of.drives → IsClear self.now.marked k
             → Holds (width_of self.now.of) (carried self.now) (slice_index_or self.now.of.drives k d) }
     {
-        let _dense = self.dense;
+        self.engine.unmarked_drives_hold();
     }
 
     /// The number of drives that were computed since the clock was made. At the greatest number it stays.
     pub fn work(&self) -> u64
         ensures { result ≡ self.now.work }
     {
-        self.work
+        self.engine.work()
     }
 
     /// The word of a wire or output, by its place in the module's `drives`.
@@ -153,7 +100,8 @@ impl<'a> Clock<'a> {
         ensures fits { (d : _) → IsWord (width_of self.now.of (slice_index_or self.now.of.drives wire d).target) result }
         ensures settled { Settled self.now.of (carried self.now) }
     {
-        self.words[self.circuit.target(wire as usize)]
+        let place = self.engine.target(wire as usize);
+        self.engine.word(self.sources[place])
     }
 
     /// Presents a value at an input port, by its place in the module's `inputs`.
@@ -165,15 +113,7 @@ impl<'a> Clock<'a> {
         ensures others { IfSome (slice_get self.old.of.inputs port) (λ p. (name : Items ℕ) → name ≢ p.name
             → carried self.new name ≡ carried self.old name) }
     {
-        self.circuit.present(
-            self.dense,
-            port as usize,
-            value,
-            &mut self.words,
-            &mut self.stale,
-            &mut self.due,
-        );
-        self.settled = false;
+        self.engine.set(port, value);
     }
 
     /// One edge with `rst` 0: all registers take the words of their operands together.
@@ -185,65 +125,7 @@ impl<'a> Clock<'a> {
         ensures flag { self.new.settled ≡ false }
         ensures work { self.new.work ≡ self.old.work }
     {
-        if self.is_dense_tick() {
-            self.tick_all();
-        } else {
-            self.tick_marked();
-        }
-    }
-
-    // Whether the next tick is one of all steps. A marked drive or step takes three or four times as long as one in a pass over all, so
-    // that marks serve where few registers change. Counting those that do costs as much as a pass, so that it is done now and then.
-    fn is_dense_tick(&mut self) -> bool
-        ensures kept { self.new ≡ self.old }
-    {
-        if self.uncounted > 0 {
-            self.uncounted -= 1;
-            return self.dense;
-        }
-        if !self.dense && !self.busy {
-            return false;
-        }
-        self.uncounted = UNCOUNTED_TICKS;
-        self.circuit.next_words(&self.words, &mut self.next);
-        let changed = self.circuit.changed(&self.words, &self.next);
-        changed > self.circuit.steps() / 4
-    }
-
-    // The same by the marked steps alone.
-    fn tick_marked(&mut self)
-        requires { IsTrue self.old.settled }
-        ensures of { self.new.of ≡ self.old.of }
-        ensures edge { Edge self.new.of false (carried self.old) (carried self.new) }
-        ensures ports { Agree (names_of self.new.of.inputs) (carried self.old) (carried self.new) }
-        ensures flag { self.new.settled ≡ false }
-        ensures work { self.new.work ≡ self.old.work }
-    {
-        mark_anew(self.dense, &mut self.stale, &mut self.due);
-        self.dense = false;
-        self.circuit.tick_marked(
-            &mut self.words,
-            &mut self.next,
-            &mut self.taken,
-            &mut self.stale,
-            &mut self.due,
-        );
-        self.settled = false;
-    }
-
-    // The same by all steps, and all drives count as marked.
-    fn tick_all(&mut self)
-        requires { IsTrue self.old.settled }
-        ensures of { self.new.of ≡ self.old.of }
-        ensures edge { Edge self.new.of false (carried self.old) (carried self.new) }
-        ensures ports { Agree (names_of self.new.of.inputs) (carried self.old) (carried self.new) }
-        ensures flag { self.new.settled ≡ false }
-        ensures work { self.new.work ≡ self.old.work }
-    {
-        self.circuit.next_words(&self.words, &mut self.next);
-        self.circuit.store(&self.next, &mut self.words);
-        self.dense = true;
-        self.settled = false;
+        self.engine.tick();
     }
 
     /// One edge with `rst` 1: all registers take their literals.
@@ -254,13 +136,6 @@ impl<'a> Clock<'a> {
         ensures flag { self.new.settled ≡ false }
         ensures work { self.new.work ≡ self.old.work }
     {
-        self.circuit.reset(
-            &mut self.words,
-            &mut self.next,
-            &mut self.taken,
-            &mut self.stale,
-            &mut self.due,
-        );
-        self.settled = false;
+        self.engine.reset();
     }
 }

@@ -4,8 +4,10 @@
 
 mod circuit;
 mod clock;
+mod engine;
 mod gate;
 mod marks;
+mod merged;
 mod passes;
 mod readers;
 mod resolver;

@@ -1,4 +1,4 @@
-use Rattle.std.proofs.Common.{rules, ◌<◌, ◌∙◌, List, Vec, length, ap, sym, subst}
+use Rattle.std.proofs.Common.{rules, ◌<◌, ◌∙◌, ℕ, List, Vec, length, ap, sym, subst}
 use Rattle.std.specs.declared.alloc.Global.{Global}
 use Rattle.av_net.specs.Names.{all_names, width_of}
 use Rattle.av_clock.specs.declared.gate.Reading.{Reading}
@@ -9,12 +9,13 @@ use Rattle.av_clock.specs.declared.passes.Fixed.{Fixed}
 use Rattle.av_clock.specs.inner.Passes.{IsRooted}
 use Rattle.av_clock.proofs.Rooted.{none_yet, is_turn, computed_turn, copied_turn, fixed_turn, all_passes}
 use Rattle.av_clock.proofs.Settling.{is_for, gate_within}
+use Rattle.av_clock.proofs.Sources.{flip_flops_within, passes_found}
 use Rattle.av_clock.proofs.passes.Passes.new.Goals as goal
 use Rattle.av_clock.proofs.passes.Passes.new.Goals.{in-Buffer-At+in_ok-push-in-Buffer-At, in-Buffer-Constant+in_ok-push-in-Buffer-Constant, in_default+in_ok-push-in_default}
 
 pub loop-assignment-init : goal.loop-assignment-init
 loop-assignment-init c =
-    none_yet c.args.of.now c.in_ok-roots.roots.items c.new-computed.result.items c.new-copied.result.items c.new-fixed.result.items c.size_of_module.result c.requires.sound c.size_of_module.ensures c.in_ok-roots.ensures.count c.in_ok-roots.ensures.own
+    none_yet c.args.of.now c.in_ok-roots.roots.items c.new-computed.result.items c.new-copied.result.items c.new-fixed.result.items c.size_of_module-size.result c.requires.sound c.size_of_module-size.ensures c.in_ok-roots.ensures.count c.in_ok-roots.ensures.own
     c.new-computed.ensures.items c.new-copied.ensures.items c.new-fixed.ensures.items
 
 pub rooted-gate-requires : goal.rooted-gate-requires
@@ -50,7 +51,14 @@ loop-assignment-preserved c =
           (ap (λ (v : Vec Assignment Global). v.items) w.computed-is ∙ w.in_ok-push-in_default.ensures.items) (ap (λ (v : Vec Alias Global). v.items) w.copied-is) (ap (λ (v : Vec Fixed Global). v.items) w.fixed-is) c.loop-assignment.invariant
     ]
 
+pub nexts-requires : goal.nexts-requires
+nexts-requires c =
+    flip_flops_within c.args.of.now _ c.args.flip_flops.now c.requires.stepped (ap (λ (xs : List ℕ). length xs) c.deref-4.ensures.value ∙ c.in_ok-sources.ensures.count ∙ c.size_of_module-size.ensures)
+
 pub returns : goal.returns
 returns c =
-    all_passes c.args.of.now c.loop-assignment.assignment-index c.args.assignments.now c.loop-assignment.roots.items c.loop-assignment.computed.items c.loop-assignment.copied.items c.loop-assignment.fixed.items c.requires.sound c.requires.assigned c.loop-assignment-test.false
-    c.loop-assignment.invariant
+    passes_found c.args.of.now _ c.loop-assignment.copied.items _ _ _ c.args.flip_flops.now c.size_of_module-size.result c.inputs_of_module-inputs.result c.requires.sound
+    (all_passes c.args.of.now c.loop-assignment.assignment-index c.args.assignments.now c.loop-assignment.roots.items c.loop-assignment.computed.items c.loop-assignment.copied.items c.loop-assignment.fixed.items c.requires.sound c.requires.assigned
+    c.loop-assignment-test.false c.loop-assignment.invariant)
+    c.requires.stepped c.size_of_module-size.ensures c.inputs_of_module-inputs.ensures c.deref-2.ensures.value c.deref-3.ensures.value c.deref-4.ensures.value c.in_ok-sources.ensures.count c.in_ok-sources.ensures.each
+    c.in_ok-copied.ensures.among c.in_ok-copied.ensures.all c.in_ok-nexts.ensures
