@@ -19,9 +19,9 @@ use Rattle.av_net.proofs.Settles.{with_word, with_word_same, with_word_other, na
 use Rattle.av_clock.specs.declared.gate.FlipFlop.{FlipFlop}
 use Rattle.av_clock.specs.declared.gate.Reading.TheVariants.{At}
 use Rattle.av_clock.specs.Named.{named, AllFit}
-use Rattle.av_clock.specs.inner.Gates.{IsWithin, IsStepped, AreStepped, AreTaken, FitRegisters}
+use Rattle.av_clock.specs.inner.Gates.{reading_word, IsWithin, IsStepped, AreStepped, AreTaken, FitRegisters}
 use Rattle.av_clock.proofs.Lookup.{look_set}
-use Rattle.av_clock.proofs.Settling.{read_within, fit_with}
+use Rattle.av_clock.proofs.Settling.{read_word, read_within, fit_with}
 
 -- a flip-flop with its step
 pub record IsFor (m : Module) (n : ℕ) (flip_flop : FlipFlop) : Type 0 where
@@ -82,6 +82,14 @@ taken_more m reset old n next word step lt within at is so_far k below d = elim 
       rw here (ap (λ i. get_or (set next n word) i 0) same ∙ get_or-set_same next n word 0 lt ∙ is)
 ]
 
+-- the word of an operand
+pub next_more : (m : Module) (words next : List ℕ) (n : ℕ) (flip_flop : FlipFlop) (word : ℕ) → IsSound m → length words ≡ length (all_names m) → length next ≡ length m.steps → IsFor m n flip_flop
+    → word ≡ reading_word words flip_flop.next → AreTaken m false (named m words) n next → AreTaken m false (named m words) (n + 1) (set next n word)
+next_more m words next n flip_flop word sound same long for is so_far =
+    let within : n < length m.steps = for.within in
+    taken_more m false (named m words) n next word for.step (omega arith) within for.at
+    (is ∙ read_word (all_names m) words for.step.next flip_flop.next (names_distinct m sound) same for.stepped.next) so_far
+
 -- the literal of a reset
 pub reset_more : (m : Module) (next : List ℕ) (n : ℕ) (flip_flop : FlipFlop) → length next ≡ length m.steps → IsFor m n flip_flop
     → ((old : Words) → AreTaken m true old n next) → (old : Words) → AreTaken m true old (n + 1) (set next n flip_flop.reset)
@@ -101,6 +109,12 @@ next_fits m words next sound fit taken k lt d =
     let wide : operand_width (width_of m) step.next ≡ width_of m step.register = sound.step_widths k d lt in
     let given : get_or next k 0 ≡ word_of (named m words) step.next = taken k lt d in
     rw given (rw wide at word)
+
+-- and so do the literals of resets
+pub reset_fits : (m : Module) (old : Words) (next : List ℕ) → IsSound m → AreTaken m true old (length m.steps) next → FitRegisters m next
+reset_fits m old next sound taken k lt d =
+    let given : get_or next k 0 ≡ (get_or m.steps k d).reset = taken k lt d in
+    rw given (sound.resets_fit k d lt)
 
 -- the first n registers have their new words, and no other name has another word
 pub record Stores (m : Module) (before words next : List ℕ) (n : ℕ) : Type 0 where

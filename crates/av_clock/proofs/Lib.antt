@@ -11,7 +11,7 @@ pub mod Held
 pub mod Taking
 pub mod Extended
 pub mod Touched
-pub mod Rooted
-pub mod Final
-pub mod Sources
 pub mod Merged
+pub mod Merging
+pub mod Computing
+pub mod Sourced

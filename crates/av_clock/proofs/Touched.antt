@@ -32,7 +32,7 @@ both false b e = absurd cc
 kept : (v w : Words) (a : Operand) → has_kept v w a ≡ true → KeepsWord v w a
 kept v w a e = eqb-true (word_of v a) (word_of w a) e
 
-each_kept : (v w : Words) (operation : Operation) → reads_same v w operation ≡ true → EachOperand (KeepsWord v w) operation
+pub each_kept : (v w : Words) (operation : Operation) → reads_same v w operation ≡ true → EachOperand (KeepsWord v w) operation
 each_kept v w (Plain a) e = kept v w a e
 each_kept v w (Binary a symbol b) e = let h = both (has_kept v w a) (has_kept v w b) e in (kept v w a h.0, kept v w b h.1)
 each_kept v w (Signed a symbol b) e = let h = both (has_kept v w a) (has_kept v w b) e in (kept v w a h.0, kept v w b h.1)
@@ -50,7 +50,7 @@ joined false b e f = absurd cc
 keeps : (v w : Words) (a : Operand) → KeepsWord v w a → has_kept v w a ≡ true
 keeps v w a e = eq-eqb (word_of v a) (word_of w a) e
 
-same_read : (v w : Words) (operation : Operation) → EachOperand (KeepsWord v w) operation → reads_same v w operation ≡ true
+pub same_read : (v w : Words) (operation : Operation) → EachOperand (KeepsWord v w) operation → reads_same v w operation ≡ true
 same_read v w (Plain a) h = keeps v w a h
 same_read v w (Binary a symbol b) h = joined (has_kept v w a) (has_kept v w b) (keeps v w a h.0) (keeps v w b h.1)
 same_read v w (Signed a symbol b) h = joined (has_kept v w a) (has_kept v w b) (keeps v w a h.0) (keeps v w b h.1)

@@ -16,69 +16,29 @@ use Rattle.av_net.specs.declared.netlist.Port.{Port}
 use Rattle.av_net.specs.declared.netlist.Drive.{Drive}
 use Rattle.av_net.specs.declared.netlist.Step.{Step}
 use Rattle.av_net.specs.declared.netlist.Module.{Module}
-use Rattle.av_net.specs.Meaning.{Words, word_of}
-use Rattle.av_net.specs.Names.{AreDistinct, names_of, given_names, wire_names, all_names, width_of}
+use Rattle.av_net.specs.Meaning.{Words}
+use Rattle.av_net.specs.Names.{AreDistinct, names_of, given_names, wire_names, all_names, registers_of, width_of}
 use Rattle.av_net.specs.Settled.{Settled, Agree, Holds}
 use Rattle.av_net.specs.Clocked.{Edge}
 use Rattle.av_net.specs.Sound.{IsSound}
 use Rattle.av_net.proofs.Cycles.{is_declared, register_contained}
 use Rattle.av_net.proofs.Declared.{declared_width, input_declared}
 use Rattle.av_net.proofs.Distinct.{apart, front_distinct}
-use Rattle.av_net.proofs.Once.{agree_by}
 use Rattle.av_net.proofs.Settles.{with_word, with_word_same, with_word_other, names_distinct}
 use Rattle.av_clock.specs.Named.{named, AllFit}
 use Rattle.av_clock.specs.inner.Gates.{AreTaken, FitRegisters}
 use Rattle.av_clock.specs.Seen.{Seen, carried}
 use Rattle.av_clock.specs.Marked.{IsClear, AreHeld, touched}
+use Rattle.av_clock.specs.inner.Engine.{IsWhole}
+use Rattle.av_clock.specs.inner.Kept.{AreZero}
 use Rattle.av_clock.specs.inner.Marking.{ReadTheSame}
-use Rattle.av_clock.specs.inner.Passes.{IsFinal, AreSources, resolved}
-use Rattle.av_clock.proofs.Held.{given_apart, register_given}
+use Rattle.av_clock.proofs.Computing.{settled_zero, edge_zero}
+use Rattle.av_clock.proofs.Held.{given_apart}
 use Rattle.av_clock.proofs.Marking.{none_clear}
 use Rattle.av_clock.proofs.Touched.{all_touched}
 use Rattle.av_clock.proofs.Lookup.{look_at, look_set, look_zero, contains_at}
 use Rattle.av_clock.proofs.Settling.{fit_with}
-use Rattle.av_clock.proofs.Edges.{next_fits}
-use Rattle.av_clock.proofs.Sources.{resolved_at, resolved_size, final_resolved, given_resolved, set_resolved}
-
--- ---- words as they are seen
-
--- the words of a clock, where copies are pending or not
-abbrev pub shown_in : Bool → List ℕ → List ℕ → List ℕ
-shown_in pending sources words = if pending then resolved sources words else words
-
-pub plain : (pending : Bool) (sources words : List ℕ) → pending ≡ false → shown_in pending sources words ≡ words
-plain pending sources words e = ap (λ p. shown_in p sources words) e
-
-pub plain_to : (P : List ℕ → Type 0) (pending : Bool) (sources words : List ℕ) → pending ≡ false → P words → P (shown_in pending sources words)
-plain_to P pending sources words e h = subst P (sym (plain pending sources words e)) h
-
-pub shown_size : (pending : Bool) (m : Module) (sources words : List ℕ) → AreSources m sources → length words ≡ length (all_names m) → length (shown_in pending sources words) ≡ length (all_names m)
-shown_size true m sources words are long = resolved_size m sources words are
-shown_size false m sources words are long = long
-
--- an input port or a register has its own word
-pub shown_given : (pending : Bool) (m : Module) (sources words : List ℕ) (name : List ℕ) → IsSound m → AreSources m sources → length words ≡ length (all_names m) → Contains (given_names m) name → named m (shown_in pending sources words) name ≡ named m words name
-shown_given true m sources words name sound are long at = given_resolved m sources words name sound are long at
-shown_given false m sources words name sound are long at = refl
-
--- settled words are what is read at sources
-pub shown_final : (pending : Bool) (m : Module) (sources words : List ℕ) → AreSources m sources → IsFinal m (shown_in pending sources words) → resolved sources words ≡ shown_in pending sources words
-shown_final true m sources words are is = refl
-shown_final false m sources words are is = final_resolved m sources words are is
-
-pub shown_set : (pending : Bool) (m : Module) (sources words : List ℕ) (port word : ℕ) → AreSources m sources → length words ≡ length (all_names m) → port < length m.inputs
-    → shown_in pending sources (set words port word) ≡ set (shown_in pending sources words) port word
-shown_set true m sources words port word are long lt = set_resolved m sources words port word are long lt
-shown_set false m sources words port word are long lt = refl
-
--- of a clock of which no copy is pending its own words are seen
-pub plain_view : {ms : List Bool} (s : Seen) (m : Module) (sources words : List ℕ) (pending b : Bool) (w : ℕ) → pending ≡ false → record { of = m; words = shown_in pending sources words; settled = b; work = w; marked = ms } ≡ s
-    → record { of = m; words = words; settled = b; work = w; marked = ms } ≡ s
-plain_view {ms = ms} s m sources words pending b w none view =
-    let P : List ℕ → Type 0 = λ ws. record { of = m; words = ws; settled = b; work = w; marked = ms } ≡ s in
-    subst P (plain pending sources words none) view
-
--- ---- calls
+use Rattle.av_clock.proofs.Edges.{next_fits, reset_fits}
 
 -- the words of a clock that was just made
 pub zeros_fit : (m : Module) (n : ℕ) → AllFit m (replicate n 0)
@@ -112,7 +72,7 @@ agree_call s m v before new names b w view same is h =
     subst Q view (subst P (sym (new_items v before new same is)) (subst R is h))
 
 -- a port's place among all names
-port_at : (m : Module) (k : ℕ) (port : Port) → slice_get m.inputs k ≡ Some port → slice_get (all_names m) k ≡ Some port.name
+pub port_at : (m : Module) (k : ℕ) (port : Port) → slice_get m.inputs k ≡ Some port → slice_get (all_names m) k ≡ Some port.name
 port_at m k port at =
     let lt : k < length m.inputs = slice_get_within m.inputs k port at in
     let inputs = names_of m.inputs in
@@ -126,7 +86,7 @@ port_at m k port at =
     ∙ ap Some (get_or-append (inputs ++ registers) (wire_names m) port.name k lt' ∙ get_or-append inputs registers port.name k (omega arith) ∙ here ∙ name)
 
 -- and among the names of the inputs
-input_at : (m : Module) (k : ℕ) (port : Port) → slice_get m.inputs k ≡ Some port → slice_get (names_of m.inputs) k ≡ Some port.name
+pub input_at : (m : Module) (k : ℕ) (port : Port) → slice_get m.inputs k ≡ Some port → slice_get (names_of m.inputs) k ≡ Some port.name
 input_at m k port at =
     let lt : k < length m.inputs = slice_get_within m.inputs k port at in
     let inputs = names_of m.inputs in
@@ -136,7 +96,7 @@ input_at m k port at =
     slice_get-get_or inputs k port.name (omega arith) ∙ ap Some (here ∙ name)
 
 -- a word at a port
-port_set : (m : Module) (words : List ℕ) (k value : ℕ) (port : Port) → IsSound m → length words ≡ length (all_names m) → slice_get m.inputs k ≡ Some port → named m (set words k value) ≡ with_word (named m words) port.name value
+pub port_set : (m : Module) (words : List ℕ) (k value : ℕ) (port : Port) → IsSound m → length words ≡ length (all_names m) → slice_get m.inputs k ≡ Some port → named m (set words k value) ≡ with_word (named m words) port.name value
 port_set m words k value port sound same at = look_set (all_names m) words k value port.name (names_distinct m sound) same (port_at m k port at)
 
 -- a word at a port fits
@@ -171,142 +131,43 @@ set_others s m words b w k value view sound same =
     let wrote = port_set m words k value port sound same (rw of at) in
     rw wrote (with_word_other (named m words) port.name value name other ∙ ap (λ (s : Seen). carried s name) view))
 
--- the words after an edge of all steps: `given` are the words that the registers take, `read` the same in the clock's own room
-pub tick_call : {ms : List Bool} (s : Seen) (m : Module) (v u : Vec ℕ Global) (sources : List ℕ) (pending b : Bool) (w : ℕ) (seen given room read lent new : List ℕ) → record { of = m; words = shown_in pending sources v.items; settled = b; work = w; marked = ms } ≡ s
-    → IsSound m → AreSources m sources → length v.items ≡ length (all_names m) → IsFinal m (shown_in pending sources v.items)
-    → seen ≡ v.items → AreTaken m false (named m (resolved sources seen)) (length m.steps) given
+-- the words after an edge: `given` are the words that the registers take, `read` the same in the clock's own room
+pub edge_call : {ms : List Bool} (s : Seen) (m : Module) (v u : Vec ℕ Global) (reset b : Bool) (w : ℕ) (seen given room read lent new : List ℕ) → record { of = m; words = v.items; settled = b; work = w; marked = ms } ≡ s
+    → seen ≡ v.items → AreTaken m reset (named m seen) (length m.steps) given
     → length given ≡ length room → room ≡ u.items → read ≡ (with_items u given).items
     → length new ≡ length lent → lent ≡ v.items
     → ((k : ℕ) → k < length m.steps → (d : Step) → named m new (get_or m.steps k d).register ≡ get_or read k 0)
-    → Edge m false (carried s) (named m (shown_in pending sources (with_items v new).items))
-tick_call s m v u sources pending b w seen given room read lent new view sound are long final same taken fits own is same' own' stored k d lt =
+    → Edge m reset (carried s) (named m (with_items v new).items)
+edge_call s m v u reset b w seen given room read lent new view same taken long own is same' own' stored k d lt =
     let register = (get_or m.steps k d).register in
-    let next = (get_or m.steps k d).next in
-    shown_given pending m sources (with_items v new).items register sound are (size_call v lent new same' own' ∙ long) (register_given m k d sound lt)
-    ∙ ap (λ words. named m words register) (new_items v lent new same' own') ∙ stored k lt d ∙ ap (λ words. get_or words k 0) (is ∙ new_items u room given fits own) ∙ taken k lt d
-    ∙ ap (λ words. word_of (named m (resolved sources words)) next) same ∙ ap (λ words. word_of (named m words) next) (shown_final pending m sources v.items are final) ∙ ap (λ (t : Seen). word_of (carried t) next) view
+    let P : List ℕ → Type 0 = λ words. AreTaken m reset (named m words) (length m.steps) given in
+    let Q : Seen → Type 0 = λ t. AreTaken m reset (carried t) (length m.steps) given in
+    let taken' : AreTaken m reset (carried s) (length m.steps) given = subst Q view (subst P same taken) in
+    ap (λ words. named m words register) (new_items v lent new same' own') ∙ stored k lt d ∙ ap (λ words. get_or words k 0) (is ∙ new_items u room given long own) ∙ taken' k lt d
 
 -- the words that the registers take fit them
-pub next_call : (m : Module) (v u : Vec ℕ Global) (sources : List ℕ) (pending : Bool) (seen given room read : List ℕ) → IsSound m → AreSources m sources → IsFinal m (shown_in pending sources v.items) → seen ≡ v.items
-    → AreTaken m false (named m (resolved sources seen)) (length m.steps) given → length given ≡ length room → room ≡ u.items → read ≡ (with_items u given).items → FitRegisters m read
-next_call m v u sources pending seen given room read sound are final same taken long own is =
+pub next_call : (m : Module) (v u : Vec ℕ Global) (seen given room read : List ℕ) → IsSound m → AllFit m v.items → seen ≡ v.items → AreTaken m false (named m seen) (length m.steps) given
+    → length given ≡ length room → room ≡ u.items → read ≡ (with_items u given).items → FitRegisters m read
+next_call m v u seen given room read sound fit same taken long own is =
     let whole : read ≡ given = is ∙ new_items u room given long own in
-    let words : resolved sources seen ≡ shown_in pending sources v.items = ap (resolved sources) same ∙ shown_final pending m sources v.items are final in
-    rw whole (next_fits m (resolved sources seen) given sound (rw words final.fit) taken)
+    rw whole (next_fits m seen given sound (rw same fit) taken)
 
--- the words after a reset
-pub reset_call : (s : Seen) (m : Module) (v : Vec ℕ Global) (sources before new : List ℕ) (pending : Bool) → IsSound m → AreSources m sources → length v.items ≡ length (all_names m) → length new ≡ length before → before ≡ v.items
-    → Edge m true (named m before) (named m new) → Edge m true (carried s) (named m (shown_in pending sources (with_items v new).items))
-reset_call s m v sources before new pending sound are long same is edge k d lt =
-    shown_given pending m sources (with_items v new).items (get_or m.steps k d).register sound are (size_call v before new same is ∙ long) (register_given m k d sound lt)
-    ∙ ap (λ words. named m words (get_or m.steps k d).register) (new_items v before new same is) ∙ edge k d lt
-
--- ports keep their words
-pub ports_call : {ms : List Bool} (s : Seen) (m : Module) (v : Vec ℕ Global) (sources before new : List ℕ) (pending b : Bool) (w : ℕ) → record { of = m; words = shown_in pending sources v.items; settled = b; work = w; marked = ms } ≡ s
-    → IsSound m → AreSources m sources → length v.items ≡ length (all_names m) → length new ≡ length before → before ≡ v.items
-    → Agree (names_of m.inputs) (named m before) (named m new) → Agree (names_of m.inputs) (carried s) (named m (shown_in pending sources (with_items v new).items))
-ports_call s m v sources before new pending b w view sound are long same is agree =
-    agree_by (names_of m.inputs) (carried s) (named m (shown_in pending sources (with_items v new).items)) (λ name at.
-    let given = Contains-append_left (names_of m.inputs) (names_of m.registers) name at in
-    sym (ap (λ (t : Seen). carried t name) view) ∙ shown_given pending m sources v.items name sound are long given ∙ sym (ap (λ words. named m words name) is)
-    ∙ All-contains (λ name. named m before name ≡ named m new name) (names_of m.inputs) name agree at
-    ∙ sym (ap (λ words. named m words name) (new_items v before new same is)) ∙ sym (shown_given pending m sources (with_items v new).items name sound are (size_call v before new same is ∙ long) given))
-
--- words that are final at their sources
-pub final_call : (m : Module) (v : Vec ℕ Global) (sources before new : List ℕ) → length new ≡ length before → before ≡ v.items → IsFinal m (resolved sources new) → IsFinal m (resolved sources (with_items v new).items)
-final_call m v sources before new same is h = let P : List ℕ → Type 0 = λ words. IsFinal m (resolved sources words) in subst P (sym (new_items v before new same is)) h
-
--- and what was given is given still
-pub given_call : {ms : List Bool} (s : Seen) (m : Module) (v : Vec ℕ Global) (sources before new : List ℕ) (pending b : Bool) (w : ℕ) → record { of = m; words = shown_in pending sources v.items; settled = b; work = w; marked = ms } ≡ s
-    → IsSound m → AreSources m sources → length v.items ≡ length (all_names m) → length new ≡ length before → before ≡ v.items
-    → Agree (given_names m) (named m before) (named m (resolved sources new)) → Agree (given_names m) (carried s) (named m (resolved sources (with_items v new).items))
-given_call s m v sources before new pending b w view sound are long same is agree =
-    agree_by (given_names m) (carried s) (named m (resolved sources (with_items v new).items)) (λ name at.
-    sym (ap (λ (t : Seen). carried t name) view) ∙ shown_given pending m sources v.items name sound are long at ∙ sym (ap (λ words. named m words name) is)
-    ∙ All-contains (λ name. named m before name ≡ named m (resolved sources new) name) (given_names m) name agree at
-    ∙ sym (ap (λ words. named m (resolved sources words) name) (new_items v before new same is)))
-
--- what copies are written to is final where it is resolved
-pub lent_final : (m : Module) (v : Vec ℕ Global) (sources before : List ℕ) (pending : Bool) → AreSources m sources → IsFinal m (shown_in pending sources v.items) → before ≡ v.items → IsFinal m (resolved sources before)
-lent_final m v sources before pending are final is = subst (IsFinal m) (sym (ap (resolved sources) is ∙ shown_final pending m sources v.items are final)) final
-
-pub lent_plain : (m : Module) (v : Vec ℕ Global) (sources before : List ℕ) (pending : Bool) → AreSources m sources → IsFinal m (shown_in pending sources v.items) → before ≡ v.items → pending ≡ false → resolved sources before ≡ before
-lent_plain m v sources before pending are final is none = ap (resolved sources) is ∙ shown_final pending m sources v.items are final ∙ plain pending sources v.items none ∙ sym is
-
--- the words after copies were written
-pub copies_call : (m : Module) (v : Vec ℕ Global) (sources before new : List ℕ) (pending : Bool) → AreSources m sources → IsFinal m (shown_in pending sources v.items) → length new ≡ length before → before ≡ v.items → new ≡ resolved sources before
-    → (with_items v new).items ≡ shown_in pending sources v.items
-copies_call m v sources before new pending are final same is wrote = new_items v before new same is ∙ wrote ∙ ap (resolved sources) is ∙ shown_final pending m sources v.items are final
-
--- they are the ones that are seen
-pub written_view : {ms : List Bool} (s : Seen) (m : Module) (words words' : List ℕ) (b : Bool) (w : ℕ) → words' ≡ words → record { of = m; words = words; settled = b; work = w; marked = ms } ≡ s → record { of = m; words = words'; settled = b; work = w; marked = ms } ≡ s
-written_view {ms = ms} s m words words' b w same view = let P : List ℕ → Type 0 = λ ws. record { of = m; words = ws; settled = b; work = w; marked = ms } ≡ s in subst P (sym same) view
-
--- and what holds where the clock is not dense holds of them
-pub written_held : (m : Module) (sources words words' : List ℕ) (pending dense : Bool) (stale due : List Bool) → words' ≡ shown_in pending sources words → (dense ≡ false → pending ≡ false) → (dense ≡ false → AreHeld m words stale due) → dense ≡ false → AreHeld m words' stale due
-written_held m sources words words' pending dense stale due same none held some =
-    let P : List ℕ → Type 0 = λ ws. AreHeld m ws stale due in
-    subst P (sym (same ∙ plain pending sources words (none some))) (held some)
+-- and so do literals
+pub reset_call : (m : Module) (u : Vec ℕ Global) (given room read : List ℕ) → IsSound m → ((old : Words) → AreTaken m true old (length m.steps) given)
+    → length given ≡ length room → room ≡ u.items → read ≡ (with_items u given).items → FitRegisters m read
+reset_call m u given room read sound taken long own is =
+    let whole : read ≡ given = is ∙ new_items u room given long own in
+    rw whole (reset_fits m (λ name. 0) given sound (taken (λ name. 0)))
 
 -- the words after a store fit
 pub fit_call : (m : Module) (v : Vec ℕ Global) (before new : List ℕ) → length new ≡ length before → before ≡ v.items → AllFit m new → AllFit m (with_items v new).items
 fit_call m v before new same is h = let P : List ℕ → Type 0 = AllFit m in subst P (sym (new_items v before new same is)) h
 
--- the place of what a drive drives is there
-pub value_within : (m : Module) (k place : ℕ) → k < length m.drives → ((d : Drive) → slice_get (all_names m) place ≡ Some (get_or m.drives k d).target) → place < length (all_names m)
-value_within m k place lt at = elim (slice_get_cases m.drives k).1 [
-  | inl (drive, within, found, here) ↦ slice_get_within (all_names m) place (get_or m.drives k drive).target (at drive)
-  | inr (past, none) ↦ absurd (omega arith)
-]
-
--- and has a source
-pub place_there : (m : Module) (sources : Vec ℕ Global) (place : ℕ) → AreSources m sources.items → place < length (all_names m) → place < sources.len
-place_there m sources place are lt =
-    let size : length sources.items ≡ length (all_names m) = are.size in
-    let long : sources.len ≡ length sources.items = sources.ok.0 in
-    omega (arith, lt, size, long)
-
--- which is there
-pub source_there : (m : Module) (sources : Vec ℕ Global) (v : Vec ℕ Global) (place source : ℕ) → AreSources m sources.items → length v.items ≡ length (all_names m) → place < length (all_names m) → source ≡ get_or sources.items place source → source < v.len
-source_there m sources v place source are long lt is =
-    let within : get_or sources.items place 0 < length (all_names m) = are.within place lt in
-    let same : source ≡ get_or sources.items place 0 = is ∙ get_or_default_zero sources.items place source (rw are.size lt) in
-    let size : v.len ≡ length v.items = v.ok.0 in
-    omega (arith, within, same, size, long)
-
--- a word that was read at the source of a place is seen there
-pub value_read : (pending : Bool) (m : Module) (sources items : List ℕ) (place source word : ℕ) → AreSources m sources → length items ≡ length (all_names m) → IsFinal m (shown_in pending sources items) → place < length (all_names m)
-    → source ≡ get_or sources place source → word ≡ get_or items source word → word ≡ get_or (shown_in pending sources items) place word
-value_read pending m sources items place source word are long final lt at read =
-    let there : place < length sources = rw are.size lt in
-    let same : source ≡ get_or sources place 0 = at ∙ get_or_default_zero sources place source there in
-    let within : get_or sources place 0 < length items = rw long (are.within place lt) in
-    let here : place < length (shown_in pending sources items) = rw final.size lt in
-    read ∙ ap (λ p. get_or items p word) same ∙ get_or_default_zero items (get_or sources place 0) word within
-    ∙ sym (resolved_at sources items place there) ∙ ap (λ words. get_or words place 0) (shown_final pending m sources items are final) ∙ sym (get_or_default_zero (shown_in pending sources items) place word here)
-
--- its word is the one that is seen
-pub value_word : {ms : List Bool} (s : Seen) (m : Module) (items : List ℕ) (b : Bool) (w : ℕ) (k place word : ℕ) → record { of = m; words = items; settled = b; work = w; marked = ms } ≡ s → IsSound m → length items ≡ length (all_names m)
-    → ((d : Drive) → slice_get (all_names m) place ≡ Some (get_or m.drives k d).target) → word ≡ get_or items place word → (d : Drive) → word ≡ carried s (get_or s.of.drives k d).target
-value_word s m items b w k place word view sound same at is d =
-    let P : Seen → Type 0 = λ t. word ≡ carried t (get_or t.of.drives k d).target in
-    let target = (get_or m.drives k d).target in
-    let within : place < length items = rw same (slice_get_within (all_names m) place target (at d)) in
-    subst P view (is ∙ get_or_default_zero items place word within ∙ sym (look_at (all_names m) items place target (names_distinct m sound) same (at d)))
-
--- and fits
-pub value_fits : {ms : List Bool} (s : Seen) (m : Module) (items : List ℕ) (b : Bool) (w : ℕ) (k place word : ℕ) → record { of = m; words = items; settled = b; work = w; marked = ms } ≡ s → AllFit m items
-    → ((d : Drive) → slice_get (all_names m) place ≡ Some (get_or m.drives k d).target) → ((d : Drive) → word ≡ carried s (get_or s.of.drives k d).target) → (d : Drive) → IsWord (width_of s.of (get_or s.of.drives k d).target) word
-value_fits s m items b w k place word view fit at is d =
-    let P : Seen → Type 0 = λ t. IsWord (width_of t.of (get_or t.of.drives k d).target) (carried t (get_or t.of.drives k d).target) in
-    let target = (get_or m.drives k d).target in
-    rw (is d) (subst P view (All-contains (λ name. IsWord (width_of m name) (named m items name)) (all_names m) target fit (contains_at (all_names m) place target (at d))))
-
 -- a clock that says so is settled
-pub value_settled : {ms : List Bool} (s : Seen) (m : Module) (items : List ℕ) (b : Bool) (w : ℕ) → record { of = m; words = items; settled = b; work = w; marked = ms } ≡ s → IsFinal m items → Settled s.of (carried s)
-value_settled s m items b w view final =
+pub value_settled : {ms : List Bool} (s : Seen) (m : Module) (items : List ℕ) (b : Bool) (w : ℕ) → record { of = m; words = items; settled = b; work = w; marked = ms } ≡ s → (IsTrue b → Settled m (named m items)) → IsTrue s.settled → Settled s.of (carried s)
+value_settled s m items b w view settled flag =
     let P : Seen → Type 0 = λ t. Settled t.of (carried t) in
-    subst P view final.settled
+    subst P view (settled (ap (λ (t : Seen). t.settled) view ∙ flag))
 
 -- the place of a drive, as it is seen
 pub drive_seen : {ms : List Bool} (s : Seen) (m : Module) (items : List ℕ) (b : Bool) (w : ℕ) (k : ℕ) → record { of = m; words = items; settled = b; work = w; marked = ms } ≡ s → k < length s.of.drives → k < length m.drives
@@ -324,32 +185,29 @@ fits_seen s m items b w k value view fits = let P : Seen → Type 0 = λ t. ForS
 written_call : (v : Vec ℕ Global) (before new : List ℕ) (k value : ℕ) → length new ≡ length before → before ≡ v.items → new ≡ set before k value → (with_items v new).items ≡ set v.items k value
 written_call v before new k value same is wrote = new_items v before new same is ∙ wrote ∙ ap (λ ws. set ws k value) is
 
--- and so are the words that are seen
-pub shown_call : (m : Module) (v : Vec ℕ Global) (sources before new : List ℕ) (pending : Bool) (k value : ℕ) → AreSources m sources → length v.items ≡ length (all_names m) → k < length m.inputs → length new ≡ length before → before ≡ v.items → new ≡ set before k value
-    → shown_in pending sources (with_items v new).items ≡ set (shown_in pending sources v.items) k value
-shown_call m v sources before new pending k value are long lt same is wrote = ap (shown_in pending sources) (written_call v before new k value same is wrote) ∙ shown_set pending m sources v.items k value are long lt
-
 -- what is seen after a word was set
-pub set_call : {ms ms' : List Bool} (s : Seen) (m : Module) (words words' : List ℕ) (b : Bool) (w : ℕ) (k value : ℕ) → record { of = m; words = words; settled = b; work = w; marked = ms } ≡ s → words' ≡ set words k value
-    → record { of = m; words = words'; settled = false; work = w; marked = ms' } ≡ record s { words = set s.words k value; settled = false; marked = ms' }
-set_call {ms' = ms'} s m words words' b w k value view wrote =
-    let P : Seen → Type 0 = λ t. record { of = m; words = words'; settled = false; work = w; marked = ms' } ≡ record t { words = set t.words k value; settled = false; marked = ms' } in
+pub set_call : {ms ms' : List Bool} (s : Seen) (m : Module) (v : Vec ℕ Global) (before new : List ℕ) (b : Bool) (w : ℕ) (k value : ℕ) → record { of = m; words = v.items; settled = b; work = w; marked = ms } ≡ s
+    → length new ≡ length before → before ≡ v.items → new ≡ set before k value
+    → record { of = m; words = (with_items v new).items; settled = false; work = w; marked = ms' } ≡ record s { words = set s.words k value; settled = false; marked = ms' }
+set_call {ms' = ms'} s m v before new b w k value view same is wrote =
+    let P : Seen → Type 0 = λ t. record { of = m; words = (with_items v new).items; settled = false; work = w; marked = ms' } ≡ record t { words = set t.words k value; settled = false; marked = ms' } in
     let F : List ℕ → Seen = λ ws. record { of = m; words = ws; settled = false; work = w; marked = ms' } in
-    subst P view (ap F wrote)
+    subst P view (ap F (written_call v before new k value same is wrote))
 
 -- the port has the word after it was
-pub set_port_call : {ms : List Bool} (s : Seen) (m : Module) (words words' : List ℕ) (b : Bool) (w : ℕ) (k value : ℕ) → record { of = m; words = words; settled = b; work = w; marked = ms } ≡ s → IsSound m → length words ≡ length (all_names m)
-    → words' ≡ set words k value → IfSome (slice_get s.of.inputs k) (λ port. named m words' port.name ≡ value)
-set_port_call s m words words' b w k value view sound size wrote =
+pub set_port_call : {ms : List Bool} (s : Seen) (m : Module) (v : Vec ℕ Global) (before new : List ℕ) (b : Bool) (w : ℕ) (k value : ℕ) → record { of = m; words = v.items; settled = b; work = w; marked = ms } ≡ s → IsSound m → length v.items ≡ length (all_names m)
+    → length new ≡ length before → before ≡ v.items → new ≡ set before k value → IfSome (slice_get s.of.inputs k) (λ port. named m (with_items v new).items port.name ≡ value)
+set_port_call s m v before new b w k value view sound size same is wrote =
     let P : List ℕ → Type 0 = λ ws. IfSome (slice_get s.of.inputs k) (λ port. named m ws port.name ≡ value) in
-    subst P (sym wrote) (set_port s m words b w k value view sound size)
+    subst P (sym (written_call v before new k value same is wrote)) (set_port s m v.items b w k value view sound size)
 
 -- and every other name its own
-pub set_others_call : {ms : List Bool} (s : Seen) (m : Module) (words words' : List ℕ) (b : Bool) (w : ℕ) (k value : ℕ) → record { of = m; words = words; settled = b; work = w; marked = ms } ≡ s → IsSound m → length words ≡ length (all_names m)
-    → words' ≡ set words k value → IfSome (slice_get s.of.inputs k) (λ port. (name : List ℕ) → name ≢ port.name → named m words' name ≡ carried s name)
-set_others_call s m words words' b w k value view sound size wrote =
+pub set_others_call : {ms : List Bool} (s : Seen) (m : Module) (v : Vec ℕ Global) (before new : List ℕ) (b : Bool) (w : ℕ) (k value : ℕ) → record { of = m; words = v.items; settled = b; work = w; marked = ms } ≡ s → IsSound m → length v.items ≡ length (all_names m)
+    → length new ≡ length before → before ≡ v.items → new ≡ set before k value
+    → IfSome (slice_get s.of.inputs k) (λ port. (name : List ℕ) → name ≢ port.name → named m (with_items v new).items name ≡ carried s name)
+set_others_call s m v before new b w k value view sound size same is wrote =
     let P : List ℕ → Type 0 = λ ws. IfSome (slice_get s.of.inputs k) (λ port. (name : List ℕ) → name ≢ port.name → named m ws name ≡ carried s name) in
-    subst P (sym wrote) (set_others s m words b w k value view sound size)
+    subst P (sym (written_call v before new k value same is wrote)) (set_others s m v.items b w k value view sound size)
 
 -- the words fit after it was
 pub set_fits_call : (m : Module) (v : Vec ℕ Global) (before new : List ℕ) (k value : ℕ) → IsSound m → length v.items ≡ length (all_names m) → k < length m.inputs → ForSome (slice_get m.inputs k) (λ port. IsWord port.width.bits value) → AllFit m v.items
@@ -438,19 +296,17 @@ first_empty old count new n is few zero' none = omega arith
 -- ---- marks
 
 -- each drive that is not marked holds, of what is seen
-pub unmarked_hold : (s : Seen) (m : Module) (sources words : List ℕ) (b dense pending : Bool) (w : ℕ) (stale due : List Bool)
-    → record { of = m; words = shown_in pending sources words; settled = b; work = w; marked = if dense then replicate (length m.drives) true else stale } ≡ s → (dense ≡ false → pending ≡ false) → (dense ≡ false → AreHeld m words stale due)
+pub unmarked_hold : (s : Seen) (m : Module) (words : List ℕ) (b dense : Bool) (w : ℕ) (stale due : List Bool)
+    → record { of = m; words = words; settled = b; work = w; marked = if dense then replicate (length m.drives) true else stale } ≡ s → (dense ≡ false → AreHeld m words stale due)
     → (k : ℕ) (d : Drive) → k < length s.of.drives → IsClear s.marked k → Holds (width_of s.of) (carried s) (get_or s.of.drives k d)
-unmarked_hold s m sources words b dense pending w stale due view none held =
+unmarked_hold s m words b dense w stale due view held =
     let P : Seen → Type 0 = λ t. (k : ℕ) (d : Drive) → k < length t.of.drives → IsClear t.marked k → Holds (width_of t.of) (carried t) (get_or t.of.drives k d) in
-    subst P view (λ k d lt clear. by dense k d lt clear none held)
+    subst P view (λ k d lt clear. by dense k d lt clear held)
   where
-    by : (t : Bool) (k : ℕ) (d : Drive) → k < length m.drives → IsClear (if t then replicate (length m.drives) true else stale) k → (t ≡ false → pending ≡ false) → (t ≡ false → AreHeld m words stale due)
-        → Holds (width_of m) (named m (shown_in pending sources words)) (get_or m.drives k d)
-    by true k d lt clear n h = absurd (none_clear (length m.drives) k clear)
-    by false k d lt clear n h =
-        let Q : List ℕ → Type 0 = λ ws. Holds (width_of m) (named m ws) (get_or m.drives k d) in
-        subst Q (sym (plain pending sources words (n refl))) ((h refl).drives k d lt clear)
+    by : (t : Bool) (k : ℕ) (d : Drive) → k < length m.drives → IsClear (if t then replicate (length m.drives) true else stale) k → (t ≡ false → AreHeld m words stale due)
+        → Holds (width_of m) (named m words) (get_or m.drives k d)
+    by true k d lt clear h = absurd (none_clear (length m.drives) k clear)
+    by false k d lt clear h = (h refl).drives k d lt clear
 
 -- those of a clock that is not dense, and of one that is
 pub own_marks : (s : Seen) (m : Module) (words : List ℕ) (b dense : Bool) (w : ℕ) (stale : List Bool)
@@ -491,3 +347,73 @@ pub all_count : (s : Seen) (v : Words) (old count next : ℕ) → next ≡ min (
 all_count s v old count next sum work all filled =
     subst (λ (ms : List Bool). next ≤ s.work + touched (carried s) v s.of.drives ms) (sym filled)
     (let e = all_touched (carried s) v s.of.drives in omega (arith, sum, work, all, e))
+
+-- ---- words of the constant 0
+
+-- of the words that a call is lent
+pub zero_lent : (m : Module) (v : Vec ℕ Global) (before : List ℕ) → before ≡ v.items → AreZero m v.items → AreZero m before
+zero_lent m v before is zeros = subst (AreZero m) (sym is) zeros
+
+-- of settled words that a call leaves
+pub zero_settled : (m : Module) (v : Vec ℕ Global) (before new : List ℕ) → length new ≡ length before → before ≡ v.items → Settled m (named m new) → AreZero m (with_items v new).items
+zero_settled m v before new same is settled = subst (AreZero m) (sym (new_items v before new same is)) (settled_zero m new settled)
+
+-- of the words after an edge
+pub zero_edge : (m : Module) (v : Vec ℕ Global) (before new : List ℕ) → IsSound m → length new ≡ length before → before ≡ v.items → ((name : List ℕ) → (Contains (registers_of m.steps) name → ⊥) → named m new name ≡ named m before name)
+    → AreZero m v.items → AreZero m (with_items v new).items
+zero_edge m v before new sound same is others zeros = subst (AreZero m) (sym (new_items v before new same is)) (edge_zero m before new sound others (zero_lent m v before is zeros))
+
+-- and of those after a word was set at a port
+pub zero_set : (m : Module) (v : Vec ℕ Global) (before new : List ℕ) (k value : ℕ) → IsSound m → length v.items ≡ length (all_names m) → k < length m.inputs → length new ≡ length before → before ≡ v.items → new ≡ set before k value
+    → AreZero m v.items → AreZero m (with_items v new).items
+zero_set m v before new k value sound size lt same is wrote zeros = elim (slice_get_cases m.inputs k).1 [
+  | inl (port, within, found, here) ↦
+      let set' = port_set m v.items k value port sound size found in
+      let given : Contains (given_names m) port.name =
+      Contains-append_left (names_of m.inputs) (names_of m.registers) port.name (contains_at (names_of m.inputs) k port.name (input_at m k port found)) in
+      subst (AreZero m) (sym (written_call v before new k value same is wrote)) (λ i d below zero'.
+      ap (λ (w : Words). w (get_or m.drives i d).target) set'
+      ∙ with_word_other (named m v.items) port.name value (get_or m.drives i d).target (given_apart m i d port.name sound below given)
+      ∙ zeros i d below zero')
+  | inr (past, none) ↦ absurd (omega arith)
+]
+
+-- ---- a word that is read
+
+-- its place is there
+pub word_within : {ms : List Bool} (s : Seen) (m : Module) (v : Vec ℕ Global) (b : Bool) (w : ℕ) (place : ℕ) → record { of = m; words = v.items; settled = b; work = w; marked = ms } ≡ s → length v.items ≡ length (all_names m) → place < length (all_names s.of) → place < v.len
+word_within s m v b w place view size lt =
+    let lt' : place < length (all_names m) = subst (λ (t : Seen). place < length (all_names t.of)) (sym view) lt in
+    let long : v.len ≡ length v.items = v.ok.0 in
+    omega arith
+
+-- it is the one that is seen
+pub word_seen : {ms : List Bool} (s : Seen) (m : Module) (v : Vec ℕ Global) (b : Bool) (w : ℕ) (place word : ℕ) → record { of = m; words = v.items; settled = b; work = w; marked = ms } ≡ s → length v.items ≡ length (all_names m) → place < length (all_names s.of)
+    → word ≡ get_or v.items place word → word ≡ get_or s.words place 0
+word_seen s m v b w place word view size lt is =
+    let lt' : place < length (all_names m) = subst (λ (t : Seen). place < length (all_names t.of)) (sym view) lt in
+    subst (λ (t : Seen). word ≡ get_or t.words place 0) view (is ∙ get_or_default_zero v.items place word (rw size lt'))
+
+-- and fits
+pub word_fits_seen : {ms : List Bool} (s : Seen) (m : Module) (v : Vec ℕ Global) (b : Bool) (w : ℕ) (place word : ℕ) → record { of = m; words = v.items; settled = b; work = w; marked = ms } ≡ s → IsSound m → length v.items ≡ length (all_names m) → AllFit m v.items
+    → place < length (all_names s.of) → word ≡ get_or v.items place word → (name : List ℕ) → slice_get (all_names s.of) place ≡ Some name → IsWord (width_of s.of name) word
+word_fits_seen s m v b w place word view sound size fit lt is name at =
+    let lt' : place < length (all_names m) = subst (λ (t : Seen). place < length (all_names t.of)) (sym view) lt in
+    let at' : slice_get (all_names m) place ≡ Some name = subst (λ (t : Seen). slice_get (all_names t.of) place ≡ Some name) (sym view) at in
+    let here : word ≡ named m v.items name = is ∙ get_or_default_zero v.items place word (rw size lt') ∙ sym (look_at (all_names m) v.items place name (names_distinct m sound) size at') in
+    subst (λ (t : Seen). IsWord (width_of t.of name) word) view
+    (subst (IsWord (width_of m name)) (sym here) (All-contains (λ n. IsWord (width_of m n) (named m v.items n)) (all_names m) name fit (contains_at (all_names m) place name at')))
+
+-- there is a word for each name, and a mark for each drive
+pub whole_seen : (s : Seen) (m : Module) (words : List ℕ) (b dense : Bool) (w : ℕ) (stale : List Bool) → record { of = m; words = words; settled = b; work = w; marked = if dense then replicate (length m.drives) true else stale } ≡ s
+    → length words ≡ length (all_names m) → length stale ≡ length m.drives → IsWhole s
+whole_seen s m words b dense w stale view size marks = subst IsWhole view (record { size = size; marks = by dense })
+  where
+    by : (t : Bool) → length (if t then replicate (length m.drives) true else stale) ≡ length m.drives
+    by true = length-replicate (length m.drives) true
+    by false = marks
+
+-- what is driven stands at its place
+pub target_seen : {ms : List Bool} (s : Seen) (m : Module) (items : List ℕ) (b : Bool) (w : ℕ) (k place : ℕ) → record { of = m; words = items; settled = b; work = w; marked = ms } ≡ s
+    → ((d : Drive) → slice_get (all_names m) place ≡ Some (get_or m.drives k d).target) → (d : Drive) → slice_get (all_names s.of) place ≡ Some (get_or s.of.drives k d).target
+target_seen s m items b w k place view at d = subst (λ (t : Seen). slice_get (all_names t.of) place ≡ Some (get_or t.of.drives k d).target) view (at d)

@@ -1,9 +1,11 @@
 pub mod Gates
 pub mod Found
 pub mod Resolver
+pub mod Sources
+pub mod Merged
+pub mod Kept
 pub mod Circuit
 pub mod Readers
 pub mod Marking
-pub mod Passes
-pub mod Merged
 pub mod Engine
+pub mod Sourced

@@ -1,4 +1,4 @@
-ghost use Rattle.std.specs.Prelude.{◌≡◌, ◌≢◌, ◌<◌, ◌≤◌, ◌+◌, ℕ, List as Items, [], length, false, true, slice_get, slice_set, slice_index, slice_index_or, Some, Contains, IfOk, All};
+ghost use Rattle.std.specs.Prelude.{◌≡◌, ◌≢◌, ◌<◌, ◌≤◌, ◌+◌, ℕ, List as Items, length, false, true, slice_get, slice_set, slice_index, slice_index_or, Some, Contains, IfOk, All, filter};
 ghost use Rattle.av_base.specs.Words.{IsWord};
 ghost use Rattle.av_net.specs.Meaning.{Words};
 ghost use Rattle.av_net.specs.Names.{all_names, given_names, names_of, registers_of, width_of};
@@ -9,13 +9,13 @@ ghost use Rattle.av_net.specs.Meaning.{word_of, EachOperand};
 ghost use Rattle.av_clock.specs.Named.{named, AllFit};
 ghost use Rattle.av_clock.specs.Marked.{IsClear, AreHeld, touched};
 ghost use Rattle.av_clock.specs.inner.Marking.{IsSet, ReadTheSame, AreAhead, AreTouched, AreDue};
-ghost use Rattle.av_clock.specs.inner.Passes.{IsFinal, IsKnown, IsCovered, AreFinalAt, AreSources, ArePasses, resolved};
 ghost use Rattle.av_clock.specs.inner.Readers.{IsOther};
+ghost use Rattle.av_clock.specs.inner.Kept.{computes, AreZero};
 ghost use Rattle.av_clock.specs.inner.Merged.{merged as merged_module, IsMerging};
 
-use crate::merged::Merged;
+use crate::gate::Assignment;
 use crate::marks::{Marks, set_all};
-use crate::passes::Passes;
+use crate::merged::Merged;
 use crate::readers::{drives_reading, steps_reading};
 use crate::resolver::size_of_module;
 use av_base::{List, Memory};
@@ -23,12 +23,14 @@ use av_net::Module;
 use std::alloc::Global;
 use std::marker::Model;
 
-/// A sound module, as which contracts see it, with its names resolved. Words stand in the order of its
+/// The merged drives and steps of a sound module, as the module of which contracts see it. Words stand in the order of its
 /// declarations: input ports, registers, outputs and wires.
 #[derive(Drop)]
 pub(crate) struct Circuit<'a> {
     of: &'a Module,
     merged: Merged,
+    // The assignments that compute a word: all but those of the constant 0.
+    computed: Vec<Assignment>,
     drives_reading: Vec<List<usize>>,
     steps_reading: Vec<List<usize>>,
 }
@@ -38,11 +40,9 @@ impl<'a> Model for Circuit<'a> {
 
     ghost Value = { Netlist };
 
-    ghost use Rattle.av_clock.specs.inner.Circuit.{IsCircuit};
+    ghost use Rattle.av_clock.specs.inner.Circuit.{net, IsCircuit};
 
-    ghost use Rattle.av_clock.specs.inner.Merged.{merged};
-
-    ghost view = { λ c. merged c.of.now c.merged.sources.items };
+    ghost view = { net };
 
     ghost invariant = { IsCircuit };
 }
@@ -55,21 +55,16 @@ impl<'a> Circuit<'a> {
         requires { IsMerging of.now merged }
         ensures { IfOk result (λ circuit. circuit ≡ merged_module of.now merged.sources.items) }
     {
-        let drives_reading = drives_reading(alloc, of, &merged.assignments)?;
-        let steps_reading = steps_reading(alloc, of, &merged.flip_flops)?;
+        let computed = computed(alloc, &merged.assignments)?;
+        let drives_reading = drives_reading(alloc, of, &merged)?;
+        let steps_reading = steps_reading(alloc, of, &merged)?;
         Ok(Circuit {
             of,
             merged,
+            computed,
             drives_reading,
             steps_reading,
         })
-    }
-
-    /// The drives and the steps in passes.
-    pub(crate) fn passes(&self, alloc: Global) -> Result<Passes, Memory>
-        ensures { IfOk result (λ passes. ArePasses self.now passes) }
-    {
-        Passes::new(alloc, self.of, &self.merged.assignments, &self.merged.flip_flops)
     }
 
     /// The number of words.
@@ -84,6 +79,11 @@ impl<'a> Circuit<'a> {
         ensures { result ≡ length self.now.drives }
     {
         self.merged.assignments.len()
+    }
+
+    /// The number of drives that a settle of all computes.
+    pub(crate) fn dense_work(&self) -> usize {
+        self.computed.len()
     }
 
     /// The number of flip-flops.
@@ -101,73 +101,17 @@ impl<'a> Circuit<'a> {
         self.merged.assignments[drive].target
     }
 
-    /// All drives but the copies that are left out: each place has its word at its source.
-    pub(crate) fn settle(&self, passes: &Passes, words: &mut [u64])
-        requires sound { IsSound self.now }
-        requires passes { ArePasses self.now passes.now }
+    /// All drives in order, but those of the constant 0.
+    pub(crate) fn settle(&self, words: &mut [u64])
         requires size { length words.old ≡ length (all_names self.now) }
         requires fit { AllFit self.now words.old }
-        ensures settled { IsFinal self.now (resolved passes.now.sources.items words.new) }
-        ensures given { Agree (given_names self.now) (named self.now words.old) (named self.now (resolved passes.now.sources.items words.new)) }
+        requires zeros { AreZero self.now words.old }
+        ensures settled { Settled self.now (named self.now words.new) }
+        ensures given { Agree (given_names self.now) (named self.now words.old) (named self.now words.new) }
         ensures fit { AllFit self.now words.new }
     {
-        self.compute_words(passes, words);
-        self.copy_ports(passes, words);
-        self.give_constants(passes, words);
-    }
-
-    // The drives that compute, in order.
-    fn compute_words(&self, passes: &Passes, words: &mut [u64])
-        requires sound { IsSound self.now }
-        requires passes { ArePasses self.now passes.now }
-        requires size { length words.old ≡ length (all_names self.now) }
-        requires fit { AllFit self.now words.old }
-        ensures { AreFinalAt self.now words.old words.new (IsKnown self.now passes.now.computed.items) }
-    {
-        for assignment in &passes.computed {
+        for assignment in &self.computed {
             words[assignment.target] = assignment.gate.word(words);
-        }
-    }
-
-    // The copies of input ports.
-    fn copy_ports(&self, passes: &Passes, words: &mut [u64])
-        requires sound { IsSound self.now }
-        requires passes { ArePasses self.now passes.now }
-        requires size { length words.old ≡ length (all_names self.now) }
-        ensures { (before : Items ℕ) → AreFinalAt self.now before words.old (IsKnown self.now passes.now.computed.items)
-            → AreFinalAt self.now before words.new (IsCovered self.now passes.now.computed.items passes.now.copied.items []) }
-    {
-        for alias in &passes.copied {
-            words[alias.target] = words[alias.source];
-        }
-    }
-
-    // The drives of a constant.
-    fn give_constants(&self, passes: &Passes, words: &mut [u64])
-        requires sound { IsSound self.now }
-        requires passes { ArePasses self.now passes.now }
-        requires size { length words.old ≡ length (all_names self.now) }
-        ensures { (before : Items ℕ) → AreFinalAt self.now before words.old (IsCovered self.now passes.now.computed.items passes.now.copied.items [])
-            → AreFinalAt self.now before words.new (IsCovered self.now passes.now.computed.items passes.now.copied.items passes.now.fixed.items) }
-    {
-        for fixed in &passes.fixed {
-            words[fixed.target] = fixed.word;
-        }
-    }
-
-    /// Where copies are pending, writes them: gives each place the word of its source.
-    pub(crate) fn write_copies(&self, pending: bool, passes: &Passes, words: &mut [u64])
-        requires sources { AreSources self.now passes.now.sources.items }
-        requires size { length words.old ≡ length (all_names self.now) }
-        requires settled { IsFinal self.now (resolved passes.now.sources.items words.old) }
-        requires none { pending ≡ false → resolved passes.now.sources.items words.old ≡ words.old }
-        ensures { words.new ≡ resolved passes.now.sources.items words.old }
-    {
-        if !pending {
-            return;
-        }
-        for (place, source) in passes.sources.iter().enumerate() {
-            words[place] = words[*source];
         }
     }
 
@@ -387,6 +331,7 @@ impl<'a> Circuit<'a> {
         ensures edge { Edge self.now false (named self.now words.old) (named self.now words.new) }
         ensures ports { Agree (names_of self.now.inputs) (named self.now words.old) (named self.now words.new) }
         ensures held { AreHeld self.now words.new stale.new due.new }
+        ensures others { (name : Items ℕ) → (Contains (registers_of self.now.steps) name → ⊥) → named self.now words.new name ≡ named self.now words.old name }
     {
         let count = self.take_due(words, due, taken, next);
         self.store_taken(taken, next, count, words, stale, due);
@@ -414,21 +359,21 @@ impl<'a> Circuit<'a> {
         ensures edge { Edge self.now true (named self.now words.old) (named self.now words.new) }
         ensures ports { Agree (names_of self.now.inputs) (named self.now words.old) (named self.now words.new) }
         ensures held { AreHeld self.now words.old stale.old due.old → AreHeld self.now words.new stale.new due.new }
+        ensures others { (name : Items ℕ) → (Contains (registers_of self.now.steps) name → ⊥) → named self.now words.new name ≡ named self.now words.old name }
     {
         self.reset_words(taken, next);
         self.store_taken(taken, next, self.steps(), words, stale, due);
         due.fill(true);
     }
 
-    /// What each register takes at an edge without reset, in the order of the steps, where each place has its word at its source.
-    pub(crate) fn next_words(&self, passes: &Passes, words: &[u64], next: &mut [u64])
-        requires passes { ArePasses self.now passes.now }
+    /// What each register takes at an edge without reset, in the order of the steps.
+    pub(crate) fn next_words(&self, words: &[u64], next: &mut [u64])
         requires size { length words.now ≡ length (all_names self.now) }
         requires next { length next.old ≡ length self.now.steps }
-        ensures { AreTaken self.now false (named self.now (resolved passes.now.sources.items words.now)) (length self.now.steps) next.new }
+        ensures { AreTaken self.now false (named self.now words.now) (length self.now.steps) next.new }
     {
-        for (i, reading) in passes.nexts.iter().enumerate() {
-            next[i] = reading.word(words);
+        for (i, flip_flop) in self.merged.flip_flops.iter().enumerate() {
+            next[i] = flip_flop.next.word(words);
         }
     }
 
@@ -469,9 +414,23 @@ impl<'a> Circuit<'a> {
             → (d : _) → named self.now words.new (slice_index_or self.now.steps k d).register ≡ slice_index next.now k }
         ensures ports { Agree (names_of self.now.inputs) (named self.now words.old) (named self.now words.new) }
         ensures fit { AllFit self.now words.new }
+        ensures others { (name : Items ℕ) → (Contains (registers_of self.now.steps) name → ⊥) → named self.now words.new name ≡ named self.now words.old name }
     {
         for (i, flip_flop) in self.merged.flip_flops.iter().enumerate() {
             words[flip_flop.register] = next[i];
         }
     }
+}
+
+// The assignments that compute a word: all but those of the constant 0.
+fn computed(alloc: Global, assignments: &[Assignment]) -> Result<Vec<Assignment>, Memory>
+    ensures { IfOk result (λ computed. computed.items ≡ filter computes assignments.now) }
+{
+    let mut computed = Vec::new(alloc);
+    for assignment in assignments {
+        if !assignment.gate.is_zero() {
+            computed.push(*assignment)?;
+        }
+    }
+    Ok(computed)
 }

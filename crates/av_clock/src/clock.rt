@@ -8,8 +8,7 @@ ghost use Rattle.av_net.specs.Sound.{IsSound};
 ghost use Rattle.av_clock.specs.Marked.{IsClear, touched};
 ghost use Rattle.av_clock.specs.Seen.{carried};
 
-use crate::engine::Engine;
-use crate::merged::Merged;
+use crate::sourced::SourcedClock;
 use av_base::Memory;
 use av_net::Module;
 use std::alloc::Global;
@@ -18,11 +17,7 @@ use std::marker::Model;
 /// A module that is clocked.
 #[derive(Drop)]
 pub struct Clock<'a> {
-    of: &'a Module,
-    // The source of each place, where its word stands.
-    sources: Vec<usize>,
-    // Clocks the merged module, in which what gives the same word is computed once.
-    engine: Engine<'a>,
+    sourced: SourcedClock<'a>,
 }
 
 impl<'a> Model for Clock<'a> {
@@ -30,11 +25,7 @@ impl<'a> Model for Clock<'a> {
 
     ghost Value = { Seen };
 
-    ghost use Rattle.av_clock.specs.Clock.{seen, IsKept};
-
-    ghost view = { seen };
-
-    ghost invariant = { IsKept };
+    ghost view = { λ c. c.sourced };
 }
 
 impl<'a> Clock<'a> {
@@ -47,17 +38,8 @@ impl<'a> Clock<'a> {
         ensures work { IfOk result (λ clock. clock.work ≡ 0) }
         ensures marked { IfOk result (λ clock. clock.marked ≡ replicate (length of.now.drives) true) }
     {
-        let merged = Merged::new(alloc, of)?;
-        let mut sources = Vec::new(alloc);
-        for source in &merged.sources {
-            sources.push(*source)?;
-        }
-        let engine = Engine::new(alloc, of, merged)?;
-        Ok(Clock {
-            of,
-            sources,
-            engine,
-        })
+        let sourced = SourcedClock::new(alloc, of)?;
+        Ok(Clock { sourced })
     }
 
     /// Makes every wire and output the value of its `assign`. Marked drives alone are computed, and those that are marked on, of
@@ -74,7 +56,7 @@ impl<'a> Clock<'a> {
             → self.new.work + k ≤ self.old.work + length self.old.of.drives }
         ensures touched { self.new.work ≤ self.old.work + touched (carried self.old) (carried self.new) self.old.of.drives self.old.marked }
     {
-        self.engine.settle();
+        self.sourced.settle();
     }
 
     /// A law on clocks: each drive that is not marked holds.
@@ -82,14 +64,14 @@ impl<'a> Clock<'a> {
         ensures { (k : ℕ) (d : _) → k < length self.now.of.drives → IsClear self.now.marked k
             → Holds (width_of self.now.of) (carried self.now) (slice_index_or self.now.of.drives k d) }
     {
-        self.engine.unmarked_drives_hold();
+        self.sourced.unmarked_drives_hold();
     }
 
     /// The number of drives that were computed since the clock was made. At the greatest number it stays.
     pub fn work(&self) -> u64
         ensures { result ≡ self.now.work }
     {
-        self.engine.work()
+        self.sourced.work()
     }
 
     /// The word of a wire or output, by its place in the module's `drives`.
@@ -100,8 +82,7 @@ impl<'a> Clock<'a> {
         ensures fits { (d : _) → IsWord (width_of self.now.of (slice_index_or self.now.of.drives wire d).target) result }
         ensures settled { Settled self.now.of (carried self.now) }
     {
-        let place = self.engine.target(wire as usize);
-        self.engine.word(self.sources[place])
+        self.sourced.value(wire)
     }
 
     /// Presents a value at an input port, by its place in the module's `inputs`.
@@ -113,7 +94,7 @@ impl<'a> Clock<'a> {
         ensures others { IfSome (slice_get self.old.of.inputs port) (λ p. (name : Items ℕ) → name ≢ p.name
             → carried self.new name ≡ carried self.old name) }
     {
-        self.engine.set(port, value);
+        self.sourced.set(port, value);
     }
 
     /// One edge with `rst` 0: all registers take the words of their operands together.
@@ -125,7 +106,7 @@ impl<'a> Clock<'a> {
         ensures flag { self.new.settled ≡ false }
         ensures work { self.new.work ≡ self.old.work }
     {
-        self.engine.tick();
+        self.sourced.tick();
     }
 
     /// One edge with `rst` 1: all registers take their literals.
@@ -136,6 +117,6 @@ impl<'a> Clock<'a> {
         ensures flag { self.new.settled ≡ false }
         ensures work { self.new.work ≡ self.old.work }
     {
-        self.engine.reset();
+        self.sourced.reset();
     }
 }

@@ -4,15 +4,14 @@ ghost use Rattle.av_base.specs.Words.{IsWord};
 ghost use Rattle.av_net.specs.Names.{all_names, given_names, names_of, width_of};
 ghost use Rattle.av_net.specs.Settled.{Settled, Agree, Holds};
 ghost use Rattle.av_net.specs.Clocked.{Edge};
-ghost use Rattle.av_net.specs.Sound.{IsSound};
 ghost use Rattle.av_clock.specs.Marked.{IsClear, touched};
 ghost use Rattle.av_clock.specs.Seen.{carried};
+ghost use Rattle.av_clock.specs.inner.Engine.{IsWhole};
 ghost use Rattle.av_clock.specs.inner.Merged.{merged as merged_module, IsMerging};
 
 use crate::circuit::Circuit;
 use crate::marks::{Marks, mark_anew};
 use crate::merged::Merged;
-use crate::passes::Passes;
 use av_base::Memory;
 use av_net::Module;
 use std::alloc::Global;
@@ -21,11 +20,10 @@ use std::marker::Model;
 // The ticks between two at which changed registers are counted.
 const UNCOUNTED_TICKS: u32 = 15;
 
-/// A module that is clocked as it stands: each of its drives is computed.
+/// A module that is clocked as it stands: each of its drives is computed, but those of the constant 0.
 #[derive(Drop)]
 pub(crate) struct Engine<'a> {
     circuit: Circuit<'a>,
-    passes: Passes,
     // The words of all names, in the order of declarations.
     words: Vec<u64>,
     // Room for the registers' next words, and for the steps that are taken.
@@ -36,8 +34,6 @@ pub(crate) struct Engine<'a> {
     due: Marks,
     // All drives are marked, whatever `stale` says, and each settle computes them.
     dense: bool,
-    // The last settle left copies out: each place has the word of its source, whatever its own is.
-    pending: bool,
     // The last settle by marks computed more than a third of what a settle of all drives takes.
     busy: bool,
     // The ticks to come before changed registers are counted again.
@@ -67,10 +63,9 @@ impl<'a> Engine<'a> {
         ensures words { IfOk result (λ engine. engine.words ≡ replicate (length (all_names of.now)) 0) }
         ensures flag { IfOk result (λ engine. engine.settled ≡ false) }
         ensures work { IfOk result (λ engine. engine.work ≡ 0) }
-        ensures marked { IfOk result (λ engine. engine.marked ≡ replicate (length of.now.drives) true) }
+        ensures marked { IfOk result (λ engine. engine.marked ≡ replicate (length (merged_module of.now merged.sources.items).drives) true) }
     {
         let circuit = Circuit::new(alloc, of, merged)?;
-        let passes = circuit.passes(alloc)?;
         let words = vec![in alloc; 0u64; circuit.size()]?;
         let next = vec![in alloc; 0u64; circuit.steps()]?;
         let taken = vec![in alloc; 0usize; circuit.steps()]?;
@@ -78,14 +73,12 @@ impl<'a> Engine<'a> {
         let due = Marks::new(alloc, circuit.steps())?;
         Ok(Engine {
             circuit,
-            passes,
             words,
             next,
             taken,
             stale,
             due,
             dense: true,
-            pending: false,
             busy: true,
             uncounted: 0,
             settled: false,
@@ -114,7 +107,7 @@ impl<'a> Engine<'a> {
         let computed = self
             .circuit
             .settle_marked(&mut self.words, &mut self.stale, &mut self.due);
-        self.busy = computed > self.passes.dense_work() / 3;
+        self.busy = computed > self.circuit.dense_work() / 3;
         self.work = self.work.saturating_add(computed as u64);
         self.settled = true;
     }
@@ -133,9 +126,8 @@ impl<'a> Engine<'a> {
             → self.new.work + k ≤ self.old.work + length self.old.of.drives }
         ensures touched { self.new.work ≤ self.old.work + touched (carried self.old) (carried self.new) self.old.of.drives self.old.marked }
     {
-        self.circuit.settle(&self.passes, &mut self.words);
+        self.circuit.settle(&mut self.words);
         self.dense = true;
-        self.pending = true;
         self.work = self.work.saturating_add(self.circuit.drives() as u64);
         self.settled = true;
     }
@@ -144,6 +136,13 @@ impl<'a> Engine<'a> {
     pub(crate) fn unmarked_drives_hold(&self)
         ensures { (k : ℕ) (d : _) → k < length self.now.of.drives → IsClear self.now.marked k
             → Holds (width_of self.now.of) (carried self.now) (slice_index_or self.now.of.drives k d) }
+    {
+        let _dense = self.dense;
+    }
+
+    /// A law on clocks: there is a word for each name, and a mark for each drive.
+    pub(crate) fn is_whole(&self)
+        ensures { IsWhole self.now }
     {
         let _dense = self.dense;
     }
@@ -165,11 +164,12 @@ impl<'a> Engine<'a> {
 
     /// The word at a place.
     pub(crate) fn word(&self, place: usize) -> u64
-        requires place { place < length (all_names self.now.of) }
-        requires settled { IsTrue self.now.settled }
-        ensures { result ≡ slice_index self.now.words place }
+        requires { place < length (all_names self.now.of) }
+        ensures word { result ≡ slice_index self.now.words place }
+        ensures fits { (name : Items ℕ) → slice_get (all_names self.now.of) place ≡ Some name → IsWord (width_of self.now.of name) result }
+        ensures settled { IsTrue self.now.settled → Settled self.now.of (carried self.now) }
     {
-        self.words[self.passes.sources[place]]
+        self.words[place]
     }
 
     /// Presents a value at an input port, by its place in the module's `inputs`.
@@ -221,8 +221,7 @@ impl<'a> Engine<'a> {
             return false;
         }
         self.uncounted = UNCOUNTED_TICKS;
-        self.circuit
-            .next_words(&self.passes, &self.words, &mut self.next);
+        self.circuit.next_words(&self.words, &mut self.next);
         let changed = self.circuit.changed(&self.words, &self.next);
         changed > self.circuit.steps() / 4
     }
@@ -236,9 +235,6 @@ impl<'a> Engine<'a> {
         ensures flag { self.new.settled ≡ false }
         ensures work { self.new.work ≡ self.old.work }
     {
-        self.circuit
-            .write_copies(self.pending, &self.passes, &mut self.words);
-        self.pending = false;
         mark_anew(self.dense, &mut self.stale, &mut self.due);
         self.dense = false;
         self.circuit.tick_marked(
@@ -260,8 +256,7 @@ impl<'a> Engine<'a> {
         ensures flag { self.new.settled ≡ false }
         ensures work { self.new.work ≡ self.old.work }
     {
-        self.circuit
-            .next_words(&self.passes, &self.words, &mut self.next);
+        self.circuit.next_words(&self.words, &mut self.next);
         self.circuit.store(&self.next, &mut self.words);
         self.dense = true;
         self.settled = false;

@@ -8,8 +8,8 @@ mod engine;
 mod gate;
 mod marks;
 mod merged;
-mod passes;
 mod readers;
 mod resolver;
+mod sourced;
 
 pub use clock::Clock;

@@ -1,34 +1,25 @@
 -- A module in which what gives the same word is computed once: operands are read at sources, and the drive of a name that is not its own source
--- is left out.
-use Rattle.std.specs.Prelude.{◌≡◌, ◌⊎◌, ℕ, ◌<◌, List, ◌++◌, map, length, take, slice_index_or, if◌then◌else◌, Contains}
+-- gives 0.
+use Rattle.std.specs.Prelude.{◌≡◌, ◌⊎◌, ℕ, ◌<◌, ◌≤◌, List, [], ◌∷◌, ◌++◌, map, length, take, slice_index, slice_index_or, if◌then◌else◌, Contains}
 use Rattle.std.specs.Str.{bytes_eq}
 use Rattle.av_net.specs.declared.operation.Operand.{Operand}
 use Rattle.av_net.specs.declared.operation.Operand.TheVariants.{Name, Literal}
 use Rattle.av_net.specs.declared.operation.Operation.{Operation}
 use Rattle.av_net.specs.declared.operation.Operation.TheVariants.{Plain, Binary, Signed, Choose, Part, Widen}
+use Rattle.av_net.specs.declared.netlist.Port.{Port}
 use Rattle.av_net.specs.declared.netlist.Drive.{Drive}
 use Rattle.av_net.specs.declared.netlist.Step.{Step}
 use Rattle.av_net.specs.declared.netlist.Module.{Module}
-use Rattle.av_net.specs.Meaning.{Words, result_of}
-use Rattle.av_net.specs.Names.{given_names, all_names, targets_of, width_of}
+use Rattle.av_net.specs.Meaning.{result_of}
+use Rattle.av_net.specs.Names.{names_of, given_names, all_names, targets_of, declarations, width_of}
+use Rattle.av_net.specs.Settled.{Holds}
 use Rattle.av_net.specs.Sound.{IsSound}
-use Rattle.av_clock.specs.declared.gate.Reading.{Reading}
-use Rattle.av_clock.specs.declared.gate.Reading.TheVariants.{At, Constant}
-use Rattle.av_clock.specs.declared.gate.Gate.{Gate}
-use Rattle.av_clock.specs.declared.gate.Gate.TheVariants.{Buffer, Operator, Comparator, Multiplexer, Slice, Extender}
+use Rattle.av_clock.specs.declared.gate.Reading.TheVariants.{At}
+use Rattle.av_clock.specs.declared.gate.Gate.TheVariants.{Buffer}
+use Rattle.av_clock.specs.declared.gate.Assignment.{Assignment}
 use Rattle.av_clock.specs.declared.merged.Merged.{Merged}
 use Rattle.av_clock.specs.Named.{named, looked_up}
-use Rattle.av_clock.specs.inner.Gates.{AreAssigned, AreStepped}
-use Rattle.av_clock.specs.inner.Passes.{AreSources, at_source}
-
--- the same gate, reading at sources
-abbrev pub gate_at_sources : List ℕ → Gate → Gate
-gate_at_sources sources (Buffer input) = Buffer (at_source sources input)
-gate_at_sources sources (Operator left symbol right width) = Operator (at_source sources left) symbol (at_source sources right) width
-gate_at_sources sources (Comparator left symbol right width) = Comparator (at_source sources left) symbol (at_source sources right) width
-gate_at_sources sources (Multiplexer condition first second) = Multiplexer (at_source sources condition) (at_source sources first) (at_source sources second)
-gate_at_sources sources (Slice input from width) = Slice (at_source sources input) from width
-gate_at_sources sources (Extender input width by) = Extender (at_source sources input) width by
+use Rattle.av_clock.specs.inner.Gates.{AreAssigned, AreStepped, GiveTheSame}
 
 -- the name at the source of a name's place
 abbrev pub source_of : Module → List ℕ → List ℕ → List ℕ
@@ -46,11 +37,16 @@ sourced_operation m sources (Choose c a b) = Choose (sourced m sources c) (sourc
 sourced_operation m sources (Part name high low) = Part (source_of m sources name) high low
 sourced_operation m sources (Widen name by) = Widen (source_of m sources name) by
 
+-- 0 in the width of the first declaration of a name, or the name where there is none
+abbrev pub zero_of : List Port → List ℕ → Operand
+zero_of [] name = Name name
+zero_of (port ∷ ports) name = if bytes_eq port.name name then Literal port.width 0 else zero_of ports name
+
 -- a drive that is left out gives 0
 abbrev pub merged_drive : Module → List ℕ → Drive → Drive
 merged_drive m sources drive = record {
   target = drive.target;
-  operation = if bytes_eq (source_of m sources drive.target) drive.target then sourced_operation m sources drive.operation else Plain (Literal (record { bits = width_of m drive.target }) 0);
+  operation = if bytes_eq (source_of m sources drive.target) drive.target then sourced_operation m sources drive.operation else Plain (zero_of (declarations m) drive.target);
 }
 
 abbrev pub merged_step : Module → List ℕ → Step → Step
@@ -59,32 +55,48 @@ merged_step m sources step = record { register = step.register; reset = step.res
 abbrev pub merged : Module → List ℕ → Module
 merged m sources = record m { drives = map (merged_drive m sources) m.drives; steps = map (merged_step m sources) m.steps }
 
--- of this drive another one, which is not left out, gives the word
-pub record IsRepeated (m : Module) (sources : List ℕ) (drive : Drive) : Type 0 where
-  pub first : ℕ
-  pub within : first < length m.drives
-  pub target : (d : Drive) → (slice_index_or m.drives first d).target ≡ source_of m sources drive.target
-  pub own : (d : Drive) → source_of m sources (slice_index_or m.drives first d).target ≡ (slice_index_or m.drives first d).target
-  pub gives : (words : List ℕ) (d : Drive) → length words ≡ length (all_names m)
-      → result_of (width_of m) (named m words) (sourced_operation m sources drive.operation) ≡ result_of (width_of m) (named m words) (sourced_operation m sources (slice_index_or m.drives first d).operation)
+-- what is known before a drive
+abbrev pub known_before : Module → ℕ → List (List ℕ)
+known_before m k = given_names m ++ targets_of (take k m.drives)
 
--- a drive's target is its own source, or has the word that the drive gives at its source: what the drive copies, or what another drive gives
-abbrev pub HasSource : Module → List ℕ → Drive → Type 0
-HasSource m sources drive =
-    (source_of m sources drive.target ≡ drive.target)
-    ⊎ ((sourced_operation m sources drive.operation ≡ Plain (Name (source_of m sources drive.target))) ⊎ IsRepeated m sources drive)
+-- the word at the source of a drive's target is the one that the drive gives, read at sources, where each merged drive holds that gives it
+abbrev pub IsGiven : Module → List ℕ → Drive → Type 0
+IsGiven m sources drive =
+    (words : List ℕ) → length words ≡ length (all_names m)
+    → ((j : ℕ) (d : Drive) → j < length m.drives → (slice_index_or m.drives j d).target ≡ source_of m sources drive.target
+      → Holds (width_of m) (named m words) (merged_drive m sources (slice_index_or m.drives j d)))
+    → named m words (source_of m sources drive.target) ≡ result_of (width_of m) (named m words) (sourced_operation m sources drive.operation)
 
--- the place of each name has a source of its width, which stands before what reads the name
+-- the place of each name has a source of its width, which stands before what reads the name, and gives its word. Input ports and registers are
+-- their own, and no other name has a port
 pub record AreMerged (m : Module) (sources : List ℕ) : Type 0 where
-  pub sources : AreSources m sources
-  pub again : (place : ℕ) → place < length (all_names m) → slice_index_or sources (slice_index_or sources place 0) 0 ≡ slice_index_or sources place 0
+  pub size : length sources ≡ length (all_names m)
+  pub within : (place : ℕ) → place < length (all_names m) → slice_index sources place < length (all_names m)
+  pub given : (name : List ℕ) → Contains (given_names m) name → source_of m sources name ≡ name
+  pub ports : (name : List ℕ) → Contains (all_names m) name → Contains (names_of m.inputs) (source_of m sources name) → source_of m sources name ≡ name
   pub widths : (name : List ℕ) → Contains (all_names m) name → width_of m (source_of m sources name) ≡ width_of m name
-  pub ahead : (k : ℕ) (name : List ℕ) → Contains (given_names m ++ targets_of (take k m.drives)) name → Contains (given_names m ++ targets_of (take k m.drives)) (source_of m sources name)
-  pub each : (k : ℕ) (d : Drive) → k < length m.drives → HasSource m sources (slice_index_or m.drives k d)
+  pub ahead : (k : ℕ) (name : List ℕ) → k ≤ length m.drives → Contains (known_before m k) name → Contains (known_before m k) (source_of m sources name)
+  pub drives : (k : ℕ) (d : Drive) → k < length m.drives → IsGiven m sources (slice_index_or m.drives k d)
 
 -- the assignments and the flip-flops stand for the merged drives and steps of a sound module
 pub record IsMerging (m : Module) (c : Merged) : Type 0 where
   pub sound : IsSound m
-  pub merged : AreMerged m c.sources.items
-  pub assignments : AreAssigned (merged m c.sources.items) (length m.drives) c.assignments.items
-  pub flip_flops : AreStepped (merged m c.sources.items) (length m.steps) c.flip_flops.items
+  pub sources : AreMerged m c.sources.items
+  pub safe : IsSound (merged m c.sources.items)
+  pub assignments : AreAssigned (merged m c.sources.items) (length (merged m c.sources.items).drives) c.assignments.items
+  pub flip_flops : AreStepped (merged m c.sources.items) (length (merged m c.sources.items).steps) c.flip_flops.items
+
+-- ---- the choice of a source
+
+-- one of the first assignments has this target, and gives the same word in the same width
+pub record IsEqual (assignments : List Assignment) (assignment : Assignment) (source : ℕ) : Type 0 where
+  pub first : ℕ
+  pub within : first < length assignments
+  pub target : source ≡ (slice_index_or assignments first assignment).target
+  pub width : (slice_index_or assignments first assignment).width.bits ≡ assignment.width.bits
+  pub gives : GiveTheSame (slice_index_or assignments first assignment).gate assignment.gate
+
+-- an assignment's own target, the place that it copies, unless that is an input port, or the target of an assignment that gives the same
+abbrev pub IsSource : ℕ → List Assignment → Assignment → ℕ → Type 0
+IsSource inputs assignments assignment source =
+    (source ≡ assignment.target) ⊎ (((assignment.gate ≡ Buffer (At source)) × (inputs ≤ source)) ⊎ IsEqual assignments assignment source)

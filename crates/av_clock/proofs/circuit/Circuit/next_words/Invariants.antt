@@ -1,8 +1,7 @@
 use Rattle.std.proofs.Common.{false}
 use Rattle.av_clock.specs.Named.{named}
 use Rattle.av_clock.specs.inner.Gates.{AreTaken}
-use Rattle.av_clock.specs.inner.Passes.{resolved}
 use Rattle.av_clock.proofs.circuit.Circuit.next_words.Given as goal
 
 abbrev pub invariant-loop-i : goal.invariant-loop-i
-invariant-loop-i l = AreTaken l.self false (named l.self (resolved l.passes.sources.items l.words)) l.i l.next
+invariant-loop-i l = AreTaken l.self false (named l.self l.words) l.i l.next

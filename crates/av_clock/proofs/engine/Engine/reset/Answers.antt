@@ -1,16 +1,12 @@
 use Rattle.std.proofs.Common.{◌≡◌, ◌∙◌, true, false}
-use Rattle.av_clock.proofs.Views.{ports_call, reset_call, size_call, fit_call, held_lent, held_call}
+use Rattle.av_clock.proofs.Views.{agree_call, edge_seen, size_call, fit_call, held_lent, held_call, zero_edge}
 use Rattle.av_clock.proofs.engine.Engine.reset.Goals as goal
 
 pub returns-clause-edge : goal.returns-clause-edge
-returns-clause-edge c =
-    reset_call c.args.self.now c.self.inside.circuit c.self.inside.words c.self.inside.passes.sources.items _ c.reset.new.words c.self.inside.pending c.self.invariant.sound c.self.invariant.passes.sources c.self.invariant.size
-    c.reset.auto.words c.deref_mut.ensures.value c.reset.ensures.edge
+returns-clause-edge c = edge_seen c.args.self.now c.self.inside.circuit c.self.inside.words _ c.reset.new.words true c.self.inside.settled c.self.inside.work c.self.view_is c.reset.auto.words c.deref_mut.ensures.value c.reset.ensures.edge
 
 pub returns-clause-ports : goal.returns-clause-ports
-returns-clause-ports c =
-    ports_call c.args.self.now c.self.inside.circuit c.self.inside.words c.self.inside.passes.sources.items _ c.reset.new.words c.self.inside.pending c.self.inside.settled c.self.inside.work c.self.view_is c.self.invariant.sound
-    c.self.invariant.passes.sources c.self.invariant.size c.reset.auto.words c.deref_mut.ensures.value c.reset.ensures.ports
+returns-clause-ports c = agree_call c.args.self.now c.self.inside.circuit c.self.inside.words _ c.reset.new.words _ c.self.inside.settled c.self.inside.work c.self.view_is c.reset.auto.words c.deref_mut.ensures.value c.reset.ensures.ports
 
 pub invariant_of-self : goal.invariant_of-self
 invariant_of-self c = record {
@@ -18,8 +14,7 @@ invariant_of-self c = record {
   size = size_call c.self.inside.words _ c.reset.new.words c.reset.auto.words c.deref_mut.ensures.value ∙ c.self.invariant.size;
   fit = fit_call c.self.inside.circuit c.self.inside.words _ c.reset.new.words c.reset.auto.words c.deref_mut.ensures.value c.reset.ensures.fit;
   settled = λ flag. absurd (let e : false ≡ true = flag in cc);
-  passes = c.self.invariant.passes;
-  none = c.self.invariant.none;
+  zeros = zero_edge c.self.inside.circuit c.self.inside.words _ c.reset.new.words c.self.invariant.sound c.reset.auto.words c.deref_mut.ensures.value c.reset.ensures.others c.self.invariant.zeros;
   next = size_call c.self.inside.next _ c.reset.new.next c.reset.auto.next c.deref_mut-2.ensures.value ∙ c.self.invariant.next;
   taken = size_call c.self.inside.taken _ c.reset.new.taken c.reset.auto.taken c.deref_mut-3.ensures.value ∙ c.self.invariant.taken;
   stale = c.reset.ensures.stale ∙ c.self.invariant.stale;

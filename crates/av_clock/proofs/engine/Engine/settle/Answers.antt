@@ -1,28 +1,18 @@
 use Rattle.std.proofs.Common.{◌∙◌, ap, sym, subst, ℕ, ◌+◌, ◌≤◌, Bool, List, length}
-use Rattle.av_net.specs.Names.{given_names}
-use Rattle.av_net.specs.Settled.{Settled, Agree}
-use Rattle.av_clock.specs.Named.{named}
-use Rattle.av_clock.specs.Seen.{Seen, carried}
-use Rattle.av_clock.specs.inner.Passes.{IsFinal}
-use Rattle.av_clock.specs.Marked.{IsClear, touched}
-use Rattle.av_clock.proofs.Views.{agree_call, settled_call, size_call, fit_call, held_lent, held_call, first_none, first_empty, own_marks, all_marked, few_computed, touched_call, plain_view, plain_to}
+use Rattle.av_clock.specs.Seen.{Seen}
+use Rattle.av_clock.specs.Marked.{IsClear}
+use Rattle.av_clock.proofs.Views.{agree_call, settled_call, size_call, fit_call, held_lent, held_call, first_none, first_empty, own_marks, all_marked, few_computed, touched_call, zero_settled}
 use Rattle.av_clock.proofs.engine.Engine.settle.Goals as goal
 
 pub settle_marked-computed-requires-clause-held : goal.settle_marked-computed-requires-clause-held
 settle_marked-computed-requires-clause-held c = held_lent c.self.inside.circuit c.self.inside.words _ c.self.inside.stale c.self.inside.due c.deref_mut.ensures.value (c.self.invariant.held c.if-self.false)
 
 pub returns-clause-settled : goal.returns-clause-settled
-returns-clause-settled c =
-    plain_to (λ words. Settled c.self.inside.circuit (named c.self.inside.circuit words)) c.self.inside.pending c.self.inside.passes.sources.items _ (c.self.invariant.none c.if-self.false)
-    (settled_call c.self.inside.circuit c.self.inside.words _ c.settle_marked-computed.new.words c.settle_marked-computed.auto.words c.deref_mut.ensures.value c.settle_marked-computed.ensures.settled)
+returns-clause-settled c = settled_call c.self.inside.circuit c.self.inside.words _ c.settle_marked-computed.new.words c.settle_marked-computed.auto.words c.deref_mut.ensures.value c.settle_marked-computed.ensures.settled
 
 pub returns-clause-given : goal.returns-clause-given
 returns-clause-given c =
-    let none = c.self.invariant.none c.if-self.false in
-    plain_to (λ words. Agree (given_names c.self.inside.circuit) (carried c.args.self.now) (named c.self.inside.circuit words)) c.self.inside.pending c.self.inside.passes.sources.items _ none
-    (agree_call c.args.self.now c.self.inside.circuit c.self.inside.words _ c.settle_marked-computed.new.words _ c.self.inside.settled c.self.inside.work
-    (plain_view c.args.self.now c.self.inside.circuit c.self.inside.passes.sources.items c.self.inside.words.items c.self.inside.pending c.self.inside.settled c.self.inside.work none c.self.view_is)
-    c.settle_marked-computed.auto.words c.deref_mut.ensures.value c.settle_marked-computed.ensures.given)
+    agree_call c.args.self.now c.self.inside.circuit c.self.inside.words _ c.settle_marked-computed.new.words _ c.self.inside.settled c.self.inside.work c.self.view_is c.settle_marked-computed.auto.words c.deref_mut.ensures.value c.settle_marked-computed.ensures.given
 
 pub returns-clause-first : goal.returns-clause-first
 returns-clause-first c = λ none.
@@ -31,12 +21,12 @@ returns-clause-first c = λ none.
 
 pub settle_all-requires : goal.settle_all-requires
 settle_all-requires c =
-    all_marked c.args.self.now c.self.inside.circuit _ c.self.inside.settled c.self.inside.dense c.self.inside.work c.self.inside.stale c.self.view_is c.if-self.true
+    all_marked c.args.self.now c.self.inside.circuit c.self.inside.words.items c.self.inside.settled c.self.inside.dense c.self.inside.work c.self.inside.stale c.self.view_is c.if-self.true
 
 pub returns-clause-alone : goal.returns-clause-alone
 returns-clause-alone c = λ k few clear.
     let s : Seen = c.args.self.now in
-    let marks = own_marks s c.self.inside.circuit _ c.self.inside.settled c.self.inside.dense c.self.inside.work c.self.inside.stale c.self.view_is c.if-self.false in
+    let marks = own_marks s c.self.inside.circuit c.self.inside.words.items c.self.inside.settled c.self.inside.dense c.self.inside.work c.self.inside.stale c.self.view_is c.if-self.false in
     let work = ap (λ (t : Seen). t.work) c.self.view_is in
     let count = ap (λ (t : Seen). length t.of.drives) c.self.view_is in
     let few' = subst (λ (n : ℕ). k ≤ n) (sym count) few in
@@ -47,25 +37,16 @@ returns-clause-alone c = λ k few clear.
 
 pub returns-clause-touched : goal.returns-clause-touched
 returns-clause-touched c =
-    let s : Seen = c.args.self.now in
-    let none = c.self.invariant.none c.if-self.false in
-    plain_to (λ words. c.saturating_add-self-inside.result ≤ s.work + touched (carried s) (named c.self.inside.circuit words) s.of.drives s.marked) c.self.inside.pending c.self.inside.passes.sources.items _ none
-    (touched_call s c.self.inside.circuit c.self.inside.words _ c.settle_marked-computed.new.words c.self.inside.settled c.self.inside.dense c.self.inside.work c.self.inside.stale c.settle_marked-computed.result c.saturating_add-self-inside.result
-    (plain_view s c.self.inside.circuit c.self.inside.passes.sources.items c.self.inside.words.items c.self.inside.pending c.self.inside.settled c.self.inside.work none c.self.view_is)
-    c.if-self.false c.settle_marked-computed.auto.words c.deref_mut.ensures.value c.saturating_add-self-inside.ensures c.settle_marked-computed.ensures.touched)
+    touched_call c.args.self.now c.self.inside.circuit c.self.inside.words _ c.settle_marked-computed.new.words c.self.inside.settled c.self.inside.dense c.self.inside.work c.self.inside.stale c.settle_marked-computed.result c.saturating_add-self-inside.result
+    c.self.view_is c.if-self.false c.settle_marked-computed.auto.words c.deref_mut.ensures.value c.saturating_add-self-inside.ensures c.settle_marked-computed.ensures.touched
 
 pub invariant_of-self : goal.invariant_of-self
 invariant_of-self c = record {
   sound = c.self.invariant.sound;
   size = size_call c.self.inside.words _ c.settle_marked-computed.new.words c.settle_marked-computed.auto.words c.deref_mut.ensures.value ∙ c.self.invariant.size;
   fit = fit_call c.self.inside.circuit c.self.inside.words _ c.settle_marked-computed.new.words c.settle_marked-computed.auto.words c.deref_mut.ensures.value c.settle_marked-computed.ensures.fit;
-  settled = λ flag. plain_to (IsFinal c.self.inside.circuit) c.self.inside.pending c.self.inside.passes.sources.items _ (c.self.invariant.none c.if-self.false) (record {
-    size = size_call c.self.inside.words _ c.settle_marked-computed.new.words c.settle_marked-computed.auto.words c.deref_mut.ensures.value ∙ c.self.invariant.size;
-    settled = settled_call c.self.inside.circuit c.self.inside.words _ c.settle_marked-computed.new.words c.settle_marked-computed.auto.words c.deref_mut.ensures.value c.settle_marked-computed.ensures.settled;
-    fit = fit_call c.self.inside.circuit c.self.inside.words _ c.settle_marked-computed.new.words c.settle_marked-computed.auto.words c.deref_mut.ensures.value c.settle_marked-computed.ensures.fit;
-  });
-  passes = c.self.invariant.passes;
-  none = c.self.invariant.none;
+  settled = λ flag. settled_call c.self.inside.circuit c.self.inside.words _ c.settle_marked-computed.new.words c.settle_marked-computed.auto.words c.deref_mut.ensures.value c.settle_marked-computed.ensures.settled;
+  zeros = zero_settled c.self.inside.circuit c.self.inside.words _ c.settle_marked-computed.new.words c.settle_marked-computed.auto.words c.deref_mut.ensures.value c.settle_marked-computed.ensures.settled;
   next = c.self.invariant.next;
   taken = c.self.invariant.taken;
   stale = c.settle_marked-computed.ensures.stale ∙ c.self.invariant.stale;

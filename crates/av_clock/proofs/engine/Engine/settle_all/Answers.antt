@@ -1,15 +1,17 @@
 use Rattle.std.proofs.Common.{◌≡◌, ◌∙◌, ap, sym, subst, ℕ, ◌+◌, ◌≤◌, length, false, true}
 use Rattle.av_clock.specs.Seen.{Seen}
-use Rattle.av_clock.proofs.Views.{final_call, given_call, size_call, fit_call, first_count, all_computed, all_count}
+use Rattle.av_clock.proofs.Views.{agree_call, settled_call, size_call, fit_call, first_count, all_computed, all_count, zero_lent, zero_settled}
 use Rattle.av_clock.proofs.engine.Engine.settle_all.Goals as goal
 
+pub settle-requires-clause-zeros : goal.settle-requires-clause-zeros
+settle-requires-clause-zeros c = zero_lent c.self.inside.circuit c.self.inside.words _ c.deref_mut.ensures.value c.self.invariant.zeros
+
 pub returns-clause-settled : goal.returns-clause-settled
-returns-clause-settled c = (final_call c.self.inside.circuit c.self.inside.words c.self.inside.passes.sources.items _ c.settle.new.words c.settle.auto.words c.deref_mut.ensures.value c.settle.ensures.settled).settled
+returns-clause-settled c = settled_call c.self.inside.circuit c.self.inside.words _ c.settle.new.words c.settle.auto.words c.deref_mut.ensures.value c.settle.ensures.settled
 
 pub returns-clause-given : goal.returns-clause-given
 returns-clause-given c =
-    given_call c.args.self.now c.self.inside.circuit c.self.inside.words c.self.inside.passes.sources.items _ c.settle.new.words c.self.inside.pending c.self.inside.settled c.self.inside.work c.self.view_is c.self.invariant.sound
-    c.self.invariant.passes.sources c.self.invariant.size c.settle.auto.words c.deref_mut.ensures.value c.settle.ensures.given
+    agree_call c.args.self.now c.self.inside.circuit c.self.inside.words _ c.settle.new.words _ c.self.inside.settled c.self.inside.work c.self.view_is c.settle.auto.words c.deref_mut.ensures.value c.settle.ensures.given
 
 pub returns-clause-alone : goal.returns-clause-alone
 returns-clause-alone c = λ k few clear.
@@ -29,9 +31,8 @@ invariant_of-self c = record {
   sound = c.self.invariant.sound;
   size = size_call c.self.inside.words _ c.settle.new.words c.settle.auto.words c.deref_mut.ensures.value ∙ c.self.invariant.size;
   fit = fit_call c.self.inside.circuit c.self.inside.words _ c.settle.new.words c.settle.auto.words c.deref_mut.ensures.value c.settle.ensures.fit;
-  settled = λ flag. final_call c.self.inside.circuit c.self.inside.words c.self.inside.passes.sources.items _ c.settle.new.words c.settle.auto.words c.deref_mut.ensures.value c.settle.ensures.settled;
-  passes = c.self.invariant.passes;
-  none = λ some. absurd (let e : true ≡ false = some in cc);
+  settled = λ flag. settled_call c.self.inside.circuit c.self.inside.words _ c.settle.new.words c.settle.auto.words c.deref_mut.ensures.value c.settle.ensures.settled;
+  zeros = zero_settled c.self.inside.circuit c.self.inside.words _ c.settle.new.words c.settle.auto.words c.deref_mut.ensures.value c.settle.ensures.settled;
   next = c.self.invariant.next;
   taken = c.self.invariant.taken;
   stale = c.self.invariant.stale;
