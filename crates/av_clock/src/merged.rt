@@ -146,37 +146,36 @@ const NOTHING: Reading = Reading::Constant(0);
 
 // The key of an assignment. It serves to find one that gives the same: two with one key are compared.
 fn key_of(assignment: &Assignment) -> Key {
-    let width = assignment.width.bits;
-    let key = |form, symbol, number, first, second, third| Key {
-        form,
-        symbol,
-        number,
-        width,
-        first,
-        second,
-        third,
-    };
-    match assignment.gate {
-        Gate::Buffer(input) => key(0, 0, 0, input, NOTHING, NOTHING),
+    let (form, symbol, number, (first, second, third)) = match assignment.gate {
+        Gate::Buffer(input) => (0, 0, 0, (input, NOTHING, NOTHING)),
         Gate::Operator {
             left,
             symbol,
             right,
             width,
-        } => key(1, number_of(symbol), width.bits, left, right, NOTHING),
+        } => (1, number_of(symbol), width.bits, (left, right, NOTHING)),
         Gate::Comparator {
             left,
             symbol,
             right,
             width,
-        } => key(2, number_of(symbol), width.bits, left, right, NOTHING),
+        } => (2, number_of(symbol), width.bits, (left, right, NOTHING)),
         Gate::Multiplexer {
             condition,
             first,
             second,
-        } => key(3, 0, 0, condition, first, second),
-        Gate::Slice { input, from, .. } => key(4, 0, from, input, NOTHING, NOTHING),
-        Gate::Extender { input, by, .. } => key(5, 0, by, input, NOTHING, NOTHING),
+        } => (3, 0, 0, (condition, first, second)),
+        Gate::Slice { input, from, .. } => (4, 0, from, (input, NOTHING, NOTHING)),
+        Gate::Extender { input, by, .. } => (5, 0, by, (input, NOTHING, NOTHING)),
+    };
+    Key {
+        form,
+        symbol,
+        number,
+        width: assignment.width.bits,
+        first,
+        second,
+        third,
     }
 }
 
