@@ -12,6 +12,7 @@ pub mod Taking
 pub mod Extended
 pub mod Touched
 pub mod Merged
+pub mod Keys
 pub mod Merging
 pub mod Computing
 pub mod Sourced

@@ -32,6 +32,7 @@ use Rattle.av_clock.specs.inner.Gates.{gate_word, IsWithin, IsRead, IsResolved, 
 use Rattle.av_clock.specs.inner.Sources.{at_source, gate_at_sources, flip_flop_at_source}
 use Rattle.av_clock.specs.inner.Merged.{source_of, sourced, sourced_operation, zero_of, merged_drive, merged_step, merged, known_before, IsGiven, AreMerged, IsMerging, IsEqual, IsSource}
 use Rattle.av_clock.proofs.Held.{given_apart}
+use Rattle.av_clock.proofs.Keys.{same_key, same_width}
 use Rattle.av_clock.proofs.Lookup.{contains_at}
 use Rattle.av_clock.proofs.Merged.{place_of, source_at, source_found, own_drive, other_drive, merged_at, target_zero, all_known, known_all, merged_sound}
 use Rattle.av_clock.proofs.Reading.{in_order_at, not_known, one_place}
@@ -275,7 +276,7 @@ equal_turn m n sources assignments drive read source sound lt at count before wi
     let same : source_of m sources drive.target ≡ other.target = same_name (all_names m) source (source_of m sources drive.target) other.target found there in
     let distinct = names_distinct m sound in
     record {
-      width = ap (width_of m) same ∙ sym assigned.width ∙ equal.width ∙ wide;
+      width = ap (width_of m) same ∙ sym assigned.width ∙ same_width (get_or assignments first read) read equal.key ∙ wide;
       known = subst (Contains (known_before m (n + 1))) (sym same) (known_target m first (n + 1) drive (omega arith) (omega arith));
       port = λ port. absurd (given_apart m first drive (source_of m sources drive.target) sound (omega arith)
           (Contains-append_left (names_of m.inputs) (names_of m.registers) (source_of m sources drive.target) port) (sym same));
@@ -285,7 +286,7 @@ equal_turn m n sources assignments drive read source sound lt at count before wi
           gate_gives (width_of m) (all_names m) words (merged_drive m sources other).operation (get_or assignments first read).gate distinct long assigned.gate in
           let gives' : gate_word words read.gate ≡ result_of (width_of m) (named m words) (sourced_operation m sources drive.operation) =
           gate_gives (width_of m) (all_names m) words (sourced_operation m sources drive.operation) read.gate distinct long resolved in
-          ap (named m words) same ∙ holds ∙ sym gives ∙ equal.gives words ∙ gives';
+          ap (named m words) same ∙ holds ∙ sym gives ∙ same_key words (get_or assignments first read) read equal.key ∙ gives';
     }
 
 -- the source of one more target, of three kinds

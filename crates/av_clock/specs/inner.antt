@@ -2,6 +2,7 @@ pub mod Gates
 pub mod Found
 pub mod Resolver
 pub mod Sources
+pub mod Keys
 pub mod Merged
 pub mod Kept
 pub mod Circuit

@@ -6,6 +6,7 @@ mod circuit;
 mod clock;
 mod engine;
 mod gate;
+mod key;
 mod marks;
 mod merged;
 mod readers;

@@ -3,12 +3,14 @@ ghost use Rattle.av_net.specs.Names.{all_names};
 ghost use Rattle.av_net.specs.Sound.{IsSound};
 ghost use Rattle.av_clock.specs.inner.Gates.{AreAssigned, IsWithin};
 ghost use Rattle.av_clock.specs.inner.Merged.{merged as merged_module, AreMerged, IsMerging, IsSource};
+ghost use Rattle.av_clock.specs.inner.Keys.{key_of};
 ghost use Rattle.av_clock.specs.inner.Sources.{flip_flop_at_source};
 
 use crate::gate::{Assignment, FlipFlop, Gate, Reading};
+use crate::key::Key;
 use crate::resolver::{Resolver, inputs_of_module, size_of_module};
 use av_base::Memory;
-use av_net::{Module, Symbol};
+use av_net::Module;
 use std::alloc::Global;
 use std::collections::BTreeMap;
 
@@ -61,59 +63,25 @@ fn merge(
     let mut merged = Vec::new(alloc);
     for assignment in assignments {
         let read = assignment.at_sources(sources);
-        let first = firsts.first(key_of(&read), merged.len())?;
-        let source = source_of(&read, inputs, &merged, first);
+        let key = Key::of(&read);
+        let first = firsts.first(key, merged.len())?;
+        let source = source_of(&read, &key, inputs, &merged, first);
         sources[read.target] = source;
         merged.push(read.with_source(source))?;
     }
     Ok(merged)
 }
 
-impl Assignment {
-    ghost use Rattle.std.specs.Prelude.{◌≢◌};
-    ghost use Rattle.av_clock.specs.inner.Gates.{EachReading};
-    ghost use Rattle.av_clock.specs.inner.Sources.{gate_at_sources};
-    ghost use Rattle.av_clock.specs.declared.gate.Gate.TheVariants.{Buffer};
-    ghost use Rattle.av_clock.specs.declared.gate.Reading.TheVariants.{Constant};
-
-    // The same assignment, reading at sources.
-    fn at_sources(&self, sources: &[usize]) -> Assignment
-        requires { EachReading (IsWithin (length sources.now)) self.now.gate }
-        ensures { result ≡ record self.now { gate = gate_at_sources sources.now self.now.gate } }
-    {
-        Assignment {
-            target: self.target,
-            width: self.width,
-            gate: self.gate.at_sources(sources),
-        }
-    }
-
-    // It, where its target is its own source, or 0 in its place.
-    fn with_source(&self, source: usize) -> Assignment
-        ensures own { source ≡ self.now.target → result ≡ self.now }
-        ensures other { source ≢ self.now.target → result ≡ record self.now { gate = Buffer (Constant 0) } }
-    {
-        let gate = if source == self.target {
-            self.gate
-        } else {
-            Gate::Buffer(Reading::Constant(0))
-        };
-        Assignment {
-            target: self.target,
-            width: self.width,
-            gate,
-        }
-    }
-}
-
 // Where the word of an assignment stands that reads at sources: what it copies, unless that is an input port, whose word changes before
-// others do; or what gives the same among those before, of which this one was the first with its key.
+// others do; or what one with the same key gives among those before, of which this was the first.
 fn source_of(
     assignment: &Assignment,
+    key: &Key,
     inputs: usize,
     merged: &[Assignment],
     first: usize,
 ) -> usize
+    requires { key.now ≡ key_of assignment.now }
     ensures { IsSource inputs merged.now assignment.now result }
 {
     if let Gate::Buffer(Reading::At(place)) = assignment.gate {
@@ -123,76 +91,11 @@ fn source_of(
     }
     if first < merged.len() {
         let other = &merged[first];
-        if other.width.bits == assignment.width.bits && other.gate.is_same(&assignment.gate) {
+        if Key::of(other).is_same(key) {
             return other.target;
         }
     }
     assignment.target
-}
-
-// What equal assignments have in common: their form, their numbers, the width of what they give, and what they read.
-#[derive(Clone, Copy, PartialEq, Eq, PartialOrd, Ord, Drop)]
-struct Key {
-    form: u32,
-    symbol: u32,
-    number: u32,
-    width: u32,
-    first: Reading,
-    second: Reading,
-    third: Reading,
-}
-
-const NOTHING: Reading = Reading::Constant(0);
-
-// The key of an assignment. It serves to find one that gives the same: two with one key are compared.
-fn key_of(assignment: &Assignment) -> Key {
-    let (form, symbol, number, (first, second, third)) = match assignment.gate {
-        Gate::Buffer(input) => (0, 0, 0, (input, NOTHING, NOTHING)),
-        Gate::Operator {
-            left,
-            symbol,
-            right,
-            width,
-        } => (1, number_of(symbol), width.bits, (left, right, NOTHING)),
-        Gate::Comparator {
-            left,
-            symbol,
-            right,
-            width,
-        } => (2, number_of(symbol), width.bits, (left, right, NOTHING)),
-        Gate::Multiplexer {
-            condition,
-            first,
-            second,
-        } => (3, 0, 0, (condition, first, second)),
-        Gate::Slice { input, from, .. } => (4, 0, from, (input, NOTHING, NOTHING)),
-        Gate::Extender { input, by, .. } => (5, 0, by, (input, NOTHING, NOTHING)),
-    };
-    Key {
-        form,
-        symbol,
-        number,
-        width: assignment.width.bits,
-        first,
-        second,
-        third,
-    }
-}
-
-fn number_of(symbol: Symbol) -> u32 {
-    match symbol {
-        Symbol::Add => 0,
-        Symbol::Sub => 1,
-        Symbol::Mul => 2,
-        Symbol::And => 3,
-        Symbol::Or => 4,
-        Symbol::Equal => 5,
-        Symbol::Unequal => 6,
-        Symbol::Less => 7,
-        Symbol::LessEqual => 8,
-        Symbol::Greater => 9,
-        Symbol::GreaterEqual => 10,
-    }
 }
 
 // The first assignments with their keys.

@@ -19,7 +19,8 @@ use Rattle.av_clock.specs.declared.gate.Gate.TheVariants.{Buffer}
 use Rattle.av_clock.specs.declared.gate.Assignment.{Assignment}
 use Rattle.av_clock.specs.declared.merged.Merged.{Merged}
 use Rattle.av_clock.specs.Named.{named, looked_up}
-use Rattle.av_clock.specs.inner.Gates.{AreAssigned, AreStepped, GiveTheSame}
+use Rattle.av_clock.specs.inner.Gates.{AreAssigned, AreStepped}
+use Rattle.av_clock.specs.inner.Keys.{key_of}
 
 -- the name at the source of a name's place
 abbrev pub source_of : Module → List ℕ → List ℕ → List ℕ
@@ -88,15 +89,14 @@ pub record IsMerging (m : Module) (c : Merged) : Type 0 where
 
 -- ---- the choice of a source
 
--- one of the first assignments has this target, and gives the same word in the same width
+-- one of the first assignments has this target, and the same key
 pub record IsEqual (assignments : List Assignment) (assignment : Assignment) (source : ℕ) : Type 0 where
   pub first : ℕ
   pub within : first < length assignments
   pub target : source ≡ (slice_index_or assignments first assignment).target
-  pub width : (slice_index_or assignments first assignment).width.bits ≡ assignment.width.bits
-  pub gives : GiveTheSame (slice_index_or assignments first assignment).gate assignment.gate
+  pub key : key_of (slice_index_or assignments first assignment) ≡ key_of assignment
 
--- an assignment's own target, the place that it copies, unless that is an input port, or the target of an assignment that gives the same
+-- an assignment's own target, the place that it copies, unless that is an input port, or the target of an assignment with its key
 abbrev pub IsSource : ℕ → List Assignment → Assignment → ℕ → Type 0
 IsSource inputs assignments assignment source =
     (source ≡ assignment.target) ⊎ (((assignment.gate ≡ Buffer (At source)) × (inputs ≤ source)) ⊎ IsEqual assignments assignment source)
