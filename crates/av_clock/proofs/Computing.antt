@@ -96,30 +96,19 @@ ran : (m : Module) (drives : List Drive) (assignments : List Assignment) (words 
 ran m [] [] words names distinct long are zeros = refl
 ran m [] (assignment ∷ assignments) words names distinct long are zeros = absurd (let e = are.count in omega arith)
 ran m (drive ∷ drives) [] words names distinct long are zeros = absurd (let e = are.count in omega arith)
-ran m (drive ∷ drives) (assignment ∷ assignments) words names distinct long are zeros = by_test (is_zero assignment.gate) refl
+ran m (drive ∷ drives) (assignment ∷ assignments) words names distinct long are zeros =
+    by_test (is_zero assignment.gate) refl (λ words' long' zeros'. ran m drives assignments words' names rest long' (behind_first m drive drives assignment assignments are) zeros')
   where
-    v : Words
-    v = named m words
-
-    result : ℕ
-    result = result_of (width_of m) v drive.operation
-
     here : IsAssigned m drive assignment
     here = are.each 0 drive assignment (omega arith)
 
     rest : AreDistinct (targets_of drives)
     rest = rest_distinct (drive.target ∷ []) (targets_of drives) distinct
 
-    later : (words' : List ℕ) → length words' ≡ length (all_names m) → HaveZeros drives (named m words') → named m (run (filter computes assignments) words') ≡ settle_from (width_of m) (named m words') drives
-    later words' long' zeros' = ran m drives assignments words' names rest long' (behind_first m drive drives assignment assignments are) zeros'
-
-    next : List ℕ
-    next = set words assignment.target (gate_word words assignment.gate)
-
-    wrote : named m next ≡ with_word v drive.target result
+    wrote : named m (set words assignment.target (gate_word words assignment.gate)) ≡ with_word (named m words) drive.target (result_of (width_of m) (named m words) drive.operation)
     wrote =
         look_set (all_names m) words assignment.target (gate_word words assignment.gate) drive.target names long here.target
-        ∙ ap (with_word v drive.target) (gate_gives (width_of m) (all_names m) words drive.operation assignment.gate names long here.gate)
+        ∙ ap (with_word (named m words) drive.target) (gate_gives (width_of m) (all_names m) words drive.operation assignment.gate names long here.gate)
 
     other : (k : ℕ) (d : Drive) → k < length drives → (get_or drives k d).target ≢ drive.target
     other k d lt same =
@@ -128,15 +117,19 @@ ran m (drive ∷ drives) (assignment ∷ assignments) words names distinct long 
         let there : get_or (targets_of drives) k target ≡ target = get_or-map (λ (x : Drive). x.target) drives k d target lt in
         apart (drive.target ∷ []) (targets_of drives) target distinct (0, omega arith, sym same) (k, omega arith, there)
 
-    by_test : (test : Bool) → is_zero assignment.gate ≡ test → named m (run (cond (not test) (assignment ∷ filter computes assignments) (filter computes assignments)) words) ≡ settle_from (width_of m) (with_word v drive.target result) drives
-    by_test true e =
+    by_test : (test : Bool) → is_zero assignment.gate ≡ test
+        → ((words' : List ℕ) → length words' ≡ length (all_names m) → HaveZeros drives (named m words') → named m (run (filter computes assignments) words') ≡ settle_from (width_of m) (named m words') drives)
+        → named m (run (cond (not test) (assignment ∷ filter computes assignments) (filter computes assignments)) words) ≡ settle_from (width_of m) (with_word (named m words) drive.target (result_of (width_of m) (named m words) drive.operation)) drives
+    by_test true e later =
+        let result = result_of (width_of m) (named m words) drive.operation in
         let is : IsZero drive.operation = zero_operation (width_of m) (all_names m) drive.operation assignment.gate here.gate e in
-        let stands : v drive.target ≡ result = zeros 0 drive (omega arith) is ∙ sym (zero_result (width_of m) v drive.operation is) in
-        later words long (λ k d lt. zeros (suc k) d (omega arith)) ∙ ap (λ w. settle_from (width_of m) w drives) (sym (same_words v drive.target result stands))
-    by_test false e =
-        later next (length-set words assignment.target (gate_word words assignment.gate) ∙ long)
-        (λ k d lt is. ap (λ w. w (get_or drives k d).target) wrote ∙ with_word_other v drive.target result (get_or drives k d).target (other k d lt) ∙ zeros (suc k) d (omega arith) is)
-        ∙ ap (λ w. settle_from (width_of m) w drives) wrote
+        let stands : named m words drive.target ≡ result = zeros 0 drive (omega arith) is ∙ sym (zero_result (width_of m) (named m words) drive.operation is) in
+        later words long (λ k d lt. zeros (suc k) d (omega arith)) ∙ ap (λ (w : Words). settle_from (width_of m) w drives) (sym (same_words (named m words) drive.target result stands))
+    by_test false e later =
+        later (set words assignment.target (gate_word words assignment.gate)) (length-set words assignment.target (gate_word words assignment.gate) ∙ long)
+        (λ k d lt is. ap (λ (w : Words). w (get_or drives k d).target) wrote
+        ∙ with_word_other (named m words) drive.target (result_of (width_of m) (named m words) drive.operation) (get_or drives k d).target (other k d lt) ∙ zeros (suc k) d (omega arith) is)
+        ∙ ap (λ (w : Words). settle_from (width_of m) w drives) wrote
 
 -- ---- one after another
 

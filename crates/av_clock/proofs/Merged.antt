@@ -170,7 +170,7 @@ in_order_from known [] each = tt
 in_order_from known (drive ∷ drives) each = (
   subst (λ names. EachOperand (IsAmong names) drive.operation) (append-nil known) (each 0 drive (omega arith)),
   in_order_from (known ++ drive.target ∷ []) drives (λ k d lt.
-    subst (λ names. EachOperand (IsAmong names) (get_or drives k d).operation) (sym (append_assoc known (drive.target ∷ []) (targets_of (take k drives)))) (each (suc k) d (omega arith))),
+      subst (λ names. EachOperand (IsAmong names) (get_or drives k d).operation) (sym (append_assoc known (drive.target ∷ []) (targets_of (take k drives)))) (each (suc k) d (omega arith))),
 )
 
 -- an operand's source is known where the operand is

@@ -3,7 +3,7 @@ use Rattle.std.proofs.Common.{◌≡◌, ◌≢◌, ◌⊎◌, ℕ, ◌+◌, ◌
 use Rattle.std.specs.Prelude.{All, Contains}
 use Rattle.std.specs.declared.alloc.Global.{Global}
 use Rattle.std.proofs.Math.ListN.{length-set, get_or-append}
-use Rattle.std.proofs.lemmas.Bool.{cases_eq}
+use Rattle.std.proofs.lemmas.Bool.{cases_eq, cases_lt}
 use Rattle.std.proofs.lemmas.List.{get_or-set_same, get_or-set_other, get_or-map, get_or_default, get_or-take, length-map, length-take-le, map_more, length_push}
 use Rattle.std.proofs.lemmas.List.Elements.{Contains-append_left, Contains-append_right, Contains-push, Contains-push_cases}
 use Rattle.std.proofs.lemmas.Option.{slice_get_within, slice_get_cases, get_or_from_slice_get, slice_get-get_or}
@@ -141,16 +141,22 @@ known_width m known sources (Literal width value) have among = refl
 gate_at : (m : Module) (known : List (List ℕ)) (sources : List ℕ) (operation : Operation) (gate : Gate) → AreDistinct (all_names m) → HaveSources m known sources → EachOperand (IsAmong known) operation
     → IsResolved (width_of m) (all_names m) operation gate → IsResolved (width_of m) (all_names m) (sourced_operation m sources operation) (gate_at_sources sources gate)
 gate_at m known sources (Plain operand) (Buffer input) distinct have among is = read_at_source m known sources operand input distinct have among is
-gate_at m known sources (Binary a symbol b) (Operator first symbol' second width) distinct have among is = (is.0, record {
-  left = read_at_source m known sources a first distinct have among.0 is.1.left;
-  right = read_at_source m known sources b second distinct have among.1 is.1.right;
-  width = is.1.width ∙ sym (known_width m known sources a have among.0);
-})
-gate_at m known sources (Signed a symbol b) (Comparator first symbol' second width) distinct have among is = (is.0, record {
-  left = read_at_source m known sources a first distinct have among.0 is.1.left;
-  right = read_at_source m known sources b second distinct have among.1 is.1.right;
-  width = is.1.width ∙ sym (known_width m known sources a have among.0);
-})
+gate_at m known sources (Binary a symbol b) (Operator first symbol' second width) distinct have among is = (
+  is.0,
+  record {
+    left = read_at_source m known sources a first distinct have among.0 is.1.left;
+    right = read_at_source m known sources b second distinct have among.1 is.1.right;
+    width = is.1.width ∙ sym (known_width m known sources a have among.0);
+  },
+)
+gate_at m known sources (Signed a symbol b) (Comparator first symbol' second width) distinct have among is = (
+  is.0,
+  record {
+    left = read_at_source m known sources a first distinct have among.0 is.1.left;
+    right = read_at_source m known sources b second distinct have among.1 is.1.right;
+    width = is.1.width ∙ sym (known_width m known sources a have among.0);
+  },
+)
 gate_at m known sources (Choose c a b) (Multiplexer condition first second) distinct have among is = (
   read_at_source m known sources c condition distinct have among.0 is.0,
   read_at_source m known sources a first distinct have among.1 is.1,
@@ -379,19 +385,22 @@ merges_more m n sources assignments assignment read after source sound for is ch
           | inl earlier ↦ before.ports name earlier port
           | inr e ↦ subst (λ x. Contains (names_of m.inputs) (source_of m sources' x) → source_of m sources' x ≡ x) e now.port port
         ];
-        ahead = λ k name le known. elim (cases_eq k (n + 1)) [
-          | inl last ↦ subst (λ i. Contains (known_before m i) (source_of m sources' name)) (sym last) (elim (known_cases m n drive name for.within for.at (subst (λ i. Contains (known_before m i) name) last known)) [
-            | inl earlier ↦ known_keeps m n drive (source_of m sources' name) for.within for.at (before.ahead n name (omega arith) earlier)
-            | inr e ↦ subst (λ x. Contains (known_before m (n + 1)) (source_of m sources' x)) e now.known
-          ])
-          | inr ne ↦ before.ahead k name (omega arith) known
+        ahead = λ k name le known. elim (cases_lt k (n + 1)) [
+          | inl below ↦ before.ahead k name (omega arith) known
+          | inr past ↦
+              let last : k ≡ n + 1 = omega arith in
+              subst (λ i. Contains (known_before m i) (source_of m sources' name)) (sym last) (elim (known_cases m n drive name for.within for.at (subst (λ i. Contains (known_before m i) name) last known)) [
+                | inl earlier ↦ known_keeps m n drive (source_of m sources' name) for.within for.at (before.ahead n name (omega arith) earlier)
+                | inr e ↦ subst (λ x. Contains (known_before m (n + 1)) (source_of m sources' x)) e now.known
+              ])
         ];
         assigned = both_more (λ (x : Drive) (a : Assignment). IsAssigned m (merged_drive m sources' x) a) m.drives assignments n drive after so_far.count for.within for.at stands before.assigned;
-        drives = λ k d lt. elim (cases_eq k n) [
-          | inl e ↦
+        drives = λ k d lt. elim (cases_lt k n) [
+          | inl earlier ↦ before.drives k d earlier
+          | inr past ↦
+              let e : k ≡ n = omega arith in
               let same : drive ≡ get_or m.drives k d = for.at ∙ get_or_default m.drives n drive d for.within ∙ ap (λ i. get_or m.drives i d) (sym e) in
               subst (IsGiven m sources') same now.given
-          | inr ne ↦ before.drives k d (omega arith)
         ];
       };
 }

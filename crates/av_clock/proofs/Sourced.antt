@@ -303,7 +303,7 @@ one_larger false false false false h = omega arith
 -- of some drives no more are touched in the engine
 touched_from : (m : Module) (sources words words' : List ℕ) (all : List Bool) (drives : List Drive) (marks : List Bool)
     → ((k : ℕ) (drive : Drive) → k < length drives → drive ≡ get_or drives k drive
-      → reads_same (named m (resolved sources words)) (named m (resolved sources words')) drive.operation ≡ true → reads_same (named m words) (named m words') (merged_drive m sources drive).operation ≡ true)
+    → reads_same (named m (resolved sources words)) (named m (resolved sources words')) drive.operation ≡ true → reads_same (named m words) (named m words') (merged_drive m sources drive).operation ≡ true)
     → touched (named m words) (named m words') (map (merged_drive m sources) drives) marks ≤ touched (named m (resolved sources words)) (named m (resolved sources words')) drives (marks_of m sources all drives marks)
 touched_from m sources words words' all [] marks same = omega arith
 touched_from m sources words words' all (drive ∷ drives) [] same = omega arith
@@ -428,3 +428,11 @@ zeros_resolved m sources are =
     ext_get_or 0 (resolved sources (replicate n 0)) (replicate n 0) (size ∙ sym (length-replicate n 0)) (λ i below.
     let below' : i < n = subst (λ k. i < k) size below in
     resolved_at sources (replicate n 0) i (rw are.size below') ∙ get_or-replicate n (get_or sources i 0) 0 0 (are.within i below') ∙ sym (get_or-replicate n i 0 0 below'))
+
+pub new_marks : (m : Module) (sources : List ℕ) (e : Seen) → e.marked ≡ replicate (length (merged m sources).drives) true → marks_of m sources e.marked m.drives e.marked ≡ replicate (length m.drives) true
+new_marks m sources e is =
+    let same : e.marked ≡ replicate (length m.drives) true = is ∙ ap (λ n. replicate n true) (length-map m.drives (merged_drive m sources)) in
+    ap (λ (marks : List Bool). marks_of m sources e.marked m.drives marks) same ∙ all_marks m sources e.marked m.drives
+
+pub new_words : (m : Module) (sources : List ℕ) (e : Seen) → AreMerged m sources → e.words ≡ replicate (length (all_names m)) 0 → resolved sources e.words ≡ replicate (length (all_names m)) 0
+new_words m sources e are is = ap (resolved sources) is ∙ zeros_resolved m sources are

@@ -65,7 +65,7 @@ abbrev pub IsGiven : Module → List ℕ → Drive → Type 0
 IsGiven m sources drive =
     (words : List ℕ) → length words ≡ length (all_names m)
     → ((j : ℕ) (d : Drive) → j < length m.drives → (slice_index_or m.drives j d).target ≡ source_of m sources drive.target
-      → Holds (width_of m) (named m words) (merged_drive m sources (slice_index_or m.drives j d)))
+    → Holds (width_of m) (named m words) (merged_drive m sources (slice_index_or m.drives j d)))
     → named m words (source_of m sources drive.target) ≡ result_of (width_of m) (named m words) (sourced_operation m sources drive.operation)
 
 -- the place of each name has a source of its width, which stands before what reads the name, and gives its word. Input ports and registers are
