@@ -1,4 +1,4 @@
-use Rattle.std.proofs.Common.{◌≡◌, List, ℕ, ◌∙◌, ap, sym, subst, rules}
+use Rattle.std.proofs.Common.{◌≡◌, List, ℕ, ◌∙◌, ap, subst, rules, replicate, length, true}
 use Rattle.std.proofs.lemmas.List.Elements.{same_from_all_zip}
 use Rattle.av_clock.specs.inner.Merged.{merged, AreMerged}
 use Rattle.av_clock.proofs.Sourced.{new_marks, new_words}
@@ -21,4 +21,4 @@ returns-clause-words c =
 pub returns-clause-marked : goal.returns-clause-marked
 returns-clause-marked c =
     let same : c.in_ok-merged.merged.sources.items ≡ c.in_ok-sources.sources.items = search (rules, same_from_all_zip) in
-    new_marks c.args.of.now c.in_ok-sources.sources.items c.in_ok-engine.engine (subst (λ (sources : List ℕ). c.in_ok-engine.engine.marked ≡ _) same c.in_ok-engine.ensures.marked)
+    new_marks c.args.of.now c.in_ok-sources.sources.items c.in_ok-engine.engine (subst (λ (sources : List ℕ). c.in_ok-engine.engine.marked ≡ replicate (length (merged c.args.of.now sources).drives) true) same c.in_ok-engine.ensures.marked)

@@ -1,0 +1,22 @@
+use Rattle.std.proofs.Common.{◌≡◌, false, subst, sym}
+use Rattle.std.specs.Prelude.{IsTrue}
+use Rattle.av_net.specs.Names.{names_of}
+use Rattle.av_net.specs.Settled.{Agree}
+use Rattle.av_net.specs.Clocked.{Edge}
+use Rattle.av_clock.specs.Seen.{Seen, carried}
+use Rattle.av_clock.proofs.clock.Clock.tick.Goals as goal
+
+pub tick-requires : goal.tick-requires
+tick-requires c = subst (λ (s : Seen). IsTrue s.settled) (sym c.self.view_is) c.requires
+
+pub returns-clause-of : goal.returns-clause-of
+returns-clause-of c = subst (λ (s : Seen). c.tick.new.self.of ≡ s.of) c.self.view_is c.tick.ensures.of
+
+pub returns-clause-edge : goal.returns-clause-edge
+returns-clause-edge c = subst (λ (s : Seen). Edge c.tick.new.self.of false (carried s) (carried c.tick.new.self)) c.self.view_is c.tick.ensures.edge
+
+pub returns-clause-ports : goal.returns-clause-ports
+returns-clause-ports c = subst (λ (s : Seen). Agree (names_of c.tick.new.self.of.inputs) (carried s) (carried c.tick.new.self)) c.self.view_is c.tick.ensures.ports
+
+pub returns-clause-work : goal.returns-clause-work
+returns-clause-work c = subst (λ (s : Seen). c.tick.new.self.work ≡ s.work) c.self.view_is c.tick.ensures.work
