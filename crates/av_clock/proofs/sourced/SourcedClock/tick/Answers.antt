@@ -9,6 +9,9 @@ returns-clause-edge c = seen_edge c.args.self.now c.self.inside.of.now c.self.in
 pub returns-clause-ports : goal.returns-clause-ports
 returns-clause-ports c = seen_ports c.args.self.now c.self.inside.of.now c.self.inside.sources.items c.self.inside.engine c.tick.new.self c.self.view_is c.self.invariant.sound c.self.invariant.sources c.self.invariant.engine (engine_call c.self.inside.of.now c.self.inside.sources.items c.self.inside.engine c.tick.new.self c.self.invariant.engine c.tick.ensures.of c.is_whole.ensures) c.tick.ensures.ports
 
+pub returns-clause-work : goal.returns-clause-work
+returns-clause-work c = c.tick.ensures.work ∙ ap (λ (s : Seen). s.work) c.self.view_is
+
 pub invariant_of-self : goal.invariant_of-self
 invariant_of-self c = record { sound = c.self.invariant.sound; sources = c.self.invariant.sources; engine = engine_call c.self.inside.of.now c.self.inside.sources.items c.self.inside.engine c.tick.new.self c.self.invariant.engine c.tick.ensures.of c.is_whole.ensures }
 
