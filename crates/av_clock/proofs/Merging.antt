@@ -423,6 +423,11 @@ source_within m n sources assignments assignment read source sound for is choice
           subst (λ i. i < length (all_names m)) (sym equal.target) (slice_get_within (all_names m) (get_or assignments equal.first read).target (get_or m.drives equal.first drive).target assigned.target)
     ]
 
+-- the target is a place
+pub target_in : (m : Module) (n : ℕ) (sources : List ℕ) (assignment read : Assignment) → IsFor m n assignment → read ≡ record assignment { gate = gate_at_sources sources assignment.gate } → length sources ≡ length (all_names m) → read.target < length sources
+target_in m n sources assignment read for is size =
+    subst (λ i. i < length sources) (sym (ap (λ (x : Assignment). x.target) is)) (subst (λ k. assignment.target < k) (sym size) (slice_get_within (all_names m) assignment.target for.drive.target for.assigned.target))
+
 -- after the last
 pub all_merged : (m : Module) (n : ℕ) (sources : List ℕ) (assignments : List Assignment) → IsSound m → n ≡ length m.drives → SoFar m n sources assignments → AreMerged m sources
 all_merged m n sources assignments sound end so_far =

@@ -320,7 +320,8 @@ seen_touched s m sources e e' view sound are is is' few =
     let few' : e'.work ≤ e.work + touched (named m e.words) (named m e'.words) (merged m sources).drives e.marked =
     subst (λ (n : Module). e'.work ≤ e.work + touched (named n e.words) (named m e'.words) n.drives e.marked) is.of
     (subst (λ (n : Module). e'.work ≤ e.work + touched (carried e) (named n e'.words) e.of.drives e.marked) is'.of few) in
-    let more = touched_from m sources e.words e'.words e.marked m.drives e.marked
+    let more : touched (named m e.words) (named m e'.words) (merged m sources).drives e.marked ≤ touched (named m (resolved sources e.words)) (named m (resolved sources e'.words)) m.drives (marks_of m sources e.marked m.drives e.marked) =
+    touched_from m sources e.words e'.words e.marked m.drives e.marked
     (λ k drive lt at. merged_same m sources e.words e'.words k drive sound are (words_size m sources e is) (words_size m sources e' is') lt at) in
     subst (λ (t : Seen). e'.work ≤ t.work + touched (carried t) (named m (resolved sources e'.words)) t.of.drives t.marked) view (omega (arith, few', more))
 
