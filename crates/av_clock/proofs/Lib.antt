@@ -11,8 +11,8 @@ pub mod Held
 pub mod Taking
 pub mod Extended
 pub mod Touched
-pub mod Merged
+pub mod MergedModules
 pub mod Keys
 pub mod Merging
 pub mod Computing
-pub mod Sourced
+pub mod SourcedWords

@@ -29,12 +29,13 @@ use Rattle.av_clock.specs.declared.gate.Assignment.{Assignment}
 use Rattle.av_clock.specs.declared.gate.FlipFlop.{FlipFlop}
 use Rattle.av_clock.specs.Named.{named}
 use Rattle.av_clock.specs.inner.Gates.{gate_word, IsWithin, IsRead, IsResolved, IsAssigned, AreAssigned, IsStepped, AreStepped}
+use Rattle.av_clock.specs.inner.Keys.{key_of}
 use Rattle.av_clock.specs.inner.Sources.{at_source, gate_at_sources, flip_flop_at_source}
 use Rattle.av_clock.specs.inner.Merged.{source_of, sourced, sourced_operation, zero_of, merged_drive, merged_step, merged, known_before, IsGiven, AreMerged, IsMerging, IsEqual, IsSource}
 use Rattle.av_clock.proofs.Held.{given_apart}
 use Rattle.av_clock.proofs.Keys.{same_key, same_width}
 use Rattle.av_clock.proofs.Lookup.{contains_at}
-use Rattle.av_clock.proofs.Merged.{place_of, source_at, source_found, own_drive, other_drive, merged_at, target_zero, all_known, known_all, merged_sound}
+use Rattle.av_clock.proofs.MergedModules.{place_of, source_at, source_found, own_drive, other_drive, merged_at, target_zero, all_known, known_all, merged_sound}
 use Rattle.av_clock.proofs.Reading.{in_order_at, not_known, one_place}
 use Rattle.av_clock.proofs.Resolved.{drive_suits, both_more}
 use Rattle.av_clock.proofs.Settling.{IsFor, gate_gives, reading_within}
@@ -202,6 +203,7 @@ pub record MergesTo (m : Module) (n : ℕ) (assignments : List Assignment) (sour
 pub record SoFar (m : Module) (n : ℕ) (sources : List ℕ) (assignments : List Assignment) : Type 0 where
   pub size : length sources ≡ length (all_names m)
   pub count : length assignments ≡ n
+  pub within : n ≤ length m.drives
   pub each : (sources' : List ℕ) → length sources' ≡ length (all_names m) → AgreeOn m n sources sources' → MergesTo m n assignments sources'
 
 -- before the first
@@ -209,6 +211,7 @@ pub none_yet : (m : Module) (sources : List ℕ) → IsSound m → length source
 none_yet m sources sound size own = record {
   size = size;
   count = refl;
+  within = omega arith;
   each = λ sources' size' agree.
       let here : (place : ℕ) (name : List ℕ) → slice_get (all_names m) place ≡ Some name → Contains (known_before m 0) name → get_or sources' place 0 ≡ place =
       λ place name at known. agree place name at known ∙ own place (slice_get_within (all_names m) place name at) in
@@ -346,6 +349,7 @@ pub merges_more : (m : Module) (n : ℕ) (sources : List ℕ) (assignments : Lis
 merges_more m n sources assignments assignment read after source sound for is choice own other inside so_far = record {
   size = length-set sources read.target source ∙ so_far.size;
   count = length_push assignments after ∙ ap (λ k. k + 1) so_far.count;
+  within = (let lt = for.within in omega arith);
   each = λ sources' size' agree.
       let drive = for.drive in
       let distinct = names_distinct m sound in
@@ -423,6 +427,12 @@ source_within m n sources assignments assignment read source sound for is choice
           subst (λ i. i < length (all_names m)) (sym equal.target) (slice_get_within (all_names m) (get_or assignments equal.first read).target (get_or m.drives equal.first drive).target assigned.target)
     ]
 
+-- an assignment that was found by its key
+pub equal_found : (assignments : List Assignment) (assignment other : Assignment) (first : ℕ) → first < length assignments → other ≡ get_or assignments first other → key_of other ≡ key_of assignment → IsEqual assignments assignment other.target
+equal_found assignments assignment other first lt at same =
+    let here : other ≡ get_or assignments first assignment = at ∙ get_or_default assignments first other assignment lt in
+    record { first = first; within = lt; target = ap (λ (x : Assignment). x.target) here; key = sym (ap key_of here) ∙ same }
+
 -- the target is a place
 pub target_in : (m : Module) (n : ℕ) (sources : List ℕ) (assignment read : Assignment) → IsFor m n assignment → read ≡ record assignment { gate = gate_at_sources sources assignment.gate } → length sources ≡ length (all_names m) → read.target < length sources
 target_in m n sources assignment read for is size =
@@ -457,8 +467,8 @@ all_assigned m n sources assignments end so_far =
     }
 
 -- where no drive is left
-pub end_of : (m : Module) (assignments : List Assignment) (n : ℕ) → AreAssigned m (length m.drives) assignments → length assignments ≤ n → n ≤ length assignments → n ≡ length m.drives
-end_of m assignments n are past within = let count = are.count in omega arith
+pub end_of : (m : Module) (assignments merged' : List Assignment) (sources : List ℕ) (n : ℕ) → AreAssigned m (length m.drives) assignments → length assignments ≤ n → SoFar m n sources merged' → n ≡ length m.drives
+end_of m assignments merged' sources n are past so_far = let count = are.count in let within = so_far.within in omega arith
 
 -- ---- flip-flops
 

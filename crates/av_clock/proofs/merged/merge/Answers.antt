@@ -2,7 +2,7 @@ use Rattle.std.proofs.Common.{◌<◌, ◌+◌, ◌∙◌, List, length, sym, su
 use Rattle.av_net.specs.Names.{all_names, width_of}
 use Rattle.av_clock.specs.declared.gate.Assignment.{Assignment}
 use Rattle.av_clock.specs.inner.Merged.{IsSource}
-use Rattle.av_clock.proofs.Merging.{SoFar, none_yet, merges_more, source_within, all_merged, all_assigned, end_of}
+use Rattle.av_clock.proofs.Merging.{SoFar, none_yet, merges_more, source_within, all_merged, all_assigned, target_in, end_of}
 use Rattle.av_clock.proofs.Settling.{is_for, gate_within}
 use Rattle.av_clock.proofs.merged.merge.Goals as goal
 
@@ -13,6 +13,18 @@ pub at_sources-read-requires : goal.at_sources-read-requires
 at_sources-read-requires c =
     let for = is_for c.args.of.now c.loop-assignment.assignment-index c.args.assignments.now c.assignment-item.result c.requires.assigned c.loop-assignment-test.true c.assignment-item.is in
     gate_within (width_of c.args.of.now) (all_names c.args.of.now) (length c.loop-assignment.sources) for.drive.operation c.assignment-item.result.gate c.loop-assignment.invariant.size for.assigned.gate
+
+pub bounds-sources-read : goal.bounds-sources-read
+bounds-sources-read c =
+    let for = is_for c.args.of.now c.loop-assignment.assignment-index c.args.assignments.now c.assignment-item.result c.requires.assigned c.loop-assignment-test.true c.assignment-item.is in
+    target_in c.args.of.now c.loop-assignment.assignment-index c.loop-assignment.sources c.assignment-item.result c.at_sources-read.result for c.at_sources-read.ensures c.loop-assignment.invariant.size
+
+pub offset_bounds-sources-read : goal.offset_bounds-sources-read
+offset_bounds-sources-read c =
+    let for = is_for c.args.of.now c.loop-assignment.assignment-index c.args.assignments.now c.assignment-item.result c.requires.assigned c.loop-assignment-test.true c.assignment-item.is in
+    let lt : c.at_sources-read.result.target < length c.loop-assignment.sources =
+    target_in c.args.of.now c.loop-assignment.assignment-index c.loop-assignment.sources c.assignment-item.result c.at_sources-read.result for c.at_sources-read.ensures c.loop-assignment.invariant.size in
+    omega arith
 
 pub loop-assignment-preserved : goal.loop-assignment-preserved
 loop-assignment-preserved c =
@@ -28,8 +40,8 @@ loop-assignment-preserved c =
 
 pub returns-clause-merged : goal.returns-clause-merged
 returns-clause-merged c =
-    all_merged c.args.of.now c.loop-assignment.assignment-index c.loop-assignment.sources c.loop-assignment.merged.items c.requires.sound (end_of c.args.of.now c.args.assignments.now c.loop-assignment.assignment-index c.requires.assigned c.loop-assignment-test.false _) c.loop-assignment.invariant
+    all_merged c.args.of.now c.loop-assignment.assignment-index c.loop-assignment.sources c.loop-assignment.merged.items c.requires.sound (end_of c.args.of.now c.args.assignments.now c.loop-assignment.merged.items c.loop-assignment.sources c.loop-assignment.assignment-index c.requires.assigned c.loop-assignment-test.false c.loop-assignment.invariant) c.loop-assignment.invariant
 
 pub returns-clause-assigned : goal.returns-clause-assigned
 returns-clause-assigned c =
-    all_assigned c.args.of.now c.loop-assignment.assignment-index c.loop-assignment.sources c.loop-assignment.merged.items (end_of c.args.of.now c.args.assignments.now c.loop-assignment.assignment-index c.requires.assigned c.loop-assignment-test.false _) c.loop-assignment.invariant
+    all_assigned c.args.of.now c.loop-assignment.assignment-index c.loop-assignment.sources c.loop-assignment.merged.items (end_of c.args.of.now c.args.assignments.now c.loop-assignment.merged.items c.loop-assignment.sources c.loop-assignment.assignment-index c.requires.assigned c.loop-assignment-test.false c.loop-assignment.invariant) c.loop-assignment.invariant

@@ -1,7 +1,7 @@
 use Rattle.std.proofs.Common.{◌≡◌, List, ℕ, ◌∙◌, ap, subst, rules, replicate, length, true}
 use Rattle.std.proofs.lemmas.List.Elements.{same_from_all_zip}
 use Rattle.av_clock.specs.inner.Merged.{merged, AreMerged}
-use Rattle.av_clock.proofs.Sourced.{new_marks, new_words}
+use Rattle.av_clock.proofs.SourcedWords.{new_marks, new_words}
 use Rattle.av_clock.proofs.sourced.SourcedClock.new.Goals as goal
 
 pub invariant_of-result : goal.invariant_of-result

@@ -1,6 +1,6 @@
 use Rattle.std.proofs.Common.{true, ap, ◌∙◌}
 use Rattle.av_clock.specs.Seen.{Seen}
-use Rattle.av_clock.proofs.Sourced.{engine_call, seen_edge, seen_ports}
+use Rattle.av_clock.proofs.SourcedWords.{engine_call, seen_edge, seen_ports}
 use Rattle.av_clock.proofs.sourced.SourcedClock.reset.Goals as goal
 
 pub returns-clause-edge : goal.returns-clause-edge

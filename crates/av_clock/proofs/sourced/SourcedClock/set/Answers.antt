@@ -1,6 +1,6 @@
 use Rattle.std.proofs.Common.{ap}
 use Rattle.av_clock.specs.Seen.{Seen}
-use Rattle.av_clock.proofs.Sourced.{engine_call, seen_set, set_inputs, set_value, seen_set_port, seen_set_others}
+use Rattle.av_clock.proofs.SourcedWords.{engine_call, seen_set, set_inputs, set_value, seen_set_port, seen_set_others}
 use Rattle.av_clock.proofs.sourced.SourcedClock.set.Goals as goal
 
 pub set-requires-clause-port : goal.set-requires-clause-port

@@ -1,4 +1,4 @@
-use Rattle.av_clock.proofs.Sourced.{engine_call, seen_settled, seen_given, seen_work, seen_first, seen_most, seen_alone, seen_touched}
+use Rattle.av_clock.proofs.SourcedWords.{engine_call, seen_settled, seen_given, seen_work, seen_first, seen_most, seen_alone, seen_touched}
 use Rattle.av_clock.proofs.sourced.SourcedClock.settle.Goals as goal
 
 pub returns-clause-settled : goal.returns-clause-settled

@@ -1,4 +1,4 @@
-use Rattle.av_clock.proofs.Sourced.{seen_unmarked}
+use Rattle.av_clock.proofs.SourcedWords.{seen_unmarked}
 use Rattle.av_clock.proofs.sourced.SourcedClock.unmarked_drives_hold.Goals as goal
 
 pub returns : goal.returns

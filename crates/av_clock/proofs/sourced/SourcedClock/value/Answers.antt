@@ -1,4 +1,4 @@
-use Rattle.av_clock.proofs.Sourced.{wire_lt, target_at, source_in, place_in, seen_word, seen_fits, seen_flag}
+use Rattle.av_clock.proofs.SourcedWords.{wire_lt, target_at, source_in, place_in, seen_word, seen_fits, seen_flag}
 use Rattle.av_clock.proofs.sourced.SourcedClock.value.Goals as goal
 
 pub target-place-requires : goal.target-place-requires

@@ -37,7 +37,7 @@ use Rattle.av_clock.specs.inner.Sources.{resolved}
 use Rattle.av_clock.proofs.Held.{register_given}
 use Rattle.av_clock.proofs.Lookup.{look_at, contains_at}
 use Rattle.av_clock.proofs.Marking.{never, none_clear}
-use Rattle.av_clock.proofs.Merged.{place_of, source_at, source_found, resolved_at, resolved_size, source_word, sourced_word, sourced_result, of_merged, merged_at, target_zero}
+use Rattle.av_clock.proofs.MergedModules.{place_of, source_at, source_found, resolved_at, resolved_size, source_word, sourced_word, sourced_result, of_merged, merged_at, target_zero}
 use Rattle.av_clock.proofs.Reading.{name_at, one_place}
 use Rattle.av_clock.proofs.Resolved.{target_declared}
 use Rattle.av_clock.proofs.Touched.{each_kept, same_read}
