@@ -62,15 +62,3 @@ key_width width (Extender input bits by) = refl
 -- in the same width
 pub same_width : (a b : Assignment) → key_of a ≡ key_of b → a.width.bits ≡ b.width.bits
 same_width a b same = sym (key_width a.width.bits a.gate) ∙ ap (λ (key : Key). key.width) same ∙ key_width b.width.bits b.gate
-
--- two keys of which all parts are the same
-pub same_parts : (a b : Key) → a.form ≡ b.form → a.symbol ≡ b.symbol → a.number ≡ b.number → a.bits ≡ b.bits → a.width ≡ b.width → a.first ≡ b.first → a.second ≡ b.second → a.third ≡ b.third → a ≡ b
-same_parts a b form symbol number bits width first second third =
-    ap (λ x. record a { form = x }) form
-    ∙ ap (λ x. record a { form = b.form; symbol = x }) symbol
-    ∙ ap (λ x. record a { form = b.form; symbol = b.symbol; number = x }) number
-    ∙ ap (λ x. record a { form = b.form; symbol = b.symbol; number = b.number; bits = x }) bits
-    ∙ ap (λ x. record a { form = b.form; symbol = b.symbol; number = b.number; bits = b.bits; width = x }) width
-    ∙ ap (λ (x : Reading). record a { form = b.form; symbol = b.symbol; number = b.number; bits = b.bits; width = b.width; first = x }) first
-    ∙ ap (λ (x : Reading). record b { second = x; third = a.third }) second
-    ∙ ap (λ (x : Reading). record b { third = x }) third
