@@ -1,5 +1,5 @@
 -- All drives in order, but those of the constant 0, whose words stand already.
-use Rattle.std.proofs.Common.{◌≡◌, ◌≢◌, ℕ, zero, suc, ◌+◌, ◌<◌, ◌≤◌, List, [], ◌∷◌, length, get_or, set, drop, slice_get, Some, refl, sym, ◌∙◌, ap, subst, arith, inl, inr, Bool, true, false, not, cond, replicate}
+use Rattle.std.proofs.Common.{◌≡◌, ◌≢◌, ℕ, suc, ◌+◌, ◌<◌, ◌≤◌, List, [], ◌∷◌, length, get_or, set, drop, refl, sym, ◌∙◌, ap, subst, arith, inl, inr, Bool, true, false, not, cond, replicate}
 use Rattle.std.specs.Prelude.{All, Contains, filter}
 use Rattle.std.proofs.Math.Path.{fun_ext}
 use Rattle.std.proofs.Math.ListN.{length-set}
@@ -7,34 +7,31 @@ use Rattle.std.proofs.lemmas.Bool.{eqb-true, cases_lt}
 use Rattle.std.proofs.lemmas.List.{drop_more, drop_all, length-map, get_or-map, get_or_default, get_or-replicate, get_or_past, length-replicate}
 use Rattle.std.proofs.lemmas.List.Elements.{All-filter, Contains-append_right}
 use Rattle.av_base.specs.Words.{IsWord}
-use Rattle.av_net.specs.declared.operation.Operand.{Operand}
 use Rattle.av_net.specs.declared.operation.Operand.TheVariants.{Name, Literal}
 use Rattle.av_net.specs.declared.operation.Operation.{Operation}
 use Rattle.av_net.specs.declared.operation.Operation.TheVariants.{Plain, Binary, Signed, Choose, Part, Widen}
 use Rattle.av_net.specs.declared.netlist.Drive.{Drive}
-use Rattle.av_net.specs.declared.netlist.Step.{Step}
 use Rattle.av_net.specs.declared.netlist.Module.{Module}
-use Rattle.av_net.specs.Meaning.{Words, Widths, word_of, result_of, EachOperand}
-use Rattle.av_net.specs.Names.{AreDistinct, IsAmong, names_of, given_names, all_names, targets_of, registers_of, width_of}
+use Rattle.av_net.specs.Meaning.{Words, Widths, result_of, EachOperand}
+use Rattle.av_net.specs.Names.{AreDistinct, names_of, given_names, all_names, targets_of, registers_of, width_of}
 use Rattle.av_net.specs.Settled.{Settled, Agree, FitAt}
-use Rattle.av_net.specs.Sound.{IsSound, IsFitting, SuitsWidth}
+use Rattle.av_net.specs.Sound.{IsSound, IsFitting}
 use Rattle.av_net.proofs.Cycles.{is_declared}
 use Rattle.av_net.proofs.Distinct.{apart, front_distinct, rest_distinct}
 use Rattle.av_net.proofs.Fits.{result_fits}
 use Rattle.av_net.proofs.Once.{agree_by}
 use Rattle.av_net.proofs.Settles.{with_word, with_word_same, with_word_other, names_distinct, settle_from, settled_of, is_settled, as_given}
-use Rattle.av_clock.specs.declared.gate.Reading.{Reading}
 use Rattle.av_clock.specs.declared.gate.Reading.TheVariants.{At, Constant}
 use Rattle.av_clock.specs.declared.gate.Gate.{Gate}
 use Rattle.av_clock.specs.declared.gate.Gate.TheVariants.{Buffer, Operator, Comparator, Multiplexer, Slice, Extender}
 use Rattle.av_clock.specs.declared.gate.Assignment.{Assignment}
-use Rattle.av_clock.specs.Named.{named, looked_up, AllFit}
-use Rattle.av_clock.specs.inner.Gates.{gate_word, is_zero, CanTake, IsResolved, IsAssigned, AreAssigned}
+use Rattle.av_clock.specs.Named.{named, AllFit}
+use Rattle.av_clock.specs.inner.Gates.{gate_word, is_zero, IsResolved, IsAssigned, AreAssigned}
 use Rattle.av_clock.specs.inner.Kept.{computes, IsZero, AreZero}
 use Rattle.av_clock.proofs.Held.{given_apart}
 use Rattle.av_clock.proofs.Lookup.{look_set, look_zero, same_or_not}
 use Rattle.av_clock.proofs.Resolved.{at_item, drive_reads, drive_suits}
-use Rattle.av_clock.proofs.Settling.{IsFor, is_for, gate_gives, assignment_takes, target_within, fit_with}
+use Rattle.av_clock.proofs.Settling.{IsFor, is_for, gate_gives, fit_with}
 
 -- ---- what stands for drives
 

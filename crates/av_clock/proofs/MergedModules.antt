@@ -1,5 +1,5 @@
 -- The merged module: what its words say at sources, and that it is sound.
-use Rattle.std.proofs.Common.{◌≡◌, ◌≢◌, ◌⊎◌, ℕ, suc, ◌+◌, ◌<◌, ◌≤◌, ◌^◌, List, [], ◌∷◌, ◌++◌, map, length, get_or, take, slice_get, Some, refl, sym, ◌∙◌, ap, subst, arith, inl, inr, Bool, true, false, if◌then◌else◌, append_assoc, pow_pos}
+use Rattle.std.proofs.Common.{◌≡◌, ◌≢◌, ℕ, suc, ◌+◌, ◌<◌, ◌≤◌, List, [], ◌∷◌, ◌++◌, map, length, get_or, take, slice_get, Some, refl, sym, ◌∙◌, ap, subst, arith, inl, inr, Bool, true, false, if◌then◌else◌, append_assoc, pow_pos}
 use Rattle.std.specs.Prelude.{All, Contains}
 use Rattle.std.specs.Str.{bytes_eq}
 use Rattle.std.proofs.lemmas.List.{get_or-map, get_or_default, length-map, append-nil, take-map, take_all}
@@ -17,12 +17,12 @@ use Rattle.av_net.specs.declared.netlist.Port.{Port}
 use Rattle.av_net.specs.declared.netlist.Drive.{Drive}
 use Rattle.av_net.specs.declared.netlist.Step.{Step}
 use Rattle.av_net.specs.declared.netlist.Module.{Module}
-use Rattle.av_net.specs.Meaning.{Widths, word_of, operand_width, result_of, EachOperand}
+use Rattle.av_net.specs.Meaning.{word_of, operand_width, result_of, EachOperand}
 use Rattle.av_net.specs.Names.{AreDistinct, IsAmong, names_of, given_names, wire_names, all_names, targets_of, registers_of, declarations, width_in, width_of}
 use Rattle.av_net.specs.Sound.{IsSound, IsInOrder, SuitsWidth, IsFitting, ComparesByOrder, symbol_width}
 use Rattle.av_net.proofs.Declared.{names_declared}
 use Rattle.av_net.proofs.Settles.{names_distinct, given_or_driven}
-use Rattle.av_clock.specs.Named.{named, looked_up}
+use Rattle.av_clock.specs.Named.{named}
 use Rattle.av_clock.specs.inner.Sources.{resolved}
 use Rattle.av_clock.specs.inner.Merged.{source_of, sourced, sourced_operation, zero_of, merged_drive, merged_step, merged, known_before, AreMerged}
 use Rattle.av_clock.proofs.Lookup.{look_at}

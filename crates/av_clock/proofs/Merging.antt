@@ -7,7 +7,6 @@ use Rattle.std.proofs.lemmas.Bool.{cases_eq, cases_lt}
 use Rattle.std.proofs.lemmas.List.{get_or-set_same, get_or-set_other, get_or-map, get_or_default, get_or-take, length-map, length-take-le, map_more, length_push}
 use Rattle.std.proofs.lemmas.List.Elements.{Contains-append_left, Contains-append_right, Contains-push, Contains-push_cases}
 use Rattle.std.proofs.lemmas.Option.{slice_get_within, slice_get_cases, get_or_from_slice_get, slice_get-get_or}
-use Rattle.av_base.specs.declared.width.Width.{Width}
 use Rattle.av_net.specs.declared.operation.Operand.{Operand}
 use Rattle.av_net.specs.declared.operation.Operand.TheVariants.{Name, Literal}
 use Rattle.av_net.specs.declared.operation.Operation.{Operation}
@@ -31,7 +30,7 @@ use Rattle.av_clock.specs.Named.{named}
 use Rattle.av_clock.specs.inner.Gates.{gate_word, IsWithin, IsRead, IsResolved, IsAssigned, AreAssigned, IsStepped, AreStepped}
 use Rattle.av_clock.specs.inner.Keys.{key_of}
 use Rattle.av_clock.specs.inner.Sources.{at_source, gate_at_sources, flip_flop_at_source}
-use Rattle.av_clock.specs.inner.Merged.{source_of, sourced, sourced_operation, zero_of, merged_drive, merged_step, merged, known_before, IsGiven, AreMerged, IsMerging, IsEqual, IsSource}
+use Rattle.av_clock.specs.inner.Merged.{source_of, sourced, sourced_operation, merged_drive, merged_step, merged, known_before, IsGiven, AreMerged, IsMerging, IsEqual, IsSource}
 use Rattle.av_clock.proofs.Held.{given_apart}
 use Rattle.av_clock.proofs.Keys.{same_key, same_width}
 use Rattle.av_clock.proofs.Lookup.{contains_at}

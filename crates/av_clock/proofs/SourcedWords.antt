@@ -1,5 +1,5 @@
 -- What is seen of a clock whose engine clocks the merged module: each word is read at its source.
-use Rattle.std.proofs.Common.{◌≡◌, ◌≢◌, ℕ, zero, suc, ◌+◌, ◌<◌, ◌≤◌, List, [], ◌∷◌, map, length, get_or, set, replicate, slice_get, Some, refl, sym, ◌∙◌, ap, subst, arith, inl, inr, Bool, true, false, not, ◌&&◌, ◌||◌, if◌then◌else◌, Vec}
+use Rattle.std.proofs.Common.{◌≡◌, ◌≢◌, ℕ, zero, suc, ◌+◌, ◌<◌, ◌≤◌, List, [], ◌∷◌, map, length, get_or, set, replicate, slice_get, Some, refl, sym, ◌∙◌, ap, subst, arith, inl, inr, Bool, true, false, not, ◌||◌, if◌then◌else◌, Vec}
 use Rattle.std.specs.Prelude.{Contains, IsTrue, IfSome}
 use Rattle.std.specs.Option.{ForSome}
 use Rattle.std.specs.declared.alloc.Global.{Global}
@@ -7,19 +7,19 @@ use Rattle.std.specs.Str.{bytes_eq}
 use Rattle.std.proofs.Math.ListN.{length-set}
 use Rattle.std.proofs.lemmas.Bool.{cases_eq, eq-eqb}
 use Rattle.std.proofs.lemmas.List.{ext_get_or, get_or-map, get_or-replicate, get_or-set_same, get_or-set_other, get_or_default, length-map, length-replicate}
-use Rattle.std.proofs.lemmas.List.Elements.{Contains-append_left, Contains-append_right}
-use Rattle.std.proofs.lemmas.Option.{slice_get_within, slice_get_cases, get_or_from_slice_get, slice_get-get_or}
+use Rattle.std.proofs.lemmas.List.Elements.{Contains-append_left}
+use Rattle.std.proofs.lemmas.Option.{slice_get_within, slice_get_cases, get_or_from_slice_get}
 use Rattle.std.proofs.lemmas.Slice.Eq.{bytes_eq-Decides}
 use Rattle.av_base.specs.Words.{IsWord}
 use Rattle.av_net.specs.declared.operation.Operand.{Operand}
-use Rattle.av_net.specs.declared.operation.Operand.TheVariants.{Name, Literal}
+use Rattle.av_net.specs.declared.operation.Operand.TheVariants.{Name}
 use Rattle.av_net.specs.declared.operation.Operation.{Operation}
 use Rattle.av_net.specs.declared.operation.Operation.TheVariants.{Plain, Binary, Signed, Choose, Part, Widen}
 use Rattle.av_net.specs.declared.netlist.Drive.{Drive}
 use Rattle.av_net.specs.declared.netlist.Step.{Step}
 use Rattle.av_net.specs.declared.netlist.Module.{Module}
-use Rattle.av_net.specs.Meaning.{Words, word_of, result_of, EachOperand}
-use Rattle.av_net.specs.Names.{AreDistinct, IsAmong, names_of, given_names, wire_names, all_names, targets_of, registers_of, declarations, width_of}
+use Rattle.av_net.specs.Meaning.{word_of, EachOperand}
+use Rattle.av_net.specs.Names.{AreDistinct, IsAmong, names_of, given_names, wire_names, all_names, targets_of, registers_of, width_of}
 use Rattle.av_net.specs.Settled.{Settled, Agree, Holds}
 use Rattle.av_net.specs.Clocked.{Edge}
 use Rattle.av_net.specs.Sound.{IsSound}
@@ -31,13 +31,13 @@ use Rattle.av_clock.specs.Seen.{Seen, carried}
 use Rattle.av_clock.specs.Marked.{IsClear, has_kept, reads_same, touched}
 use Rattle.av_clock.specs.inner.Engine.{IsWhole}
 use Rattle.av_clock.specs.inner.Marking.{KeepsWord}
-use Rattle.av_clock.specs.inner.Merged.{source_of, sourced, sourced_operation, zero_of, merged_drive, merged_step, merged, AreMerged}
+use Rattle.av_clock.specs.inner.Merged.{source_of, sourced, sourced_operation, merged_drive, merged_step, merged, AreMerged}
 use Rattle.av_clock.specs.inner.Sourced.{mark_of, marks_of, seen_of, IsEngine}
 use Rattle.av_clock.specs.inner.Sources.{resolved}
 use Rattle.av_clock.proofs.Held.{register_given}
 use Rattle.av_clock.proofs.Lookup.{look_at, contains_at}
-use Rattle.av_clock.proofs.Marking.{never, none_clear}
-use Rattle.av_clock.proofs.MergedModules.{place_of, source_at, source_found, resolved_at, resolved_size, source_word, sourced_word, sourced_result, of_merged, merged_at, target_zero}
+use Rattle.av_clock.proofs.Marking.{never}
+use Rattle.av_clock.proofs.MergedModules.{source_at, source_found, resolved_at, resolved_size, source_word, sourced_word, sourced_result, of_merged, merged_at, target_zero}
 use Rattle.av_clock.proofs.Reading.{name_at, one_place}
 use Rattle.av_clock.proofs.Resolved.{target_declared}
 use Rattle.av_clock.proofs.Touched.{each_kept, same_read}

@@ -1,4 +1,4 @@
-use Rattle.std.proofs.Common.{◌<◌, ◌+◌, ◌∙◌, List, length, sym, subst, arith}
+use Rattle.std.proofs.Common.{◌<◌, ◌+◌, List, length, sym, subst, arith}
 use Rattle.av_net.specs.Names.{all_names, width_of}
 use Rattle.av_clock.specs.declared.gate.Assignment.{Assignment}
 use Rattle.av_clock.specs.inner.Merged.{IsSource}
