@@ -1,13 +1,14 @@
 -- Marks, a bit for each.
-use Rattle.std.proofs.Common.{◌≡◌, ◌≢◌, ℕ, zero, suc, ◌+◌, ◌-◌, ◌/◌, ◌%◌, ◌<◌, ◌≤◌, ◌==◌, List, length, get_or, set, replicate, refl, sym, ◌∙◌, ap, subst, arith, Bool, true, false, Vec, inl, inr}
+use Rattle.std.proofs.Common.{◌≡◌, ◌≢◌, ℕ, zero, suc, ◌+◌, ◌-◌, ◌/◌, ◌%◌, ◌^◌, ◌<◌, ◌≤◌, ◌==◌, w64, List, length, get_or, set, replicate, refl, sym, ◌∙◌, ap, subst, arith, Bool, true, false, Vec, inl, inr}
 use Rattle.std.specs.Prelude.{IsTrue, ◌↔◌}
-use Rattle.std.specs.Int.{bit_at}
+use Rattle.std.specs.Int.{bit_at, trailing_zeros}
 use Rattle.std.specs.declared.alloc.Global.{Global}
 use Rattle.std.specs.Vec.{with_items}
 use Rattle.std.proofs.Math.ListN.{length-set}
-use Rattle.std.proofs.lemmas.Bool.{cases_eq}
+use Rattle.std.proofs.lemmas.Bool.{cases_eq, cases_lt}
 use Rattle.std.proofs.lemmas.List.{same_lists, get_or-set_same, get_or-set_other, get_or-replicate, get_or_default, length-replicate}
-use Rattle.std.proofs.lemmas.Nat.Bits.{bit_at-zero, bit_at-lt}
+use Rattle.std.proofs.lemmas.Nat.{shr-shr, shr_le}
+use Rattle.std.proofs.lemmas.Nat.Bits.{bit_at-zero, bit_at-lt, bit_at_above, bit_at-trailing_zeros}
 use Rattle.av_clock.specs.Marked.{IsClear}
 use Rattle.av_clock.specs.inner.Bits.{bit_mark, marks_from}
 use Rattle.av_clock.specs.inner.Marking.{IsSet}
@@ -88,9 +89,15 @@ new_bits n = filled_bits (replicate (n / 64 + 1) 0) n false (λ k lt.
 -- ---- of what is seen
 
 -- the word of a mark is there
-pub word_there : (v : Vec ℕ Global) (n index : ℕ) (marks : List Bool) → marks_from v.items 0 n ≡ marks → length v.items ≡ n / 64 + 1 → index < length marks → index / 64 < length v.items
+word_in : (words : List ℕ) (n index : ℕ) (marks : List Bool) → marks_from words 0 n ≡ marks → length words ≡ n / 64 + 1 → index < length marks → index / 64 < length words
+word_in words n index marks view size lt =
+    let lt' : index < n = subst (λ m. index < m) (sym (ap length view) ∙ marks_size words 0 n) lt in
+    omega arith
+
+pub word_there : (v : Vec ℕ Global) (n index : ℕ) (marks : List Bool) → marks_from v.items 0 n ≡ marks → length v.items ≡ n / 64 + 1 → index < length marks → index / 64 < v.len
 word_there v n index marks view size lt =
-    let lt' : index < n = subst (λ m. index < m) (sym (ap length view) ∙ marks_size v.items 0 n) lt in
+    let inside = word_in v.items n index marks view size lt in
+    let long : v.len ≡ length v.items = v.ok.0 in
     omega arith
 
 pub within_count : (words : List ℕ) (n index : ℕ) (marks : List Bool) → marks_from words 0 n ≡ marks → index < length marks → index < n
@@ -98,14 +105,14 @@ within_count words n index marks view lt = subst (λ m. index < m) (sym (ap leng
 
 -- a word that was read by the place of a mark
 pub read_word : (v : Vec ℕ Global) (n index word : ℕ) (marks : List Bool) → marks_from v.items 0 n ≡ marks → length v.items ≡ n / 64 + 1 → index < length marks → word ≡ get_or v.items (index / 64) word → word ≡ get_or v.items (index / 64) 0
-read_word v n index word marks view size lt is = is ∙ get_or_default v.items (index / 64) word 0 (word_there v n index marks view size lt)
+read_word v n index word marks view size lt is = is ∙ get_or_default v.items (index / 64) word 0 (word_in v.items n index marks view size lt)
 
 -- a bit that does not test as 1 is 0
 pub bit_cases : (word bit : ℕ) (test : Bool) → (IsTrue test ↔ (bit_at word bit ≡ 1)) → test ≡ false → bit_at word bit ≡ 0
-bit_cases word bit test decides no =
+bit_cases word bit test decides unset =
     let small : bit_at word bit < 2 = bit_at-lt word bit in
     elim (cases_eq (bit_at word bit) 1) [
-      | inl one ↦ let e : false ≡ true = sym no ∙ decides.1 one in absurd cc
+      | inl one ↦ let e : false ≡ true = sym unset ∙ decides.1 one in absurd cc
       | inr other ↦ zero_below (bit_at word bit) small other
     ]
 
@@ -145,6 +152,17 @@ some_bit words n index word marks view lt is clear one =
     let e : true ≡ false = sym set' ∙ a ∙ sym b ∙ clear' in
     absurd cc
 
+-- so the next bit of 1 stands behind it
+pub some_step : (words : List ℕ) (n index word next : ℕ) (marks : List Bool) → marks_from words 0 n ≡ marks → index < length marks → word ≡ get_or words (index / 64) 0 → IsClear marks index → index % 64 ≤ next → (next < 64 → bit_at word next ≡ 1)
+    → 0 < next - index % 64
+some_step words n index word next marks view lt is clear le found = elim (cases_lt (index % 64) next) [
+  | inl behind ↦ omega arith
+  | inr here ↦
+      let e : next ≡ index % 64 = omega arith in
+      let small : next < 64 = omega arith in
+      absurd (some_bit words n index word marks view lt is clear (ap (bit_at word) (sym e) ∙ found small))
+]
+
 -- marks that were filled
 pub seen_filled : (v : Vec ℕ Global) (before new : List ℕ) (n word : ℕ) (mark : Bool) (marks : List Bool) → marks_from v.items 0 n ≡ marks → length v.items ≡ n / 64 + 1 → length new ≡ length before → before ≡ v.items → new ≡ replicate (length before) word
     → ((bit : ℕ) → bit < 64 → (bit_at word bit == 1) ≡ mark) → marks_from (with_items v new).items 0 n ≡ replicate (length marks) mark
@@ -157,3 +175,38 @@ seen_filled v before new n word mark marks view size same is filled all =
     let small : k % 64 < 64 = omega arith in
     ap (λ w. bit_at w (k % 64) == 1) (get_or-replicate (n / 64 + 1) (k / 64) word 0 there) ∙ all (k % 64) small)
     ∙ ap (λ m. replicate m mark) count
+
+-- ---- the next bit of a word
+
+-- the bits of a word that was shifted
+shifted : (word from i : ℕ) → bit_at (word / 2 ^ from) i ≡ bit_at word (from + i)
+shifted word from i = ap (λ n. n % 2) (shr-shr word from i)
+
+later_bit : (word from i : ℕ) → from ≤ i → bit_at word i ≡ bit_at (word / 2 ^ from) (i - from)
+later_bit word from i le = let e : from + (i - from) ≡ i = omega arith in sym (shifted word from (i - from) ∙ ap (bit_at word) e)
+
+pub none_later : (word from i : ℕ) → word / 2 ^ from ≡ 0 → from ≤ i → bit_at word i ≡ 0
+none_later word from i none le = later_bit word from i le ∙ ap (λ n. bit_at n (i - from)) none ∙ bit_at-zero (i - from)
+
+-- the first one from a bit on
+pub record IsNext (word from next : ℕ) : Type 0 where
+  pub later : from ≤ next
+  pub most : next ≤ 64
+  pub clear : (i : ℕ) → from ≤ i → i < next → bit_at word i ≡ 0
+  pub set : bit_at word next ≡ 1
+
+pub next_is : (word from : ℕ) → word < 2 ^ 64 → 0 < word / 2 ^ from → IsNext word from (from + trailing_zeros w64 (word / 2 ^ from))
+next_is word from small some =
+    let shift : word / 2 ^ from ≤ word = shr_le word from in
+    let zeros = trailing_zeros w64 (word / 2 ^ from) in
+    let (few, one, none) = bit_at-trailing_zeros w64 (word / 2 ^ from) some (omega (arith, shift, small)) in
+    let here : bit_at word (from + zeros) ≡ 1 = sym (shifted word from zeros) ∙ one in
+    record {
+      later = omega arith;
+      most = elim (cases_lt (from + zeros) 64) [
+        | inl lt ↦ omega arith
+        | inr past ↦ let e : 0 ≡ 1 = sym (bit_at_above word 64 (from + zeros) small past) ∙ here in absurd (omega arith)
+      ];
+      clear = λ i le lt. later_bit word from i le ∙ none (i - from) (omega arith);
+      set = here;
+    }
