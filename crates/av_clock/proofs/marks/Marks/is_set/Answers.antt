@@ -1,4 +1,3 @@
-use Rattle.std.proofs.Common.{◌∙◌}
 use Rattle.av_clock.proofs.Bits.{word_there, seen_set, seen_clear, bit_cases, read_word}
 use Rattle.av_clock.proofs.marks.Marks.is_set.Goals as goal
 
