@@ -15,8 +15,8 @@ use Rattle.av_names.specs.declared.size.Size.{Size}
 use Rattle.av_cli.specs.declared.status.Status.{Status}
 use Rattle.av_cli.specs.declared.status.Status.TheVariants.{Done, Refused, Words, ReadFault, WriteFault, Memory}
 use Rattle.av_cli.specs.declared.words.Command.{Command}
-use Rattle.av_cli.specs.declared.words.Command.TheVariants.{Check, Schedule, Table, Emit, Run, Trace, Best, Stream, Sim, Demo}
-use Rattle.av_cli.specs.Commands.{Asks, IsCheck, IsSchedule, IsTable, IsEmit, IsRun, IsTrace, IsBest, IsStream, IsSim, IsDemo, TakeInput, AskDemo, AreRead}
+use Rattle.av_cli.specs.declared.words.Command.TheVariants.{Check, Schedule, Table, Emit, Run, Trace, Best, Stream, Wave, Sim, Unwave, Demo}
+use Rattle.av_cli.specs.Commands.{Asks, IsCheck, IsSchedule, IsTable, IsEmit, IsRun, IsTrace, IsBest, IsStream, AsksWave, IsSim, IsUnwave, IsDemo, TakeInput, AskDemo, AreRead}
 use Rattle.av_cli.specs.inner.WithWords.{GivesMapped}
 use Rattle.av_cli.specs.inner.CommandsSeen.{Are, takes_input}
 use Rattle.av_cli.specs.Refusals.{refusal_line}
@@ -30,6 +30,7 @@ use Rattle.av_cli.specs.Tables.{RefusesTable, GivesTable}
 use Rattle.av_cli.specs.Runs.{RefusesRun, GivesResults, GivesTrace}
 use Rattle.av_cli.specs.Bests.{RefusesBest, GivesBest}
 use Rattle.av_cli.specs.Streams.{RefusesStream, GivesStream}
+use Rattle.av_cli.specs.Waves.{GivesDump, RefusesUnwave, GivesUnwave}
 use Rattle.av_cli.proofs.Checking.{exclusive_check}
 use Rattle.av_cli.proofs.Scheduling.{exclusive_schedule}
 use Rattle.av_cli.proofs.Tabling.{exclusive_table}
@@ -38,7 +39,7 @@ use Rattle.av_cli.proofs.Reporting.{exclusive_run}
 use Rattle.av_cli.proofs.LeastSchedules.{exclusive_best}
 use Rattle.av_cli.proofs.StreamAnswers.{exclusive_stream}
 use Rattle.av_cli.proofs.GivenSizes.{one_asked}
-use Rattle.av_cli.proofs.Presenting.{given_distinct}
+use Rattle.av_wave.proofs.Presenting.{given_distinct}
 
 pub input_of : (command : Command) (words : List (List ℕ)) → Are command words → takes_input command ≡ true → TakeInput words
 input_of (Check width) words (sizes, are) t = inr (inr (inl (width.bits, sizes, are)))
@@ -47,7 +48,9 @@ input_of (Table width reach) words (sizes, are) t = inr (inr (inr (inr (inl (wid
 input_of (Run width reach) words (sizes, are) t = inr (inr (inr (inr (inr (inl (width.bits, reach.size, sizes, are))))))
 input_of (Trace width reach) words (sizes, are) t = inr (inr (inr (inr (inr (inr (inl (width.bits, reach.size, sizes, are)))))))
 input_of (Best width reach) words (sizes, are) t = inr (inr (inr (inr (inr (inr (inr (inl (width.bits, reach.size, sizes, are))))))))
-input_of (Stream width reach) words (sizes, are) t = inr (inr (inr (inr (inr (inr (inr (inr (width.bits, reach.size, sizes, are))))))))
+input_of (Stream width reach) words (sizes, are) t = inr (inr (inr (inr (inr (inr (inr (inr (inl (width.bits, reach.size, sizes, are)))))))))
+input_of (Wave width reach) words (sizes, are) t = inr (inr (inr (inr (inr (inr (inr (inr (inr (inl (width.bits, reach.size, sizes, are))))))))))
+input_of Unwave words are t = inr (inr (inr (inr (inr (inr (inr (inr (inr (inr are)))))))))
 input_of (Emit width reach) words (sizes, are) t = inl (width.bits, reach.size, sizes, are)
 input_of Sim words are t = inr (inl are)
 input_of (Demo width reach k) words are t = absurd (true≢false (sym t))
@@ -61,7 +64,9 @@ read_of (Trace width reach) words are = inl (input_of (Trace width reach) words 
 read_of (Best width reach) words are = inl (input_of (Best width reach) words are refl)
 read_of (Stream width reach) words are = inl (input_of (Stream width reach) words are refl)
 read_of (Emit width reach) words are = inl (input_of (Emit width reach) words are refl)
+read_of (Wave width reach) words are = inl (input_of (Wave width reach) words are refl)
 read_of Sim words are = inl (input_of Sim words are refl)
+read_of Unwave words are = inl (input_of Unwave words are refl)
 read_of (Demo width reach k) words are = inr (width.bits, reach.size, k, are)
 
 refusal_of : (command : Command) (words : List (List ℕ)) (bytes reason : List ℕ) → Are command words → length bytes ≤ 1048576 → Refuses command words bytes reason → IsRefused words bytes reason
@@ -71,7 +76,9 @@ refusal_of (Table width reach) words bytes reason are within (sizes, is, r) = in
 refusal_of (Run width reach) words bytes reason are within (sizes, is, r) = inr (inr (inr (inr (inr (inr (inl (within, (width.bits, reach.size, sizes, is, r))))))))
 refusal_of (Trace width reach) words bytes reason are within (sizes, is, r) = inr (inr (inr (inr (inr (inr (inr (inl (within, (width.bits, reach.size, sizes, is, r)))))))))
 refusal_of (Best width reach) words bytes reason are within (sizes, is, r) = inr (inr (inr (inr (inr (inr (inr (inr (inl (within, (width.bits, reach.size, sizes, is, r))))))))))
-refusal_of (Stream width reach) words bytes reason are within (sizes, is, r) = inr (inr (inr (inr (inr (inr (inr (inr (inr (within, (width.bits, reach.size, sizes, is, r))))))))))
+refusal_of (Stream width reach) words bytes reason are within (sizes, is, r) = inr (inr (inr (inr (inr (inr (inr (inr (inr (inl (within, (width.bits, reach.size, sizes, is, r)))))))))))
+refusal_of (Wave width reach) words bytes reason are within (sizes, is, r) = inr (inr (inr (inr (inr (inr (inr (inr (inr (inr (inl (within, (width.bits, reach.size, sizes, is, r))))))))))))
+refusal_of Unwave words bytes reason are within r = inr (inr (inr (inr (inr (inr (inr (inr (inr (inr (inr (within, are, r)))))))))))
 refusal_of (Emit width reach) words bytes reason are within (sizes, is, r) = inr (inl (within, (width.bits, reach.size, sizes, is, r)))
 refusal_of Sim words bytes reason are within r = inr (inr (inl (within, are, r)))
 refusal_of (Demo width reach k) words bytes reason are within r = absurd r
@@ -94,6 +101,9 @@ writes_output (Stream w r) words left left' bytes out are t takes end within (si
     inr (inr (inr (inr (inr (inr (inr (inr (inl (record { bits = w.bits; box = r.size; sizes = sizes; read = is; taken = bytes; takes = takes; whole = end; within = within; gives = g })))))))))
 writes_output (Emit w r) words left left' bytes out are t takes end within (sizes, is, g) =
     inl (record { bits = w.bits; box = r.size; sizes = sizes; read = is; taken = bytes; takes = takes; whole = end; within = within; gives = g.gives; mapped = g.mapped })
+writes_output (Wave w r) words left left' bytes out are t takes end within (sizes, is, g) =
+    inr (inr (inr (inr (inr (inr (inr (inr (inr (inl (record { bits = w.bits; box = r.size; sizes = sizes; read = is; taken = bytes; takes = takes; whole = end; within = within; gives = g }))))))))))
+writes_output Unwave words left left' bytes out are t takes end within g = inr (inr (inr (inr (inr (inr (inr (inr (inr (inr (inl (record { read = are; taken = bytes; takes = takes; whole = end; within = within; gives = g })))))))))))
 writes_output Sim words left left' bytes out are t takes end within g = inr (inl (record { read = are; taken = bytes; takes = takes; whole = end; within = within; gives = g }))
 writes_output (Demo w r k) words left left' bytes out are t takes end within g = absurd (true≢false (sym t))
 
@@ -108,6 +118,9 @@ begins name words bits box sizes is = (is.rest, is.first)
 
 begins_sim : (words : List (List ℕ)) → IsSim words → Begins (codes "sim") words
 begins_sim words is = (is.rest, is.first)
+
+begins_unwave : (words : List (List ℕ)) → IsUnwave words → Begins (codes "unwave") words
+begins_unwave words is = (is.rest, is.first)
 
 begins_demo : (words : List (List ℕ)) (bits box k : ℕ) → IsDemo words bits box k → Begins (codes "demo") words
 begins_demo words bits box k is = (is.before ++ (is.word ∷ is.after), is.parts)
@@ -136,6 +149,9 @@ exclusive_sim bytes reason out (bad_stimulus {text} {rest} {first} {design} faul
     let stimulated = subst (λ (d : Design). SpellsStimulus d.module.inputs rest g.stimulus) one (subst (λ r. SpellsStimulus g.design.module.inputs r g.stimulus) later g.stimulated) in
     not_both_stimuli design.module.inputs (inputs_distinct text design spelled) first rest g.stimulus fault stimulated is
 
+exclusive_unwave : (bytes reason out : List ℕ) → RefusesUnwave bytes reason → GivesUnwave bytes out → ⊥
+exclusive_unwave bytes reason out r g = r.fault.none g.wave g.is g.text
+
 -- what words of a command refuse, each command by its name
 exclude : (name : List ℕ) (words : List (List ℕ)) (bytes : List ℕ) → Begins name words → length bytes ≤ 1048576
     → (codes "emit" ≡ name → (bits box : ℕ) (sizes : List Size) → IsEmit words bits box sizes → (reason : List ℕ) → RefusesTable sizes bits box bytes reason → ⊥)
@@ -147,25 +163,30 @@ exclude : (name : List ℕ) (words : List (List ℕ)) (bytes : List ℕ) → Beg
     → (codes "trace" ≡ name → (bits box : ℕ) (sizes : List Size) → IsTrace words bits box sizes → (reason : List ℕ) → RefusesRun sizes bits box bytes reason → ⊥)
     → (codes "best" ≡ name → (bits box : ℕ) (sizes : List Size) → IsBest words bits box sizes → (reason : List ℕ) → RefusesBest sizes bits box bytes reason → ⊥)
     → (codes "stream" ≡ name → (bits box : ℕ) (sizes : List Size) → IsStream words bits box sizes → (reason : List ℕ) → RefusesStream sizes bits box bytes reason → ⊥)
+    → (codes "wave" ≡ name → (bits box : ℕ) (sizes : List Size) → AsksWave words bits box sizes → (reason : List ℕ) → RefusesRun sizes bits box bytes reason → ⊥)
+    → (codes "unwave" ≡ name → (reason : List ℕ) → RefusesUnwave bytes reason → ⊥)
     → HasRefusal words bytes → ⊥
-exclude name words bytes is within emit sim check schedule table run trace best stream (reason, inl (long, input, e)) = absurd (omega (arith, long, within))
-exclude name words bytes is within emit sim check schedule table run trace best stream (reason, inr (inl (short, (bits, box, sizes, other, r)))) =
+exclude name words bytes is within emit sim check schedule table run trace best stream wave unwave (reason, inl (long, input, e)) = absurd (omega (arith, long, within))
+exclude name words bytes is within emit sim check schedule table run trace best stream wave unwave (reason, inr (inl (short, (bits, box, sizes, other, r)))) =
     emit (same_name (codes "emit") name words (begins (codes "emit") words bits box sizes other) is) bits box sizes other reason r
-exclude name words bytes is within emit sim check schedule table run trace best stream (reason, inr (inr (inl (short, other, r)))) = sim (same_name (codes "sim") name words (begins_sim words other) is) reason r
-exclude name words bytes is within emit sim check schedule table run trace best stream (reason, inr (inr (inr (inl (short, (bits, sizes, other, r)))))) =
+exclude name words bytes is within emit sim check schedule table run trace best stream wave unwave (reason, inr (inr (inl (short, other, r)))) = sim (same_name (codes "sim") name words (begins_sim words other) is) reason r
+exclude name words bytes is within emit sim check schedule table run trace best stream wave unwave (reason, inr (inr (inr (inl (short, (bits, sizes, other, r)))))) =
     check (same_name (codes "check") name words (begins (codes "check") words bits other.0 sizes other.1) is) bits sizes other reason r
-exclude name words bytes is within emit sim check schedule table run trace best stream (reason, inr (inr (inr (inr (inl (short, (bits, box, sizes, other, r))))))) =
+exclude name words bytes is within emit sim check schedule table run trace best stream wave unwave (reason, inr (inr (inr (inr (inl (short, (bits, box, sizes, other, r))))))) =
     schedule (same_name (codes "schedule") name words (begins (codes "schedule") words bits box sizes other) is) bits box sizes other reason r
-exclude name words bytes is within emit sim check schedule table run trace best stream (reason, inr (inr (inr (inr (inr (inl (short, (bits, box, sizes, other, r)))))))) =
+exclude name words bytes is within emit sim check schedule table run trace best stream wave unwave (reason, inr (inr (inr (inr (inr (inl (short, (bits, box, sizes, other, r)))))))) =
     table (same_name (codes "table") name words (begins (codes "table") words bits box sizes other) is) bits box sizes other reason r
-exclude name words bytes is within emit sim check schedule table run trace best stream (reason, inr (inr (inr (inr (inr (inr (inl (short, (bits, box, sizes, other, r))))))))) =
+exclude name words bytes is within emit sim check schedule table run trace best stream wave unwave (reason, inr (inr (inr (inr (inr (inr (inl (short, (bits, box, sizes, other, r))))))))) =
     run (same_name (codes "run") name words (begins (codes "run") words bits box sizes other) is) bits box sizes other reason r
-exclude name words bytes is within emit sim check schedule table run trace best stream (reason, inr (inr (inr (inr (inr (inr (inr (inl (short, (bits, box, sizes, other, r)))))))))) =
+exclude name words bytes is within emit sim check schedule table run trace best stream wave unwave (reason, inr (inr (inr (inr (inr (inr (inr (inl (short, (bits, box, sizes, other, r)))))))))) =
     trace (same_name (codes "trace") name words (begins (codes "trace") words bits box sizes other) is) bits box sizes other reason r
-exclude name words bytes is within emit sim check schedule table run trace best stream (reason, inr (inr (inr (inr (inr (inr (inr (inr (inl (short, (bits, box, sizes, other, r))))))))))) =
+exclude name words bytes is within emit sim check schedule table run trace best stream wave unwave (reason, inr (inr (inr (inr (inr (inr (inr (inr (inl (short, (bits, box, sizes, other, r))))))))))) =
     best (same_name (codes "best") name words (begins (codes "best") words bits box sizes other) is) bits box sizes other reason r
-exclude name words bytes is within emit sim check schedule table run trace best stream (reason, inr (inr (inr (inr (inr (inr (inr (inr (inr (short, (bits, box, sizes, other, r))))))))))) =
+exclude name words bytes is within emit sim check schedule table run trace best stream wave unwave (reason, inr (inr (inr (inr (inr (inr (inr (inr (inr (inl (short, (bits, box, sizes, other, r)))))))))))) =
     stream (same_name (codes "stream") name words (begins (codes "stream") words bits box sizes other) is) bits box sizes other reason r
+exclude name words bytes is within emit sim check schedule table run trace best stream wave unwave (reason, inr (inr (inr (inr (inr (inr (inr (inr (inr (inr (inl (short, (bits, box, sizes, other, r))))))))))))) =
+    wave (same_name (codes "wave") name words (begins (codes "wave") words bits box sizes other) is) bits box sizes other reason r
+exclude name words bytes is within emit sim check schedule table run trace best stream wave unwave (reason, inr (inr (inr (inr (inr (inr (inr (inr (inr (inr (inr (short, other, r)))))))))))) = unwave (same_name (codes "unwave") name words (begins_unwave words other) is) reason r
 
 -- names that differ in a letter differ
 letter : (k : ℕ) (a b : List ℕ) → (slice_index_or a k 0 ≡ slice_index_or b k 0 → ⊥) → a ≡ b → ⊥
@@ -185,6 +206,8 @@ exclude_check words bits bytes out sizes is within g refusal =
     (λ e. absurd (letter 0 (codes "trace") (codes "check") (λ (f : 116 ≡ 99). omega (arith, f)) e))
     (λ e. absurd (letter 0 (codes "best") (codes "check") (λ (f : 98 ≡ 99). omega (arith, f)) e))
     (λ e. absurd (letter 0 (codes "stream") (codes "check") (λ (f : 115 ≡ 99). omega (arith, f)) e))
+    (λ e. absurd (letter 0 (codes "wave") (codes "check") (λ (f : 119 ≡ 99). omega (arith, f)) e))
+    (λ e. absurd (letter 0 (codes "unwave") (codes "check") (λ (f : 117 ≡ 99). omega (arith, f)) e))
     refusal
 
 exclude_schedule : (words : List (List ℕ)) (bits box : ℕ) (bytes out : List ℕ) (sizes : List Size) → IsSchedule words bits box sizes → length bytes ≤ 1048576 → GivesSchedule sizes bits box bytes out → HasRefusal words bytes → ⊥
@@ -201,6 +224,8 @@ exclude_schedule words bits box bytes out sizes is within g refusal =
     (λ e. absurd (letter 0 (codes "trace") (codes "schedule") (λ (f : 116 ≡ 115). omega (arith, f)) e))
     (λ e. absurd (letter 0 (codes "best") (codes "schedule") (λ (f : 98 ≡ 115). omega (arith, f)) e))
     (λ e. absurd (letter 1 (codes "stream") (codes "schedule") (λ (f : 116 ≡ 99). omega (arith, f)) e))
+    (λ e. absurd (letter 0 (codes "wave") (codes "schedule") (λ (f : 119 ≡ 115). omega (arith, f)) e))
+    (λ e. absurd (letter 0 (codes "unwave") (codes "schedule") (λ (f : 117 ≡ 115). omega (arith, f)) e))
     refusal
 
 exclude_table : (words : List (List ℕ)) (bits box : ℕ) (bytes out : List ℕ) (sizes : List Size) → IsTable words bits box sizes → length bytes ≤ 1048576 → GivesTable sizes bits box bytes out → HasRefusal words bytes → ⊥
@@ -217,6 +242,8 @@ exclude_table words bits box bytes out sizes is within g refusal =
     (λ e. absurd (letter 1 (codes "trace") (codes "table") (λ (f : 114 ≡ 97). omega (arith, f)) e))
     (λ e. absurd (letter 0 (codes "best") (codes "table") (λ (f : 98 ≡ 116). omega (arith, f)) e))
     (λ e. absurd (letter 0 (codes "stream") (codes "table") (λ (f : 115 ≡ 116). omega (arith, f)) e))
+    (λ e. absurd (letter 0 (codes "wave") (codes "table") (λ (f : 119 ≡ 116). omega (arith, f)) e))
+    (λ e. absurd (letter 0 (codes "unwave") (codes "table") (λ (f : 117 ≡ 116). omega (arith, f)) e))
     refusal
 
 exclude_emit : (words : List (List ℕ)) (bits box : ℕ) (bytes out : List ℕ) (sizes : List Size) → IsEmit words bits box sizes → length bytes ≤ 1048576 → GivesMapped sizes bits box bytes out → HasRefusal words bytes → ⊥
@@ -233,6 +260,8 @@ exclude_emit words bits box bytes out sizes is within g refusal =
     (λ e. absurd (letter 0 (codes "trace") (codes "emit") (λ (f : 116 ≡ 101). omega (arith, f)) e))
     (λ e. absurd (letter 0 (codes "best") (codes "emit") (λ (f : 98 ≡ 101). omega (arith, f)) e))
     (λ e. absurd (letter 0 (codes "stream") (codes "emit") (λ (f : 115 ≡ 101). omega (arith, f)) e))
+    (λ e. absurd (letter 0 (codes "wave") (codes "emit") (λ (f : 119 ≡ 101). omega (arith, f)) e))
+    (λ e. absurd (letter 0 (codes "unwave") (codes "emit") (λ (f : 117 ≡ 101). omega (arith, f)) e))
     refusal
 
 exclude_run : (words : List (List ℕ)) (bits box : ℕ) (bytes out : List ℕ) (sizes : List Size) → IsRun words bits box sizes → length bytes ≤ 1048576 → GivesResults sizes bits box bytes out → HasRefusal words bytes → ⊥
@@ -249,6 +278,8 @@ exclude_run words bits box bytes out sizes is within g refusal =
     (λ e. absurd (letter 0 (codes "trace") (codes "run") (λ (f : 116 ≡ 114). omega (arith, f)) e))
     (λ e. absurd (letter 0 (codes "best") (codes "run") (λ (f : 98 ≡ 114). omega (arith, f)) e))
     (λ e. absurd (letter 0 (codes "stream") (codes "run") (λ (f : 115 ≡ 114). omega (arith, f)) e))
+    (λ e. absurd (letter 0 (codes "wave") (codes "run") (λ (f : 119 ≡ 114). omega (arith, f)) e))
+    (λ e. absurd (letter 0 (codes "unwave") (codes "run") (λ (f : 117 ≡ 114). omega (arith, f)) e))
     refusal
 
 exclude_trace : (words : List (List ℕ)) (bits box : ℕ) (bytes out : List ℕ) (sizes : List Size) → IsTrace words bits box sizes → length bytes ≤ 1048576 → GivesTrace sizes bits box bytes out → HasRefusal words bytes → ⊥
@@ -265,6 +296,8 @@ exclude_trace words bits box bytes out sizes is within g refusal =
     (let h = (subst (λ (m : ℕ). GivesTrace others m c bytes out) same_bits (subst (λ (m : ℕ). GivesTrace others bits m bytes out) same_box (subst (λ (xs : List Size). GivesTrace xs bits box bytes out) same_sizes g))) in exclusive_run others n c bytes reason h.timed h.cells h.plan h.inputs r h.has))
     (λ e. absurd (letter 0 (codes "best") (codes "trace") (λ (f : 98 ≡ 116). omega (arith, f)) e))
     (λ e. absurd (letter 0 (codes "stream") (codes "trace") (λ (f : 115 ≡ 116). omega (arith, f)) e))
+    (λ e. absurd (letter 0 (codes "wave") (codes "trace") (λ (f : 119 ≡ 116). omega (arith, f)) e))
+    (λ e. absurd (letter 0 (codes "unwave") (codes "trace") (λ (f : 117 ≡ 116). omega (arith, f)) e))
     refusal
 
 exclude_best : (words : List (List ℕ)) (bits box : ℕ) (bytes out : List ℕ) (sizes : List Size) → IsBest words bits box sizes → length bytes ≤ 1048576 → GivesBest sizes bits box bytes out → HasRefusal words bytes → ⊥
@@ -281,6 +314,8 @@ exclude_best words bits box bytes out sizes is within g refusal =
     let (same_bits, same_box, same_sizes) = one_asked (codes "best") words bits n box c sizes others is other in
     exclusive_best others n c bytes reason out r (subst (λ (m : ℕ). GivesBest others m c bytes out) same_bits (subst (λ (m : ℕ). GivesBest others bits m bytes out) same_box (subst (λ (xs : List Size). GivesBest xs bits box bytes out) same_sizes g))))
     (λ e. absurd (letter 0 (codes "stream") (codes "best") (λ (f : 115 ≡ 98). omega (arith, f)) e))
+    (λ e. absurd (letter 0 (codes "wave") (codes "best") (λ (f : 119 ≡ 98). omega (arith, f)) e))
+    (λ e. absurd (letter 0 (codes "unwave") (codes "best") (λ (f : 117 ≡ 98). omega (arith, f)) e))
     refusal
 
 exclude_stream : (words : List (List ℕ)) (bits box : ℕ) (bytes out : List ℕ) (sizes : List Size) → IsStream words bits box sizes → length bytes ≤ 1048576 → GivesStream sizes bits box bytes out → HasRefusal words bytes → ⊥
@@ -297,6 +332,8 @@ exclude_stream words bits box bytes out sizes is within g refusal =
     (λ _ n c others other reason r.
     let (same_bits, same_box, same_sizes) = one_asked (codes "stream") words bits n box c sizes others is other in
     exclusive_stream others n c bytes reason out r (subst (λ (m : ℕ). GivesStream others m c bytes out) same_bits (subst (λ (m : ℕ). GivesStream others bits m bytes out) same_box (subst (λ (xs : List Size). GivesStream xs bits box bytes out) same_sizes g))))
+    (λ e. absurd (letter 0 (codes "wave") (codes "stream") (λ (f : 119 ≡ 115). omega (arith, f)) e))
+    (λ e. absurd (letter 0 (codes "unwave") (codes "stream") (λ (f : 117 ≡ 115). omega (arith, f)) e))
     refusal
 
 exclude_sim : (words : List (List ℕ)) (bytes out : List ℕ) → IsSim words → length bytes ≤ 1048576 → GivesSim bytes out → HasRefusal words bytes → ⊥
@@ -311,6 +348,42 @@ exclude_sim words bytes out is within g refusal =
     (λ e. absurd (letter 0 (codes "trace") (codes "sim") (λ (f : 116 ≡ 115). omega (arith, f)) e))
     (λ e. absurd (letter 0 (codes "best") (codes "sim") (λ (f : 98 ≡ 115). omega (arith, f)) e))
     (λ e. absurd (letter 1 (codes "stream") (codes "sim") (λ (f : 116 ≡ 105). omega (arith, f)) e))
+    (λ e. absurd (letter 0 (codes "wave") (codes "sim") (λ (f : 119 ≡ 115). omega (arith, f)) e))
+    (λ e. absurd (letter 0 (codes "unwave") (codes "sim") (λ (f : 117 ≡ 115). omega (arith, f)) e))
+    refusal
+
+exclude_wave : (words : List (List ℕ)) (bits box : ℕ) (bytes out : List ℕ) (sizes : List Size) → AsksWave words bits box sizes → length bytes ≤ 1048576 → GivesDump sizes bits box bytes out → HasRefusal words bytes → ⊥
+exclude_wave words bits box bytes out sizes is within g refusal =
+    exclude (codes "wave") words bytes (begins (codes "wave") words bits box sizes is) within
+    (λ e. absurd (letter 0 (codes "emit") (codes "wave") (λ (f : 101 ≡ 119). omega (arith, f)) e))
+    (λ e. absurd (letter 0 (codes "sim") (codes "wave") (λ (f : 115 ≡ 119). omega (arith, f)) e))
+    (λ e. absurd (letter 0 (codes "check") (codes "wave") (λ (f : 99 ≡ 119). omega (arith, f)) e))
+    (λ e. absurd (letter 0 (codes "schedule") (codes "wave") (λ (f : 115 ≡ 119). omega (arith, f)) e))
+    (λ e. absurd (letter 0 (codes "table") (codes "wave") (λ (f : 116 ≡ 119). omega (arith, f)) e))
+    (λ e. absurd (letter 0 (codes "run") (codes "wave") (λ (f : 114 ≡ 119). omega (arith, f)) e))
+    (λ e. absurd (letter 0 (codes "trace") (codes "wave") (λ (f : 116 ≡ 119). omega (arith, f)) e))
+    (λ e. absurd (letter 0 (codes "best") (codes "wave") (λ (f : 98 ≡ 119). omega (arith, f)) e))
+    (λ e. absurd (letter 0 (codes "stream") (codes "wave") (λ (f : 115 ≡ 119). omega (arith, f)) e))
+    (λ _ n c others other reason r.
+    let (same_bits, same_box, same_sizes) = one_asked (codes "wave") words bits n box c sizes others is other in
+    (let h = (subst (λ (m : ℕ). GivesDump others m c bytes out) same_bits (subst (λ (m : ℕ). GivesDump others bits m bytes out) same_box (subst (λ (xs : List Size). GivesDump xs bits box bytes out) same_sizes g))) in exclusive_run others n c bytes reason h.timed h.cells h.plan h.inputs r h.has))
+    (λ e. absurd (letter 0 (codes "unwave") (codes "wave") (λ (f : 117 ≡ 119). omega (arith, f)) e))
+    refusal
+
+exclude_unwave : (words : List (List ℕ)) (bytes out : List ℕ) → IsUnwave words → length bytes ≤ 1048576 → GivesUnwave bytes out → HasRefusal words bytes → ⊥
+exclude_unwave words bytes out is within g refusal =
+    exclude (codes "unwave") words bytes (begins_unwave words is) within
+    (λ e. absurd (letter 0 (codes "emit") (codes "unwave") (λ (f : 101 ≡ 117). omega (arith, f)) e))
+    (λ e. absurd (letter 0 (codes "sim") (codes "unwave") (λ (f : 115 ≡ 117). omega (arith, f)) e))
+    (λ e. absurd (letter 0 (codes "check") (codes "unwave") (λ (f : 99 ≡ 117). omega (arith, f)) e))
+    (λ e. absurd (letter 0 (codes "schedule") (codes "unwave") (λ (f : 115 ≡ 117). omega (arith, f)) e))
+    (λ e. absurd (letter 0 (codes "table") (codes "unwave") (λ (f : 116 ≡ 117). omega (arith, f)) e))
+    (λ e. absurd (letter 0 (codes "run") (codes "unwave") (λ (f : 114 ≡ 117). omega (arith, f)) e))
+    (λ e. absurd (letter 0 (codes "trace") (codes "unwave") (λ (f : 116 ≡ 117). omega (arith, f)) e))
+    (λ e. absurd (letter 0 (codes "best") (codes "unwave") (λ (f : 98 ≡ 117). omega (arith, f)) e))
+    (λ e. absurd (letter 0 (codes "stream") (codes "unwave") (λ (f : 115 ≡ 117). omega (arith, f)) e))
+    (λ e. absurd (letter 0 (codes "wave") (codes "unwave") (λ (f : 119 ≡ 117). omega (arith, f)) e))
+    (λ _ reason r. exclusive_unwave bytes reason out r g)
     refusal
 
 -- words that ask for a demo ask for nothing else
@@ -329,7 +402,9 @@ demo_alone words input (m, b, k, demo) = by input
     by (inr (inr (inr (inr (inr (inl (bits, box, sizes, other))))))) = letter 0 (codes "run") (codes "demo") (λ (f : 114 ≡ 100). omega (arith, f)) (same_name (codes "run") (codes "demo") words (begins (codes "run") words bits box sizes other) is)
     by (inr (inr (inr (inr (inr (inr (inl (bits, box, sizes, other)))))))) = letter 0 (codes "trace") (codes "demo") (λ (f : 116 ≡ 100). omega (arith, f)) (same_name (codes "trace") (codes "demo") words (begins (codes "trace") words bits box sizes other) is)
     by (inr (inr (inr (inr (inr (inr (inr (inl (bits, box, sizes, other))))))))) = letter 0 (codes "best") (codes "demo") (λ (f : 98 ≡ 100). omega (arith, f)) (same_name (codes "best") (codes "demo") words (begins (codes "best") words bits box sizes other) is)
-    by (inr (inr (inr (inr (inr (inr (inr (inr (bits, box, sizes, other))))))))) = letter 0 (codes "stream") (codes "demo") (λ (f : 115 ≡ 100). omega (arith, f)) (same_name (codes "stream") (codes "demo") words (begins (codes "stream") words bits box sizes other) is)
+    by (inr (inr (inr (inr (inr (inr (inr (inr (inl (bits, box, sizes, other)))))))))) = letter 0 (codes "stream") (codes "demo") (λ (f : 115 ≡ 100). omega (arith, f)) (same_name (codes "stream") (codes "demo") words (begins (codes "stream") words bits box sizes other) is)
+    by (inr (inr (inr (inr (inr (inr (inr (inr (inr (inl (bits, box, sizes, other))))))))))) = letter 0 (codes "wave") (codes "demo") (λ (f : 119 ≡ 100). omega (arith, f)) (same_name (codes "wave") (codes "demo") words (begins (codes "wave") words bits box sizes other) is)
+    by (inr (inr (inr (inr (inr (inr (inr (inr (inr (inr other)))))))))) = letter 0 (codes "unwave") (codes "demo") (λ (f : 117 ≡ 100). omega (arith, f)) (same_name (codes "unwave") (codes "demo") words (begins_unwave words other) is)
 
 pub exclude_demo : (words : List (List ℕ)) (bytes : List ℕ) → AskDemo words → HasRefusal words bytes → ⊥
 exclude_demo words bytes demo (reason, inl (long, input, e)) = demo_alone words input demo
@@ -341,7 +416,9 @@ exclude_demo words bytes demo (reason, inr (inr (inr (inr (inr (inl (short, (bit
 exclude_demo words bytes demo (reason, inr (inr (inr (inr (inr (inr (inl (short, (bits, box, sizes, other, r))))))))) = demo_alone words (inr (inr (inr (inr (inr (inl (bits, box, sizes, other))))))) demo
 exclude_demo words bytes demo (reason, inr (inr (inr (inr (inr (inr (inr (inl (short, (bits, box, sizes, other, r)))))))))) = demo_alone words (inr (inr (inr (inr (inr (inr (inl (bits, box, sizes, other)))))))) demo
 exclude_demo words bytes demo (reason, inr (inr (inr (inr (inr (inr (inr (inr (inl (short, (bits, box, sizes, other, r))))))))))) = demo_alone words (inr (inr (inr (inr (inr (inr (inr (inl (bits, box, sizes, other))))))))) demo
-exclude_demo words bytes demo (reason, inr (inr (inr (inr (inr (inr (inr (inr (inr (short, (bits, box, sizes, other, r))))))))))) = demo_alone words (inr (inr (inr (inr (inr (inr (inr (inr (bits, box, sizes, other))))))))) demo
+exclude_demo words bytes demo (reason, inr (inr (inr (inr (inr (inr (inr (inr (inr (inl (short, (bits, box, sizes, other, r)))))))))))) = demo_alone words (inr (inr (inr (inr (inr (inr (inr (inr (inl (bits, box, sizes, other)))))))))) demo
+exclude_demo words bytes demo (reason, inr (inr (inr (inr (inr (inr (inr (inr (inr (inr (inl (short, (bits, box, sizes, other, r))))))))))))) = demo_alone words (inr (inr (inr (inr (inr (inr (inr (inr (inr (inl (bits, box, sizes, other))))))))))) demo
+exclude_demo words bytes demo (reason, inr (inr (inr (inr (inr (inr (inr (inr (inr (inr (inr (short, other, r)))))))))))) = demo_alone words (inr (inr (inr (inr (inr (inr (inr (inr (inr (inr other)))))))))) demo
 
 exclusive : (command : Command) (words : List (List ℕ)) (bytes out : List ℕ) → Are command words → length bytes ≤ 1048576 → Gives command words bytes out → HasRefusal words bytes → ⊥
 exclusive (Check width) words bytes out are within g refusal = exclude_check words width.bits bytes out g.0 g.1 within g.2 refusal
@@ -352,7 +429,9 @@ exclusive (Run width reach) words bytes out are within g refusal = exclude_run w
 exclusive (Trace width reach) words bytes out are within g refusal = exclude_trace words width.bits reach.size bytes out g.0 g.1 within g.2 refusal
 exclusive (Best width reach) words bytes out are within g refusal = exclude_best words width.bits reach.size bytes out g.0 g.1 within g.2 refusal
 exclusive (Stream width reach) words bytes out are within g refusal = exclude_stream words width.bits reach.size bytes out g.0 g.1 within g.2 refusal
+exclusive (Wave width reach) words bytes out are within g refusal = exclude_wave words width.bits reach.size bytes out g.0 g.1 within g.2 refusal
 exclusive Sim words bytes out are within g refusal = exclude_sim words bytes out are within g refusal
+exclusive Unwave words bytes out are within g refusal = exclude_unwave words bytes out are within g refusal
 exclusive (Demo width reach k) words bytes out are within g refusal = exclude_demo words bytes (width.bits, reach.size, k, are) refusal
 
 -- ---- what was put
@@ -539,7 +618,9 @@ is_demo (Trace width reach) words are t = absurd (true≢false t)
 is_demo (Best width reach) words are t = absurd (true≢false t)
 is_demo (Stream width reach) words are t = absurd (true≢false t)
 is_demo (Emit width reach) words are t = absurd (true≢false t)
+is_demo (Wave width reach) words are t = absurd (true≢false t)
 is_demo Sim words are t = absurd (true≢false t)
+is_demo Unwave words are t = absurd (true≢false t)
 is_demo (Demo width reach k) words are t = (width.bits, reach.size, k, are)
 
 demo_writes : (command : Command) (words : List (List ℕ)) (left : Option (List ℕ)) (bytes out : List ℕ) → Are command words → takes_input command ≡ false → Gives command words bytes out → Writes Done words left left out
@@ -551,9 +632,11 @@ demo_writes (Trace width reach) words left bytes out are t g = absurd (true≢fa
 demo_writes (Best width reach) words left bytes out are t g = absurd (true≢false t)
 demo_writes (Stream width reach) words left bytes out are t g = absurd (true≢false t)
 demo_writes (Emit width reach) words left bytes out are t g = absurd (true≢false t)
+demo_writes (Wave width reach) words left bytes out are t g = absurd (true≢false t)
 demo_writes Sim words left bytes out are t g = absurd (true≢false t)
+demo_writes Unwave words left bytes out are t g = absurd (true≢false t)
 demo_writes (Demo width reach k) words left bytes out are t g =
-    inr (inr (inr (inr (inr (inr (inr (inr (inr (record { bits = width.bits; box = reach.size; k = k; read = are; untouched = refl; gives = g })))))))))
+    inr (inr (inr (inr (inr (inr (inr (inr (inr (inr (inr (record { bits = width.bits; box = reach.size; k = k; read = are; untouched = refl; gives = g })))))))))))
 
 demo_unrefused : (command : Command) (words : List (List ℕ)) (bytes reason : List ℕ) → takes_input command ≡ false → Refuses command words bytes reason → ⊥
 demo_unrefused (Check width) words bytes reason t r = true≢false t
@@ -564,7 +647,9 @@ demo_unrefused (Trace width reach) words bytes reason t r = true≢false t
 demo_unrefused (Best width reach) words bytes reason t r = true≢false t
 demo_unrefused (Stream width reach) words bytes reason t r = true≢false t
 demo_unrefused (Emit width reach) words bytes reason t r = true≢false t
+demo_unrefused (Wave width reach) words bytes reason t r = true≢false t
 demo_unrefused Sim words bytes reason t r = true≢false t
+demo_unrefused Unwave words bytes reason t r = true≢false t
 demo_unrefused (Demo width reach k) words bytes reason t r = r
 
 module _ (command : Command) (words : List (List ℕ)) (left : Option (List ℕ)) (bytes : List ℕ) {sink sink' : SinkState} {status : Status} (are : Are command words) (t : takes_input command ≡ false) where

@@ -21,8 +21,10 @@ use Rattle.av_data.specs.declared.stimulus.Stimulus.{Stimulus}
 use Rattle.av_data.specs.Stimuli.{IsBefore, IsSame}
 use Rattle.av_data.specs.Kept.{is_given, placed}
 use Rattle.av_data.proofs.Sorting.{contains_here, contains_later, contains_cases, none_given, all_of, sorts_more, placed_has, placed_keeps, placed_only}
-use Rattle.av_cli.specs.Simulated.{given_word, IsStimulated}
-use Rattle.av_cli.specs.inner.Clocking.{IsFrom, IsForPort, AreLeft}
+use Rattle.av_wave.specs.Simulated.{given_word, IsStimulated}
+use Rattle.av_wave.specs.Clocking.{AreLeft}
+use Rattle.av_wave.specs.Recorded.{IsForPort, IsFor}
+use Rattle.av_wave.proofs.Walking.{values_left}
 use Rattle.av_cli.specs.Shown.{IsIdle, IsFed, word_on, AreShown}
 use Rattle.av_cli.specs.inner.Feeding.{IsOfLine, IsOfOne, AreOfLines}
 use Rattle.av_base.proofs.Lists.{all_at}
@@ -154,25 +156,20 @@ fits_port d x k line g fitting there place word_is =
     let same : word ≡ g.value = one_some (sym has ∙ word_is) in
     (port, at, subst (IsWord port.width.bits) same (all_at (λ (p : Port). line.wire ≡ p.name → IsWord p.width.bits word) d.module.inputs g.port port fits at (sym named)))
 
--- before the first cycle all values are left
-pub all_left : (inputs : List Port) (values : List Given) → AllPairs IsBefore values → ((g : Given) → Contains values g → IsForPort inputs g) → AreLeft inputs values 0 0 values
-all_left inputs values ascending for_port = record {
-  words = λ c k from. refl;
-  ahead = first values;
-  ascending = ascending;
-  fit = all_of (IsForPort inputs) values for_port;
-}
-  where
-    from_start : (c k : ℕ) → IsFrom 0 0 c k
-    from_start zero k = inr (refl, omega arith)
-    from_start (suc c) k = inl (omega arith)
-
-    first : (vs : List Given) → All (λ g. IsFrom 0 0 g.cycle g.port) vs
-    first [] = All-nil (λ g. IsFrom 0 0 g.cycle g.port)
-    first (g ∷ vs) = All-cons (λ g. IsFrom 0 0 g.cycle g.port) g vs (from_start g.cycle g.port) (first vs)
+-- a value that is one of the lines' fits its port
+fits_line : (d : Design) (x : Values) (values : List Given) → AreOfLines d x (length d.listing.ins) values → HaveFittingWords d x → (g : Given) → Contains values g → IsForPort d.module.inputs g
+fits_line d x values so fitting g c = let one = so.each g c in fits_port d x one.number one.line g fitting one.is_line one.is.port one.is.word
 
 pub left : (d : Design) (x : Values) (values : List Given) → AreOfLines d x (length d.listing.ins) values → HaveFittingWords d x → AreLeft d.module.inputs values 0 0 values
-left d x values so fitting = all_left d.module.inputs values so.ascending (λ g c. let one = so.each g c in fits_port d x one.number one.line g fitting one.is_line one.is.port one.is.word)
+left d x values so fitting = values_left d.module.inputs values so.ascending (all_of (IsForPort d.module.inputs) values (fits_line d x values so fitting))
+
+-- the stimulus is one for the module's inputs
+pub is_for : (d : Design) (x : Values) (s : Stimulus) → AreOfLines d x (length d.listing.ins) s.values → HaveFittingWords d x → s.cycles ≤ 4096 → IsFor d.module.inputs s
+is_for d x s so fitting few = record {
+  most = few;
+  ascending = so.ascending;
+  fit = all_of (IsForPort d.module.inputs) s.values (fits_line d x s.values so fitting);
+}
 
 -- the port of a value carries it in its cycle
 pub carries : (m : Module) (s : Stimulus) (stream : Stream) (cycle : ℕ) (wire : List ℕ) (g : Given) → IsStimulated m s stream → AllPairs IsBefore s.values → Contains s.values g

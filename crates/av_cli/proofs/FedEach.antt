@@ -20,12 +20,14 @@ use Rattle.av_data.specs.declared.stimulus.Stimulus.{Stimulus}
 use Rattle.av_data.specs.Stimuli.{IsBefore, IsSame}
 use Rattle.av_data.specs.Kept.{is_given, placed}
 use Rattle.av_data.proofs.Lined.{one_some}
-use Rattle.av_data.proofs.Sorting.{placed_has, placed_keeps, placed_only}
-use Rattle.av_cli.specs.Simulated.{IsStimulated}
+use Rattle.av_data.proofs.Sorting.{all_of, placed_has, placed_keeps, placed_only}
+use Rattle.av_wave.specs.Simulated.{IsStimulated}
+use Rattle.av_wave.specs.Clocking.{AreLeft}
+use Rattle.av_wave.specs.Recorded.{IsForPort}
+use Rattle.av_wave.proofs.Walking.{values_left}
 use Rattle.av_cli.specs.Streams.{stream_cycles, IsFedEach}
-use Rattle.av_cli.specs.inner.Clocking.{AreLeft}
 use Rattle.av_cli.specs.inner.Streaming.{IsOfLater, IsOfProblem, AreOfProblems}
-use Rattle.av_cli.proofs.Fed.{port_of, new_given, placed_ascending, given_none, fits_port, all_left, carries}
+use Rattle.av_cli.proofs.Fed.{port_of, new_given, placed_ascending, given_none, fits_port, carries}
 
 -- ---- how late a problem begins
 
@@ -162,10 +164,11 @@ all_problems d period xs b values whole so = record {
 
 pub left_each : (d : Design) (period : ℕ) (xs : List Values) (values : List Given) → AreOfProblems d period xs values → All (HaveFittingWords d) xs → AreLeft d.module.inputs values 0 0 values
 left_each d period xs values so fitting =
-    all_left d.module.inputs values so.ascending
+    values_left d.module.inputs values so.ascending
+    (all_of (IsForPort d.module.inputs) values
     (λ g c.
     let one = so.each g c in
-    fits_port d one.x one.number one.line g (all_at (HaveFittingWords d) xs one.problem one.x fitting one.is_problem) one.is_line one.is.port one.is.word)
+    fits_port d one.x one.number one.line g (all_at (HaveFittingWords d) xs one.problem one.x fitting one.is_problem) one.is_line one.is.port one.is.word))
 
 pub fed_each : (d : Design) (period : ℕ) (xs : List Values) (s : Stimulus) (stream : Stream) → AreOfProblems d period xs s.values → IsStimulated d.module s stream → IsFedEach d period xs stream
 fed_each d period xs s stream so stimulated = record {

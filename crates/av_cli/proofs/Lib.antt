@@ -1,8 +1,6 @@
 pub mod Digits
-pub mod Walking
-pub mod Presenting
+pub mod Prefixes
 pub mod Running
-pub mod Targets
 mod OptionWords
 mod SizeWords
 pub mod GivenSizes
@@ -29,3 +27,4 @@ pub mod Entering
 mod ResultLines
 mod Totals
 mod Outputs
+mod Unwaving

@@ -25,11 +25,15 @@ use Rattle.av_data.specs.Data.{IsInputFault}
 use Rattle.av_data.specs.Tables.{totals_line}
 use Rattle.av_cli.specs.declared.status.Status.{Status}
 use Rattle.av_cli.specs.declared.status.Status.TheVariants.{Done, Refused, WriteFault, Memory}
-use Rattle.av_cli.specs.declared.runs.Report.TheVariants.{Results, Trace}
+use Rattle.av_cli.specs.declared.runs.Report.TheVariants.{Results, Trace, Wave}
 use Rattle.av_cli.specs.Refusals.{refusal_line, data_reason}
 use Rattle.av_cli.specs.Runs.{results}
 use Rattle.av_cli.specs.Shown.{IsFedRun, AreShown}
-use Rattle.av_cli.specs.Simulated.{IsStimulated, run_lines}
+use Rattle.av_wave.specs.Simulated.{IsStimulated, run_lines}
+use Rattle.av_wave.specs.Waves.{Recording}
+use Rattle.av_wave.specs.Dumps.{dump_text}
+use Rattle.av_wave.specs.Recorded.{IsRecorded, IsCaptured, AddsDump, AddsDumpPrefix}
+use Rattle.av_cli.proofs.Fed.{fed}
 use Rattle.av_cli.specs.inner.Written.{IsPut, IsAnswered, refused, given, no_memory}
 use Rattle.av_cli.specs.inner.DemoData.{entries, IsSummed}
 use Rattle.av_cli.specs.inner.Feeding.{AreOfLines}
@@ -106,6 +110,20 @@ module _ (t : Timed) (cells : Cells) (plan : Plan) (d : Design) (x : Values) (wo
 -- ---- a trace
 
 module _ (t : Timed) (cells : Cells) (plan : Plan) (d : Design) (x : Values) (s : Stimulus) (sound : IsSound d.module) (so : AreOfLines d x (length d.listing.ins) s.values) (cycles : s.cycles ≡ cells.cycles) where
+  dump_of : (w : Recording) → IsCaptured d.module s w → IsReport Wave t cells plan d x (dump_text w)
+  dump_of w captured = record {
+    run = captured.run;
+    clocked = record {
+      stream = captured.stream;
+      fed = fed d x s captured.stream so captured.stimulated;
+      powered = captured.powered;
+      clocked = subst (λ n. IsRun d.module n captured.stream captured.run) cycles captured.clocked;
+    };
+    wave = w;
+    recorded = subst (λ n. IsRecorded d.module captured.run.in_cycle n w) cycles captured.recorded;
+    text = refl;
+  }
+
   abbrev trace_of : Run → ℕ → List ℕ
   trace_of run n = text2 plan ++ codes "%%\n" ++ run_lines d.module run.in_cycle n
 
@@ -119,6 +137,14 @@ module _ (t : Timed) (cells : Cells) (plan : Plan) (d : Design) (x : Values) (s 
   trace_failed risen adds =
       let has = has_run d x s sound so in
       puts (record { run = has.run; clocked = subst (λ n. IsFedRun d x n has.run) cycles has.clocked; lines = ap (trace_of has.run) cycles }) (record { ends = inr (refl, risen, adds has.stream has.run has.stimulated has.is) })
+
+  -- ---- a dump
+
+  pub dump_put : {sink sink' : SinkState} → AddsDump d.module s sink.held sink'.held → PutsOneOf (IsReport Wave t cells plan d x) sink sink' Done
+  dump_put dump = puts (dump_of dump.wave dump.captured) (record { ends = inl (refl, dump.added) })
+
+  pub dump_failed : {sink sink' : SinkState} → HasRisen sink.faults sink'.faults → AddsDumpPrefix d.module s sink.held sink'.held → PutsOneOf (IsReport Wave t cells plan d x) sink sink' WriteFault
+  dump_failed risen dump = puts (dump_of dump.wave dump.captured) (record { ends = inr (refl, risen, dump.added) })
 
 -- ---- a demo
 

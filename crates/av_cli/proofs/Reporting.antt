@@ -1,5 +1,5 @@
--- How the answers of `run` and `trace` follow from what their steps did.
-use Rattle.std.proofs.Common.{◌≡◌, ℕ, zero, suc, ◌<◌, Bool, true, false, ◌||◌, ◌&&◌, List, [], ◌∷◌, ◌++◌, length, Option, Some, None, slice_get, refl, sym, ap, ◌∙◌, subst, arith, inl, inr, IsTrue, true≢false}
+-- How the answers of `run`, `trace` and `wave` follow from what their steps did.
+use Rattle.std.proofs.Common.{◌≡◌, ℕ, zero, suc, ◌+◌, ◌<◌, Bool, true, false, ◌||◌, ◌&&◌, List, [], ◌∷◌, ◌++◌, length, Option, Some, None, slice_get, refl, sym, ap, ◌∙◌, subst, arith, inl, inr, IsTrue, true≢false}
 use Rattle.std.specs.Prelude.{◌≢◌, if◌then◌else◌, codes, bytes_eq, All, AllPairs, IsSome}
 use Rattle.std.specs.List.{list_any}
 use Rattle.std.proofs.lemmas.Bool.{cases_lt}
@@ -34,6 +34,8 @@ use Rattle.av_net.specs.Flat.{flat_of}
 use Rattle.av_net.specs.Presented.{AreApart, HasFittingWord, HaveFittingWords}
 use Rattle.av_net.proofs.FlatDesigns.{flat_is_sound_design}
 use Rattle.av_space.specs.declared.cells.Cells.{Cells}
+use Rattle.av_space.specs.declared.fault.SpaceFault.{SpaceFault}
+use Rattle.av_space.specs.declared.fault.SpaceFault.TheVariants as space
 use Rattle.av_space.specs.Whole.{IsPresented, HasWholeListing}
 use Rattle.av_space.proofs.ByPlace.{pair_at, all_by_place}
 use Rattle.av_data.proofs.Outcome.{readable}
@@ -49,14 +51,15 @@ use Rattle.av_compile.specs.Headline.{Headline}
 use Rattle.av_cli.specs.declared.status.Status.{Status}
 use Rattle.av_cli.specs.declared.status.Status.TheVariants.{Refused, Memory}
 use Rattle.av_cli.specs.declared.runs.Report.{Report}
-use Rattle.av_cli.specs.declared.runs.Report.TheVariants.{Results, Trace}
-use Rattle.av_cli.specs.Commands.{GiveSizes, IsRun, IsTrace}
+use Rattle.av_cli.specs.declared.runs.Report.TheVariants.{Results, Trace, Wave}
+use Rattle.av_cli.specs.Commands.{GiveSizes, IsRun, IsTrace, AsksWave}
 use Rattle.av_cli.proofs.GivenSizes.{with_sizes}
 use Rattle.av_cli.specs.Refusals.{refusal_line}
 use Rattle.av_cli.specs.AlphaRefusals.{alpha_reason}
 use Rattle.av_cli.specs.Runs.{RefusesRun, no_mark, bad_system, bad_data, HasData, results, is_result, GivesResults, GivesTrace}
+use Rattle.av_cli.specs.Waves.{GivesDump}
 use Rattle.av_cli.specs.inner.Written.{IsPut, IsAnswered, refused, given, no_memory}
-use Rattle.av_cli.specs.inner.Reported.{GivesReport, RefusesRunWith, GivesReportWith, IsClockable, names_output, is_output_named, RefusesLines, AreResultsOf, IsTraceOf, GivesReported}
+use Rattle.av_cli.specs.inner.Reported.{GivesReport, RefusesRunWith, GivesReportWith, IsClockable, names_output, is_output_named, RefusesLines, AreResultsOf, IsTraceOf, IsDumpOf, GivesReported}
 use Rattle.av_compile.proofs.Meant.{meaning}
 use Rattle.av_compile.proofs.Promised.{line_declared}
 use Rattle.av_compile.proofs.OneRefusal.{memory_or_not}
@@ -263,9 +266,24 @@ module _ (bytes : List ℕ) (sizes : List Size) (bits box : ℕ) (t : Timed) (a 
     lines = shows.lines;
   }
 
+  pub dump_given : (x : Assignment) (out : List ℕ) (rest whole : List ℕ) (first : ℕ) → IsDivided whole bytes rest first → SpellsInputs own rest x → AreInputsOf own x → IsDumpOf a d x out → GivesDump sizes bits box whole out
+  dump_given x out rest whole first divided spelled inputs shows = record {
+    timed = t;
+    cells = a;
+    plan = plan;
+    inputs = x;
+    has = record { before = bytes; rest = rest; first = first; divided = divided; mapped = m; computes = h; spelled = spelled; are_inputs = tree_inputs x inputs };
+    run = shows.run;
+    clocked = shows.clocked;
+    wave = shows.wave;
+    recorded = shows.recorded;
+    text = shows.text;
+  }
+
   pub report_given : (report : Report) (out : List ℕ) (rest whole : List ℕ) (first : ℕ) → IsDivided whole bytes rest first → GivesReported report t a plan d rest out → GivesReport report sizes bits box whole out
   report_given Results out rest whole first divided g = results_given g.inputs out rest whole first divided g.spelled g.are g.reports
   report_given Trace out rest whole first divided g = trace_given g.inputs out rest whole first divided g.spelled g.are g.reports
+  report_given Wave out rest whole first divided g = dump_given g.inputs out rest whole first divided g.spelled g.are g.reports
 
   -- the answer to the lines of data, as one to the whole input
   pub report_answered : (design : Design) → design ≡ d → (words : List (List ℕ)) (report : Report) (rest whole : List ℕ) (first : ℕ) {sink sink' : SinkState} {status : Status} → IsDivided whole bytes rest first → GiveSizes words sizes
@@ -322,3 +340,20 @@ pub trace_words : (words : List (List ℕ)) (bits box : ℕ) (bytes : List ℕ) 
 trace_words words bits box bytes (found, is) (refused r put) = refused (r.sizes, with_sizes (codes "trace") words bits box found r.sizes is r.give, r.refuses) put
 trace_words words bits box bytes (found, is) (given g put) = given (g.sizes, with_sizes (codes "trace") words bits box found g.sizes is g.give, g.gives) put
 trace_words words bits box bytes found (no_memory a b) = no_memory a b
+
+pub wave_words : (words : List (List ℕ)) (bits box : ℕ) (bytes : List ℕ) {sink sink' : SinkState} {status : Status} → ((found : List Size) × AsksWave words bits box found)
+    → IsAnswered (RefusesRunWith words bits box bytes) (GivesReportWith Wave words bits box bytes) sink sink' status
+    → IsAnswered (λ reason. (sizes : List Size) × AsksWave words bits box sizes × RefusesRun sizes bits box bytes reason)
+    (λ out. (sizes : List Size) × AsksWave words bits box sizes × GivesDump sizes bits box bytes out)
+    sink sink' status
+wave_words words bits box bytes (found, is) (refused r put) = refused (r.sizes, with_sizes (codes "wave") words bits box found r.sizes is r.give, r.refuses) put
+wave_words words bits box bytes (found, is) (given g put) = given (g.sizes, with_sizes (codes "wave") words bits box found g.sizes is g.give, g.gives) put
+wave_words words bits box bytes found (no_memory a b) = no_memory a b
+
+-- ---- an array has few cycles
+
+pub few_cycles : (bytes : List ℕ) (sizes : List Size) (bits box : ℕ) (t : Timed) (a : Cells) → IsMapped bytes sizes bits box t a → a.cycles ≤ 4096
+few_cycles bytes sizes bits box t a m = elim (cases_lt 4096 a.cycles) [
+  | inl above ↦ absurd (let e : ◌≡◌ {A = SpaceFault} (space.Cycles a.cycles) space.Memory = m.no_cause (space.Cycles a.cycles) (m.whole.list.cycles, above) in cc)
+  | inr le ↦ le
+]

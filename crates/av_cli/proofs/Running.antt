@@ -21,14 +21,13 @@ use Rattle.av_clock.specs.Seen.{Seen, carried}
 use Rattle.av_data.specs.declared.stimulus.Stimulus.{Stimulus}
 use Rattle.av_data.specs.Cycles.{cycle_line}
 use Rattle.av_cli.specs.declared.simulation.Prepared.{Prepared}
-use Rattle.av_cli.specs.Simulated.{given_word, IsStimulated, header_ports, port_words, words_line, run_lines}
-use Rattle.av_cli.specs.inner.Clocking.{AreLeft, ArePresented, IsPrepared}
-use Rattle.av_cli.proofs.Presenting.{words_noted}
+use Rattle.av_wave.specs.Simulated.{given_word, IsStimulated, header_ports, port_words, words_line, run_lines}
+use Rattle.av_wave.specs.Clocking.{AreLeft, ArePresented}
+use Rattle.av_cli.specs.inner.Clocking.{IsPrepared}
+use Rattle.av_wave.proofs.Presenting.{words_noted}
+use Rattle.av_cli.proofs.Prefixes.{lines_split}
+use Rattle.av_wave.proofs.Cycling.{ForRuns, tick_registers, presented, settled_cycle, header_named}
 use Rattle.av_data.proofs.Lined.{name_there}
-
--- what holds of each run under the stimulus
-abbrev pub ForRuns : Module → Stimulus → (Run → Type 0) → Type 0
-ForRuns m s P = (stream : Stream) (run : Run) → IsStimulated m s stream → IsRun m s.cycles stream run → P run
 
 -- c cycles were written, and the registers have the words of the next one
 pub record IsRunning (m : Module) (s : Stimulus) (c : ℕ) (parts : Prepared) (next : ℕ) (sink sink' : SinkState) : Type 0 where
@@ -39,39 +38,7 @@ pub record IsRunning (m : Module) (s : Stimulus) (c : ℕ) (parts : Prepared) (n
   pub within : next ≤ length s.values
   pub later : sink.faults ≤ sink'.faults
 
--- ---- registers
-
--- registers that took the same words agree
-stepped : (m : Module) (v w : Words) → IsSound m → All (λ step. v step.register ≡ w step.register) m.steps → Agree (names_of m.registers) v w
-stepped m v w sound steps = agree_within (registers_of m.steps) (names_of m.registers) v w (All-map (λ name. v name ≡ w name) (λ (step : Step). step.register) m.steps steps) sound.registers_stepped
-
-pub reset_registers : (m : Module) (s : Stimulus) (before v : Words) → IsSound m → Edge m true before v → ForRuns m s (λ run. 0 < s.cycles → Agree (names_of m.registers) v (run.in_cycle 0))
-reset_registers m s before v sound edge = λ stream run stimulated is lt. stepped m v (run.in_cycle 0) sound (λ k d at. edge k d at ∙ sym (is.reset k d at))
-
-pub tick_registers : (m : Module) (s : Stimulus) (c : ℕ) (v v' : Words) → IsSound m → Edge m false v v' → ForRuns m s (λ run. c < s.cycles → Agree (all_names m) v (run.in_cycle c))
-    → ForRuns m s (λ run. c + 1 < s.cycles → Agree (names_of m.registers) v' (run.in_cycle (c + 1)))
-tick_registers m s c v v' sound edge same = λ stream run stimulated is lt.
-    stepped m v' (run.in_cycle (c + 1)) sound
-    (λ k d at. edge k d at ∙ same_word (all_names m) v (run.in_cycle c) (get_or m.steps k d).next (same stream run stimulated is (omega (arith, lt))) (sound.steps_read k d at) ∙ sym (is.edges c lt k d at))
-
 -- ---- a settled cycle
-
--- the input ports have what is given to them
-pub presented : (m : Module) (s : Stimulus) (c : ℕ) (v : Words) → ((k : ℕ) (port : Port) → slice_get m.inputs k ≡ Some port → v port.name ≡ given_word s.values c k)
-    → ForRuns m s (λ run. c < s.cycles → Agree (names_of m.inputs) v (run.in_cycle c))
-presented m s c v given = λ stream run stimulated is lt.
-    All-map (λ name. v name ≡ run.in_cycle c name) (λ (port : Port). port.name) m.inputs
-    (λ k d at.
-    let port = get_or m.inputs k d in
-    let there = slice_get-get_or m.inputs k d at in
-    given k port there ∙ sym (stimulated.in_cycles c k port there) ∙ sym (is.ports c lt k d at))
-
-pub settled_cycle : (m : Module) (s : Stimulus) (c : ℕ) (v w : Words) → IsSound m → ForRuns m s (λ run. c < s.cycles → Agree (names_of m.inputs) v (run.in_cycle c))
-    → ForRuns m s (λ run. c < s.cycles → Agree (names_of m.registers) v (run.in_cycle c)) → Agree (given_names m) v w → Settled m w → ForRuns m s (λ run. c < s.cycles → Agree (all_names m) w (run.in_cycle c))
-settled_cycle m s c v w sound inputs registers kept settled = λ stream run stimulated is lt.
-    let both : Agree (given_names m) v (run.in_cycle c) = All-append (λ name. v name ≡ run.in_cycle c name) (names_of m.inputs) (names_of m.registers) (inputs stream run stimulated is lt) (registers stream run stimulated is lt) in
-    let given : Agree (given_names m) w (run.in_cycle c) = λ k d at. sym (kept k d at) ∙ both k d at in
-    All-append (λ name. w name ≡ run.in_cycle c name) (given_names m) (wire_names m) given (one_settled m sound w (run.in_cycle c) given settled (is.settled c lt))
 
 -- the words shown are those of the run
 same_words : (names : List (List ℕ)) (v w : Words) (ports : List Port) → Agree names v w → All (λ port. Contains names port.name) ports → port_words v ports ≡ port_words w ports
@@ -80,32 +47,12 @@ same_words names v w (p ∷ ports) agree all =
     ap (λ z. z ∷ port_words v ports) (All-contains (λ name. v name ≡ w name) names p.name agree (All-head (λ (port : Port). Contains names port.name) p ports all))
     ∙ ap (λ (z : List ℕ). w p.name ∷ z) (same_words names v w ports agree (All-tail (λ (port : Port). Contains names port.name) p ports all))
 
-header_named : (m : Module) → All (λ port. Contains (all_names m) port.name) (header_ports m)
-header_named m = All-append (λ port. Contains (all_names m) port.name) m.inputs m.outputs
-    (λ k d lt. let port = get_or m.inputs k d in Contains-append_left (given_names m) (wire_names m) port.name (Contains-append_left (names_of m.inputs) (names_of m.registers) port.name (name_there m.inputs k port (slice_get-get_or m.inputs k d lt))))
-    (λ k d lt. let port = get_or m.outputs k d in Contains-append_right (given_names m) (wire_names m) port.name (Contains-append_left (names_of m.outputs) (names_of m.wires) port.name (name_there m.outputs k port (slice_get-get_or m.outputs k d lt))))
-
 pub shown_line : (m : Module) (s : Stimulus) (c : ℕ) (w : Words) → ForRuns m s (λ run. c < s.cycles → Agree (all_names m) w (run.in_cycle c))
     → ForRuns m s (λ run. c < s.cycles → cycle_line c (header_ports m) (port_words w (header_ports m)) ≡ words_line m (run.in_cycle c) c)
 shown_line m s c w same = λ stream run stimulated is lt.
     ap (cycle_line c (header_ports m)) (same_words (all_names m) w (run.in_cycle c) (header_ports m) (same stream run stimulated is lt) (header_named m))
 
 -- ---- lines
-
--- the lines of a run begin with those of its first cycles
-lines_split : (m : Module) (in_cycle : ℕ → Words) (c n : ℕ) → c < n → (rest : List ℕ) × (run_lines m in_cycle n ≡ run_lines m in_cycle c ++ (words_line m (in_cycle c) c ++ rest))
-lines_split m in_cycle c zero lt = absurd (omega arith)
-lines_split m in_cycle c (suc n) lt = elim (cases_lt c n) [
-  | inl less ↦
-      let (rest, is) = lines_split m in_cycle c n less in
-      let last = words_line m (in_cycle n) n in (
-        rest ++ last,
-        ap (λ z. z ++ last) is ∙ append_assoc (run_lines m in_cycle c) (words_line m (in_cycle c) c ++ rest) last ∙ ap (λ z. run_lines m in_cycle c ++ z) (append_assoc (words_line m (in_cycle c) c) rest last),
-      )
-  | inr ge ↦
-      let same : n ≡ c = omega (arith, ge, lt) in
-      ([], ap (λ k. run_lines m in_cycle k ++ words_line m (in_cycle k) k) same ∙ ap (λ z. run_lines m in_cycle c ++ z) (sym (append-nil (words_line m (in_cycle c) c))))
-]
 
 pub line_added : (m : Module) (s : Stimulus) (c : ℕ) (held held' held'' : Option (List ℕ)) (line : List ℕ) → c < s.cycles → ForRuns m s (λ run. Adds held held' (run_lines m run.in_cycle c)) → Adds held' held'' line
     → ForRuns m s (λ run. c < s.cycles → line ≡ words_line m (run.in_cycle c) c) → ForRuns m s (λ run. Adds held held'' (run_lines m run.in_cycle (c + 1)))
@@ -118,7 +65,7 @@ pub front_added : (m : Module) (s : Stimulus) (c : ℕ) (held held' held'' : Opt
     → ForRuns m s (λ run. c < s.cycles → line ≡ words_line m (run.in_cycle c) c) → ForRuns m s (λ run. AddsPrefix held held'' (run_lines m run.in_cycle s.cycles))
 front_added m s c held held' held'' line lt so (n, adds) is = λ stream run stimulated clocked.
     let before = run_lines m run.in_cycle c in
-    let (rest, split) = lines_split m run.in_cycle c s.cycles lt in
+    let (rest, split) = lines_split (run_lines m run.in_cycle) (λ k. words_line m (run.in_cycle k) k) (λ k. refl) c s.cycles lt in
     let same : run_lines m run.in_cycle s.cycles ≡ before ++ (line ++ rest) = split ∙ ap (λ z. before ++ (z ++ rest)) (sym (is stream run stimulated clocked lt)) in
     let all : Adds held held'' (before ++ take n line) = Adds-more held held' held'' before (take n line) (so stream run stimulated clocked) adds in
     let front : take (length before + length (take n line)) (before ++ (line ++ rest)) ≡ before ++ take n line = take-append-add before (line ++ rest) (length (take n line)) ∙ ap (λ z. before ++ z) (begins n line rest) in

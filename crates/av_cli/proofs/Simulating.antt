@@ -25,27 +25,23 @@ use Rattle.av_data.proofs.Lined.{place_at}
 use Rattle.av_cli.specs.declared.status.Status.{Status}
 use Rattle.av_cli.specs.declared.status.Status.TheVariants.{Done, Refused, WriteFault, Memory as OutOfMemory}
 use Rattle.av_cli.specs.Refusals.{refusal_line, verilog_reason, data_reason}
-use Rattle.av_cli.specs.Simulated.{given_word, IsStimulated, run_lines}
+use Rattle.av_wave.specs.Simulated.{given_word, IsStimulated, run_lines}
 use Rattle.av_cli.specs.Sims.{RefusesSim, bad_text, bad_stimulus, GivesSim}
 use Rattle.av_cli.specs.inner.WithModule.{RefusesStimulus, GivesRun}
 use Rattle.av_cli.specs.inner.Written.{IsPut, IsAnswered, refused, given, no_memory, IsClocked}
-use Rattle.av_cli.proofs.Presenting.{given_distinct}
+use Rattle.av_wave.proofs.Presenting.{given_distinct}
+use Rattle.av_wave.proofs.Walking.{values_left}
+use Rattle.av_wave.proofs.Cycling.{stream_of, is_stream}
+use Rattle.av_wave.specs.Clocking.{AreLeft}
+use Rattle.av_wave.specs.Recorded.{IsForPort}
+use Rattle.av_data.proofs.Fits.{IsFor as Fits, values_fit}
+use Rattle.std.proofs.lemmas.List.Elements.{All-weaker}
 
 -- ---- a run under the stimulus
 
-abbrev word_by : List Given → ℕ → Option ℕ → ℕ
-word_by values c None = 0
-word_by values c (Some k) = given_word values c k
-
-pub stream_of : Module → Stimulus → Stream
-stream_of m s = record { on_reset = λ name. 0; in_cycle = λ c name. word_by s.values c (place_of m.inputs name) }
-
-pub is_stream : (m : Module) (s : Stimulus) → IsSound m → IsStimulated m s (stream_of m s)
-unfolding stream_of
-is_stream m s sound = record {
-  on_reset = λ k d lt. refl;
-  in_cycles = λ c k port e. ap (word_by s.values c) (place_at m.inputs k port (front_distinct (names_of m.inputs) (names_of m.registers) (given_distinct m sound)) e);
-}
+-- at first all values are left
+pub stimulus_left : (inputs : List Port) (bytes : List ℕ) (s : Stimulus) → SpellsStimulus inputs bytes s → AreLeft inputs s.values 0 0 s.values
+stimulus_left inputs bytes s is = values_left inputs s.values is.ascending (All-weaker (Fits inputs s.cycles) (IsForPort inputs) (λ g f. (f.port, f.declared, f.fits)) s.values (values_fit inputs bytes s is))
 
 pub clocked_done : (m' m : Module) (s : Stimulus) (sink sink' : SinkState) → m' ≡ m
     → ((stream : Stream) (run : Run) → IsStimulated m' s stream → IsRun m' s.cycles stream run → Adds sink.held sink'.held (run_lines m' run.in_cycle s.cycles)) → IsClocked m s sink sink' Done

@@ -10,7 +10,7 @@ use Rattle.av_data.specs.declared.stimulus.Stimulus.{Stimulus}
 use Rattle.av_stream.specs.declared.building.Streamed.{Streamed}
 use Rattle.av_stream.specs.StreamTexts.{stream_text}
 use Rattle.av_cli.specs.declared.status.Status.TheVariants.{Done, WriteFault}
-use Rattle.av_cli.specs.Simulated.{IsStimulated, run_lines}
+use Rattle.av_wave.specs.Simulated.{IsStimulated, run_lines}
 use Rattle.av_cli.specs.Streams.{IsFedEachRun}
 use Rattle.av_cli.specs.inner.Outputs.{PutsOneOf, puts}
 use Rattle.av_cli.specs.inner.Streaming.{AreOfProblems, IsStreamed}

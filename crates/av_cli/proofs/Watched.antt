@@ -16,7 +16,7 @@ use Rattle.av_net.specs.Sound.{IsSound}
 use Rattle.av_cli.specs.Shown.{word_on}
 use Rattle.av_cli.specs.inner.Watching.{bits_of, AreTaps, noted, watched}
 use Rattle.av_cli.proofs.Fed.{at_index}
-use Rattle.av_cli.proofs.Presenting.{drive_there}
+use Rattle.av_wave.proofs.Presenting.{drive_there}
 use Rattle.av_base.proofs.Lists.{all_at}
 use Rattle.av_data.proofs.Lined.{one_some}
 

@@ -16,15 +16,14 @@ use Rattle.av_net.specs.Clocked.{Stream, Run, IsRun, Edge}
 use Rattle.av_net.specs.Sound.{IsSound}
 use Rattle.av_clock.specs.Seen.{Seen, carried}
 use Rattle.av_data.specs.declared.stimulus.Stimulus.{Stimulus}
-use Rattle.av_cli.specs.Simulated.{IsStimulated}
-use Rattle.av_cli.specs.inner.Clocking.{AreLeft, ArePresented}
+use Rattle.av_wave.specs.Simulated.{IsStimulated}
+use Rattle.av_wave.specs.Clocking.{AreLeft, ArePresented}
 use Rattle.av_cli.specs.Shown.{IsFedRun, AreShown}
 use Rattle.av_cli.specs.inner.Feeding.{AreOfLines}
 use Rattle.av_cli.specs.inner.Watching.{bits_of, noted, watched}
-use Rattle.av_cli.proofs.Running.{ForRuns, presented, settled_cycle, tick_registers}
+use Rattle.av_wave.proofs.Cycling.{ForRuns, presented, settled_cycle, tick_registers, stream_of, is_stream}
 use Rattle.av_cli.proofs.Watched.{agree_on, watched_more, watched_all}
 use Rattle.av_cli.proofs.Fed.{fed}
-use Rattle.av_cli.proofs.Simulating.{stream_of, is_stream}
 
 -- c cycles were watched, and the registers have the words of the next one
 pub record IsWatching (m : Module) (s : Stimulus) (lines : List Entry) (inputs c : ℕ) (clock : Seen) (next : ℕ) (ports : List ℕ) (words : List Word) : Type 0 where

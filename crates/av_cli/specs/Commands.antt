@@ -117,6 +117,9 @@ IsBest words bits reach found = Asks (codes "best") words bits reach found
 abbrev pub IsStream : List (List ℕ) → ℕ → ℕ → List Size → Type 0
 IsStream words bits reach found = Asks (codes "stream") words bits reach found
 
+abbrev pub AsksWave : List (List ℕ) → ℕ → ℕ → List Size → Type 0
+AsksWave words bits reach found = Asks (codes "wave") words bits reach found
+
 -- nothing, or `--` alone
 abbrev pub IsBare : List (List ℕ) → Type 0
 IsBare words = (words ≡ []) ⊎ (words ≡ codes "--" ∷ [])
@@ -125,6 +128,12 @@ IsBare words = (words ≡ []) ⊎ (words ≡ codes "--" ∷ [])
 pub record IsSim (words : List (List ℕ)) : Type 0 where
   pub rest : List (List ℕ)
   pub first : words ≡ codes "sim" ∷ rest
+  pub bare : IsBare rest
+
+-- `unwave`, with no option and no size
+pub record IsUnwave (words : List (List ℕ)) : Type 0 where
+  pub rest : List (List ℕ)
+  pub first : words ≡ codes "unwave" ∷ rest
   pub bare : IsBare rest
 
 -- `demo`, with the size of its matrices between whole options, and behind `--` nothing but that size. No word has the form of a
@@ -156,6 +165,8 @@ TakeInput words =
     ⊎ ((bits : ℕ) × (reach : ℕ) × (found : List Size) × IsTrace words bits reach found)
     ⊎ ((bits : ℕ) × (reach : ℕ) × (found : List Size) × IsBest words bits reach found)
     ⊎ ((bits : ℕ) × (reach : ℕ) × (found : List Size) × IsStream words bits reach found)
+    ⊎ ((bits : ℕ) × (reach : ℕ) × (found : List Size) × AsksWave words bits reach found)
+    ⊎ IsUnwave words
 
 -- `demo`, which reads none
 abbrev pub AskDemo : List (List ℕ) → Type 0
@@ -165,4 +176,4 @@ abbrev pub AreRead : List (List ℕ) → Type 0
 AreRead words = TakeInput words ⊎ AskDemo words
 
 abbrev pub usage_line : List ℕ
-usage_line = codes "usage: alphav check|schedule|table|emit|run|trace|best|stream [--width W] [--box C] [NAME=VALUE ...] | sim | demo K\n"
+usage_line = codes "usage: alphav check|schedule|table|emit|run|trace|best|stream|wave [--width W] [--box C] [NAME=VALUE ...] | sim | unwave | demo K\n"

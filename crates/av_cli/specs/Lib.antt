@@ -1,7 +1,6 @@
 pub mod Commands
 pub mod Refusals
 pub mod AlphaRefusals
-pub mod Simulated
 pub mod Emits
 pub mod Sims
 pub mod Checks
@@ -12,5 +11,6 @@ pub mod Shown
 pub mod Runs
 pub mod Bests
 pub mod Streams
+pub mod Waves
 pub mod Demos
 pub mod inner

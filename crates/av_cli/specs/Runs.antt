@@ -22,7 +22,7 @@ use Rattle.av_compile.specs.Mapped.{IsMapped}
 use Rattle.av_compile.specs.Headline.{Headline}
 use Rattle.av_cli.specs.Refusals.{data_reason}
 use Rattle.av_cli.specs.Tables.{RefusesTable}
-use Rattle.av_cli.specs.Simulated.{run_lines}
+use Rattle.av_wave.specs.Simulated.{run_lines}
 use Rattle.av_cli.specs.Shown.{IsFedRun}
 
 -- ---- refusals

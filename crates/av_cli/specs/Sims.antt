@@ -9,7 +9,7 @@ use Rattle.av_data.specs.declared.stimulus.Stimulus.{Stimulus}
 use Rattle.av_data.specs.Divisions.{IsDivided, HasNoMark}
 use Rattle.av_data.specs.Stimuli.{SpellsStimulus, IsStimulusFault}
 use Rattle.av_cli.specs.Refusals.{verilog_reason, data_reason}
-use Rattle.av_cli.specs.Simulated.{AreSimulated}
+use Rattle.av_wave.specs.Simulated.{AreSimulated}
 
 -- there is no mark, or the text before it spells no design, or what follows it is no stimulus for the design's module
 pub data RefusesSim (bytes reason : List ℕ) : Type 0 where

@@ -22,6 +22,7 @@ mod standard;
 mod status;
 mod stream;
 mod table;
+mod unwave;
 mod words;
 
 pub use program::alphav;

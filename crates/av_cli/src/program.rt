@@ -17,13 +17,14 @@ use crate::sim::sim;
 use crate::status::Status;
 use crate::stream::stream;
 use crate::table::table;
+use crate::unwave::unwave;
 use crate::words::{Command, read_words};
 use av_base::limits::MOST_BYTES;
 use av_base::{Name, ReadAll, Sink, Source, read_all};
 use std::alloc::Global;
 
 const USAGE: &str =
-    "usage: alphav check|schedule|table|emit|run|trace|best|stream [--width W] [--box C] [NAME=VALUE ...] | sim | demo K\n";
+    "usage: alphav check|schedule|table|emit|run|trace|best|stream|wave [--width W] [--box C] [NAME=VALUE ...] | sim | unwave | demo K\n";
 
 const TOO_LONG: &str = "refused: too long\n";
 
@@ -87,7 +88,11 @@ fn answer<K: Sink>(
         }
         Command::Best { width, reach } => best(alloc, words, bytes, width, reach, sink),
         Command::Stream { width, reach } => stream(alloc, words, bytes, width, reach, sink),
+        Command::Wave { width, reach } => {
+            answer_run(alloc, words, bytes, width, reach, Report::Wave, sink)
+        }
         Command::Sim => sim(alloc, bytes, sink),
+        Command::Unwave => unwave(alloc, bytes, sink),
         Command::Demo { width, reach, size } => demo(alloc, size, width, reach, sink),
     }
 }

@@ -1,6 +1,6 @@
 //! Texts that are put into a sink.
 
-ghost use Rattle.std.specs.Prelude.{◌≡◌, ◌++◌};
+ghost use Rattle.std.specs.Prelude.{◌≡◌, ◌++◌, ℕ};
 ghost use Rattle.av_net.specs.Designs.{IsSoundPlan};
 ghost use Rattle.av_net.specs.PlanTexts.{text2};
 ghost use Rattle.av_flat.specs.Legal.{IsLegal};
@@ -11,14 +11,16 @@ ghost use Rattle.av_vread.specs.declared.fault.VFault.TheVariants as verilog_fau
 ghost use Rattle.av_data.specs.declared.fault.DataFault.TheVariants as data_fault;
 ghost use Rattle.av_compile.specs.declared.refusal.Refusal.TheVariants as alpha_refusal;
 ghost use Rattle.av_best.specs.declared.fault.BestFault.TheVariants as best_fault;
+ghost use Rattle.av_wave.specs.declared.fault.WaveFault.TheVariants as wave_fault;
 ghost use Rattle.av_cli.specs.Refusals.{refusal_line, verilog_reason, data_reason};
 ghost use Rattle.av_cli.specs.AlphaRefusals.{alpha_reason};
 ghost use Rattle.av_cli.specs.Bests.{best_reason, cycles_line};
+ghost use Rattle.av_cli.specs.Waves.{wave_reason};
 ghost use Rattle.av_cli.specs.inner.Written.{IsPut};
 
 use crate::alpha_refusals::{write_alpha_refusal, write_best_refusal};
 use crate::best::write_least_schedule;
-use crate::refusals::{write_data_refusal, write_verilog_refusal};
+use crate::refusals::{write_data_refusal, write_verilog_refusal, write_wave_refusal};
 use crate::status::Status;
 use av_base::{Sink, write_all};
 use av_best::BestFault;
@@ -28,6 +30,7 @@ use av_flat::Timed;
 use av_net::Plan;
 use av_vread::VFault;
 use av_vtext::write_plan;
+use av_wave::WaveFault;
 
 /// Adds the text. The status is the one wanted, or that of a fault of the sink.
 pub(crate) fn put<K: Sink>(sink: &mut K, text: &str, wanted: Status) -> Status
@@ -133,6 +136,20 @@ pub(crate) fn put_best_refusal<K: Sink>(sink: &mut K, fault: &BestFault) -> Stat
     match fault {
         BestFault::Memory => Status::Memory,
         _ => match write_best_refusal(fault, sink) {
+            Ok(()) => Status::Refused,
+            Err(_) => Status::WriteFault,
+        },
+    }
+}
+
+/// Adds the line of the refusal of a dump. Out of memory has no line: the status tells it.
+pub(crate) fn put_wave_refusal<K: Sink>(sink: &mut K, fault: &WaveFault) -> Status
+    ensures memory { fault.now ≡ wave_fault.Memory → (result ≡ Status.Memory) × ((K.state sink.new).held ≡ (K.state sink.old).held) }
+    ensures refused { (line : ℕ) → fault.now ≡ wave_fault.WaveSyntax line → IsPut (K.state sink.old) (K.state sink.new) (refusal_line (wave_reason line)) Status.Refused result }
+{
+    match fault {
+        WaveFault::Memory => Status::Memory,
+        WaveFault::WaveSyntax(line) => match write_wave_refusal(*line, sink) {
             Ok(()) => Status::Refused,
             Err(_) => Status::WriteFault,
         },

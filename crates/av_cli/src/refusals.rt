@@ -1,9 +1,10 @@
-//! The lines of refusals of design texts, stimuli and data.
+//! The lines of refusals of design texts, stimuli, data and dumps.
 
 ghost use Rattle.std.specs.Prelude.{◌++◌, decimal, OnOk, OnErr, IsErr};
 ghost use Rattle.av_base.specs.Outside.{Adds, AddsPrefix, HasRisen};
 ghost use Rattle.av_page.specs.Pages.{Puts};
 ghost use Rattle.av_cli.specs.Refusals.{refusal_line, place_text, verilog_reason, data_reason};
+ghost use Rattle.av_cli.specs.Waves.{wave_reason};
 
 use av_base::{Name, Place, Sink, WriteFault};
 use av_data::DataFault;
@@ -91,6 +92,19 @@ pub(crate) fn write_data_refusal<K: Sink>(fault: &DataFault, sink: &mut K) -> Re
     let mut page = Page::new();
     page.put(sink, "refused: ");
     put_data_reason(&mut page, sink, fault);
+    page.put(sink, "\n");
+    page.finish(sink)
+}
+
+/// Writes the line of the refusal of a dump.
+pub(crate) fn write_wave_refusal<K: Sink>(line: u32, sink: &mut K) -> Result<(), WriteFault>
+    ensures added { OnOk result (Adds (K.state sink.old).held (K.state sink.new).held (refusal_line (wave_reason line))) }
+    ensures fault { IsErr result → HasRisen (K.state sink.old).faults (K.state sink.new).faults }
+    ensures front { OnErr result (AddsPrefix (K.state sink.old).held (K.state sink.new).held (refusal_line (wave_reason line))) }
+{
+    let mut page = Page::new();
+    page.put(sink, "refused: ");
+    put_number(&mut page, sink, "wave syntax ", line);
     page.put(sink, "\n");
     page.finish(sink)
 }

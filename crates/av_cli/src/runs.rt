@@ -1,4 +1,4 @@
-//! The commands `run` and `trace`.
+//! The commands `run`, `trace` and `wave`.
 
 ghost use Rattle.std.specs.Prelude.{◌≡◌, ◌<◌, ◌≤◌, ◌+◌, ◌++◌, codes, length, IsErr, OnOk, OnErr};
 ghost use Rattle.av_base.specs.Outside.{Adds, AddsPrefix, HasRisen};
@@ -7,9 +7,10 @@ ghost use Rattle.av_net.specs.Clocked.{Stream as Ports, Run as Clocked, IsRun};
 ghost use Rattle.av_net.specs.Designs.{IsSoundPlan};
 ghost use Rattle.av_net.specs.PlanTexts.{text2};
 ghost use Rattle.av_data.specs.Inputs.{words_of, AreInputsOf};
-ghost use Rattle.av_cli.specs.inner.Clocking.{AreLeft, IsPrepared};
+ghost use Rattle.av_wave.specs.Clocking.{AreLeft};
+ghost use Rattle.av_cli.specs.inner.Clocking.{IsPrepared};
 ghost use Rattle.av_cli.specs.Runs.{results};
-ghost use Rattle.av_cli.specs.Simulated.{IsStimulated, run_lines};
+ghost use Rattle.av_wave.specs.Simulated.{IsStimulated, run_lines};
 ghost use Rattle.av_cli.specs.inner.Written.{IsAnswered};
 ghost use Rattle.av_cli.specs.inner.Reported.{RefusesRunWith, GivesReportWith, IsClockable, is_output_named, names_output, RefusesLines, IsReport, GivesReported};
 ghost use Rattle.av_cli.specs.inner.Outputs.{PutsOneOf};
@@ -27,17 +28,19 @@ use av_data::{Inputs, Stimulus, divide, read_data, write_result};
 use av_flat::{Flat, Kind, Reach, Var};
 use av_net::Entry;
 use av_vtext::write_plan;
+use av_wave::{RunFault, write_run};
 use std::alloc::Global;
 
 const NO_MARK: &str = "refused: no mark\n";
 
 const MARK: &str = "%%\n";
 
-/// What is reported of a run: the words of the outputs, or the plan and each cycle.
+/// What is reported of a run: the words of the outputs, the plan and each cycle, or the dump.
 #[derive(Clone, Copy, Debug)]
 pub(crate) enum Report {
     Results,
     Trace,
+    Wave,
 }
 
 /// Answers an Alpha text, a line `%%` and data, with the sizes among the words.
@@ -77,6 +80,7 @@ fn report_on<K: Sink>(
 ) -> Status
     requires plan { IsSoundPlan compiled.now.plan }
     requires clockable { IsClockable compiled.now.timed compiled.now.design }
+    requires cycles { compiled.now.cells.cycles ≤ 4096 }
     requires lines { first_line + length bytes.now < 4294967295 }
     ensures { IsAnswered (RefusesLines compiled.now.timed first_line bytes.now) (GivesReported report compiled.now.timed compiled.now.cells compiled.now.plan compiled.now.design bytes.now) (K.state sink.old) (K.state sink.new) result }
 {
@@ -85,6 +89,7 @@ fn report_on<K: Sink>(
         Ok(inputs) => match report {
             Report::Results => put_results(alloc, compiled, &inputs, sink),
             Report::Trace => put_trace(alloc, compiled, &inputs, sink),
+            Report::Wave => put_wave(alloc, compiled, &inputs, sink),
         },
     }
 }
@@ -164,6 +169,23 @@ fn put_trace<K: Sink>(alloc: Global, compiled: &Compiled, inputs: &Inputs, sink:
                 Ok(()) => Status::Done,
                 Err(_) => Status::WriteFault,
             },
+        },
+    }
+}
+
+// Adds the dump of the run of the plan's flat design.
+fn put_wave<K: Sink>(alloc: Global, compiled: &Compiled, inputs: &Inputs, sink: &mut K) -> Status
+    requires clockable { IsClockable compiled.now.timed compiled.now.design }
+    requires cycles { compiled.now.cells.cycles ≤ 4096 }
+    requires inputs { AreInputsOf (view_system compiled.now.timed.flat) (words_of inputs.now) }
+    ensures { PutsOneOf (IsReport report.Wave compiled.now.timed compiled.now.cells compiled.now.plan compiled.now.design (words_of inputs.now)) (K.state sink.old) (K.state sink.new) result }
+{
+    match feed(alloc, &compiled.design, inputs, compiled.cells.cycles) {
+        Err(Memory) => Status::Memory,
+        Ok(stimulus) => match write_run(alloc, &compiled.design.module, &stimulus, sink) {
+            Ok(()) => Status::Done,
+            Err(RunFault::Memory) => Status::Memory,
+            Err(RunFault::Write) => Status::WriteFault,
         },
     }
 }

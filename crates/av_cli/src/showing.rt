@@ -10,19 +10,19 @@ ghost use Rattle.av_net.specs.Sound.{IsSound};
 ghost use Rattle.av_clock.specs.Seen.{carried};
 ghost use Rattle.av_stream.specs.Streams.{AreApartEach};
 ghost use Rattle.av_data.specs.Inputs.{words_of};
-ghost use Rattle.av_cli.specs.Simulated.{IsStimulated};
-ghost use Rattle.av_cli.specs.inner.Clocking.{AreLeft};
+ghost use Rattle.av_wave.specs.Simulated.{IsStimulated};
+ghost use Rattle.av_wave.specs.Clocking.{AreLeft};
 ghost use Rattle.av_cli.specs.Shown.{AreSmall, AreShown};
 ghost use Rattle.av_cli.specs.inner.Feeding.{AreOfLines};
 ghost use Rattle.av_cli.specs.inner.Streaming.{AreOfProblems};
 ghost use Rattle.av_cli.specs.inner.Watching.{bits_of, AreTaps, noted, watched};
 
-use crate::simulation::{are_numbered, place_of, present, targets, zeros};
 use av_base::{List, Memory, Name, Point, Word};
 use av_clock::Clock;
 use av_data::{Given, Inputs, Stimulus, Timeline};
 use av_net::{Design, Entry, Module, Port};
 use av_table::NameSet;
+use av_wave::{are_numbered, place_of, present, targets, zeros};
 use std::alloc::Global;
 
 /// Words of the points of inputs: those of `Inputs`, or others that are not kept but computed.

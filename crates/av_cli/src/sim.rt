@@ -3,7 +3,7 @@
 ghost use Rattle.std.specs.Prelude.{◌<◌, ◌≤◌, ◌+◌, length};
 ghost use Rattle.av_net.specs.Sound.{IsSound};
 ghost use Rattle.av_net.specs.declared.netlist.Module.{Module as Netlist};
-ghost use Rattle.av_cli.specs.inner.Clocking.{AreLeft};
+ghost use Rattle.av_wave.specs.Clocking.{AreLeft};
 ghost use Rattle.av_cli.specs.Sims.{RefusesSim, GivesSim};
 ghost use Rattle.av_cli.specs.inner.WithModule.{RefusesStimulus, GivesRun};
 ghost use Rattle.av_cli.specs.inner.Written.{IsAnswered, IsClocked};

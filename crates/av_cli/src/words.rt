@@ -54,8 +54,15 @@ pub(crate) enum Command {
         width: Width,
         reach: Reach,
     },
+    /// The dump of a run of a system's array on data. Its sizes stand in the words.
+    Wave {
+        width: Width,
+        reach: Reach,
+    },
     /// The run of a module under a stimulus.
     Sim,
+    /// The cycles of a dump.
+    Unwave,
     /// The product of two matrices of a size, by an array.
     Demo {
         width: Width,
@@ -79,7 +86,9 @@ impl Command {
             | Command::Trace { .. }
             | Command::Best { .. }
             | Command::Stream { .. }
-            | Command::Sim => true,
+            | Command::Wave { .. }
+            | Command::Sim
+            | Command::Unwave => true,
         }
     }
 }
@@ -122,7 +131,12 @@ pub(crate) fn read_words(words: &[Name]) -> Option<Command>
             let (width, reach) = read_width_and_reach(words)?;
             Some(Command::Stream { width, reach })
         }
+        "wave" => {
+            let (width, reach) = read_width_and_reach(words)?;
+            Some(Command::Wave { width, reach })
+        }
         "sim" if is_bare(words) => Some(Command::Sim),
+        "unwave" if is_bare(words) => Some(Command::Unwave),
         "demo" => {
             let (width, reach, size) = read_demo(words)?;
             Some(Command::Demo { width, reach, size })

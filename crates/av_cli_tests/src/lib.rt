@@ -38,3 +38,5 @@ mod streams;
 mod tables;
 #[cfg(test)]
 mod texts;
+#[cfg(test)]
+mod waves;

@@ -16,3 +16,4 @@ pub mod Keys
 pub mod Merging
 pub mod Computing
 pub mod SourcedWords
+pub mod Bits

@@ -1,14 +1,11 @@
 -- Marks that are set and cleared.
-use Rattle.std.proofs.Common.{◌≡◌, ◌≢◌, ℕ, suc, ◌+◌, ◌<◌, ◌≤◌, List, [], ◌∷◌, length, get_or, set, replicate, refl, sym, ◌∙◌, ap, subst, arith, Bool, true, false, Vec, inl, inr}
+use Rattle.std.proofs.Common.{◌≡◌, ◌≢◌, ℕ, suc, ◌+◌, ◌<◌, ◌≤◌, List, [], ◌∷◌, length, get_or, set, replicate, refl, sym, ◌∙◌, ap, arith, Bool, true, false, inl, inr}
 use Rattle.std.specs.Prelude.{Contains}
 use Rattle.std.proofs.Math.ListN.{length-set}
 use Rattle.std.proofs.lemmas.Bool.{cases_eq, cases_lt}
 use Rattle.std.proofs.lemmas.List.{get_or-set_same, get_or-set_other, get_or-replicate, length-replicate, get_or_past, get_or_default}
-use Rattle.std.specs.declared.alloc.Global.{Global}
-use Rattle.std.specs.Vec.{with_items}
-use Rattle.std.proofs.lemmas.List.{with_items_is}
 use Rattle.av_clock.specs.Marked.{IsClear}
-use Rattle.av_clock.specs.inner.Marking.{IsSet, AreBlocked}
+use Rattle.av_clock.specs.inner.Marking.{IsSet}
 
 pub never : true ≡ false → ⊥
 never e = cc
@@ -122,17 +119,3 @@ clear_not_set marks k lt unset = either (get_or marks k false) refl
     either : (mark : Bool) → get_or marks k false ≡ mark → IsClear marks k
     either false is = get_or_default marks k true false lt ∙ is
     either true is = absurd (unset is)
-
--- no mark is both
-pub not_both : (marks : List Bool) (k : ℕ) → IsSet marks k → IsClear marks k → ⊥
-not_both marks k is clear = never (sym is ∙ get_or_default marks k false true (set_within marks k is) ∙ clear)
-
--- where no mark is set, no block need be
-pub passed : (each blocks : Vec Bool Global) (marks lent new : List Bool) → each.items ≡ marks → ((k : ℕ) → k < length marks → IsClear marks k) → length new ≡ length lent → lent ≡ blocks.items
-    → AreBlocked (record { each = each; blocks = blocks }) → AreBlocked (record { each = each; blocks = with_items blocks new })
-passed each blocks marks lent new view clear same is blocked = record {
-  count = ap length (with_items_is blocks new (same ∙ ap length is ∙ sym blocks.ok.0)) ∙ same ∙ ap length is ∙ blocked.count;
-  blocked = λ k set.
-      let set' : IsSet marks k = subst (λ ms. IsSet ms k) view set in
-      absurd (not_both marks k set' (clear k (set_within marks k set')));
-}

@@ -8,5 +8,6 @@ pub mod Kept
 pub mod Circuit
 pub mod Readers
 pub mod Marking
+pub mod Bits
 pub mod Engine
 pub mod Sourced

@@ -186,7 +186,6 @@ impl<'a> Circuit<'a> {
             computed += 1;
             drive = stale.next(drive + 1);
         }
-        stale.pass();
         computed
     }
 
@@ -272,7 +271,6 @@ impl<'a> Circuit<'a> {
             count += 1;
             step = due.next(step + 1);
         }
-        due.pass();
         count
     }
 

@@ -1,4 +1,5 @@
-ghost use Rattle.std.specs.Prelude.{◌≡◌, ◌<◌, ◌≤◌, ◌+◌, ℕ, length, replicate, slice_set, true, false, All, Contains, IfOk, IsTrue};
+ghost use Rattle.std.specs.Prelude.{◌≡◌, ◌≢◌, ◌↔◌, ◌<◌, ◌≤◌, ◌+◌, ℕ, length, replicate, slice_set, true, false, ◌==◌, All, Contains, IfOk, IsTrue};
+ghost use Rattle.std.specs.Int.{bit_at};
 ghost use Rattle.av_clock.specs.Marked.{IsClear};
 ghost use Rattle.av_clock.specs.inner.Marking.{IsSet};
 
@@ -6,14 +7,14 @@ use av_base::Memory;
 use std::alloc::Global;
 use std::marker::Model;
 
-// The number of marks that are passed over together where none is set.
-const BLOCK: usize = 64;
+// The number of marks in a word.
+const BITS: usize = 64;
 
-/// A mark for each of some things in order, set or clear. Contracts see the list of the marks.
+/// A mark for each of some things in order, set or clear, a bit for each. Contracts see the list of the marks.
 #[derive(Drop)]
 pub(crate) struct Marks {
-    each: Vec<bool>,
-    blocks: Vec<bool>,
+    words: Vec<u64>,
+    count: usize,
 }
 
 impl Model for Marks {
@@ -21,11 +22,11 @@ impl Model for Marks {
 
     ghost Value = { Items Bool };
 
-    ghost use Rattle.av_clock.specs.inner.Marking.{AreBlocked};
+    ghost use Rattle.av_clock.specs.inner.Bits.{marks_in, HasWords};
 
-    ghost view = { λ m. m.each.items };
+    ghost view = { marks_in };
 
-    ghost invariant = { AreBlocked };
+    ghost invariant = { HasWords };
 }
 
 impl Marks {
@@ -33,9 +34,22 @@ impl Marks {
     pub(crate) fn new(alloc: Global, count: usize) -> Result<Marks, Memory>
         ensures { IfOk result (λ marks. marks ≡ replicate count false) }
     {
-        let each = vec![in alloc; false; count]?;
-        let blocks = vec![in alloc; false; count / BLOCK + 1]?;
-        Ok(Marks { each, blocks })
+        let words = vec![in alloc; 0u64; count / BITS + 1]?;
+        Ok(Marks { words, count })
+    }
+
+    fn len(&self) -> usize
+        ensures { result ≡ length self.now }
+    {
+        self.count
+    }
+
+    fn is_set(&self, index: usize) -> bool
+        requires { index < length self.now }
+        ensures set { IsTrue result → IsSet self.now index }
+        ensures clear { result ≡ false → IsClear self.now index }
+    {
+        has_bit(self.words[index / BITS], index % BITS)
     }
 
     /// Sets a mark.
@@ -43,8 +57,8 @@ impl Marks {
         requires { index < length self.old }
         ensures { self.new ≡ slice_set self.old index true }
     {
-        self.each[index] = true;
-        self.blocks[index / BLOCK] = true;
+        let word = self.words[index / BITS];
+        self.words[index / BITS] = with_bit(word, index % BITS);
     }
 
     /// Clears a mark.
@@ -52,7 +66,8 @@ impl Marks {
         requires { index < length self.old }
         ensures { self.new ≡ slice_set self.old index false }
     {
-        self.each[index] = false;
+        let word = self.words[index / BITS];
+        self.words[index / BITS] = without_bit(word, index % BITS);
     }
 
     /// The first mark that is set, from this one on, or the number of marks where none is.
@@ -62,10 +77,10 @@ impl Marks {
         ensures clear { (k : ℕ) → from ≤ k → k < result → IsClear self.now k }
         ensures set { result < length self.now → IsSet self.now result }
     {
-        let count = self.each.len();
+        let count = self.len();
         let mut index = from;
         while index < count {
-            if self.each[index] {
+            if self.is_set(index) {
                 return index;
             }
             let step = self.clear_from(index);
@@ -77,42 +92,83 @@ impl Marks {
         count
     }
 
-    // How many marks, from a clear one on, are known to be clear at once.
+    // How many marks, from a clear one on, are clear in its word.
     fn clear_from(&self, index: usize) -> usize
-        requires { IsClear self.now index }
+        requires place { index < length self.now }
+        requires clear { IsClear self.now index }
         ensures some { 0 < result }
         ensures clear { (k : ℕ) → index ≤ k → k < index + result → k < length self.now → IsClear self.now k }
     {
-        if index % BLOCK == 0 && !self.blocks[index / BLOCK] {
-            BLOCK
-        } else {
-            1
-        }
-    }
-
-    /// Passes over all blocks from now on, until a mark is set.
-    pub(crate) fn pass(&mut self)
-        requires { (k : ℕ) → k < length self.old → IsClear self.old k }
-        ensures { self.new ≡ self.old }
-    {
-        fill(&mut self.blocks, false);
+        next_bit(self.words[index / BITS], index % BITS) - index % BITS
     }
 
     /// Sets or clears all marks.
     pub(crate) fn fill(&mut self, mark: bool)
         ensures { self.new ≡ replicate (length self.old) mark }
     {
-        fill(&mut self.each, mark);
-        fill(&mut self.blocks, mark);
+        fill(&mut self.words, word_of(mark));
     }
 }
 
 // Makes all of these the same.
-fn fill(marks: &mut [bool], mark: bool)
-    ensures { marks.new ≡ replicate (length marks.old) mark }
+fn fill(words: &mut [u64], word: u64)
+    ensures { words.new ≡ replicate (length words.old) word }
 {
-    for i in 0..marks.len() {
-        marks[i] = mark;
+    for i in 0..words.len() {
+        words[i] = word;
+    }
+}
+
+// The word of marks that are all the same.
+fn word_of(mark: bool) -> u64
+    ensures { (bit : ℕ) → bit < 64 → (bit_at result bit == 1) ≡ mark }
+{
+    if mark { u64::MAX } else { 0 }
+}
+
+// Whether a bit of a word is 1.
+#[inline(always)]
+fn has_bit(word: u64, bit: usize) -> bool
+    requires { bit < 64 }
+    ensures { IsTrue result ↔ (bit_at word bit ≡ 1) }
+{
+    word & (1 << bit) != 0
+}
+
+// The word with a bit of 1.
+#[inline(always)]
+fn with_bit(word: u64, bit: usize) -> u64
+    requires { bit < 64 }
+    ensures set { bit_at result bit ≡ 1 }
+    ensures others { (i : ℕ) → i ≢ bit → bit_at result i ≡ bit_at word i }
+{
+    word | (1 << bit)
+}
+
+// The word with a bit of 0.
+#[inline(always)]
+fn without_bit(word: u64, bit: usize) -> u64
+    requires { bit < 64 }
+    ensures clear { bit_at result bit ≡ 0 }
+    ensures others { (i : ℕ) → i < 64 → i ≢ bit → bit_at result i ≡ bit_at word i }
+{
+    word & !(1 << bit)
+}
+
+// The first bit of a word that is 1, from this one on, or 64 where none is.
+#[inline(always)]
+fn next_bit(word: u64, from: usize) -> usize
+    requires { from < 64 }
+    ensures later { from ≤ result }
+    ensures most { result ≤ 64 }
+    ensures clear { (i : ℕ) → from ≤ i → i < result → bit_at word i ≡ 0 }
+    ensures set { result < 64 → bit_at word result ≡ 1 }
+{
+    let later = word >> from;
+    if later == 0 {
+        64
+    } else {
+        from + later.trailing_zeros() as usize
     }
 }
 

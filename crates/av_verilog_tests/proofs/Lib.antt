@@ -1,2 +1,3 @@
 mod Written
 mod Sums
+mod Unfed

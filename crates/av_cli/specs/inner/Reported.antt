@@ -1,4 +1,4 @@
--- What `run` and `trace` make of a compiled text and the lines of its data.
+-- What `run`, `trace` and `wave` make of a compiled text and the lines of its data.
 use Rattle.std.specs.Prelude.{◌≡◌, ℕ, ◌++◌, Bool, ◌&&◌, List, codes}
 use Rattle.std.specs.List.{list_any}
 use Rattle.std.specs.Str.{bytes_eq}
@@ -20,18 +20,23 @@ use Rattle.av_data.specs.declared.fault.DataFault.{DataFault}
 use Rattle.av_data.specs.Data.{SpellsInputs, IsInputFault}
 use Rattle.av_data.specs.Inputs.{AreInputsOf}
 use Rattle.av_cli.specs.declared.runs.Report.{Report}
-use Rattle.av_cli.specs.declared.runs.Report.TheVariants.{Results, Trace}
+use Rattle.av_cli.specs.declared.runs.Report.TheVariants.{Results, Trace, Wave}
 use Rattle.av_cli.specs.Commands.{GiveSizes}
 use Rattle.av_cli.specs.Refusals.{data_reason}
-use Rattle.av_cli.specs.Simulated.{run_lines}
+use Rattle.av_wave.specs.Simulated.{run_lines}
+use Rattle.av_wave.specs.Waves.{Recording}
+use Rattle.av_wave.specs.Dumps.{dump_text}
+use Rattle.av_wave.specs.Recorded.{IsRecorded}
 use Rattle.av_cli.specs.Shown.{AreShown, IsFedRun}
 use Rattle.av_cli.specs.Runs.{RefusesRun, GivesResults, GivesTrace, results}
+use Rattle.av_cli.specs.Waves.{GivesDump}
 
 -- ---- with the words at hand
 
 abbrev pub GivesReport : Report → List Size → ℕ → ℕ → List ℕ → List ℕ → Type 0
 GivesReport Results sizes bits box bytes out = GivesResults sizes bits box bytes out
 GivesReport Trace sizes bits box bytes out = GivesTrace sizes bits box bytes out
+GivesReport Wave sizes bits box bytes out = GivesDump sizes bits box bytes out
 
 pub record RefusesRunWith (words : List (List ℕ)) (bits box : ℕ) (bytes reason : List ℕ) : Type 0 where
   pub sizes : List Size
@@ -75,9 +80,17 @@ pub record IsTraceOf (cells : Cells) (plan : Plan) (design : Design) (x : Assign
   pub clocked : IsFedRun design x cells.cycles run
   pub lines : out ≡ text2 plan ++ codes "%%\n" ++ run_lines design.module run.in_cycle cells.cycles
 
+pub record IsDumpOf (cells : Cells) (design : Design) (x : Assignment) (out : List ℕ) : Type 0 where
+  pub run : Run
+  pub clocked : IsFedRun design x cells.cycles run
+  pub wave : Recording
+  pub recorded : IsRecorded design.module run.in_cycle cells.cycles wave
+  pub text : out ≡ dump_text wave
+
 abbrev pub IsReport : Report → Timed → Cells → Plan → Design → Assignment → List ℕ → Type 0
 IsReport Results timed cells plan design x out = AreResultsOf timed design x out
 IsReport Trace timed cells plan design x out = IsTraceOf cells plan design x out
+IsReport Wave timed cells plan design x out = IsDumpOf cells design x out
 
 pub record GivesReported (report : Report) (timed : Timed) (cells : Cells) (plan : Plan) (design : Design) (bytes out : List ℕ) : Type 0 where
   pub inputs : Assignment

@@ -21,7 +21,7 @@ use Rattle.av_stream.specs.StreamPlans.{IsStreamOf}
 use Rattle.av_stream.specs.StreamTexts.{stream_text}
 use Rattle.av_cli.specs.Refusals.{data_reason}
 use Rattle.av_cli.specs.Commands.{GiveSizes}
-use Rattle.av_cli.specs.Simulated.{run_lines}
+use Rattle.av_wave.specs.Simulated.{run_lines}
 use Rattle.av_cli.specs.Streams.{stream_cycles, cycles_reason, RefusesStream, GivesStream, IsFirstBadSet, AreSpelled, IsFedEachRun}
 
 -- ---- with the words

@@ -5,7 +5,7 @@ use Rattle.av_data.specs.declared.fault.DataFault.{DataFault}
 use Rattle.av_data.specs.declared.stimulus.Stimulus.{Stimulus}
 use Rattle.av_data.specs.Stimuli.{SpellsStimulus, IsStimulusFault}
 use Rattle.av_cli.specs.Refusals.{data_reason}
-use Rattle.av_cli.specs.Simulated.{AreSimulated}
+use Rattle.av_wave.specs.Simulated.{AreSimulated}
 
 pub record RefusesStimulus (m : Module) (bytes : List ℕ) (first : ℕ) (reason : List ℕ) : Type 0 where
   pub cause : DataFault

@@ -7,7 +7,7 @@ use Rattle.av_data.specs.declared.stimulus.Stimulus.{Stimulus}
 use Rattle.av_cli.specs.declared.status.Status.{Status}
 use Rattle.av_cli.specs.declared.status.Status.TheVariants.{Done, Refused, WriteFault, Memory}
 use Rattle.av_cli.specs.Refusals.{refusal_line}
-use Rattle.av_cli.specs.Simulated.{IsStimulated, run_lines}
+use Rattle.av_wave.specs.Simulated.{IsStimulated, run_lines}
 
 -- the text was added and the status is the one wanted, or the sink failed and a prefix of the text was added
 pub record IsPut (sink sink' : SinkState) (out : List ℕ) (wanted status : Status) : Type 0 where

@@ -1,23 +1,17 @@
 -- Marks of drives and steps, and what setting and clearing them leaves as it was.
-use Rattle.std.specs.Prelude.{◌≡◌, ◌⊎◌, ℕ, ◌<◌, ◌/◌, ◌+◌, List, ◌++◌, length, take, slice_index, slice_index_or, Bool, true, false, Contains}
+use Rattle.std.specs.Prelude.{◌≡◌, ◌⊎◌, ℕ, ◌<◌, List, ◌++◌, length, take, slice_index, slice_index_or, Bool, true, false, Contains}
 use Rattle.av_net.specs.declared.operation.Operand.{Operand}
 use Rattle.av_net.specs.declared.netlist.Drive.{Drive}
 use Rattle.av_net.specs.declared.netlist.Step.{Step}
 use Rattle.av_net.specs.declared.netlist.Module.{Module}
 use Rattle.av_net.specs.Meaning.{Words, word_of, result_of, EachOperand}
 use Rattle.av_net.specs.Names.{given_names, targets_of, width_of}
-use Rattle.av_clock.specs.declared.marks.Marks.TheInside.{Inside}
 use Rattle.av_clock.specs.Marked.{IsClear}
 use Rattle.av_clock.specs.Named.{named}
 
 -- the mark is set
 abbrev pub IsSet : List Bool → ℕ → Type 0
 IsSet marks k = slice_index_or marks k false ≡ true
-
--- a block of 64 in which a mark is set is set itself
-pub record AreBlocked (c : Inside) : Type 0 where
-  pub count : length c.blocks.items ≡ length c.each.items / 64 + 1
-  pub blocked : (k : ℕ) → IsSet c.each.items k → IsSet c.blocks.items (k / 64)
 
 -- what is not marked now was not marked before, and reads the words that it read
 pub record ReadTheSame (m : Module) (words words' : List ℕ) (stale stale' due due' : List Bool) : Type 0 where

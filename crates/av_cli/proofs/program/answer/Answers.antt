@@ -1,13 +1,13 @@
 use Rattle.std.proofs.Common.{subst}
 use Rattle.av_cli.specs.declared.words.Command.{Command}
-use Rattle.av_cli.specs.declared.words.Command.TheVariants.{Check, Schedule, Table, Emit, Run, Trace, Best, Stream, Sim, Demo}
+use Rattle.av_cli.specs.declared.words.Command.TheVariants.{Check, Schedule, Table, Emit, Run, Trace, Best, Stream, Wave, Sim, Unwave, Demo}
 use Rattle.av_cli.specs.inner.CommandsSeen.{Are}
 use Rattle.av_cli.proofs.Answered.{by_command}
 use Rattle.av_cli.proofs.Checking.{check_answered}
 use Rattle.av_cli.proofs.Scheduling.{schedule_answered}
 use Rattle.av_cli.proofs.Tabling.{table_answered}
 use Rattle.av_cli.proofs.Emitting.{emit_answered}
-use Rattle.av_cli.proofs.Reporting.{run_words, trace_words}
+use Rattle.av_cli.proofs.Reporting.{run_words, trace_words, wave_words}
 use Rattle.av_cli.proofs.LeastSchedules.{best_answered}
 use Rattle.av_cli.proofs.StreamAnswers.{stream_answered}
 use Rattle.av_cli.proofs.Outputs.{puts_given}
@@ -85,6 +85,18 @@ returns-in-Stream g c =
     let reach = c.in-Stream.reach in
     by_command c.args.command (Stream width reach) words bytes c.in-Stream.is
     (stream_answered words width.bits reach.size bytes (subst (λ (x : Command). Are x words) c.in-Stream.is c.requires.read) c.stream.ensures)
+
+pub returns-in-Wave : goal.returns-in-Wave
+returns-in-Wave g c =
+    let words = c.args.words.now in
+    let bytes = c.args.bytes.now in
+    let width = c.in-Wave.width in
+    let reach = c.in-Wave.reach in
+    by_command c.args.command (Wave width reach) words bytes c.in-Wave.is
+    (wave_words words width.bits reach.size bytes (subst (λ (x : Command). Are x words) c.in-Wave.is c.requires.read) c.answer_run-in-Wave.ensures)
+
+pub returns-in-Unwave : goal.returns-in-Unwave
+returns-in-Unwave g c = by_command c.args.command Unwave c.args.words.now c.args.bytes.now c.in-Unwave.is c.unwave.ensures
 
 pub returns-in-Demo : goal.returns-in-Demo
 returns-in-Demo g c = by_command c.args.command (Demo c.in-Demo.width c.in-Demo.reach c.in-Demo.size) c.args.words.now c.args.bytes.now c.in-Demo.is (puts_given (λ out given. given) c.demo.ensures)

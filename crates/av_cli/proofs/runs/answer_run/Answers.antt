@@ -6,7 +6,7 @@ use Rattle.av_compile.specs.Headline.{Headline}
 use Rattle.av_cli.specs.Runs.{no_mark}
 use Rattle.av_cli.specs.inner.Written.{refused}
 use Rattle.av_cli.specs.inner.Reported.{GivesReportWith, IsClockable}
-use Rattle.av_cli.proofs.Reporting.{clockable, run_refused, report_answered}
+use Rattle.av_cli.proofs.Reporting.{clockable, few_cycles, run_refused, report_answered}
 use Rattle.av_cli.proofs.runs.answer_run.Goals as goal
 
 pub report_on-requires-clause-plan : goal.report_on-requires-clause-plan
@@ -17,6 +17,11 @@ report_on-requires-clause-clockable g c =
     let made = c.in-Ok-compile.compiled in
     subst (λ (d : Design). IsClockable made.timed d) (sym c.in-Ok-compile.ensures.design)
     (clockable c.in-Some.parts.text.now c.as_slice.result.now c.args.width.bits c.args.reach.size made.timed made.cells made.plan c.in-Ok-compile.ensures.headline c.in-Ok-compile.ensures.mapped)
+
+pub report_on-requires-clause-cycles : goal.report_on-requires-clause-cycles
+report_on-requires-clause-cycles g c =
+    let made = c.in-Ok-compile.compiled in
+    few_cycles c.in-Some.parts.text.now c.as_slice.result.now c.args.width.bits c.args.reach.size made.timed made.cells c.in-Ok-compile.ensures.mapped
 
 pub returns-in_default : goal.returns-in_default
 returns-in_default g c = refused (record { sizes = c.in-Ok.sizes; give = c.in-Ok.ensures.given; refuses = no_mark c.in_default.ensures.none refl }) c.put.ensures

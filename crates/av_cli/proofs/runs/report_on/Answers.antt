@@ -22,8 +22,8 @@ returns-in-Results g c =
       reports = subst (λ (r : Report). IsReport r compiled.timed compiled.cells compiled.plan compiled.design x out) (sym c.in-Results.is) told;
     }) c.put_results.ensures
 
-pub returns : goal.returns
-returns g c =
+pub returns-in-Trace : goal.returns-in-Trace
+returns-in-Trace g c =
     let compiled = c.args.compiled.now in
     let x = words_of c.in-Ok.inputs in
     puts_given (λ (out : List ℕ) told. record {
@@ -32,3 +32,14 @@ returns g c =
       are = c.in-Ok.ensures.inputs;
       reports = subst (λ (r : Report). IsReport r compiled.timed compiled.cells compiled.plan compiled.design x out) (sym c.in-Trace.is) told;
     }) c.put_trace.ensures
+
+pub returns : goal.returns
+returns g c =
+    let compiled = c.args.compiled.now in
+    let x = words_of c.in-Ok.inputs in
+    puts_given (λ (out : List ℕ) told. record {
+      inputs = x;
+      spelled = c.in-Ok.ensures.found;
+      are = c.in-Ok.ensures.inputs;
+      reports = subst (λ (r : Report). IsReport r compiled.timed compiled.cells compiled.plan compiled.design x out) (sym c.in-Wave.is) told;
+    }) c.put_wave.ensures

@@ -5,7 +5,7 @@ use Rattle.av_base.proofs.Moves.{on_err, Adds-more}
 use Rattle.av_net.specs.declared.netlist.Module.{Module}
 use Rattle.av_net.specs.Clocked.{Stream, Run, IsRun}
 use Rattle.av_net.specs.PlanTexts.{text2}
-use Rattle.av_cli.specs.Simulated.{IsStimulated, run_lines}
+use Rattle.av_wave.specs.Simulated.{IsStimulated, run_lines}
 use Rattle.av_cli.proofs.Outputs.{front_more, front_after, on_ok_from, on_err_from}
 use Rattle.av_cli.proofs.runs.write_trace.Goals as goal
 

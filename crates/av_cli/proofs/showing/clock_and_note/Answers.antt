@@ -2,7 +2,7 @@ use Rattle.std.proofs.Common.{◌≡◌, true, subst, arith}
 use Rattle.av_net.specs.Clocked.{Edge}
 use Rattle.av_clock.specs.Seen.{carried}
 use Rattle.av_cli.specs.inner.Watching.{bits_of, watched}
-use Rattle.av_cli.proofs.Running.{reset_registers}
+use Rattle.av_wave.proofs.Cycling.{reset_registers}
 use Rattle.av_cli.proofs.Watched.{tap_named, watched_none, noted_length}
 use Rattle.av_cli.proofs.Watching.{goes_on}
 use Rattle.av_cli.proofs.showing.clock_and_note.Goals as goal

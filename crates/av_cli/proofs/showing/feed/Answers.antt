@@ -4,8 +4,8 @@ use Rattle.av_net.specs.declared.design.Entry.{Entry}
 use Rattle.av_net.specs.Names.{names_of, AreDistinct}
 use Rattle.av_net.specs.Presented.{HasFittingWord}
 use Rattle.av_cli.specs.inner.Feeding.{IsOfLine, AreOfLines}
-use Rattle.av_cli.proofs.Presenting.{inputs_apart}
-use Rattle.av_cli.proofs.Targets.{few_names}
+use Rattle.av_wave.proofs.Presenting.{inputs_apart}
+use Rattle.av_wave.proofs.Driven.{few_names}
 use Rattle.av_cli.proofs.Fed.{at_index, some_there, given_more}
 use Rattle.av_cli.proofs.showing.feed.Goals as goal
 use Rattle.av_base.proofs.Lists.{all_at}

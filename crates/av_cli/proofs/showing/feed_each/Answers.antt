@@ -8,8 +8,8 @@ use Rattle.av_net.specs.Listed.{MayBeListed}
 use Rattle.av_net.specs.Presented.{HasFittingWord, HaveFittingWords}
 use Rattle.av_data.specs.declared.stimulus.Given.{Given}
 use Rattle.av_cli.specs.inner.Streaming.{IsOfLater, AreOfProblems}
-use Rattle.av_cli.proofs.Presenting.{inputs_apart}
-use Rattle.av_cli.proofs.Targets.{few_names}
+use Rattle.av_wave.proofs.Presenting.{inputs_apart}
+use Rattle.av_wave.proofs.Driven.{few_names}
 use Rattle.av_cli.proofs.Fed.{at_index, some_there}
 use Rattle.av_cli.proofs.FedEach.{starts_within, none_given_yet, later_given_more, next_problem, all_problems, AreOfEarlier}
 use Rattle.av_cli.proofs.showing.feed_each.Goals as goal

@@ -8,7 +8,7 @@ use Rattle.av_net.specs.declared.design.Entry.{Entry}
 use Rattle.av_net.specs.Listed.{MayBeListed}
 use Rattle.av_net.specs.Names.{wire_names}
 use Rattle.av_net.specs.Clocked.{Stream, Run, IsRun}
-use Rattle.av_cli.specs.Simulated.{IsStimulated}
+use Rattle.av_wave.specs.Simulated.{IsStimulated}
 use Rattle.av_cli.specs.inner.Watching.{bits_of, watched}
 use Rattle.av_cli.proofs.Fed.{left}
 use Rattle.av_cli.proofs.Watching.{shown_so}

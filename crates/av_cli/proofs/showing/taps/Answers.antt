@@ -4,7 +4,7 @@ use Rattle.std.proofs.lemmas.List.Elements.{All-contains}
 use Rattle.av_net.specs.declared.design.Entry.{Entry}
 use Rattle.av_net.specs.Names.{targets_of, wire_names}
 use Rattle.av_cli.proofs.Fed.{at_index}
-use Rattle.av_cli.proofs.Targets.{few_targets}
+use Rattle.av_wave.proofs.Driven.{few_targets}
 use Rattle.av_cli.proofs.Watched.{taps_more}
 use Rattle.av_cli.proofs.showing.taps.Goals as goal
 use Rattle.av_base.proofs.Lists.{all_at}

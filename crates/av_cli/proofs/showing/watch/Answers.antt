@@ -1,7 +1,7 @@
 use Rattle.std.proofs.Common.{sym, subst}
 use Rattle.av_net.specs.declared.netlist.Module.{Module}
 use Rattle.av_net.specs.Clocked.{IsRun}
-use Rattle.av_cli.specs.Simulated.{IsStimulated}
+use Rattle.av_wave.specs.Simulated.{IsStimulated}
 use Rattle.av_cli.proofs.showing.watch.Goals as goal
 
 pub returns : goal.returns

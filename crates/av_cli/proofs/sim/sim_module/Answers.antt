@@ -1,10 +1,9 @@
 use Rattle.std.proofs.Common.{refl}
-use Rattle.av_cli.proofs.Walking.{all_left}
-use Rattle.av_cli.proofs.Simulating.{stimulus_refused, run_answered}
+use Rattle.av_cli.proofs.Simulating.{stimulus_left, stimulus_refused, run_answered}
 use Rattle.av_cli.proofs.sim.sim_module.Goals as goal
 
 pub clock_module-requires-clause-left : goal.clock_module-requires-clause-left
-clock_module-requires-clause-left g c = all_left c.args.of.now.inputs c.args.bytes.now c.in-Ok.stimulus c.in-Ok.ensures.found
+clock_module-requires-clause-left g c = stimulus_left c.args.of.now.inputs c.args.bytes.now c.in-Ok.stimulus c.in-Ok.ensures.found
 
 pub returns-in-Ok : goal.returns-in-Ok
 returns-in-Ok g c = run_answered c.args.of.now c.args.bytes.now c.args.first_line c.in-Ok.stimulus _ _ _ c.requires.sound c.in-Ok.ensures.found c.clock_module.ensures

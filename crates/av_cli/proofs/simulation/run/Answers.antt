@@ -4,8 +4,9 @@ use Rattle.av_base.specs.Outside.{Adds}
 use Rattle.av_net.specs.declared.netlist.Module.{Module}
 use Rattle.av_net.specs.Clocked.{Edge}
 use Rattle.av_clock.specs.Seen.{carried}
-use Rattle.av_cli.specs.Simulated.{run_lines}
-use Rattle.av_cli.proofs.Running.{reset_registers, inputs_noted, turns, fails}
+use Rattle.av_wave.specs.Simulated.{run_lines}
+use Rattle.av_wave.proofs.Cycling.{reset_registers}
+use Rattle.av_cli.proofs.Running.{inputs_noted, turns, fails}
 use Rattle.av_cli.proofs.simulation.run.Goals as goal
 
 pub loop-cycle-init : goal.loop-cycle-init

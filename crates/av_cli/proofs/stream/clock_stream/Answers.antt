@@ -6,7 +6,8 @@ use Rattle.av_net.specs.Presented.{HaveFittingWords}
 use Rattle.av_net.specs.Sound.{IsSound}
 use Rattle.av_net.proofs.FlatDesigns.{flat_is_sound_design}
 use Rattle.av_data.specs.Inputs.{words_of}
-use Rattle.av_cli.specs.inner.Clocking.{AreLeft, IsPrepared}
+use Rattle.av_wave.specs.Clocking.{AreLeft}
+use Rattle.av_cli.specs.inner.Clocking.{IsPrepared}
 use Rattle.av_cli.specs.inner.Streaming.{AreOfProblems}
 use Rattle.av_cli.proofs.FedEach.{left_each}
 use Rattle.av_cli.proofs.StreamOutputs.{stream_put, stream_failed}

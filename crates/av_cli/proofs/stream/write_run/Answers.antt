@@ -6,7 +6,7 @@ use Rattle.av_net.specs.declared.netlist.Module.{Module}
 use Rattle.av_net.specs.Clocked.{Stream, Run, IsRun}
 use Rattle.av_net.specs.Flat.{flat_module}
 use Rattle.av_stream.specs.StreamTexts.{stream_text}
-use Rattle.av_cli.specs.Simulated.{IsStimulated, run_lines}
+use Rattle.av_wave.specs.Simulated.{IsStimulated, run_lines}
 use Rattle.av_cli.proofs.Outputs.{front_more, front_after, on_ok_from, on_err_from}
 use Rattle.av_cli.proofs.stream.write_run.Goals as goal
 

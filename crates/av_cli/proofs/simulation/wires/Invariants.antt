@@ -1,5 +1,0 @@
-use Rattle.av_cli.specs.inner.Clocking.{AreWires}
-use Rattle.av_cli.proofs.simulation.wires.Given as goal
-
-abbrev pub invariant-loop-port : goal.invariant-loop-port
-invariant-loop-port l = AreWires l.of l.port-index l.wires

@@ -1,0 +1,12 @@
+use Rattle.std.proofs.Common.{replicate, refl, inl, inr, ap, ◌∙◌}
+use Rattle.av_cli.specs.inner.Outputs.{puts}
+use Rattle.av_cli.proofs.unwave.put_cycles.Goals as goal
+
+pub write_cycles-requires : goal.write_cycles-requires
+write_cycles-requires g c = c.in-Ok.ensures.zeros ∙ ap (λ n. replicate n 0) c.len.ensures.count
+
+pub returns-in-Ok-write_cycles : goal.returns-in-Ok-write_cycles
+returns-in-Ok-write_cycles g c = puts refl (record { ends = inl (refl, c.in-Ok-write_cycles.ensures.added) })
+
+pub returns : goal.returns
+returns g c = puts refl (record { ends = inr (refl, c.in-Err-write_cycles.ensures.fault refl, c.in-Err-write_cycles.ensures.front) })
