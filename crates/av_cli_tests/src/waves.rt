@@ -17,31 +17,31 @@ const DATA: &str = "%%\nX (0) = 0\nX (1) = 254\nX (2) = 255\n";
 
 const RUN: &str = "0 i0=0 o0=1\n1 i0=254 o0=255\n2 i0=255 o0=0\n";
 
-// The lines of the dump of the increment's run on these data, without the line feeds.
-const DUMP: &[&str] = &[
-    "$timescale 1ns $end",
-    "$scope module array $end",
-    "$var wire 8 ! i0 $end",
-    "$var wire 8 \" o0 $end",
-    "$upscope $end",
-    "$enddefinitions $end",
-    "#0",
-    "b0 !",
-    "b1 \"",
-    "#1",
-    "b11111110 !",
-    "b11111111 \"",
-    "#2",
-    "b11111111 !",
-    "b0 \"",
-    "#3",
+// The dump of the increment's run on these data: the number of each line, and the line without its line feed.
+const DUMP: &[(usize, &str)] = &[
+    (1, "$timescale 1ns $end"),
+    (2, "$scope module array $end"),
+    (3, "$var wire 8 ! i0 $end"),
+    (4, "$var wire 8 \" o0 $end"),
+    (5, "$upscope $end"),
+    (6, "$enddefinitions $end"),
+    (7, "#0"),
+    (8, "b0 !"),
+    (9, "b1 \""),
+    (10, "#1"),
+    (11, "b11111110 !"),
+    (12, "b11111111 \""),
+    (13, "#2"),
+    (14, "b11111111 !"),
+    (15, "b0 \""),
+    (16, "#3"),
 ];
 
 // The dump, with these pieces in place of the line with a number, or whole where no line has it.
-fn dump_with(alloc: Global, number: usize, pieces: &[&str]) -> Result<List<u8>, Fail> {
+fn dump_with(alloc: Global, replaced: usize, pieces: &[&str]) -> Result<List<u8>, Fail> {
     let mut bytes = List::new(alloc);
-    for (place, line) in DUMP.iter().enumerate() {
-        if place + 1 == number {
+    for (number, line) in DUMP {
+        if *number == replaced {
             extend_by(&mut bytes, pieces)?;
         } else {
             extend_by(&mut bytes, &[line, "\n"])?;
@@ -217,9 +217,10 @@ fn assert_refused(
 #[test]
 fn each_line_is_told_once_and_with_no_byte_more(rt: HostRuntime) -> Result<(), Fail> {
     let alloc = rt.alloc();
-    for (place, line) in DUMP.iter().enumerate() {
-        let number = place + 1;
-        assert_refused(&rt, alloc, number, &[line, "\n", line, "\n"], place + 2)?;
+    for (number, line) in DUMP {
+        let number = *number;
+        let next = number.saturating_add(1);
+        assert_refused(&rt, alloc, number, &[line, "\n", line, "\n"], next)?;
         assert_refused(&rt, alloc, number, &[line, " \n"], number)?;
         assert_refused(&rt, alloc, number, &[" ", line, "\n"], number)?;
         assert_refused(&rt, alloc, number, &[line, "\r\n"], number)?;
