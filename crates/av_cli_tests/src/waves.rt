@@ -68,6 +68,60 @@ fn a_run_is_told_by_its_changes(rt: HostRuntime) -> Result<(), Fail> {
     Ok(())
 }
 
+// The words, what stands behind the text of the increment, and the dump: of ports of one bit, and of 64.
+const NARROW_AND_WIDE: &[(&[&str], &str, &str)] = &[
+    (
+        &["wave", "--width=1"],
+        "%%\nX (0) = 0\nX (1) = 1\nX (2) = 1\n",
+        "$timescale 1ns $end
+$scope module array $end
+$var wire 1 ! i0 $end
+$var wire 1 \" o0 $end
+$upscope $end
+$enddefinitions $end
+#0
+0!
+1\"
+#1
+1!
+0\"
+#2
+#3
+",
+    ),
+    (
+        &["wave", "--width=64"],
+        "%%\nX (0) = 0\nX (1) = -1\nX (2) = 5\n",
+        "$timescale 1ns $end
+$scope module array $end
+$var wire 64 ! i0 $end
+$var wire 64 \" o0 $end
+$upscope $end
+$enddefinitions $end
+#0
+b0 !
+b1 \"
+#1
+b1111111111111111111111111111111111111111111111111111111111111111 !
+b0 \"
+#2
+b101 !
+b110 \"
+#3
+",
+    ),
+];
+
+#[test]
+fn a_run_of_narrow_and_of_wide_ports(rt: HostRuntime) -> Result<(), Fail> {
+    let alloc = rt.alloc();
+    for (words, data, out) in NARROW_AND_WIDE {
+        let answer = answered(alloc, words, joined(alloc, &[INCREMENT, data])?, 4096)?;
+        assert_answer(&rt, &answer, Status::Done, out, data);
+    }
+    Ok(())
+}
+
 // What `unwave` answers to the dump with these pieces in place of the line with this number.
 fn assert_unwave(
     rt: &impl Abort,
@@ -191,7 +245,11 @@ const LINES: &[(usize, &str, &str)] = &[
     (16, "#3\n\n", "refused: wave syntax 17\n"),
     (16, "#3\n#3\n", "refused: wave syntax 17\n"),
     (16, "#3\nb1 !\n", "refused: wave syntax 18\n"),
-    (16, "#3\n#4\n", "0 i0=0 o0=1\n1 i0=254 o0=255\n2 i0=255 o0=0\n3 i0=255 o0=0\n"),
+    (
+        16,
+        "#3\n#4\n",
+        "0 i0=0 o0=1\n1 i0=254 o0=255\n2 i0=255 o0=0\n3 i0=255 o0=0\n",
+    ),
 ];
 
 #[test]
@@ -254,12 +312,7 @@ const ROWS: &[Row] = &[
         Status::Refused,
         "refused: cycles 4097\n",
     ),
-    (
-        &["wave", "--width", "65"],
-        INCREMENT,
-        Status::Words,
-        USAGE,
-    ),
+    (&["wave", "--width", "65"], INCREMENT, Status::Words, USAGE),
     (&["wave", "N"], INCREMENT, Status::Words, USAGE),
     (
         &["wave"],
@@ -276,7 +329,10 @@ fn words_and_inputs_of_dumps(rt: HostRuntime) -> Result<(), Fail> {
 
 // What stands behind the text of the increment, and the refusal of `wave`.
 const DATA_ROWS: &[(&str, &str)] = &[
-    ("%%\nX (0) = 0\nX (1) = 254\n", "refused: data missing X (2)\n"),
+    (
+        "%%\nX (0) = 0\nX (1) = 254\n",
+        "refused: data missing X (2)\n",
+    ),
     ("%%\nX (0) = 256\n", "refused: data syntax 5\n"),
     ("%%\nX (3) = 0\n", "refused: data outside 5\n"),
 ];
@@ -302,7 +358,14 @@ const LONG: &[(&str, &str, usize, &str, Status, &str)] = &[
         Status::Refused,
         "refused: wave syntax 1\n",
     ),
-    ("", " ", 1_048_577, "", Status::Refused, "refused: too long\n"),
+    (
+        "",
+        " ",
+        1_048_577,
+        "",
+        Status::Refused,
+        "refused: too long\n",
+    ),
     (
         "$timescale 1ns $end\n$scope module ",
         "m",
@@ -334,7 +397,8 @@ fn a_dump_may_have_so_many_bytes(rt: HostRuntime) -> Result<(), Fail> {
 
 const ONES: &str = "system t () returns (Y : {i|0<=i<=4095} of integer); let Y = 1; tel;\n%%\n";
 
-const HEAD_OF_ONES: &str = "$timescale 1ns $end\n$scope module array $end\n$var wire 32 ! o0 $end\n$upscope $end\n$enddefinitions $end\n#0\nb1 !\n";
+const HEAD_OF_ONES: &str =
+    "$timescale 1ns $end\n$scope module array $end\n$var wire 32 ! o0 $end\n$upscope $end\n$enddefinitions $end\n#0\nb1 !\n";
 
 // The dump of a port that is 1 in 4,096 cycles.
 fn dump_of_ones(alloc: Global) -> Result<String, Fail> {
@@ -372,8 +436,22 @@ fn assert_ones(rt: &impl Abort, alloc: Global, dump: &str, lines: &str) -> Resul
     let late = "refused: wave syntax 4104\n";
     assert_given(rt, alloc, "wave", &[ONES], Status::Done, dump)?;
     assert_given(rt, alloc, "unwave", &[dump], Status::Done, lines)?;
-    assert_given(rt, alloc, "unwave", &[dump, "#4097\n"], Status::Refused, late)?;
-    assert_given(rt, alloc, "unwave", &[dump, "b0 !\n"], Status::Refused, late)
+    assert_given(
+        rt,
+        alloc,
+        "unwave",
+        &[dump, "#4097\n"],
+        Status::Refused,
+        late,
+    )?;
+    assert_given(
+        rt,
+        alloc,
+        "unwave",
+        &[dump, "b0 !\n"],
+        Status::Refused,
+        late,
+    )
 }
 
 #[test]
@@ -389,13 +467,19 @@ const ROW_OF_ONES: &str =
     "system t () returns (Y : {i,j|0<=i<=95;j=0} of integer); let Y = 1; tel;\n%%\n";
 
 // The codes of the last ports, which have two digits from port 94 on.
-const LAST_PORTS: &str = "$var wire 32 } o92 $end\n$var wire 32 ~ o93 $end\n$var wire 32 !\" o94 $end\n$var wire 32 \"\" o95 $end\n$upscope $end\n$enddefinitions $end\n#0\nb1 !\n";
+const LAST_PORTS: &str =
+    "$var wire 32 } o92 $end\n$var wire 32 ~ o93 $end\n$var wire 32 !\" o94 $end\n$var wire 32 \"\" o95 $end\n$upscope $end\n$enddefinitions $end\n#0\nb1 !\n";
 
 #[test]
 fn the_codes_of_many_ports_have_two_digits(rt: HostRuntime) -> Result<(), Fail> {
     let alloc = rt.alloc();
     let answer = answered(alloc, &["wave"], joined(alloc, &[ROW_OF_ONES])?, 65536)?;
-    assert_end(&rt, &answer, Status::Done, "b1 }\nb1 ~\nb1 !\"\nb1 \"\"\n#1\n");
+    assert_end(
+        &rt,
+        &answer,
+        Status::Done,
+        "b1 }\nb1 ~\nb1 !\"\nb1 \"\"\n#1\n",
+    );
     let dump = str::from_utf8(answer.sink.held()).unwrap_or("");
     assert!(rt; dump.contains(LAST_PORTS));
     let back = answered(alloc, &["unwave"], joined(alloc, &[dump])?, 4096)?;
