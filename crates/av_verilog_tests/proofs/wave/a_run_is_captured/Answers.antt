@@ -6,3 +6,6 @@ assert_captured-requires-clause-spelled c = spelled c.in_ok-design.design c.in_o
 
 pub assert_run_written-requires-clause-spelled : goal.assert_run_written-requires-clause-spelled
 assert_run_written-requires-clause-spelled c = spelled c.in_ok-design.design c.in_ok-design.ensures
+
+pub assert_run_cut-requires-clause-spelled : goal.assert_run_cut-requires-clause-spelled
+assert_run_cut-requires-clause-spelled c = spelled c.in_ok-design.design c.in_ok-design.ensures
