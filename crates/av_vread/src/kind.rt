@@ -3,13 +3,13 @@
 ghost use Rattle.std.specs.Prelude.{◌≡◌, ◌++◌, IfOk};
 ghost use Rattle.av_net.specs.Names.{width_in};
 ghost use Rattle.av_net.specs.Rows.{kind_from, is_input_of, is_output_of};
-ghost use Rattle.av_vread.specs.inner.Reading.{said_module};
+ghost use Rattle.av_vparse.specs.Said.{said_module};
 
-use crate::parsed::ModuleText;
 use crate::scope;
 use crate::widths::Widths;
 use av_base::Memory;
 use av_table::NameSet;
+use av_vparse::ModuleText;
 use std::alloc::Global;
 use std::marker::Model;
 
@@ -25,7 +25,7 @@ pub(crate) struct Kind<'a> {
 impl<'a> Model for Kind<'a> {
     ghost use Rattle.av_net.specs.declared.plan.CellKind.{CellKind as Cell};
     ghost use Rattle.av_net.specs.Rows.{kind_from};
-    ghost use Rattle.av_vread.specs.inner.Reading.{said_module};
+    ghost use Rattle.av_vparse.specs.Said.{said_module};
     ghost use Rattle.av_vread.specs.inner.KindPorts.{HasPorts};
 
     ghost Value = { Cell };

@@ -6,18 +6,18 @@ ghost use Rattle.av_net.specs.Grammar.{instance};
 ghost use Rattle.av_net.specs.Flat.{instance_wires};
 ghost use Rattle.av_net.specs.Names.{clk, rst};
 ghost use Rattle.av_net.specs.Rows.{is_in, kind_or, kinds_of, modules_of, declares, drives, first_again, driven_by_link, link_mentions, item_mentions, mentions_of, instances_in, twice_from, part_twice};
-ghost use Rattle.av_vread.specs.inner.Reading.{said_link, said_instance, said_item, said_module, said};
+ghost use Rattle.av_vparse.specs.Said.{said_link, said_instance, said_item, said_module, said};
 ghost use Rattle.av_vread.specs.inner.Scoped.{texts, listed, own_names, Bytes};
 ghost use Rattle.av_vread.specs.inner.Seen.{IsPut, Stands, StandsIn, Tells, standing};
 
 use crate::kind::Kind;
 use crate::kinds::Kinds;
 use crate::names::set_of;
-use crate::parsed::{Instantiation, Item, Link, ModuleText, Text};
 use crate::scope;
 use av_base::{Memory, Name};
 use av_net::Port;
 use av_table::NameSet;
+use av_vparse::{Instantiation, Item, Link, ModuleText, Text};
 use std::alloc::Global;
 
 // Puts a name among others. The name, if it was there.
@@ -106,6 +106,23 @@ impl<'a> Seen<'a> {
         }
     }
 
+    // The first port or driven name of these links that stands again, of an instance that linked these ports before.
+    fn all_links(
+        &mut self,
+        linked: &mut NameSet<'a>,
+        kind: Option<&Kind>,
+        links: &'a [Link],
+    ) -> Result<Option<&'a str>, Memory>
+        ensures { IfOk result (λ r. (u : Bytes) → Tells (StandsIn u) (self.old, linked.old) (self.new, linked.new) (flat_map (link_mentions (kind_or (option_map (λ kind. kind.now) kind.entry)) u) (map said_link links.now)) (option_map (λ name. name.now) r)) }
+    {
+        for link in links {
+            if let Some(name) = self.links(linked, kind, link)? {
+                return Ok(Some(name));
+            }
+        }
+        Ok(None)
+    }
+
     // The first name of an instance that stands again.
     fn instance(
         &mut self,
@@ -120,12 +137,7 @@ impl<'a> Seen<'a> {
         }
         let kind = kinds.named(of.kind.as_str());
         let mut linked = NameSet::new(alloc);
-        for link in of.links.as_slice() {
-            if let Some(name) = self.links(&mut linked, kind, link)? {
-                return Ok(Some(name));
-            }
-        }
-        Ok(None)
+        self.all_links(&mut linked, kind, of.links.as_slice())
     }
 
     // The first name of an item that stands again.

@@ -3,7 +3,7 @@ use Rattle.std.proofs.lemmas.Result.{err_from_is_err_and}
 use Rattle.av_net.specs.Rows.{twice_name, wrong_name, undriven_name, early_name, unsuited_name}
 use Rattle.av_vread.specs.declared.fault.VFault.{VFault}
 use Rattle.av_vread.specs.declared.fault.VFault.TheVariants.{VTwice, VName, VUnassigned, VOrder, VWidth, Memory}
-use Rattle.av_vread.specs.inner.Reading.{said}
+use Rattle.av_vparse.specs.Said.{said}
 use Rattle.av_vread.specs.inner.Checked.{RowIs}
 use Rattle.av_vread.specs.Faults.{or_row}
 use Rattle.av_vread.proofs.check.check.Goals as goal

@@ -1,7 +1,7 @@
 use Rattle.std.proofs.Common.{◌≡◌, ◌∙◌, sym, ap, subst, map, not}
 use Rattle.std.specs.Prelude.{IfOk, find, option_map}
 use Rattle.av_net.specs.Rows.{is_in, first_from, first_some, driven_names, unlinked_in}
-use Rattle.av_vread.specs.inner.Reading.{said_item}
+use Rattle.av_vparse.specs.Said.{said_item}
 use Rattle.av_vread.specs.inner.Scoped.{Bytes, texts}
 use Rattle.av_vread.proofs.RowWalks.{missing_same}
 use Rattle.av_vread.proofs.rows.undriven_in.Goals as goal

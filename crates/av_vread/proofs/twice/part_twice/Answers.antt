@@ -1,7 +1,7 @@
 use Rattle.std.proofs.Common.{◌∙◌}
 use Rattle.av_net.specs.Names.{names_of}
 use Rattle.av_net.specs.Rows.{top_names}
-use Rattle.av_vread.specs.inner.Reading.{said}
+use Rattle.av_vparse.specs.Said.{said}
 use Rattle.av_vread.proofs.RepeatedParts.{repeated_same, own_same}
 use Rattle.av_vread.proofs.twice.part_twice.Goals as goal
 

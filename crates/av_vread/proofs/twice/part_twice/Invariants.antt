@@ -1,7 +1,7 @@
 use Rattle.std.proofs.Common.{◌≡◌, drop}
 use Rattle.av_net.specs.Names.{names_of}
 use Rattle.av_net.specs.Rows.{first_repeated, top_names}
-use Rattle.av_vread.specs.inner.Reading.{said}
+use Rattle.av_vparse.specs.Said.{said}
 use Rattle.av_vread.proofs.twice.part_twice.Given as goal
 
 abbrev pub invariant-loop-part : goal.invariant-loop-part

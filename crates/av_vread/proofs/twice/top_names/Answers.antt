@@ -3,7 +3,7 @@ use Rattle.std.specs.Prelude.{IfOk}
 use Rattle.std.proofs.lemmas.List.{append-nil}
 use Rattle.av_base.proofs.Lists.{nothing_left}
 use Rattle.av_net.specs.Rows.{is_in}
-use Rattle.av_vread.specs.inner.Reading.{said_item, said_module}
+use Rattle.av_vparse.specs.Said.{said_item, said_module}
 use Rattle.av_vread.specs.inner.Scoped.{Bytes, texts, instances_named, own_names}
 use Rattle.av_vread.proofs.twice.top_names.Goals as goal
 

@@ -1,5 +1,5 @@
 use Rattle.std.proofs.Common.{◌≡◌, ◌++◌, drop, map}
-use Rattle.av_vread.specs.inner.Reading.{said_item, said_module}
+use Rattle.av_vparse.specs.Said.{said_item, said_module}
 use Rattle.av_vread.specs.inner.Scoped.{texts, instances_named, own_names}
 use Rattle.av_vread.proofs.twice.top_names.Given as goal
 

@@ -4,7 +4,7 @@ use Rattle.std.specs.List.{flat_map}
 use Rattle.std.proofs.lemmas.Result.{IfOk-weaker}
 use Rattle.av_net.specs.Names.{names_of}
 use Rattle.av_net.specs.Rows.{declared_names, declares, item_mentions, first_again, mentions_of}
-use Rattle.av_vread.specs.inner.Reading.{said_item, said_module}
+use Rattle.av_vparse.specs.Said.{said_item, said_module}
 use Rattle.av_vread.specs.inner.Scoped.{Bytes, texts}
 use Rattle.av_vread.specs.inner.Seen.{Stands, Tells, standing}
 use Rattle.av_vread.proofs.SeenMentions.{told_some, told_none, put_some, put_none, tells_some, tells_more, own_mentions, module_told, within_told}

@@ -1,6 +1,6 @@
 use Rattle.std.proofs.Common.{◌≡◌, [], ◌∷◌, ◌++◌, drop, map}
 use Rattle.av_net.specs.Rows.{modules_of, twice_from}
-use Rattle.av_vread.specs.inner.Reading.{said_module, said}
+use Rattle.av_vparse.specs.Said.{said_module, said}
 use Rattle.av_vread.proofs.twice.twice_name.Given as goal
 
 abbrev pub invariant-loop-kind : goal.invariant-loop-kind

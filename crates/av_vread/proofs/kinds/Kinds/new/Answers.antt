@@ -5,8 +5,8 @@ use Rattle.std.specs.Str.{bytes_eq}
 use Rattle.std.proofs.lemmas.List.{length-map, map_push}
 use Rattle.av_net.specs.declared.plan.CellKind.{CellKind}
 use Rattle.av_net.specs.Rows.{kind_from}
-use Rattle.av_vread.specs.declared.parsed.ModuleText.{ModuleText}
-use Rattle.av_vread.specs.inner.Reading.{said_module}
+use Rattle.av_vparse.specs.declared.parsed.ModuleText.{ModuleText}
+use Rattle.av_vparse.specs.Said.{said_module}
 use Rattle.av_vread.specs.inner.Numbered.{place_among, number_of}
 use Rattle.av_vread.proofs.Walks.{made_more}
 use Rattle.av_vread.proofs.KindTables.{more_places}
