@@ -1,7 +1,7 @@
 use Rattle.std.proofs.Common.{sym, ◌∙◌}
 use Rattle.av_net.specs.Rows.{is_in}
 use Rattle.av_vread.proofs.RowWalks.{early_more}
-use Rattle.av_vread.proofs.rows.first_early.Goals as goal
+use Rattle.av_vread.proofs.rows.early_among.Goals as goal
 
 pub loop-item-preserved : goal.loop-item-preserved
 loop-item-preserved c =

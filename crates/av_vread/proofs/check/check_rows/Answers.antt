@@ -6,7 +6,7 @@ use Rattle.av_vread.specs.declared.fault.VFault.TheVariants.{VTwice, VName, VUna
 use Rattle.av_vparse.specs.Said.{said}
 use Rattle.av_vread.specs.inner.Checked.{RowIs}
 use Rattle.av_vread.specs.Faults.{or_row}
-use Rattle.av_vread.proofs.check.check.Goals as goal
+use Rattle.av_vread.proofs.check.check_rows.Goals as goal
 
 -- a row that was found is found with later ones behind it
 row_kept : (row : List ℕ → VFault) (name : Option (List ℕ)) (later : Option VFault) (f : VFault) → RowIs f (or_row name row None) → RowIs f (or_row name row later)
@@ -14,8 +14,8 @@ row_kept row (Some n) later f h = h
 row_kept row None later Memory h = tt
 row_kept row None later f h = absurd cc
 
-pub returns-in_err-check_twice-clause-row : goal.returns-in_err-check_twice-clause-row
-returns-in_err-check_twice-clause-row c =
+pub returns-in_err-check_twice : goal.returns-in_err-check_twice
+returns-in_err-check_twice c =
     let p = err_from_is_err_and c.from_residual-in_err-check_twice.result c.from_residual-in_err-check_twice.ensures.1 in
     let x = said c.args.text.now in
     rw (p.1, p.2)
