@@ -282,15 +282,18 @@ module _ (bytes : List ℕ) where
       memory : (wanted : Design) → GivesDesign (Err Memory) wanted
       memory wanted = tt
 
+  fault_or_memory : (g : VFault) → Told (Err g) → (g ≡ Memory) ⊎ IsFault bytes g
+  fault_or_memory g a = elim a [
+    | inl m ↦ inl m
+    | inr v ↦ inr (said_err g v)
+  ]
+
   fault_by : (r : Result Design VFault) → Told r → (f : VFault) → r ≡ Err f → (f ≡ Memory) ⊎ IsFault bytes f
   fault_by (Ok design) a f e = absurd (no_err design f e)
     where
       no_err : (d : Design) (f : VFault) → ◌≡◌ {A = Result Design VFault} (Ok d) (Err f) → ⊥
       no_err d f e = cc
-  fault_by (Err g) a f e = subst (λ z. (z ≡ Memory) ⊎ IsFault bytes z) (err_is g f e) (elim a [
-    | inl m ↦ inl m
-    | inr v ↦ inr (said_err g v)
-  ])
+  fault_by (Err g) a f e = subst (λ z. (z ≡ Memory) ⊎ IsFault bytes z) (err_is g f e) (fault_or_memory g a)
     where
       err_is : (g f : VFault) → ◌≡◌ {A = Result Design VFault} (Err g) (Err f) → g ≡ f
       err_is g f e = cc
