@@ -18,4 +18,4 @@ pub mod BeginningTexts
 pub mod FrontRules
 pub mod FrontParts
 pub mod FrontTexts
-pub mod Parsed
+pub mod Answered

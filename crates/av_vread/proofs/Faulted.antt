@@ -12,7 +12,7 @@ use Rattle.av_net.specs.Designs.{Says, HasNoRow, Spells, IsSoundDesign}
 use Rattle.av_vparse.specs.declared.fault.ParseFault.{ParseFault}
 use Rattle.av_vparse.specs.declared.fault.ParseFault.TheVariants as parsing
 use Rattle.av_vparse.specs.Parsing.{IsFault as IsTextFault}
-use Rattle.av_vparse.proofs.Parsed.{one_said, said_or_faulty, said_apart, one_fault}
+use Rattle.av_vparse.proofs.Answered.{one_said, said_or_faulty, said_apart, one_fault}
 use Rattle.av_vread.specs.declared.fault.VFault.{VFault}
 use Rattle.av_vread.specs.declared.fault.VFault.TheVariants.{VByte, VSyntax, VListing, VTwice, VName, VUnassigned, VOrder, VWidth, Memory}
 use Rattle.av_vread.specs.inner.Listings.{Listed, no_lines, listing_at}

@@ -1,4 +1,4 @@
-use Rattle.av_vparse.proofs.Parsed.{one_said}
+use Rattle.av_vparse.proofs.Answered.{one_said}
 use Rattle.av_vparse.proofs.laws.at_most_one_text.Goals as goal
 
 pub returns : goal.returns

@@ -1,4 +1,4 @@
-use Rattle.av_vparse.proofs.Parsed.{said_or_faulty, said_apart, one_fault}
+use Rattle.av_vparse.proofs.Answered.{said_or_faulty, said_apart, one_fault}
 use Rattle.av_vparse.proofs.laws.text_or_fault.Goals as goal
 
 pub returns-clause-some : goal.returns-clause-some

@@ -1,4 +1,4 @@
-use Rattle.av_vparse.proofs.Parsed.{answered_found, answered_fault}
+use Rattle.av_vparse.proofs.Answered.{answered_found, answered_fault}
 use Rattle.av_vparse.proofs.parsing.parse.Goals as goal
 
 pub returns-clause-found : goal.returns-clause-found
