@@ -174,11 +174,7 @@ impl<'a> Seen<'a> {
     }
 
     // The first name that a module declares again.
-    fn declarations(
-        &mut self,
-        alloc: Global,
-        of: &'a ModuleText,
-    ) -> Result<Option<&'a str>, Memory>
+    fn declarations(&mut self, alloc: Global, of: &'a ModuleText) -> Result<Option<&'a str>, Memory>
         ensures { IfOk result (λ r. Tells Stands self.old self.new (map declares (own_declared (said_module of.now))) (option_map (λ name. name.now) r)) }
     {
         let names = scope::declared(alloc, of)?;
