@@ -16,7 +16,7 @@ row_kept row None later f h = absurd cc
 
 pub returns-in_err-check_twice : goal.returns-in_err-check_twice
 returns-in_err-check_twice c =
-    let p = err_from_is_err_and c.from_residual-in_err-check_twice.result c.from_residual-in_err-check_twice.ensures.1 in
+    let p = err_from_is_err_and c.from_residual.result c.from_residual.ensures.1 in
     let x = said c.args.text.now in
     rw (p.1, p.2)
     (row_kept VTwice (twice_name x) (or_row (wrong_name x) VName (or_row (undriven_name x) VUnassigned (or_row (early_name x) VOrder (or_row (unsuited_name x) VWidth None)))) c.in_err-check_twice.field-0.0 c.in_err-check_twice.ensures)
