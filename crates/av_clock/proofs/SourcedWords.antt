@@ -30,15 +30,14 @@ use Rattle.av_clock.specs.Named.{named}
 use Rattle.av_clock.specs.Seen.{Seen, carried}
 use Rattle.av_clock.specs.Marked.{IsClear, has_kept, reads_same, touched}
 use Rattle.av_clock.specs.inner.Engine.{IsWhole}
-use Rattle.av_clock.specs.inner.Marking.{KeepsWord}
-use Rattle.av_clock.specs.inner.Merged.{source_of, sourced, sourced_operation, merged_drive, merged_step, merged, AreMerged}
+use Rattle.av_clock.specs.Marking.{KeepsWord}
+use Rattle.av_clock.specs.Merged.{source_of, sourced, sourced_operation, merged_drive, merged_step, merged, AreMerged, resolved}
 use Rattle.av_clock.specs.inner.Sourced.{mark_of, marks_of, seen_of, IsEngine}
-use Rattle.av_clock.specs.inner.Sources.{resolved}
 use Rattle.av_clock.proofs.Held.{register_given}
 use Rattle.av_clock.proofs.Lookup.{look_at, contains_at}
 use Rattle.av_clock.proofs.Marking.{never}
 use Rattle.av_clock.proofs.MergedModules.{source_at, source_found, resolved_at, resolved_size, source_word, sourced_word, sourced_result, of_merged, merged_at, target_zero}
-use Rattle.av_clock.proofs.Reading.{name_at, one_place}
+use Rattle.av_clock.proofs.Readings.{name_at, one_place}
 use Rattle.av_clock.proofs.Resolved.{target_declared}
 use Rattle.av_clock.proofs.Touched.{each_kept, same_read}
 use Rattle.av_clock.proofs.Views.{port_at, input_at, set_port, set_others}

@@ -26,12 +26,12 @@ use Rattle.av_net.proofs.Declared.{declared_width, input_declared}
 use Rattle.av_net.proofs.Distinct.{apart, front_distinct}
 use Rattle.av_net.proofs.Settles.{with_word, with_word_same, with_word_other, names_distinct}
 use Rattle.av_clock.specs.Named.{named, AllFit}
-use Rattle.av_clock.specs.inner.Gates.{AreTaken, FitRegisters}
+use Rattle.av_clock.specs.Gates.{AreTaken, FitRegisters}
 use Rattle.av_clock.specs.Seen.{Seen, carried}
 use Rattle.av_clock.specs.Marked.{IsClear, AreHeld, touched}
 use Rattle.av_clock.specs.inner.Engine.{IsWhole}
-use Rattle.av_clock.specs.inner.Kept.{AreZero}
-use Rattle.av_clock.specs.inner.Marking.{ReadTheSame}
+use Rattle.av_clock.specs.Kept.{AreZero}
+use Rattle.av_clock.specs.Marking.{ReadTheSame}
 use Rattle.av_clock.proofs.Computing.{settled_zero, edge_zero}
 use Rattle.av_clock.proofs.Held.{given_apart}
 use Rattle.av_clock.proofs.Marking.{none_clear}
