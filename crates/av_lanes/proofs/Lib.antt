@@ -1,0 +1,4 @@
+pub mod Raised
+pub mod Vectors
+pub mod ByLane
+pub mod Alike
