@@ -127,7 +127,7 @@ own_place m sources place name sound are at own =
     let found = source_found m sources place name distinct are.size at (are.within place (slice_get_within (all_names m) place name at)) in
     one_place (all_names m) (get_or sources place 0) place name distinct (found ∙ ap Some own) at
 
-set_resolved : (m : Module) (sources words : List ℕ) (k value : ℕ) → IsSound m → AreMerged m sources → length words ≡ length (all_names m) → k < length m.inputs → resolved sources (set words k value) ≡ set (resolved sources words) k value
+pub set_resolved : (m : Module) (sources words : List ℕ) (k value : ℕ) → IsSound m → AreMerged m sources → length words ≡ length (all_names m) → k < length m.inputs → resolved sources (set words k value) ≡ set (resolved sources words) k value
 set_resolved m sources words k value sound are long lt = elim (slice_get_cases m.inputs k).1 [
   | inl (port, within, found, here) ↦
       let at : slice_get (all_names m) k ≡ Some port.name = port_at m k port found in

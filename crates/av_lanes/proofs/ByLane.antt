@@ -1,6 +1,6 @@
 -- Lists of vectors, lane by lane.
 use Rattle.std.proofs.Common.{◌≡◌, ℕ, zero, suc, ◌<◌, List, [], ◌∷◌, length, get_or, set, map, replicate, refl, sym, ◌∙◌, ap}
-use Rattle.std.proofs.lemmas.List.{length-map}
+use Rattle.std.proofs.lemmas.List.{length-map, get_or-map}
 use Rattle.av_clock.specs.Merged.{resolved}
 use Rattle.av_lanes.specs.Seen.{lane}
 use Rattle.av_lanes.specs.inner.Engine.{at_sources}
@@ -36,3 +36,7 @@ lane_sources k (source ∷ sources) words =
 pub lane_replicate : (k n : ℕ) (word : List ℕ) → lane k (replicate n word) ≡ replicate n (get_or word k 0)
 lane_replicate k zero word = refl
 lane_replicate k (suc n) word = ap (λ rest. get_or word k 0 ∷ rest) (lane_replicate k n word)
+
+-- the same, of a vector that was read with another default
+pub lane_in : (k : ℕ) (words : List (List ℕ)) (place : ℕ) (d : List ℕ) → place < length words → get_or (lane k words) place 0 ≡ get_or (get_or words place d) k 0
+lane_in k words place d lt = get_or-map (λ word. get_or word k 0) words place d 0 lt

@@ -1,4 +1,5 @@
 pub mod Raised
 pub mod Vectors
 pub mod ByLane
+pub mod Passes
 pub mod Alike
