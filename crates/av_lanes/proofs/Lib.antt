@@ -1,5 +1,6 @@
 pub mod Raised
 pub mod Vectors
 pub mod ByLane
-pub mod Passes
+pub mod LanePasses
+pub mod LaneStates
 pub mod Alike

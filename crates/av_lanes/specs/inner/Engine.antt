@@ -18,21 +18,21 @@ at_sources sources words = map (λ source. slice_index_or words source []) sourc
 abbrev pub seen : Inside → Seen
 seen c = record { of = c.of.now; words = at_sources c.sources.items c.words.items; settled = c.settled }
 
--- the words of one lane: one for each name, within its width, settled where the lanes say so, and where the lanes are not dense,
--- what is not marked holds
+-- the words of one lane: within their widths, settled where the lanes say so, and where the lanes are not dense, what is not marked holds
 pub record IsLane (m : Module) (words : List ℕ) (stale due : List Bool) (dense settled : Bool) : Type 0 where
-  pub size : length words ≡ length (all_names m)
   pub fit : AllFit m words
   pub settled_words : IsTrue settled → Settled m (named m words)
   pub zeros : AreZero m words
   pub held : dense ≡ false → AreHeld m words stale due
 
--- the circuit of the merged module, room for the next words and their steps, a mark for each drive and each step, and eight lanes
+-- the circuit of the merged module, a word for each name in each of eight lanes, room for the next words and their steps, and a mark
+-- for each drive and each step
 pub record IsKept (c : Inside) : Type 0 where
   pub sound : IsSound c.of.now
   pub sources : AreMerged c.of.now c.sources.items
   pub circuit : c.circuit ≡ merged c.of.now c.sources.items
   pub safe : IsSound c.circuit
+  pub size : length c.words.items ≡ length (all_names c.circuit)
   pub next : length c.next.items ≡ length c.circuit.steps
   pub taken : length c.taken.items ≡ length c.circuit.steps
   pub stale : length c.stale ≡ length c.circuit.drives

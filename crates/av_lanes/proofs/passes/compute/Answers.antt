@@ -4,7 +4,7 @@ use Rattle.av_clock.proofs.Marking.{set_within}
 use Rattle.av_clock.proofs.Settling.{is_for, assignment_takes, target_within}
 use Rattle.av_lanes.specs.Seen.{lane}
 use Rattle.av_lanes.proofs.ByLane.{lane_size}
-use Rattle.av_lanes.proofs.Passes.{lane_long}
+use Rattle.av_lanes.proofs.LanePasses.{lane_long}
 use Rattle.av_lanes.proofs.passes.compute.Goals as goal
 
 pub word_given-word-requires : goal.word_given-word-requires

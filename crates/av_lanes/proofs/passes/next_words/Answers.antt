@@ -3,7 +3,7 @@ use Rattle.std.proofs.lemmas.List.{get_or_default}
 use Rattle.av_clock.specs.Named.{named}
 use Rattle.av_clock.proofs.Edges.{no_flip_flop, is_for, taken_all}
 use Rattle.av_lanes.specs.Seen.{lane}
-use Rattle.av_lanes.proofs.Passes.{next_lane, read_within}
+use Rattle.av_lanes.proofs.LanePasses.{next_lane, read_within}
 use Rattle.av_lanes.proofs.passes.next_words.Goals as goal
 
 pub word_read-requires : goal.word_read-requires

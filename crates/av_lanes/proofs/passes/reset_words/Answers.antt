@@ -3,7 +3,7 @@ use Rattle.std.proofs.lemmas.List.{get_or_default}
 use Rattle.av_clock.specs.Named.{named}
 use Rattle.av_clock.proofs.Edges.{no_flip_flop, is_for, taken_all, taken_itself}
 use Rattle.av_lanes.specs.Seen.{lane}
-use Rattle.av_lanes.proofs.Passes.{reset_lane}
+use Rattle.av_lanes.proofs.LanePasses.{reset_lane}
 use Rattle.av_lanes.proofs.passes.reset_words.Goals as goal
 
 pub loop-i-preserved : goal.loop-i-preserved

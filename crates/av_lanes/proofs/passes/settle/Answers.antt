@@ -4,7 +4,7 @@ use Rattle.av_clock.proofs.Resolved.{at_item}
 use Rattle.av_clock.proofs.Settling.{assignment_takes, target_within}
 use Rattle.av_lanes.specs.Seen.{lane}
 use Rattle.av_lanes.proofs.ByLane.{lane_size}
-use Rattle.av_lanes.proofs.Passes.{lane_long, computes_lane}
+use Rattle.av_lanes.proofs.LanePasses.{lane_long, computes_lane}
 use Rattle.av_lanes.proofs.passes.settle.Goals as goal
 
 pub word_given-requires : goal.word_given-requires

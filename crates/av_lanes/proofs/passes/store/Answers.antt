@@ -2,7 +2,7 @@ use Rattle.std.proofs.Common.{◌≡◌, ◌<◌, ◌≤◌, ◌∙◌, true, fa
 use Rattle.std.proofs.lemmas.List.{get_or_default}
 use Rattle.av_clock.proofs.Edges.{no_flip_flop, is_for, stores_none, ports_kept, registers_stored}
 use Rattle.av_lanes.specs.Seen.{lane}
-use Rattle.av_lanes.proofs.Passes.{stores_lane, written_within}
+use Rattle.av_lanes.proofs.LanePasses.{stores_lane, written_within}
 use Rattle.av_lanes.proofs.passes.store.Goals as goal
 
 pub bounds-words-flip_flop : goal.bounds-words-flip_flop

@@ -3,7 +3,7 @@ use Rattle.av_clock.proofs.Edges.{is_for, register_within}
 use Rattle.av_clock.proofs.Taking.{gives_none, all_given}
 use Rattle.av_lanes.specs.Seen.{lane}
 use Rattle.av_lanes.proofs.ByLane.{lane_size}
-use Rattle.av_lanes.proofs.Passes.{lane_long, gives_lane, written_within}
+use Rattle.av_lanes.proofs.LanePasses.{lane_long, gives_lane, written_within}
 use Rattle.av_lanes.proofs.passes.store_taken.Goals as goal
 
 pub write-requires-clause-place : goal.write-requires-clause-place

@@ -4,7 +4,7 @@ use Rattle.av_clock.proofs.Edges.{is_for, next_within}
 use Rattle.av_clock.proofs.Taking.{takes_none, all_taken}
 use Rattle.av_lanes.specs.Seen.{lane}
 use Rattle.av_lanes.proofs.ByLane.{lane_size}
-use Rattle.av_lanes.proofs.Passes.{lane_long, takes_lane, read_within}
+use Rattle.av_lanes.proofs.LanePasses.{lane_long, takes_lane, read_within}
 use Rattle.av_lanes.proofs.passes.take_due.Goals as goal
 
 pub word_read-requires : goal.word_read-requires

@@ -3,7 +3,7 @@ use Rattle.av_clock.specs.Marking.{ReadTheSame}
 use Rattle.av_clock.proofs.Held.{written_read, written_same, same_read}
 use Rattle.av_lanes.specs.Seen.{lane}
 use Rattle.av_lanes.proofs.ByLane.{lane_set, lane_in}
-use Rattle.av_lanes.proofs.Passes.{lane_long, lane_within}
+use Rattle.av_lanes.proofs.LanePasses.{lane_long, lane_within}
 use Rattle.av_lanes.proofs.passes.write.Goals as goal
 
 pub returns-then-differ-clause-words : goal.returns-then-differ-clause-words
