@@ -56,7 +56,7 @@ impl<'a> Model for Engine<'a> {
 }
 
 impl<'a> Engine<'a> {
-    /// Eight lanes of a sound module, with all words 0 and not settled.
+    /// Eight lanes of a sound module, not settled. All words are 0 in each lane.
     pub(crate) fn new(alloc: Global, of: &'a Module) -> Result<Engine<'a>, Memory>
         requires { IsSound of.now }
         ensures of { IfOk result (λ lanes. lanes.of ≡ of.now) }

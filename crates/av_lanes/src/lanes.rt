@@ -28,7 +28,7 @@ impl<'a> Model for Lanes<'a> {
 }
 
 impl<'a> Lanes<'a> {
-    /// Eight lanes of a sound module, with all words 0 and not settled.
+    /// Eight lanes of a sound module, not settled. All words are 0 in each lane, as those of a new clock are.
     pub fn new(alloc: Global, of: &'a Module) -> Result<Lanes<'a>, Memory>
         requires { IsSound of.now }
         ensures of { IfOk result (λ lanes. lanes.of ≡ of.now) }
