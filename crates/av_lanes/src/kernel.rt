@@ -84,16 +84,14 @@ fn either(left: u64x8, right: u64x8) -> u64x8
 fn are_equal(left: u64x8, right: u64x8) -> u64x8
     ensures { (k : ℕ) → k < 8 → slice_index result k ≡ bit (slice_index left k == slice_index right k) }
 {
-    left.simd_eq(right)
-        .select(u64x8::splat(1), u64x8::splat(0))
+    left.simd_eq(right).select(u64x8::splat(1), u64x8::splat(0))
 }
 
 #[inline(always)]
 fn are_unequal(left: u64x8, right: u64x8) -> u64x8
     ensures { (k : ℕ) → k < 8 → slice_index result k ≡ bit (not (slice_index left k == slice_index right k)) }
 {
-    left.simd_ne(right)
-        .select(u64x8::splat(1), u64x8::splat(0))
+    left.simd_ne(right).select(u64x8::splat(1), u64x8::splat(0))
 }
 
 // Numbers below 2^63 in order: their difference has its highest bit where the first is less.
@@ -110,8 +108,7 @@ fn small_are_less(left: u64x8, right: u64x8) -> u64x8
 fn any_are_less(left: u64x8, right: u64x8) -> u64x8
     ensures { (k : ℕ) → k < 8 → slice_index result k ≡ bit (nat_lt (slice_index left k) (slice_index right k)) }
 {
-    left.simd_lt(right)
-        .select(u64x8::splat(1), u64x8::splat(0))
+    left.simd_lt(right).select(u64x8::splat(1), u64x8::splat(0))
 }
 
 #[inline(always)]

@@ -219,7 +219,8 @@ fn lanes_of_random_modules_follow_clocks(rt: HostRuntime) -> Result<(), Fail> {
 }
 
 // A counter moves four registers of a chain of twelve at most, so that the lanes are clocked by marks.
-const CHAIN: &str = "module chain(input clk, input rst, input [7:0] i0, output [7:0] o0, output [7:0] o1);
+const CHAIN: &str =
+    "module chain(input clk, input rst, input [7:0] i0, output [7:0] o0, output [7:0] o1);
   wire [7:0] more;
   wire [0:0] now;
   wire [7:0] taken;
