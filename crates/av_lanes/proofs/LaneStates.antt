@@ -1,5 +1,5 @@
 -- From the fields of an engine of lanes to what is seen of it.
-use Rattle.std.proofs.Common.{◌≡◌, ◌≢◌, ℕ, ◌<◌, List, [], length, get_or, set, map, replicate, slice_get, Option, Some, None, refl, sym, ◌∙◌, ap, subst, arith, inl, inr, Bool, true, false, Vec}
+use Rattle.std.proofs.Common.{◌≡◌, ◌≢◌, ℕ, ◌<◌, List, [], ◌++◌, length, length-append, get_or, set, map, replicate, slice_get, Option, Some, None, refl, sym, ◌∙◌, ap, subst, arith, inl, inr, Bool, true, false, Vec}
 use Rattle.std.specs.Prelude.{All, Contains, IfSome, IsTrue}
 use Rattle.std.specs.Option.{ForSome}
 use Rattle.std.specs.declared.alloc.Global.{Global}
@@ -13,7 +13,7 @@ use Rattle.av_net.specs.declared.netlist.Drive.{Drive}
 use Rattle.av_net.specs.declared.netlist.Step.{Step}
 use Rattle.av_net.specs.declared.netlist.Module.{Module}
 use Rattle.av_net.specs.Meaning.{Words}
-use Rattle.av_net.specs.Names.{names_of, given_names, all_names, registers_of, width_of}
+use Rattle.av_net.specs.Names.{names_of, given_names, wire_names, all_names, registers_of, width_of}
 use Rattle.av_net.specs.Settled.{Settled, Agree}
 use Rattle.av_net.specs.Clocked.{Edge}
 use Rattle.av_net.specs.Sound.{IsSound}
@@ -160,6 +160,17 @@ seen_long s m net sources ws b view are k =
 pub port_within : (s : Seen) (m net : Module) (sources : List ℕ) (ws : List (List ℕ)) (b : Bool) (port : ℕ) → record { of = m; words = at_sources sources ws; settled = b } ≡ s → net ≡ merged m sources → port < length s.of.inputs → port < length net.inputs
 port_within s m net sources ws b port view same lt =
     subst (λ (n : Module). port < length n.inputs) (sym same) (subst (λ (t : Seen). port < length t.of.inputs) (sym view) lt)
+
+-- and has its place among the words that a call is lent
+pub port_place : (m : Module) (v : Vec (List ℕ) Global) (before : List (List ℕ)) (port : ℕ) → before ≡ v.items → length v.items ≡ length (all_names m) → port < length m.inputs → port < length before
+port_place m v before port is long lt =
+    let inputs = names_of m.inputs in
+    let registers = names_of m.registers in
+    let count : length inputs ≡ length m.inputs = length-map m.inputs (λ (p : Port). p.name) in
+    let lt' : port < length (inputs ++ registers) = omega (arith, length-append inputs registers) in
+    let lt'' : port < length (all_names m) = omega (arith, length-append (inputs ++ registers) (wire_names m)) in
+    let lent : length before ≡ length v.items = ap length is in
+    omega arith
 
 -- and each value fits it
 pub value_fits : (s : Seen) (m net : Module) (sources : List ℕ) (ws : List (List ℕ)) (b : Bool) (port : ℕ) (values : List ℕ) → record { of = m; words = at_sources sources ws; settled = b } ≡ s → net ≡ merged m sources → length values ≡ 8

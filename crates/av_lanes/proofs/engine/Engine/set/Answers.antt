@@ -4,11 +4,13 @@ use Rattle.av_clock.specs.Marking.{ReadTheSame}
 use Rattle.av_lanes.specs.Seen.{Seen, lane}
 use Rattle.av_lanes.specs.inner.Engine.{at_sources}
 use Rattle.av_lanes.proofs.LanePasses.{lane_long}
-use Rattle.av_lanes.proofs.LaneStates.{size_after, after_call, port_within, value_fits, lane_set_words, set_port_lanes, set_others_lanes, seen_long, kept_set}
+use Rattle.av_lanes.proofs.LaneStates.{size_after, after_call, port_within, port_place, value_fits, lane_set_words, set_port_lanes, set_others_lanes, seen_long, kept_set}
 use Rattle.av_lanes.proofs.engine.Engine.set.Goals as goal
 
 pub present-requires-clause-place : goal.present-requires-clause-place
-present-requires-clause-place c = ?
+present-requires-clause-place c =
+    port_place c.self.inside.circuit c.self.inside.words _ c.args.port c.deref_mut.ensures.value c.self.invariant.size
+    (port_within c.args.self.now c.self.inside.of.now c.self.inside.circuit c.self.inside.sources.items c.self.inside.words.items c.self.inside.settled c.args.port c.self.view_is c.self.invariant.circuit c.requires.port)
 
 pub returns-clause-of : goal.returns-clause-of
 returns-clause-of c = ap (λ (s : Seen). s.of) c.self.view_is
