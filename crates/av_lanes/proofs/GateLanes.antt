@@ -1,9 +1,14 @@
 -- What a gate gives in one lane.
-use Rattle.std.proofs.Common.{◌≡◌, ℕ, List, get_or, sym, ◌∙◌, ap, subst}
+use Rattle.std.proofs.Common.{◌≡◌, ℕ, List, length, get_or, sym, ◌∙◌, ap, subst}
 use Rattle.av_base.specs.Words.{IsWord}
 use Rattle.av_clock.specs.declared.gate.Reading.{Reading}
-use Rattle.av_clock.specs.Gates.{reading_word, Takes}
+use Rattle.av_clock.specs.Gates.{reading_word, IsWithin, Takes}
 use Rattle.av_lanes.specs.Seen.{lane}
+use Rattle.av_lanes.proofs.ByLane.{lane_size}
+
+-- a place of one lane is one of the vectors
+pub vector_within : (k : ℕ) (words : List (List ℕ)) (reading : Reading) → IsWithin (length (lane k words)) reading → IsWithin (length words) reading
+vector_within k words reading h = subst (λ (size : ℕ). IsWithin size reading) (lane_size k words) h
 
 -- what a reading brings is a word of the width that its gate takes
 pub takes_word : (k : ℕ) (words : List (List ℕ)) (bits : ℕ) (reading : Reading) (word : List ℕ) → get_or word k 0 ≡ reading_word (lane k words) reading → Takes (lane k words) bits reading → IsWord bits (get_or word k 0)
