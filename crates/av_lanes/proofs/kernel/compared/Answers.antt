@@ -1,4 +1,5 @@
-use Rattle.std.proofs.Common.{◌≡◌, ◌<◌, ◌^◌, ◌-◌, ◌%◌, ◌+◌, ◌∙◌, ℕ, List, Bool, false, refl, ap, ap₂, get_or, subst, sym, not, nat_lt, nat_le, mod_below, pow_pos}
+use Rattle.std.proofs.Common.{◌≡◌, ◌<◌, ◌^◌, ◌-◌, ◌%◌, ◌+◌, ◌∙◌, ℕ, List, Bool, false, refl, ap, ap₂, get_or, subst, sym, not, nat_lt, nat_le, pow_pos}
+use Rattle.std.proofs.lemmas.Nat.{mod_below}
 use Rattle.av_base.specs.Words.{sum}
 use Rattle.av_net.specs.declared.operation.Symbol.{Symbol}
 use Rattle.av_net.specs.declared.operation.Symbol.TheVariants.{Add, Sub, Mul, And, Or, Equal, Unequal, Less, LessEqual, Greater, GreaterEqual}
