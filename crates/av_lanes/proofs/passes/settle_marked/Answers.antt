@@ -62,6 +62,7 @@ loop-drive-smaller c =
 
 pub overflow_add-computed : goal.overflow_add-computed
 overflow_add-computed c =
-    let within : c.loop-drive.drive < length c.args.circuit.now.drives = search rules in
     let few = (c.loop-drive.invariant 0 (omega arith)).most in
-    ?
+    let within = c.loop-drive-test.true in
+    let whole = c.drives.type_inv in
+    omega (arith, few, within, whole)
