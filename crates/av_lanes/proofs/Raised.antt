@@ -1,9 +1,9 @@
 -- The order of two's complement, told by whole numbers that are moved up by half of the range.
-use Rattle.std.proofs.Common.{◌≡◌, ℕ, ◌+◌, ◌-◌, ◌*◌, ◌%◌, ◌^◌, ◌<◌, ◌≤◌, ℤ, pos, ◌-ℤ◌, Bool, true, false, not, cond, refl, sym, ◌∙◌, ap, subst, arith, inl, inr, pow-add}
+use Rattle.std.proofs.Common.{◌≡◌, ℕ, ◌+◌, ◌-◌, ◌*◌, ◌%◌, ◌^◌, ◌<◌, ◌≤◌, pos, ◌-ℤ◌, not, sym, ◌∙◌, ap, subst, arith, inl, inr, pow-add}
 use Rattle.std.specs.Prelude.{nat_lt, nat_le, int_lt, if◌then◌else◌}
 use Rattle.std.proofs.Math.Nat.{mod-eq_of_lt, mod-eq-sub-mod}
 use Rattle.std.proofs.lemmas.Bool.{cases_lt}
-use Rattle.av_base.specs.Words.{signed, is_less, sum}
+use Rattle.av_base.specs.Words.{is_less, sum}
 
 -- a number below half is moved up by it
 low : (h a : ℕ) → a < h → (a + h) % (2 * h) ≡ a + h

@@ -1,4 +1,4 @@
-use Rattle.std.proofs.Common.{◌≡◌, ◌<◌, ◌≤◌, ◌^◌, ◌∙◌, ℕ, List, ap, arith, get_or, pow_mono}
+use Rattle.std.proofs.Common.{◌<◌, ◌≤◌, ◌^◌, ◌∙◌, ℕ, List, ap, arith, get_or, pow_mono}
 use Rattle.av_lanes.proofs.kernel.are_less.Goals.{then-width-lt64, else-width-lt64}
 use Rattle.av_lanes.proofs.kernel.are_less.Goals as goal
 

@@ -1,4 +1,4 @@
-use Rattle.std.proofs.Common.{◌≡◌, ◌<◌, ◌^◌, ◌-◌, ◌%◌, ◌+◌, ◌∙◌, ℕ, List, Bool, false, refl, ap, ap₂, get_or, subst, sym, not, nat_lt, nat_le, pow_pos}
+use Rattle.std.proofs.Common.{◌≡◌, ◌<◌, ◌^◌, ◌-◌, ◌+◌, ◌∙◌, ℕ, List, false, refl, ap, ap₂, get_or, subst, sym, nat_lt, nat_le, pow_pos}
 use Rattle.std.proofs.lemmas.Nat.{mod_below}
 use Rattle.av_base.specs.Words.{sum}
 use Rattle.av_net.specs.declared.operation.Symbol.{Symbol}

@@ -1,4 +1,4 @@
-use Rattle.std.proofs.Common.{◌≡◌, ◌<◌, ◌/◌, ◌-◌, ◌*◌, ◌^◌, ℕ, get_or, replicate, ◌∙◌, ap, subst, sym}
+use Rattle.std.proofs.Common.{◌<◌, ◌/◌, ◌-◌, ◌^◌, ℕ, get_or, replicate, ◌∙◌, ap, subst, sym}
 use Rattle.std.proofs.lemmas.Simd.{get_or-replicate}
 use Rattle.av_net.specs.Meaning.{chosen}
 use Rattle.av_lanes.proofs.Vectors.{down_lane, extended_lane, highest_small}

@@ -1,4 +1,4 @@
-use Rattle.std.proofs.Common.{◌<◌, ◌∙◌, length, arith}
+use Rattle.std.proofs.Common.{◌∙◌, arith}
 use Rattle.av_clock.proofs.Computing.{IsOne, each_one, computes_none, have_settled}
 use Rattle.av_clock.proofs.Resolved.{at_item}
 use Rattle.av_clock.proofs.Settling.{assignment_takes, target_within}

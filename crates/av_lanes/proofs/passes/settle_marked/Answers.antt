@@ -1,4 +1,4 @@
-use Rattle.std.proofs.Common.{◌≡◌, ◌<◌, ◌≤◌, ◌∙◌, sym, length, arith, rules}
+use Rattle.std.proofs.Common.{◌<◌, ◌≤◌, ◌∙◌, sym, length, arith, rules}
 use Rattle.av_lanes.specs.Seen.{lane}
 use Rattle.av_lanes.proofs.LanePasses.{marked_none, marked_more, marked_all}
 use Rattle.av_lanes.proofs.passes.settle_marked.Goals as goal

@@ -1,10 +1,9 @@
-use Rattle.std.proofs.Common.{slice_index, ◌<◌, ◌∙◌, length, get_or, arith, sym}
+use Rattle.std.proofs.Common.{slice_index, ◌<◌, ◌∙◌, length, get_or, arith}
 use Rattle.std.proofs.lemmas.List.{get_or_default}
 use Rattle.av_clock.proofs.Edges.{no_flip_flop, is_for}
 use Rattle.av_clock.proofs.Taking.{gives_none, all_given}
 use Rattle.av_lanes.specs.Seen.{lane}
-use Rattle.av_lanes.proofs.ByLane.{lane_size}
-use Rattle.av_lanes.proofs.LanePasses.{lane_long, gives_lane, written_within}
+use Rattle.av_lanes.proofs.LanePasses.{gives_lane, written_within}
 use Rattle.av_lanes.proofs.passes.store_taken.Goals as goal
 
 pub write-requires-clause-place : goal.write-requires-clause-place

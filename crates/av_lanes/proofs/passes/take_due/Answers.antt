@@ -1,11 +1,11 @@
-use Rattle.std.proofs.Common.{◌≡◌, ◌<◌, ◌≤◌, ◌∙◌, false, length, get_or, sym, arith}
+use Rattle.std.proofs.Common.{◌≡◌, ◌<◌, ◌≤◌, ◌∙◌, false, length, get_or, arith}
 use Rattle.std.proofs.Math.ListN.{length-set}
 use Rattle.std.proofs.lemmas.List.{get_or_default}
 use Rattle.av_clock.proofs.Edges.{no_flip_flop, is_for}
 use Rattle.av_clock.proofs.Taking.{takes_none, all_taken}
 use Rattle.av_lanes.specs.Seen.{lane}
 use Rattle.av_lanes.proofs.ByLane.{lane_size}
-use Rattle.av_lanes.proofs.LanePasses.{lane_long, takes_lane, read_within}
+use Rattle.av_lanes.proofs.LanePasses.{takes_lane, read_within}
 use Rattle.av_lanes.proofs.passes.take_due.Goals as goal
 
 pub word_read-requires : goal.word_read-requires

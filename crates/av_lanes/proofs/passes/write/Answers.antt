@@ -1,4 +1,4 @@
-use Rattle.std.proofs.Common.{◌≡◌, List, ℕ, sym, subst, ◌∙◌}
+use Rattle.std.proofs.Common.{sym, subst, ◌∙◌}
 use Rattle.av_clock.specs.Marking.{ReadTheSame}
 use Rattle.av_clock.proofs.Held.{written_read, written_same, same_read}
 use Rattle.av_lanes.specs.Seen.{lane}

@@ -1,4 +1,4 @@
-use Rattle.std.proofs.Common.{◌≡◌, List, ℕ, length, ◌∙◌, ap, sym, subst, rules, replicate, false, true}
+use Rattle.std.proofs.Common.{◌≡◌, length, ◌∙◌, ap, sym, subst, rules, replicate, false}
 use Rattle.std.proofs.lemmas.List.{length-replicate}
 use Rattle.std.proofs.lemmas.List.Elements.{same_from_all_zip}
 use Rattle.std.proofs.lemmas.Simd.{get_or-replicate}

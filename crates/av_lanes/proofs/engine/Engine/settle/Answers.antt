@@ -1,15 +1,12 @@
-use Rattle.std.proofs.Common.{◌≡◌, ℕ, List, ap, sym, refl, ◌∙◌, true, false}
-use Rattle.std.specs.Prelude.{Contains}
+use Rattle.std.proofs.Common.{ap, ◌∙◌, false}
 use Rattle.std.specs.Vec.{with_items}
-use Rattle.av_net.specs.Names.{all_names, given_names, names_of, registers_of}
+use Rattle.av_net.specs.Names.{given_names}
 use Rattle.av_net.specs.Settled.{Settled, Agree}
-use Rattle.av_net.specs.Clocked.{Edge}
-use Rattle.av_clock.specs.Kept.{AreZero}
 use Rattle.av_clock.specs.Marked.{AreHeld}
 use Rattle.av_clock.specs.Named.{named, AllFit}
 use Rattle.av_lanes.specs.Seen.{Seen, lane}
 use Rattle.av_lanes.proofs.LanePasses.{lane_long}
-use Rattle.av_lanes.proofs.LaneStates.{size_after, after_call, before_call, lane_settled, lane_given, lane_ports, lane_edge, kept_settled, kept_edge}
+use Rattle.av_lanes.proofs.LaneStates.{size_after, after_call, before_call, lane_settled, lane_given, kept_settled}
 use Rattle.av_lanes.proofs.engine.Engine.settle.Goals as goal
 
 pub settle_marked-computed-requires-clause-fit : goal.settle_marked-computed-requires-clause-fit
