@@ -1,4 +1,4 @@
-ghost use Rattle.std.specs.Prelude.{◌≡◌, ◌≢◌, ◌<◌, ℕ, List as Items, length, false, replicate, IfOk, IfSome, IsTrue, All, slice_get, slice_set, slice_index, slice_index_or};
+ghost use Rattle.std.specs.Prelude.{◌≡◌, ◌≢◌, ◌<◌, ℕ, List as Items, length, true, false, replicate, IfOk, IfSome, IsTrue, All, slice_get, slice_set, slice_index, slice_index_or};
 ghost use Rattle.std.specs.Option.{ForSome};
 ghost use Rattle.av_base.specs.Words.{IsWord};
 ghost use Rattle.av_net.specs.Names.{all_names, given_names, names_of, width_of};
