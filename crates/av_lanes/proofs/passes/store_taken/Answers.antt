@@ -9,11 +9,11 @@ use Rattle.av_lanes.proofs.passes.store_taken.Goals as goal
 pub write-requires-clause-place : goal.write-requires-clause-place
 write-requires-clause-place c =
     let m = c.args.circuit.now in
-    let n = c.flip_flops.ensures.count in
+    let n = c.flip_flops-flip_flops.ensures.count in
     let at = c.requires.within c.loop-i.i c.loop-i-test.true in
-    let here : slice_index c.args.taken.now c.loop-i.i < length c.flip_flops.result.now = omega (arith, at, n) in
-    written_within m c.loop-i.words (slice_index c.args.taken.now c.loop-i.i) (get_or c.flip_flops.result.now (slice_index c.args.taken.now c.loop-i.i) no_flip_flop) (c.loop-i.auto.words ∙ c.requires.size)
-    (is_for m (slice_index c.args.taken.now c.loop-i.i) c.flip_flops.result.now (get_or c.flip_flops.result.now (slice_index c.args.taken.now c.loop-i.i) no_flip_flop) c.flip_flops.ensures here (get_or_default c.flip_flops.result.now (slice_index c.args.taken.now c.loop-i.i) no_flip_flop (get_or c.flip_flops.result.now (slice_index c.args.taken.now c.loop-i.i) no_flip_flop) here))
+    let here : slice_index c.args.taken.now c.loop-i.i < length c.flip_flops-flip_flops.result.now = omega (arith, at, n) in
+    written_within m c.loop-i.words (slice_index c.args.taken.now c.loop-i.i) (get_or c.flip_flops-flip_flops.result.now (slice_index c.args.taken.now c.loop-i.i) no_flip_flop) (c.loop-i.auto.words ∙ c.requires.size)
+    (is_for m (slice_index c.args.taken.now c.loop-i.i) c.flip_flops-flip_flops.result.now (get_or c.flip_flops-flip_flops.result.now (slice_index c.args.taken.now c.loop-i.i) no_flip_flop) c.flip_flops-flip_flops.ensures here (get_or_default c.flip_flops-flip_flops.result.now (slice_index c.args.taken.now c.loop-i.i) no_flip_flop (get_or c.flip_flops-flip_flops.result.now (slice_index c.args.taken.now c.loop-i.i) no_flip_flop) here))
 
 pub loop-i-init : goal.loop-i-init
 loop-i-init c k lt = gives_none c.args.circuit.now (lane k c.args.words.now) c.args.stale.now c.args.due.now c.args.taken.now (lane k c.args.next.now) c.args.count (c.requires.fit k lt)
@@ -21,11 +21,11 @@ loop-i-init c k lt = gives_none c.args.circuit.now (lane k c.args.words.now) c.a
 pub loop-i-preserved : goal.loop-i-preserved
 loop-i-preserved c k lt =
     let m = c.args.circuit.now in
-    let n = c.flip_flops.ensures.count in
+    let n = c.flip_flops-flip_flops.ensures.count in
     let at = c.requires.within c.loop-i.i c.loop-i-test.true in
-    let here : slice_index c.args.taken.now c.loop-i.i < length c.flip_flops.result.now = omega (arith, at, n) in
-    let for = is_for m (slice_index c.args.taken.now c.loop-i.i) c.flip_flops.result.now (get_or c.flip_flops.result.now (slice_index c.args.taken.now c.loop-i.i) no_flip_flop) c.flip_flops.ensures here (get_or_default c.flip_flops.result.now (slice_index c.args.taken.now c.loop-i.i) no_flip_flop (get_or c.flip_flops.result.now (slice_index c.args.taken.now c.loop-i.i) no_flip_flop) here) in
-    gives_lane k m c.args.words.now c.loop-i.words c.write.new.words c.args.stale.now c.loop-i.stale c.write.new.stale c.args.due.now c.loop-i.due c.write.new.due c.args.taken.now c.args.next.now c.args.count c.loop-i.i _ (get_or c.flip_flops.result.now (slice_index c.args.taken.now c.loop-i.i) no_flip_flop)
+    let here : slice_index c.args.taken.now c.loop-i.i < length c.flip_flops-flip_flops.result.now = omega (arith, at, n) in
+    let for = is_for m (slice_index c.args.taken.now c.loop-i.i) c.flip_flops-flip_flops.result.now (get_or c.flip_flops-flip_flops.result.now (slice_index c.args.taken.now c.loop-i.i) no_flip_flop) c.flip_flops-flip_flops.ensures here (get_or_default c.flip_flops-flip_flops.result.now (slice_index c.args.taken.now c.loop-i.i) no_flip_flop (get_or c.flip_flops-flip_flops.result.now (slice_index c.args.taken.now c.loop-i.i) no_flip_flop) here) in
+    gives_lane k m c.args.words.now c.loop-i.words c.write.new.words c.args.stale.now c.loop-i.stale c.write.new.stale c.args.due.now c.loop-i.due c.write.new.due c.args.taken.now c.args.next.now c.args.count c.loop-i.i _ (get_or c.flip_flops-flip_flops.result.now (slice_index c.args.taken.now c.loop-i.i) no_flip_flop)
     c.requires.sound (c.loop-i.auto.words ∙ c.requires.size) c.loop-i-test.true c.requires.next for (c.requires.fitting k lt) (c.write.ensures.words k lt) (c.write.ensures.same k lt) c.write.ensures.stale c.write.ensures.due (c.loop-i.invariant k lt)
 
 pub returns-clause-registers : goal.returns-clause-registers
