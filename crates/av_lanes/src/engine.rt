@@ -88,7 +88,7 @@ impl<'a> Engine<'a> {
     }
 
     /// Presents a value in each lane at an input port, by its place in the module's `inputs`.
-    pub(crate) fn set(&mut self, port: u32, values: [u64; 8])
+    pub(crate) fn set(&mut self, port: u32, values: u64x8)
         requires port { port < length self.old.of.inputs }
         requires fits { ForSome (slice_get self.old.of.inputs port) (λ p. All (IsWord p.width.bits) values) }
         ensures of { self.new.of ≡ self.old.of }
@@ -102,7 +102,7 @@ impl<'a> Engine<'a> {
             &self.circuit,
             self.dense,
             port as usize,
-            u64x8::from_array(values),
+            values,
             &mut self.words,
             &mut self.stale,
             &mut self.due,

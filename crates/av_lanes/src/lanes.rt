@@ -12,6 +12,7 @@ use av_base::Memory;
 use av_net::Module;
 use std::alloc::Global;
 use std::marker::Model;
+use std::simd::u64x8;
 
 /// A module that is clocked eight times at once, each time in a lane of its own.
 #[derive(Drop)]
@@ -50,7 +51,7 @@ impl<'a> Lanes<'a> {
         ensures others { IfSome (slice_get self.old.of.inputs port) (λ p. (k : ℕ) → k < 8 → (name : Items ℕ) → name ≢ p.name
             → carried k self.new name ≡ carried k self.old name) }
     {
-        self.engine.set(port, values);
+        self.engine.set(port, u64x8::from_array(values));
     }
 
     /// Makes every wire and output in each lane the value of its `assign`. What no operand of changed in any lane is not computed again,
