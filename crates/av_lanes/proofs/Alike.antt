@@ -1,5 +1,5 @@
 -- A lane and a clock that are alike stay so under the same calls.
-use Rattle.std.proofs.Common.{◌≡◌, ◌≢◌, ◌⊎◌, ℕ, List, [], true, false, Bool, get_or, Some, refl, sym, ◌∙◌, ap, inl, inr}
+use Rattle.std.proofs.Common.{◌≡◌, ◌≢◌, ◌⊎◌, ℕ, List, true, false, Bool, get_or, Some, refl, sym, ◌∙◌, ap, inl, inr}
 use Rattle.std.specs.Prelude.{All, IsTrue}
 use Rattle.std.specs.Str.{bytes_eq}
 use Rattle.std.proofs.lemmas.List.Elements.{All-append, All-map, All-contains, Contains-append_left}

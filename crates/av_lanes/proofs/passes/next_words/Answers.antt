@@ -1,4 +1,4 @@
-use Rattle.std.proofs.Common.{◌∙◌, true, false, get_or, arith}
+use Rattle.std.proofs.Common.{◌∙◌, false, get_or, arith}
 use Rattle.std.proofs.lemmas.List.{get_or_default}
 use Rattle.av_clock.specs.Named.{named}
 use Rattle.av_clock.proofs.Edges.{no_flip_flop, is_for, taken_all}

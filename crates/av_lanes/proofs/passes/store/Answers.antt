@@ -1,4 +1,4 @@
-use Rattle.std.proofs.Common.{◌<◌, ◌∙◌, true, false, length, get_or, arith}
+use Rattle.std.proofs.Common.{◌<◌, ◌∙◌, length, get_or, arith}
 use Rattle.std.proofs.lemmas.List.{get_or_default}
 use Rattle.av_clock.proofs.Edges.{no_flip_flop, is_for, stores_none, ports_kept, registers_stored}
 use Rattle.av_lanes.specs.Seen.{lane}

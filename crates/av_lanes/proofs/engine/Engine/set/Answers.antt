@@ -1,4 +1,4 @@
-use Rattle.std.proofs.Common.{◌≡◌, get_or, set, ap, sym, ◌∙◌, arith, rules}
+use Rattle.std.proofs.Common.{◌≡◌, get_or, set, ap, sym, ◌∙◌}
 use Rattle.std.specs.Vec.{with_items}
 use Rattle.av_clock.specs.Marking.{ReadTheSame}
 use Rattle.av_lanes.specs.Seen.{Seen, lane}

@@ -1,4 +1,4 @@
-use Rattle.std.proofs.Common.{ap, ◌∙◌, false}
+use Rattle.std.proofs.Common.{ap, ◌∙◌}
 use Rattle.std.specs.Vec.{with_items}
 use Rattle.av_net.specs.Names.{given_names}
 use Rattle.av_net.specs.Settled.{Settled, Agree}
