@@ -16,7 +16,7 @@ use std::process::Abort;
 use std::test::Fail;
 
 /// What a text compiles to, in words of 8 bits.
-fn compiled(alloc: Global, text: &str) -> Result<Compiled, Fail>
+pub(crate) fn compiled(alloc: Global, text: &str) -> Result<Compiled, Fail>
     ensures { IfOk result (λ found. IsSoundPlan found.plan) }
 {
     let width = Width::new(8).ok_or("a width")?;

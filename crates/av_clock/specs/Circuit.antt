@@ -3,10 +3,10 @@ use Rattle.std.specs.Prelude.{◌≡◌, length, filter}
 use Rattle.av_net.specs.declared.netlist.Module.{Module}
 use Rattle.av_net.specs.Sound.{IsSound}
 use Rattle.av_clock.specs.declared.circuit.Circuit.TheInside.{Inside}
-use Rattle.av_clock.specs.inner.Gates.{AreAssigned, AreStepped}
-use Rattle.av_clock.specs.inner.Kept.{computes}
-use Rattle.av_clock.specs.inner.Merged.{merged}
-use Rattle.av_clock.specs.inner.Readers.{HaveDrives, HaveSteps}
+use Rattle.av_clock.specs.Gates.{AreAssigned, AreStepped}
+use Rattle.av_clock.specs.Kept.{computes}
+use Rattle.av_clock.specs.Merged.{merged}
+use Rattle.av_clock.specs.Readers.{HaveDrives, HaveSteps}
 
 -- the merged module
 abbrev pub net : Inside → Module

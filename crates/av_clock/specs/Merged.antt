@@ -1,6 +1,6 @@
 -- A module in which what gives the same word is computed once: operands are read at sources, and the drive of a name that is not its own source
 -- gives 0.
-use Rattle.std.specs.Prelude.{◌≡◌, ◌⊎◌, ℕ, ◌<◌, ◌≤◌, List, [], ◌∷◌, ◌++◌, map, length, take, slice_index, slice_index_or, if◌then◌else◌, Contains}
+use Rattle.std.specs.Prelude.{◌≡◌, ℕ, ◌<◌, ◌≤◌, List, [], ◌∷◌, ◌++◌, map, length, take, slice_index, slice_index_or, if◌then◌else◌, Contains}
 use Rattle.std.specs.Str.{bytes_eq}
 use Rattle.av_net.specs.declared.operation.Operand.{Operand}
 use Rattle.av_net.specs.declared.operation.Operand.TheVariants.{Name, Literal}
@@ -14,13 +14,9 @@ use Rattle.av_net.specs.Meaning.{result_of}
 use Rattle.av_net.specs.Names.{names_of, given_names, all_names, targets_of, declarations, width_of}
 use Rattle.av_net.specs.Settled.{Holds}
 use Rattle.av_net.specs.Sound.{IsSound}
-use Rattle.av_clock.specs.declared.gate.Reading.TheVariants.{At}
-use Rattle.av_clock.specs.declared.gate.Gate.TheVariants.{Buffer}
-use Rattle.av_clock.specs.declared.gate.Assignment.{Assignment}
 use Rattle.av_clock.specs.declared.merged.Merged.{Merged}
 use Rattle.av_clock.specs.Named.{named, looked_up}
-use Rattle.av_clock.specs.inner.Gates.{AreAssigned, AreStepped}
-use Rattle.av_clock.specs.inner.Keys.{key_of}
+use Rattle.av_clock.specs.Gates.{AreAssigned, AreStepped}
 
 -- the name at the source of a name's place
 abbrev pub source_of : Module → List ℕ → List ℕ → List ℕ
@@ -56,6 +52,10 @@ merged_step m sources step = record { register = step.register; reset = step.res
 abbrev pub merged : Module → List ℕ → Module
 merged m sources = record m { drives = map (merged_drive m sources) m.drives; steps = map (merged_step m sources) m.steps }
 
+-- the words of all places, each read at its source
+abbrev pub resolved : List ℕ → List ℕ → List ℕ
+resolved sources words = map (λ source. slice_index words source) sources
+
 -- what is known before a drive
 abbrev pub known_before : Module → ℕ → List (List ℕ)
 known_before m k = given_names m ++ targets_of (take k m.drives)
@@ -86,17 +86,3 @@ pub record IsMerging (m : Module) (c : Merged) : Type 0 where
   pub safe : IsSound (merged m c.sources.items)
   pub assignments : AreAssigned (merged m c.sources.items) (length (merged m c.sources.items).drives) c.assignments.items
   pub flip_flops : AreStepped (merged m c.sources.items) (length (merged m c.sources.items).steps) c.flip_flops.items
-
--- ---- the choice of a source
-
--- one of the first assignments has this target, and the same key
-pub record IsEqual (assignments : List Assignment) (assignment : Assignment) (source : ℕ) : Type 0 where
-  pub first : ℕ
-  pub within : first < length assignments
-  pub target : source ≡ (slice_index_or assignments first assignment).target
-  pub key : key_of (slice_index_or assignments first assignment) ≡ key_of assignment
-
--- an assignment's own target, the place that it copies, unless that is an input port, or the target of an assignment with its key
-abbrev pub IsSource : ℕ → List Assignment → Assignment → ℕ → Type 0
-IsSource inputs assignments assignment source =
-    (source ≡ assignment.target) ⊎ (((assignment.gate ≡ Buffer (At source)) × (inputs ≤ source)) ⊎ IsEqual assignments assignment source)
