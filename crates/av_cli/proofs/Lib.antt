@@ -17,6 +17,8 @@ pub mod SetsRead
 pub mod StreamSets
 pub mod StreamAnswers
 pub mod Tabling
+pub mod OneSet
+pub mod EightAnswers
 pub mod Emitting
 pub mod Fed
 pub mod Watched

@@ -133,8 +133,8 @@ fn names_output(flat: &Flat, name: &Name) -> bool
     false
 }
 
-// Writes the words of the lines that list points of outputs.
-fn write_results<K: Sink>(
+/// Writes the words of the lines that list points of outputs.
+pub(crate) fn write_results<K: Sink>(
     flat: &Flat,
     lines: &[Entry],
     words: &[Word],
