@@ -21,6 +21,8 @@ pub mod OneSet
 pub mod LanesPresented
 pub mod LanesWatched
 pub mod LanesFed
+pub mod SetTexts
+pub mod SetOutputs
 pub mod EightAnswers
 pub mod Emitting
 pub mod Fed
