@@ -148,6 +148,7 @@ fn write_set_line<K: Sink>(number: u128, sink: &mut K) -> Result<(), WriteFault>
     ensures added { OnOk result (Adds (K.state sink.old).held (K.state sink.new).held (set_line number)) }
     ensures fault { IsErr result → HasRisen (K.state sink.old).faults (K.state sink.new).faults }
     ensures front { OnErr result (AddsPrefix (K.state sink.old).held (K.state sink.new).held (set_line number)) }
+    ensures later { (K.state sink.old).faults ≤ (K.state sink.new).faults }
 {
     let mut page = Page::new();
     page.put(sink, "set ");

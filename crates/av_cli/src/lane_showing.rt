@@ -1,19 +1,17 @@
 //! What a design shows of several sets of words, each of which is clocked in a lane of its own.
 
-ghost use Rattle.std.specs.Prelude.{◌≡◌, ◌<◌, ◌≤◌, ◌+◌, ℕ, List as Items, length, drop, replicate, slice_get, slice_index, Some, IsTrue, All, Contains, IfOk};
-ghost use Rattle.av_net.specs.Clocked.{Stream as Ports, Run as Clocked, IsRun};
+ghost use Rattle.std.specs.Prelude.{◌≡◌, ◌<◌, ◌≤◌, ◌+◌, ℕ, length, drop, replicate, slice_get, slice_index, Some, IsTrue, All, Contains, IfOk};
 ghost use Rattle.av_net.specs.Designs.{IsSoundDesign};
 ghost use Rattle.av_net.specs.Names.{names_of, wire_names};
 ghost use Rattle.av_net.specs.Presented.{AreApart, HaveFittingWords};
 ghost use Rattle.av_net.specs.Settled.{Agree};
 ghost use Rattle.av_net.specs.Sound.{IsSound};
 ghost use Rattle.av_lanes.specs.Seen.{lane, carried};
-ghost use Rattle.av_wave.specs.Simulated.{IsStimulated, given_word};
 ghost use Rattle.av_wave.specs.Clocking.{word_next, rest_next, AreLeft};
 ghost use Rattle.av_cli.specs.Shown.{AreShown};
 ghost use Rattle.av_cli.specs.inner.Feeding.{AreOfLines};
-ghost use Rattle.av_cli.specs.inner.LaneClocking.{AreInLanes, AreLeftInLanes};
-ghost use Rattle.av_cli.specs.inner.Watching.{bits_of, AreTaps, noted, watched};
+ghost use Rattle.av_cli.specs.inner.LaneClocking.{AreInLanes, AreLeftInLanes, ArePresentedInLanes};
+ghost use Rattle.av_cli.specs.inner.Watching.{bits_of, AreTaps, noted};
 
 use crate::showing::{Data, cycles_of, feed, taps};
 use av_base::{List, Memory, Word};
@@ -39,14 +37,9 @@ pub(crate) fn shown_in_lanes<D: Data>(
         → AreShown design.now (D.words x) (bits_of words)) }
 {
     let lines = design.listing.ats.as_slice();
-    let stimuli = feed_sets(alloc, design, sets, cycles_of(lines))?;
-    let rows = watch_lanes(
-        alloc,
-        &design.module,
-        stimuli.as_slice(),
-        cycles_of(lines),
-        lines,
-    )?;
+    let cycles = cycles_of(lines);
+    let stimuli = feed_sets(alloc, design, sets, cycles)?;
+    let rows = watch_lanes(alloc, &design.module, stimuli.as_slice(), cycles, lines)?;
     columns(alloc, rows.as_slice(), sets.len())
 }
 
@@ -173,12 +166,11 @@ fn present_in_lanes(
     requires sound { IsSound lanes.old.of }
     requires count { inputs ≡ length lanes.old.of.inputs }
     requires few { length stimuli.now ≤ 8 }
-    requires left { AreLeftInLanes lanes.old.of.inputs stimuli.now cycle next.old }
+    requires left { AreLeftInLanes lanes.old.of.inputs stimuli.now cycle 0 next.old }
     ensures of { lanes.new.of ≡ lanes.old.of }
-    ensures ports { (k : ℕ) (s : _) → slice_get stimuli.now k ≡ Some s → (i : ℕ) (port : _) → slice_get lanes.new.of.inputs i ≡ Some port
-        → carried k lanes.new port.name ≡ given_word s.values cycle i }
+    ensures ports { ArePresentedInLanes lanes.new.of stimuli.now cycle inputs lanes.new }
     ensures registers { (k : ℕ) → k < 8 → Agree (names_of lanes.new.of.registers) (carried k lanes.old) (carried k lanes.new) }
-    ensures left { AreLeftInLanes lanes.new.of.inputs stimuli.now (cycle + 1) next.new }
+    ensures left { AreLeftInLanes lanes.new.of.inputs stimuli.now (cycle + 1) 0 next.new }
 {
     for port in 0..inputs {
         let words = words_next(stimuli, next, cycle, port);
