@@ -5,7 +5,7 @@ use Rattle.std.proofs.lemmas.Option.{slice_get_within}
 use Rattle.std.proofs.lemmas.List.{map-append}
 use Rattle.std.proofs.lemmas.List.Elements.{All-nil, All-push}
 use Rattle.av_base.specs.declared.word.Word.{Word}
-use Rattle.av_base.proofs.Lists.{some_is, there_is, get_cases, take_whole}
+use Rattle.av_base.proofs.Lists.{some_is, there_is, get_cases, next_taken}
 use Rattle.av_net.specs.declared.design.Design.{Design}
 use Rattle.av_net.specs.declared.design.Entry.{Entry}
 use Rattle.av_net.specs.Shown.{Values}
@@ -74,6 +74,14 @@ columns_more rows n columns columns' words so is are = subst (AreColumns rows (n
         let here : n ≡ k = (let m = so.many in let at = last.1 in omega (arith, m, at, first)) in
         let one : words ≡ other = some_is words other (sym (ap (slice_get (words ∷ [])) first) ∙ last.2) in
         sym (ap bits_of one) ∙ is ∙ ap (λ n. lane n rows) here
+
+-- the words of a lane in one row more
+pub column_more : (k : ℕ) (rows : List (List ℕ)) (n : ℕ) (words words' : List Word) (bits : ℕ) (row : List ℕ) → n < length rows → row ≡ get_or rows n row → bits ≡ slice_index row k → bits_of words ≡ lane k (take n rows)
+    → words' ≡ words ++ record { bits = bits } ∷ [] → bits_of words' ≡ lane k (take (n + 1) rows)
+column_more k rows n words words' bits row lt is value so are =
+    let last : Word = record { bits = bits } in
+    ap bits_of are ∙ map-append (λ (w : Word). w.bits) words (last ∷ []) ∙ ap (λ (z : List ℕ). z ++ bits ∷ []) so ∙ ap (λ (b : ℕ). lane k (take n rows) ++ b ∷ []) value
+    ∙ sym (ap (lane k) (next_taken rows n row lt is) ∙ map-append (λ (r : List ℕ). slice_index r k) (take n rows) (row ∷ []))
 
 -- ---- what is shown
 

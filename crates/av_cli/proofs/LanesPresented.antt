@@ -1,12 +1,13 @@
 -- What is presented to a module in each lane.
-use Rattle.std.proofs.Common.{◌≡◌, ◌≢◌, ℕ, ◌+◌, ◌<◌, ◌≤◌, List, length, get_or, drop, Option, Some, slice_get, sym, ap, ◌∙◌, subst, refl, arith, inl, inr, one-le-pow}
-use Rattle.std.specs.Prelude.{slice_index, All, IfSome}
+use Rattle.std.proofs.Common.{◌≡◌, ◌≢◌, ℕ, zero, suc, ◌+◌, ◌<◌, ◌≤◌, List, length, get_or, drop, replicate, Option, Some, slice_get, sym, ap, ◌∙◌, subst, refl, arith, inl, inr}
+use Rattle.std.specs.Prelude.{slice_index, slice_set, All, IfSome}
 use Rattle.std.specs.Option.{ForSome}
+use Rattle.std.proofs.Math.Nat.{one-le-pow}
 use Rattle.std.proofs.lemmas.Bool.{cases_lt}
-use Rattle.std.proofs.lemmas.List.{length-map}
+use Rattle.std.proofs.lemmas.List.{length-map, length-set, get_or-set_same, get_or-set_other}
 use Rattle.std.proofs.lemmas.Option.{slice_get_within, get_or_from_slice_get}
 use Rattle.av_base.specs.Words.{IsWord}
-use Rattle.av_base.proofs.Lists.{there_is, same_default, get_mapped}
+use Rattle.av_base.proofs.Lists.{some_is, there_is, same_default, get_mapped}
 use Rattle.av_net.specs.declared.netlist.Port.{Port}
 use Rattle.av_net.specs.declared.netlist.Module.{Module}
 use Rattle.av_net.specs.Meaning.{Words}
@@ -31,6 +32,65 @@ pub record AreRead (stimuli : List Stimulus) (cycle port : ℕ) (start : List �
   pub within : (k : ℕ) (s : Stimulus) → k < n → slice_get stimuli k ≡ Some s → slice_index next k ≤ length s.values
   pub same : (k : ℕ) → n ≤ k → slice_index next k ≡ slice_index start k
   pub zero : (k : ℕ) → n ≤ k → slice_index words k ≡ 0
+  pub room : length next ≡ 8
+  pub space : length words ≡ 8
+
+pub zero_at : (n k : ℕ) → ◌≡◌ {A = ℕ} (get_or (replicate n 0) k 0) 0
+zero_at zero zero = refl
+zero_at zero (suc k) = refl
+zero_at (suc n) zero = refl
+zero_at (suc n) (suc k) = zero_at n k
+
+pub none_read : (stimuli : List Stimulus) (cycle port : ℕ) (start : List ℕ) → length start ≡ 8 → AreRead stimuli cycle port start 0 start (replicate 8 0)
+none_read stimuli cycle port start room = record {
+  word = λ k s lt at. absurd (omega (arith, lt));
+  rest = λ k s lt at. absurd (omega (arith, lt));
+  within = λ k s lt at. absurd (omega (arith, lt));
+  same = λ k le. refl;
+  zero = λ k le. zero_at 8 k;
+  room = room;
+  space = refl;
+}
+
+-- one stimulus more
+module _ (stimuli : List Stimulus) (cycle port : ℕ) (start : List ℕ) (n : ℕ) (next words : List ℕ) (word rest : ℕ) (s : Stimulus) (so : AreRead stimuli cycle port start n next words) (there : slice_get stimuli n ≡ Some s)
+    (word_is : word ≡ word_next (drop (slice_index next n) s.values) cycle port) (rest_is : drop rest s.values ≡ rest_next (drop (slice_index next n) s.values) cycle port) (inside : rest ≤ length s.values)
+    (few : n < 8) where
+  -- what holds of the stimuli before it, and of it, holds of all so far
+  for_more : (P : ℕ → Stimulus → Type 0) → ((k : ℕ) (t : Stimulus) → k < n → slice_get stimuli k ≡ Some t → P k t) → P n s → (k : ℕ) (t : Stimulus) → k < n + 1 → slice_get stimuli k ≡ Some t → P k t
+  for_more P before here k t lt at = elim (cases_lt k n) [
+    | inl less ↦ before k t less at
+    | inr ge ↦
+        let same : n ≡ k = omega (arith, ge, lt) in
+        let one : s ≡ t = some_is s t (sym there ∙ ap (slice_get stimuli) same ∙ at) in
+        subst (λ (j : ℕ). P j t) same (subst (P n) one here)
+  ]
+
+  differs : (k : ℕ) → k < n → k ≢ n
+  differs k lt same = omega (arith, lt, same)
+
+  reaches : n < length next
+  reaches = (let room = so.room in omega (arith, few, room))
+
+  has_room : n < length words
+  has_room = (let space = so.space in omega (arith, few, space))
+
+  pub read_more : AreRead stimuli cycle port start (n + 1) (slice_set next n rest) (slice_set words n word)
+  read_more = record {
+    word = for_more (λ k t. slice_index (slice_set words n word) k ≡ word_next (drop (slice_index start k) t.values) cycle port)
+        (λ k t lt at. get_or-set_other words n k word 0 (differs k lt) ∙ so.word k t lt at)
+        (get_or-set_same words n word 0 has_room ∙ word_is ∙ ap (λ i. word_next (drop i s.values) cycle port) (so.same n (omega arith)));
+    rest = for_more (λ k t. drop (slice_index (slice_set next n rest) k) t.values ≡ rest_next (drop (slice_index start k) t.values) cycle port)
+        (λ k t lt at. ap (λ i. drop i t.values) (get_or-set_other next n k rest 0 (differs k lt)) ∙ so.rest k t lt at)
+        (ap (λ i. drop i s.values) (get_or-set_same next n rest 0 reaches) ∙ rest_is ∙ ap (λ i. rest_next (drop i s.values) cycle port) (so.same n (omega arith)));
+    within = for_more (λ k t. slice_index (slice_set next n rest) k ≤ length t.values)
+        (λ k t lt at. subst (λ i. i ≤ length t.values) (sym (get_or-set_other next n k rest 0 (differs k lt))) (so.within k t lt at))
+        (subst (λ i. i ≤ length s.values) (sym (get_or-set_same next n rest 0 reaches)) inside);
+    same = λ k le. get_or-set_other next n k rest 0 (λ e. omega (arith, le, e)) ∙ so.same k (omega (arith, le));
+    zero = λ k le. get_or-set_other words n k word 0 (λ e. omega (arith, le, e)) ∙ so.zero k (omega (arith, le));
+    room = length-set next n rest ∙ so.room;
+    space = length-set words n word ∙ so.space;
+  }
 
 -- ---- one port
 

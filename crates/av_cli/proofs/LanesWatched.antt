@@ -21,6 +21,7 @@ use Rattle.av_wave.specs.Clocking.{AreLeft}
 use Rattle.av_wave.proofs.Cycling.{ForRuns, presented, settled_cycle, reset_registers, tick_registers}
 use Rattle.av_cli.specs.inner.LaneClocking.{AreLeftInLanes, ArePresentedInLanes}
 use Rattle.av_cli.specs.inner.Watching.{AreTaps, noted, watched}
+use Rattle.av_cli.proofs.LanesPresented.{zero_at}
 use Rattle.av_cli.proofs.Watched.{tap_word, mixed, mixed_noted, mixed_passed, agree_on, watched_more}
 
 -- ---- one cycle
@@ -66,12 +67,6 @@ pub record AreWatching (m : Module) (stimuli : List Stimulus) (lines : List Entr
   pub left : AreLeftInLanes m.inputs stimuli c 0 next
   pub long : length rows ≡ length lines
   pub watched_so : (k : ℕ) (s : Stimulus) → slice_get stimuli k ≡ Some s → ForRuns m s (λ run. lane k rows ≡ watched run.in_cycle c lines)
-
-zero_at : (n k : ℕ) → get_or (replicate n 0) k 0 ≡ 0
-zero_at zero zero = refl
-zero_at zero (suc k) = refl
-zero_at (suc n) zero = refl
-zero_at (suc n) (suc k) = zero_at n k
 
 -- nothing is watched before the first cycle
 zeros_watched : (in_cycle : ℕ → Words) (lines : List Entry) → replicate (length lines) 0 ≡ watched in_cycle 0 lines
