@@ -1,5 +1,5 @@
 -- How the answers of `run8` follow from what its steps did.
-use Rattle.std.proofs.Common.{◌≡◌, ◌≢◌, ℕ, ◌<◌, ◌≤◌, List, All, length, map, refl, sym, ap, subst, ◌∙◌, arith, inl, inr, Some, slice_get}
+use Rattle.std.proofs.Common.{◌≡◌, ◌≢◌, ℕ, ◌<◌, ◌≤◌, List, All, length, map, refl, sym, subst, ◌∙◌, arith, inl, inr, Some, slice_get}
 use Rattle.std.specs.Prelude.{codes}
 use Rattle.std.proofs.lemmas.Option.{slice_get_within}
 use Rattle.av_base.specs.Outside.{SinkState}

@@ -1,17 +1,16 @@
 -- What is fed for each of several sets of words, and what is shown of each.
-use Rattle.std.proofs.Common.{◌≡◌, ℕ, ◌+◌, ◌<◌, ◌≤◌, List, [], ◌∷◌, ◌++◌, length, take, get_or, map, Some, slice_get, refl, sym, ap, ◌∙◌, subst, arith, inl, inr, length-append}
+use Rattle.std.proofs.Common.{◌≡◌, ℕ, ◌+◌, ◌<◌, List, [], ◌∷◌, ◌++◌, length, take, get_or, Some, slice_get, refl, sym, ap, ◌∙◌, subst, arith, inl, inr, length-append}
 use Rattle.std.specs.Prelude.{◌⊎◌, slice_index, All}
 use Rattle.std.proofs.lemmas.Option.{slice_get_within}
 use Rattle.std.proofs.lemmas.List.{map-append}
 use Rattle.std.proofs.lemmas.List.Elements.{All-nil, All-push}
 use Rattle.av_base.specs.declared.word.Word.{Word}
-use Rattle.av_base.proofs.Lists.{some_is, there_is, get_cases, next_taken}
+use Rattle.av_base.proofs.Lists.{some_is, get_cases, next_taken}
 use Rattle.av_net.specs.declared.design.Design.{Design}
 use Rattle.av_net.specs.declared.design.Entry.{Entry}
 use Rattle.av_net.specs.Shown.{Values}
 use Rattle.av_net.specs.Sound.{IsSound}
 use Rattle.av_lanes.specs.Seen.{lane}
-use Rattle.av_lanes.proofs.ByLane.{lane_size}
 use Rattle.av_data.specs.declared.stimulus.Stimulus.{Stimulus}
 use Rattle.av_cli.specs.Shown.{AreShown}
 use Rattle.av_cli.specs.inner.Feeding.{AreOfLines}

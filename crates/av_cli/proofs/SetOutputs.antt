@@ -1,11 +1,11 @@
 -- What it comes to when the results of several sets are put into a sink.
-use Rattle.std.proofs.Common.{◌≡◌, ℕ, ◌<◌, List, Some, slice_get, length, map, refl, sym, ap, ◌∙◌, subst, arith, inl, inr}
+use Rattle.std.proofs.Common.{◌≡◌, ℕ, List, Some, slice_get, length, map, refl, sym, ap, ◌∙◌, subst, arith, inl, inr}
 use Rattle.std.specs.Prelude.{All}
 use Rattle.std.proofs.lemmas.Option.{slice_get_within}
 use Rattle.std.proofs.lemmas.List.{length-map}
 use Rattle.av_base.specs.declared.word.Word.{Word}
 use Rattle.av_base.specs.Outside.{SinkState, Adds, AddsPrefix, HasRisen}
-use Rattle.av_base.proofs.Lists.{some_is, there_is, get_mapped}
+use Rattle.av_base.proofs.Lists.{there_is}
 use Rattle.av_flat.specs.declared.timed.Timed.{Timed}
 use Rattle.av_flat.specs.Trees.{view_system}
 use Rattle.av_tree.specs.Values.{Assignment}

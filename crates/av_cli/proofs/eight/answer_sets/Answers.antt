@@ -16,8 +16,8 @@ returns-in-Err g c =
     let made = c.args.compiled.now in
     set_refused made.timed c.args.sets.now c.in-Err.fault (GivesEightOf made.timed made.design c.args.sets.now) c.in-Err.ensures.fault c.put_data_refusal.ensures.memory c.put_data_refusal.ensures.refused
 
-pub returns : goal.returns
-returns g c =
+pub returns-in-Ok : goal.returns-in-Ok
+returns-in-Ok g c =
     let made = c.args.compiled.now in
     let S = g.K.Sink.state in
     sets_answered made.timed made.design c.args.sets.now c.in-Ok.inputs c.in-Ok.ensures.spelled c.in-Ok.ensures.words

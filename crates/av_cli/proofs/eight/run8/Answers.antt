@@ -1,13 +1,15 @@
-use Rattle.std.proofs.Common.{◌≡◌, refl, sym, ap, subst, List, All, length, arith}
+use Rattle.std.proofs.Common.{ℕ, ◌+◌, ◌<◌, refl, sym, subst, List, All, length, arith}
 use Rattle.av_names.specs.declared.size.Size.{Size}
 use Rattle.av_net.specs.declared.design.Design.{Design}
 use Rattle.av_data.specs.declared.sets.DataSet.{DataSet}
 use Rattle.av_compile.specs.Headline.{Headline}
 use Rattle.av_compile.specs.Mapped.{IsMapped, IsUnmapped}
-use Rattle.av_cli.specs.Eights.{no_mark}
+use Rattle.av_cli.specs.declared.status.Status.TheVariants.{Refused}
+use Rattle.av_cli.specs.Refusals.{refusal_line}
+use Rattle.av_cli.specs.Eights.{no_mark, sets_reason}
 use Rattle.av_cli.specs.inner.Eighting.{GivesEightWith, RefusesBadSet, GivesEightOf}
 use Rattle.av_cli.specs.inner.Reported.{IsClockable}
-use Rattle.av_cli.specs.inner.Written.{IsAnswered, refused}
+use Rattle.av_cli.specs.inner.Written.{IsPut, IsAnswered, refused}
 use Rattle.av_cli.proofs.EightAnswers.{many_refused, eight_refused, eight_given}
 use Rattle.av_cli.proofs.Reporting.{clockable}
 use Rattle.av_cli.proofs.eight.run8.Goals as goal
@@ -20,7 +22,7 @@ answer_sets-requires-clause-clockable g c =
 
 pub answer_sets-requires-clause-lines : goal.answer_sets-requires-clause-lines
 answer_sets-requires-clause-lines g c =
-    subst (λ (xs : List DataSet). All (λ (set : DataSet). set.first_line + length set.bytes.now < 4294967295) xs) (sym c.as_slice-2.ensures) c.in-Ok-data_sets.ensures.within
+    subst (λ (xs : List DataSet). All (λ (set : DataSet). set.first_line + length set.bytes.now < 4294967295) xs) (sym c.as_slice-in-Ok-compile.ensures) c.in-Ok-data_sets.ensures.within
 
 pub returns-in_default : goal.returns-in_default
 returns-in_default g c = refused (record { sizes = c.in-Ok.sizes; give = c.in-Ok.ensures.given; refuses = no_mark c.in_default.ensures.none refl }) c.put.ensures
@@ -29,8 +31,10 @@ pub returns-then-len-gt-MOST_SETS : goal.returns-then-len-gt-MOST_SETS
 returns-then-len-gt-MOST_SETS g c =
     let bits = c.args.width.bits in
     let box = c.args.reach.size in
+    let S = g.K.Sink.state in
     many_refused (GivesEightWith c.args.words.now bits box c.args.bytes.now) c.args.words.now c.in-Ok.sizes bits box c.in-Some.parts.text.now c.in-Some.parts.rest.now c.args.bytes.now c.in-Some.parts.first_line c.in-Ok-data_sets.sets
-    c.in-Some.ensures.some c.in-Ok.ensures.given c.in-Ok-data_sets.ensures.sets (omega arith) c.put_sets_refusal.ensures
+    c.in-Some.ensures.some c.in-Ok.ensures.given c.in-Ok-data_sets.ensures.sets (omega arith)
+    (subst (λ (n : ℕ). IsPut (S c.args.sink.now) (S c.put_sets_refusal.new.sink) (refusal_line (sets_reason n)) Refused c.put_sets_refusal.result) c.len-then-len-gt-MOST_SETS.ensures.count c.put_sets_refusal.ensures)
 
 pub returns-in-Err-compile : goal.returns-in-Err-compile
 returns-in-Err-compile g c =
@@ -53,4 +57,4 @@ returns g c =
     (subst (λ (xs : List Size). Headline text xs bits box made.timed made.cells made.plan) c.as_slice.ensures c.in-Ok-compile.ensures.headline)
     (subst (λ (xs : List Size). IsMapped text xs bits box made.timed made.cells) c.as_slice.ensures c.in-Ok-compile.ensures.mapped)
     made.design c.in-Ok-compile.ensures.design c.in-Some.parts.rest.now c.args.bytes.now c.in-Some.parts.first_line c.in-Ok-data_sets.sets c.in-Some.ensures.some c.in-Ok-data_sets.ensures.sets (omega arith) c.args.words.now c.in-Ok.ensures.given
-    (subst (λ (xs : List DataSet). IsAnswered (RefusesBadSet made.timed xs) (GivesEightOf made.timed made.design xs) (S c.args.sink.now) (S c.answer_sets.new.sink) c.answer_sets.result) c.as_slice-2.ensures c.answer_sets.ensures)
+    (subst (λ (xs : List DataSet). IsAnswered (RefusesBadSet made.timed xs) (GivesEightOf made.timed made.design xs) (S c.args.sink.now) (S c.answer_sets.new.sink) c.answer_sets.result) c.as_slice-in-Ok-compile.ensures c.answer_sets.ensures)

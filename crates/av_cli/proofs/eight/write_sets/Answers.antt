@@ -1,12 +1,11 @@
-use Rattle.std.proofs.Common.{◌≡◌, ◌<◌, ◌≤◌, ◌+◌, ◌∙◌, ℕ, List, Some, slice_get, length, map, take, sym, ap, subst, arith}
+use Rattle.std.proofs.Common.{◌≡◌, ◌∙◌, ℕ, List, length, map, ap, subst, arith}
 use Rattle.std.proofs.lemmas.List.{length-map}
 use Rattle.av_base.specs.declared.word.Word.{Word}
 use Rattle.av_base.specs.Outside.{Adds, AddsPrefix}
 use Rattle.av_base.proofs.Lists.{all_at, get_mapped, take_whole}
 use Rattle.av_base.proofs.Moves.{on_err}
-use Rattle.av_net.specs.declared.design.Entry.{Entry}
 use Rattle.av_flat.specs.Trees.{view_system}
-use Rattle.av_cli.specs.Eights.{set_line, set_lines}
+use Rattle.av_cli.specs.Eights.{set_lines}
 use Rattle.av_cli.specs.Runs.{results}
 use Rattle.av_cli.specs.inner.Eighting.{result_texts}
 use Rattle.av_cli.specs.inner.Reported.{names_output}
@@ -51,8 +50,7 @@ loop-k-preserved g c =
     let columns = c.args.columns.now in
     let k = c.loop-k.k in
     let words = c.index-columns-k.result in
-    let text : List Word → List ℕ = λ (ws : List Word). results (λ line. names_output (view_system c.args.flat.now) line.variable) c.args.lines.now (bits_of ws) in
-    (
+    let text : List Word → List ℕ = λ (ws : List Word). results (λ line. names_output (view_system c.args.flat.now) line.variable) c.args.lines.now (bits_of ws) in (
       set_told k (map text columns) (text words) (get_mapped text columns k words (at_index columns k words c.loop-k-test.true c.index-columns-k.is)) (S c.args.sink.now).held (S c.loop-k.sink).held c.loop-k.invariant.0
           (S c.write_set_line.new.sink).held (S c.write_results.new.sink).held c.in_ok-write_set_line.ensures.added
           (subst (λ (ws : List Word). Adds (S c.write_set_line.new.sink).held (S c.write_results.new.sink).held (text ws)) c.as_slice.ensures c.in_ok-write_results.ensures.added),

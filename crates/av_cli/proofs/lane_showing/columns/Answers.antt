@@ -1,5 +1,4 @@
-use Rattle.std.proofs.Common.{◌≡◌, ℕ, List, length, sym, subst, arith}
-use Rattle.av_base.specs.declared.word.Word.{Word}
+use Rattle.std.proofs.Common.{sym, subst, arith}
 use Rattle.av_cli.proofs.LanesFed.{AreColumns, no_columns, columns_more}
 use Rattle.av_cli.proofs.lane_showing.columns.Goals as goal
 

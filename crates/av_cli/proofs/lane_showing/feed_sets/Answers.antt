@@ -1,4 +1,4 @@
-use Rattle.std.proofs.Common.{◌≡◌, ℕ, Some, length, map, slice_get, sym, subst, arith}
+use Rattle.std.proofs.Common.{map, sym, subst, arith}
 use Rattle.av_base.proofs.Lists.{all_at, get_mapped}
 use Rattle.av_net.specs.Presented.{HaveFittingWords}
 use Rattle.av_cli.proofs.Fed.{at_index}

@@ -1,4 +1,4 @@
-use Rattle.std.proofs.Common.{List, All, sym, subst}
+use Rattle.std.proofs.Common.{All, sym, subst}
 use Rattle.av_net.specs.declared.netlist.Module.{Module}
 use Rattle.av_net.specs.Clocked.{IsRun}
 use Rattle.av_data.specs.declared.stimulus.Stimulus.{Stimulus}
