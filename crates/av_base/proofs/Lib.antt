@@ -14,5 +14,6 @@ pub mod Pieces
 pub mod Turns
 pub mod Readings
 pub mod Symbols
+pub mod LowBytes
 pub mod Widths
 pub mod Digits

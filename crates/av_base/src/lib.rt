@@ -33,8 +33,8 @@ pub use point::Point;
 pub use sink::{Sink, WriteFault, write_all};
 pub use source::{Failed, ReadAll, Source, read_all};
 pub use spelling::{
-    are_word_bytes, digits_len, is_blank, is_name, is_one_of, is_reserved_word, is_word_byte,
-    line_len, word_len,
+    are_word_bytes, ascii, digits_len, is_blank, is_name, is_one_of, is_reserved_word,
+    is_word_byte, line_len, word_len,
 };
 pub use stream::{MemSink, MemSource, next_count};
 pub use token_kind::TokenKind;

@@ -2,10 +2,12 @@
 
 ghost use Rattle.std.specs.Prelude.{◌≡◌, ◌≤◌, length};
 ghost use Rattle.std.specs.List.{prefix_len, list_all, list_any};
-ghost use Rattle.std.specs.Str.{bytes_eq};
+ghost use Rattle.std.specs.Str.{IsAscii, bytes_eq};
 ghost use Rattle.std.specs.Char.{is_ascii_digit};
 ghost use Rattle.av_base.specs.Tokens.{is_blank, is_word_byte};
 ghost use Rattle.av_base.specs.Spelling.{is_not_feed, is_reserved, is_name};
+
+use std::str;
 
 const RESERVED_WORDS: [&str; 16] = [
     "system", "returns", "var", "let", "tel", "case", "esac", "if", "then", "else", "reduce",
@@ -81,5 +83,16 @@ pub fn is_name(text: &[u8]) -> bool
             first.is_ascii_alphabetic() && are_word_bytes(later) && !is_reserved_word(text)
         }
         [] => false,
+    }
+}
+
+/// ASCII bytes as text.
+pub fn ascii(bytes: &[u8]) -> &str
+    requires { IsAscii bytes.now }
+    ensures { result.now ≡ bytes.now }
+{
+    match str::from_utf8(bytes) {
+        Ok(text) => text,
+        Err(_) => unreachable!(),
     }
 }

@@ -1,6 +1,9 @@
 //! The tokens that are left, and what a single token of them is.
 
-ghost use Rattle.std.specs.Prelude.{◌≡◌, length};
+ghost use Rattle.std.specs.Prelude.{◌≡◌, ◌<◌, ◌^◌, true, length, IfOk};
+ghost use Rattle.std.specs.Str.{IsAscii};
+ghost use Rattle.av_base.specs.declared.token_kind.TokenKind.TheVariants as kinds;
+ghost use Rattle.av_base.specs.Tokens.{number_of};
 ghost use Rattle.av_lex.specs.Lexing.{view, views};
 ghost use Rattle.av_parse.specs.inner.Reader.{Gives, begins, begins_with, begins_symbol, begins_word, after, place_of, text_of, deep_fault, expect, expect_with, expect_symbol, expect_word};
 ghost use Rattle.av_parse.specs.declared.fault.Fault.TheVariants as fault;
@@ -71,7 +74,9 @@ impl<'t, 'a> Cursor<'t, 'a> {
 
     /// The text of the first token.
     pub(crate) fn text(&self) -> &'a [u8]
-        ensures { result.now ≡ text_of (views self.now.rest.now) }
+        ensures text { result.now ≡ text_of (views self.now.rest.now) }
+        ensures ascii { IsAscii result.now }
+        ensures in_range { begins kinds.Number (views self.now.rest.now) ≡ true → number_of result.now < 2 ^ 64 }
     {
         match self.rest {
             [first, ..] => first.text,
@@ -126,7 +131,8 @@ impl<'t, 'a> Cursor<'t, 'a> {
     /// A token of this kind.
     #[tactic(auto, unfolding(crate::specs::inner::Reader::expect))]
     pub(crate) fn expect(&mut self, kind: TokenKind) -> Result<Token<'a>, Stop>
-        ensures { Gives (λ x. (view x, views self.new.rest.now)) result (expect kind (views self.old.rest.now)) }
+        ensures gives { Gives (λ x. (view x, views self.new.rest.now)) result (expect kind (views self.old.rest.now)) }
+        ensures kind { IfOk result (λ x. x.kind ≡ kind) }
     {
         match self.rest {
             [first, rest @ ..] if first.kind == kind => {

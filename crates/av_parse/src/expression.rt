@@ -221,7 +221,7 @@ impl<'t, 'a> Cursor<'t, 'a> {
             return self.named(levels, text, place);
         }
         if self.begins(TokenKind::Number) {
-            let value = value_of(text)?;
+            let value = value_of(text);
             let place = self.skip();
             return self.numbered(levels, value, place);
         }

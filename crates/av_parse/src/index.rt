@@ -1,6 +1,7 @@
 //! Names, index expressions and maps.
 
 ghost use Rattle.std.specs.Prelude.{◌≡◌, ◌<◌, ◌^◌, ◌*ℤ◌, pos, length, IfOk};
+ghost use Rattle.std.specs.Str.{IsAscii};
 ghost use Rattle.av_lex.specs.Lexing.{views};
 ghost use Rattle.av_parse.specs.inner.Reader.{Gives, with_front};
 ghost use Rattle.av_parse.specs.inner.IndexReader.{sign_of, term_sign_at, names_of, optional_names_of, number_term_of, name_term_of, term_of, terms_of, signed_index_of, index_of, indices_of, begins_index, optional_indices_of, map_of};
@@ -61,7 +62,7 @@ impl<'t, 'a> Cursor<'t, 'a> {
     {
         let factor = signed(negative, value);
         if self.begins(TokenKind::Name) {
-            let name = Name::from_bytes(self.alloc, self.text())?;
+            let name = Name::from_ascii(self.alloc, self.text())?;
             let place = self.skip();
             return Ok(Term {
                 factor,
@@ -80,7 +81,7 @@ impl<'t, 'a> Cursor<'t, 'a> {
         let name = self.expect(TokenKind::Name)?;
         Ok(Term {
             factor,
-            name: Some(Name::from_bytes(self.alloc, name.text)?),
+            name: Some(Name::from_ascii(self.alloc, name.text)?),
             place: name.place,
         })
     }
@@ -88,9 +89,10 @@ impl<'t, 'a> Cursor<'t, 'a> {
     // What follows a name.
     #[tactic(auto, unfolding(crate::specs::inner::IndexReader::name_term_of))]
     fn name_term(&mut self, negative: bool, name: &[u8], place: Place) -> Result<Term, Stop>
+        requires { IsAscii name.now }
         ensures { Gives (λ t. (t, views self.new.rest.now)) result (name_term_of (sign_of negative) name.now place (views self.old.rest.now)) }
     {
-        let name = Name::from_bytes(self.alloc, name)?;
+        let name = Name::from_ascii(self.alloc, name)?;
         if !self.is_symbol(b"*") {
             return Ok(Term {
                 factor: if negative { -1 } else { 1 },
@@ -101,7 +103,7 @@ impl<'t, 'a> Cursor<'t, 'a> {
         self.skip();
         let number = self.expect(TokenKind::Number)?;
         Ok(Term {
-            factor: signed(negative, value_of(number.text)?),
+            factor: signed(negative, value_of(number.text)),
             name: Some(name),
             place,
         })
@@ -113,7 +115,7 @@ impl<'t, 'a> Cursor<'t, 'a> {
     {
         let text = self.text();
         if self.begins(TokenKind::Number) {
-            let value = value_of(text)?;
+            let value = value_of(text);
             let place = self.skip();
             return self.number_term(negative, value, place);
         }

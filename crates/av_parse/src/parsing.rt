@@ -44,11 +44,9 @@ fn read(alloc: Global, tokens: &[Token]) -> Result<System, Stop>
 
 /// The tree of the program that the tokens of a text spell, all of them, within the levels 0 to 256.
 ///
-/// The tokens are those that `lex` gives: a number above 64 bits and a name that is no UTF-8, which it
-/// does not give, are answered as out of memory. `Syntax` gives the place of the first token with which
-/// no program goes on, `Depth` that of the first one on level 257, whichever of the two comes first. Where
-/// the last token is no `End`, as `lex` never leaves it, a program may want more tokens than there are;
-/// the place of that `Syntax` is line 1, column 1.
+/// `Syntax` gives the place of the first token with which no program goes on, `Depth` that of the first
+/// one on level 257, whichever of the two comes first. Where the last token is no `End`, as `lex` never
+/// leaves it, a program may want more tokens than there are; the place of that `Syntax` is line 1, column 1.
 pub fn parse(alloc: Global, tokens: &[Token<'_>]) -> Result<System, ParseFault>
     // What is read is spelled so.
     ensures found { IfOk result (λ system. IsProgram levels (views tokens.now) (view_system system)) }

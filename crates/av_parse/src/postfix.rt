@@ -2,6 +2,7 @@
 //! an expression.
 
 ghost use Rattle.std.specs.Prelude.{◌≡◌, IfOk, length};
+ghost use Rattle.std.specs.Str.{IsAscii};
 ghost use Rattle.av_lex.specs.Lexing.{views};
 ghost use Rattle.av_tree.specs.Trees.{view, binary, dependence};
 ghost use Rattle.av_parse.specs.inner.Reader.{Gives};
@@ -144,12 +145,13 @@ impl<'t, 'a> Cursor<'t, 'a> {
     // `[ indices ] "]"`, behind a name and its `[`.
     #[tactic(auto, unfolding(crate::specs::inner::ExpressionReader::indexed_of))]
     fn indexed(&mut self, name: &[u8], place: Place) -> Result<Expr, Stop>
+        requires { IsAscii name.now }
         ensures { Gives (λ e. (view e, views self.new.rest.now)) result (indexed_of name.now place (views self.old.rest.now)) }
     {
         let indices = self.optional_indices()?;
         self.symbol(b"]")?;
         Ok(Expr::Ref {
-            name: Name::from_bytes(self.alloc, name)?,
+            name: Name::from_ascii(self.alloc, name)?,
             at: Access::Indices(indices),
             place,
         })
@@ -197,6 +199,7 @@ impl<'t, 'a> Cursor<'t, 'a> {
     /// What stands behind a name.
     #[tactic(auto, unfolding(crate::specs::inner::ExpressionReader::named_of))]
     pub(crate) fn named(&mut self, levels: u32, name: &[u8], place: Place) -> Result<Expr, Stop>
+        requires { IsAscii name.now }
         ensures { Gives (λ e. (view e, views self.new.rest.now)) result (named_of (readers levels) name.now place (views self.old.rest.now)) }
     {
         if self.is_symbol(b"[") {
@@ -204,7 +207,7 @@ impl<'t, 'a> Cursor<'t, 'a> {
             let tree = self.indexed(name, place)?;
             return self.postfix_tail(levels, tree);
         }
-        let name = Name::from_bytes(self.alloc, name)?;
+        let name = Name::from_ascii(self.alloc, name)?;
         if !self.is_symbol(b".") {
             return Ok(Expr::Ref {
                 name,

@@ -36,7 +36,7 @@ fn declare(
 {
     for token in names {
         found.push(Declaration {
-            name: Name::from_bytes(alloc, token.text)?,
+            name: Name::from_ascii(alloc, token.text)?,
             domain: copy::domain(alloc, domain)?,
             place: token.place,
         })?;
@@ -170,7 +170,7 @@ impl<'t, 'a> Cursor<'t, 'a> {
         let right = self.deeper_expr(levels)?;
         self.symbol(b";")?;
         Ok(Equation {
-            name: Name::from_bytes(self.alloc, name.text)?,
+            name: Name::from_ascii(self.alloc, name.text)?,
             indices,
             right,
             place: name.place,
@@ -220,7 +220,7 @@ impl<'t, 'a> Cursor<'t, 'a> {
         self.symbol(b")")?;
         self.symbol(b";")?;
         Ok(Header {
-            name: Name::from_bytes(self.alloc, name.text)?,
+            name: Name::from_ascii(self.alloc, name.text)?,
             sizes,
             inputs,
             outputs,

@@ -15,12 +15,12 @@ returns-in_err-name c =
 pub returns-then-not-is_symbol : goal.returns-then-not-is_symbol
 returns-then-not-is_symbol c =
     let stop : begins_symbol (codes ",") (views c.expect.new.self.rest.now) ≡ false = sym c.is_symbol.ensures ∙ c.if-not-is_symbol.true in
-    rw (c.in_ok-push.ensures.ok, views_push) (names_end (views c.loop-room.found) c.loop-room.room (views c.loop-room.self.rest.now) _ c.loop-room.invariant (view c.in_ok-name.name) (views c.expect.new.self.rest.now) c.loop-room-test.true c.in_ok-name.ensures stop)
+    rw (c.in_ok-push.ensures.ok, views_push) (names_end (views c.loop-room.found) c.loop-room.room (views c.loop-room.self.rest.now) _ c.loop-room.invariant (view c.in_ok-name.name) (views c.expect.new.self.rest.now) c.loop-room-test.true c.in_ok-name.ensures.gives stop)
 
 pub loop-room-preserved : goal.loop-room-preserved
 loop-room-preserved c =
     let more : begins_symbol (codes ",") (views c.expect.new.self.rest.now) ≡ true = sym c.is_symbol.ensures ∙ c.if-not-is_symbol.false in
-    rw (c.skip.ensures.rest, c.in_ok-push.ensures.ok, views_push) (names_goes (views c.loop-room.found) c.loop-room.room (views c.loop-room.self.rest.now) _ c.loop-room.invariant (view c.in_ok-name.name) (views c.expect.new.self.rest.now) c.loop-room-test.true c.in_ok-name.ensures more)
+    rw (c.skip.ensures.rest, c.in_ok-push.ensures.ok, views_push) (names_goes (views c.loop-room.found) c.loop-room.room (views c.loop-room.self.rest.now) _ c.loop-room.invariant (view c.in_ok-name.name) (views c.expect.new.self.rest.now) c.loop-room-test.true c.in_ok-name.ensures.gives more)
 
 pub returns : goal.returns
 returns c = rw c.syntax.ensures (names_full (views c.loop-room.found) c.loop-room.room (views c.loop-room.self.rest.now) _ c.loop-room.invariant (let z = c.loop-room-test.false in omega (arith, z)))
