@@ -2,7 +2,7 @@
 
 use crate::answers::{answer, answered, assert_answer, calls, joined};
 use crate::checks::UNCOVERED;
-use crate::texts::{INCREMENT, USAGE};
+use crate::texts::{CUT_DOWN, INCREMENT, TOO_WIDE, USAGE, WIDENED};
 use av_base::{MemSink, MemSource};
 use av_cli::Status;
 use av_testing::texts::{
@@ -241,6 +241,56 @@ const ROWS: &[(&[&str], &str, &str, Status, &str)] = &[
         "",
         Status::Done,
         "cycles 5 cells 6 delays 10 links 12\nsum 1890\n",
+    ),
+    (
+        &["run"],
+        TOO_WIDE,
+        "%%\nX (0) = 0\nX (1) = 1\nX (2) = 2\n",
+        Status::Refused,
+        "refused: width X 1:13\n",
+    ),
+    // A value fits the words of its input, and where it names none those of the run.
+    (
+        &["run"],
+        CUT_DOWN,
+        "%%\nX (0) = 256\nX (1) = 1\nX (2) = 2\n",
+        Status::Refused,
+        "refused: data syntax 5\n",
+    ),
+    (
+        &["run", "--width=64"],
+        WIDENED,
+        "%%\nX (0) = 1\nX (1) = -129\nX (2) = 2\n",
+        Status::Refused,
+        "refused: data syntax 6\n",
+    ),
+    (
+        &["run", "--width=4"],
+        WIDENED,
+        "%%\nX (0) = 255\nX (1) = -128\n",
+        Status::Refused,
+        "refused: data missing X (2)\n",
+    ),
+    (
+        &["run", "--width=9"],
+        WIDENED,
+        "%%\nZ (0) = 511\n",
+        Status::Refused,
+        "refused: data unknown 5\n",
+    ),
+    (
+        &["run", "--width=9"],
+        WIDENED,
+        "%%\nY (0) = 512\n",
+        Status::Refused,
+        "refused: data syntax 5\n",
+    ),
+    (
+        &["run", "--width=9"],
+        WIDENED,
+        "%%\nY (0) = -256\n",
+        Status::Refused,
+        "refused: data unknown 5\n",
     ),
     (
         &["demo", "2", "--box=1", "--width", "64"],
