@@ -1,3 +1,4 @@
+pub mod Ascii
 pub mod Longest
 pub mod Readings
 pub mod Tables

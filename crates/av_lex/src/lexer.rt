@@ -30,18 +30,14 @@ fn tokens<'a>(alloc: Global, bytes: &'a [u8]) -> Result<List<Token<'a>>, LexFaul
                 if !is_in_range(kind, text) {
                     return Err(LexFault::Number(place));
                 }
-                found.push(Token { kind, text, place })?;
+                found.push(Token::new(kind, text, place))?;
                 place = moved(place, text);
                 at += len;
             }
             Piece::Bad => return Err(LexFault::BadByte(place)),
         }
     }
-    found.push(Token {
-        kind: TokenKind::End,
-        text: part(bytes, at, 0),
-        place,
-    })?;
+    found.push(Token::new(TokenKind::End, part(bytes, at, 0), place))?;
     Ok(found)
 }
 

@@ -15,3 +15,16 @@ pub struct Token<'a> {
     pub ghost ascii: { IsAscii text.now },
     pub ghost in_range: { kind ≡ kinds.Number → number_of text.now < 2 ^ 64 },
 }
+
+impl<'a> Token<'a> {
+    ghost use Rattle.av_lex.specs.Lexing.{view};
+
+    /// The token of this kind with these bytes, at a place.
+    pub(crate) fn new(kind: TokenKind, text: &'a [u8], place: Place) -> Token<'a>
+        requires ascii { IsAscii text.now }
+        requires in_range { kind ≡ kinds.Number → number_of text.now < 2 ^ 64 }
+        ensures { view result ≡ record { kind = kind; text = text.now; place = place } }
+    {
+        Token { kind, text, place }
+    }
+}

@@ -56,7 +56,7 @@ impl<'t, 'a> Cursor<'t, 'a> {
         self.symbol(b"[")?;
         let number = self.expect(TokenKind::Number)?;
         self.symbol(b"]")?;
-        Ok(Some(value_of(number.text)?))
+        Ok(Some(value_of(number.text)))
     }
 
     // `"integer"` or `"word" "[" number "]"`: the number of bits, if one is written.

@@ -4,7 +4,6 @@ ghost use Rattle.std.specs.Prelude.{◌≡◌, ◌≤◌, ◌+◌, ◌++◌, [],
 ghost use Rattle.av_net.specs.Rows.{is_in};
 ghost use Rattle.av_vread.specs.inner.Entries.{numeral_of, below_zero, index_of, indices_of, inside_of, point_of, is_wire, parts_view, parts_of, entry_of, entry_at};
 
-use crate::lexer::ascii;
 use crate::line::cut;
 use crate::literal::are_digits;
 use arrayvec::ArrayVec;
@@ -143,9 +142,9 @@ fn entry_of(alloc: Global, wires: &NameSet, parts: Parts) -> Result<Option<Entry
     }
     match (point_of(parts.point), numeral_of(parts.cycle)) {
         (Some(point), Some(cycle)) => Ok(Some(Entry {
-            variable: Name::from_bytes(alloc, parts.variable)?,
+            variable: Name::from_ascii(alloc, parts.variable)?,
             point,
-            wire: Name::from_bytes(alloc, parts.wire)?,
+            wire: Name::from_ascii(alloc, parts.wire)?,
             cycle,
         })),
         _ => Ok(None),

@@ -1,28 +1,15 @@
 //! From the bytes of a text to its tokens.
 
 ghost use Rattle.std.specs.Prelude.{◌≡◌, ◌<◌, ◌≤◌, length};
-ghost use Rattle.std.specs.Str.{IsAscii};
 ghost use Rattle.av_base.specs.Tokens.{start};
 ghost use Rattle.av_vread.specs.inner.Lexing.{views, GivesTokens, lexed_of};
 
 use crate::VFault;
 use crate::scan::piece_at;
 use crate::token::Token;
-use av_base::{List, Piece, Place, moved, part};
+use av_base::{List, Piece, Place, ascii, moved, part};
 use av_net::TokenKind;
 use std::alloc::Global;
-use std::str;
-
-/// ASCII bytes as text.
-pub(crate) fn ascii(bytes: &[u8]) -> &str
-    requires { IsAscii bytes.now }
-    ensures { result.now ≡ bytes.now }
-{
-    match str::from_utf8(bytes) {
-        Ok(text) => text,
-        Err(_) => unreachable!(),
-    }
-}
 
 /// The tokens of a text, in order, with `End` as the last of them, or `VByte` with the place of the first
 /// byte outside comments that begins no token.
