@@ -2,7 +2,7 @@
 
 use crate::answers::{answer, answered, assert_answer, calls, joined};
 use crate::checks::UNCOVERED;
-use crate::texts::{CUT_DOWN, INCREMENT, TOO_WIDE, USAGE, WIDENED};
+use crate::texts::{BOTH_ENDS, CUT_DOWN, INCREMENT, TOO_WIDE, USAGE, WIDENED};
 use av_base::{MemSink, MemSource};
 use av_cli::Status;
 use av_testing::texts::{
@@ -243,6 +243,53 @@ const ROWS: &[(&[&str], &str, &str, Status, &str)] = &[
         "cycles 5 cells 6 delays 10 links 12\nsum 1890\n",
     ),
     (
+        &["demo", "2", "--box=1", "--width", "64"],
+        "",
+        "",
+        Status::Done,
+        "cycles 5 cells 6 delays 10 links 12\nsum 1890\n",
+    ),
+    (
+        &["demo", "--width", "8", "--", "002"],
+        "?",
+        "",
+        Status::Done,
+        "cycles 5 cells 6 delays 10 links 12\nsum 98\n",
+    ),
+    (
+        &["demo", "16"],
+        "",
+        "",
+        Status::Done,
+        "cycles 47 cells 272 delays 2656 links 992\nsum 25797632\n",
+    ),
+];
+
+/// Texts whose variables have widths of their own.
+const OF_WIDTHS: &[(&[&str], &str, &str, Status, &str)] = &[
+    // What an equation reads is sign-extended to its width, or cut down to it.
+    (
+        &["run"],
+        WIDENED,
+        "%%\nX (0) = 255\nX (1) = 127\nX (2) = 128\n",
+        Status::Done,
+        "Y (0) = 0\nY (1) = 128\nY (2) = 65409\n",
+    ),
+    (
+        &["run", "--width=3"],
+        WIDENED,
+        "%%\nX (0) = -1\nX (1) = 127\nX (2) = -128\n",
+        Status::Done,
+        "Y (0) = 0\nY (1) = 128\nY (2) = 65409\n",
+    ),
+    (
+        &["run"],
+        CUT_DOWN,
+        "%%\nX (0) = 31\nX (1) = 255\nX (2) = 0\n",
+        Status::Done,
+        "Y (0) = 0\nY (1) = 0\nY (2) = 1\n",
+    ),
+    (
         &["run"],
         TOO_WIDE,
         "%%\nX (0) = 0\nX (1) = 1\nX (2) = 2\n",
@@ -292,33 +339,55 @@ const ROWS: &[(&[&str], &str, &str, Status, &str)] = &[
         Status::Refused,
         "refused: data unknown 5\n",
     ),
+    // The least width and the greatest: the ends of each, and one beyond them.
     (
-        &["demo", "2", "--box=1", "--width", "64"],
-        "",
-        "",
+        &["run"],
+        BOTH_ENDS,
+        "%%\nA () = 1\nB () = 18446744073709551615\n",
         Status::Done,
-        "cycles 5 cells 6 delays 10 links 12\nsum 1890\n",
+        "Y () = 1\nZ () = 18446744073709551615\n",
     ),
     (
-        &["demo", "--width", "8", "--", "002"],
-        "?",
-        "",
+        &["run"],
+        BOTH_ENDS,
+        "%%\nA () = -1\nB () = -9223372036854775808\n",
         Status::Done,
-        "cycles 5 cells 6 delays 10 links 12\nsum 98\n",
+        "Y () = 1\nZ () = 9223372036854775808\n",
     ),
     (
-        &["demo", "16"],
-        "",
-        "",
-        Status::Done,
-        "cycles 47 cells 272 delays 2656 links 992\nsum 25797632\n",
+        &["run"],
+        BOTH_ENDS,
+        "%%\nA () = 2\n",
+        Status::Refused,
+        "refused: data syntax 5\n",
+    ),
+    (
+        &["run"],
+        BOTH_ENDS,
+        "%%\nA () = -2\n",
+        Status::Refused,
+        "refused: data syntax 5\n",
+    ),
+    (
+        &["run"],
+        BOTH_ENDS,
+        "%%\nB () = 18446744073709551616\n",
+        Status::Refused,
+        "refused: data syntax 5\n",
+    ),
+    (
+        &["run"],
+        BOTH_ENDS,
+        "%%\nB () = -9223372036854775809\n",
+        Status::Refused,
+        "refused: data syntax 5\n",
     ),
 ];
 
 #[test]
 fn the_words_the_text_and_the_data_fix_status_and_output(rt: HostRuntime) -> Result<(), Fail> {
     let alloc = rt.alloc();
-    for (words, text, data, status, out) in ROWS {
+    for (words, text, data, status, out) in ROWS.iter().chain(OF_WIDTHS) {
         let answer = answered(alloc, words, joined(alloc, &[text, data])?, 4096)?;
         assert_answer(&rt, &answer, *status, out, text);
     }
