@@ -205,13 +205,41 @@ const TOGETHER: &[TextRow] = &[
 
 /// Declarations of inputs: which widths they may give, and what is answered first.
 const WIDTHS: &[TextRow] = &[
-    ("A : {} of word[1]; B : {} of word[64]) returns (Y : {} of word[8]); let Y = B;", N2, "ok 3"),
-    ("A : {} of word[0]) returns (Y : {} of word[65]); let Y = A;", N2, "width A 2:3"),
-    ("A : {} of word[8]) returns (Y : {} of word[65]; Z : {} of word[0]); let Y = A; Z = A;", N2, "width Y 2:31"),
-    ("A : {} of word[18446744073709551615]) returns (Y : {} of word[65]); let Y = A;", N2, "width A 2:3"),
-    ("A : {} of word[65]) returns (Y : {} of integer); let Y = 1.(->N-1048579);", N2, "limit constant 1048577"),
-    ("A : {} of word[65]) returns (Y : {} of integer); let Y = A;", &[("N", 1)], "width A 2:3"),
-    ("A : {} of integer) returns (Y : {} of integer); let Y = A;", &[("N", 1)], "size outside"),
+    (
+        "A : {} of word[1]; B : {} of word[64]) returns (Y : {} of word[8]); let Y = B;",
+        N2,
+        "ok 3",
+    ),
+    (
+        "A : {} of word[0]) returns (Y : {} of word[65]); let Y = A;",
+        N2,
+        "width A 2:3",
+    ),
+    (
+        "A : {} of word[8]) returns (Y : {} of word[65]; Z : {} of word[0]); let Y = A; Z = A;",
+        N2,
+        "width Y 2:31",
+    ),
+    (
+        "A : {} of word[18446744073709551615]) returns (Y : {} of word[65]); let Y = A;",
+        N2,
+        "width A 2:3",
+    ),
+    (
+        "A : {} of word[65]) returns (Y : {} of integer); let Y = 1.(->N-1048579);",
+        N2,
+        "limit constant 1048577",
+    ),
+    (
+        "A : {} of word[65]) returns (Y : {} of integer); let Y = A;",
+        &[("N", 1)],
+        "width A 2:3",
+    ),
+    (
+        "A : {} of integer) returns (Y : {} of integer); let Y = A;",
+        &[("N", 1)],
+        "size outside",
+    ),
 ];
 
 /// Equations of the small system: each limit, and one above it.
@@ -379,7 +407,14 @@ fn answers_the_first_rule(rt: HostRuntime) -> Result<(), Fail> {
     assert_texts(&rt, alloc, &Resolved, TWO_OUTPUTS, " tel;", TOGETHER)?;
     assert_texts(&rt, alloc, &Resolved, SMALL, " tel;", LIMITS)?;
     assert_texts(&rt, alloc, &Resolved, "", " tel;", INDICES)?;
-    assert_texts(&rt, alloc, &Resolved, "system t :{N | N>1}\n (", " tel;", WIDTHS)
+    assert_texts(
+        &rt,
+        alloc,
+        &Resolved,
+        "system t :{N | N>1}\n (",
+        " tel;",
+        WIDTHS,
+    )
 }
 
 /// A system of so many variables.
