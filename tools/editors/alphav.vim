@@ -11,7 +11,8 @@ syntax keyword alphavStatement assign always posedge
 syntax keyword alphavConditional if else
 syntax match alphavFunction /\$signed\>/
 syntax match alphavNumber /\<\d\+\('d\d\+\)\?\>/
-syntax match alphavOperator /<=\|>=\|==\|!=\|[-+*&|<>=?:@]/
+syntax match alphavPort /\.\h\w*/
+syntax match alphavOperator /<=\|>=\|==\|!=\|[-+*&|<>=?:@{}]/
 syntax match alphavComment "//.*" contains=@Spell
 syntax match alphavListing "^// \(in\|at\) \a\w* ([-0-9,]*) \h\w* \d\+\r\?$"
 syntax match alphavVersion "^// alphav \d\+\r\?$"
@@ -25,6 +26,7 @@ highlight default link alphavStatement Statement
 highlight default link alphavConditional Conditional
 highlight default link alphavFunction Function
 highlight default link alphavNumber Number
+highlight default link alphavPort Identifier
 highlight default link alphavOperator Operator
 highlight default link alphavComment Comment
 highlight default link alphavListing SpecialComment

@@ -1,6 +1,6 @@
 """What `tools/picture`, `tools/play`, `tools/testbench` and the checks beside them share.
 
-They read what the program writes and prove nothing.
+They read what the program writes, or compute it a second time, and prove nothing.
 
 | Module | Has |
 |---|---|
@@ -13,7 +13,10 @@ They read what the program writes and prove nothing.
 | `svg` | colours, and the few shapes that the pictures are made of |
 | `picture`, `spacetime` | the two pictures |
 | `clocked` | a run on data, compared with what `run` and `trace` write |
-| `bench` | a test bench in Verilog |
+| `bench` | test benches in Verilog |
+| `designs` | a Verilog text with kinds and instances by its rules: grammar, faults, flat module, run |
+| `kinds` | an emitted module with its cells as instances of kinds |
+| `others` | what Icarus Verilog, Verilator and Yosys say of a text |
 | `page` | the page that plays a run; `page.html` is its frame |
-| `examples` | the texts in examples/ |
+| `examples` | the texts in examples/, and those in the tests of designs |
 """

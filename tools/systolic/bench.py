@@ -107,3 +107,17 @@ def bench(design, inputs, expected, rounds=4, seed=1, head=""):
     for name, value in fill.items():
         text = text.replace(f"@{name}@", str(value))
     return text
+
+
+def replay(top, inputs, outputs, stream):
+    """Gives a bench that presents the words of a stream, cycle by cycle, and writes the lines that `alphav sim` writes of it."""
+    ports = [*inputs, *outputs]
+    ends = ", ".join(f".{name}({name})" for name in ["clk", "rst", *ports])
+    form = "".join(f" {name}=%0d" for name in ports)
+    lines = ["module bench;", "  reg clk;", "  reg rst;", *[f"  reg [{width - 1}:0] {name};" for name, width in inputs.items()],
+             *[f"  wire [{width - 1}:0] {name};" for name, width in outputs.items()], f"  {top} dut({ends});", "  initial begin",
+             "    clk = 0;", "    rst = 1;", *[f"    {name} = 0;" for name in inputs], "    #1 clk = 1;", "    #1 clk = 0;", "    rst = 0;"]
+    for cycle, words in enumerate(stream):
+        lines += [f"    {name} = {inputs[name]}'d{word};" for name, word in words.items()]
+        lines += ["    #1;", f'    $display("{cycle}{form}"' + "".join(f", {name}" for name in ports) + ");", "    #1 clk = 1;", "    #1 clk = 0;"]
+    return "\n".join([*lines, "    $finish;", "  end", "endmodule", ""])

@@ -19,11 +19,44 @@ def variants(folder):
     return sorted({re.sub(r"[^.]+\.expected$", "", name) for name in os.listdir(folder) if name.endswith(".expected")})
 
 
+def folders(names):
+    return [(name, f"{TOP}/examples/{name}") for name in names or sorted(entry.name for entry in os.scandir(f"{TOP}/examples") if entry.is_dir())]
+
+
+def sims(names=()):
+    """Gives each stored run of `sim`: its name, the Verilog text, the stimulus behind it, and what it writes."""
+    for name, folder in folders(names):
+        for variant in variants(folder):
+            if os.path.exists(f"{folder}/{variant}sim.expected"):
+                text = held(folder, variant, "text.v") or held(folder, "", "emit.expected")
+                yield f"{name}/{variant}".rstrip("/."), text, held(folder, variant, "stimulus"), held(folder, variant, "sim.expected")
+
+
+def unescaped(text):
+    """Gives what a literal of Rust says."""
+    letters = {"n": "\n", "r": "\r", "t": "\t", "0": "\0"}
+
+    def said(found):
+        code, letter = found.groups(default="")
+        return chr(int(code, 16)) if code else letters.get(letter, letter)
+    return re.sub(r"\\(?:\n\s*|u\{(\w+)\}|(.))", said, text)
+
+
+def constants():
+    """Gives each module text that stands as a constant in a test of designs: where it stands, and the text."""
+    folder = "crates/av_verilog_tests/src"
+    for file in sorted(os.listdir(f"{TOP}/{folder}")):
+        with open(f"{TOP}/{folder}/{file}", encoding="utf-8") as it:
+            source = it.read()
+        for name, text in re.findall(r'(?s)const (\w+): &str\s*=\s*"((?:[^"\\]|\\.)*)"', source):
+            if "endmodule" in text:
+                yield f"{folder}/{file} {name}", unescaped(text)
+
+
 def examples(kernels=()):
     """Gives each text with its sizes once, by name: those of some kernels, or of all. A text has its data where it has any."""
     seen = set()
-    for kernel in kernels or sorted(entry.name for entry in os.scandir(f"{TOP}/examples") if entry.is_dir()):
-        folder = f"{TOP}/examples/{kernel}"
+    for kernel, folder in folders(kernels):
         for variant in variants(folder):
             text, words, data = (held(folder, variant, name) for name in ("text.alpha", "words", "data"))
             if text and (text, words) not in seen:

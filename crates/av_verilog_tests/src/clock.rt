@@ -153,3 +153,43 @@ fn a_register_that_takes_itself_is_no_work(rt: HostRuntime) -> Result<(), Fail> 
     let design = design(rt.alloc(), STILL)?;
     assert_works(&rt, rt.alloc(), &design.module)
 }
+
+// The word of this drive in one cycle.
+fn word_of_cycle(clock: &mut Clock<'_>, drive: u32) -> u64
+    requires { drive < length clock.old.of.drives }
+    ensures { clock.new.of ≡ clock.old.of }
+{
+    clock.settle();
+    let word = clock.value(drive);
+    clock.tick();
+    word
+}
+
+// The words of this drive in three cycles from a reset.
+fn words(alloc: Global, of: &Module, drive: u32) -> Result<[u64; 3], Fail>
+    requires { IsSound of.now }
+{
+    if drive as usize >= of.drives.as_slice().len() {
+        return Err(Fail::new("a drive"));
+    }
+    let mut clock = Clock::new(alloc, of)?;
+    clock.reset();
+    Ok([
+        word_of_cycle(&mut clock, drive),
+        word_of_cycle(&mut clock, drive),
+        word_of_cycle(&mut clock, drive),
+    ])
+}
+
+/// This drive of a text has these words in three cycles from a reset.
+pub(crate) fn assert_words(
+    rt: &impl Abort,
+    alloc: Global,
+    text: &str,
+    drive: u32,
+    wanted: [u64; 3],
+) -> Result<(), Fail> {
+    let read = design(alloc, text)?;
+    assert_eq!(rt; words(alloc, &read.module, drive)?, wanted);
+    Ok(())
+}

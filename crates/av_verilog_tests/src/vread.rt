@@ -1,45 +1,14 @@
-//! What is read of texts: designs, and the first fault of each.
+//! What is read of texts of one module: designs, and the first fault of each.
 
 use crate::asserts::same;
-use crate::designs::{assert_text, design, read};
+use crate::designs::{around, assert_told, assert_written, design};
 use av_net::{Design, Entry, Module};
 use av_testing::texts::INCREMENT_DESIGN;
-use av_testing::{push_named, push_number, push_place, push_words};
-use av_vread::{VFault, design_or_fault, one_design, one_text, read_back, spelled_is_sound};
+use av_vread::{design_or_fault, one_design, one_text, read_back, spelled_is_sound};
 use std::alloc::Global;
 use std::fmt::Write;
 use std::process::Abort;
 use std::test::Fail;
-
-fn push_fault(out: &mut String, fault: &VFault) -> Result<(), Fail> {
-    match fault {
-        VFault::VByte(place) => push_place(out, "byte", *place),
-        VFault::VSyntax(place) => push_place(out, "syntax", *place),
-        VFault::VListing(line) => push_number(out, "listing", u128::from(*line)),
-        VFault::VTwice(name) => push_named(out, "twice", name),
-        VFault::VName(name) => push_named(out, "name", name),
-        VFault::VUnassigned(name) => push_named(out, "unassigned", name),
-        VFault::VOrder(name) => push_named(out, "order", name),
-        VFault::VWidth(name) => push_named(out, "width", name),
-        VFault::Memory => push_words(out, "memory"),
-    }
-}
-
-// What the reader answers, as a line of text.
-fn told(alloc: Global, bytes: &[u8]) -> Result<String, Fail> {
-    let mut out = String::new(alloc);
-    match read(alloc, bytes) {
-        Ok(read) => push_named(&mut out, "module", &read.module.name)?,
-        Err(fault) => push_fault(&mut out, &fault)?,
-    }
-    Ok(out)
-}
-
-// The reader answers this of the text.
-fn assert_told(rt: &impl Abort, alloc: Global, text: &[u8], wanted: &str) -> Result<(), Fail> {
-    same(rt, told(alloc, text)?.as_str(), wanted);
-    Ok(())
-}
 
 fn push_entry(out: &mut String, entry: &Entry) -> Result<(), Fail> {
     let point = entry.point.as_slice();
@@ -113,12 +82,6 @@ const TIDY: &str =
 
 const BY_HAND: &str =
     "// in X (1,-2) i 0\r\n\t// by hand\r\n\r\n// at Y () o 12\r\n // in its place\r\n\tmodule m // its name\r\n(input clk,input\trst,input i,\r\n output o);//\r\nwire w;reg r;assign w=i;// \u{e9}\r\n// at last\r\nassign o=w;always@(posedge clk)if(rst)r<=01'd00;else r<=w;endmodule";
-
-// What is read of the first text is written as the second.
-fn assert_written(rt: &impl Abort, alloc: Global, text: &str, wanted: &str) -> Result<(), Fail> {
-    let read = design(alloc, text)?;
-    assert_text(rt, alloc, &read, wanted)
-}
 
 #[test]
 fn a_text_written_by_hand_is_the_tidy_one(rt: HostRuntime) -> Result<(), Fail> {
@@ -350,13 +313,6 @@ const MODULES: &[(&str, &str, &str)] = &[
         "twice o",
     ),
 ];
-
-// A module with these ports, declarations and items.
-fn around(alloc: Global, ports: &str, body: &str) -> Result<String, Fail> {
-    let mut text = String::from_str(alloc, "module m(input clk, input rst")?;
-    write!(text, "{ports});\n{body}\nendmodule\n")?;
-    Ok(text)
-}
 
 #[test]
 fn rows_of_faults(rt: HostRuntime) -> Result<(), Fail> {

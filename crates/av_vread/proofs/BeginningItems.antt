@@ -1,15 +1,14 @@
 -- How the readers of items end, and those of the parts of a kind.
-use Rattle.std.proofs.Common.{◌≡◌, ℕ, ◌<◌, Bool, true, false, List, [], ◌∷◌, ◌++◌, length, Ok, refl, ap, subst, ◌∙◌, arith, if◌then◌else◌}
+use Rattle.std.proofs.Common.{◌≡◌, Bool, true, false, List, [], ◌∷◌, refl, if◌then◌else◌}
 use Rattle.std.specs.Prelude.{codes}
-use Rattle.av_net.specs.declared.operation.Operand.{Operand}
 use Rattle.av_net.specs.declared.netlist.Port.{Port}
 use Rattle.av_net.specs.Lexemes.{Token}
-use Rattle.av_net.specs.Grammar.{ModuleText, Declaration, wire, Link, Instantiation, Item, instance, AreWords, IsPort, IsOperand, AreMany, no_more, one_more, IsLink, IsNextLink, IsInstantiation, IsItem, instantiation, IsDeclaration, IsKindInput, IsKindDeclaration, kind_wire, IsKindItem}
-use Rattle.av_vread.specs.inner.Reading.{◌>>=◌, Read, is_at, word_at, words_at, name_at, port_at, directed_at, declared_at, begins_declaration, declaration_at, begins_name, link_at, next_link_at, links_at, step_at, assigned_at, instance_at, begins_item, item_at, all_at, declarations_at, items_at, assignments_at, Header, with_body, kind_input_at, kind_inputs_at, more_outputs_at, kind_outputs_at, kind_header_at, kind_wire_at, kind_wires_at, kind_at}
+use Rattle.av_net.specs.Grammar.{ModuleText, Declaration, wire, Link, Item, instance, IsPort, IsOperand, AreMany, IsLink, IsNextLink, IsItem, instantiation, IsDeclaration, IsKindInput, IsKindDeclaration, kind_wire, IsKindItem}
+use Rattle.av_vread.specs.inner.Reading.{is_at, directed_at, begins_declaration, declaration_at, link_at, next_link_at, links_at, step_at, assigned_at, instance_at, begins_item, item_at, all_at, declarations_at, items_at, assignments_at, Header, with_body, kind_input_at, kind_inputs_at, more_outputs_at, kind_outputs_at, kind_header_at, kind_wire_at, kind_wires_at, kind_at}
 use Rattle.av_vread.proofs.Sound.{any_item, Links, Outputs, HasKindHeader}
 use Rattle.av_vread.proofs.Complete.{comma_first, next_link_begins, declaration_begins, item_begins, assigned_begins, kind_input_begins, kind_wire_begins}
 use Rattle.av_vread.proofs.Ends.{port_end, declaration_end, next_link_end, item_end, kind_input_end, kind_declaration_end, kind_item_end}
-use Rattle.av_vread.proofs.Verdicts.{Ends, Alike, Verdict, Reads, pair, Follows, follows, then_reads, Mapped, mapped, unmap, map_reads, verdict_as, reads_as, when_true, when_false}
+use Rattle.av_vread.proofs.Verdicts.{Ends, Verdict, Reads, pair, Follows, follows, then_reads, Mapped, unmap, map_reads, verdict_as, reads_as, when_true, when_false}
 use Rattle.av_vread.proofs.BeginningParts.{Word, Words, Name, word_reads, words_read, name_reads, alike_test, alike_word, PortIs, port_reads, as_port, directed_reads, Declared, declared_reads, declaration_reads, operand_reads, assigned_reads, step_reads, as_step, declared_in}
 use Rattle.av_vread.proofs.BeginningLists.{many_read}
 

@@ -1,5 +1,5 @@
 -- How the readers of the ports of a top end.
-use Rattle.std.proofs.Common.{◌≡◌, ◌≢◌, ℕ, zero, suc, ◌<◌, ◌≤◌, Bool, true, false, true≢false, List, [], ◌∷◌, ◌++◌, length, Result, Ok, Err, refl, sym, ap, subst, ◌∙◌, arith, append_assoc}
+use Rattle.std.proofs.Common.{◌≡◌, ◌≢◌, ℕ, Bool, true, false, List, [], ◌∷◌, ◌++◌, length, Result, Ok, Err, refl, sym, ap, subst, ◌∙◌, arith}
 use Rattle.std.specs.Prelude.{◌&&◌, codes}
 use Rattle.std.specs.Str.{bytes_eq}
 use Rattle.av_base.specs.declared.place.Place.{Place}
@@ -8,12 +8,12 @@ use Rattle.av_net.specs.declared.netlist.Port.{Port}
 use Rattle.av_net.specs.Names.{clk}
 use Rattle.av_net.specs.Lexemes.{Token}
 use Rattle.av_net.specs.Grammar.{AreWords, no_word, next_word, IsWordAt, name, no_range, IsPort, AreMany, no_more, one_more}
-use Rattle.av_vread.specs.inner.Reading.{◌>>=◌, Read, is_word, is_at, are_at, words_at, width_for, directed_at, many_at, all_at, ports_at, Header, closed_at}
+use Rattle.av_vread.specs.inner.Reading.{◌>>=◌, Read, is_word, is_at, are_at, words_at, width_for, directed_at, ports_at, Header, closed_at}
 use Rattle.av_vread.proofs.Steps.{at_word, other_there}
 use Rattle.av_vread.proofs.Sound.{width_bits}
 use Rattle.av_vread.proofs.Complete.{directed_gives, two_there}
 use Rattle.av_vread.proofs.Ends.{port_end}
-use Rattle.av_vread.proofs.Verdicts.{Ends, ends_some, Puts, puts_none, puts_one, puts_both, Alike, alike_put, Completes, Verdict, past, stops, Reads, pair, alone}
+use Rattle.av_vread.proofs.Verdicts.{Ends, ends_some, Puts, puts_none, puts_one, puts_both, Alike, alike_put, Verdict, past, stops, Reads, pair, alone}
 use Rattle.av_vread.proofs.BeginningParts.{word_token, name_token, Words, words_read, alike_word, word_left, directed_reads}
 use Rattle.av_vread.proofs.BeginningLists.{many_append, Parts, all_parts, part_stops, parts_judged}
 use Rattle.av_base.proofs.Truths.{both}

@@ -1,7 +1,6 @@
 -- How the reader of a whole text ends, and that a text breaks off where its reader stops.
 use Rattle.std.proofs.Common.{◌≡◌, ◌≢◌, ◌⊎◌, inl, inr, ℕ, zero, suc, ◌+◌, ◌<◌, ◌≤◌, Bool, true, false, not, true≢false, List, [], ◌∷◌, ◌++◌, length, take, Result, Ok, Err, refl, sym, ap, subst, ◌∙◌, arith, append_assoc, length-append}
 use Rattle.std.specs.Prelude.{◌&&◌, codes}
-use Rattle.std.specs.Str.{bytes_eq}
 use Rattle.std.proofs.lemmas.Bool.{cases_lt}
 use Rattle.std.proofs.Math.Seq.{take-append_seam}
 use Rattle.std.proofs.lemmas.Slice.Eq.{bytes_eq-Decides}
@@ -14,12 +13,12 @@ use Rattle.av_net.specs.Names.{clk, rst}
 use Rattle.av_net.specs.Lexemes.{Token, IsSpelled, AreTokens, end as end_of_bytes, blank, comment, token}
 use Rattle.av_net.specs.Grammar.{Text, ModuleText, Declaration, Item, AreWords, no_word, next_word, IsWordAt, IsNameAt, name, IsEnd, end, IsRange, no_range, range, IsPort, IsDeclaration, IsItem, AreMany, no_more, one_more, IsKindInput, IsKindDeclaration, IsKindItem, IsClockFirst, IsKind, IsClocked, IsTop, IsText}
 use Rattle.av_vread.specs.Beginnings.{Begins, StopsAt}
-use Rattle.av_vread.specs.inner.Reading.{◌>>=◌, same, is_word, is_at, word_at, words_at, end_at, width_for, many_at, all_at, declarations_at, items_at, Header, closed_at, clocked_at, header_at, with_body, top_at, is_name, begins_top, begins_kind, kind_at, kinds_at, text_at}
-use Rattle.av_vread.proofs.Steps.{same_is, same_self, at_word, word_there, other_there, end_gives}
-use Rattle.av_vread.proofs.Sound.{width_bits, Outputs, HasKindHeader, no_clock}
+use Rattle.av_vread.specs.inner.Reading.{same, is_word, end_at, width_for, Header, clocked_at, header_at, with_body, top_at, is_name, begins_top, begins_kind, kind_at, kinds_at, text_at}
+use Rattle.av_vread.proofs.Steps.{same_is, at_word, word_there, other_there, end_gives}
+use Rattle.av_vread.proofs.Sound.{width_bits, HasKindHeader, no_clock}
 use Rattle.av_vread.proofs.Complete.{kind_begins, kind_gives, top_begins, top_gives, no_kind, text_gives}
 use Rattle.av_vread.proofs.Ends.{words_end, name_end, port_end, many_end, kind_input_end, kind_declaration_end, kind_item_end, kind_end}
-use Rattle.av_vread.proofs.Verdicts.{Ends, last, before, ends_some, Puts, puts_both, Completes, Verdict, past, stops, Reads, pair, alone, Follows, follows, then_reads, Mapped, mapped, unmap, map_reads, reads_as}
+use Rattle.av_vread.proofs.Verdicts.{Ends, last, before, ends_some, Puts, puts_both, Completes, Verdict, past, stops, Reads, pair, alone, Follows, follows, then_reads, Mapped, unmap, map_reads, reads_as}
 use Rattle.av_vread.proofs.BeginningParts.{word_token, name_token, Word, Words, Name, ThisName, word_reads, name_reads, this_name_reads, words_read}
 use Rattle.av_vread.specs.Fronts.{FrontText}
 use Rattle.av_vread.proofs.FrontTexts.{front_begins, begins_front}

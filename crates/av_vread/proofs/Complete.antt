@@ -16,13 +16,12 @@ use Rattle.av_net.specs.declared.operation.Operand.TheVariants as operand
 use Rattle.av_net.specs.declared.operation.Operation.{Operation}
 use Rattle.av_net.specs.declared.operation.Operation.TheVariants as operation
 use Rattle.av_net.specs.declared.netlist.Port.{Port}
-use Rattle.av_net.specs.declared.netlist.Drive.{Drive}
 use Rattle.av_net.specs.declared.netlist.Step.{Step}
 use Rattle.av_net.specs.Sound.{IsOrder}
 use Rattle.av_net.specs.Lexemes.{Token}
 use Rattle.av_net.specs.Names.{clk}
-use Rattle.av_net.specs.Grammar.{Text, ModuleText, Declaration, Link, Instantiation, Item, drive, widening, step as step_item, instance, AreWords, no_word, next_word, IsWordAt, IsNameAt, name, IsLiteralAt, literal, IsRange, no_range, range, IsPort, IsDeclaration, wire_declaration, register_declaration, IsPart, IsWidening, IsOperand, named, constant, spelling, IsSigned, IsOperation, plain, binary, signed, choice, selection, IsDrive, IsWideningDrive, IsEdge, IsStep, AreMany, no_more, one_more, IsLink, IsNextLink, IsInstantiation, IsItem, assignment, wide_assignment, at_an_edge, instantiation, IsKindInput, IsKindDeclaration, kind_wire, IsKindItem, kind_assignment, kind_wide_assignment, IsClockFirst, IsKind, IsClocked, IsTop, IsText}
-use Rattle.av_vread.specs.inner.Reading.{Read, same, is_word, is_at, are_at, begins_literal, begins_name, range_at, port_at, directed_at, declared_at, begins_declaration, declaration_at, operand_at, order_of, symbol_of, symbol_at, order_by, order_at, signed_at, comparison_at, choice_at, selection_at, selected_bit_at, widening_at, alone_by, binary_by, operation_by, operation_at, given_at, assigned_at, edge_at, reset_at, step_at, link_at, next_link_at, links_at, instance_at, begins_item, item_at, many_at, all_at, ports_at, closed_at, clocked_at, header_at, top_at, is_name, begins_top, begins_kind, kind_input_at, kind_inputs_at, more_outputs_at, kind_outputs_at, kind_header_at, kind_wire_at, kind_wires_at, assignments_at, kind_at, kinds_at, text_at}
+use Rattle.av_net.specs.Grammar.{Text, ModuleText, Declaration, Link, Instantiation, Item, step as step_item, instance, AreWords, no_word, next_word, IsWordAt, IsNameAt, name, IsLiteralAt, literal, IsRange, no_range, range, IsPort, IsDeclaration, wire_declaration, register_declaration, IsPart, IsWidening, IsOperand, named, constant, spelling, IsSigned, IsOperation, plain, binary, signed, choice, selection, IsEdge, IsStep, AreMany, no_more, one_more, IsLink, IsNextLink, IsInstantiation, IsItem, assignment, wide_assignment, at_an_edge, instantiation, IsKindInput, IsKindDeclaration, kind_wire, IsKindItem, kind_assignment, kind_wide_assignment, IsClockFirst, IsKind, IsClocked, IsTop, IsText}
+use Rattle.av_vread.specs.inner.Reading.{Read, same, is_word, is_at, are_at, begins_literal, begins_name, range_at, port_at, directed_at, declared_at, begins_declaration, declaration_at, operand_at, order_of, symbol_of, symbol_at, order_by, order_at, signed_at, comparison_at, choice_at, selection_at, selected_bit_at, widening_at, alone_by, binary_by, operation_by, operation_at, given_at, assigned_at, edge_at, reset_at, step_at, link_at, next_link_at, instance_at, begins_item, item_at, many_at, all_at, ports_at, closed_at, clocked_at, header_at, top_at, is_name, begins_top, begins_kind, kind_input_at, kind_outputs_at, kind_header_at, kind_wire_at, kind_at, text_at}
 use Rattle.av_vread.proofs.Steps.{same_is, text_is, other_kind, same_self, kind_other, not_name, is_text, word_gives, words_give, word_there, other_there, name_gives, this_name_gives, number_gives, literal_gives, end_gives}
 use Rattle.av_vread.proofs.BitsOf.{is_width_of}
 use Rattle.av_vread.proofs.Sound.{top_there}

@@ -1,16 +1,15 @@
 -- Where no name of a sort stands twice, no mention stands again.
-use Rattle.std.proofs.Common.{◌≡◌, ℕ, ◌+◌, ◌<◌, List, [], ◌∷◌, ◌++◌, refl, sym, ◌∙◌, ap, subst, arith, append_assoc, Bool, true, false, ◌||◌, ◌&&◌, if◌then◌else◌, Option, Some, None, inl, inr}
+use Rattle.std.proofs.Common.{◌≡◌, ℕ, List, [], ◌∷◌, ◌++◌, refl, sym, subst, arith, append_assoc, Bool, true, false, None, inl, inr}
 use Rattle.std.specs.Prelude.{Contains}
 use Rattle.std.specs.List.{flat_map, list_any}
 use Rattle.std.specs.Str.{bytes_eq}
-use Rattle.std.proofs.lemmas.List.{append-nil}
 use Rattle.std.proofs.lemmas.List.Concat.{flat_map-append}
 use Rattle.std.proofs.lemmas.List.Elements.{Contains-append_left}
 use Rattle.std.proofs.lemmas.Slice.Eq.{bytes_eq-Decides}
 use Rattle.av_base.proofs.Among.{first_among, more_among, among_flat_map}
 use Rattle.av_base.proofs.Truths.{both, either, by_test}
 use Rattle.av_net.specs.Names.{AreDistinct}
-use Rattle.av_net.specs.Rows.{Mention, of_module, declares, drives, links, mentioned, is_same, first_again}
+use Rattle.av_net.specs.Rows.{Mention, of_module, declares, drives, links, is_same, first_again}
 use Rattle.av_net.proofs.Distinct.{apart}
 use Rattle.av_net.proofs.Mentions.{declared_by, driven_at, linked_at}
 

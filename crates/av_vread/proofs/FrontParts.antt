@@ -1,9 +1,7 @@
 -- Fronts of declarations and of items.
-use Rattle.std.proofs.Common.{◌≡◌, ◌⊎◌, inl, inr, ℕ, ◌+◌, ◌≤◌, List, [], ◌∷◌, ◌++◌, refl, sym, subst, arith}
+use Rattle.std.proofs.Common.{◌≡◌, ◌⊎◌, inl, inr, ℕ, ◌+◌, ◌≤◌, List, [], ◌∷◌, refl, sym, subst, arith}
 use Rattle.std.specs.Prelude.{codes}
-use Rattle.av_base.specs.Tokens.{number_of}
 use Rattle.av_base.specs.declared.width.Width.{Width}
-use Rattle.av_net.specs.declared.operation.Symbol.{Symbol}
 use Rattle.av_net.specs.declared.operation.Symbol.TheVariants as symbol
 use Rattle.av_net.specs.declared.operation.Operand.{Operand}
 use Rattle.av_net.specs.declared.operation.Operand.TheVariants as operand
@@ -14,13 +12,13 @@ use Rattle.av_net.specs.declared.netlist.Drive.{Drive}
 use Rattle.av_net.specs.declared.netlist.Step.{Step}
 use Rattle.av_net.specs.Names.{clk, rst}
 use Rattle.av_net.specs.Lexemes.{Token}
-use Rattle.av_net.specs.Grammar.{Declaration, wire, register, Link, Instantiation, Item, drive, widening, step, instance, AreWords, no_word, next_word, IsNameAt, name, IsNumberAt, number, IsLiteralAt, literal, IsRange, no_range, range, IsPort, IsDeclaration, wire_declaration, register_declaration, IsOperand, named, constant, IsSigned, IsPart, IsWidening, IsOperation, plain, binary, signed, choice, selection, IsDrive, IsWideningDrive, IsEdge, IsStep, AreMany, IsLink, IsNextLink, IsInstantiation, IsItem, assignment, wide_assignment, at_an_edge, instantiation, IsKindDeclaration, kind_wire}
+use Rattle.av_net.specs.Grammar.{Declaration, wire, register, Link, Instantiation, Item, drive, widening, step, instance, AreWords, no_word, next_word, IsNameAt, name, IsNumberAt, number, IsLiteralAt, literal, IsRange, no_range, range, IsPort, IsDeclaration, wire_declaration, register_declaration, IsOperand, named, constant, IsSigned, IsPart, IsOperation, plain, binary, signed, choice, selection, IsDrive, IsWideningDrive, IsStep, AreMany, IsLink, IsNextLink, IsInstantiation, IsItem, assignment, wide_assignment, at_an_edge, instantiation, IsKindDeclaration, kind_wire}
 use Rattle.av_vread.specs.inner.Reading.{literal_at, literal_by, sized_in}
-use Rattle.av_vread.specs.Fronts.{FrontWords, Words, FrontName, IsThisName, Between, IsBetween, Sized, IsSizedAt, FrontLiteral, FrontOne, FrontMany, FrontRange, FrontPort, FrontDeclared, FrontDeclaration, FrontOperand, FrontSigned, FrontPart, FrontBit, IsBit, FrontWidening, IsWide, IsOperator, IsOrderAt, FrontBinary, FrontComparison, FrontChoice, FrontOperation, in_operand, in_binary, in_comparison, in_choice, in_selection, FrontDrive, FrontWideDrive, FrontEdge, Edge, FrontStep, FrontLink, FrontNextLink, FrontInstantiation, FrontItem, in_drive, in_wide_drive, in_step, in_instantiation}
+use Rattle.av_vread.specs.Fronts.{Words, FrontName, IsThisName, Between, IsBetween, Sized, IsSizedAt, FrontLiteral, FrontOne, FrontRange, FrontPort, FrontDeclared, FrontDeclaration, FrontOperand, FrontSigned, FrontPart, FrontBit, IsBit, FrontWidening, IsWide, IsOperator, IsOrderAt, FrontBinary, FrontComparison, FrontChoice, FrontOperation, in_operand, in_binary, in_comparison, in_choice, in_selection, FrontDrive, FrontWideDrive, FrontEdge, Edge, FrontStep, FrontLink, FrontNextLink, FrontInstantiation, FrontItem, in_drive, in_wide_drive, in_step, in_instantiation}
 use Rattle.av_vread.proofs.Steps.{literal_took}
 use Rattle.av_vread.proofs.Verdicts.{Follows, follows, Mapped, mapped, unmap}
 use Rattle.av_vread.proofs.BeginningParts.{word_token, name_token, number_token, literal_token}
-use Rattle.av_vread.proofs.FrontRules.{Rules, rules_as, part_as, behind_rules, Either, either_rules, Nothing, optional_rules, mapped_rules, With, with_rules, many_rules, words_rules, IsOneToken, one_rules}
+use Rattle.av_vread.proofs.FrontRules.{Rules, rules_as, part_as, behind_rules, Either, either_rules, Nothing, optional_rules, mapped_rules, With, with_rules, many_rules, words_rules, one_rules}
 
 -- ---- single tokens
 

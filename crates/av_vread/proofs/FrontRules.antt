@@ -1,6 +1,6 @@
 -- Fronts of parts of a text, and how they go together: a part's spelling ends within some tokens or these are a front
 -- of it, and each front is one of a spelling.
-use Rattle.std.proofs.Common.{◌≡◌, ◌⊎◌, inl, inr, ℕ, List, [], ◌∷◌, ◌++◌, map, refl, sym, ap, subst, ◌∙◌, append_assoc}
+use Rattle.std.proofs.Common.{◌≡◌, ◌⊎◌, inl, inr, ℕ, List, [], ◌∷◌, ◌++◌, map, refl, sym, ap, subst, append_assoc}
 use Rattle.av_net.specs.Lexemes.{Token}
 use Rattle.av_net.specs.Grammar.{AreWords, no_word, next_word, AreMany, no_more, one_more}
 use Rattle.av_vread.specs.Fronts.{Behind, in_first, in_next, FrontMany, in_part, past_part, FrontOne, none_yet, one_there, FrontWords, no_word_yet, past_word, Words}

@@ -1,18 +1,17 @@
 -- Fronts of kinds, of the top and of texts: the tokens that are one are those with which a text begins.
-use Rattle.std.proofs.Common.{◌≡◌, ◌≢◌, ◌⊎◌, inl, inr, ℕ, Bool, true, false, true≢false, List, [], ◌∷◌, ◌++◌, length, refl, sym, ap, subst, ◌∙◌, arith}
+use Rattle.std.proofs.Common.{◌≡◌, ◌≢◌, inl, inr, ℕ, Bool, true, false, true≢false, List, [], ◌∷◌, ◌++◌, length, refl, sym, subst, ◌∙◌, arith}
 use Rattle.std.specs.Prelude.{codes}
 use Rattle.std.proofs.lemmas.Slice.Eq.{bytes_eq-Decides}
 use Rattle.av_base.specs.Tokens.{start}
 use Rattle.av_base.specs.declared.width.Width.{Width}
 use Rattle.av_net.specs.declared.token_kind.TokenKind.TheVariants as kind
 use Rattle.av_net.specs.declared.netlist.Port.{Port}
-use Rattle.av_net.specs.declared.netlist.Drive.{Drive}
 use Rattle.av_net.specs.Names.{clk, rst}
 use Rattle.av_net.specs.Lexemes.{Token}
-use Rattle.av_net.specs.Grammar.{Text, ModuleText, Declaration, Item, drive, widening, AreWords, no_word, next_word, IsWordAt, IsNameAt, name, IsEnd, end, IsRange, no_range, range, IsPort, IsDeclaration, IsDrive, IsItem, AreMany, no_more, one_more, IsKindInput, IsKindDeclaration, IsKindItem, kind_assignment, kind_wide_assignment, IsClockFirst, IsKind, IsClocked, IsTop, IsText}
+use Rattle.av_net.specs.Grammar.{ModuleText, Declaration, Item, drive, no_word, next_word, IsWordAt, IsNameAt, name, IsEnd, end, IsRange, no_range, range, IsPort, IsDeclaration, IsDrive, IsItem, AreMany, no_more, one_more, IsKindInput, IsKindDeclaration, IsKindItem, kind_assignment, kind_wide_assignment, IsClockFirst, IsKind, IsTop, IsText}
 use Rattle.av_vread.specs.inner.Reading.{is_at, width_for}
 use Rattle.av_vread.specs.Beginnings.{Begins}
-use Rattle.av_vread.specs.Fronts.{Behind, in_first, in_next, FrontMany, in_part, past_part, FrontOne, one_there, FrontWords, no_word_yet, past_word, Words, IsThisName, FrontName, FrontPort, FrontDeclared, FrontDrive, FrontWideDrive, FrontKindInput, FrontKindItem, FrontKindRest, FrontKindPorts, FrontKind, FrontClocked, Clocked, FrontPorts, FrontTop, FrontEnd, no_end_yet, at_end, FrontText}
+use Rattle.av_vread.specs.Fronts.{in_first, in_next, FrontMany, in_part, one_there, no_word_yet, past_word, Words, IsThisName, FrontKindInput, FrontKindItem, FrontKindRest, FrontKindPorts, FrontKind, FrontClocked, Clocked, FrontTop, FrontEnd, no_end_yet, at_end, FrontText}
 use Rattle.av_vread.proofs.Sound.{width_bits}
 use Rattle.av_vread.proofs.Steps.{at_word, word_there, other_there}
 use Rattle.av_vread.proofs.Verdicts.{Follows, follows, Mapped, mapped, unmap}

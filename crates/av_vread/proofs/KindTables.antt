@@ -1,7 +1,8 @@
 -- What kinds of cells found by their names tell.
-use Rattle.std.proofs.Common.{◌≡◌, ℕ, zero, suc, ◌++◌, Bool, true, false, true≢false, cond, List, [], ◌∷◌, map, length, get_or, take, drop, ◌+◌, ◌≤◌, Option, Some, None, refl, sym, ap, ◌∙◌, arith}
-use Rattle.std.specs.Prelude.{◌||◌, ◌<◌, is_some, option_map, slice_get, find, not, IfSome, if◌then◌else◌}
+use Rattle.std.proofs.Common.{◌≡◌, ℕ, zero, suc, ◌++◌, Bool, true, false, true≢false, cond, List, [], ◌∷◌, map, length, get_or, take, drop, ◌+◌, ◌≤◌, Option, Some, None, refl, sym, ap, subst, ◌∙◌, arith}
+use Rattle.std.specs.Prelude.{◌<◌, is_some, option_map, slice_get, find, not, IfSome, if◌then◌else◌}
 use Rattle.std.specs.Map.{lookup}
+use Rattle.std.proofs.lemmas.List.{length-map}
 use Rattle.std.proofs.lemmas.Slice.Eq.{bytes_eq-Decides}
 use Rattle.std.specs.List.{list_any, flat_map}
 use Rattle.std.specs.Str.{bytes_eq}
@@ -11,7 +12,7 @@ use Rattle.av_net.specs.Flat.{no_kind}
 use Rattle.av_net.specs.Names.{names_of, width_in}
 use Rattle.av_net.specs.Grammar.{Link, Instantiation, ModuleText, instance}
 use Rattle.av_net.specs.Rows.{Among, is_in, first_from, first_some, kind_from, kind_or, kind_named, unlinked_in, driven_by, driven_by_link, is_early_link, reads_early}
-use Rattle.av_vread.specs.inner.Numbered.{number_of}
+use Rattle.av_vread.specs.inner.Numbered.{place_among, number_of}
 use Rattle.av_vread.specs.inner.Scoped.{Bytes, width_found}
 use Rattle.av_vread.specs.declared.parsed.ModuleText.{ModuleText as FoundModule}
 use Rattle.av_vread.specs.declared.parsed.Link.{Link as FoundLink}
@@ -74,46 +75,46 @@ lookup_joined (x ∷ xs) name n q = go (bytes_eq q x.0) (lookup_joined xs name n
     go true e = refl
     go false e = e
 
-number_joined : (kinds : List CellKind) (kind : CellKind) (q : Bytes) → number_of (kinds ++ kind ∷ []) q ≡ first_from (number_of kinds q) (or_none (bytes_eq kind.name q) (length kinds))
+place_joined : (names : List Bytes) (name q : Bytes) → place_among (names ++ name ∷ []) q ≡ first_from (place_among names q) (or_none (bytes_eq name q) (length names))
 unfolding or_none
-number_joined [] kind q = go (bytes_eq kind.name q)
+place_joined [] name q = go (bytes_eq name q)
   where
     go : (t : Bool) → cond t (Some 0) None ≡ or_none t 0
     go true = refl
     go false = refl
-number_joined (k ∷ kinds) kind q = go (bytes_eq k.name q) (number_joined kinds kind q)
+place_joined (first ∷ names) name q = go (bytes_eq first q) (place_joined names name q)
   where
     more : (a : Option ℕ) (t : Bool) (n : ℕ) → option_map suc (first_from a (or_none t n)) ≡ first_from (option_map suc a) (or_none t (suc n))
     more None true n = refl
     more None false n = refl
     more (Some m) t n = refl
 
-    go : (t : Bool) → number_of (kinds ++ kind ∷ []) q ≡ first_from (number_of kinds q) (or_none (bytes_eq kind.name q) (length kinds))
-        → cond t (Some 0) (option_map suc (number_of (kinds ++ kind ∷ []) q)) ≡ first_from (cond t (Some 0) (option_map suc (number_of kinds q))) (or_none (bytes_eq kind.name q) (length (k ∷ kinds)))
+    go : (t : Bool) → place_among (names ++ name ∷ []) q ≡ first_from (place_among names q) (or_none (bytes_eq name q) (length names))
+        → cond t (Some 0) (option_map suc (place_among (names ++ name ∷ []) q)) ≡ first_from (cond t (Some 0) (option_map suc (place_among names q))) (or_none (bytes_eq name q) (length (first ∷ names)))
     go true e = refl
-    go false e = ap (option_map suc) e ∙ more (number_of kinds q) (bytes_eq kind.name q) (length kinds)
+    go false e = ap (option_map suc) e ∙ more (place_among names q) (bytes_eq name q) (length names)
 
--- a kind more, where its name is new
-pub more_numbers : (numbers numbers' : List (Bytes × ℕ)) (kinds : List CellKind) (kind : CellKind) (n : ℕ) → ((q : Bytes) → lookup (bytes_eq q) numbers ≡ number_of kinds q) → n ≡ length kinds
-    → numbers' ≡ (if is_some (lookup (bytes_eq kind.name) numbers) then numbers else (numbers ++ (kind.name, n) ∷ [])) → (q : Bytes) → lookup (bytes_eq q) numbers' ≡ number_of (kinds ++ kind ∷ []) q
+-- a name more, where it is new
+pub more_places : (places places' : List (Bytes × ℕ)) (names : List Bytes) (name : Bytes) (n : ℕ) → ((q : Bytes) → lookup (bytes_eq q) places ≡ place_among names q) → n ≡ length names
+    → places' ≡ (if is_some (lookup (bytes_eq name) places) then places else (places ++ (name, n) ∷ [])) → (q : Bytes) → lookup (bytes_eq q) places' ≡ place_among (names ++ name ∷ []) q
 unfolding or_none
-more_numbers numbers numbers' kinds kind n h same e q = go (is_some (lookup (bytes_eq kind.name) numbers)) refl e
+more_places places places' names name n h same e q = go (is_some (lookup (bytes_eq name) places)) refl e
   where
     there : (a : Option ℕ) (t : Bool) (m : ℕ) → (a ≡ None → t ≡ true → ⊥) → a ≡ first_from a (or_none t m)
     there (Some k) t m none = refl
     there None false m none = refl
     there None true m none = absurd (none refl refl)
 
-    go : (t : Bool) → is_some (lookup (bytes_eq kind.name) numbers) ≡ t → numbers' ≡ (if t then numbers else (numbers ++ (kind.name, n) ∷ [])) → lookup (bytes_eq q) numbers' ≡ number_of (kinds ++ kind ∷ []) q
+    go : (t : Bool) → is_some (lookup (bytes_eq name) places) ≡ t → places' ≡ (if t then places else (places ++ (name, n) ∷ [])) → lookup (bytes_eq q) places' ≡ place_among (names ++ name ∷ []) q
     go false f e =
-        ap (lookup (bytes_eq q)) e ∙ lookup_joined numbers kind.name n q ∙ ap (λ z. first_from z (or_none (bytes_eq q kind.name) n)) (h q)
-        ∙ ap (λ t. first_from (number_of kinds q) (or_none t n)) (flip q kind.name) ∙ ap (λ m. first_from (number_of kinds q) (or_none (bytes_eq kind.name q) m)) same ∙ sym (number_joined kinds kind q)
+        ap (lookup (bytes_eq q)) e ∙ lookup_joined places name n q ∙ ap (λ z. first_from z (or_none (bytes_eq q name) n)) (h q)
+        ∙ ap (λ t. first_from (place_among names q) (or_none t n)) (flip q name) ∙ ap (λ m. first_from (place_among names q) (or_none (bytes_eq name q) m)) same ∙ sym (place_joined names name q)
     go true f e =
         ap (lookup (bytes_eq q)) e ∙ h q
-        ∙ there (number_of kinds q) (bytes_eq kind.name q) (length kinds) (λ none is.
-        let name : kind.name ≡ q = (bytes_eq-Decides kind.name q).0 is in
-        true≢false (sym f ∙ ap is_some (ap (λ z. lookup (bytes_eq z) numbers) name ∙ h q ∙ none)))
-        ∙ sym (number_joined kinds kind q)
+        ∙ there (place_among names q) (bytes_eq name q) (length names) (λ none is.
+        let named : name ≡ q = (bytes_eq-Decides name q).0 is in
+        true≢false (sym f ∙ ap is_some (ap (λ z. lookup (bytes_eq z) places) named ∙ h q ∙ none)))
+        ∙ sym (place_joined names name q)
 
 number_step : (kind : CellKind) (kinds : List CellKind) (q : Bytes) (t : Bool) (a : Option ℕ) (n : ℕ) → cond t (Some 0) (option_map suc a) ≡ Some n → ((m : ℕ) → a ≡ Some m → slice_get kinds m ≡ kind_named kinds q)
     → slice_get (kind ∷ kinds) n ≡ cond t (Some kind) (kind_named kinds q)
@@ -148,20 +149,27 @@ pub number_item : (kinds : List CellKind) (q : Bytes) (n : ℕ) (d : CellKind) �
 number_item [] q n d e = absurd cc
 number_item (kind ∷ kinds) q n d e = item_step kind kinds q (bytes_eq kind.name q) (number_of kinds q) n d e (λ m f. number_item kinds q m d f)
 
+place_step : (t : Bool) (a : Option ℕ) (n m : ℕ) → cond t (Some 0) (option_map suc a) ≡ Some n → ((k : ℕ) → a ≡ Some k → k < m) → n < suc m
+place_step true a zero m e ih = omega arith
+place_step true a (suc n) m e ih = absurd cc
+place_step false None n m e ih = absurd cc
+place_step false (Some k) zero m e ih = absurd cc
+place_step false (Some k) (suc n) m e ih = let less = ih k refl in let same : k ≡ n = cc in omega (arith, less, same)
+
+pub place_within : (names : List Bytes) (q : Bytes) (n : ℕ) → place_among names q ≡ Some n → n < length names
+place_within [] q n e = absurd cc
+place_within (name ∷ names) q n e = place_step (bytes_eq name q) (place_among names q) n (length names) e (λ k f. place_within names q k f)
+
+pub number_below : (kinds : List CellKind) (q : Bytes) (n : ℕ) → number_of kinds q ≡ Some n → n < length kinds
+number_below kinds q n e = subst (λ m. n < m) (length-map kinds (λ (kind : CellKind). kind.name)) (place_within (map (λ kind. kind.name) kinds) q n e)
+
 pub number_within : (kinds : List CellKind) (q : Bytes) (r : Option ℕ) → r ≡ number_of kinds q → IfSome r (λ n. n < length kinds)
 number_within kinds q None e = tt
-number_within kinds q (Some n) e = below kinds n (sym e)
-  where
-    step : (t : Bool) (a : Option ℕ) (n m : ℕ) → cond t (Some 0) (option_map suc a) ≡ Some n → ((k : ℕ) → a ≡ Some k → k < m) → n < suc m
-    step true a zero m e ih = omega arith
-    step true a (suc n) m e ih = absurd cc
-    step false None n m e ih = absurd cc
-    step false (Some k) zero m e ih = absurd cc
-    step false (Some k) (suc n) m e ih = let less = ih k refl in let same : k ≡ n = cc in omega (arith, less, same)
+number_within kinds q (Some n) e = number_below kinds q n (sym e)
 
-    below : (kinds : List CellKind) (n : ℕ) → number_of kinds q ≡ Some n → n < length kinds
-    below [] n e = absurd cc
-    below (kind ∷ kinds) n e = step (bytes_eq kind.name q) (number_of kinds q) n (length kinds) e (λ k f. below kinds k f)
+pub number_fits : (kinds : List CellKind) (q : Bytes) (r : Option ℕ) → r ≡ number_of kinds q → length kinds ≤ 1073741824 → IfSome r (λ n. n < 4294967296)
+number_fits kinds q None e few = tt
+number_fits kinds q (Some n) e few = let below = number_below kinds q n (sym e) in omega (arith, below, few)
 
 -- ---- one module after the other
 

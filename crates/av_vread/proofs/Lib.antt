@@ -45,3 +45,6 @@ pub mod FrontRules
 pub mod FrontParts
 pub mod FrontTexts
 pub mod KindTables
+pub mod SeenMentions
+pub mod PlacedInstances
+pub mod RepeatedParts

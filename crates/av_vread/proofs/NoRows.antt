@@ -1,17 +1,16 @@
 -- No row of faults holds of the text of a plan with sound modules.
-use Rattle.std.proofs.Common.{◌≡◌, ℕ, zero, suc, ◌+◌, ◌-◌, ◌<◌, ◌≤◌, Bool, true, false, if◌then◌else◌, not, List, [], ◌∷◌, ◌++◌, map, get_or, Option, Some, None, refl, sym, ap, subst, ◌∙◌, arith, inl, inr, append_assoc, eq-eqb, true≢false}
+use Rattle.std.proofs.Common.{◌≡◌, ℕ, ◌+◌, ◌-◌, ◌≤◌, Bool, true, false, if◌then◌else◌, not, List, [], ◌∷◌, ◌++◌, map, Option, Some, None, refl, sym, ap, subst, ◌∙◌, arith, inl, inr, append_assoc, eq-eqb}
 use Rattle.std.specs.Prelude.{◌&&◌, nat_eq, nat_lt, All, Contains, find, option_map}
 use Rattle.std.specs.List.{flat_map, list_any, AllByRecursion}
 use Rattle.std.specs.Str.{bytes_eq}
 use Rattle.std.proofs.lemmas.Bool.{lt-ltb}
 use Rattle.std.proofs.lemmas.List.{append-nil, map-append}
 use Rattle.std.proofs.lemmas.List.Concat.{flat_map-append}
-use Rattle.std.proofs.lemmas.List.Elements.{recursion_from_All, All-nil, All-contains, Contains-append_left, Contains-append_right, Contains-append_cases, Contains-get_or}
+use Rattle.std.proofs.lemmas.List.Elements.{recursion_from_All, All-contains, Contains-append_left, Contains-append_right, Contains-append_cases}
 use Rattle.std.proofs.lemmas.Slice.Eq.{bytes_eq-Decides}
 use Rattle.av_base.proofs.Among.{first_among, more_among, none_among, from_map, among_flat_map}
 use Rattle.av_base.proofs.Tables.{is_found, is_there, not_there}
 use Rattle.av_base.proofs.Truths.{and_true, by_test}
-use Rattle.av_base.specs.declared.width.Width.{Width}
 use Rattle.av_net.specs.declared.operation.Operand.{Operand}
 use Rattle.av_net.specs.declared.operation.Operand.TheVariants as operand
 use Rattle.av_net.specs.declared.operation.Operation.{Operation}
@@ -25,14 +24,14 @@ use Rattle.av_net.specs.declared.plan.Instance.{Instance}
 use Rattle.av_net.specs.declared.plan.Plan.{Plan}
 use Rattle.av_net.specs.Meaning.{Widths, operand_width, EachOperand}
 use Rattle.av_net.specs.Names.{clk, rst, names_of, given_names, wire_names, all_names, targets_of, registers_of, AreDistinct, IsAmong, width_in, declarations, width_of}
-use Rattle.av_net.specs.Sound.{IsInOrder, symbol_width, SuitsWidth, IsFitting, IsSound}
+use Rattle.av_net.specs.Sound.{IsInOrder, symbol_width, SuitsWidth, IsSound}
 use Rattle.av_net.specs.Texts.{written_width}
-use Rattle.av_net.specs.Flat.{kind_module, kind_of, no_kind, instance_wires}
-use Rattle.av_net.specs.Plans.{instance_names, linked_names, part_names, IsPlaced, AreInOrder, IsSoundTop, module_names, HasSoundModules}
-use Rattle.av_net.specs.Grammar.{Text, ModuleText, wire, register, Link, Instantiation, Item, drive, widening, step, instance}
-use Rattle.av_net.specs.Rows.{wires_of, registers_in, drives_of, steps_of, module_of, kind_from, kinds_of, modules_of, declared_names, target_of, operands_of, is_in, first_some, first_from, first_repeated, Among, instance_of, instances_in, kind_for, driven_by_link, driven_by, driven_names, link_mentions, reads_early, is_early_link, Mention, of_module, declares, drives, first_again, item_mentions, mentions_of, twice_from, top_names, part_twice, twice_name, wrong_operand, wrong_drive, wrong_in, wrong_in_module, wrong_name, unlinked_in, undriven_in_module, undriven_name, is_early, first_early, early_in_module, early_name, suits_width, selects_highest, suits, unsuited_in_module, unsuited_name}
+use Rattle.av_net.specs.Flat.{kind_module, kind_of, instance_wires}
+use Rattle.av_net.specs.Plans.{instance_names, linked_names, part_names, AreInOrder, IsSoundTop, HasSoundModules}
+use Rattle.av_net.specs.Grammar.{ModuleText, wire, register, Link, Instantiation, Item, drive, widening, step, instance}
+use Rattle.av_net.specs.Rows.{wires_of, registers_in, drives_of, steps_of, module_of, kinds_of, modules_of, declared_names, target_of, operands_of, is_in, first_some, first_from, first_repeated, Among, instance_of, instances_in, kind_for, driven_by_link, driven_by, driven_names, link_mentions, reads_early, is_early_link, of_module, declares, drives, first_again, item_mentions, mentions_of, twice_from, twice_name, wrong_operand, wrong_drive, wrong_in, wrong_in_module, unlinked_in, undriven_in_module, is_early, first_early, early_in_module, suits_width, selects_highest, suits, unsuited_in_module}
 use Rattle.av_net.specs.Designs.{HasNoRow}
-use Rattle.av_net.proofs.Distinct.{apart, front_distinct, rest_distinct, append_distinct}
+use Rattle.av_net.proofs.Distinct.{apart, front_distinct, rest_distinct}
 use Rattle.av_net.proofs.Declared.{width_here, register_declared, names_declared}
 use Rattle.av_net.proofs.Settles.{not_equal, names_distinct}
 use Rattle.av_net.proofs.RowTests.{each_by}
@@ -41,12 +40,11 @@ use Rattle.av_net.proofs.Alone.{alone_top}
 use Rattle.av_net.proofs.InParts.{kind_sound, named_port}
 use Rattle.av_net.proofs.FlatTargets.{placed_at}
 use Rattle.av_net.proofs.Counts.{count, count_joined, distinct_by, at_most_once}
-use Rattle.av_net.proofs.Linked.{ports_in}
 use Rattle.av_net.proofs.Mentions.{declared_in, front_of, all_declared_in, picked_in, items_drive, own_links, nested, linked_at, driven_at, nothing_twice}
 use Rattle.av_net.proofs.Rowless.{count_names}
-use Rattle.av_net.proofs.Said.{drive_said, said_by, kind_said, step_said, instance_said, top_said, plan_said, width_for, width_for_is, kinds_back, found_at, instances_joined, steps_joined, all_drives, all_steps, wires_back, registers_back, drives_said, instance_back}
+use Rattle.av_net.proofs.Said.{drive_said, said_by, kind_said, step_said, instance_said, plan_said, width_for, width_for_is, kinds_back, found_at, instances_joined, steps_joined, all_drives, all_steps, wires_back, registers_back, drives_said, instance_back}
 use Rattle.av_vread.proofs.Each.{all_append, all_front, all_back, all_map, all_unmap, all_weaker, both_all}
-use Rattle.av_vread.proofs.FreshMentions.{module_at, AreFresh, fresh_none}
+use Rattle.av_vread.proofs.FreshMentions.{module_at, fresh_none}
 use Rattle.av_vread.proofs.SaidLinks.{IsSaid, kind_there, drives_outputs, links_ports, instance_right, all_linked, reads_late, instance_suits}
 
 -- ---- drives, steps and instances as items

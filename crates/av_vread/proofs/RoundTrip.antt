@@ -1,6 +1,6 @@
 -- The text of a sound design spells that design, and the text of a sound plan its flat design.
 use Rattle.std.proofs.Common.{◌≡◌, ℕ, ◌-◌, ◌≤◌, List, [], ◌∷◌, ◌++◌, length, take, refl, sym, ap, subst, ◌∙◌, arith, append_assoc}
-use Rattle.std.specs.Prelude.{codes, All}
+use Rattle.std.specs.Prelude.{codes}
 use Rattle.std.specs.List.{AllByRecursion, filter, flat_map}
 use Rattle.std.proofs.lemmas.List.Elements.{recursion_from_All, All-nil, All-weaker}
 use Rattle.av_base.specs.declared.place.Place.{Place}
@@ -12,17 +12,16 @@ use Rattle.av_net.specs.declared.plan.CellKind.{CellKind}
 use Rattle.av_net.specs.declared.plan.Instance.{Instance}
 use Rattle.av_net.specs.declared.plan.Plan.{Plan}
 use Rattle.av_net.specs.Names.{names_of, wire_names}
-use Rattle.av_net.specs.Flat.{flat_module, flat_of}
-use Rattle.av_net.specs.Lexemes.{AreTokens}
+use Rattle.av_net.specs.Flat.{flat_of}
 use Rattle.av_net.specs.Listed.{lines_of, numbered, is_listed, listing_lines, IsListing}
-use Rattle.av_net.specs.Rows.{module_of, flat_text}
+use Rattle.av_net.specs.Rows.{module_of}
 use Rattle.av_net.specs.Texts.{version_line, listing_text, module_text, text}
 use Rattle.av_net.specs.PlanTexts.{second_version_line, kind_text, top_text, text2}
 use Rattle.av_net.specs.Designs.{first_line, Says, Spells, IsSoundDesign, IsSoundPlan}
 use Rattle.av_net.proofs.Made.{made}
 use Rattle.av_net.proofs.Alone.{alone, alone_sound, alone_flat}
 use Rattle.av_net.proofs.Said.{plan_said, top_said, flat_of_said}
-use Rattle.av_vread.specs.SpelledParts.{IsEntrySpelled, HasSpelledParts, IsKindSpelled, IsPlanSpelled}
+use Rattle.av_vread.specs.SpelledParts.{IsEntrySpelled, IsKindSpelled, IsPlanSpelled}
 use Rattle.av_vread.proofs.Faulted.{one_design}
 use Rattle.av_vread.proofs.ListingLines.{texts_of}
 use Rattle.av_vread.proofs.Spaced.{bytes_of, tokens_from, spaced_tokens}
@@ -32,7 +31,7 @@ use Rattle.av_vread.proofs.WrittenBytes.{plan_bytes, module_bytes}
 use Rattle.av_vread.proofs.WrittenGrammar.{plan_is}
 use Rattle.av_vread.proofs.WrittenListing.{joined, entry_lines, listing_joined, IsCommentLine, IsVersionLine, first_version, second_version, entry_comments, after_lines, comments_before, lines_after, lines_found, listing_found}
 use Rattle.av_vread.proofs.NoRows.{top_back, no_rows}
-use Rattle.av_vread.proofs.SpelledParts.{parts_spelled, plan_spelled}
+use Rattle.av_vread.proofs.SpelledParts.{plan_spelled}
 
 -- ---- a plan whose parts are spelled is told by its text, be it sound or not
 

@@ -2,7 +2,6 @@
 use Rattle.std.proofs.Common.{◌≡◌, ℕ, suc, ◌+◌, ◌<◌, Bool, false, cond, not, List, [], ◌∷◌, ◌++◌, length, drop, get_or, map, Option, Some, refl, sym, ap, subst, ◌∙◌, arith, append_assoc, drop-cons}
 use Rattle.std.specs.Prelude.{◌||◌, OnOk, Result, Ok, Err, find, if◌then◌else◌}
 use Rattle.std.proofs.Math.Path.{fun_ext}
-use Rattle.std.proofs.lemmas.List.{append-nil}
 use Rattle.av_net.specs.declared.netlist.Port.{Port}
 use Rattle.av_net.specs.declared.plan.CellKind.{CellKind}
 use Rattle.av_net.specs.Names.{width_in}
@@ -46,7 +45,7 @@ set_walk names i d set set' total q lt e so =
     rest_at names i d lt = drop-cons names i d lt ∙ ap (λ n. get_or names i d ∷ drop n names) (let next : suc i ≡ i + 1 = omega arith in next)
 
 -- the same names more after either list
-more_names : (a b names : List (List ℕ)) (q : List ℕ) → is_in a q ≡ is_in b q → is_in (a ++ names) q ≡ is_in (b ++ names) q
+pub more_names : (a b names : List (List ℕ)) (q : List ℕ) → is_in a q ≡ is_in b q → is_in (a ++ names) q ≡ is_in (b ++ names) q
 more_names a b names q h = any_or_of q a names ∙ ap (λ x. x || is_in names q) h ∙ sym (any_or_of q b names)
 
 pub early_same : (kinds : List CellKind) (w : Among) (a b : List (List ℕ)) (items : List Item) → ((q : List ℕ) → is_in a q ≡ is_in b q) → first_early kinds w a items ≡ first_early kinds w b items

@@ -1,8 +1,8 @@
 -- The links that the text of a plan says of an instance: one for each port of its kind, in their order.
-use Rattle.std.proofs.Common.{◌≡◌, ℕ, ◌+◌, ◌<◌, List, [], ◌∷◌, ◌++◌, map, Some, None, refl, sym, ap, subst, ◌∙◌, arith, Bool, true, false, not, inl, inr}
-use Rattle.std.specs.Prelude.{◌&&◌, nat_eq, Contains, All, find}
+use Rattle.std.proofs.Common.{◌≡◌, ℕ, List, [], ◌∷◌, ◌++◌, map, Some, None, refl, sym, ap, subst, ◌∙◌, Bool, true, false, not}
+use Rattle.std.specs.Prelude.{◌&&◌, Contains, All, find}
 use Rattle.std.specs.List.{flat_map, list_any, AllByRecursion}
-use Rattle.std.proofs.lemmas.List.{map-append, append-nil}
+use Rattle.std.proofs.lemmas.List.{map-append}
 use Rattle.std.proofs.lemmas.List.Concat.{flat_map-append}
 use Rattle.std.proofs.lemmas.List.Elements.{recursion_from_All, Contains-append_left, Contains-append_right}
 use Rattle.std.proofs.lemmas.Bool.{eq-eqb}
@@ -19,7 +19,7 @@ use Rattle.av_net.specs.Names.{AreDistinct, names_of, IsAmong, width_in}
 use Rattle.av_net.specs.Flat.{kind_of}
 use Rattle.av_net.specs.Plans.{SuitPorts, IsPlaced}
 use Rattle.av_net.specs.Grammar.{Link, instance}
-use Rattle.av_net.specs.Rows.{is_in, first_some, Among, kind_named, kind_or, kind_for, is_input_of, is_output_of, driven_by_link, driven_by, wrong_operand, wrong_output, wrong_link, wrong_instance, unlinked_in, is_early, is_early_link, suits_port, suits}
+use Rattle.av_net.specs.Rows.{is_in, first_some, kind_named, kind_or, kind_for, is_input_of, is_output_of, driven_by_link, driven_by, wrong_operand, wrong_output, wrong_link, wrong_instance, unlinked_in, suits_port, suits}
 use Rattle.av_net.proofs.Distinct.{apart}
 use Rattle.av_net.proofs.Declared.{width_here}
 use Rattle.av_net.proofs.Linked.{ports_in}

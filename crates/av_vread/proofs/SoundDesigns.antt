@@ -11,7 +11,6 @@ use Rattle.av_net.specs.declared.operation.Operation.TheVariants as operation
 use Rattle.av_net.specs.declared.netlist.Port.{Port}
 use Rattle.av_net.specs.declared.netlist.Drive.{Drive}
 use Rattle.av_net.specs.declared.netlist.Step.{Step}
-use Rattle.av_net.specs.declared.netlist.Module.{Module}
 use Rattle.av_net.specs.declared.design.Design.{Design}
 use Rattle.av_net.specs.declared.plan.CellKind.{CellKind}
 use Rattle.av_net.specs.declared.plan.Instance.{Instance}
@@ -21,7 +20,7 @@ use Rattle.av_net.specs.Lexemes.{Token, IsName}
 use Rattle.av_net.specs.Flat.{kind_module}
 use Rattle.av_net.specs.Plans.{instance_names}
 use Rattle.av_net.specs.Grammar.{ModuleText, Item, drive, widening, step, instance, IsOperation, plain, binary, signed, choice, selection, IsDrive, IsWideningDrive, AreMany, no_more, one_more, IsItem, assignment, wide_assignment, at_an_edge, instantiation, IsKindItem, kind_assignment, kind_wide_assignment, IsKind}
-use Rattle.av_net.specs.Rows.{module_of, kind_from, kinds_of, drives_of, steps_of, registers_in, instances_in, flat_text}
+use Rattle.av_net.specs.Rows.{module_of, kind_from, kinds_of, drives_of, steps_of, registers_in, instances_in}
 use Rattle.av_net.specs.Designs.{Spells, HasWidth, HasBits, HasSpelling, IsSoundDesign}
 use Rattle.av_net.proofs.InParts.{all_by}
 use Rattle.av_net.proofs.RowTests.{each_at, fit_items}

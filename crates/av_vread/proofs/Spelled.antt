@@ -1,5 +1,5 @@
 -- What is spelled of the parts of a plan, list by list.
-use Rattle.std.proofs.Common.{◌≡◌, ℕ, ◌-◌, ◌<◌, ◌≤◌, ◌^◌, Bool, true, false, if◌then◌else◌, List, [], ◌∷◌, ◌++◌, map, length, refl, ◌∙◌, arith, length-append}
+use Rattle.std.proofs.Common.{◌≡◌, ℕ, ◌<◌, ◌≤◌, ◌^◌, Bool, true, false, if◌then◌else◌, List, [], ◌∷◌, ◌++◌, map, length, refl, ◌∙◌, arith, length-append}
 use Rattle.std.specs.Prelude.{All}
 use Rattle.std.specs.List.{AllByRecursion}
 use Rattle.std.specs.Str.{bytes_eq}
@@ -21,7 +21,7 @@ use Rattle.av_net.specs.Flat.{kind_module, kind_of, no_kind}
 use Rattle.av_net.specs.Lexemes.{IsName}
 use Rattle.av_net.specs.Grammar.{Link, Instantiation}
 use Rattle.av_net.proofs.Said.{links_said, instance_said}
-use Rattle.av_vread.specs.SpelledParts.{IsOperandSpelled, IsPortSpelled, IsModuleSpelled, IsInstanceSpelled, IsKindSpelled}
+use Rattle.av_vread.specs.SpelledParts.{IsOperandSpelled, IsPortSpelled, IsInstanceSpelled, IsKindSpelled}
 use Rattle.av_vread.proofs.Each.{all_append, all_front, all_back}
 
 abbrev pub ArePortsSpelled : List Port → Type 0

@@ -1,8 +1,7 @@
 -- The tokens of a written plan say that plan.
-use Rattle.std.proofs.Common.{◌≡◌, ◌≢◌, ℕ, ◌-◌, ◌<◌, ◌≤◌, ◌^◌, Bool, true, false, cond, List, [], ◌∷◌, ◌++◌, map, length, refl, sym, subst, ◌∙◌, arith}
+use Rattle.std.proofs.Common.{◌≡◌, ◌≢◌, ℕ, ◌-◌, ◌≤◌, List, [], ◌∷◌, ◌++◌, map, length, refl, sym, subst, ◌∙◌, arith}
 use Rattle.std.specs.Prelude.{codes, decimal}
 use Rattle.std.specs.List.{AllByRecursion}
-use Rattle.std.specs.Str.{bytes_eq}
 use Rattle.std.proofs.lemmas.List.Elements.{recursion_from_All}
 use Rattle.av_base.specs.declared.place.Place.{Place}
 use Rattle.av_base.specs.declared.width.Width.{Width}
@@ -15,7 +14,6 @@ use Rattle.av_net.specs.declared.operation.Operation.TheVariants as operation
 use Rattle.av_net.specs.declared.netlist.Port.{Port}
 use Rattle.av_net.specs.declared.netlist.Drive.{Drive}
 use Rattle.av_net.specs.declared.netlist.Step.{Step}
-use Rattle.av_net.specs.declared.netlist.Module.{Module}
 use Rattle.av_net.specs.declared.plan.CellKind.{CellKind}
 use Rattle.av_net.specs.declared.plan.Instance.{Instance}
 use Rattle.av_net.specs.declared.plan.Plan.{Plan}
@@ -25,9 +23,9 @@ use Rattle.av_net.specs.Sound.{ComparesByOrder}
 use Rattle.av_net.specs.Texts.{written_width}
 use Rattle.av_net.specs.Flat.{kind_module}
 use Rattle.av_net.specs.Lexemes.{Token}
-use Rattle.av_net.specs.Grammar.{Text, wire, register, Link, Item, drive, widening, step, instance, AreWords, no_word, next_word, IsWordAt, IsNameAt, name, number, IsLiteral, literal, end, IsRange, range, IsPort, IsDeclaration, wire_declaration, register_declaration, IsPart, IsWidening, IsOperand, named, constant, spelling, IsSigned, IsOperation, plain, binary, signed, choice, selection, IsEdge, AreMany, no_more, one_more, IsLink, IsNextLink, IsItem, at_an_edge, instantiation, IsKindInput, IsKindDeclaration, kind_wire, IsKindItem, kind_assignment, kind_wide_assignment, IsClockFirst, IsKind, IsClocked, IsTop, IsText}
+use Rattle.av_net.specs.Grammar.{wire, register, Link, Item, drive, widening, instance, AreWords, no_word, next_word, IsWordAt, IsNameAt, name, number, IsLiteral, literal, end, IsRange, range, IsPort, IsDeclaration, wire_declaration, register_declaration, IsPart, IsWidening, IsOperand, named, constant, spelling, IsSigned, IsOperation, plain, binary, signed, choice, selection, IsEdge, AreMany, no_more, one_more, IsLink, IsNextLink, IsItem, at_an_edge, instantiation, IsKindInput, IsKindDeclaration, kind_wire, IsKindItem, kind_assignment, kind_wide_assignment, IsClockFirst, IsKind, IsClocked, IsTop, IsText}
 use Rattle.av_net.proofs.Said.{said_by, drive_said, kind_said, width_for, width_for_is, step_said, instance_said, top_said, plan_said}
-use Rattle.av_vread.specs.SpelledParts.{IsOperandSpelled, HasBitsSpelled, IsDriveSpelled, IsStepSpelled, IsModuleSpelled, IsInstanceSpelled, IsKindSpelled, IsPlanSpelled}
+use Rattle.av_vread.specs.SpelledParts.{IsOperandSpelled, HasBitsSpelled, IsDriveSpelled, IsStepSpelled, IsInstanceSpelled, IsKindSpelled, IsPlanSpelled}
 use Rattle.av_vread.proofs.Numerals.{number_value}
 use Rattle.av_vread.proofs.Sound.{any_item}
 use Rattle.av_vread.proofs.Spaced.{Written, past, passed, tokens_from}

@@ -1,8 +1,6 @@
 -- The tokens of a written plan are those that are found in its text.
-use Rattle.std.proofs.Common.{◌≡◌, ℕ, ◌-◌, ◌<◌, ◌≤◌, ◌^◌, Bool, true, false, if◌then◌else◌, List, [], ◌∷◌, ◌++◌, map, length, refl, sym, subst, ◌∙◌, arith, length-append}
-use Rattle.std.specs.Str.{bytes_eq}
-use Rattle.std.proofs.lemmas.List.{length-map}
-use Rattle.std.specs.Prelude.{codes, decimal, All, Contains, IsTrue}
+use Rattle.std.proofs.Common.{◌≡◌, ℕ, ◌-◌, ◌<◌, ◌≤◌, ◌^◌, true, List, [], ◌∷◌, ◌++◌, refl, sym, subst, arith}
+use Rattle.std.specs.Prelude.{codes, decimal, Contains, IsTrue}
 use Rattle.std.specs.List.{AllByRecursion}
 use Rattle.std.proofs.lemmas.List.Elements.{All-nil, All-from_recursion, recursion_from_All}
 use Rattle.av_base.specs.declared.width.Width.{Width}
@@ -18,9 +16,8 @@ use Rattle.av_net.specs.declared.operation.Operation.TheVariants as operation
 use Rattle.av_net.specs.declared.netlist.Port.{Port}
 use Rattle.av_net.specs.declared.netlist.Drive.{Drive}
 use Rattle.av_net.specs.declared.netlist.Step.{Step}
-use Rattle.av_net.specs.declared.netlist.Module.{Module}
 use Rattle.av_net.specs.Meaning.{Widths, EachOperand}
-use Rattle.av_net.specs.Names.{clk, rst, width_in, declarations}
+use Rattle.av_net.specs.Names.{clk, rst, width_in}
 use Rattle.av_net.specs.Lexemes.{reserved_words, IsName}
 use Rattle.av_net.specs.Grammar.{Link, Instantiation, spelling}
 use Rattle.av_net.specs.Spelling.{is_reserved}
@@ -28,11 +25,10 @@ use Rattle.av_net.specs.declared.plan.CellKind.{CellKind}
 use Rattle.av_net.specs.declared.plan.Instance.{Instance}
 use Rattle.av_net.specs.declared.plan.Plan.{Plan}
 use Rattle.av_net.specs.Texts.{written_width}
-use Rattle.av_net.specs.Flat.{kind_module, kind_of, no_kind}
-use Rattle.av_net.proofs.Said.{width_for, width_for_is, links_said, instance_said}
-use Rattle.av_vread.specs.SpelledParts.{IsOperandSpelled, IsPortSpelled, HasBitsSpelled, IsDriveSpelled, IsStepSpelled, IsModuleSpelled, IsInstanceSpelled, IsKindSpelled, IsPlanSpelled}
+use Rattle.av_net.specs.Flat.{kind_module}
+use Rattle.av_net.proofs.Said.{width_for, width_for_is, instance_said}
+use Rattle.av_vread.specs.SpelledParts.{IsOperandSpelled, HasBitsSpelled, IsDriveSpelled, IsStepSpelled, IsInstanceSpelled, IsKindSpelled, IsPlanSpelled}
 use Rattle.av_base.proofs.Tables.{is_there, none_there}
-use Rattle.av_vread.proofs.Each.{all_append, all_front, all_back}
 use Rattle.av_vread.proofs.Spaced.{Written, bytes_of, IsNext, AreBlank, AreSpaced}
 use Rattle.av_vread.proofs.NextTokens.{is_clear, name_next, reserved_next, plain_next, single_next, pair_next, signed_next, number_next, literal_next}
 use Rattle.av_vread.proofs.WrittenParts.{word, named, symbol, literal, operand_part, range_parts, port_parts, ports_onto, end_of_line, declaration_parts, declarations_onto, signed_parts, operation_parts, drive_onto, drives_onto, edge_parts, otherwise_onto, becomes_onto, step_onto, steps_onto, closed_onto, select_parts, widening_parts, link_onto, links_onto, all_links_onto, instance_onto, instances_onto, directed_onto, inputs_onto, outputs_onto, kind_body_onto, kind_onto, kinds_onto, top_parts, plan_parts}

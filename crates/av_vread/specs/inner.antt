@@ -1,4 +1,5 @@
 pub mod Scoped
+pub mod Seen
 pub mod KindPorts
 pub mod Numbered
 pub mod Kinds

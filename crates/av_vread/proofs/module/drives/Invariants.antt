@@ -1,7 +1,7 @@
 use Rattle.std.proofs.Common.{◌≡◌, ◌++◌, drop, map}
-use Rattle.av_net.specs.Rows.{drives_of}
+use Rattle.av_net.specs.Rows.{flat_drives}
 use Rattle.av_vread.specs.inner.Reading.{said_item}
 use Rattle.av_vread.proofs.module.drives.Given as goal
 
 abbrev pub invariant-loop-item : goal.invariant-loop-item
-invariant-loop-item l = l.drives ++ drives_of (map said_item (drop l.item-index l.items)) ≡ drives_of (map said_item l.items)
+invariant-loop-item l = l.drives ++ flat_drives l.cells (map said_item (drop l.item-index l.items)) ≡ flat_drives l.cells (map said_item l.items)

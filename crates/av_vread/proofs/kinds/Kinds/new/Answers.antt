@@ -1,25 +1,39 @@
-use Rattle.std.proofs.Common.{◌≡◌, ◌++◌, [], ◌∷◌, map, if◌then◌else◌, sym, ap, subst, ◌∙◌}
+use Rattle.std.proofs.Common.{◌≡◌, ◌<◌, ◌++◌, [], ◌∷◌, List, map, length, get_or, refl, if◌then◌else◌, sym, ap, subst, ◌∙◌, arith}
 use Rattle.std.specs.Prelude.{is_some}
 use Rattle.std.specs.Map.{lookup}
 use Rattle.std.specs.Str.{bytes_eq}
+use Rattle.std.proofs.lemmas.List.{length-map, map_push}
 use Rattle.av_net.specs.declared.plan.CellKind.{CellKind}
 use Rattle.av_net.specs.Rows.{kind_from}
 use Rattle.av_vread.specs.declared.parsed.ModuleText.{ModuleText}
 use Rattle.av_vread.specs.inner.Reading.{said_module}
-use Rattle.av_vread.specs.inner.Numbered.{number_of}
-use Rattle.av_vread.proofs.KindTables.{more_numbers, taken_map}
+use Rattle.av_vread.specs.inner.Numbered.{place_among, number_of}
+use Rattle.av_vread.proofs.Walks.{made_more}
+use Rattle.av_vread.proofs.KindTables.{more_places}
 use Rattle.av_vread.proofs.kinds.Kinds.new.Goals as goal
+
+-- the kinds of these texts
+abbrev cells : List ModuleText → List CellKind
+cells texts = map kind_from (map said_module texts)
 
 pub loop-text-preserved : goal.loop-text-preserved
 loop-text-preserved c =
+    let texts = c.args.of.now in
     let at = c.loop-text.text-index in
     let text = c.text-item.result in
     let before = c.loop-text.kinds.items in
     let numbers = c.loop-text.numbers in
     let kind : CellKind = kind_from (said_module text) in
+    let test = c.loop-text-test.true in
+    let size : length c.as_slice-text-items.result.now ≡ length texts = ap length c.as_slice-text-items.ensures in
+    let lt : at < length texts = omega (arith, test, size) in
+    let is : text ≡ get_or texts at text = c.text-item.is ∙ ap (λ items. get_or items at text) c.as_slice-text-items.ensures in
     let pushed : c.push.new.self.items ≡ before ++ kind ∷ [] = c.in_ok-push.ensures.items ∙ ap (λ k. before ++ k ∷ []) c.in_ok-new.ensures in
     let name = c.as_bytes.ensures.value ∙ c.as_str.ensures in
-    let put = subst (λ key. c.insert.new.self ≡ (if is_some (lookup (bytes_eq key) numbers) then numbers else (numbers ++ (key, c.len.result) ∷ []))) name c.in_ok-insert.ensures.all in (
-      pushed ∙ ap (λ kinds. kinds ++ kind ∷ []) c.loop-text.invariant.0 ∙ taken_map (λ (t : ModuleText). kind_from (said_module t)) c.args.of.now at text c.loop-text-test.true c.text-item.is,
-      λ q. more_numbers numbers c.insert.new.self before kind c.len.result c.loop-text.invariant.1 (c.len.ensures ∙ c.loop-text.kinds.ok.0) put q ∙ ap (λ kinds. number_of kinds q) (sym pushed),
-    )
+    let put = subst (λ key. c.insert.new.self ≡ (if is_some (lookup (bytes_eq key) numbers) then numbers else (numbers ++ (key, c.len-in-loop-text.result) ∷ []))) name c.in_ok-insert.ensures.all in
+    let count = c.len-in-loop-text.ensures ∙ c.loop-text.kinds.ok.0 ∙ sym (length-map before (λ (k : CellKind). k.name)) in
+    record {
+      made = made_more cells (λ x xs. refl) before c.push.new.self.items (cells texts) texts at text c.loop-text.invariant.made lt is pushed;
+      numbered = λ q. more_places numbers c.insert.new.self (map (λ k. k.name) before) kind.name c.len-in-loop-text.result c.loop-text.invariant.numbered count put q
+          ∙ ap (λ names. place_among names q) (sym (map_push (λ (k : CellKind). k.name) before kind)) ∙ ap (λ kinds. number_of kinds q) (sym pushed);
+    }

@@ -1,4 +1,4 @@
-use Rattle.std.proofs.Common.{◌≡◌, map, take}
+use Rattle.std.proofs.Common.{◌≡◌, ◌++◌, drop, map}
 use Rattle.std.specs.Map.{lookup}
 use Rattle.std.specs.Str.{bytes_eq}
 use Rattle.av_net.specs.Rows.{kind_from}
@@ -8,4 +8,7 @@ use Rattle.av_vread.specs.inner.Scoped.{Bytes}
 use Rattle.av_vread.proofs.kinds.Kinds.new.Given as goal
 
 abbrev pub invariant-loop-text : goal.invariant-loop-text
-invariant-loop-text l = (l.kinds.items ≡ map (λ text. kind_from (said_module text)) (take l.text-index l.of)) × ((q : Bytes) → lookup (bytes_eq q) l.numbers ≡ number_of l.kinds.items q)
+invariant-loop-text l = record {
+  made : l.kinds.items ++ map kind_from (map said_module (drop l.text-index l.of)) ≡ map kind_from (map said_module l.of);
+  numbered : (q : Bytes) → lookup (bytes_eq q) l.numbers ≡ number_of l.kinds.items q;
+}
