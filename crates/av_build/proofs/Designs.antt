@@ -5,6 +5,7 @@ use Rattle.av_tree.specs.Points.{Point}
 use Rattle.av_tree.specs.Values.{Assignment}
 use Rattle.av_flat.specs.declared.timed.Timed.{Timed}
 use Rattle.av_flat.specs.Trees.{FlatSystem, view_system}
+use Rattle.av_flat.specs.Legal.{IsLegal}
 use Rattle.av_flat.specs.OneSolution.{AreInputs}
 use Rattle.av_space.specs.declared.cells.Cells.{Cells}
 use Rattle.av_space.specs.declared.cells.Cell.{Cell}
@@ -21,13 +22,13 @@ use Rattle.av_build.proofs.SoundDesigns.{sound_design}
 use Rattle.av_build.proofs.ValueWidths.{value_widths}
 use Rattle.av_base.proofs.Lists.{some_is}
 
-module _ (w : Width) (t : Timed) (a : Cells) (program : Program) (whole : IsWhole t a) (lanes : Lanes) (is_program : IsProgramFor (array_of t a whole.list.placings) lanes program)
+module _ (w : Width) (t : Timed) (a : Cells) (program : Program) (legal : IsLegal t) (whole : IsWhole t a) (lanes : Lanes) (is_program : IsProgramFor (array_of t a whole.list.placings) lanes program)
     (outputs_are : program.outputs ≡ map lanes.of_value a.outputs) (width_is : (view_system t.flat).width ≡ w.bits) (few : a.cycles ≤ 4096) (small : HasSmallNumbers w a program) where
   abbrev own : FlatSystem
   own = view_system t.flat
 
   abbrev g : IsProgramOf w t a program
-  g = record { legal = whole.legal; array = whole.list; lanes = lanes; is_program = is_program; outputs_are = outputs_are; width_is = width_is; few = few; small = small }
+  g = record { legal = legal; array = whole.list; lanes = lanes; is_program = is_program; outputs_are = outputs_are; width_is = width_is; few = few; small = small }
 
   one_node : (p c m n : ℕ) (y z : Point) → Computes own whole.list.placings a.cells p c m y → Computes own whole.list.placings a.cells p c n z → m ≡ n
   one_node p c m n y z h k =
@@ -44,7 +45,7 @@ module _ (w : Width) (t : Timed) (a : Cells) (program : Program) (whole : IsWhol
     widths = value_widths w t a program g;
     one_point = λ p c m n y z h k.
         let same = one_node p c m n y z h k in
-        (same, one_computation t a whole.legal whole.list p c n y z (subst (λ (i : ℕ). Computes own whole.list.placings a.cells p c i y) same h) k);
+        (same, one_computation t a legal whole.list p c n y z (subst (λ (i : ℕ). Computes own whole.list.placings a.cells p c i y) same h) k);
     shows = shows;
     form = in_array_form w t a program g;
     linked = linked w t a program g;

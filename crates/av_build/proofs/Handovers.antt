@@ -73,7 +73,7 @@ module _ (b : Blueprint) (is : IsBlueprint b) (at : SpotMade) (spot : IsSpot b.a
       let l = as_linked w at t.cycle p.site tree way q d here_link in
       let y : Point = before t.point h.direction in
       let own_tap = ap (λ (i : ℕ). slice_get (taps s (helpers_of w) i v) l.tap) spot.place ∙ l.is_tap in
-      let g = scheduled w.timed.now (placings_of w) (cells_of w) is.array.whole.legal is.array.layout.are_placings is.array.layout.are_cells in
+      let g = scheduled w.timed.now (placings_of w) (cells_of w) is.array.legal is.array.layout.are_placings is.array.layout.are_cells in
       let e = earlier s (helpers_of w) (placings_of w) (cells_of w) g at.cell t.cycle at.node t.point at.place v node.variable node.node (sym node.number) on.computes own_piece l.tap
       (record { place = record { piece = at.number; site = p.site; tree = tree }; way = way }) spot.is_piece on.within own_tap at.node y (refl, refl, inside) in
       let f = linked_to (seen w) is.array.links (spot_of at) t.cycle t.point reading p.site tree way q d l at.node y (refl, refl, inside) e in

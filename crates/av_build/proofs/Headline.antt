@@ -66,4 +66,4 @@ module _ (w : Width) (t : Timed) (a : Cells) (program : Program) (g : IsProgramO
 
   pub headline : (x : Assignment) → AreInputs (view_system t.flat) x
       → (one : HasOneSolution (view_system t.flat) x) × IsPresentable (design_of w a program) x × Shows (design_of w a program) x one.solution
-  headline x inputs = let o = one x inputs in (o, presentable t a (design_of w a program) carries x inputs, shown x o.solution o.solves)
+  headline x inputs = let o = one x inputs in (o, presentable t a (design_of w a program) g.legal carries x inputs, shown x o.solution o.solves)

@@ -30,7 +30,8 @@ use Rattle.av_space.specs.Ports.{output_cells, is_output_cell}
 use Rattle.av_space.specs.Occupancy.{IsUsed, Computes}
 use Rattle.av_space.specs.Quantities.{IsUse}
 use Rattle.av_net.specs.Designs.{HasBits}
-use Rattle.av_space.specs.ArrayForm.{IsWire, IsRegister, MayName, MayTake, operands_of, Sort, rest, AreOfSorts, ended, sorted, how_many, is_same, operators, ArePiecesOn, AreDrivesOf, of_cell, other, HasFewOperators, HasCounter, counting, without, IsArrayForm}
+use Rattle.av_net.specs.Rows.{operands_of}
+use Rattle.av_space.specs.ArrayForm.{IsWire, IsRegister, MayName, MayTake, Sort, rest, AreOfSorts, ended, sorted, how_many, is_same, operators, ArePiecesOn, AreDrivesOf, of_cell, other, HasFewOperators, HasCounter, counting, without, IsArrayForm}
 use Rattle.av_space.proofs.ByPlace.{from_map, pairs_by_place}
 use Rattle.av_space.proofs.Elements.{each_at, in_range, at_index}
 use Rattle.av_space.proofs.Timely.{some_piece_of}

@@ -32,4 +32,4 @@ design_with listing m = record { listing = listing; «module» = m }
 pub promised : (w : Width) (t : Timed) (a : Cells) (program : Program) (listing : Listing) (m : Module) → IsProgrammed t a program → (view_system t.flat).width ≡ w.bits → a.cycles ≤ 4096 → HasSmallNumbers w a program
     → listing ≡ a.listing → m ≡ module_of w program → IsDesignOf t a (design_with listing m)
 promised w t a program listing m g width_is limit small e f =
-    subst (IsDesignOf t a) (sym (ap₂ design_with e f)) (design_is w t a program g.whole g.lanes g.is_program g.outputs_are width_is limit small)
+    subst (IsDesignOf t a) (sym (ap₂ design_with e f)) (design_is w t a program g.legal g.whole g.lanes g.is_program g.outputs_are width_is limit small)

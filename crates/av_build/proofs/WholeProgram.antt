@@ -5,6 +5,7 @@ use Rattle.std.specs.List.{AllByRecursion, range_with_len}
 use Rattle.std.proofs.lemmas.List.{map-id}
 use Rattle.std.proofs.lemmas.List.Elements.{All-from_recursion}
 use Rattle.av_flat.specs.declared.timed.Timed.{Timed}
+use Rattle.av_flat.specs.Legal.{IsLegal}
 use Rattle.av_space.specs.declared.array.Array.{Array as ArrayMade}
 use Rattle.av_space.specs.declared.cells.Cells.{Cells}
 use Rattle.av_space.specs.declared.cells.Cell.{Cell}
@@ -42,6 +43,7 @@ module _ (b : Blueprint) (is : IsBlueprint b) (made : List LaneMade) (built : Ar
       let own_inputs = subst (λ (c : Cells). program.inputs ≡ length c.inputs) (sym f) inputs in
       let own_stride = subst (λ (u : Timed). program.stride ≡ length u.helpers + 1) (sym e) stride in
       record {
+        legal = subst IsLegal e is.array.legal;
         whole = g.0;
         lanes = lanes;
         is_program = subst (λ (x : Array). IsProgramFor x lanes program) g.1 (of_seen own_inputs all (omega (arith, own_stride)));

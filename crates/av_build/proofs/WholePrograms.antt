@@ -40,13 +40,13 @@ module _ (w : Width) (t : Timed) (a : Cells) (program : Program) (g : IsProgramm
   own = array_of t a g.whole.list.placings
 
   are : Arranged own g.lanes a.listing.ins program
-  are = arranged own (legal_array t a g.whole.legal g.whole.list) g.lanes a.listing.ins program g.whole.list.links g.whole.list.ins g.is_program
+  are = arranged own (legal_array t a g.legal g.whole.list) g.lanes a.listing.ins program g.whole.list.links g.whole.list.ins g.is_program
 
   few : AreFew own
-  few = few_cycles w t a g.whole.legal g.whole.list width_is limit
+  few = few_cycles w t a g.legal g.whole.list width_is limit
 
   words : AreWords w.bits own
-  words = words_fit w t a g.whole.legal g.whole.list width_is limit
+  words = words_fit w t a g.legal g.whole.list width_is limit
 
   abbrev count : ℕ
   count = length program.lanes

@@ -1,4 +1,5 @@
 ghost use Rattle.std.specs.Prelude.{◌≡◌, ◌<◌, ◌^◌, length, IfOk};
+ghost use Rattle.av_flat.specs.Legal.{IsLegal};
 ghost use Rattle.av_space.specs.declared.fault.SpaceFault.{SpaceFault as Fault};
 ghost use Rattle.av_space.specs.declared.fault.SpaceFault.TheVariants as fault;
 ghost use Rattle.av_space.specs.SpaceFaults.{IsSpaceFault};
@@ -54,12 +55,14 @@ fn with_listing(alloc: Global, cells: &Cells, made: Module) -> Result<Design, Me
     })
 }
 
-/// The design of an array: its module, with the listing of the array.
+/// The design of the array of a legal system: its module, with the listing of the array.
 ///
 /// The module is named `array`. Its input and output ports are those of the array, in the order of their numbers, each as wide as
 /// the system's words; its wires and registers are named by cell, lane and number. It has a counter of cycles only where a
 /// cell chooses by the cycle.
 pub fn build(alloc: Global, timed: &Timed, cells: &Cells) -> Result<Design, Memory>
+    requires legal { IsLegal timed.now }
+
     // The cells are those that the mapping gives for the system.
     requires whole { IsWhole timed.now cells.now }
     requires within { (f : Fault) → IsSpaceFault timed.now f → f ≡ fault.Memory }

@@ -1,6 +1,7 @@
 //! The program of an array, lane by lane.
 
 ghost use Rattle.std.specs.Prelude.{◌≡◌, ◌<◌, [], ◌∷◌, All, Some, length, map, IfOk};
+ghost use Rattle.av_flat.specs.Legal.{IsLegal};
 ghost use Rattle.av_space.specs.declared.fault.SpaceFault.{SpaceFault as Fault};
 ghost use Rattle.av_space.specs.declared.fault.SpaceFault.TheVariants as fault;
 ghost use Rattle.av_space.specs.SpaceFaults.{IsSpaceFault};
@@ -211,6 +212,7 @@ pub(crate) fn program<'a>(
     timed: &'a Timed,
     cells: &'a Cells,
 ) -> Result<Program<'a>, Memory>
+    requires legal { IsLegal timed.now }
     requires whole { IsWhole timed.now cells.now }
     requires small { (f : Fault) → IsSpaceFault timed.now f → f ≡ fault.Memory }
     ensures { IfOk result (λ program. IsProgrammed timed.now cells.now (program_of program)) }

@@ -17,6 +17,7 @@ use Rattle.av_cli.specs.declared.status.Status.TheVariants.{Done, Refused, Words
 use Rattle.av_cli.specs.declared.words.Command.{Command}
 use Rattle.av_cli.specs.declared.words.Command.TheVariants.{Check, Schedule, Table, Emit, Run, Trace, Best, Sim, Demo}
 use Rattle.av_cli.specs.Commands.{Asks, IsCheck, IsSchedule, IsTable, IsEmit, IsRun, IsTrace, IsBest, IsSim, IsDemo, TakeInput, AskDemo, AreRead}
+use Rattle.av_cli.specs.inner.WithWords.{GivesMapped}
 use Rattle.av_cli.specs.inner.CommandsSeen.{Are, takes_input}
 use Rattle.av_cli.specs.Refusals.{refusal_line}
 use Rattle.av_cli.specs.Sims.{RefusesSim, no_mark, bad_text, bad_stimulus, GivesSim}
@@ -24,7 +25,6 @@ use Rattle.av_cli.specs.inner.Asked.{Refuses, Gives}
 use Rattle.av_cli.specs.Program.{Writes, WritesRefusal, IsRefused, HasRefusal, AddsWhole, AddsFront, IsComplete}
 use Rattle.av_cli.specs.inner.Written.{IsPut, IsAnswered, refused, given, no_memory}
 use Rattle.av_cli.specs.Checks.{RefusesCheck, GivesCheck}
-use Rattle.av_cli.specs.Emits.{GivesEmit}
 use Rattle.av_cli.specs.Schedules.{RefusesSchedule, GivesSchedule}
 use Rattle.av_cli.specs.Tables.{RefusesTable, GivesTable}
 use Rattle.av_cli.specs.Runs.{RefusesRun, GivesResults, GivesTrace}
@@ -86,7 +86,7 @@ writes_output (Trace w r) words left left' bytes out are t takes end within (siz
 writes_output (Best w r) words left left' bytes out are t takes end within (sizes, is, g) =
     inr (inr (inr (inr (inr (inr (inr (inl (record { bits = w.bits; box = r.size; sizes = sizes; read = is; taken = bytes; takes = takes; whole = end; within = within; gives = g }))))))))
 writes_output (Emit w r) words left left' bytes out are t takes end within (sizes, is, g) =
-    inl (record { bits = w.bits; box = r.size; sizes = sizes; read = is; taken = bytes; takes = takes; whole = end; within = within; gives = g })
+    inl (record { bits = w.bits; box = r.size; sizes = sizes; read = is; taken = bytes; takes = takes; whole = end; within = within; gives = g.gives; mapped = g.mapped })
 writes_output Sim words left left' bytes out are t takes end within g = inr (inl (record { read = are; taken = bytes; takes = takes; whole = end; within = within; gives = g }))
 writes_output (Demo w r k) words left left' bytes out are t takes end within g = absurd (true≢false (sym t))
 
@@ -206,12 +206,12 @@ exclude_table words bits box bytes out sizes is within g refusal =
     (λ e. absurd (letter 0 (codes "best") (codes "table") (λ (f : 98 ≡ 116). omega (arith, f)) e))
     refusal
 
-exclude_emit : (words : List (List ℕ)) (bits box : ℕ) (bytes out : List ℕ) (sizes : List Size) → IsEmit words bits box sizes → length bytes ≤ 1048576 → GivesEmit sizes bits box bytes out → HasRefusal words bytes → ⊥
+exclude_emit : (words : List (List ℕ)) (bits box : ℕ) (bytes out : List ℕ) (sizes : List Size) → IsEmit words bits box sizes → length bytes ≤ 1048576 → GivesMapped sizes bits box bytes out → HasRefusal words bytes → ⊥
 exclude_emit words bits box bytes out sizes is within g refusal =
     exclude (codes "emit") words bytes (begins (codes "emit") words bits box sizes is) within
     (λ _ n c others other reason r.
     let (same_bits, same_box, same_sizes) = one_asked (codes "emit") words bits n box c sizes others is other in
-    exclusive_emit others n c bytes reason out r (subst (λ (m : ℕ). GivesEmit others m c bytes out) same_bits (subst (λ (m : ℕ). GivesEmit others bits m bytes out) same_box (subst (λ (xs : List Size). GivesEmit xs bits box bytes out) same_sizes g))))
+    exclusive_emit others n c bytes reason out r (subst (λ (m : ℕ). GivesMapped others m c bytes out) same_bits (subst (λ (m : ℕ). GivesMapped others bits m bytes out) same_box (subst (λ (xs : List Size). GivesMapped xs bits box bytes out) same_sizes g))))
     (λ e. absurd (letter 0 (codes "sim") (codes "emit") (λ (f : 115 ≡ 101). omega (arith, f)) e))
     (λ e. absurd (letter 0 (codes "check") (codes "emit") (λ (f : 99 ≡ 101). omega (arith, f)) e))
     (λ e. absurd (letter 0 (codes "schedule") (codes "emit") (λ (f : 115 ≡ 101). omega (arith, f)) e))

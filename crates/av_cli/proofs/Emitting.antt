@@ -14,33 +14,35 @@ use Rattle.av_compile.specs.Headline.{Headline}
 use Rattle.av_cli.specs.declared.status.Status.{Status}
 use Rattle.av_cli.specs.declared.status.Status.TheVariants.{Done}
 use Rattle.av_cli.specs.Commands.{GiveSizes, IsEmit}
-use Rattle.av_cli.specs.Emits.{GivesEmit}
 use Rattle.av_cli.specs.Tables.{RefusesTable}
-use Rattle.av_cli.specs.inner.WithWords.{RefusesEmitWith, GivesEmitWith}
+use Rattle.av_cli.specs.inner.WithWords.{RefusesEmitWith, GivesMapped, GivesEmitWith}
 use Rattle.av_cli.specs.inner.Written.{IsPut, IsAnswered, refused, given, no_memory}
 use Rattle.av_cli.proofs.GivenSizes.{with_sizes}
 use Rattle.av_cli.proofs.Tabling.{not_unmapped}
 
-pub exclusive_emit : (sizes : List Size) (bits box : ℕ) (bytes reason out : List ℕ) → RefusesTable sizes bits box bytes reason → GivesEmit sizes bits box bytes out → ⊥
-exclusive_emit sizes bits box bytes reason out r g = not_unmapped sizes bits box bytes reason g.timed g.cells r g.computes.mapped
+pub exclusive_emit : (sizes : List Size) (bits box : ℕ) (bytes reason out : List ℕ) → RefusesTable sizes bits box bytes reason → GivesMapped sizes bits box bytes out → ⊥
+exclusive_emit sizes bits box bytes reason out r g = not_unmapped sizes bits box bytes reason g.gives.timed g.gives.cells r g.mapped
 
 -- the text of a sound design is read back as that design alone
 pub emit_given : (words : List (List ℕ)) (sizes : List Size) (bits box : ℕ) (bytes : List ℕ) (t : Timed) (a : Cells) (d : Design) {sink sink' : SinkState} {status : Status}
-    → GiveSizes words sizes → Headline bytes sizes bits box t a d → IsPut sink sink' (text d) Done status
+    → GiveSizes words sizes → IsMapped bytes sizes bits box t a → Headline bytes sizes bits box t a d → IsPut sink sink' (text d) Done status
     → IsAnswered (RefusesEmitWith words bits box bytes) (GivesEmitWith words bits box bytes) sink sink' status
-emit_given words sizes bits box bytes t a d give headline put =
+emit_given words sizes bits box bytes t a d give mapped headline put =
     let spelled = read_back d headline.design.sound in
     given (record {
       sizes = sizes;
       give = give;
-      gives = record { timed = t; cells = a; design = d; computes = headline; text_of = refl; spelled = spelled; only = λ other says. one_design (text d) other d says spelled };
+      gives = record {
+        gives = record { timed = t; cells = a; design = d; computes = headline; text_of = refl; spelled = spelled; only = λ other says. one_design (text d) other d says spelled };
+        mapped = mapped;
+      };
     }) put
 
 -- the words are those that the command was read from
 pub emit_answered : (words : List (List ℕ)) (bits box : ℕ) (bytes : List ℕ) {sink sink' : SinkState} {status : Status} → ((found : List Size) × IsEmit words bits box found)
     → IsAnswered (RefusesEmitWith words bits box bytes) (GivesEmitWith words bits box bytes) sink sink' status
     → IsAnswered (λ reason. (sizes : List Size) × IsEmit words bits box sizes × RefusesTable sizes bits box bytes reason)
-    (λ out. (sizes : List Size) × IsEmit words bits box sizes × GivesEmit sizes bits box bytes out)
+    (λ out. (sizes : List Size) × IsEmit words bits box sizes × GivesMapped sizes bits box bytes out)
     sink sink' status
 emit_answered words bits box bytes (found, is) (refused r put) = refused (r.sizes, with_sizes (codes "emit") words bits box found r.sizes is r.give, r.refuses) put
 emit_answered words bits box bytes (found, is) (given g put) = given (g.sizes, with_sizes (codes "emit") words bits box found g.sizes is g.give, g.gives) put

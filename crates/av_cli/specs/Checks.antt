@@ -4,7 +4,7 @@ use Rattle.av_tree.specs.Proper as text
 use Rattle.av_flat.specs.Trees.{FlatSystem}
 use Rattle.av_flat.specs.Proper.{IsProper}
 use Rattle.av_names.specs.declared.size.Size.{Size}
-use Rattle.av_names.specs.Accepted.{instance_of}
+use Rattle.av_names.specs.Sizes.{instance_of}
 use Rattle.av_compile.specs.declared.refusal.Refusal.{Refusal}
 use Rattle.av_compile.specs.declared.refusal.Refusal.TheVariants as refusal
 use Rattle.av_compile.specs.Checked.{Flattens, HasNormalForm, IsRefused}

@@ -6,10 +6,11 @@ use Rattle.av_tree.specs.Values.{Assignment}
 use Rattle.av_tree.specs.Solutions.{AreInputs, IsSolution}
 use Rattle.av_flat.specs.declared.timed.Timed.{Timed}
 use Rattle.av_names.specs.declared.size.Size.{Size}
-use Rattle.av_names.specs.Accepted.{instance_of}
+use Rattle.av_names.specs.Sizes.{instance_of}
 use Rattle.av_net.specs.declared.design.Design.{Design}
 use Rattle.av_space.specs.declared.cells.Cells.{Cells}
 use Rattle.av_data.specs.Tables.{totals_line}
+use Rattle.av_compile.specs.Mapped.{IsMapped}
 use Rattle.av_compile.specs.Headline.{Headline}
 use Rattle.av_cli.specs.Runs.{AreSolved}
 
@@ -36,6 +37,7 @@ pub record GivesDemo (k bits box : ℕ) (out : List ℕ) : Type 0 where
   pub timed : Timed
   pub cells : Cells
   pub design : Design
+  pub mapped : IsMapped product_text (product_sizes k) bits box timed cells
   pub computes : Headline product_text (product_sizes k) bits box timed cells design
   pub inputs : Assignment
   pub are_inputs : AreInputs (instance_of computes.system (product_sizes k) bits) inputs

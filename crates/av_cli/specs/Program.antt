@@ -3,6 +3,7 @@
 use Rattle.std.specs.Prelude.{◌≡◌, ◌⊎◌, ℕ, ◌<◌, ◌≤◌, List, codes, length, Option, IfSome}
 use Rattle.av_base.specs.Outside.{Takes, Adds, AddsPrefix, IsAtEnd}
 use Rattle.av_names.specs.declared.size.Size.{Size}
+use Rattle.av_compile.specs.Mapped.{IsMapped}
 use Rattle.av_cli.specs.declared.status.Status.{Status}
 use Rattle.av_cli.specs.declared.status.Status.TheVariants.{Done, Refused, Words, ReadFault, WriteFault, Memory}
 use Rattle.av_cli.specs.Commands.{IsCheck, IsSchedule, IsTable, IsEmit, IsRun, IsTrace, IsBest, IsSim, IsDemo, TakeInput, AskDemo, AreRead, usage_line}
@@ -49,7 +50,7 @@ pub record WritesRefusal (words : List (List ℕ)) (left left' : Option (List �
   pub refused : IsRefused words taken reason
   pub line : out ≡ refusal_line reason
 
--- the output of `emit`: the text of a design that computes what the source gave up to its end
+-- the output of `emit`: the text of a design that computes what the source gave up to its end, in which no step finds a fault
 pub record WritesDesign (words : List (List ℕ)) (left left' : Option (List ℕ)) (out : List ℕ) : Type 0 where
   pub bits : ℕ
   pub box : ℕ
@@ -60,6 +61,7 @@ pub record WritesDesign (words : List (List ℕ)) (left left' : Option (List ℕ
   pub whole : IsAtEnd left'
   pub within : length taken ≤ 1048576
   pub gives : GivesEmit sizes bits box taken out
+  pub mapped : IsMapped taken sizes bits box gives.timed gives.cells
 
 -- the output of `sim`: the run of the module under the stimulus that the source gave up to its end
 pub record WritesRun (words : List (List ℕ)) (left left' : Option (List ℕ)) (out : List ℕ) : Type 0 where

@@ -7,7 +7,7 @@ use Rattle.av_tree.specs.Solutions.{AreInputs, IsSolution}
 use Rattle.av_flat.specs.declared.timed.Timed.{Timed}
 use Rattle.av_flat.specs.Trees.{view_system}
 use Rattle.av_names.specs.declared.size.Size.{Size}
-use Rattle.av_names.specs.Accepted.{instance_of}
+use Rattle.av_names.specs.Sizes.{instance_of}
 use Rattle.av_net.specs.declared.design.Entry.{Entry}
 use Rattle.av_net.specs.declared.design.Design.{Design}
 use Rattle.av_net.specs.Clocked.{Run}
@@ -42,6 +42,7 @@ pub record HasData (sizes : List Size) (bits box : ℕ) (bytes : List ℕ) (time
   pub rest : List ℕ
   pub first : ℕ
   pub divided : IsDivided bytes before rest first
+  pub mapped : IsMapped before sizes bits box timed cells
   pub computes : Headline before sizes bits box timed cells design
   pub spelled : SpellsInputs (view_system timed.flat) rest inputs
   pub are_inputs : AreInputs (instance_of computes.system sizes bits) inputs

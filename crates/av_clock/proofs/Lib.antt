@@ -10,3 +10,5 @@ pub mod Reading
 pub mod Held
 pub mod Taking
 pub mod Extended
+pub mod Touched
+pub mod Rooted

@@ -10,7 +10,7 @@ use Rattle.std.proofs.lemmas.List.{with_items_is}
 use Rattle.av_clock.specs.Marked.{IsClear}
 use Rattle.av_clock.specs.inner.Marking.{IsSet, AreBlocked}
 
-never : true ≡ false → ⊥
+pub never : true ≡ false → ⊥
 never e = cc
 
 -- a clear mark is one of the marks

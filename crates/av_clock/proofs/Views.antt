@@ -28,10 +28,11 @@ use Rattle.av_net.proofs.Settles.{with_word, with_word_same, with_word_other, na
 use Rattle.av_clock.specs.Named.{named, AllFit}
 use Rattle.av_clock.specs.inner.Gates.{AreTaken, FitRegisters}
 use Rattle.av_clock.specs.Seen.{Seen, carried}
-use Rattle.av_clock.specs.Marked.{IsClear, AreHeld}
+use Rattle.av_clock.specs.Marked.{IsClear, AreHeld, touched}
 use Rattle.av_clock.specs.inner.Marking.{ReadTheSame}
 use Rattle.av_clock.proofs.Held.{given_apart}
 use Rattle.av_clock.proofs.Marking.{none_clear}
+use Rattle.av_clock.proofs.Touched.{all_touched}
 use Rattle.av_clock.proofs.Lookup.{look_at, look_set, look_zero, contains_at}
 use Rattle.av_clock.proofs.Settling.{fit_with}
 use Rattle.av_clock.proofs.Edges.{next_fits, reset_fits}
@@ -349,3 +350,24 @@ all_computed old count new n (suc k) marks is all filled few clear =
 
 pub few_computed : (old count new n k : ℕ) → new ≡ min (old + count) (2 ^ 64 - 1) → count + k ≤ n → new + k ≤ old + n
 few_computed old count new n k is few = omega (arith, is, few)
+
+-- what a settle computes is touched, of what is seen
+pub touched_call : (s : Seen) (m : Module) (v : Vec ℕ Global) (before new : List ℕ) (b dense : Bool) (w : ℕ) (stale : List Bool) (count next : ℕ)
+    → record { of = m; words = v.items; settled = b; work = w; marked = if dense then replicate (length m.drives) true else stale } ≡ s → dense ≡ false → length new ≡ length before → before ≡ v.items
+    → next ≡ min (w + count) (2 ^ 64 - 1) → count ≤ touched (named m before) (named m new) m.drives stale
+    → next ≤ s.work + touched (carried s) (named m (with_items v new).items) s.of.drives s.marked
+touched_call s m v before new b dense w stale count next view e same is sum few =
+    let P : Seen → Type 0 = λ t. next ≤ t.work + touched (carried t) (named m (with_items v new).items) t.of.drives t.marked in
+    let Q : List Bool → Type 0 = λ ms. next ≤ w + touched (named m v.items) (named m (with_items v new).items) m.drives ms in
+    let R : List ℕ → Type 0 = λ ws. next ≤ w + touched (named m v.items) (named m ws) m.drives stale in
+    let S : List ℕ → Type 0 = λ ws. next ≤ w + touched (named m ws) (named m new) m.drives stale in
+    let base : S before = omega (arith, sum, few) in
+    let own = ap (λ (t : Bool). if t then replicate (length m.drives) true else stale) e in
+    subst P view (subst Q (sym own) (subst R (sym (new_items v before new same is)) (subst S is base)))
+
+-- and all are, where all are marked
+pub all_count : (s : Seen) (v : Words) (old count next : ℕ) → next ≡ min (old + count) (2 ^ 64 - 1) → old ≡ s.work → count ≡ length s.of.drives → s.marked ≡ replicate (length s.of.drives) true
+    → next ≤ s.work + touched (carried s) v s.of.drives s.marked
+all_count s v old count next sum work all filled =
+    subst (λ (ms : List Bool). next ≤ s.work + touched (carried s) v s.of.drives ms) (sym filled)
+    (let e = all_touched (carried s) v s.of.drives in omega (arith, sum, work, all, e))

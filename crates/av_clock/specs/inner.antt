@@ -4,3 +4,4 @@ pub mod Resolver
 pub mod Circuit
 pub mod Readers
 pub mod Marking
+pub mod Passes

@@ -1,4 +1,4 @@
-ghost use Rattle.std.specs.Prelude.{◌≡◌, ◌<◌, ◌≤◌, ◌+◌, ℕ, List as Items, length, false, true, slice_get, slice_set, slice_index, slice_index_or, Some, Contains, IfOk, All};
+ghost use Rattle.std.specs.Prelude.{◌≡◌, ◌≢◌, ◌<◌, ◌≤◌, ◌+◌, ℕ, List as Items, length, false, true, slice_get, slice_set, slice_index, slice_index_or, Some, Contains, IfOk, All};
 ghost use Rattle.av_base.specs.Words.{IsWord};
 ghost use Rattle.av_net.specs.Meaning.{Words};
 ghost use Rattle.av_net.specs.Names.{all_names, given_names, names_of, registers_of, width_of};
@@ -7,12 +7,14 @@ ghost use Rattle.av_net.specs.Clocked.{Edge};
 ghost use Rattle.av_net.specs.Sound.{IsSound};
 ghost use Rattle.av_net.specs.Meaning.{word_of, EachOperand};
 ghost use Rattle.av_clock.specs.Named.{named, AllFit};
-ghost use Rattle.av_clock.specs.Marked.{IsClear, AreHeld};
-ghost use Rattle.av_clock.specs.inner.Marking.{IsSet, ReadTheSame, AreAhead, AreDue};
+ghost use Rattle.av_clock.specs.Marked.{IsClear, AreHeld, touched};
+ghost use Rattle.av_clock.specs.inner.Marking.{IsSet, ReadTheSame, AreAhead, AreTouched, AreDue};
 ghost use Rattle.av_clock.specs.inner.Readers.{IsOther};
 
 use crate::gate::{Assignment, FlipFlop};
 use crate::marks::{Marks, set_all};
+use crate::passes::Passes;
+use crate::readers::{drives_reading, steps_reading};
 use crate::resolver::{Resolver, size_of_module};
 use av_base::{List, Memory};
 use av_net::Module;
@@ -26,6 +28,7 @@ pub(crate) struct Circuit<'a> {
     of: &'a Module,
     assignments: Vec<Assignment>,
     flip_flops: Vec<FlipFlop>,
+    passes: Passes,
     drives_reading: Vec<List<usize>>,
     steps_reading: Vec<List<usize>>,
 }
@@ -53,12 +56,14 @@ impl<'a> Circuit<'a> {
         let resolver = Resolver::new(alloc, of)?;
         let assignments = resolver.assignments(alloc)?;
         let flip_flops = resolver.flip_flops(alloc)?;
-        let drives_reading = resolver.drives_reading(alloc)?;
-        let steps_reading = resolver.steps_reading(alloc)?;
+        let passes = Passes::new(alloc, of, &assignments)?;
+        let drives_reading = drives_reading(alloc, of, &assignments)?;
+        let steps_reading = steps_reading(alloc, of, &flip_flops)?;
         Ok(Circuit {
             of,
             assignments,
             flip_flops,
+            passes,
             drives_reading,
             steps_reading,
         })
@@ -93,7 +98,7 @@ impl<'a> Circuit<'a> {
         self.assignments[drive].target
     }
 
-    /// All drives, in order.
+    /// All drives: those that compute, in order, and then those that copy.
     pub(crate) fn settle(&self, words: &mut [u64])
         requires size { length words.old ≡ length (all_names self.now) }
         requires fit { AllFit self.now words.old }
@@ -101,8 +106,11 @@ impl<'a> Circuit<'a> {
         ensures given { Agree (given_names self.now) (named self.now words.old) (named self.now words.new) }
         ensures fit { AllFit self.now words.new }
     {
-        for assignment in &self.assignments {
+        for assignment in &self.passes.computed {
             words[assignment.target] = assignment.gate.word(words);
+        }
+        for alias in &self.passes.copied {
+            words[alias.target] = alias.root.word(words);
         }
     }
 
@@ -118,6 +126,8 @@ impl<'a> Circuit<'a> {
         ensures steps { (name : Items ℕ) → slice_get (all_names self.now) place ≡ Some name → (k : ℕ) (d : _) → k < length self.now.steps → IsClear due.new k
             → IsClear due.old k × IsOther name (slice_index_or self.now.steps k d).next }
         ensures ahead { (name : Items ℕ) → slice_get (all_names self.now) place ≡ Some name → AreAhead self.now name stale.old stale.new }
+        ensures others { (name : Items ℕ) → slice_get (all_names self.now) place ≡ Some name → (k : ℕ) (d : _) → k < length self.now.drives → IsClear stale.old k
+            → EachOperand (IsOther name) (slice_index_or self.now.drives k d).operation → IsClear stale.new k }
     {
         set_all(self.drives_reading[place].as_slice(), stale);
         set_all(self.steps_reading[place].as_slice(), due);
@@ -137,6 +147,8 @@ impl<'a> Circuit<'a> {
         ensures held { AreHeld self.now words.new stale.new due.new }
         ensures given { Agree (given_names self.now) (named self.now words.old) (named self.now words.new) }
         ensures clear { ((k : ℕ) → k < drive → IsClear stale.old k) → (k : ℕ) → k < drive + 1 → IsClear stale.new k }
+        ensures touched { AreTouched self.now words.old words.new stale.old stale.new }
+        ensures others { (d : _) (name : Items ℕ) → name ≢ (slice_index_or self.now.drives drive d).target → named self.now words.new name ≡ named self.now words.old name }
     {
         let assignment = &self.assignments[drive];
         let word = assignment.gate.word(words);
@@ -164,6 +176,7 @@ impl<'a> Circuit<'a> {
         ensures held { AreHeld self.now words.new stale.new due.new }
         ensures most { result ≤ length self.now.drives }
         ensures alone { (k : ℕ) → k ≤ length self.now.drives → ((j : ℕ) → j < k → IsClear stale.old j) → result + k ≤ length self.now.drives }
+        ensures touched { result ≤ touched (named self.now words.old) (named self.now words.new) self.now.drives stale.old }
     {
         let mut computed = 0;
         let mut drive = stale.next(0);
@@ -195,6 +208,7 @@ impl<'a> Circuit<'a> {
         ensures due { length due.new ≡ length due.old }
         ensures same { ReadTheSame self.now words.old words.new stale.old stale.new due.old due.new }
         ensures ahead { (name : Items ℕ) → slice_get (all_names self.now) place ≡ Some name → AreAhead self.now name stale.old stale.new }
+        ensures touched { AreTouched self.now words.old words.new stale.old stale.new }
     {
         if words[place] != word {
             words[place] = word;

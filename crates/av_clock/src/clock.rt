@@ -5,7 +5,7 @@ ghost use Rattle.av_net.specs.Names.{all_names, given_names, names_of, width_of}
 ghost use Rattle.av_net.specs.Settled.{Settled, Agree, Holds};
 ghost use Rattle.av_net.specs.Clocked.{Edge};
 ghost use Rattle.av_net.specs.Sound.{IsSound};
-ghost use Rattle.av_clock.specs.Marked.{IsClear};
+ghost use Rattle.av_clock.specs.Marked.{IsClear, touched};
 ghost use Rattle.av_clock.specs.Seen.{carried};
 
 use crate::circuit::Circuit;
@@ -84,8 +84,8 @@ impl<'a> Clock<'a> {
         })
     }
 
-    /// Makes every wire and output the value of its `assign`. Marked drives alone are computed: none where
-    /// none is marked, and none before the first that is.
+    /// Makes every wire and output the value of its `assign`. Marked drives alone are computed, and those that are marked on, of
+    /// which an operand has another word: none where none is marked, and none before the first that is.
     pub fn settle(&mut self)
         ensures of { self.new.of ≡ self.old.of }
         ensures settled { Settled self.new.of (carried self.new) }
@@ -96,6 +96,7 @@ impl<'a> Clock<'a> {
         ensures most { self.new.work ≤ self.old.work + length self.new.of.drives }
         ensures alone { (k : ℕ) → k ≤ length self.old.of.drives → ((j : ℕ) → j < k → IsClear self.old.marked j)
             → self.new.work + k ≤ self.old.work + length self.old.of.drives }
+        ensures touched { self.new.work ≤ self.old.work + touched (carried self.old) (carried self.new) self.old.of.drives self.old.marked }
     {
         if self.dense {
             self.settle_all();
@@ -121,6 +122,7 @@ impl<'a> Clock<'a> {
         ensures most { self.new.work ≤ self.old.work + length self.new.of.drives }
         ensures alone { (k : ℕ) → k ≤ length self.old.of.drives → ((j : ℕ) → j < k → IsClear self.old.marked j)
             → self.new.work + k ≤ self.old.work + length self.old.of.drives }
+        ensures touched { self.new.work ≤ self.old.work + touched (carried self.old) (carried self.new) self.old.of.drives self.old.marked }
     {
         self.circuit.settle(&mut self.words);
         self.dense = true;

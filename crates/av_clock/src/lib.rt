@@ -6,6 +6,7 @@ mod circuit;
 mod clock;
 mod gate;
 mod marks;
+mod passes;
 mod readers;
 mod resolver;
 

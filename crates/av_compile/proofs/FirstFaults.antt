@@ -18,7 +18,7 @@ use Rattle.av_parse.specs.declared.fault.ParseFault.TheVariants as parse
 use Rattle.av_names.specs.declared.size.Size.{Size}
 use Rattle.av_names.specs.declared.fault.NameFault.{NameFault}
 use Rattle.av_names.specs.declared.fault.NameFault.TheVariants as names
-use Rattle.av_names.specs.Accepted.{instance_of}
+use Rattle.av_names.specs.Sizes.{instance_of}
 use Rattle.av_names.specs.Flattened.{flat_of}
 use Rattle.av_names.specs.Refusals.{IsAccepted, IsRefusal}
 use Rattle.av_flat.specs.Trees.{FlatSystem}

@@ -1,6 +1,6 @@
 -- A text has one first fault up to its array, and none where it has an array.
 use Rattle.std.proofs.Common.{◌≡◌, ◌≢◌, ◌⊎◌, inl, inr, ℕ, ◌<◌, List, length, refl, sym, ap, subst, ◌∙◌, arith}
-use Rattle.std.specs.Prelude.{Result, Ok, Err, IfOk, min}
+use Rattle.std.specs.Prelude.{Result, Ok, Err, IfOk}
 use Rattle.std.specs.Result.{IsErrAnd}
 use Rattle.av_flat.specs.declared.timed.Time.{Time}
 use Rattle.av_flat.specs.declared.timed.Timed.{Timed}
@@ -68,12 +68,9 @@ module _ (t : Timed) where
   one_link_number m n (cells, links, h, e) (others, ways, k, d) = e ∙ ap (λ (ls : List Link). length ls) (same_links cells others links ways h k) ∙ sym d
 
   one_operators : (m n : ℕ) → IsOperators t m → IsOperators t n → m ≡ n
-  one_operators m n (cells, h, a, i, e) (others, k, b, j, d) =
-      let placings = same_placings cells others h k in
-      let cells_too = same_cells cells others h k in
-      let same = one_operator_count own k.placings others a b
-      (subst (λ (cs : List Cell). IsOperatorCount own k.placings cs a) cells_too (subst (λ (ps : List Placing). IsOperatorCount own ps cells a) placings i)) j in
-      e ∙ ap (λ (x : ℕ). min x 340282366920938463463374607431768211455) same ∙ sym d
+  one_operators m n (cells, h, i) (others, k, j) =
+      one_operator_count own k.placings others m n
+      (subst (λ (cs : List Cell). IsOperatorCount own k.placings cs m) (same_cells cells others h k) (subst (λ (ps : List Placing). IsOperatorCount own ps cells m) (same_placings cells others h k) i)) j
 
   -- ---- one first quantity above its limit
 

@@ -12,7 +12,7 @@ use Rattle.av_flat.specs.OneSolution.{AreInputs, HasOneSolution}
 use Rattle.av_flat.specs.WellFormed.{IsWellFormed}
 use Rattle.av_flat.proofs.Cycles.{scheduled_once}
 use Rattle.av_names.specs.declared.size.Size.{Size}
-use Rattle.av_names.specs.Accepted.{instance_of}
+use Rattle.av_names.specs.Sizes.{instance_of}
 use Rattle.av_names.specs.Flattened.{flat_of}
 use Rattle.av_names.specs.Refusals.{IsAccepted}
 use Rattle.av_names.specs.Texts.{IsOfText}

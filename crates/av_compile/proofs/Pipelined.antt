@@ -6,7 +6,8 @@ use Rattle.av_flat.specs.Trees.{FlatSystem, view_system}
 use Rattle.av_names.specs.declared.size.Size.{Size}
 use Rattle.av_sched.specs.First.{IsFirstSchedule}
 use Rattle.av_sched.proofs.OneSchedule.{one_schedule}
-use Rattle.av_pipe.specs.Pipelines.{pipelines, IsPiped}
+use Rattle.av_pipe.specs.Pipelines.{pipelines}
+use Rattle.av_pipe.specs.Piped.{IsPiped}
 use Rattle.av_space.specs.declared.fault.SpaceFault.{SpaceFault}
 use Rattle.av_space.specs.declared.fault.SpaceFault.TheVariants as space
 use Rattle.av_space.specs.SpaceFaults.{IsSpaceFault}

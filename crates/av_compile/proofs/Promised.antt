@@ -28,16 +28,18 @@ use Rattle.av_net.specs.declared.design.Listing.{Listing}
 use Rattle.av_net.specs.Meaning.{Words}
 use Rattle.av_net.specs.Shown.{Shows, HasListed}
 use Rattle.av_names.specs.declared.size.Size.{Size}
-use Rattle.av_names.specs.Accepted.{instance_of}
+use Rattle.av_names.specs.Sizes.{instance_of}
 use Rattle.av_names.specs.Same.{shows_in, declares_in}
 use Rattle.av_names.proofs.Declared.{declared_parts}
+use Rattle.av_normal.specs.NormalForm.{IsNormalForm}
 use Rattle.av_space.specs.declared.cells.Cells.{Cells}
 use Rattle.av_space.specs.Listings.{AtLine, IsAtLine}
+use Rattle.av_space.specs.Whole.{IsListedOnce}
 use Rattle.av_space.proofs.ByPlace.{from_map, all_by_place, place_of}
 use Rattle.av_build.specs.ArrayDesigns.{IsDesignOf, ShowsSolution}
 use Rattle.av_compile.specs.Scheduled.{HasOneSolutionEach}
 use Rattle.av_compile.specs.Mapped.{IsMapped}
-use Rattle.av_compile.specs.Headline.{IsListedOnce, Computes, Headline}
+use Rattle.av_compile.specs.Headline.{Computes, Headline}
 use Rattle.av_compile.proofs.Meant.{meaning, inputs}
 use Rattle.av_base.proofs.Lists.{all_at, some_is}
 
@@ -74,7 +76,7 @@ module _ (bytes : List ℕ) (words : List Size) (width c : ℕ) (t : Timed) (a :
       let from = declared_from own.variables (is_kind k) variable z there in
       let computed = computed_as k from.variable.kind from.kind computes in
       let node = node_at is_node own.variables from.place from.variable from.at (is_node_with own h.pipelined.legal.proper from.place from.variable z from.at computed from.within) in
-      let once = h.whole.each (number_at own from.place) from.variable z node (shown_as k from.variable.kind from.kind shown) from.within in
+      let once = (h.whole.each (number_at own from.place) from.variable z node (shown_as k from.variable.kind from.kind shown) from.within).listed in
       record {
         number = once.number;
         line = once.line;
@@ -144,12 +146,18 @@ module _ (bytes : List ℕ) (words : List Size) (width c : ℕ) (t : Timed) (a :
 pub headline : (bytes : List ℕ) (words : List Size) (width c : ℕ) (t : Timed) (a : Cells) (d : Design) → length bytes < 4294967295 → 1 ≤ width → IsMapped bytes words width c t a → IsDesignOf t a d
     → HasOneSolutionEach bytes words width → Headline bytes words width c t a d
 headline bytes words width c t a d short wide h g each =
-    let flattens = h.pipelined.serialises.normalises.flattens in
+    let serialises = h.pipelined.serialises in
+    let normalises = serialises.normalises in
+    let flattens = normalises.flattens in
     record {
       system = flattens.system;
       program = flattens.text;
       only = λ other said. one_text bytes other flattens.system said flattens.text;
-      mapped = h;
+      normal = serialises.normal;
+      form = subst (λ (f : FlatSystem). IsNormalForm f serialises.normal) flattens.flat normalises.given.form;
+      chains = serialises.given.form;
+      first = h.pipelined.first;
+      helpers = h.pipelined.helpers;
       design = g;
       computes = computes bytes words width c t a d short wide h g flattens.system flattens.text each;
     }

@@ -12,7 +12,7 @@ use Rattle.av_parse.specs.declared.fault.ParseFault.{ParseFault}
 use Rattle.av_parse.specs.Parsing as parsed
 use Rattle.av_names.specs.declared.size.Size.{Size}
 use Rattle.av_names.specs.declared.fault.NameFault.{NameFault}
-use Rattle.av_names.specs.Accepted.{instance_of}
+use Rattle.av_names.specs.Sizes.{instance_of}
 use Rattle.av_names.specs.Refusals.{IsRefusal}
 use Rattle.av_normal.specs.declared.fault.NormalFault.{NormalFault}
 use Rattle.av_normal.specs.declared.fault.NormalFault.TheVariants as normal

@@ -1,6 +1,6 @@
 -- What is promised of the design that is made of a text: the equations have one solution for every input, and the design shows it
 -- (Mauras 1989 on equations and solutions; the listing and the array are this project's).
-use Rattle.std.specs.Prelude.{◌≡◌, ℕ, List, Some, slice_get}
+use Rattle.std.specs.Prelude.{◌≡◌, ℕ, List}
 use Rattle.av_tree.specs.Trees.{System, Text}
 use Rattle.av_tree.specs.Grammar.{IsProgramText}
 use Rattle.av_tree.specs.Points.{Point}
@@ -9,24 +9,20 @@ use Rattle.av_tree.specs.Counts.{Instance}
 use Rattle.av_tree.specs.Values.{Assignment}
 use Rattle.av_tree.specs.Solutions.{AreInputs, IsSolution, HasOneSolution}
 use Rattle.av_flat.specs.declared.timed.Timed.{Timed}
+use Rattle.av_flat.specs.Trees.{FlatSystem, view_system}
 use Rattle.av_names.specs.declared.size.Size.{Size}
-use Rattle.av_names.specs.Accepted.{instance_of}
-use Rattle.av_net.specs.declared.design.Entry.{Entry}
+use Rattle.av_names.specs.Sizes.{instance_of}
+use Rattle.av_names.specs.Flattened.{flat_of}
+use Rattle.av_normal.specs.NormalForm.{IsNormalForm}
+use Rattle.av_serial.specs.SerialForm.{IsSerialForm}
+use Rattle.av_sched.specs.First.{IsFirstSchedule}
+use Rattle.av_pipe.specs.Pipelines.{pipelines}
 use Rattle.av_net.specs.declared.design.Design.{Design}
 use Rattle.av_net.specs.Presented.{IsPresentable}
 use Rattle.av_net.specs.Shown.{Shows}
 use Rattle.av_space.specs.declared.cells.Cells.{Cells}
+use Rattle.av_space.specs.Whole.{IsListedOnce}
 use Rattle.av_build.specs.ArrayDesigns.{IsDesignOf}
-use Rattle.av_compile.specs.Steps.{IsMapped}
-
--- one line, and no second, lists this point of the variable
-pub record IsListedOnce (lines : List Entry) (variable : Text) (z : Point) : Type 0 where
-  pub number : ℕ
-  pub line : Entry
-  pub is_line : slice_get lines number ≡ Some line
-  pub variable_is : line.variable ≡ variable
-  pub point_is : line.point ≡ z
-  pub only : (k : ℕ) (other : Entry) → slice_get lines k ≡ Some other → other.variable ≡ variable → other.point ≡ z → k ≡ number
 
 -- a design that computes a system with its sizes
 pub record Computes (i : Instance) (d : Design) : Type 0 where
@@ -40,12 +36,17 @@ pub record Computes (i : Instance) (d : Design) : Type 0 where
   -- words in the listed cycles
   pub shows : (x u : Assignment) → AreInputs i x → IsSolution i x u → Shows d x u
 
--- the bytes are a program text with this tree and no other, this is the array of its first schedule in the box, and the design is one
--- of that array and computes the system
+-- the bytes are a program text with this tree and no other; the timed system is its flat system in normal form, with reductions as
+-- chains, by the first schedule in the box, with a helper for each reference that this moves; and the design is one of the array of
+-- that and computes the system
 pub record Headline (bytes : List ℕ) (words : List Size) (width c : ℕ) (t : Timed) (a : Cells) (d : Design) : Type 0 where
   pub system : System
   pub program : IsProgramText bytes system
   pub only : (other : System) → IsProgramText bytes other → other ≡ system
-  pub mapped : IsMapped bytes words width c t a
+  pub normal : FlatSystem
+  pub form : IsNormalForm (flat_of (instance_of system words width)) normal
+  pub chains : IsSerialForm normal (view_system t.flat)
+  pub first : IsFirstSchedule (view_system t.flat) c t.times
+  pub helpers : t.helpers ≡ pipelines (view_system t.flat) t.times
   pub design : IsDesignOf t a d
   pub computes : Computes (instance_of system words width) d

@@ -9,7 +9,7 @@ use Rattle.av_flat.specs.declared.timed.Timed.{Timed}
 use Rattle.av_flat.specs.Trees.{FlatSystem, view_system}
 use Rattle.av_flat.specs.Legal.{IsLegal}
 use Rattle.av_names.specs.declared.size.Size.{Size}
-use Rattle.av_names.specs.Accepted.{instance_of}
+use Rattle.av_names.specs.Sizes.{instance_of}
 use Rattle.av_serial.specs.declared.fault.SerialFault.{SerialFault}
 use Rattle.av_serial.specs.SerialFaults as serialised
 use Rattle.av_sched.specs.declared.fault.SchedFault.{SchedFault}

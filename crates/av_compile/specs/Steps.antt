@@ -7,7 +7,7 @@ use Rattle.av_flat.specs.Trees.{FlatSystem, view_system}
 use Rattle.av_flat.specs.Proper.{IsProper}
 use Rattle.av_flat.specs.Legal.{IsLegal, HasAllHelpers}
 use Rattle.av_names.specs.declared.size.Size.{Size}
-use Rattle.av_names.specs.Accepted.{instance_of}
+use Rattle.av_names.specs.Sizes.{instance_of}
 use Rattle.av_names.specs.Flattened.{flat_of}
 use Rattle.av_names.specs.Refusals.{IsAccepted}
 use Rattle.av_normal.specs.NormalFaults as normalised

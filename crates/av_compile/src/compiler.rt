@@ -3,7 +3,7 @@ ghost use Rattle.av_flat.specs.Trees.{view_system};
 ghost use Rattle.av_flat.specs.declared.timed.Timed.{Timed as System};
 ghost use Rattle.av_names.specs.Texts.{AreSmall};
 ghost use Rattle.av_compile.specs.Scheduled.{Serialises};
-ghost use Rattle.av_compile.specs.Mapped.{HasArray, IsPipelined, IsUnmapped};
+ghost use Rattle.av_compile.specs.Mapped.{HasArray, IsPipelined, IsMapped, IsUnmapped};
 ghost use Rattle.av_compile.specs.Headline.{Headline};
 ghost use Rattle.av_compile.specs.declared.refusal.Refusal.{Refusal as Refused};
 ghost use Rattle.av_compile.specs.declared.refusal.Refusal.TheVariants as refusal;
@@ -46,6 +46,9 @@ pub fn compile(
 
     // The equations have one solution for every input, and the design shows it, whatever stands on idle ports.
     ensures headline { IfOk result (λ to. Headline bytes.now sizes.now width.bits reach.size to.timed to.cells to.design) }
+
+    // The system and the array are those that `mapped` gives: no step finds a fault.
+    ensures mapped { IfOk result (λ to. IsMapped bytes.now sizes.now width.bits reach.size to.timed to.cells) }
 
     // The first field is the system that the schedule is for.
     ensures flat { IfOk result (λ to. Serialises bytes.now sizes.now width.bits (view_system to.flat)) }

@@ -17,7 +17,8 @@ use Rattle.av_names.specs.Found.{is_before, sooner, first_of, first_found, found
 use Rattle.av_names.specs.Repetitions.{again, repeated_variable}
 use Rattle.av_names.specs.Equations.{second_equation, equation_found}
 use Rattle.av_names.specs.Refusals.{first_rule}
-use Rattle.av_names.specs.SizeWords.{sizes_of, names_of}
+use Rattle.av_names.specs.Sizes.{sizes_of}
+use Rattle.av_names.specs.SizeWords.{names_of}
 use Rattle.av_names.specs.Unknowns.{unknown_term, unknown_index, unknown_side}
 use Rattle.av_names.specs.Regular.{AreDistinct, IsKnown, AreKnown, IsComparison}
 use Rattle.av_names.proofs.Names.{equal_names, same_names, apart_names}

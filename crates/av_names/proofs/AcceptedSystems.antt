@@ -13,7 +13,8 @@ use Rattle.av_names.specs.declared.size.Size.{Size}
 use Rattle.av_names.specs.declared.fault.NameFault.{NameFault}
 use Rattle.av_names.specs.declared.fault.NameFault.TheVariants as fault
 use Rattle.av_flat.specs.declared.quantity.Quantity.TheVariants as kind
-use Rattle.av_names.specs.Accepted.{instance_of, HasNoInequality}
+use Rattle.av_names.specs.Sizes.{sizes_of, instance_of}
+use Rattle.av_names.specs.Accepted.{HasNoInequality}
 use Rattle.av_names.specs.Arities.{arity, equation_arity, part_arity}
 use Rattle.av_names.specs.Equations.{equation_found, declaration_found, second_equation, defined, defines_input, no_equation}
 use Rattle.av_names.specs.Forms.{over}
@@ -28,7 +29,7 @@ use Rattle.av_names.specs.Refusals.{rules, first_rule, IsAccepted}
 use Rattle.av_names.specs.Regular.{IsRegular, IsRegularEquation, IsDomain, HasIndices}
 use Rattle.av_names.specs.Repetitions as repetition
 use Rattle.av_names.specs.Repetitions.{NameList, repeated, repeated_variable, repeated_index, name_lists}
-use Rattle.av_names.specs.SizeWords.{size_missing, names_of, sizes_of}
+use Rattle.av_names.specs.SizeWords.{size_missing, names_of}
 use Rattle.av_names.specs.Unknowns.{unknown, unknown_equation, unknown_reference, unknown_written, unknown_side, unknown_index, is_variable, declared_as}
 use Rattle.av_names.specs.Written.{Written, written_at, written_declaration, all_written}
 use Rattle.av_names.proofs.Accepted.{rule_first, nothing_mapped, neither, at_none, not_found, none_passes, named_among, among_named, distinct_names, distinct_variables, distinct_equations, AreGiven, word_given, comparisons_known}

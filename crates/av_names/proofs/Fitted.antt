@@ -14,7 +14,7 @@ use Rattle.av_tree.specs.Rows.{compared}
 use Rattle.av_tree.specs.Domains.{variables, context, declared_names, given_or}
 use Rattle.av_tree.specs.Counts.{Instance}
 use Rattle.av_names.specs.declared.size.Size.{Size}
-use Rattle.av_names.specs.Accepted.{instance_of}
+use Rattle.av_names.specs.Sizes.{instance_of}
 use Rattle.av_names.specs.inner.Fitting.{FitsForm, FitsRows, FitsAccess, FitsIn, FitAllIn}
 use Rattle.av_names.specs.Forms.{Context, over, nameless, names_or, form_of_row, rows_over}
 use Rattle.av_names.specs.Limits.{HasSmallForm, HaveSmallRows, HasSmallAccess, IsLimitedIn, AreLimitedIn}

@@ -21,7 +21,7 @@ use Rattle.av_names.specs.inner.Fitting.{FitsRows}
 use Rattle.av_names.specs.Forms.{filled, index_form, form_of_row, rows_over}
 use Rattle.av_names.specs.Found.{sooner, first_of}
 use Rattle.av_names.specs.Quantities.{Counted, greatest, exceeds}
-use Rattle.av_names.specs.SizeWords.{sizes_of}
+use Rattle.av_names.specs.Sizes.{sizes_of}
 use Rattle.av_names.specs.declared.measure.Measure.{Measure}
 use Rattle.av_names.specs.declared.measure.Measure.TheVariants as measure
 use Rattle.av_names.specs.declared.written.Written.{Written as WrittenMade}

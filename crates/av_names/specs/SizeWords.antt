@@ -1,19 +1,14 @@
 -- The sizes that are given, against those that the parameter domain names.
-use Rattle.std.specs.Prelude.{Bool, not, List, [], ◌∷◌, map, find, Option, Some, None, if◌then◌else◌, bytes_eq}
+use Rattle.std.specs.Prelude.{Bool, not, List, [], map, find, Option}
 use Rattle.av_tree.specs.Trees.{Text, System}
-use Rattle.av_tree.specs.Points.{Sizes}
 use Rattle.av_tree.specs.Domains.{all_hold}
 use Rattle.av_tree.specs.Rows.{is_index}
 use Rattle.av_names.specs.declared.size.Size.{Size}
+use Rattle.av_names.specs.Sizes.{sizes_of}
 use Rattle.av_names.specs.Repetitions.{second}
 
 abbrev pub names_of : List Size → List Text
 names_of words = map (λ w. w.name) words
-
--- the value of each size that is given
-abbrev pub sizes_of : List Size → Sizes
-sizes_of [] name = None
-sizes_of (w ∷ words) name = if bytes_eq w.name name then Some w.value else sizes_of words name
 
 -- the first word whose name an earlier one has
 abbrev pub size_twice : List Size → Option Text

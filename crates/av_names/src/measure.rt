@@ -10,7 +10,7 @@ ghost use Rattle.av_names.specs.Found.{first_of};
 ghost use Rattle.av_names.specs.Parts as list;
 ghost use Rattle.av_names.specs.Quantities as rules;
 ghost use Rattle.av_names.specs.inner.Seen.{part};
-ghost use Rattle.av_names.specs.SizeWords.{sizes_of};
+ghost use Rattle.av_names.specs.Sizes.{sizes_of};
 ghost use Rattle.av_names.specs.inner.Sums as seen;
 ghost use Rattle.av_names.specs.inner.Sums.{sizes_in, HasSmallValues, limit_of};
 ghost use Rattle.av_names.specs.Texts.{AreSmall, IsOfText};

@@ -2,7 +2,7 @@ ghost use Rattle.std.specs.Prelude.{◌≡◌, ◌⊎◌, IfOk, Err};
 ghost use Rattle.av_flat.specs.Trees as flat;
 ghost use Rattle.av_flat.specs.WellFormed.{IsWellFormed};
 ghost use Rattle.av_tree.specs.Trees.{view_system};
-ghost use Rattle.av_names.specs.Accepted.{instance_of};
+ghost use Rattle.av_names.specs.Sizes.{instance_of};
 ghost use Rattle.av_names.specs.Flattened as flattened;
 ghost use Rattle.av_names.specs.Refusals.{IsAccepted, IsRefusal};
 ghost use Rattle.av_names.specs.Same.{SaysTheSame};

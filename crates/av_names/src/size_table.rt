@@ -3,7 +3,7 @@
 ghost use Rattle.std.specs.Prelude.{◌≡◌, IfOk};
 ghost use Rattle.av_tree.specs.Rows.{or_zero};
 ghost use Rattle.av_tree.specs.Trees.{Text};
-ghost use Rattle.av_names.specs.SizeWords.{sizes_of};
+ghost use Rattle.av_names.specs.Sizes.{sizes_of};
 ghost use Rattle.av_names.specs.inner.Sums.{sizes_in};
 
 use crate::Size;

@@ -12,7 +12,8 @@ use Rattle.av_flat.specs.Chained.{IsChained}
 use Rattle.av_flat.specs.Legal.{IsMoving, IsLegal, HasAllHelpers}
 use Rattle.av_flat.specs.Schedules.{IsSchedule}
 use Rattle.av_flat.specs.Helped.{helped_shows_of}
-use Rattle.av_pipe.specs.Pipelines.{pipelines, IsPiped}
+use Rattle.av_pipe.specs.Pipelines.{pipelines}
+use Rattle.av_pipe.specs.Piped.{IsPiped}
 use Rattle.av_flat.specs.Proper.{IsProper}
 use Rattle.av_pipe.proofs.Piped.{same_meaning}
 use Rattle.av_pipe.proofs.Moving.{all_moving}

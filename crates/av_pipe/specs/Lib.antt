@@ -1,3 +1,4 @@
 pub mod Pipelines
+pub mod Piped
 pub mod Ranks
 pub mod inner

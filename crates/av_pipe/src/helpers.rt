@@ -6,7 +6,8 @@ ghost use Rattle.av_affine.specs.Numbers.{AtMost};
 ghost use Rattle.av_flat.specs.Trees.{view_piece, view_variable, view_system};
 ghost use Rattle.av_flat.specs.Nodes.{is_node};
 ghost use Rattle.av_flat.specs.Legal.{IsLegal};
-ghost use Rattle.av_pipe.specs.Pipelines.{of_variable, pipelines, IsPiped};
+ghost use Rattle.av_pipe.specs.Pipelines.{of_variable, pipelines};
+ghost use Rattle.av_pipe.specs.Piped.{IsPiped};
 ghost use Rattle.av_pipe.specs.inner.Helping.{HasFineMaps, HasFinePieces};
 
 use crate::direction::lists_of;

@@ -13,7 +13,8 @@ ghost use Rattle.av_flat.specs.Schedules.{cycle, IsSchedule};
 ghost use Rattle.av_flat.specs.Legal.{IsMoving, IsLegal};
 ghost use Rattle.av_flat.specs.Helped.{before, helped_shows_of};
 ghost use Rattle.av_pipe.specs.Ranks.{Computed, StandsIn, NeedsWord};
-ghost use Rattle.av_pipe.specs.Pipelines.{pipelines, IsPiped};
+ghost use Rattle.av_pipe.specs.Pipelines.{pipelines};
+ghost use Rattle.av_pipe.specs.Piped.{IsPiped};
 ghost use Rattle.av_flat.specs.declared.timed.Timed.{Timed};
 
 /// A law on helpers: what a scheduled system shows it shows with helpers for moved references, and nothing else.

@@ -1,5 +1,6 @@
 pub mod Counts
 pub mod OperatorCounts
+pub mod TreeSizes
 pub mod CountBounds
 pub mod Elements
 pub mod ByPlace

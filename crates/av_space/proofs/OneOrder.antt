@@ -1,5 +1,5 @@
 -- Lists in a strict order that have the same elements are the same.
-use Rattle.std.proofs.Common.{◌≡◌, ◌⊎◌, List, [], ◌∷◌, ⊎_elim, refl, sym, ap₂, subst, ◌∙◌}
+use Rattle.std.proofs.Common.{◌≡◌, List, [], ◌∷◌, ⊎_elim, refl, sym, ap₂, subst, ◌∙◌}
 use Rattle.std.specs.Prelude.{Contains, AllPairs}
 use Rattle.av_base.proofs.Lists.{pairs_first, pairs_rest}
 use Rattle.av_base.proofs.Among.{among_cases, first_among, more_among, none_among}

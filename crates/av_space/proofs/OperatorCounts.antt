@@ -12,7 +12,7 @@ use Rattle.av_depend.proofs.Listed.{pairs_joined}
 use Rattle.av_space.specs.declared.cells.Cell.{Cell}
 use Rattle.av_space.specs.Coordinates.{Placing}
 use Rattle.av_space.specs.Quantities.{size, Use, IsUse, IsOperatorCount}
-use Rattle.av_space.specs.inner.Counting.{IsCountOf, capped, IsCappedCount, IsOnCell}
+use Rattle.av_space.specs.inner.Counting.{IsCountOf, IsOnCell}
 use Rattle.av_base.proofs.Lists.{get_second, some_is, there_is, place_in}
 
 -- ---- lists side by side
@@ -112,22 +112,14 @@ module _ (s : FlatSystem) (placings : List Placing) (cells : List Cell) where
           let h = b.each j u piece g i in
           (right u h.0, h.1)
 
-  -- ---- counts that stay at the greatest number
-
-  pub capped_none : (P : Use → Type 0) → ((u : Use) (piece : Piece) → P u → IsUse s placings cells u piece → ⊥) → IsCappedCount s placings cells P 0
-  capped_none P none = (0, count_none P none, refl)
-
-  pub capped_joined : (P Q R : Use → Type 0) (m n : ℕ) → IsCappedCount s placings cells P m → IsCappedCount s placings cells Q n → ((u : Use) → P u → R u) → ((u : Use) → Q u → R u)
-      → ((u : Use) (piece : Piece) → IsUse s placings cells u piece → R u → P u ⊎ Q u) → ((u : Use) → P u → Q u → ⊥) → IsCappedCount s placings cells R (capped (m + n))
-  capped_joined P Q R m n a b left right cover apart =
-      (a.0 + b.0, count_joined P Q R a.0 b.0 a.1 b.1 left right cover apart, (let x = a.2 in let y = b.2 in omega (arith, x, y)))
+  -- ---- counts of the pieces of a cell, and of cells
 
   -- the piece in hand is on the cell
-  pub one_more : (p j sum : ℕ) (piece : Piece) → IsCappedCount s placings cells (λ u. (u.cell ≡ p) × (u.piece < j)) sum → IsUse s placings cells (record { cell = p; piece = j }) piece
-      → IsCappedCount s placings cells (λ u. (u.cell ≡ p) × (u.piece < j + 1)) (capped (sum + capped (size piece.tree)))
+  pub one_more : (p j sum : ℕ) (piece : Piece) → IsCountOf s placings cells (λ u. (u.cell ≡ p) × (u.piece < j)) sum → IsUse s placings cells (record { cell = p; piece = j }) piece
+      → IsCountOf s placings cells (λ u. (u.cell ≡ p) × (u.piece < j + 1)) (sum + size piece.tree)
   one_more p j sum piece h is =
-      capped_joined (λ u. (u.cell ≡ p) × (u.piece < j)) (λ u. (u.cell ≡ p) × (u.piece ≡ j)) (λ u. (u.cell ≡ p) × (u.piece < j + 1)) sum (capped (size piece.tree)) h
-      (size piece.tree, count_one (λ u. (u.cell ≡ p) × (u.piece ≡ j)) (record { cell = p; piece = j }) piece is (refl, refl) (λ v q k is_use. same v k), refl)
+      count_joined (λ u. (u.cell ≡ p) × (u.piece < j)) (λ u. (u.cell ≡ p) × (u.piece ≡ j)) (λ u. (u.cell ≡ p) × (u.piece < j + 1)) sum (size piece.tree) h
+      (count_one (λ u. (u.cell ≡ p) × (u.piece ≡ j)) (record { cell = p; piece = j }) piece is (refl, refl) (λ v q k is_use. same v k))
       (λ u k. (k.0, (let l = k.1 in omega (arith, l)))) (λ u k. (k.0, (let l = k.1 in omega (arith, l)))) (λ u q is_use k. cases u k) (λ u k l. (let a = k.1 in let b = l.1 in omega (arith, a, b)))
     where
       same : (v : Use) → (v.cell ≡ p) × (v.piece ≡ j) → v ≡ record { cell = p; piece = j }
@@ -136,44 +128,47 @@ module _ (s : FlatSystem) (placings : List Placing) (cells : List Cell) where
       cases : (u : Use) → (u.cell ≡ p) × (u.piece < j + 1) → ((u.cell ≡ p) × (u.piece < j)) ⊎ ((u.cell ≡ p) × (u.piece ≡ j))
       cases u k = ⊎_elim (λ l. inl (k.0, l)) (λ g. inr (k.0, (let l = k.1 in omega (arith, l, g)))) (cases_lt u.piece j)
 
-  pub not_more : (p j sum : ℕ) → IsCappedCount s placings cells (λ u. (u.cell ≡ p) × (u.piece < j)) sum → ((piece : Piece) → IsUse s placings cells (record { cell = p; piece = j }) piece → ⊥)
-      → IsCappedCount s placings cells (λ u. (u.cell ≡ p) × (u.piece < j + 1)) sum
+  -- the same uses under another name
+  renamed : (P R : Use → Type 0) (sum : ℕ) → IsCountOf s placings cells P sum → ((u : Use) → P u → R u) → ((u : Use) (piece : Piece) → IsUse s placings cells u piece → R u → P u) → IsCountOf s placings cells R sum
+  renamed P R sum h over back = record {
+    uses = h.uses;
+    pieces = h.pieces;
+    paired = h.paired;
+    each = λ k u piece e f. (let at = h.each k u piece e f in (over u at.0, at.1));
+    all = λ u piece r is. h.all u piece (back u piece is r) is;
+    once = h.once;
+    total = h.total;
+  }
+
+  pub not_more : (p j sum : ℕ) → IsCountOf s placings cells (λ u. (u.cell ≡ p) × (u.piece < j)) sum → ((piece : Piece) → IsUse s placings cells (record { cell = p; piece = j }) piece → ⊥)
+      → IsCountOf s placings cells (λ u. (u.cell ≡ p) × (u.piece < j + 1)) sum
   not_more p j sum h none =
-      let whole = count_joined (λ u. (u.cell ≡ p) × (u.piece < j)) (λ u. ⊥) (λ u. (u.cell ≡ p) × (u.piece < j + 1)) h.0 0 h.1 (count_none (λ u. ⊥) (λ u q k is_use. k))
-      (λ u k. (k.0, (let l = k.1 in omega (arith, l)))) (λ u k. absurd k) (λ u q is_use k. cases u q is_use k) (λ u k l. l) in
-      (h.0 + 0, whole, (let e = h.2 in omega (arith, e)))
+      renamed (λ u. (u.cell ≡ p) × (u.piece < j)) (λ u. (u.cell ≡ p) × (u.piece < j + 1)) sum h (λ u k. (k.0, (let l = k.1 in omega (arith, l)))) (λ u q is_use k. before u q is_use k)
     where
-      cases : (u : Use) (q : Piece) → IsUse s placings cells u q → (u.cell ≡ p) × (u.piece < j + 1) → ((u.cell ≡ p) × (u.piece < j)) ⊎ ⊥
-      cases u q is_use k = ⊎_elim (λ l. inl (k.0, l))
+      before : (u : Use) (q : Piece) → IsUse s placings cells u q → (u.cell ≡ p) × (u.piece < j + 1) → (u.cell ≡ p) × (u.piece < j)
+      before u q is_use k = ⊎_elim (λ l. (k.0, l))
           (λ g. let same : u.piece ≡ j = (let l = k.1 in omega (arith, l, g)) in
           absurd (none q (subst (λ (x : Use). IsUse s placings cells x q) (ap₂ (λ (a b : ℕ). let w : Use = record { cell = a; piece = b } in w) k.0 same) is_use)))
           (cases_lt u.piece j)
 
   -- all pieces of the cell
-  pub whole_cell : (p n sum : ℕ) → IsCappedCount s placings cells (λ u. (u.cell ≡ p) × (u.piece < n)) sum → ((u : Use) (piece : Piece) → IsUse s placings cells u piece → u.cell ≡ p → u.piece < n)
-      → IsCappedCount s placings cells (IsOnCell p) sum
-  whole_cell p n sum h few =
-      let whole = count_joined (λ u. (u.cell ≡ p) × (u.piece < n)) (λ u. ⊥) (IsOnCell p) h.0 0 h.1 (count_none (λ u. ⊥) (λ u q k is_use. k))
-      (λ u k. k.0) (λ u k. absurd k) (λ u q is_use k. inl (k, few u q is_use k)) (λ u k l. l) in
-      (h.0 + 0, whole, (let e = h.2 in omega (arith, e)))
+  pub whole_cell : (p n sum : ℕ) → IsCountOf s placings cells (λ u. (u.cell ≡ p) × (u.piece < n)) sum → ((u : Use) (piece : Piece) → IsUse s placings cells u piece → u.cell ≡ p → u.piece < n)
+      → IsCountOf s placings cells (IsOnCell p) sum
+  whole_cell p n sum h few = renamed (λ u. (u.cell ≡ p) × (u.piece < n)) (IsOnCell p) sum h (λ u k. k.0) (λ u q is_use k. (k, few u q is_use k))
 
   -- cell after cell
-  pub next_cell : (p sum n : ℕ) → IsCappedCount s placings cells (λ u. u.cell < p) sum → IsCappedCount s placings cells (IsOnCell p) n → IsCappedCount s placings cells (λ u. u.cell < p + 1) (capped (sum + n))
+  pub next_cell : (p sum n : ℕ) → IsCountOf s placings cells (λ u. u.cell < p) sum → IsCountOf s placings cells (IsOnCell p) n → IsCountOf s placings cells (λ u. u.cell < p + 1) (sum + n)
   next_cell p sum n h k =
-      capped_joined (λ u. u.cell < p) (IsOnCell p) (λ u. u.cell < p + 1) sum n h k (λ u l. omega (arith, l)) (λ u e. omega (arith, e))
+      count_joined (λ u. u.cell < p) (IsOnCell p) (λ u. u.cell < p + 1) sum n h k (λ u l. omega (arith, l)) (λ u e. omega (arith, e))
       (λ u q is_use l. ⊎_elim (λ a. inl a) (λ g. inr (omega (arith, l, g))) (cases_lt u.cell p)) (λ u l e. omega (arith, l, e))
 
-  pub all_cells : (sum : ℕ) → IsCappedCount s placings cells (λ u. u.cell < length cells) sum → (m : ℕ) × IsOperatorCount s placings cells m × (sum ≡ capped m)
-  all_cells sum h = (
-    h.0,
-    record {
-      uses = h.1.uses;
-      pieces = h.1.pieces;
-      paired = h.1.paired;
-      each = λ k u piece e f. (h.1.each k u piece e f).1;
-      all = λ u piece is. h.1.all u piece (slice_get_within cells u.cell is.computes.cell is.computes.is_cell) is;
-      once = h.1.once;
-      total = h.1.total;
-    },
-    h.2,
-  )
+  pub all_cells : (sum : ℕ) → IsCountOf s placings cells (λ u. u.cell < length cells) sum → IsOperatorCount s placings cells sum
+  all_cells sum h = record {
+    uses = h.uses;
+    pieces = h.pieces;
+    paired = h.paired;
+    each = λ k u piece e f. (h.each k u piece e f).1;
+    all = λ u piece is. h.all u piece (slice_get_within cells u.cell is.computes.cell is.computes.is_cell) is;
+    once = h.once;
+    total = h.total;
+  }

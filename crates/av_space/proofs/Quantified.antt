@@ -1,5 +1,5 @@
 -- The quantities of a layout are those of its system's array, and each other array has the same.
-use Rattle.std.proofs.Common.{◌≡◌, ℕ, ◌<◌, ◌≤◌, List, length, min, refl, ap, subst, ◌∙◌, arith}
+use Rattle.std.proofs.Common.{◌≡◌, ℕ, ◌<◌, ◌≤◌, List, length, refl, ap, subst, ◌∙◌, arith}
 use Rattle.av_flat.specs.declared.timed.Timed.{Timed}
 use Rattle.av_flat.specs.Trees.{FlatSystem, view_system}
 use Rattle.av_space.specs.declared.cells.Cell.{Cell}
@@ -59,9 +59,8 @@ module _ (t : Timed) (l : Layout) (is : IsLayout t l) where
     pub links_fault : delays_of t l links ≤ 32768 → 16384 < length links → IsSpaceFault t (fault.Links (length links))
     links_fault few many = (few_cycles, few_cells, few_delays few, (l.cells, links, has_links, refl), many)
 
-    pub operators_fault : delays_of t l links ≤ 32768 → length links ≤ 16384 → (n : ℕ) → (m : ℕ) × IsOperatorCount own l.placements l.cells m × (n ≡ min m 340282366920938463463374607431768211455) → 1048576 < n
-        → IsSpaceFault t (fault.Operators n)
-    operators_fault few some n (m, counted, e) many = (few_cycles, few_cells, few_delays few, few_links some, (l.cells, has_cells, m, counted, e), many)
+    pub operators_fault : delays_of t l links ≤ 32768 → length links ≤ 16384 → (n : ℕ) → IsOperatorCount own l.placements l.cells n → 1048576 < n → IsSpaceFault t (fault.Operators n)
+    operators_fault few some n counted many = (few_cycles, few_cells, few_delays few, few_links some, (l.cells, has_cells, counted), many)
 
     -- where all are within their limits, no fault but out of memory holds
     pub no_fault : AreWithin t l links → (f : SpaceFault) → IsSpaceFault t f → f ≡ fault.Memory
@@ -74,8 +73,8 @@ module _ (t : Timed) (l : Layout) (is : IsLayout t l) where
         absurd (let few = within.delays in omega (arith, e, f, few, many))
     no_fault within (fault.Links n) (cycles, number, delays, (cells, others, on, e), many) =
         absurd (let f = ap (λ (ls : List Link). length ls) (same_links cells others on) in let some = within.links_are in omega (arith, e, f, some, many))
-    no_fault within (fault.Operators n) (cycles, number, delays, linked, (cells, on, m, counted, e), many) =
-        let there = subst (λ (cs : List Cell). IsOperatorCount own l.placements cs m) (same_cells cells on) (subst (λ (ps : List Placing). IsOperatorCount own ps cells m) (same_placings cells on) counted) in
-        let f = one_operator_count own l.placements l.cells m within.operators.0 there within.operators.1 in
-        absurd (let h = within.operators.2 in omega (arith, e, f, h, many))
+    no_fault within (fault.Operators n) (cycles, number, delays, linked, (cells, on, counted), many) =
+        let there = subst (λ (cs : List Cell). IsOperatorCount own l.placements cs n) (same_cells cells on) (subst (λ (ps : List Placing). IsOperatorCount own ps cells n) (same_placings cells on) counted) in
+        let f = one_operator_count own l.placements l.cells n within.operators.0 there within.operators.1 in
+        absurd (let h = within.operators.2 in omega (arith, f, h, many))
     no_fault within fault.Memory h = refl

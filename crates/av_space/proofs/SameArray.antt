@@ -42,7 +42,7 @@ module _ (t u : Timed) (system : view_system t.flat ≡ view_system u.flat) (tim
   link_number_too n (cells, links, l, e) = (cells, links, links_too cells links l, e)
 
   operators_too : (n : ℕ) → IsOperators t n → IsOperators u n
-  operators_too n (cells, on, m, counted, e) = (cells, cells_too cells on, m, subst (λ (s : FlatSystem). IsOperatorCount s on.placings cells m) system counted, e)
+  operators_too n (cells, on, counted) = (cells, cells_too cells on, subst (λ (s : FlatSystem). IsOperatorCount s on.placings cells n) system counted)
 
   within_too : (limit : ℕ) (P Q : ℕ → Type 0) → ((n : ℕ) → P n → Q n) → IsWithin limit P → IsWithin limit Q
   within_too limit P Q f (n, h, le) = (n, f n h, le)

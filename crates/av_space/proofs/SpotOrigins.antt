@@ -4,7 +4,6 @@ use Rattle.std.specs.Prelude.{slice_get, Contains, MatchOption}
 use Rattle.av_affine.specs.declared.map.Map.{Map}
 use Rattle.av_affine.specs.Maps.{image}
 use Rattle.av_tree.specs.Points.{Point}
-use Rattle.av_flat.specs.declared.flat.Kind.TheVariants as kind
 use Rattle.av_flat.specs.declared.timed.Helper.{Helper}
 use Rattle.av_flat.specs.declared.tree.Choice.{Choice}
 use Rattle.av_flat.specs.declared.tree.Tree.{Tree as TreeMade}

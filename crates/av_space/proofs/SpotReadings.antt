@@ -43,7 +43,7 @@ module _ (a : Array) (is : IsArray a) (at : Spot) (spot : IsSpot a at) where
 
   -- the piece of a variable of a chained system
   pub chained : IsChainedPiece (signatures s) v piece
-  chained = at_index (IsChainedPiece (signatures s) v) v.pieces (node_chained s at.node v is.whole.legal.chained spot.is_variable).pieces at.number piece spot.is_piece
+  chained = at_index (IsChainedPiece (signatures s) v) v.pieces (node_chained s at.node v is.legal.chained spot.is_variable).pieces at.number piece spot.is_piece
 
   -- ---- a tap site at a computation
 
@@ -71,7 +71,7 @@ module _ (a : Array) (is : IsArray a) (at : Spot) (spot : IsSpot a at) where
 
     pub fine : IsFineTap at.piece.now.domain.dim (length a.timed.now.flat.vars) tap
     fine =
-        let f = fine_tap a.timed.now is.whole.legal (node_place s at.node) v (node_chained s at.node v is.whole.legal.chained spot.is_variable) tapped.number tap tapped.is_tap in
+        let f = fine_tap a.timed.now is.legal (node_place s at.node) v (node_chained s at.node v is.legal.chained spot.is_variable) tapped.number tap tapped.is_tap in
         let same : f.piece ≡ piece = some_is f.piece piece (sym f.is_piece ∙ site_on.is_piece) in
         subst (λ (k : ℕ). IsFineTap piece.domain.dim k tap) (length-map a.timed.now.flat.vars view_variable)
         (subst (λ (q : Piece). IsFineTap q.domain.dim (length s.variables) tap) same f.fine)
@@ -82,7 +82,7 @@ module _ (a : Array) (is : IsArray a) (at : Spot) (spot : IsSpot a at) where
     -- where nothing is found, nothing is read
     nothing : ((q d : ℕ) → At q d ↔ (◌≡◌ {A = Option Reading} None (Some (record { cycle = slot.cycle; producer = q; delay = d })))) → (k : ℕ) (y : Point) → IsTapRead s at.node tap.place.tree tap.way piece slot.point k y → ⊥
     nothing only k y reads =
-        let b = read_before a.timed.now a.layout is.whole.legal is.layout at.cell tapped.number at.node tap piece own_slots.0 site_on slot.cycle slot.point among on.within k y reads in
+        let b = read_before a.timed.now a.layout is.legal is.layout at.cell tapped.number at.node tap piece own_slots.0 site_on slot.cycle slot.point among on.within k y reads in
         let r : At b.0 b.2 = record { within = on.within; producer = k; read = y; reads = reads; earlier = b.1; later = b.3; computed = b.5 } in
         let e = (only b.0 b.2).0 r in absurd cc
 
@@ -91,7 +91,7 @@ module _ (a : Array) (is : IsArray a) (at : Spot) (spot : IsSpot a at) where
     linked r when only =
         let reading = (only r.producer r.delay).1 (ap (λ c. Some (record { cycle = c; producer = r.producer; delay = r.delay })) when) in
         let own : IsReadingOf s (placings_of a) (cells_of a) at.node tap piece own_slots.0 slot.cycle r.producer r.delay = record { point = slot.point; is_slot = among; is = reading } in
-        let t = to_tapped a.timed.now a.layout is.whole.legal is.layout at.cell tapped.number at.node tap piece own_slots.0 site_on slot.cycle r.producer r.delay own in
+        let t = to_tapped a.timed.now a.layout is.legal is.layout at.cell tapped.number at.node tap piece own_slots.0 site_on slot.cycle r.producer r.delay own in
         let l = is.links.all at.cell tapped.number slot.cycle r.producer r.delay t in
         let stretch = All-contains (IsStretch s (helpers_of a) (placings_of a) (cells_of a)) a.cells.now.links l.0 is.links.each l.1 in
         let T = IsTapped s (helpers_of a) (placings_of a) (cells_of a) in
@@ -130,12 +130,12 @@ module _ (a : Array) (is : IsArray a) (at : Spot) (spot : IsSpot a at) where
       -- what it reads is declared, and where it is computed, a node
       pub declared_read : (place : ℕ) (y : Point) → IsReadBy p.tree slot.point place y → IsDeclaredRead s place y
       declared_read place y r =
-          read_declared s (helpers_of a) (placings_of a) (cells_of a) (scheduled a.timed.now (placings_of a) (cells_of a) is.whole.legal is.layout.are_placings is.layout.are_cells) v among_variables
+          read_declared s (helpers_of a) (placings_of a) (cells_of a) (scheduled a.timed.now (placings_of a) (cells_of a) is.legal is.layout.are_placings is.layout.are_cells) v among_variables
           at.number piece spot.is_piece slot.point on.within place y ((place_read at.number piece.tree p placed.is_place).part slot.point place y r)
 
       pub node_read : IsComputedRead s p.tree → (place : ℕ) (y : Point) → IsReadBy p.tree slot.point place y → IsNodeRead s place y
       node_read c place y r =
-          read_node s (helpers_of a) (placings_of a) (cells_of a) (scheduled a.timed.now (placings_of a) (cells_of a) is.whole.legal is.layout.are_placings is.layout.are_cells) v among_variables
+          read_node s (helpers_of a) (placings_of a) (cells_of a) (scheduled a.timed.now (placings_of a) (cells_of a) is.legal is.layout.are_placings is.layout.are_cells) v among_variables
           at.number piece spot.is_piece slot.point on.within place y ((place_read at.number piece.tree p placed.is_place).part slot.point place y r) (computed_there s p.tree c slot.point place y r)
 
       -- a reference to an input has a port on the cell, where it is read

@@ -20,7 +20,7 @@ use Rattle.av_flat.specs.Signatures.{Signature, signature, signatures, is_input,
 use Rattle.av_flat.specs.Chained.{IsChainedPiece, IsChainedVariable}
 use Rattle.av_flat.specs.Nodes.{is_node, nodes, IsComputation}
 use Rattle.av_flat.specs.Schedules.{cycle}
-use Rattle.av_flat.specs.Legal.{IsLegal, HasAllHelpers}
+use Rattle.av_flat.specs.Legal.{IsLegal}
 use Rattle.av_flat.proofs.Solving.{declares, read_declared}
 use Rattle.av_flat.proofs.Sets.{has_is}
 use Rattle.av_flat.specs.Reads.{IsRead}
@@ -33,7 +33,7 @@ use Rattle.av_space.specs.Occupancy.{Occupies, Computes}
 use Rattle.av_space.specs.Ports.{is_output_cell, output_cells}
 use Rattle.av_space.specs.Listings.{input_name, output_name, value_name, InLine, IsInLine, AtLine, IsAtLine, IsWireOf, output, value}
 use Rattle.av_space.specs.Arrays.{IsArrayOf}
-use Rattle.av_space.specs.Whole.{IsOwnWire, IsListedOnce, IsOnTime, IsPresented, IsWhole}
+use Rattle.av_space.specs.Whole.{IsOwnWire, IsShownOnce, IsOnTime, IsPresented, IsWhole}
 use Rattle.av_space.proofs.ByPlace.{from_map, pair_at, pairs_by_place, all_by_place, place_of}
 use Rattle.av_space.proofs.OneCell.{one_node}
 use Rattle.av_space.proofs.Placed.{one_point}
@@ -364,7 +364,7 @@ module _ (t : Timed) (a : Cells) (legal : IsLegal t) (list : IsArrayOf t a) (few
       )
       go kind.Partial computed shown test = absurd cc
 
-  listed : (n : ℕ) (v : Variable) (z : Point) → slice_get (nodes own) n ≡ Some v → IsTrue (is_shown v.kind) → IsTrue (has v.domain z) → IsListedOnce own pls a n v z
+  listed : (n : ℕ) (v : Variable) (z : Point) → slice_get (nodes own) n ≡ Some v → IsTrue (is_shown v.kind) → IsTrue (has v.domain z) → IsShownOnce own pls a n v z
   listed n v z e shown here =
       let s = stands n v z e here in
       let w = wire_of n s.0 s.1 v z e shown s.2 in
@@ -372,12 +372,14 @@ module _ (t : Timed) (a : Cells) (legal : IsLegal t) (list : IsArrayOf t a) (few
       let is : IsAtLine own pls a.cells a.outputs l = record { cell = s.0; computes = s.2; variable = v; is_variable = e; shown = shown; variable_is = refl; wire_is = w.1 } in
       let at = place_in list.ats.lines l (list.ats.all l is) in
       record {
-        number = at.0;
-        line = l.entry;
-        is_line = ap (λ (es : List Entry). slice_get es at.0) list.ats.entries ∙ get_mapped (λ (x : AtLine). x.entry) list.ats.lines at.0 l at.1;
-        variable_is = refl;
-        point_is = refl;
-        only = λ k other there named point. only l at.0 at.1 refl k other there named point refl;
+        listed = record {
+          number = at.0;
+          line = l.entry;
+          is_line = ap (λ (es : List Entry). slice_get es at.0) list.ats.entries ∙ get_mapped (λ (x : AtLine). x.entry) list.ats.lines at.0 l at.1;
+          variable_is = refl;
+          point_is = refl;
+          only = λ k other there named point. only l at.0 at.1 refl k other there named point refl;
+        };
         cell = s.0;
         computes = s.2;
         wire_is = w.2;
@@ -397,10 +399,8 @@ module _ (t : Timed) (a : Cells) (legal : IsLegal t) (list : IsArrayOf t a) (few
             ]
           ]
 
-pub whole_listing : (t : Timed) (a : Cells) → IsLegal t → HasAllHelpers t → IsArrayOf t a → length a.inputs ≤ 2 ^ 64 → length a.outputs ≤ 2 ^ 64 → length a.cells ≤ 2 ^ 64 → IsWhole t a
-whole_listing t a legal helped list few_inputs few_outputs few_cells = record {
-  legal = legal;
-  helped = helped;
+pub whole_listing : (t : Timed) (a : Cells) → IsLegal t → IsArrayOf t a → length a.inputs ≤ 2 ^ 64 → length a.outputs ≤ 2 ^ 64 → length a.cells ≤ 2 ^ 64 → IsWhole t a
+whole_listing t a legal list few_inputs few_outputs few_cells = record {
   list = list;
   apart = ins_apart t a legal list few_inputs few_outputs few_cells;
   each = listed t a legal list few_inputs few_outputs few_cells;

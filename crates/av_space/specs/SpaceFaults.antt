@@ -1,6 +1,6 @@
 -- The limits of an array, and the first quantity that is above its own: cycles, cells, registers of delay lines, links, operators
 -- (own limits).
-use Rattle.std.specs.Prelude.{◌≡◌, ℕ, ◌<◌, ◌≤◌, List, length, min}
+use Rattle.std.specs.Prelude.{◌≡◌, ℕ, ◌<◌, ◌≤◌, List, length}
 use Rattle.av_flat.specs.declared.timed.Timed.{Timed}
 use Rattle.av_flat.specs.Trees.{view_system}
 use Rattle.av_space.specs.declared.cells.Cell.{Cell}
@@ -37,10 +37,8 @@ IsDelays t n = (cells : List Cell) × (links : List Link) × HasLinks t cells li
 abbrev pub IsLinkNumber : Timed → ℕ → Type 0
 IsLinkNumber t n = (cells : List Cell) × (links : List Link) × HasLinks t cells links × (n ≡ length links)
 
--- what 128 bits do not hold counts as the greatest number that they do, since nothing bounds the size of a tree
 abbrev pub IsOperators : Timed → ℕ → Type 0
-IsOperators t n =
-    (cells : List Cell) × (on : HasCells t cells) × (m : ℕ) × IsOperatorCount (view_system t.flat) on.placings cells m × (n ≡ min m 340282366920938463463374607431768211455)
+IsOperators t n = (cells : List Cell) × (on : HasCells t cells) × IsOperatorCount (view_system t.flat) on.placings cells n
 
 -- ---- faults
 

@@ -10,6 +10,7 @@ use Rattle.av_flat.specs.Points.{has}
 use Rattle.av_flat.specs.Signatures.{is_input}
 use Rattle.av_flat.specs.Values.{picked}
 use Rattle.av_flat.specs.Broadcasts.{references}
+use Rattle.av_flat.specs.Legal.{IsLegal}
 use Rattle.av_flat.specs.Nodes.{is_node, nodes}
 use Rattle.av_space.specs.declared.array.Array.{Array}
 use Rattle.av_space.specs.declared.cells.Cell.{Cell}
@@ -48,8 +49,9 @@ cells_of a = a.layout.cells
 abbrev pub ComputesIn : Array → ℕ → ℕ → ℕ → Point → Type 0
 ComputesIn a p c n z = Computes (system_of a) (placings_of a) (cells_of a) p c n z
 
--- its cells, links and ports are those of a legal system with one helper for each reference that is moved
+-- its cells, links and ports are those of a legal system
 pub record IsArray (a : Array) : Type 0 where
+  pub legal : IsLegal a.timed.now
   pub whole : IsWhole a.timed.now a.cells.now
   pub layout : IsLayout a.timed.now a.layout
   pub same_placings : whole.list.placings ≡ placings_of a

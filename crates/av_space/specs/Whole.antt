@@ -2,6 +2,7 @@
 -- a listing on the ports of the array (own form).
 use Rattle.std.specs.Prelude.{◌≡◌, ◌≢◌, ℕ, ◌<◌, pos, ◌⊎◌, List, length, map, All, AllPairs, IsTrue, Some, slice_get, codes}
 use Rattle.std.specs.List.{range_with_len}
+use Rattle.av_tree.specs.Trees.{Text}
 use Rattle.av_tree.specs.Points.{Point}
 use Rattle.av_flat.specs.declared.timed.Time.{Time}
 use Rattle.av_flat.specs.declared.timed.Timed.{Timed}
@@ -12,7 +13,6 @@ use Rattle.av_flat.specs.Points.{has}
 use Rattle.av_flat.specs.Signatures.{signatures, is_shown, is_input, is_kind, is_declared}
 use Rattle.av_flat.specs.Nodes.{nodes}
 use Rattle.av_flat.specs.Schedules.{cycle}
-use Rattle.av_flat.specs.Legal.{IsLegal, HasAllHelpers}
 use Rattle.av_net.specs.declared.netlist.Port.{Port}
 use Rattle.av_net.specs.declared.design.Entry.{Entry}
 use Rattle.av_net.specs.declared.design.Design.{Design}
@@ -31,17 +31,21 @@ IsOwnWire outputs k cell wire =
     (IsTrue (is_kind k kind.Output) × ((port : ℕ) × (slice_get outputs port ≡ Some cell) × (wire ≡ output_name port)))
     ⊎ (IsTrue (is_kind k kind.Local) × (wire ≡ value_name cell))
 
--- one line, and no second, shows the point z of the node n, at the cell that computes it
-pub record IsListedOnce (s : FlatSystem) (placings : List Placing) (a : Cells) (n : ℕ) (v : Variable) (z : Point) : Type 0 where
+-- one line, and no second, lists this point of the variable
+pub record IsListedOnce (lines : List Entry) (variable : Text) (z : Point) : Type 0 where
   pub number : ℕ
   pub line : Entry
-  pub is_line : slice_get a.listing.ats number ≡ Some line
-  pub variable_is : line.variable ≡ v.name
+  pub is_line : slice_get lines number ≡ Some line
+  pub variable_is : line.variable ≡ variable
   pub point_is : line.point ≡ z
-  pub only : (k : ℕ) (other : Entry) → slice_get a.listing.ats k ≡ Some other → other.variable ≡ v.name → other.point ≡ z → k ≡ number
+  pub only : (k : ℕ) (other : Entry) → slice_get lines k ≡ Some other → other.variable ≡ variable → other.point ≡ z → k ≡ number
+
+-- so the point z of the node n is shown, at the cell that computes it
+pub record IsShownOnce (s : FlatSystem) (placings : List Placing) (a : Cells) (n : ℕ) (v : Variable) (z : Point) : Type 0 where
+  pub listed : IsListedOnce a.listing.ats v.name z
   pub cell : ℕ
-  pub computes : Computes s placings a.cells cell line.cycle n z
-  pub wire_is : IsOwnWire a.outputs v.kind cell line.wire
+  pub computes : Computes s placings a.cells cell listed.line.cycle n z
+  pub wire_is : IsOwnWire a.outputs v.kind cell listed.line.wire
 
 -- the line's cycle is the one that the schedule gives its point
 pub record IsOnTime (s : FlatSystem) (times : List Time) (line : Entry) : Type 0 where
@@ -59,14 +63,12 @@ IsPresented s a line = IsTrue (is_declared is_input (signatures s) line.variable
 
 -- ---- the whole
 
--- the listing of a legal system with one helper for each reference that is moved
+-- the array of a system, with a whole listing
 pub record IsWhole (t : Timed) (a : Cells) : Type 0 where
-  pub legal : IsLegal t
-  pub helped : HasAllHelpers t
   pub list : IsArrayOf t a
   pub apart : AreApart a.listing.ins
   pub each : (n : ℕ) (v : Variable) (z : Point) → slice_get (nodes (view_system t.flat)) n ≡ Some v → IsTrue (is_shown v.kind) → IsTrue (has v.domain z)
-      → IsListedOnce (view_system t.flat) list.placings a n v z
+      → IsShownOnce (view_system t.flat) list.placings a n v z
   pub one_word : AllPairs (λ one other. one.variable ≡ other.variable → one.wire ≡ other.wire → one.cycle ≢ other.cycle) a.listing.ats
   pub on_time : All (IsOnTime (view_system t.flat) t.times) a.listing.ats
   pub presented : All (IsPresented (view_system t.flat) a) a.listing.ins

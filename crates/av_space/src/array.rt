@@ -48,6 +48,7 @@ impl<'a> Array<'a> {
 
     /// The array of a legal timed system from what `map` gives for it.
     pub fn new(alloc: Global, timed: &'a Timed, cells: &'a Cells) -> Result<Array<'a>, Memory>
+        requires legal { IsLegal timed.now }
         requires whole { IsWhole timed.now cells.now }
         requires small { (f : Fault) → IsSpaceFault timed.now f → f ≡ fault.Memory }
         ensures timed { IfOk result (λ a. a.timed.now ≡ timed.now) }

@@ -7,7 +7,7 @@ ghost use Rattle.av_tree.specs.Values.{Assignment};
 ghost use Rattle.av_flat.specs.declared.timed.Timed.{Timed};
 ghost use Rattle.av_flat.specs.Points.{has};
 ghost use Rattle.av_flat.specs.Schedules.{cycle};
-ghost use Rattle.av_flat.specs.Legal.{IsLegal, HasAllHelpers};
+ghost use Rattle.av_flat.specs.Legal.{IsLegal};
 ghost use Rattle.av_flat.specs.OneSolution.{AreInputs};
 ghost use Rattle.av_net.specs.declared.design.Design.{Design};
 ghost use Rattle.av_net.specs.Presented.{IsPresentable};
@@ -47,16 +47,15 @@ pub fn between_points()
         IsTrue (has set x) → IsTrue (has set z) → IsTrue (has set y) }
 {}
 
-/// A law on listings: that of a legal system's array, with one helper for each reference that is moved, is whole, where ports and
-/// cells have numbers of 64 bits.
+/// A law on listings: that of a legal system's array is whole, where ports and cells have numbers of 64 bits.
 pub fn whole_listings()
-    ensures { (t : Timed) (a : Cells) → IsLegal t → HasAllHelpers t → IsArrayOf t a → length a.inputs ≤ 2 ^ 64 → length a.outputs ≤ 2 ^ 64 → length a.cells ≤ 2 ^ 64 →
+    ensures { (t : Timed) (a : Cells) → IsLegal t → IsArrayOf t a → length a.inputs ≤ 2 ^ 64 → length a.outputs ≤ 2 ^ 64 → length a.cells ≤ 2 ^ 64 →
         IsWhole t a }
 {}
 
-/// A law on listings: a design with a whole listing can be given every input.
+/// A law on listings: a design with the whole listing of a legal system can be given every input.
 pub fn presenting_streams()
-    ensures { (t : Timed) (a : Cells) (d : Design) → HasWholeListing t a d →
+    ensures { (t : Timed) (a : Cells) (d : Design) → IsLegal t → HasWholeListing t a d →
         (x : Assignment) → AreInputs (view_system t.flat) x → IsPresentable d x }
 {}
 

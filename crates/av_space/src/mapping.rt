@@ -1,7 +1,7 @@
 //! The array of a scheduled system.
 
 ghost use Rattle.std.specs.Prelude.{◌≡◌, ◌≤◌, ◌^◌, length, IfOk, IfErr};
-ghost use Rattle.av_flat.specs.Legal.{IsLegal, HasAllHelpers};
+ghost use Rattle.av_flat.specs.Legal.{IsLegal};
 ghost use Rattle.av_flat.specs.Trees.{view_system};
 ghost use Rattle.av_space.specs.declared.fault.SpaceFault.{SpaceFault as Fault};
 ghost use Rattle.av_space.specs.declared.fault.SpaceFault.TheVariants as fault;
@@ -50,7 +50,7 @@ fn within_limits(
     if stretches.len() > MOST_LINKS {
         return Err(SpaceFault::Links(stretches.len() as u128));
     }
-    let operators = operators(timed, layout);
+    let operators = operators(alloc, timed, layout)?;
     if operators > MOST_OPERATORS {
         return Err(SpaceFault::Operators(operators));
     }
@@ -155,13 +155,12 @@ fn limited(
     Ok(cells)
 }
 
-/// The array of a legal timed system with one helper for each reference that its times move (Rao, Kailath 1988): cells by node
-/// and coordinates, links by consumer, tap site and cycle, ports and listing.
+/// The array of a legal timed system (Rao, Kailath 1988): cells by node and coordinates, links by consumer, tap site and cycle,
+/// ports and listing.
 ///
 /// The quantities are counted before any line is made, and the first that is above its limit is told.
 pub fn map(alloc: Global, timed: &Timed) -> Result<Cells, SpaceFault>
-    requires legal { IsLegal timed.now }
-    requires helped { HasAllHelpers timed.now }
+    requires { IsLegal timed.now }
     ensures whole { IfOk result (IsWhole timed.now) }
     ensures complete { IfOk result (λ a. (f : Fault) → IsSpaceFault timed.now f → f ≡ fault.Memory) }
     ensures refused { IfErr result (IsSpaceFault timed.now) }

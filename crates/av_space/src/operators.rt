@@ -1,28 +1,33 @@
-//! The operators of an array: the sizes of the trees of all pieces on all cells. Nothing bounds the size of a tree, so sums stay
-//! at the greatest number of 128 bits.
+//! The operators of an array: the sizes of the trees of all pieces on all cells. The nodes of a tree are gathered in a list, which has
+//! fewer than 2^32 items, so each size has 32 bits and no sum of them wraps.
 
-ghost use Rattle.std.specs.Prelude.{ℕ, ◌≡◌, ◌↔◌, ◌<◌, All, Any, IsTrue, length};
+ghost use Rattle.std.specs.Prelude.{◌≡◌, ◌↔◌, ◌+◌, ◌^◌, ◌<◌, ◌≤◌, All, Any, IfOk, OnOk, IsTrue, length, map};
 ghost use Rattle.av_flat.specs.Legal.{IsLegal};
+ghost use Rattle.av_flat.specs.Nodes.{nodes};
 ghost use Rattle.av_flat.specs.Points.{has};
-ghost use Rattle.av_flat.specs.Trees.{view, view_system};
+ghost use Rattle.av_flat.specs.Trees.{view, view_system, view_variable};
 ghost use Rattle.av_depend.specs.SetPoints.{IsPointOf};
 ghost use Rattle.av_space.specs.Quantities.{size, IsOperatorCount};
-ghost use Rattle.av_space.specs.inner.Counting.{capped, IsCappedCount, IsOnCell};
+ghost use Rattle.av_space.specs.inner.Counting.{piece_sizes, IsCountOf, IsOnCell};
 ghost use Rattle.av_space.specs.Layouts.{IsLayout};
 
 use crate::layout::{Layout, Slot};
 use crate::node_places::variable_of;
-use av_flat::{Piece, Timed, Tree};
+use av_base::{List, Memory};
+use av_flat::{Piece, Timed, Tree, Var};
+use std::alloc::Global;
 
-// The references, constants, operators, choices and picks of a tree.
-fn size(tree: &Tree) -> u128
-    ensures { result ≡ capped (size (view tree.now)) }
+// Puts the references, constants, operators, choices and picks of a tree into a list.
+fn add_nodes<'a>(tree: &'a Tree, nodes: &mut List<&'a Tree>) -> Result<(), Memory>
+    ensures { OnOk result (length nodes.new ≡ length nodes.old + size (view tree.now)) }
 {
     match tree {
-        Tree::Ref { .. } | Tree::Const(_) | Tree::Pick { .. } => 1,
-        Tree::Binary { left, right, .. } => size(left)
-            .saturating_add(size(right))
-            .saturating_add(1),
+        Tree::Ref { .. } | Tree::Const(_) | Tree::Pick { .. } => nodes.push(tree),
+        Tree::Binary { left, right, .. } => {
+            add_nodes(left, nodes)?;
+            add_nodes(right, nodes)?;
+            nodes.push(tree)
+        }
         Tree::Choose {
             left,
             right,
@@ -30,12 +35,50 @@ fn size(tree: &Tree) -> u128
             no,
             ..
         } => {
-            let compared = size(left).saturating_add(size(right));
-            let chosen = size(yes).saturating_add(size(no));
-            compared.saturating_add(chosen).saturating_add(1)
+            add_nodes(left, nodes)?;
+            add_nodes(right, nodes)?;
+            add_nodes(yes, nodes)?;
+            add_nodes(no, nodes)?;
+            nodes.push(tree)
         }
-        Tree::Restrict { .. } | Tree::Case { .. } | Tree::Depend { .. } | Tree::Reduce { .. } => 0,
+        Tree::Restrict { .. } | Tree::Case { .. } | Tree::Depend { .. } | Tree::Reduce { .. } => {
+            Ok(())
+        }
     }
+}
+
+// How many they are.
+fn size(alloc: Global, tree: &Tree) -> Result<u32, Memory>
+    ensures { IfOk result (λ n. n ≡ size (view tree.now)) }
+{
+    let mut nodes = List::new(alloc);
+    add_nodes(tree, &mut nodes)?;
+    Ok(nodes.len() as u32)
+}
+
+// The sizes of the trees of a variable's pieces.
+fn sizes_of(alloc: Global, var: &Var) -> Result<List<u32>, Memory>
+    ensures { IfOk result (λ sizes. sizes ≡ piece_sizes (view_variable var.now)) }
+{
+    let mut sizes = List::new(alloc);
+    for piece in var.pieces.as_slice() {
+        sizes.push(size(alloc, &piece.tree)?)?;
+    }
+    Ok(sizes)
+}
+
+// Those of all nodes.
+fn all_sizes(alloc: Global, timed: &Timed, layout: &Layout) -> Result<List<List<u32>>, Memory>
+    requires layout { IsLayout timed.now layout.now }
+    ensures { IfOk result (λ sizes. sizes ≡ map piece_sizes (nodes (view_system timed.now.flat))) }
+{
+    let places = layout.places.as_slice();
+    let mut sizes = List::new(alloc);
+    for node in 0..places.len() {
+        let var = variable_of(&timed.flat, places, node);
+        sizes.push(sizes_of(alloc, var)?)?;
+    }
+    Ok(sizes)
 }
 
 // Whether the piece has the point of a computation.
@@ -52,33 +95,37 @@ fn is_used(slots: &[Slot], piece: &Piece) -> bool
 }
 
 // Those of the pieces on a cell.
-fn cell_operators(timed: &Timed, layout: &Layout, cell: usize) -> u128
+fn cell_operators(timed: &Timed, layout: &Layout, sizes: &[List<u32>], cell: usize) -> u128
     requires legal { IsLegal timed.now }
     requires layout { IsLayout timed.now layout.now }
+    requires sizes { sizes.now ≡ map piece_sizes (nodes (view_system timed.now.flat)) }
     requires cell { cell < length layout.now.cells }
-    ensures { IsCappedCount (view_system timed.now.flat) layout.now.placements layout.now.cells (IsOnCell cell) result }
+    ensures count { IsCountOf (view_system timed.now.flat) layout.now.placements layout.now.cells (IsOnCell cell) result }
+    ensures most { result ≤ 2 ^ 96 }
 {
     let node = layout.cells.as_slice()[cell].node as usize;
     let var = variable_of(&timed.flat, layout.places.as_slice(), node);
     let slots = layout.slots.as_slice()[cell].as_slice();
+    let own = sizes[node].as_slice();
     let mut sum: u128 = 0;
-    for piece in var.pieces.as_slice() {
+    for (number, piece) in var.pieces.as_slice().iter().enumerate() {
         if is_used(slots, piece) {
-            sum = sum.saturating_add(size(&piece.tree));
+            sum += own[number] as u128;
         }
     }
     sum
 }
 
 /// The sizes of the trees of all pieces with a computation on a cell, cell by cell.
-pub(crate) fn operators(timed: &Timed, layout: &Layout) -> u128
+pub(crate) fn operators(alloc: Global, timed: &Timed, layout: &Layout) -> Result<u128, Memory>
     requires legal { IsLegal timed.now }
     requires layout { IsLayout timed.now layout.now }
-    ensures { (m : ℕ) × IsOperatorCount (view_system timed.now.flat) layout.now.placements layout.now.cells m × (result ≡ capped m) }
+    ensures { IfOk result (IsOperatorCount (view_system timed.now.flat) layout.now.placements layout.now.cells) }
 {
+    let sizes = all_sizes(alloc, timed, layout)?;
     let mut sum: u128 = 0;
     for cell in 0..layout.cells.as_slice().len() {
-        sum = sum.saturating_add(cell_operators(timed, layout, cell));
+        sum += cell_operators(timed, layout, sizes.as_slice(), cell);
     }
-    sum
+    Ok(sum)
 }

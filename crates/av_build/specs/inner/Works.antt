@@ -4,6 +4,7 @@ use Rattle.av_tree.specs.Points.{Point}
 use Rattle.av_flat.specs.declared.timed.Helper.{Helper}
 use Rattle.av_flat.specs.declared.timed.Timed.{Timed}
 use Rattle.av_flat.specs.Broadcasts.{Reference}
+use Rattle.av_flat.specs.Legal.{IsLegal}
 use Rattle.av_flat.specs.Nodes.{nodes, number_at}
 use Rattle.av_flat.specs.Trees.{Piece, Variable, view}
 use Rattle.av_space.specs.declared.cells.Cells.{Cells}
@@ -54,6 +55,7 @@ pub record AreBuilt (b : Blueprint) (plans : List LanePlan) (lanes : List LaneMa
 
 -- the program of the array that was given, with the lanes of its outputs
 pub record IsProgrammed (t : Timed) (a : Cells) (program : Program) : Type 0 where
+  pub legal : IsLegal t
   pub whole : IsWhole t a
   pub lanes : Lanes
   pub is_program : IsProgramFor (array_of t a whole.list.placings) lanes program

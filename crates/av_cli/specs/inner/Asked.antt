@@ -7,11 +7,11 @@ use Rattle.av_cli.specs.Commands.{IsCheck, IsSchedule, IsTable, IsEmit, IsRun, I
 use Rattle.av_cli.specs.Checks.{RefusesCheck, GivesCheck}
 use Rattle.av_cli.specs.Schedules.{RefusesSchedule, GivesSchedule}
 use Rattle.av_cli.specs.Tables.{RefusesTable, GivesTable}
-use Rattle.av_cli.specs.Emits.{GivesEmit}
 use Rattle.av_cli.specs.Sims.{RefusesSim, GivesSim}
 use Rattle.av_cli.specs.Runs.{RefusesRun, GivesResults, GivesTrace}
 use Rattle.av_cli.specs.Bests.{RefusesBest, GivesBest}
 use Rattle.av_cli.specs.Demos.{GivesDemo}
+use Rattle.av_cli.specs.inner.WithWords.{GivesMapped}
 
 abbrev pub Refuses : Command → List (List ℕ) → List ℕ → List ℕ → Type 0
 Refuses (Check width) words bytes reason = (sizes : List Size) × IsCheck words width.bits sizes × RefusesCheck sizes width.bits bytes reason
@@ -28,7 +28,7 @@ abbrev pub Gives : Command → List (List ℕ) → List ℕ → List ℕ → Typ
 Gives (Check width) words bytes out = (sizes : List Size) × IsCheck words width.bits sizes × GivesCheck sizes width.bits bytes out
 Gives (Schedule width reach) words bytes out = (sizes : List Size) × IsSchedule words width.bits reach.size sizes × GivesSchedule sizes width.bits reach.size bytes out
 Gives (Table width reach) words bytes out = (sizes : List Size) × IsTable words width.bits reach.size sizes × GivesTable sizes width.bits reach.size bytes out
-Gives (Emit width reach) words bytes out = (sizes : List Size) × IsEmit words width.bits reach.size sizes × GivesEmit sizes width.bits reach.size bytes out
+Gives (Emit width reach) words bytes out = (sizes : List Size) × IsEmit words width.bits reach.size sizes × GivesMapped sizes width.bits reach.size bytes out
 Gives (Run width reach) words bytes out = (sizes : List Size) × IsRun words width.bits reach.size sizes × GivesResults sizes width.bits reach.size bytes out
 Gives (Trace width reach) words bytes out = (sizes : List Size) × IsTrace words width.bits reach.size sizes × GivesTrace sizes width.bits reach.size bytes out
 Gives (Best width reach) words bytes out = (sizes : List Size) × IsBest words width.bits reach.size sizes × GivesBest sizes width.bits reach.size bytes out

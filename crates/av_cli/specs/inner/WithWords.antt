@@ -1,6 +1,7 @@
 -- What commands refuse and write, with the words at hand that give the sizes.
 use Rattle.std.specs.Prelude.{ℕ, List}
 use Rattle.av_names.specs.declared.size.Size.{Size}
+use Rattle.av_compile.specs.Mapped.{IsMapped}
 use Rattle.av_cli.specs.Commands.{GiveSizes}
 use Rattle.av_cli.specs.Checks.{RefusesCheck, GivesCheck}
 use Rattle.av_cli.specs.Schedules.{RefusesSchedule, GivesSchedule}
@@ -41,10 +42,15 @@ pub record GivesTableWith (words : List (List ℕ)) (bits box : ℕ) (bytes out 
 abbrev pub RefusesEmitWith : List (List ℕ) → ℕ → ℕ → List ℕ → List ℕ → Type 0
 RefusesEmitWith words bits box bytes reason = RefusesTableWith words bits box bytes reason
 
+-- what `emit` writes, of a text in which no step finds a fault
+pub record GivesMapped (sizes : List Size) (bits box : ℕ) (bytes out : List ℕ) : Type 0 where
+  pub gives : GivesEmit sizes bits box bytes out
+  pub mapped : IsMapped bytes sizes bits box gives.timed gives.cells
+
 pub record GivesEmitWith (words : List (List ℕ)) (bits box : ℕ) (bytes out : List ℕ) : Type 0 where
   pub sizes : List Size
   pub give : GiveSizes words sizes
-  pub gives : GivesEmit sizes bits box bytes out
+  pub gives : GivesMapped sizes bits box bytes out
 
 pub record RefusesBestWith (words : List (List ℕ)) (bits box : ℕ) (bytes reason : List ℕ) : Type 0 where
   pub sizes : List Size

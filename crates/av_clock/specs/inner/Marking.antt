@@ -1,9 +1,10 @@
 -- Marks of drives and steps, and what setting and clearing them leaves as it was.
 use Rattle.std.specs.Prelude.{◌≡◌, ◌⊎◌, ℕ, ◌<◌, ◌/◌, ◌+◌, List, ◌++◌, length, take, slice_index, slice_index_or, Bool, true, false, Contains}
+use Rattle.av_net.specs.declared.operation.Operand.{Operand}
 use Rattle.av_net.specs.declared.netlist.Drive.{Drive}
 use Rattle.av_net.specs.declared.netlist.Step.{Step}
 use Rattle.av_net.specs.declared.netlist.Module.{Module}
-use Rattle.av_net.specs.Meaning.{Words, word_of, result_of}
+use Rattle.av_net.specs.Meaning.{Words, word_of, result_of, EachOperand}
 use Rattle.av_net.specs.Names.{given_names, targets_of, width_of}
 use Rattle.av_clock.specs.declared.marks.Marks.TheInside.{Inside}
 use Rattle.av_clock.specs.Marked.{IsClear}
@@ -24,6 +25,15 @@ pub record ReadTheSame (m : Module) (words words' : List ℕ) (stale stale' due 
       → IsClear stale k × (result_of (width_of m) (named m words') (slice_index_or m.drives k d).operation ≡ result_of (width_of m) (named m words) (slice_index_or m.drives k d).operation)
   pub steps : (k : ℕ) (d : Step) → k < length m.steps → IsClear due' k
       → IsClear due k × (word_of (named m words') (slice_index_or m.steps k d).next ≡ word_of (named m words) (slice_index_or m.steps k d).next)
+
+-- the operand has the word that it had
+abbrev pub KeepsWord : Words → Words → Operand → Type 0
+KeepsWord v v' operand = word_of v operand ≡ word_of v' operand
+
+-- no drive is marked that was not, but one of which an operand has another word
+abbrev pub AreTouched : Module → List ℕ → List ℕ → List Bool → List Bool → Type 0
+AreTouched m words words' stale stale' =
+    (k : ℕ) (d : Drive) → k < length m.drives → IsClear stale k → EachOperand (KeepsWord (named m words) (named m words')) (slice_index_or m.drives k d).operation → IsClear stale' k
 
 -- no drive is marked for which this name is not known yet
 abbrev pub AreAhead : Module → List ℕ → List Bool → List Bool → Type 0

@@ -34,6 +34,9 @@ pub record HaveDrives (m : Module) (n : ℕ) (lists : List (List ℕ)) : Type 0 
   -- and a drive reads only what is known before it
   pub only : (place k : ℕ) (name : List ℕ) → slice_get (all_names m) place ≡ Some name → Contains (at_place lists place) k
       → (k < n) × Contains (given_names m ++ targets_of (take k m.drives)) name
+  -- and only what reads a place is entered there
+  pub reads : (place k : ℕ) (name : List ℕ) (d : Drive) → slice_get (all_names m) place ≡ Some name → Contains (at_place lists place) k
+      → EachOperand (IsOther name) (slice_index_or m.drives k d).operation → ⊥
 
 -- the lists have the first n steps, each at the places that it reads
 pub record HaveSteps (m : Module) (n : ℕ) (lists : List (List ℕ)) : Type 0 where

@@ -23,7 +23,7 @@ returns-then-not-is_in_range c =
 
 pub loop-at-preserved : goal.loop-at-preserved
 loop-at-preserved c =
-    rw (c.moved-place-in-Token.ensures, c.in_ok-push-in-Token.ensures.ok, map_push, c.new-in-Token.ensures, c.part-text.ensures)
+    rw (c.moved-place-in-Token.ensures, c.in_ok-push-in-Token.ensures.ok, map_push, c.new.ensures, c.part-text.ensures)
     (after_token program_texts scanner c.args.bytes.now c.loop-at.at c.loop-at.place (views c.loop-at.found) c.loop-at.invariant c.loop-at-test.true c.in-Token.len c.in-Token.kind
     c.in-Token.ensures.piece (subst (λ z. is_in_range c.in-Token.kind z ≡ true) c.part-text.ensures (sym c.if-not-is_in_range.ensures)) c.in-Token.ensures.fits)
 
@@ -32,12 +32,12 @@ returns-in-Bad c = bad program_texts scanner c.args.bytes.now c.loop-at.at c.loo
 
 pub returns : goal.returns
 returns c =
-    rw (c.in_ok-push.ensures.ok, map_push, c.new.ensures, c.part-2.ensures)
+    rw (c.in_ok-push.ensures.ok, map_push, c.new-2.ensures, c.part-2.ensures)
     (read_end program_texts scanner c.args.bytes.now c.loop-at.at c.loop-at.place (views c.loop-at.found) c.loop-at.invariant c.loop-at-test.false)
 
-pub new-in-Token-requires-clause-ascii : goal.new-in-Token-requires-clause-ascii
-new-in-Token-requires-clause-ascii c =
+pub new-requires-clause-ascii : goal.new-requires-clause-ascii
+new-requires-clause-ascii c =
     rw c.part-text.ensures (token_ascii c.args.bytes.now c.loop-at.at c.in-Token.kind c.in-Token.len c.loop-at-test.true c.in-Token.ensures.piece)
 
-pub new-in-Token-requires-clause-in_range : goal.new-in-Token-requires-clause-in_range
-new-in-Token-requires-clause-in_range c = number_fits c.in-Token.kind c.part-text.result.now (sym c.if-not-is_in_range.ensures)
+pub new-requires-clause-in_range : goal.new-requires-clause-in_range
+new-requires-clause-in_range c = number_fits c.in-Token.kind c.part-text.result.now (sym c.if-not-is_in_range.ensures)

@@ -1,4 +1,4 @@
-use Rattle.av_names.specs.Accepted.{instance_of}
+use Rattle.av_names.specs.Sizes.{instance_of}
 use Rattle.av_names.proofs.Resolved.{is_regular}
 use Rattle.av_names.proofs.Solutions.{same_inputs, one_solution}
 use Rattle.av_names.proofs.laws.one_solution_of_accepted_texts.Goals as goal

@@ -4,7 +4,7 @@ use Rattle.std.specs.Prelude.{bytes_eq, if◌then◌else◌}
 use Rattle.av_tree.specs.Trees.{Text}
 use Rattle.av_names.specs.declared.size.Size.{Size}
 use Rattle.av_names.specs.inner.Sums.{sizes_in}
-use Rattle.av_names.specs.SizeWords.{sizes_of}
+use Rattle.av_names.specs.Sizes.{sizes_of}
 use Rattle.av_names.proofs.Entered.{one_later, all_found}
 use Rattle.av_names.proofs.size_table.size_table.Goals as goal
 

@@ -1,6 +1,6 @@
 use Rattle.std.proofs.Common.{◌≡◌, drop}
 use Rattle.av_tree.specs.Trees.{Text}
-use Rattle.av_names.specs.SizeWords.{sizes_of}
+use Rattle.av_names.specs.Sizes.{sizes_of}
 use Rattle.av_names.proofs.Entered.{found_or}
 use Rattle.av_names.proofs.size_table.size_table.Given as goal
 

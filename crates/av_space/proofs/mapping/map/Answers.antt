@@ -8,7 +8,7 @@ use Rattle.av_space.proofs.mapping.map.Goals as goal
 pub returns-clause-whole : goal.returns-clause-whole
 returns-clause-whole c =
     let a = c.in_ok-cells.ensures.laid in
-    whole_listing c.args.timed.now c.in_ok-cells.cells c.requires.legal c.requires.helped a.array a.few_inputs a.few_outputs a.few_cells
+    whole_listing c.args.timed.now c.in_ok-cells.cells c.requires a.array a.few_inputs a.few_outputs a.few_cells
 
 pub returns-clause-complete : goal.returns-clause-complete
 returns-clause-complete c =

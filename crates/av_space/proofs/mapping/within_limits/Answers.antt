@@ -13,4 +13,4 @@ returns-then-stretches-gt-MOST_LINKS-clause-refused c =
 pub returns-then-operators-gt-MOST_OPERATORS-clause-refused : goal.returns-then-operators-gt-MOST_OPERATORS-clause-refused
 returns-then-operators-gt-MOST_OPERATORS-clause-refused c =
     operators_fault c.args.timed.now c.args.layout.now c.requires.layout c.args.stretches.now c.requires.links (subst (λ n. n ≤ 32768) c.in_ok-delays.ensures c.if-delays-gt-MOST_DELAYS.false) c.if-stretches-gt-MOST_LINKS.false
-    c.operators-operators.result c.operators-operators.ensures c.if-operators-gt-MOST_OPERATORS.true
+    c.in_ok-operators.operators c.in_ok-operators.ensures c.if-operators-gt-MOST_OPERATORS.true

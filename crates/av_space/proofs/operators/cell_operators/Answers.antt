@@ -7,7 +7,7 @@ use Rattle.av_flat.specs.declared.flat.Var.{Var}
 use Rattle.av_flat.specs.declared.timed.Timed.{Timed}
 use Rattle.av_flat.specs.Nodes.{nodes}
 use Rattle.av_flat.specs.Points.{has}
-use Rattle.av_flat.specs.Trees.{Piece, Variable, FlatSystem, view, view_piece, view_variable, view_system}
+use Rattle.av_flat.specs.Trees.{Piece, Variable, FlatSystem, view_piece, view_variable, view_system}
 use Rattle.av_space.specs.declared.cells.Cell.{Cell}
 use Rattle.av_space.specs.declared.layout.Slot.{Slot}
 use Rattle.av_space.specs.declared.layout.Layout.{Layout}
@@ -15,9 +15,10 @@ use Rattle.av_space.specs.Coordinates.{Placing}
 use Rattle.av_space.specs.Layouts.{IsLayout}
 use Rattle.av_depend.specs.SetPoints.{IsPointOf}
 use Rattle.av_space.specs.Quantities.{size, Use, IsUse}
-use Rattle.av_space.specs.inner.Counting.{capped, IsCappedCount}
+use Rattle.av_space.specs.inner.Counting.{piece_sizes, IsCountOf}
 use Rattle.av_space.proofs.ByPlace.{read_at}
-use Rattle.av_space.proofs.OperatorCounts.{capped_none, one_more, not_more, whole_cell}
+use Rattle.av_space.proofs.TreeSizes.{made_size, size_at, own_sizes, row_within}
+use Rattle.av_space.proofs.OperatorCounts.{count_none, one_more, not_more, whole_cell}
 use Rattle.av_space.proofs.OnCells.{node_in_places, IsCellOf, node_within, cell_of, slot_points, use_of, slot_of_use}
 use Rattle.av_space.proofs.operators.cell_operators.Goals as goal
 use Rattle.av_space.proofs.operators.cell_operators.Goals.{then-is_used, else-is_used}
@@ -46,6 +47,30 @@ within u piece s placings cells is p e v slots on pieces same n over =
     let k = ap (λ (xs : List PieceMade). length xs) same in
     omega (arith, l, m, k, over)
 
+-- the number that is read is the size of the piece
+size_here : (s : FlatSystem) (v : Var) (sizes : List (List ℕ)) (row own : List ℕ) (n j : ℕ) (piece : PieceMade) → sizes ≡ map piece_sizes (nodes s) → row ≡ get_or sizes n row → own ≡ row → slice_get (nodes s) n ≡ Some (view_variable v)
+    → slice_get v.pieces j ≡ Some piece → get_or own j 0 ≡ made_size piece
+size_here s v sizes row own n j piece same is from at there =
+    let lt = row_within s sizes n (view_variable v) same at in
+    ap (λ (ns : List ℕ). get_or ns j 0) (from ∙ own_sizes s sizes n row (view_variable v) same lt is at) ∙ size_at v j piece there
+
+pub bounds-sizes-node : goal.bounds-sizes-node
+bounds-sizes-node c = row_within (view_system c.args.timed.now.flat) c.args.sizes.now (get_or c.as_slice.result.now c.args.cell c.index-as_slice-cell.result).node (view_variable c.variable_of-var.result.now) c.requires.sizes c.variable_of-var.ensures
+
+pub bounds-own-number : goal.bounds-own-number
+bounds-own-number c =
+    let s = view_system c.args.timed.now.flat in
+    let v = c.variable_of-var.result.now in
+    let n = (get_or c.as_slice.result.now c.args.cell c.index-as_slice-cell.result).node in
+    let row = c.index-sizes-node.result in
+    let lt = row_within s c.args.sizes.now n (view_variable v) c.requires.sizes c.variable_of-var.ensures in
+    let own = ap (λ (ns : List ℕ). length ns) (c.as_slice-own.ensures ∙ own_sizes s c.args.sizes.now n row (view_variable v) c.requires.sizes lt c.index-sizes-node.is c.variable_of-var.ensures) in
+    let many = length-map (map view_piece v.pieces) (λ (p : Piece). size p.tree) in
+    let made : length (map view_piece v.pieces) ≡ length v.pieces = length-map v.pieces view_piece in
+    let items = ap (λ (ps : List PieceMade). length ps) c.as_slice-piece-items.ensures in
+    let lp : c.loop-number.number < length c.as_slice-piece-items.result.now = search rules in
+    omega (arith, own, many, made, items, lp)
+
 pub variable_of-var-requires-clause-within : goal.variable_of-var-requires-clause-within
 variable_of-var-requires-clause-within c =
     let x = c.index-as_slice-cell.result in
@@ -55,8 +80,11 @@ variable_of-var-requires-clause-within c =
     let within = node_within (view_system c.args.timed.now.flat) c.args.layout.now.placements c.args.layout.now.cells c.args.cell x c.requires.layout.are_cells at in
     node_in_places s c.as_slice-2.result.now _ (c.as_slice-2.ensures ∙ c.requires.layout.places) (subst (λ (y : Cell). y.node < length (nodes s)) c.index-as_slice-cell.is within)
 
-pub loop-piece-init : goal.loop-piece-init
-loop-piece-init c = capped_none (view_system c.args.timed.now.flat) c.args.layout.now.placements c.args.layout.now.cells (λ u. (u.cell ≡ c.args.cell) × (u.piece < 0)) (λ u piece h is. (let l = h.1 in omega (arith, l)))
+pub loop-number-init : goal.loop-number-init
+loop-number-init c = record {
+  counted = count_none (view_system c.args.timed.now.flat) c.args.layout.now.placements c.args.layout.now.cells (λ u. (u.cell ≡ c.args.cell) × (u.piece < 0)) (λ u piece h is. (let l = h.1 in omega (arith, l)));
+  most = omega arith;
+}
 
 pub is_used-requires : goal.is_used-requires
 is_used-requires c =
@@ -67,13 +95,13 @@ is_used-requires c =
     let x = c.index-as_slice-cell.result in
     let slots = c.index-as_slice-cell-2.result in
     let on = here t l c.args.cell x v slots c.as_slice.result.now c.as_slice-3.result.now c.requires.layout c.requires.cell c.as_slice.ensures c.index-as_slice-cell.is c.variable_of-var.ensures c.as_slice-3.ensures c.index-as_slice-cell-2.is in
-    let lp : c.loop-piece.piece-index < length c.as_slice-piece-items.result.now = search rules in
-    let is = get_mapped view_piece v.pieces c.loop-piece.piece-index piece (read_at v.pieces c.as_slice-piece-items.result.now c.loop-piece.piece-index piece c.as_slice-piece-items.ensures lp c.piece-item.is) in
+    let lp : c.loop-number.number < length c.as_slice-piece-items.result.now = search rules in
+    let is = get_mapped view_piece v.pieces c.loop-number.number piece (read_at v.pieces c.as_slice-piece-items.result.now c.loop-number.number piece c.as_slice-piece-items.ensures lp c.piece-item.is) in
     subst (λ (ts : List Slot). All (λ (t : Slot). IsPointOf piece.domain t.point) ts) (sym c.as_slice-slots.ensures)
-    (slot_points t l c.args.cell (view_variable v) slots c.requires.legal on c.loop-piece.piece-index (view_piece piece) is)
+    (slot_points t l c.args.cell (view_variable v) slots c.requires.legal on c.loop-number.number (view_piece piece) is)
 
-pub loop-piece-preserved : goal.loop-piece-preserved
-loop-piece-preserved c =
+pub loop-number-preserved : goal.loop-number-preserved
+loop-number-preserved c =
     let s = view_system c.args.timed.now.flat in
     let t = c.args.timed.now in
     let l = c.args.layout.now in
@@ -82,24 +110,33 @@ loop-piece-preserved c =
     let piece = c.piece-item.result in
     let x = c.index-as_slice-cell.result in
     let slots = c.index-as_slice-cell-2.result in
-    let j = c.loop-piece.piece-index in
+    let j = c.loop-number.number in
     let on = here t l p x v slots c.as_slice.result.now c.as_slice-3.result.now c.requires.layout c.requires.cell c.as_slice.ensures c.index-as_slice-cell.is c.variable_of-var.ensures c.as_slice-3.ensures c.index-as_slice-cell-2.is in
     let lp : j < length c.as_slice-piece-items.result.now = search rules in
-    let is = get_mapped view_piece v.pieces j piece (read_at v.pieces c.as_slice-piece-items.result.now j piece c.as_slice-piece-items.ensures lp c.piece-item.is) in
+    let at = read_at v.pieces c.as_slice-piece-items.result.now j piece c.as_slice-piece-items.ensures lp c.piece-item.is in
+    let is = get_mapped view_piece v.pieces j piece at in
     let used : IsTrue c.is_used.result ↔ Any (λ (t : Slot). IsTrue (has piece.domain t.point)) slots = subst (λ (ts : List Slot). IsTrue c.is_used.result ↔ Any (λ (t : Slot). IsTrue (has piece.domain t.point)) ts) c.as_slice-slots.ensures c.is_used.ensures in
+    let s = view_system t.flat in
+    let so_far = c.loop-number.invariant in
+    let node = (get_or c.as_slice.result.now p x).node in
+    let size_is = size_here s v c.args.sizes.now c.index-sizes-node.result c.as_slice-own.result.now node j piece c.requires.sizes c.index-sizes-node.is c.as_slice-own.ensures c.variable_of-var.ensures at in
     elim c.if-is_used.branch [
-      | then-is_used w ↦
-          let new : c.if-is_used.sum ≡ capped (c.loop-piece.sum + capped (size (view piece.tree))) = w.sum-is ∙ w.saturating_add-sum.ensures ∙ ap (λ (n : ℕ). capped (c.loop-piece.sum + n)) w.size.ensures in
-          subst (λ (n : ℕ). IsCappedCount s l.placements l.cells (λ u. (u.cell ≡ p) × (u.piece < j + 1)) n) (sym new)
-          (one_more s l.placements l.cells p j c.loop-piece.sum (view_piece piece) c.loop-piece.invariant (use_of s l.placements l.cells p (view_variable v) slots on j (view_piece piece) is (used.0 w.if-is_used.true)))
-      | else-is_used w ↦
-          let same : c.if-is_used.sum ≡ c.loop-piece.sum = w.sum-is in
-          subst (λ (n : ℕ). IsCappedCount s l.placements l.cells (λ u. (u.cell ≡ p) × (u.piece < j + 1)) n) (sym same)
-          (not_more s l.placements l.cells p j c.loop-piece.sum c.loop-piece.invariant (λ q u. unused (view_piece piece) q (view_variable v) j is slots c.is_used.result used w.if-is_used.false (slot_of_use s l.placements l.cells p (view_variable v) slots on j q u)))
+      | then-is_used w ↦ (
+          let new : c.if-is_used.sum ≡ c.loop-number.sum + made_size piece = w.sum-is ∙ ap (λ (n : ℕ). c.loop-number.sum + n) size_is in record {
+            counted = subst (λ (n : ℕ). IsCountOf s l.placements l.cells (λ u. (u.cell ≡ p) × (u.piece < j + 1)) n) (sym new)
+                (one_more s l.placements l.cells p j c.loop-number.sum (view_piece piece) so_far.counted (use_of s l.placements l.cells p (view_variable v) slots on j (view_piece piece) is (used.0 w.if-is_used.true)));
+            most = (let a = so_far.most in let b = w.sum-is in let f = c.type_inv.own j in omega (arith, a, b, f));
+          })
+      | else-is_used w ↦ (
+          let same : c.if-is_used.sum ≡ c.loop-number.sum = w.sum-is in record {
+            counted = subst (λ (n : ℕ). IsCountOf s l.placements l.cells (λ u. (u.cell ≡ p) × (u.piece < j + 1)) n) (sym same)
+                (not_more s l.placements l.cells p j c.loop-number.sum so_far.counted (λ q u. unused (view_piece piece) q (view_variable v) j is slots c.is_used.result used w.if-is_used.false (slot_of_use s l.placements l.cells p (view_variable v) slots on j q u)));
+            most = (let a = so_far.most in omega (arith, a, same));
+          })
     ]
 
-pub returns : goal.returns
-returns c =
+pub returns-clause-count : goal.returns-clause-count
+returns-clause-count c =
     let s = view_system c.args.timed.now.flat in
     let t = c.args.timed.now in
     let l = c.args.layout.now in
@@ -108,5 +145,5 @@ returns c =
     let x = c.index-as_slice-cell.result in
     let slots = c.index-as_slice-cell-2.result in
     let on = here t l p x v slots c.as_slice.result.now c.as_slice-3.result.now c.requires.layout c.requires.cell c.as_slice.ensures c.index-as_slice-cell.is c.variable_of-var.ensures c.as_slice-3.ensures c.index-as_slice-cell-2.is in
-    let over : length c.as_slice-piece-items.result.now ≤ c.loop-piece.piece-index = search rules in
-    whole_cell s l.placements l.cells p c.loop-piece.piece-index c.loop-piece.sum c.loop-piece.invariant (λ u piece is_use e. within u piece s l.placements l.cells is_use p e v slots on c.as_slice-piece-items.result.now c.as_slice-piece-items.ensures c.loop-piece.piece-index over)
+    let over : length c.as_slice-piece-items.result.now ≤ c.loop-number.number = search rules in
+    whole_cell s l.placements l.cells p c.loop-number.number c.loop-number.sum c.loop-number.invariant.counted (λ u piece is_use e. within u piece s l.placements l.cells is_use p e v slots on c.as_slice-piece-items.result.now c.as_slice-piece-items.ensures c.loop-number.number over)

@@ -1,7 +1,10 @@
-use Rattle.std.proofs.Common.{◌≡◌, ◌<◌}
+use Rattle.std.proofs.Common.{◌≡◌, ◌<◌, ◌≤◌, ◌*◌}
 use Rattle.av_flat.specs.Trees.{view_system}
-use Rattle.av_space.specs.inner.Counting.{IsCappedCount}
+use Rattle.av_space.specs.inner.Counting.{IsCountOf}
 use Rattle.av_space.proofs.operators.cell_operators.Given as goal
 
-abbrev pub invariant-loop-piece : goal.invariant-loop-piece
-invariant-loop-piece l = IsCappedCount (view_system l.timed.flat) l.layout.placements l.layout.cells (λ u. (u.cell ≡ l.cell) × (u.piece < l.piece-index)) l.sum
+abbrev pub invariant-loop-number : goal.invariant-loop-number
+invariant-loop-number l = record {
+  counted : IsCountOf (view_system l.timed.flat) l.layout.placements l.layout.cells (λ u. (u.cell ≡ l.cell) × (u.piece < l.number)) l.sum;
+  most : l.sum ≤ l.number * 4294967296;
+}

@@ -1,20 +1,24 @@
-use Rattle.std.proofs.Common.{rules, ◌≡◌, ◌<◌, ◌≤◌, ◌+◌, ℕ, List, length, sym, ap, subst, arith}
+use Rattle.std.proofs.Common.{rules, ◌≡◌, ◌<◌, ◌≤◌, ℕ, List, length, ap, subst, arith}
 use Rattle.av_flat.specs.Trees.{view_system}
 use Rattle.av_space.specs.declared.cells.Cell.{Cell}
-use Rattle.av_space.specs.inner.Counting.{capped, IsCappedCount}
-use Rattle.av_space.proofs.OperatorCounts.{capped_none, next_cell, all_cells}
+use Rattle.av_space.specs.inner.Counting.{IsCountOf}
+use Rattle.av_space.proofs.OperatorCounts.{count_none, next_cell, all_cells}
 use Rattle.av_space.proofs.operators.operators.Goals as goal
 
 pub loop-cell-init : goal.loop-cell-init
-loop-cell-init c = capped_none (view_system c.args.timed.now.flat) c.args.layout.now.placements c.args.layout.now.cells (λ u. u.cell < 0) (λ u piece h is. omega (arith, h))
+loop-cell-init c = record {
+  counted = count_none (view_system c.args.timed.now.flat) c.args.layout.now.placements c.args.layout.now.cells (λ u. u.cell < 0) (λ u piece h is. omega (arith, h));
+  most = omega arith;
+}
 
 pub loop-cell-preserved : goal.loop-cell-preserved
 loop-cell-preserved c =
-    let s = view_system c.args.timed.now.flat in
     let l = c.args.layout.now in
-    let new : c.saturating_add-sum.result ≡ capped (c.loop-cell.sum + c.cell_operators.result) = c.saturating_add-sum.ensures in
-    subst (λ (n : ℕ). IsCappedCount s l.placements l.cells (λ u. u.cell < c.loop-cell.cell + 1) n) (sym new)
-    (next_cell s l.placements l.cells c.loop-cell.cell c.loop-cell.sum c.cell_operators.result c.loop-cell.invariant c.cell_operators.ensures)
+    let so_far = c.loop-cell.invariant in
+    let own = c.cell_operators-sum.ensures in record {
+      counted = next_cell (view_system c.args.timed.now.flat) l.placements l.cells c.loop-cell.cell c.loop-cell.sum c.cell_operators-sum.result so_far.counted own.count;
+      most = (let a = so_far.most in let b = own.most in omega (arith, a, b));
+    }
 
 pub returns : goal.returns
 returns c =
@@ -23,4 +27,4 @@ returns c =
     let few : c.loop-cell.cell ≤ length c.as_slice-cell-end.result.now = search rules in
     let same : c.loop-cell.cell ≡ length l.cells = (let e = ap (λ (xs : List Cell). length xs) c.as_slice-cell-end.ensures in omega (arith, e, over, few)) in
     all_cells (view_system c.args.timed.now.flat) l.placements l.cells c.loop-cell.sum
-    (subst (λ (n : ℕ). IsCappedCount (view_system c.args.timed.now.flat) l.placements l.cells (λ u. u.cell < n) c.loop-cell.sum) same c.loop-cell.invariant)
+    (subst (λ (n : ℕ). IsCountOf (view_system c.args.timed.now.flat) l.placements l.cells (λ u. u.cell < n) c.loop-cell.sum) same c.loop-cell.invariant.counted)

@@ -1,6 +1,7 @@
 use Rattle.std.proofs.Common.{subst, sym}
 use Rattle.av_net.specs.Sound.{IsSound}
 use Rattle.av_clock.proofs.Held.{computed}
+use Rattle.av_clock.proofs.Touched.{cleared_touched}
 use Rattle.av_clock.proofs.Marking.{set_within}
 use Rattle.av_clock.proofs.Settling.{for_read, assignment_takes, target_within}
 use Rattle.av_clock.proofs.circuit.Circuit.compute.Goals as goal
@@ -38,3 +39,13 @@ returns-clause-clear c =
     (computed c.args.self.now c.args.drive c.index-assignment.result.now c.args.words.now c.write.new.words c.word-word.result c.args.stale.now c.clear.new.self c.write.new.stale c.args.due.now c.write.new.due
     (subst IsSound c.self.view_is c.self.invariant.sound) c.requires.size (for_read c.args.self.now c.self.inside.of.now c.self.inside.assignments.items c.args.drive c.index-assignment.result.now c.self.view_is c.self.invariant.assignments (rw (sym c.requires.stale) (set_within c.args.stale.now c.args.drive c.requires.marked)) c.index-assignment.ensures)
     c.word-word.ensures (set_within c.args.stale.now c.args.drive c.requires.marked) c.requires.fit c.requires.held c.clear.ensures c.write.ensures.words c.write.ensures.same c.write.ensures.ahead).clear
+
+pub returns-clause-touched : goal.returns-clause-touched
+returns-clause-touched c =
+    cleared_touched c.args.self.now c.args.words.now c.write.new.words c.args.stale.now c.clear.new.self c.write.new.stale c.args.drive (set_within c.args.stale.now c.args.drive c.requires.marked) c.clear.ensures c.write.ensures.touched
+
+pub returns-clause-others : goal.returns-clause-others
+returns-clause-others c =
+    (computed c.args.self.now c.args.drive c.index-assignment.result.now c.args.words.now c.write.new.words c.word-word.result c.args.stale.now c.clear.new.self c.write.new.stale c.args.due.now c.write.new.due
+    (subst IsSound c.self.view_is c.self.invariant.sound) c.requires.size (for_read c.args.self.now c.self.inside.of.now c.self.inside.assignments.items c.args.drive c.index-assignment.result.now c.self.view_is c.self.invariant.assignments (rw (sym c.requires.stale) (set_within c.args.stale.now c.args.drive c.requires.marked)) c.index-assignment.ensures)
+    c.word-word.ensures (set_within c.args.stale.now c.args.drive c.requires.marked) c.requires.fit c.requires.held c.clear.ensures c.write.ensures.words c.write.ensures.same c.write.ensures.ahead).others

@@ -1,7 +1,7 @@
 use Rattle.std.proofs.Common.{subst, length}
 use Rattle.av_net.specs.declared.netlist.Module.{Module}
 use Rattle.av_clock.specs.inner.Readers.{HaveDrives, HaveSteps}
-use Rattle.av_clock.proofs.Reading.{drives_within, steps_within, drives_marked, steps_marked, drives_ahead}
+use Rattle.av_clock.proofs.Reading.{drives_within, steps_within, drives_marked, steps_marked, drives_others, drives_ahead}
 use Rattle.av_clock.proofs.circuit.Circuit.mark_readers.Goals as goal
 
 pub set_all-requires : goal.set_all-requires
@@ -27,4 +27,9 @@ returns-clause-steps c =
 pub returns-clause-ahead : goal.returns-clause-ahead
 returns-clause-ahead c =
     drives_ahead c.args.self.now c.self.inside.drives_reading.items c.args.place c.as_slice.result.now c.args.stale.now c.set_all.new.marks (subst (λ (m : Module). HaveDrives m (length m.drives) c.self.inside.drives_reading.items) c.self.view_is c.self.invariant.drives_reading)
+    c.requires.place (rw c.as_slice.ensures c.index.ensures) c.set_all.ensures.others
+
+pub returns-clause-others : goal.returns-clause-others
+returns-clause-others c =
+    drives_others c.args.self.now c.self.inside.drives_reading.items c.args.place c.as_slice.result.now c.args.stale.now c.set_all.new.marks (subst (λ (m : Module). HaveDrives m (length m.drives) c.self.inside.drives_reading.items) c.self.view_is c.self.invariant.drives_reading)
     c.requires.place (rw c.as_slice.ensures c.index.ensures) c.set_all.ensures.others

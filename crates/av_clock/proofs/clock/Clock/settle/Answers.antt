@@ -1,7 +1,7 @@
 use Rattle.std.proofs.Common.{◌∙◌, ap, sym, subst, ℕ, ◌+◌, ◌≤◌, Bool, List, length}
 use Rattle.av_clock.specs.Seen.{Seen}
 use Rattle.av_clock.specs.Marked.{IsClear}
-use Rattle.av_clock.proofs.Views.{agree_call, settled_call, size_call, fit_call, held_lent, held_call, first_none, first_empty, own_marks, all_marked, few_computed}
+use Rattle.av_clock.proofs.Views.{agree_call, settled_call, size_call, fit_call, held_lent, held_call, first_none, first_empty, own_marks, all_marked, few_computed, touched_call}
 use Rattle.av_clock.proofs.clock.Clock.settle.Goals as goal
 
 pub settle_marked-computed-requires-clause-held : goal.settle_marked-computed-requires-clause-held
@@ -34,6 +34,11 @@ returns-clause-alone c = λ k few clear.
     subst (λ (n : ℕ). c.saturating_add-self-inside.result + k ≤ n + length s.of.drives) work
     (subst (λ (n : ℕ). c.saturating_add-self-inside.result + k ≤ c.self.inside.work + n) count
     (few_computed c.self.inside.work c.settle_marked-computed.result c.saturating_add-self-inside.result (length c.self.inside.circuit.drives) k c.saturating_add-self-inside.ensures computed))
+
+pub returns-clause-touched : goal.returns-clause-touched
+returns-clause-touched c =
+    touched_call c.args.self.now c.self.inside.circuit c.self.inside.words _ c.settle_marked-computed.new.words c.self.inside.settled c.self.inside.dense c.self.inside.work c.self.inside.stale c.settle_marked-computed.result c.saturating_add-self-inside.result
+    c.self.view_is c.if-self.false c.settle_marked-computed.auto.words c.deref_mut.ensures.value c.saturating_add-self-inside.ensures c.settle_marked-computed.ensures.touched
 
 pub invariant_of-self : goal.invariant_of-self
 invariant_of-self c = record {

@@ -1,6 +1,6 @@
 use Rattle.std.proofs.Common.{◌≡◌, ◌∙◌, ap, sym, subst, ℕ, ◌+◌, ◌≤◌, length, false, true}
 use Rattle.av_clock.specs.Seen.{Seen}
-use Rattle.av_clock.proofs.Views.{agree_call, settled_call, size_call, fit_call, first_count, all_computed}
+use Rattle.av_clock.proofs.Views.{agree_call, settled_call, size_call, fit_call, first_count, all_computed, all_count}
 use Rattle.av_clock.proofs.clock.Clock.settle_all.Goals as goal
 
 pub returns-clause-settled : goal.returns-clause-settled
@@ -17,6 +17,11 @@ returns-clause-alone c = λ k few clear.
     let count = ap (λ (t : Seen). length t.of.drives) c.self.view_is in
     subst (λ (n : ℕ). c.saturating_add-self-inside.result + k ≤ n + length s.of.drives) work
     (all_computed c.self.inside.work c.drives.result c.saturating_add-self-inside.result (length s.of.drives) k s.marked c.saturating_add-self-inside.ensures (c.drives.ensures ∙ count) c.requires few clear)
+
+pub returns-clause-touched : goal.returns-clause-touched
+returns-clause-touched c =
+    all_count c.args.self.now _ c.self.inside.work c.drives.result c.saturating_add-self-inside.result c.saturating_add-self-inside.ensures (ap (λ (t : Seen). t.work) c.self.view_is)
+    (c.drives.ensures ∙ ap (λ (t : Seen). length t.of.drives) c.self.view_is) c.requires
 
 pub invariant_of-self : goal.invariant_of-self
 invariant_of-self c = record {

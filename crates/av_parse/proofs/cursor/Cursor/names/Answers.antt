@@ -10,7 +10,7 @@ use Rattle.av_parse.proofs.cursor.Cursor.names.Goals as goal
 pub returns-in_err-name : goal.returns-in_err-name
 returns-in_err-name c =
     let p = err_from_is_err_and c.from_residual.result c.from_residual.ensures.1 in
-    rw (p.1, p.2) (names_stop (views c.loop-room.found) c.loop-room.room (views c.loop-room.self.rest.now) _ c.loop-room.invariant c.in_err-name.field-0.0 c.loop-room-test.true c.in_err-name.ensures)
+    rw (p.1, p.2) (names_stop (views c.loop-room.found) c.loop-room.room (views c.loop-room.self.rest.now) _ c.loop-room.invariant c.in_err-name.field-0.0 c.loop-room-test.true c.in_err-name.ensures.gives)
 
 pub returns-then-not-is_symbol : goal.returns-then-not-is_symbol
 returns-then-not-is_symbol c =

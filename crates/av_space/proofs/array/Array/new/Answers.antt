@@ -18,6 +18,7 @@ returns-clause-array c =
     let a = c.args.cells.now in
     let l = c.in_ok-layout.layout in
     record {
+      legal = c.requires.legal;
       whole = c.requires.whole;
       layout = c.in_ok-layout.ensures;
       same_placings = same_placings t a l c.requires.whole c.in_ok-layout.ensures;

@@ -30,7 +30,7 @@ slots_in-requires c =
     let a = c.args.self.now in
     let v = c.variable-var.ensures in
     let var = c.variable-var.result.now in
-    slot_points a.timed.now a.layout c.args.cell (view_variable var) c.slots.result.now c.requires.array.whole.legal
+    slot_points a.timed.now a.layout c.args.cell (view_variable var) c.slots.result.now c.requires.array.legal
     (record { cell = v.cell; is_cell = v.is_cell; is_variable = v.is_variable; are_slots = c.slots.ensures }) c.args.number (view_piece c.piece_at-piece.result.now) c.piece_at-piece.ensures
 
 pub returns : goal.returns

@@ -1,5 +1,0 @@
-use Rattle.av_clock.specs.inner.Readers.{HaveDrives}
-use Rattle.av_clock.proofs.resolver.Resolver.drives_reading.Given as goal
-
-abbrev pub invariant-loop-i : goal.invariant-loop-i
-invariant-loop-i l = HaveDrives l.self l.i l.lists.items
