@@ -5,7 +5,7 @@ They read what the program writes, or compute it a second time, and prove nothin
 | Module | Has |
 |---|---|
 | `command` | the words and the text that a tool is given, and the program's answers |
-| `verilog` | an emitted module, read line by line, and its clocked run |
+| `verilog` | an emitted text, read line by line: its flat module, and the clocked run of that |
 | `listing` | the listing before a module, and the lines of `table` and `schedule` |
 | `array` | the array: cells, what they compute when, links and ports |
 | `formula` | what a cell computes, as a formula |
@@ -15,7 +15,7 @@ They read what the program writes, or compute it a second time, and prove nothin
 | `clocked` | a run on data, compared with what `run` and `trace` write |
 | `bench` | test benches in Verilog |
 | `designs` | a Verilog text with kinds and instances by its rules: grammar, faults, flat module, run |
-| `kinds` | an emitted module with its cells as instances of kinds |
+| `flat` | the flat module of an emitted text, in the first version of the text |
 | `others` | what Icarus Verilog, Verilator and Yosys say of a text |
 | `page` | the page that plays a run; `page.html` is its frame |
 | `examples` | the texts in examples/, and those in the tests of designs |

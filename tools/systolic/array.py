@@ -1,7 +1,8 @@
 """The array that a text and its sizes give, read from what the program writes.
 
-`table` names the cells, and `schedule` says when each node's points are computed. The links are read off the emitted module: going back from
-the listed wires, through the arms that the cycle counter selects, to the delay lines and ports that each computation takes its words from.
+`table` names the cells, and `schedule` says when each node's points are computed. The links are read off the flat module of the emitted text: going
+back from the listed wires, through the arms that the cycle counter selects, to the delay lines and ports that each computation takes its words from.
+The wires `cP` and `cP_N`, those of the instance `uP`, and the registers `rP_N` belong to cell P.
 A selection by data (`min`, `max`, `if`) counts with both arms, as a dependence does.
 """
 import re
@@ -27,7 +28,7 @@ class Array:
         self.module = self.design.module
         self.presented = {(line.name, line.cycle): line.point for line in self.design.ins}
         self.computed, self.links, self.ports = {}, {}, {}
-        self._owners = {name: int(re.match(r"[cr](\d+)", name).group(1)) for name in self.module.widths if re.match(r"[cr]\d", name)}
+        self._owners = {name: int(found.group(1)) for name in self.module.widths if (found := re.match(r"[cru](\d+)", name))}
         self._carried = {}
         self._count()
         self._go_back()

@@ -3,10 +3,9 @@ use Rattle.std.proofs.Common.{◌≡◌, ℕ, ◌+◌, ◌<◌, inl, inr, sym, s
 use Rattle.std.proofs.lemmas.Bool.{cases_lt}
 use Rattle.av_tree.specs.Points.{Point}
 use Rattle.av_kinds.specs.declared.counter.Counter.{Counter}
-use Rattle.av_kinds.specs.Counters.{count_in}
+use Rattle.av_kinds.specs.Counters.{count_in, number_count}
 use Rattle.av_kinds.specs.Programs.{Mode, is_active}
 use Rattle.av_history.specs.Performing.{Array, ComputesOn}
-use Rattle.av_history.specs.Problems.{number_count}
 use Rattle.av_history.proofs.Residues.{near}
 use Rattle.av_build.specs.inner.Programmed.{IsModeFor}
 use Rattle.av_build.proofs.OrderLemmas.{count_is}

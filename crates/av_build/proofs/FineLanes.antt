@@ -130,7 +130,7 @@ inlet_pick s pipe None place choices n = refl
 inlet_pick s pipe (Some h) place choices n = refl
 
 -- by ports for words of input ports, or for those of lines
-either_inlet : (program : Program) (first q : ℕ) (b : Bool) (site : Site) → IsFineSite program site → IsInletOf program first q (if b then Taps else Inputs) site
+pub either_inlet : (program : Program) (first q : ℕ) (b : Bool) (site : Site) → IsFineSite program site → IsInletOf program first q (if b then Taps else Inputs) site
 either_inlet program first q true site h = h
 either_inlet program first q false site h = h
 

@@ -1,5 +1,5 @@
 -- The lane of a helper, from the moments of its place.
-use Rattle.std.proofs.Common.{◌≡◌, ℕ, zero, suc, ◌+◌, ◌<◌, List, [], ◌∷◌, length, refl, sym, subst, IsTrue, true, Some, if◌then◌else◌}
+use Rattle.std.proofs.Common.{◌≡◌, ℕ, zero, suc, ◌+◌, ◌<◌, List, [], ◌∷◌, length, refl, sym, ap, subst, ◌∙◌, IsTrue, true, Some, if◌then◌else◌}
 use Rattle.std.specs.Prelude.{slice_get}
 use Rattle.av_base.specs.declared.width.Width.{Width}
 use Rattle.av_base.proofs.Lists.{some_is, place_in}
@@ -15,14 +15,12 @@ use Rattle.av_space.specs.Links.{line_length}
 use Rattle.av_kinds.specs.declared.counter.Counter.{Counter}
 use Rattle.av_kinds.specs.declared.program.Inlet.{Inlet}
 use Rattle.av_kinds.specs.declared.program.Inlet.TheVariants.{Inputs, Taps}
-use Rattle.av_kinds.specs.Counters.{count_in}
+use Rattle.av_kinds.specs.Counters.{count_in, number_count}
 use Rattle.av_kinds.specs.Programs.{Mode, is_active, Lane}
 use Rattle.av_history.specs.Performing.{Array, ComputesOn, Lanes, Spot, IsReferenceSource, IsHandSource}
-use Rattle.av_history.specs.Problems.{number_count}
 use Rattle.av_history.specs.Widths.{width_at}
 use Rattle.av_space.specs.Taps.{entries}
 use Rattle.av_build.specs.declared.moments.HandMoments.{HandMoments}
-use Rattle.av_build.specs.declared.moments.Moment.{Moment}
 use Rattle.av_build.specs.inner.Intervals.{intervals_by}
 use Rattle.av_build.specs.inner.Moments.{site_by}
 use Rattle.av_build.specs.inner.Orders.{IsInOrder}
@@ -31,6 +29,7 @@ use Rattle.av_build.specs.inner.Sources.{AreHandMomentsTo}
 use Rattle.av_build.proofs.AloneLemmas.{both_hold}
 use Rattle.av_build.proofs.ModeLemmas.{mode_for}
 use Rattle.av_build.proofs.MomentLemmas.{AreSpotSlots, site_for}
+use Rattle.av_build.proofs.SiteLemmas.{site_inlet, site_width}
 
 module _ (a : Array) (counter : Counter) (lanes : Lanes) (at : Spot) (j : ℕ) (h : Helper) (r : Reference)
     (within : (c d m n : ℕ) (y z : Point) → ComputesOn a at.cell c m y → ComputesOn a at.cell d n z → d < c + number_count counter)
@@ -100,32 +99,16 @@ module _ (a : Array) (counter : Counter) (lanes : Lanes) (at : Spot) (j : ℕ) (
       modes_are = modes;
       entry_site = site_by entry_inlet entry_width found.entries;
       entry_work = refl;
-      entry_inlet = inlet_is found.entries;
-      entry_width = width_is found.entries;
+      entry_inlet = site_inlet entry_inlet entry_width found.entries;
+      entry_width = ap (λ (k : Width). k.bits) (site_width entry_inlet entry_width found.entries) ∙ entry_bits;
       entry_reads = site_for a (count_in counter) at slots are_slots order in_order Entry (λ z c source. IsReferenceSource a lanes at c h.site r.place r.map (entries h.direction) source) entry_inlet entry_width found.entries are.entries_are;
       own_site = site_by Taps own_width found.own;
       own_work = refl;
-      own_inlet = taps_is found.own;
-      own_width = own_width_is found.own;
+      own_inlet = site_inlet Taps own_width found.own;
+      own_width = ap (λ (k : Width). k.bits) (site_width Taps own_width found.own) ∙ own_bits;
       own_reads = site_for a (count_in counter) at slots are_slots order in_order Own (λ z c source. IsHandSource a lanes at j h.direction h.site r.place r.map true c source) Taps own_width found.own are.own_are;
       entry_numbers = entry_numbers;
       own_numbers = own_numbers;
       alone = subst AreAlone (sym modes) alone;
       length_is = size;
     }
-      where
-        inlet_is : (ts : List Moment) → (site_by entry_inlet entry_width ts).inlet ≡ entry_inlet
-        inlet_is [] = refl
-        inlet_is (t ∷ ts) = refl
-
-        width_is : (ts : List Moment) → (site_by entry_inlet entry_width ts).width.bits ≡ width_at a.system r.place
-        width_is [] = entry_bits
-        width_is (t ∷ ts) = entry_bits
-
-        taps_is : (ts : List Moment) → (site_by Taps own_width ts).inlet ≡ Taps
-        taps_is [] = refl
-        taps_is (t ∷ ts) = refl
-
-        own_width_is : (ts : List Moment) → (site_by Taps own_width ts).width.bits ≡ at.variable.width
-        own_width_is [] = own_bits
-        own_width_is (t ∷ ts) = own_bits

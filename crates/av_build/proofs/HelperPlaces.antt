@@ -1,5 +1,5 @@
 -- The helpers of a cell as helpers of the array, and the modes of their lanes.
-use Rattle.std.proofs.Common.{◌≡◌, ℕ, zero, suc, ◌+◌, ◌<◌, List, [], ◌∷◌, ◌++◌, length, map, refl, sym, ap, subst, ◌∙◌, arith, inl, inr, Some, length-append}
+use Rattle.std.proofs.Common.{◌≡◌, ℕ, zero, suc, ◌+◌, ◌<◌, List, [], ◌∷◌, ◌++◌, length, refl, sym, ap, subst, ◌∙◌, arith, inl, inr, Some, length-append}
 use Rattle.std.specs.Prelude.{slice_get}
 use Rattle.av_base.proofs.Lists.{get_cases, get_first, some_is, there_is}
 use Rattle.av_affine.specs.declared.map.Map.{Map}
@@ -10,11 +10,10 @@ use Rattle.av_flat.specs.Broadcasts.{Reference, references}
 use Rattle.av_flat.specs.Nodes.{number_at}
 use Rattle.av_flat.specs.Signatures.{signatures}
 use Rattle.av_space.specs.declared.array.Array.{Array as ArrayMade}
-use Rattle.av_space.specs.declared.layout.Slot.{Slot}
 use Rattle.av_space.specs.declared.spots.Site.{Site as PlaceMade}
 use Rattle.av_space.specs.declared.spots.Spot.{Spot as SpotMade}
 use Rattle.av_space.specs.Sites.{place_of}
-use Rattle.av_space.specs.Spots.{system_of, helpers_of, IsArray, IsSpot, IsSlotIn, AreSlotsIn, IsSiteOf, handing_by}
+use Rattle.av_space.specs.Spots.{system_of, helpers_of, IsArray, IsSpot, IsSiteOf, handing_by}
 use Rattle.av_space.specs.Taps.{Handing, helper_at, Place, places_in}
 use Rattle.av_space.proofs.Elements.{at_index, in_range}
 use Rattle.av_space.proofs.Helpers.{found_helper}
@@ -29,7 +28,7 @@ use Rattle.av_build.specs.inner.Sources.{AreHandMomentsTo}
 use Rattle.av_build.proofs.Appended.{get_right}
 use Rattle.av_build.proofs.HelpersOn.{IsFromPlace}
 use Rattle.av_build.proofs.MomentLemmas.{AreSpotSlots}
-use Rattle.av_build.proofs.SpotNodes.{node_of}
+use Rattle.av_build.proofs.SpotNodes.{node_of, spot_slots}
 
 -- a place with a helper is a reference
 pub record IsReference (p : Place) : Type 0 where
@@ -48,11 +47,10 @@ by_tree hs own p (cases ts) h e f = absurd cc
 by_tree hs own p (dependence m u) h e f = absurd cc
 by_tree hs own p (reduction o m u set) h e f = absurd cc
 
-
 -- ---- the place of a reference
 
 -- of each reference there is a place with its number, counted from n on
-abbrev Tells : ℕ → ℕ → List Place → List Reference → Type 0
+abbrev pub Tells : ℕ → ℕ → List Place → List Reference → Type 0
 Tells k n ps rs = (i : ℕ) (r : Reference) → slice_get rs i ≡ Some r → (j : ℕ) × (slice_get ps j ≡ Some (record { piece = k; site = n + i; tree = reference r.place r.map }))
 
 both_told : (k n m : ℕ) (ps qs : List Place) (rs more : List Reference) → m ≡ n + length rs → Tells k n ps rs → Tells k m qs more → Tells k n (ps ++ qs) (rs ++ more)
@@ -73,7 +71,7 @@ one k n place m zero r e =
     (0, ap (λ (x : ℕ). Some (record { piece = k; site = x; tree = reference place m })) a ∙ ap (λ (x : Reference). Some (record { piece = k; site = n + 0; tree = reference x.place x.map })) same)
 one k n place m (suc i) r e = absurd cc
 
-told : (k n : ℕ) (t : Tree) → Tells k n (places_in k n t) (references t)
+pub told : (k n : ℕ) (t : Tree) → Tells k n (places_in k n t) (references t)
 told k n (reference place m) = λ i r e. one k n place m i r e
 told k n (binary g l r) = both_told k n (n + length (references l)) (places_in k n l) (places_in k (n + length (references l)) r) (references l) (references r) refl (told k n l) (told k (n + length (references l)) r)
 told k n (choice l c r x y) =
@@ -142,35 +140,37 @@ module _ (w : ArrayMade) (is : IsArray w) (p : ℕ) (pieces : Pieces) (are : Are
       let handing : ◌≡◌ {A = Handing} on.handing (record { number = h.number; direction = f.helper.direction }) =
       ap (λ (k : ℕ). record { number = k; direction = on.handing.direction }) (sym on.number) ∙ ap (λ (z : Point). record { number = h.number; direction = z }) (sym f.direction_is) in
       let whole : slice_get (references (view at.piece.now.tree)) q.site ≡ Some (record { place = r.place; map = r.map_is }) =
-      subst (IsPlaceBy (signatures s) (references (view at.piece.now.tree)) q) r.tree (known w is at spot on.site placed) in
-      (at, record {
-        is_spot = here.1;
-        placed = placed;
-        helper = f.helper;
-        place = r.place;
-        map_is = r.map_is;
-        tree = r.tree;
-        helps = record {
-          is_helper = subst (λ (k : ℕ). slice_get (helpers_of w) k ≡ Some f.helper) same f.is_helper;
-          is_first = ap (λ (k : ℕ). helper_at (helpers_of w) k f.helper.piece f.helper.site) f.var_is ∙ ap (λ (k : ℕ). helper_at (helpers_of w) at.place k f.helper.site) f.piece_is
-              ∙ ap (λ (k : ℕ). helper_at (helpers_of w) at.place at.number k) f.site_is ∙ found ∙ ap (λ (x : Handing). Some x) handing;
-          is_variable = ap (slice_get s.variables) f.var_is ∙ n.variable;
-          is_node = n.node;
-          is_piece = ap (slice_get (view_variable at.var.now).pieces) f.piece_is ∙ spot.is_piece;
-          is_reference = ap (slice_get (references (view at.piece.now.tree))) f.site_is ∙ whole;
-        };
-        node = ap (number_at s) f.var_is ∙ n.number;
-        piece = f.piece_is;
-        site = f.site_is;
-        direction = f.direction_is;
-      })
+      subst (IsPlaceBy (signatures s) (references (view at.piece.now.tree)) q) r.tree (known w is at spot on.site placed) in (
+        at,
+        record {
+          is_spot = here.1;
+          placed = placed;
+          helper = f.helper;
+          place = r.place;
+          map_is = r.map_is;
+          tree = r.tree;
+          helps = record {
+            is_helper = subst (λ (k : ℕ). slice_get (helpers_of w) k ≡ Some f.helper) same f.is_helper;
+            is_first = ap (λ (k : ℕ). helper_at (helpers_of w) k f.helper.piece f.helper.site) f.var_is ∙ ap (λ (k : ℕ). helper_at (helpers_of w) at.place k f.helper.site) f.piece_is
+                ∙ ap (λ (k : ℕ). helper_at (helpers_of w) at.place at.number k) f.site_is ∙ found ∙ ap (λ (x : Handing). Some x) handing;
+            is_variable = ap (slice_get s.variables) f.var_is ∙ n.variable;
+            is_node = n.node;
+            is_piece = ap (slice_get (view_variable at.var.now).pieces) f.piece_is ∙ spot.is_piece;
+            is_reference = ap (slice_get (references (view at.piece.now.tree))) f.site_is ∙ whole;
+          };
+          node = ap (number_at s) f.var_is ∙ n.number;
+          piece = f.piece_is;
+          site = f.site_is;
+          direction = f.direction_is;
+        },
+      )
 
   -- whichever way the helper is told
   module _ (h : HelperPlan) (on : IsFromPlace pieces h) (at : SpotMade) (e : IsHelped h at on.site on.handing) (other : Helper) (v : Variable) (piece : Piece) (r : Reference) (it : IsHelper (seen w) h.number other v piece r) where
     same : e.helper ≡ other
     same = some_is e.helper other (sym e.helps.is_helper ∙ it.is_helper)
 
-    variable_is : view_variable at.var.now ≡ v
+    pub variable_is : view_variable at.var.now ≡ v
     variable_is = some_is (view_variable at.var.now) v (sym e.helps.is_variable ∙ ap (λ (k : Helper). slice_get s.variables k.var) same ∙ it.is_variable)
 
     piece_is : view_piece at.piece.now ≡ piece
@@ -209,10 +209,4 @@ module _ (w : ArrayMade) (is : IsArray w) (p : ℕ) (pieces : Pieces) (are : Are
 
     -- and so are its computations
     pub slots_are : AreSpotSlots (seen w) (helper_spot (seen w) other v piece p) at.slots
-    slots_are = subst (λ (x : Spot). AreSpotSlots (seen w) x at.slots) spot_is (record {
-      each = λ k slot found. (let t = at_index (IsSlotIn w at.cell at.node at.piece.now.domain) at.slots own.each k slot found in (t.computes, t.within));
-      all = own.all;
-    })
-      where
-        own : AreSlotsIn w at.cell at.node at.piece.now.domain at.slots
-        own = (spot_at h.piece at e.is_spot).2.are_slots
+    slots_are = subst (λ (x : Spot). AreSpotSlots (seen w) x at.slots) spot_is (spot_slots w at (spot_at h.piece at e.is_spot).2)

@@ -1,5 +1,5 @@
 -- The lane of a helper on a cell is the first one that is of the helper.
-use Rattle.std.proofs.Common.{◌≡◌, ℕ, zero, suc, ◌+◌, ◌-◌, ◌<◌, ◌≤◌, List, [], ◌∷◌, length, refl, sym, ap, subst, ◌∙◌, arith, true, false, Option, Some}
+use Rattle.std.proofs.Common.{◌≡◌, ℕ, zero, suc, ◌+◌, ◌-◌, ◌<◌, ◌≤◌, List, [], ◌∷◌, length, refl, sym, ap, subst, ◌∙◌, arith, true, false, Option, Some, None}
 use Rattle.std.specs.Prelude.{slice_get, nat_eq}
 use Rattle.av_base.proofs.Lists.{some_is}
 use Rattle.av_base.proofs.Pieces.{same_eq}
@@ -10,7 +10,7 @@ use Rattle.av_build.specs.declared.blueprint.CellPlan.{CellPlan}
 use Rattle.av_build.specs.declared.blueprint.HelperPlan.{HelperPlan}
 use Rattle.av_build.specs.declared.blueprint.LanePlan.{LanePlan}
 use Rattle.av_build.specs.inner.Blueprints.{helpers_on, of_helper, is_of_helper, IsBlueprint, HasHelper, helper_place, helper_in, lanes_of}
-use Rattle.av_build.proofs.BlueprintLemmas.{helper_lane_at, lane_there, value_of, place_found, place_is}
+use Rattle.av_build.proofs.BlueprintLemmas.{helper_lane_at, value_lane_at, lane_there, value_of, place_found, place_is}
 
 module _ (b : Blueprint) (is : IsBlueprint b) (p j : ℕ) (has : HasHelper b p j) where
   abbrev plan : CellPlan
@@ -24,6 +24,13 @@ module _ (b : Blueprint) (is : IsBlueprint b) (p j : ℕ) (has : HasHelper b p j
   lane_at i h e =
       let there = lane_there 0 0 b.cells is.plans.numbered p p plan (omega arith) has.is_plan i (of_helper p h) (helper_lane_at p plan.pieces i h e) (plan.lanes.first + i) (omega arith) in
       ap (λ (l : List LanePlan). slice_get l (plan.lanes.first + i)) is.plans.lanes_are ∙ there
+
+  -- the lane of the cell's value is there
+  pub value_there : plan.lanes.value < length b.lanes
+  value_there =
+      let value : plan.lanes.value ≡ plan.lanes.first + length (helpers_on plan.pieces) = value_is in
+      let there = lane_there 0 0 b.cells is.plans.numbered p p plan (omega arith) has.is_plan (length (helpers_on plan.pieces)) (record { cell = p; helper = None }) (value_lane_at p plan.pieces) plan.lanes.value (omega (arith, value)) in
+      in_range b.lanes plan.lanes.value (record { cell = p; helper = None }) (ap (λ (l : List LanePlan). slice_get l plan.lanes.value) is.plans.lanes_are ∙ there)
 
   -- there is one
   pub found_below : (n : ℕ) → plan.lanes.value ≤ n → ((q : ℕ) (lane : LanePlan) → plan.lanes.first ≤ q → q < n → slice_get b.lanes q ≡ Some lane → is_of_helper lane j ≡ false) → ⊥
@@ -46,9 +53,9 @@ module _ (b : Blueprint) (is : IsBlueprint b) (p j : ℕ) (has : HasHelper b p j
       let same : of_helper p helper.0 ≡ lane = some_is (of_helper p helper.0) lane (sym own ∙ is_lane) in
       let same_number : helper.0.number ≡ j = equal helper.0.number j (ap (λ (l : LanePlan). is_of_helper l j) same ∙ holds) in
       let place : helper_place j (helpers_on plan.pieces) ≡ i = place_found j (helpers_on plan.pieces) i helper.0 helper.1 same_number (λ k g lt is_g e. (
-          let fails = none (plan.lanes.first + k) (of_helper p g) (omega arith) (omega (arith, lt, low)) (lane_at k g is_g) in
-          let also : nat_eq g.number j ≡ true = ap (λ (m : ℕ). nat_eq m j) e ∙ same_eq j in
-          absurd (let both = sym fails ∙ also in cc))) in
+      let fails = none (plan.lanes.first + k) (of_helper p g) (omega arith) (omega (arith, lt, low)) (lane_at k g is_g) in
+      let also : nat_eq g.number j ≡ true = ap (λ (m : ℕ). nat_eq m j) e ∙ same_eq j in
+      absurd (let both = sym fails ∙ also in cc))) in
       let told : (lanes_of b.cells).of_helper j p ≡ plan.lanes.first + helper_place j (helpers_on plan.pieces) = ap (λ (o : Option CellPlan). helper_in j o) has.is_plan in
       omega (arith, told, place, at)
     where

@@ -95,9 +95,9 @@ module _ (w : ArrayMade) (is : IsArray w) (p : ℕ) (pieces : Pieces) (are : Are
       let own : a.sites ≡ b.sites = some_is a.sites b.sites (sym a.are_sites ∙ ap (λ (i : ℕ). slice_get pieces.sites i) piece ∙ b.are_sites) in
       let listed = are.sites h.piece v.0 b.sites v.1.is_spot b.are_sites in
       let at_a : slice_get (places_in v.0.number 0 (view v.0.piece.now.tree)) g.site ≡ Some (place_of a.site.place) =
-          ap (λ (ps : List Place). slice_get ps g.site) (sym listed.places) ∙ get_mapped (λ (s : PlaceMade). place_of s.place) b.sites g.site a.site (ap (λ (l : List PlaceMade). slice_get l g.site) (sym own) ∙ a.is_site) in
+      ap (λ (ps : List Place). slice_get ps g.site) (sym listed.places) ∙ get_mapped (λ (s : PlaceMade). place_of s.place) b.sites g.site a.site (ap (λ (l : List PlaceMade). slice_get l g.site) (sym own) ∙ a.is_site) in
       let at_b : slice_get (places_in v.0.number 0 (view v.0.piece.now.tree)) h.site ≡ Some (place_of b.site.place) =
-          ap (λ (ps : List Place). slice_get ps h.site) (sym listed.places) ∙ get_mapped (λ (s : PlaceMade). place_of s.place) b.sites h.site b.site b.is_site in
+      ap (λ (ps : List Place). slice_get ps h.site) (sym listed.places) ∙ get_mapped (λ (s : PlaceMade). place_of s.place) b.sites h.site b.site b.is_site in
       let site = one_reference v.0.number (view v.0.piece.now.tree) g.site h.site (place_of a.site.place) (place_of b.site.place) u.1.place v.1.place u.1.map_is v.1.map_is at_a at_b u.1.tree v.1.tree sites in
       one_place 0 pieces.sites x y g h is_g is_h piece site
 

@@ -34,7 +34,7 @@ later k i site sites h r = record {
   site_is = (let e = r.site_is in omega (arith, e));
 }
 
-of_place : (k i : ℕ) (sites : List Place) (x : ℕ) (h : HelperPlan) → slice_get (site_helpers k i sites) x ≡ Some h → IsOfPlace k i sites h
+pub of_place : (k i : ℕ) (sites : List Place) (x : ℕ) (h : HelperPlan) → slice_get (site_helpers k i sites) x ≡ Some h → IsOfPlace k i sites h
 of_place k i [] x h e = absurd cc
 of_place k i (site ∷ sites) x h e = by_handing site.handing refl x e (λ y f. later k i site sites h (of_place k (suc i) sites y h f))
   where
@@ -71,7 +71,7 @@ pub record IsOfPiece (k : ℕ) (pieces : List (List Place)) (h : HelperPlan) : T
   pub are_sites : slice_get pieces index ≡ Some sites
   pub of_place : IsOfPlace (k + index) 0 sites h
 
-of_piece : (k : ℕ) (pieces : List (List Place)) (x : ℕ) (h : HelperPlan) → slice_get (helpers_from k pieces) x ≡ Some h → IsOfPiece k pieces h
+pub of_piece : (k : ℕ) (pieces : List (List Place)) (x : ℕ) (h : HelperPlan) → slice_get (helpers_from k pieces) x ≡ Some h → IsOfPiece k pieces h
 of_piece k [] x h e = absurd cc
 of_piece k (sites ∷ pieces) x h e = elim (get_cases (site_helpers k 0 sites) (helpers_from (suc k) pieces) x h e) [
   | inl l ↦ (let same : k ≡ k + 0 = omega arith in record { index = 0; sites = sites; are_sites = refl; of_place = subst (λ (n : ℕ). IsOfPlace n 0 sites h) same (of_place k 0 sites x h l) })

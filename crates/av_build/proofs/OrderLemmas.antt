@@ -8,8 +8,7 @@ use Rattle.av_space.proofs.ByPlace.{pair_at}
 use Rattle.av_space.proofs.Elements.{in_range}
 use Rattle.av_kinds.specs.declared.counter.Counter.{Counter}
 use Rattle.av_kinds.specs.declared.counter.Counter.TheVariants.{Cycles, Phases}
-use Rattle.av_kinds.specs.Counters.{IsCounter, count_in}
-use Rattle.av_history.specs.Problems.{number_count}
+use Rattle.av_kinds.specs.Counters.{IsCounter, count_in, number_count}
 use Rattle.av_history.proofs.Residues.{two_in_window}
 use Rattle.av_build.specs.inner.Orders.{AreWithin, IsStart, IsInOrder}
 use Rattle.av_build.proofs.Appended.{get_right}

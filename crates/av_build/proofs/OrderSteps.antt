@@ -7,8 +7,7 @@ use Rattle.av_base.proofs.Lists.{some_is}
 use Rattle.av_space.specs.declared.layout.Slot.{Slot}
 use Rattle.av_space.proofs.Elements.{in_range}
 use Rattle.av_kinds.specs.declared.counter.Counter.{Counter}
-use Rattle.av_kinds.specs.Counters.{IsCounter, count_in}
-use Rattle.av_history.specs.Problems.{number_count}
+use Rattle.av_kinds.specs.Counters.{IsCounter, count_in, number_count}
 use Rattle.av_build.specs.inner.Orders.{AreWithin, IsStart, IsInOrder}
 use Rattle.av_build.proofs.OrderLemmas.{range_more, in_order_by}
 

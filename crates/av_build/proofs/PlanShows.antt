@@ -1,5 +1,5 @@
 -- The flat design of an array's plan shows each solution for the inputs, some times as many cycles later as the counter has numbers.
-use Rattle.std.proofs.Common.{◌≡◌, ℕ, zero, suc, ◌+◌, ◌*◌, ◌<◌, List, [], ◌∷◌, map, length, refl, sym, ap, subst, ◌∙◌, arith, Option, Some}
+use Rattle.std.proofs.Common.{◌≡◌, ℕ, zero, suc, ◌+◌, ◌*◌, ◌<◌, List, [], ◌∷◌, map, length, sym, ap, subst, ◌∙◌, arith, Option, Some}
 use Rattle.std.specs.Prelude.{All, Contains, slice_get}
 use Rattle.std.proofs.lemmas.List.Elements.{All-contains, All-from_recursion, recursion_from_All, All-map}
 use Rattle.av_base.specs.declared.width.Width.{Width}
@@ -23,24 +23,25 @@ use Rattle.av_space.proofs.Elements.{in_range}
 use Rattle.av_space.proofs.Nodes.{passing}
 use Rattle.av_kinds.specs.declared.counter.Counter.{Counter}
 use Rattle.av_kinds.specs.declared.planning.Modules.{Modules}
-use Rattle.av_kinds.specs.Programs.{Lane, Program}
+use Rattle.av_kinds.specs.Programs.{Program}
 use Rattle.av_kinds.specs.Histories.{Signals, tasks_of}
-use Rattle.av_kinds.specs.Counters.{count_in}
-use Rattle.av_kinds.specs.Names.{Naming, input_name, value_name, lane_value, label_in, labels}
+use Rattle.av_kinds.specs.Counters.{count_in, number_count}
+use Rattle.av_kinds.specs.Names.{Naming, input_name, labels}
 use Rattle.av_kinds.specs.Tops.{port, numbered_ports}
 use Rattle.av_kinds.specs.Netlists.{plan_of, AreNetlistsOf}
 use Rattle.av_history.specs.Performing.{Array, ComputesOn, Lanes}
 use Rattle.av_history.specs.Arranged.{IsArranged}
-use Rattle.av_history.specs.Problems.{Presents, HaveWords, number_count}
+use Rattle.av_history.specs.Problems.{Presents, HaveWords}
 use Rattle.av_history.proofs.Problems.{each_problem}
 use Rattle.av_history.proofs.Shown.{signature_at}
 use Rattle.av_build.specs.Later.{later_line, later_lines, later}
 use Rattle.av_build.specs.inner.Programmed.{IsProgramFor}
+use Rattle.av_build.proofs.CellValues.{value_label}
 use Rattle.av_build.proofs.Performed.{performs}
 
 -- ---- ports
 
-port_there : (name : Naming) (b : ℕ) (widths : List Width) (k : ℕ) → k < length widths → (w : Width) × Contains (numbered_ports name b widths) (port w (name (b + k)))
+pub port_there : (name : Naming) (b : ℕ) (widths : List Width) (k : ℕ) → k < length widths → (w : Width) × Contains (numbered_ports name b widths) (port w (name (b + k)))
 port_there name b [] k l = absurd (omega (arith, l))
 port_there name b (w ∷ widths) zero l =
     let e : b ≡ b + 0 = omega arith in
@@ -60,10 +61,6 @@ pub record Given (a : Array) (counter : Counter) (lanes : Lanes) (outputs : List
   pub outputs_are : program.outputs ≡ map lanes.of_value outputs
   pub are_ins : AreInLines a.system a.helpers a.times a.cells a.ports listing.ins
   pub are_ats : AreAtLines a.system a.times a.cells outputs listing.ats
-
--- the name of the lane of a cell's value
-value_label : (program : Program) (q p : ℕ) (lane : Lane) → slice_get program.lanes q ≡ Some lane → lane.home ≡ p → lane.rank ≡ 0 → (labels program).value q ≡ value_name p
-value_label program q p lane is home rank = ap (label_in (lane_value program.stride)) is ∙ rw (rank, home) refl
 
 module _ (a : Array) (counter : Counter) (lanes : Lanes) (outputs : List ℕ) (listing : Listing) (program : Program) (m : Modules) (given : Given a counter lanes outputs listing program m)
     (n : ℕ) (stream : Stream) (run : Run) (is_run : IsRun (flat_module (plan_of listing m)) n stream run) where

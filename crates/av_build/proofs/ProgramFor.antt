@@ -1,24 +1,17 @@
 -- The lanes of a blueprint, each as it is built, are a program for the array.
-use Rattle.std.proofs.Common.{◌≡◌, ℕ, suc, ◌+◌, ◌-◌, ◌<◌, ◌≤◌, inl, inr, List, length, map, refl, sym, ap, subst, ◌∙◌, arith, IsTrue, Option, Some, None}
+use Rattle.std.proofs.Common.{◌≡◌, ℕ, suc, ◌+◌, ◌-◌, ◌<◌, ◌≤◌, inl, inr, List, length, map, refl, sym, ap, subst, ◌∙◌, arith, Option, Some, None}
 use Rattle.std.specs.Prelude.{slice_get}
 use Rattle.std.proofs.lemmas.List.{length-map}
-use Rattle.av_base.proofs.Lists.{get_mapped, some_is, there_is, place_in}
+use Rattle.av_base.proofs.Lists.{get_mapped, there_is}
 use Rattle.av_tree.specs.Points.{Point}
 use Rattle.av_flat.specs.declared.timed.Helper.{Helper}
-use Rattle.av_flat.specs.Trees.{Piece, Variable, view_piece, view_variable, reference}
-use Rattle.av_flat.specs.Broadcasts.{Reference, references}
-use Rattle.av_flat.specs.Points.{has}
+use Rattle.av_flat.specs.Trees.{Piece, Variable, view_piece, view_variable}
+use Rattle.av_flat.specs.Broadcasts.{Reference}
 use Rattle.av_flat.specs.Nodes.{nodes, number_at}
 use Rattle.av_space.specs.declared.array.Array.{Array as ArrayMade}
-use Rattle.av_space.specs.declared.spots.Site.{Site as PlaceMade}
-use Rattle.av_space.specs.declared.spots.Spot.{Spot as SpotMade}
-use Rattle.av_space.specs.Sites.{place_of}
-use Rattle.av_space.specs.Spots.{system_of, helpers_of, cells_of, ComputesIn, IsSpot, IsSlotIn, IsSiteOf, handing_by}
-use Rattle.av_space.specs.Taps.{helper_at, node_place, Place}
+use Rattle.av_space.specs.Spots.{system_of, helpers_of, cells_of, ComputesIn, IsSlotIn}
 use Rattle.av_space.proofs.ByPlace.{from_map}
 use Rattle.av_space.proofs.Elements.{at_index, in_range}
-use Rattle.av_space.proofs.Nodes.{own_place}
-use Rattle.av_space.proofs.NodePlaces.{node_at}
 use Rattle.av_kinds.specs.declared.counter.Counter.{Counter}
 use Rattle.av_kinds.specs.declared.program.CellLanes.{CellLanes}
 use Rattle.av_kinds.specs.Counters.{count_in}
@@ -29,14 +22,15 @@ use Rattle.av_build.specs.declared.blueprint.Blueprint.{Blueprint}
 use Rattle.av_build.specs.declared.blueprint.CellPlan.{CellPlan}
 use Rattle.av_build.specs.declared.blueprint.HelperPlan.{HelperPlan}
 use Rattle.av_build.specs.declared.blueprint.LanePlan.{LanePlan}
-use Rattle.av_build.specs.inner.Blueprints.{seen, lanes_of, value_in, helper_in, helpers_on, helper_place, of_helper, own_lanes, ArePieces, IsBlueprint, HasHelper}
-use Rattle.av_build.specs.inner.Lanes.{IsBuiltBy, AreBuilt}
+use Rattle.av_build.specs.inner.Blueprints.{seen, lanes_of, value_in, helper_in, helpers_on, helper_place, of_helper, own_lanes, ArePieces, IsBlueprint}
+use Rattle.av_build.specs.inner.Lanes.{IsValueBuilt, IsBuiltBy, AreBuilt}
 use Rattle.av_build.specs.inner.Programmed.{IsValueLane, IsHelperLane, IsLaneFor, of_value, of_helper as for_helper, IsProgramFor}
 use Rattle.av_build.proofs.BlueprintLemmas.{helper_lane_at, value_lane_at, own_cases, own_size, lane_there, value_of, place_is, place_found}
 use Rattle.av_build.proofs.CellUses.{busy}
-use Rattle.av_build.proofs.HelperPlaces.{told, spot_at, helped}
+use Rattle.av_build.proofs.Handovers.{has_helper}
+use Rattle.av_build.proofs.HelperPlaces.{spot_at, helped}
 use Rattle.av_build.proofs.HelperSearch.{helper_between}
-use Rattle.av_build.proofs.HelpersOn.{place_of_helper, helper_of_place}
+use Rattle.av_build.proofs.HelpersOn.{place_of_helper}
 
 module _ (b : Blueprint) (is : IsBlueprint b) (counter : Counter) (made : List LaneMade) (built : AreBuilt b counter b.lanes made) where
   abbrev w : ArrayMade
@@ -48,7 +42,7 @@ module _ (b : Blueprint) (is : IsBlueprint b) (counter : Counter) (made : List L
   -- ---- a lane of a cell
 
   module _ (p : ℕ) (plan : CellPlan) (is_plan : slice_get b.cells p ≡ Some plan) where
-    value_is : plan.lanes.value ≡ plan.lanes.first + length (helpers_on plan.pieces)
+    pub value_is : plan.lanes.value ≡ plan.lanes.first + length (helpers_on plan.pieces)
     value_is = value_of 0 b.cells is.plans.numbered p plan is_plan
 
     pieces : ArePieces w p plan.pieces
@@ -61,7 +55,7 @@ module _ (b : Blueprint) (is : IsBlueprint b) (counter : Counter) (made : List L
         built.each q own lane (ap (λ (l : List LanePlan). slice_get l q) is.plans.lanes_are ∙ there) is_lane
 
     -- there is one
-    lane_made : (q : ℕ) → plan.lanes.first ≤ q → q ≤ plan.lanes.value → (lane : LaneMade) × (slice_get made q ≡ Some lane)
+    pub lane_made : (q : ℕ) → plan.lanes.first ≤ q → q ≤ plan.lanes.value → (lane : LaneMade) × (slice_get made q ≡ Some lane)
     lane_made q low high =
         let number = value_is in
         let size = own_size p plan.pieces in
@@ -71,17 +65,20 @@ module _ (b : Blueprint) (is : IsBlueprint b) (counter : Counter) (made : List L
         let many = built.one_each in
         there_is made q (omega (arith, within, many))
 
+    pub value_built : (lane : LaneMade) → slice_get made plan.lanes.value ≡ Some lane → IsValueBuilt b counter p plan (lane_of lane)
+    value_built lane is_lane = lane_at (length (helpers_on plan.pieces)) (record { cell = p; helper = None }) (value_lane_at p plan.pieces) plan.lanes.value value_is lane is_lane plan is_plan
+
     value_lane : (lane : LaneMade) → slice_get made plan.lanes.value ≡ Some lane → (c n : ℕ) (z : Point) (v : Variable) → ComputesIn w p c n z → slice_get (nodes (system_of w)) n ≡ Some v
         → IsValueLane (seen w) (count_in counter) lanes plan.lanes.first p n v (lane_of lane)
     value_lane lane is_lane c n z v computes is_variable =
-        lane_at (length (helpers_on plan.pieces)) (record { cell = p; helper = None }) (value_lane_at p plan.pieces) plan.lanes.value value_is lane is_lane plan is_plan c n z v computes is_variable
+        (value_built lane is_lane).is_lane c n z v computes is_variable
 
-    of_value_is : lanes.of_value p ≡ plan.lanes.value
+    pub of_value_is : lanes.of_value p ≡ plan.lanes.value
     of_value_is = ap (λ (o : Option CellPlan). value_in o) is_plan
 
     -- that of a helper of the cell
     module _ (x : ℕ) (h : HelperPlan) (is_helper : slice_get (helpers_on plan.pieces) x ≡ Some h) (lane : LaneMade) (is_lane : slice_get made (plan.lanes.first + x) ≡ Some lane) where
-      helper_built : (helper : Helper) (v : Variable) (piece : Piece) (r : Reference) → IsHelper (seen w) h.number helper v piece r → IsHelperLane (seen w) (count_in counter) lanes (helper_spot (seen w) helper v piece p) h.number helper r (lane_of lane)
+      pub helper_built : (helper : Helper) (v : Variable) (piece : Piece) (r : Reference) → IsHelper (seen w) h.number helper v piece r → IsHelperLane (seen w) (count_in counter) lanes (helper_spot (seen w) helper v piece p) h.number helper r (lane_of lane)
       helper_built helper v piece r it = lane_at x (of_helper p h) (helper_lane_at p plan.pieces x h is_helper) (plan.lanes.first + x) refl lane is_lane helper v piece r it
 
     -- what each lane is for; the first place of a helper's number is its own
@@ -116,39 +113,6 @@ module _ (b : Blueprint) (is : IsBlueprint b) (counter : Counter) (made : List L
               of_value u.cycle u.cell.node u.point u.variable u.computes u.is_variable (last ∙ sym of_value_is) (value_lane lane here u.cycle u.cell.node u.point u.variable u.computes u.is_variable))
         ]
 
-    -- a helper whose piece has a computation on the cell is one of the cell's
-    on_cell : (j : ℕ) (h : Helper) (v : Variable) (piece : Piece) (r : Reference) → IsHelper (seen w) j h v piece r → (c : ℕ) (z : Point) → ComputesIn w p c (number_at (system_of w) h.var) z → IsTrue (has piece.domain z)
-        → (x : ℕ) × (g : HelperPlan) × (slice_get (helpers_on plan.pieces) x ≡ Some g) × (g.number ≡ j)
-    on_cell j h v piece r it c z computes inside =
-        let node = node_at (system_of w) h.var v it.is_variable it.is_node in
-        let among = pieces.spots.all c (number_at (system_of w) h.var) z v h.piece piece computes node it.is_piece inside in
-        let k = place_in (map (λ (at : SpotMade). at.number) plan.pieces.spots) h.piece among in
-        let at = from_map (λ (at : SpotMade). at.number) plan.pieces.spots k.0 h.piece k.1 in
-        let many = pieces.one_each in
-        let low = in_range plan.pieces.spots k.0 at.0 at.1 in
-        let own = there_is plan.pieces.sites k.0 (omega (arith, low, many)) in
-        let sites = pieces.sites k.0 at.0 own.0 at.1 own.1 in
-        let spot = (spot_at w is.array p plan.pieces pieces k.0 at.0 at.1).2 in
-        let variable = spot_variable at.0 (spot_at w is.array p plan.pieces pieces k.0 at.0 at.1).0 spot in
-        let here : view_piece at.0.piece.now ≡ piece = some_is (view_piece at.0.piece.now) piece
-            (sym spot.is_piece ∙ ap (λ (i : ℕ). slice_get (view_variable at.0.var.now).pieces i) at.2 ∙ ap (λ (u : Variable). slice_get u.pieces h.piece) variable ∙ it.is_piece) in
-        let read : slice_get (references (view_piece at.0.piece.now).tree) h.site ≡ Some r = ap (λ (q : Piece). slice_get (references q.tree) h.site) here ∙ it.is_reference in
-        let place = told at.0.number 0 (view_piece at.0.piece.now).tree h.site r read in
-        let mapped : slice_get (map (λ (s : PlaceMade). place_of s.place) own.0) place.0 ≡ Some (record { piece = at.0.number; site = 0 + h.site; tree = reference r.place r.map }) = ap (λ (l : List Place). slice_get l place.0) sites.places ∙ place.1 in
-        let site = from_map (λ (s : PlaceMade). place_of s.place) own.0 place.0 (record { piece = at.0.number; site = 0 + h.site; tree = reference r.place r.map }) mapped in
-        let placed = at_index (IsSiteOf w at.0) own.0 sites.each place.0 site.0 site.1 in
-        let var_is : at.0.place ≡ h.var = spot.place ∙ ap (node_place (system_of w)) (node_of_spot at.0 (spot_at w is.array p plan.pieces pieces k.0 at.0 at.1).0 spot) ∙ own_place (system_of w) h.var v it.is_variable it.is_node in
-        let handing : site.0.handing ≡ Some (record { number = j; direction = h.direction }) =
-            placed.handing ∙ ap (λ (q : Place). handing_by (helpers_of w) at.0.place q q.tree) site.2 ∙ ap (λ (i : ℕ). helper_at (helpers_of w) i at.0.number h.site) var_is ∙ ap (λ (i : ℕ). helper_at (helpers_of w) h.var i h.site) at.2 ∙ it.is_first in
-        let found = helper_of_place plan.pieces k.0 own.0 own.1 place.0 site.0 site.1 (record { number = j; direction = h.direction }) handing in
-        (found.0, record { number = j; piece = k.0; site = place.0 }, found.1, refl)
-      where
-        node_of_spot : (at : SpotMade) → at.cell ≡ p → IsSpot w at → at.node ≡ number_at (system_of w) h.var
-        node_of_spot at e s = sym s.node ∙ ap (λ x. x.node) (some_is s.cell computes.cell (sym s.is_cell ∙ ap (λ (k : ℕ). slice_get (cells_of w) k) e ∙ computes.is_cell)) ∙ computes.stands.node
-
-        spot_variable : (at : SpotMade) → at.cell ≡ p → IsSpot w at → view_variable at.var.now ≡ v
-        spot_variable at e s = some_is (view_variable at.var.now) v (sym s.is_variable ∙ ap (λ (k : ℕ). slice_get (nodes (system_of w)) k) (node_of_spot at e s) ∙ node_at (system_of w) h.var v it.is_variable it.is_node)
-
   -- ---- the whole
 
   pub program_for : (program : Program) → program.lanes ≡ map lane_of made → program.cells ≡ map (λ (plan : CellPlan). plan.lanes) b.cells → program.stride ≡ suc (length (helpers_of w))
@@ -174,18 +138,18 @@ module _ (b : Blueprint) (is : IsBlueprint b) (counter : Counter) (made : List L
         let m = lane_made p plan.0 plan.1 plan.0.lanes.value (omega (arith, number)) (omega arith) in
         (plan.0.lanes, own_at p plan.0 plan.1, (lane_of m.0, lane_out (lanes.of_value p) m.0 (ap (λ (k : ℕ). slice_get made k) (of_value_is p plan.0 plan.1) ∙ m.1), value_lane p plan.0 plan.1 m.0 m.1 c n z v computes is_variable));
     helpers = λ j h v piece r it p c z computes inside.
-        let plan = plan_of p c (number_at (system_of w) h.var) z computes in
-        let x = on_cell p plan.0 plan.1 j h v piece r it c z computes inside in
-        let has : HasHelper b p j = record { plan = plan.0; is_plan = plan.1; index = x.0; helper = x.1; is_helper = x.2; number = x.3 } in
-        let bounds = helper_between b is p j has in
-        let place = place_is j (helpers_on plan.0.pieces) x.0 x.1 x.2 x.3 in
-        let told : lanes.of_helper j p ≡ plan.0.lanes.first + helper_place j (helpers_on plan.0.pieces) = ap (λ (o : Option CellPlan). helper_in j o) plan.1 in
+        let on = has_helper b is j h v piece r it p c z computes inside in
+        let plan = on.plan in
+        let is_plan = on.is_plan in
+        let bounds = helper_between b is p j on in
+        let place = place_is j (helpers_on plan.pieces) on.index on.helper on.is_helper on.number in
+        let told : lanes.of_helper j p ≡ plan.lanes.first + helper_place j (helpers_on plan.pieces) = ap (λ (o : Option CellPlan). helper_in j o) is_plan in
         let high = bounds.1 in
-        let m = lane_made p plan.0 plan.1 (lanes.of_helper j p) bounds.0 (omega (arith, high)) in
-        let here : slice_get made (plan.0.lanes.first + helper_place j (helpers_on plan.0.pieces)) ≡ Some m.0 = ap (λ (k : ℕ). slice_get made k) (sym told) ∙ m.1 in
+        let m = lane_made p plan is_plan (lanes.of_helper j p) bounds.0 (omega (arith, high)) in
+        let here : slice_get made (plan.lanes.first + helper_place j (helpers_on plan.pieces)) ≡ Some m.0 = ap (λ (k : ℕ). slice_get made k) (sym told) ∙ m.1 in
         let same : place.helper.number ≡ j = place.number in
-        let lane = helper_built p plan.0 plan.1 (helper_place j (helpers_on plan.0.pieces)) place.helper place.is_helper m.0 here h v piece r (subst (λ (i : ℕ). IsHelper (seen w) i h v piece r) (sym same) it) in
-        (plan.0.lanes, own_at p plan.0 plan.1, bounds.0, bounds.1, (lane_of m.0, lane_out (lanes.of_helper j p) m.0 m.1, subst (λ (i : ℕ). IsHelperLane (seen w) (count_in counter) lanes (helper_spot (seen w) h v piece p) i h r (lane_of m.0)) same lane));
+        let lane = helper_built p plan is_plan (helper_place j (helpers_on plan.pieces)) place.helper place.is_helper m.0 here h v piece r (subst (λ (i : ℕ). IsHelper (seen w) i h v piece r) (sym same) it) in
+        (plan.lanes, own_at p plan is_plan, bounds.0, bounds.1, (lane_of m.0, lane_out (lanes.of_helper j p) m.0 m.1, subst (λ (i : ℕ). IsHelperLane (seen w) (count_in counter) lanes (helper_spot (seen w) h v piece p) i h r (lane_of m.0)) same lane));
   }
     where
       planned : (p : ℕ) (own : CellLanes) → slice_get program.cells p ≡ Some own → (plan : CellPlan) × (slice_get b.cells p ≡ Some plan) × (plan.lanes ≡ own)

@@ -23,7 +23,7 @@ use Rattle.av_build.proofs.FineLanes.{HasNumbers, fits_tree, IsBusy, work_fine}
 use Rattle.av_build.proofs.Lengths.{short_line}
 
 -- a mode that is active has an interval
-has_interval : (x : ℕ) (m : Mode) → IsTrue (is_active x m) → 0 < length m.intervals
+pub has_interval : (x : ℕ) (m : Mode) → IsTrue (is_active x m) → 0 < length m.intervals
 has_interval x m e = by_list m.intervals e
   where
     by_list : (is : List Interval) → list_any (has_number x) is ≡ true → 0 < length is

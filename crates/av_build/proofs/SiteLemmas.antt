@@ -2,15 +2,17 @@
 use Rattle.std.proofs.Common.{◌≡◌, ℕ, zero, suc, ◌<◌, ◌≤◌, List, [], ◌∷◌, refl, sym, ap, subst, ◌∙◌, arith, Bool, true, false, if◌then◌else◌, Some}
 use Rattle.std.specs.Prelude.{slice_get, nat_le, nat_eq}
 use Rattle.std.specs.List.{AllByRecursion}
+use Rattle.av_base.specs.declared.width.Width.{Width}
 use Rattle.av_base.proofs.Lists.{some_is}
 use Rattle.av_base.proofs.Truths.{both}
 use Rattle.av_space.proofs.Helpers.{equal}
 use Rattle.av_kinds.specs.declared.program.Source.{Source}
 use Rattle.av_kinds.specs.declared.program.Source.TheVariants.{Word, Input, Line}
+use Rattle.av_kinds.specs.declared.program.Inlet.{Inlet}
 use Rattle.av_kinds.specs.declared.program.Link.{Link}
 use Rattle.av_kinds.specs.Programs.{source_by}
 use Rattle.av_build.specs.declared.moments.Moment.{Moment}
-use Rattle.av_build.specs.inner.Moments.{same_source, links_from, last_from}
+use Rattle.av_build.specs.inner.Moments.{same_source, links_from, last_from, site_by}
 
 -- ---- one source
 
@@ -92,3 +94,13 @@ links_are P t (u ∷ moments) here all = by_test (same_source t.source u.source)
 pub last_is : (P : ℕ → Source → Type 0) (t : Moment) (moments : List Moment) → P t.number t.source → AllByRecursion (λ (u : Moment). P u.number u.source) moments → (n : ℕ) × P n (last_from t moments)
 last_is P t [] here all = (t.number, here)
 last_is P t (u ∷ moments) here all = last_is P u moments all.0 all.1
+
+-- ---- how the words of the site come in
+
+pub site_inlet : (inlet : Inlet) (width : Width) (moments : List Moment) → (site_by inlet width moments).inlet ≡ inlet
+site_inlet inlet width [] = refl
+site_inlet inlet width (t ∷ moments) = refl
+
+pub site_width : (inlet : Inlet) (width : Width) (moments : List Moment) → (site_by inlet width moments).width ≡ width
+site_width inlet width [] = refl
+site_width inlet width (t ∷ moments) = refl

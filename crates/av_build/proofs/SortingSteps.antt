@@ -14,13 +14,16 @@ pub same_turned : (a b : List SpotMade) → HaveSamePieces a b → HaveSamePiece
 same_turned a b h = (sym h.0, λ k x y is_x is_y. let e = h.1 k y x is_y is_x in (sym e.0, sym e.1))
 
 pub same_through : (a b c : List SpotMade) → HaveSamePieces a b → HaveSamePieces b c → HaveSamePieces a c
-same_through a b c h g = (h.0 ∙ g.0, λ k x z is_x is_z. (
-    let size = h.0 in
-    let low = in_range a k x is_x in
-    let y = there_is b k (omega (arith, size, low)) in
-    let e = h.1 k x y.0 is_x y.1 in
-    let f = g.1 k y.0 z y.1 is_z in
-    (e.0 ∙ f.0, e.1 ∙ f.1)))
+same_through a b c h g = (
+  h.0 ∙ g.0,
+  λ k x z is_x is_z. (
+      let size = h.0 in
+      let low = in_range a k x is_x in
+      let y = there_is b k (omega (arith, size, low)) in
+      let e = h.1 k x y.0 is_x y.1 in
+      let f = g.1 k y.0 z y.1 is_z in
+      (e.0 ∙ f.0, e.1 ∙ f.1)),
+)
 
 -- up to a number
 abbrev pub AreSameUpTo : List SpotMade → List SpotMade → ℕ → Type 0
@@ -117,7 +120,7 @@ module _ (cells : List CellPlan) (firsts kinds : List ℕ) (n : ℕ) (h : AreKin
 pub kinds_are : (cells : List CellPlan) (firsts kinds : List ℕ) (n : ℕ) → n ≡ length cells → AreKindsTo cells firsts kinds n → AreKindsOf cells kinds
 kinds_are cells firsts kinds n end h = record {
   one_each = h.one_each ∙ end;
-  same = λ p q j k x y is_j is_k is_x is_y. (both p q j k x y is_x is_y is_j is_k);
+  same = λ p q j k x y is_x is_y is_j is_k. (both p q j k x y is_x is_y is_j is_k);
   numbered = λ p k j is_k lt.
       let size = h.one_each in
       let x = there_is cells p (let r = in_range kinds p k is_k in omega (arith, r, size, end)) in
@@ -132,8 +135,8 @@ kinds_are cells firsts kinds n end h = record {
         let a = h.same p j x is_j is_x in
         let b = h.same q k y is_k is_y in (
           (λ e. (
-            let f : a.0 ≡ b.0 = some_is a.0 b.0 (sym a.2 ∙ ap (λ (i : ℕ). slice_get firsts i) e ∙ b.2) in
-            let one : a.1 ≡ b.1 = some_is a.1 b.1 (sym a.3 ∙ ap (λ (i : ℕ). slice_get cells i) f ∙ b.3) in
-            same_through x.pieces.spots a.1.pieces.spots y.pieces.spots (same_turned a.1.pieces.spots x.pieces.spots a.4) (subst (λ (z : CellPlan). HaveSamePieces z.pieces.spots y.pieces.spots) (sym one) b.4))),
+              let f : a.0 ≡ b.0 = some_is a.0 b.0 (sym a.2 ∙ ap (λ (i : ℕ). slice_get firsts i) e ∙ b.2) in
+              let one : a.1 ≡ b.1 = some_is a.1 b.1 (sym a.3 ∙ ap (λ (i : ℕ). slice_get cells i) f ∙ b.3) in
+              same_through x.pieces.spots a.1.pieces.spots y.pieces.spots (same_turned a.1.pieces.spots x.pieces.spots a.4) (subst (λ (z : CellPlan). HaveSamePieces z.pieces.spots y.pieces.spots) (sym one) b.4))),
           (λ same. h.apart j k a.0 b.0 a.1 b.1 a.2 b.2 a.3 b.3 (same_through a.1.pieces.spots x.pieces.spots b.1.pieces.spots a.4 (same_through x.pieces.spots y.pieces.spots b.1.pieces.spots same (same_turned b.1.pieces.spots y.pieces.spots b.4)))),
         )

@@ -165,8 +165,12 @@ module _ (b : Blueprint) (is : IsBlueprint b) (counter : Counter) (counted : IsC
   pub value_built : (modes : List Mode) → length modes ≡ length spots → ((k : ℕ) (mode : Mode) → slice_get modes k ≡ Some mode → IsValueMode b counter p k mode) → (first : SpotMade) → slice_get spots 0 ≡ Some first
       → (lane : Lane) → lane.home ≡ p → lane.rank ≡ 0 → lane.width.bits ≡ (view_variable first.var.now).width → lane.modes ≡ modes → lane.length ≡ line_length (system_of w) (helpers_of w) (cells_of w) w.cells.now.links p None
       → IsBuiltBy b counter p None lane
-  value_built modes many each first is_first lane home rank width are_modes size = λ other is_other c n z v computes is_variable.
-      let s = spot_at 0 first is_first in
-      let wide : lane.width.bits ≡ v.width = width ∙ ap (λ (u : Variable). u.width) (variable_is c n z v computes is_variable first s.0 s.2) in
-      subst (λ (x : CellPlan). IsValueLane (seen w) (count_in counter) (lanes_of b.cells) x.lanes.first p n v lane) (some_is plan other (sym is_plan ∙ is_other))
-      (value_lane c n z v computes is_variable modes many each lane home rank wide are_modes size)
+  value_built modes many each first is_first lane home rank width are_modes size = λ other is_other. record {
+    is_lane = λ c n z v computes is_variable.
+        let s = spot_at 0 first is_first in
+        let wide : lane.width.bits ≡ v.width = width ∙ ap (λ (u : Variable). u.width) (variable_is c n z v computes is_variable first s.0 s.2) in
+        subst (λ (x : CellPlan). IsValueLane (seen w) (count_in counter) (lanes_of b.cells) x.lanes.first p n v lane) (some_is plan other (sym is_plan ∙ is_other))
+        (value_lane c n z v computes is_variable modes many each lane home rank wide are_modes size);
+    one_each = subst (λ (x : CellPlan). length lane.modes ≡ length x.pieces.spots) (some_is plan other (sym is_plan ∙ is_other)) (ap (λ (l : List Mode). length l) are_modes ∙ many);
+    works = λ k mode at is_mode is_at. (each k mode (ap (λ (l : List Mode). slice_get l k) (sym are_modes) ∙ is_mode) other at is_other is_at).0;
+  }

@@ -23,7 +23,7 @@ use Rattle.av_space.specs.Listings.{value_name}
 use Rattle.av_space.specs.Whole.{HasWholeListing}
 use Rattle.av_kinds.specs.declared.counter.Counter.{Counter}
 use Rattle.av_kinds.specs.declared.counter.Counter.TheVariants.{Cycles}
-use Rattle.av_history.specs.Problems.{number_count}
+use Rattle.av_kinds.specs.Counters.{number_count}
 use Rattle.av_build.specs.ArrayForm.{IsArrayForm, IsLinked}
 use Rattle.av_build.specs.Shared.{IsShared}
 use Rattle.av_build.specs.Later.{later}

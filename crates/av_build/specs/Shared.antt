@@ -15,7 +15,8 @@ use Rattle.av_space.specs.declared.cells.Link.{Link}
 use Rattle.av_space.specs.Coordinates.{Placing}
 use Rattle.av_space.specs.Occupancy.{Computes}
 use Rattle.av_space.specs.Quantities.{IsUse}
-use Rattle.av_build.specs.ArrayForm.{IsCellWire, instance_name}
+use Rattle.av_kinds.specs.Names.{instance_name}
+use Rattle.av_kinds.specs.Forms.{IsCellWire}
 
 -- how many links a tap site of the cell p has
 abbrev pub link_count : List Link → ℕ → ℕ → ℕ

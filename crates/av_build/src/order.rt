@@ -1,8 +1,7 @@
 //! Computations in the order of the counter's numbers.
 
 ghost use Rattle.std.specs.Prelude.{AllPairs, IfOk, ◌<◌};
-ghost use Rattle.av_kinds.specs.Counters.{IsCounter, count_in};
-ghost use Rattle.av_history.specs.Problems.{number_count};
+ghost use Rattle.av_kinds.specs.Counters.{IsCounter, count_in, number_count};
 ghost use Rattle.av_build.specs.inner.Orders.{AreWithin, IsStart, IsInOrder};
 
 use av_base::{List, Memory};

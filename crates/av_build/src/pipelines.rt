@@ -93,7 +93,8 @@ impl<'a> Blueprint<'a> {
         };
         let order = in_order(alloc, spot.slots.as_slice(), counter)?;
         let found = self.hand_moments(alloc, counter, order.as_slice(), spot, place, handing)?;
-        let tree = place.place.tree;
+        let read = &place.place;
+        let tree = read.tree;
         let width = spot.var.width;
         let entries = entry_site(alloc, flat, width, tree, found.entries.as_slice())?;
         let own = site(alloc, Inlet::Taps, width, found.own.as_slice())?;

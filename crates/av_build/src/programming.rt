@@ -1,6 +1,7 @@
 //! The program of an array, lane by lane.
 
 ghost use Rattle.std.specs.Prelude.{◌≡◌, ◌<◌, ◌+◌, All, None, length, map, IfOk};
+ghost use Rattle.av_flat.specs.Legal.{IsLegal};
 ghost use Rattle.av_space.specs.declared.fault.SpaceFault.{SpaceFault as Fault};
 ghost use Rattle.av_space.specs.declared.fault.SpaceFault.TheVariants as fault;
 ghost use Rattle.av_space.specs.SpaceFaults.{IsSpaceFault};
@@ -64,7 +65,8 @@ impl<'a> Blueprint<'a> {
             return Ok(self.pipe_site(alloc, spot, handing.number));
         }
         let moments = self.moments(alloc, counter, order, spot, place)?;
-        let tree = place.place.tree;
+        let read = &place.place;
+        let tree = read.tree;
         let width = width_read(flat, spot.var.width, tree);
         site(alloc, inlet_of(flat, tree), width, moments.as_slice())
     }
@@ -222,17 +224,26 @@ fn from_blueprint<'a>(
     requires blueprint { IsBlueprint blueprint.now }
     requires timed { timed.now ≡ blueprint.now.array.timed.now }
     requires cells { cells.now ≡ blueprint.now.array.cells.now }
+    requires within { (f : Fault) → IsSpaceFault timed.now f → f ≡ fault.Memory }
     requires counter { IsCounted blueprint.now.array counter }
     requires ranks { length (helpers_of blueprint.now.array) < 18446744073709551615 }
     ensures { IfOk result (λ program. IsProgrammed timed.now cells.now counter (program_of program)) }
 {
     let flat = &timed.flat;
+    let inputs = blueprint.port_widths(alloc, flat, cells.inputs.as_slice())?;
+    let lanes = blueprint.built(alloc, flat, counter)?;
+    let own = blueprint.cell_lanes(alloc)?;
+    let kinds = kinds_of(alloc, blueprint.cells.as_slice())?;
+    let outputs = blueprint.values(alloc, cells.outputs.as_slice())?;
+    prove!(inputs.len() <= 1 << 30);
+    prove!(own.len() <= 1 << 30);
+    prove!(outputs.len() <= 1 << 30);
     Ok(Program {
-        inputs: blueprint.port_widths(alloc, flat, cells.inputs.as_slice())?,
-        lanes: blueprint.built(alloc, flat, counter)?,
-        cells: blueprint.cell_lanes(alloc)?,
-        kinds: kinds_of(alloc, blueprint.cells.as_slice())?,
-        outputs: blueprint.values(alloc, cells.outputs.as_slice())?,
+        inputs,
+        lanes,
+        cells: own,
+        kinds,
+        outputs,
         stride: timed.helpers.as_slice().len() + 1,
     })
 }
@@ -244,12 +255,14 @@ pub(crate) fn program<'a>(
     cells: &'a Cells,
     counter: Counter,
 ) -> Result<Program<'a>, Memory>
+    requires legal { IsLegal timed.now }
     requires whole { IsWhole timed.now cells.now }
     requires within { (f : Fault) → IsSpaceFault timed.now f → f ≡ fault.Memory }
     requires counter { IsCounter counter }
     requires apart { IsWithinCount timed.now cells.now counter }
     ensures { IfOk result (λ program. IsProgrammed timed.now cells.now counter (program_of program)) }
 {
+    prove!(timed.helpers.len() <= 1 << 30);
     let array = Array::new(alloc, timed, cells)?;
     let blueprint = plan_lanes(alloc, array, cells.cells.as_slice().len())?;
     from_blueprint(alloc, timed, cells, counter, &blueprint)

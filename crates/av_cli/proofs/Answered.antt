@@ -231,7 +231,7 @@ exclude_run words bits box bytes out sizes is within g refusal =
     (λ e. absurd (letter 0 (codes "table") (codes "run") (λ (f : 116 ≡ 114). omega (arith, f)) e))
     (λ _ n c others other reason r.
     let (same_bits, same_box, same_sizes) = one_asked (codes "run") words bits n box c sizes others is other in
-    (let h = (subst (λ (m : ℕ). GivesResults others m c bytes out) same_bits (subst (λ (m : ℕ). GivesResults others bits m bytes out) same_box (subst (λ (xs : List Size). GivesResults xs bits box bytes out) same_sizes g))) in exclusive_run others n c bytes reason h.timed h.cells h.design h.inputs r h.has))
+    (let h = (subst (λ (m : ℕ). GivesResults others m c bytes out) same_bits (subst (λ (m : ℕ). GivesResults others bits m bytes out) same_box (subst (λ (xs : List Size). GivesResults xs bits box bytes out) same_sizes g))) in exclusive_run others n c bytes reason h.timed h.cells h.plan h.inputs r h.has))
     (λ e. absurd (letter 0 (codes "trace") (codes "run") (λ (f : 116 ≡ 114). omega (arith, f)) e))
     (λ e. absurd (letter 0 (codes "best") (codes "run") (λ (f : 98 ≡ 114). omega (arith, f)) e))
     refusal
@@ -247,7 +247,7 @@ exclude_trace words bits box bytes out sizes is within g refusal =
     (λ e. absurd (letter 0 (codes "run") (codes "trace") (λ (f : 114 ≡ 116). omega (arith, f)) e))
     (λ _ n c others other reason r.
     let (same_bits, same_box, same_sizes) = one_asked (codes "trace") words bits n box c sizes others is other in
-    (let h = (subst (λ (m : ℕ). GivesTrace others m c bytes out) same_bits (subst (λ (m : ℕ). GivesTrace others bits m bytes out) same_box (subst (λ (xs : List Size). GivesTrace xs bits box bytes out) same_sizes g))) in exclusive_run others n c bytes reason h.timed h.cells h.design h.inputs r h.has))
+    (let h = (subst (λ (m : ℕ). GivesTrace others m c bytes out) same_bits (subst (λ (m : ℕ). GivesTrace others bits m bytes out) same_box (subst (λ (xs : List Size). GivesTrace xs bits box bytes out) same_sizes g))) in exclusive_run others n c bytes reason h.timed h.cells h.plan h.inputs r h.has))
     (λ e. absurd (letter 0 (codes "best") (codes "trace") (λ (f : 98 ≡ 116). omega (arith, f)) e))
     refusal
 

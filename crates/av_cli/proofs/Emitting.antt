@@ -2,15 +2,13 @@
 use Rattle.std.proofs.Common.{ℕ, List, Option, refl}
 use Rattle.std.specs.Prelude.{codes}
 use Rattle.av_base.specs.Outside.{SinkState}
-use Rattle.av_flat.specs.declared.timed.Timed.{Timed}
 use Rattle.av_names.specs.declared.size.Size.{Size}
-use Rattle.av_net.specs.declared.design.Design.{Design}
-use Rattle.av_net.specs.Texts.{text}
+use Rattle.av_net.specs.declared.plan.Plan.{Plan}
+use Rattle.av_net.specs.Flat.{flat_of}
+use Rattle.av_net.specs.PlanTexts.{text2}
 use Rattle.av_vread.proofs.Faulted.{one_design}
-use Rattle.av_vread.proofs.RoundTrip.{read_back}
-use Rattle.av_space.specs.declared.cells.Cells.{Cells}
-use Rattle.av_compile.specs.Mapped.{IsMapped}
-use Rattle.av_compile.specs.Headline.{Headline}
+use Rattle.av_vread.proofs.RoundTrip.{plan_read_back}
+use Rattle.av_compile.specs.Planned.{IsPlanned}
 use Rattle.av_cli.specs.declared.status.Status.{Status}
 use Rattle.av_cli.specs.declared.status.Status.TheVariants.{Done}
 use Rattle.av_cli.specs.Commands.{GiveSizes, IsEmit}
@@ -23,18 +21,18 @@ use Rattle.av_cli.proofs.Tabling.{not_unmapped}
 pub exclusive_emit : (sizes : List Size) (bits box : ℕ) (bytes reason out : List ℕ) → RefusesTable sizes bits box bytes reason → GivesMapped sizes bits box bytes out → ⊥
 exclusive_emit sizes bits box bytes reason out r g = not_unmapped sizes bits box bytes reason g.gives.timed g.gives.cells r g.mapped
 
--- the text of a sound design is read back as that design alone
-pub emit_given : (words : List (List ℕ)) (sizes : List Size) (bits box : ℕ) (bytes : List ℕ) (t : Timed) (a : Cells) (d : Design) {sink sink' : SinkState} {status : Status}
-    → GiveSizes words sizes → IsMapped bytes sizes bits box t a → Headline bytes sizes bits box t a d → IsPut sink sink' (text d) Done status
+-- the text of a sound plan is read back as its flat design alone
+pub emit_given : (words : List (List ℕ)) (sizes : List Size) (bits box : ℕ) (bytes : List ℕ) (p : Plan) {sink sink' : SinkState} {status : Status}
+    → GiveSizes words sizes → IsPlanned bytes sizes bits box p → IsPut sink sink' (text2 p) Done status
     → IsAnswered (RefusesEmitWith words bits box bytes) (GivesEmitWith words bits box bytes) sink sink' status
-emit_given words sizes bits box bytes t a d give mapped headline put =
-    let spelled = read_back d headline.design.sound in
+emit_given words sizes bits box bytes p give is put =
+    let spelled = plan_read_back p is.headline.plan.is_plan.sound in
     given (record {
       sizes = sizes;
       give = give;
       gives = record {
-        gives = record { timed = t; cells = a; design = d; computes = headline; text_of = refl; spelled = spelled; only = λ other says. one_design (text d) other d says spelled };
-        mapped = mapped;
+        gives = record { timed = is.timed; cells = is.cells; plan = p; computes = is.headline; text_of = refl; spelled = spelled; only = λ other says. one_design (text2 p) other (flat_of p) says spelled };
+        mapped = is.mapped;
       };
     }) put
 

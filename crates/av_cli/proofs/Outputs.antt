@@ -12,10 +12,11 @@ use Rattle.av_flat.specs.declared.timed.Timed.{Timed}
 use Rattle.av_flat.specs.Trees.{view_system}
 use Rattle.av_net.specs.declared.design.Entry.{Entry}
 use Rattle.av_net.specs.declared.design.Design.{Design}
+use Rattle.av_net.specs.declared.plan.Plan.{Plan}
 use Rattle.av_net.specs.Clocked.{Stream, Run, IsRun}
 use Rattle.av_net.specs.Shown.{Values}
 use Rattle.av_net.specs.Sound.{IsSound}
-use Rattle.av_net.specs.Texts.{text}
+use Rattle.av_net.specs.PlanTexts.{text2}
 use Rattle.av_space.specs.declared.cells.Cells.{Cells}
 use Rattle.av_data.specs.declared.fault.DataFault.{DataFault}
 use Rattle.av_data.specs.declared.fault.DataFault.TheVariants as data_fault
@@ -89,32 +90,32 @@ on_err_from (Err e) f h = f h
 pub shown_long : (d : Design) (x : Values) (words : List Word) → AreShown d x (bits_of words) → length words ≡ length d.listing.ats
 shown_long d x words shown = sym (length-map words (λ (w : Word). w.bits)) ∙ ap length shown.words_are ∙ length-map d.listing.ats _
 
-module _ (t : Timed) (cells : Cells) (d : Design) (x : Values) (words ws : List Word) (ls : List Entry) (list : ls ≡ d.listing.ats) (same : ws ≡ words) (shown : AreShown d x (bits_of words)) where
+module _ (t : Timed) (cells : Cells) (plan : Plan) (d : Design) (x : Values) (words ws : List Word) (ls : List Entry) (list : ls ≡ d.listing.ats) (same : ws ≡ words) (shown : AreShown d x (bits_of words)) where
   abbrev test : Entry → Bool
   test line = names_output (view_system t.flat) line.variable
 
   lines_are : results test ls (bits_of ws) ≡ results test d.listing.ats (bits_of words)
   lines_are = ap (λ (l : List Entry). results test l (bits_of ws)) list ∙ ap (λ (w : List Word). results test d.listing.ats (bits_of w)) same
 
-  pub results_put : {sink sink' : SinkState} → Adds sink.held sink'.held (results test ls (bits_of ws)) → PutsOneOf (IsReport Results t cells d x) sink sink' Done
+  pub results_put : {sink sink' : SinkState} → Adds sink.held sink'.held (results test ls (bits_of ws)) → PutsOneOf (IsReport Results t cells plan d x) sink sink' Done
   results_put adds = puts (record { words = bits_of words; shown = shown; lines = lines_are }) (record { ends = inl (refl, adds) })
 
-  pub results_failed : {sink sink' : SinkState} → HasRisen sink.faults sink'.faults → AddsPrefix sink.held sink'.held (results test ls (bits_of ws)) → PutsOneOf (IsReport Results t cells d x) sink sink' WriteFault
+  pub results_failed : {sink sink' : SinkState} → HasRisen sink.faults sink'.faults → AddsPrefix sink.held sink'.held (results test ls (bits_of ws)) → PutsOneOf (IsReport Results t cells plan d x) sink sink' WriteFault
   results_failed risen adds = puts (record { words = bits_of words; shown = shown; lines = lines_are }) (record { ends = inr (refl, risen, adds) })
 
 -- ---- a trace
 
-module _ (t : Timed) (cells : Cells) (d : Design) (x : Values) (s : Stimulus) (sound : IsSound d.module) (so : AreOfLines d x (length d.listing.ins) s.values) (cycles : s.cycles ≡ cells.cycles) where
+module _ (t : Timed) (cells : Cells) (plan : Plan) (d : Design) (x : Values) (s : Stimulus) (sound : IsSound d.module) (so : AreOfLines d x (length d.listing.ins) s.values) (cycles : s.cycles ≡ cells.cycles) where
   abbrev trace_of : Run → ℕ → List ℕ
-  trace_of run n = text d ++ codes "%%\n" ++ run_lines d.module run.in_cycle n
+  trace_of run n = text2 plan ++ codes "%%\n" ++ run_lines d.module run.in_cycle n
 
-  pub trace_put : {sink sink' : SinkState} → ((stream : Stream) (run : Run) → IsStimulated d.module s stream → IsRun d.module s.cycles stream run → Adds sink.held sink'.held (trace_of run s.cycles)) → PutsOneOf (IsReport Trace t cells d x) sink sink' Done
+  pub trace_put : {sink sink' : SinkState} → ((stream : Stream) (run : Run) → IsStimulated d.module s stream → IsRun d.module s.cycles stream run → Adds sink.held sink'.held (trace_of run s.cycles)) → PutsOneOf (IsReport Trace t cells plan d x) sink sink' Done
   trace_put adds =
       let has = has_run d x s sound so in
       puts (record { run = has.run; clocked = subst (λ n. IsFedRun d x n has.run) cycles has.clocked; lines = ap (trace_of has.run) cycles }) (record { ends = inl (refl, adds has.stream has.run has.stimulated has.is) })
 
   pub trace_failed : {sink sink' : SinkState} → HasRisen sink.faults sink'.faults → ((stream : Stream) (run : Run) → IsStimulated d.module s stream → IsRun d.module s.cycles stream run → AddsPrefix sink.held sink'.held (trace_of run s.cycles))
-      → PutsOneOf (IsReport Trace t cells d x) sink sink' WriteFault
+      → PutsOneOf (IsReport Trace t cells plan d x) sink sink' WriteFault
   trace_failed risen adds =
       let has = has_run d x s sound so in
       puts (record { run = has.run; clocked = subst (λ n. IsFedRun d x n has.run) cycles has.clocked; lines = ap (trace_of has.run) cycles }) (record { ends = inr (refl, risen, adds has.stream has.run has.stimulated has.is) })

@@ -7,7 +7,7 @@ use Rattle.av_tree.specs.Solutions.{AreInputs, IsSolution}
 use Rattle.av_flat.specs.declared.timed.Timed.{Timed}
 use Rattle.av_names.specs.declared.size.Size.{Size}
 use Rattle.av_names.specs.Sizes.{instance_of}
-use Rattle.av_net.specs.declared.design.Design.{Design}
+use Rattle.av_net.specs.declared.plan.Plan.{Plan}
 use Rattle.av_space.specs.declared.cells.Cells.{Cells}
 use Rattle.av_data.specs.Tables.{totals_line}
 use Rattle.av_compile.specs.Mapped.{IsMapped}
@@ -36,14 +36,14 @@ pub record AreEntries (bits : ℕ) (x : Assignment) : Type 0 where
 pub record GivesDemo (k bits box : ℕ) (out : List ℕ) : Type 0 where
   pub timed : Timed
   pub cells : Cells
-  pub design : Design
+  pub plan : Plan
   pub mapped : IsMapped product_text (product_sizes k) bits box timed cells
-  pub computes : Headline product_text (product_sizes k) bits box timed cells design
+  pub computes : Headline product_text (product_sizes k) bits box timed cells plan
   pub inputs : Assignment
   pub are_inputs : AreInputs (instance_of computes.system (product_sizes k) bits) inputs
   pub entries : AreEntries bits inputs
   pub solution : Assignment
   pub solves : IsSolution (instance_of computes.system (product_sizes k) bits) inputs solution
   pub words : List ℕ
-  pub solved : AreSolved solution design.listing.ats words
+  pub solved : AreSolved solution plan.listing.ats words
   pub lines : out ≡ totals_line cells ++ (codes "sum " ++ decimal (residue bits (sum words)) ++ codes "\n")

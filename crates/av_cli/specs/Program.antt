@@ -50,7 +50,7 @@ pub record WritesRefusal (words : List (List ℕ)) (left left' : Option (List �
   pub refused : IsRefused words taken reason
   pub line : out ≡ refusal_line reason
 
--- the output of `emit`: the text of a design that computes what the source gave up to its end, in which no step finds a fault
+-- the output of `emit`: the text of a plan whose flat design computes what the source gave up to its end, in which no step finds a fault
 pub record WritesDesign (words : List (List ℕ)) (left left' : Option (List ℕ)) (out : List ℕ) : Type 0 where
   pub bits : ℕ
   pub box : ℕ
@@ -119,7 +119,7 @@ pub record WritesResults (words : List (List ℕ)) (left left' : Option (List �
   pub within : length taken ≤ 1048576
   pub gives : GivesResults sizes bits box taken out
 
--- the output of `trace`: a design of the text that the source gave, and its run on the data up to the source's end
+-- the output of `trace`: a plan of the text that the source gave, and the run of its flat design on the data up to the source's end
 pub record WritesTrace (words : List (List ℕ)) (left left' : Option (List ℕ)) (out : List ℕ) : Type 0 where
   pub bits : ℕ
   pub box : ℕ

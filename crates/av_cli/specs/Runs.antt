@@ -9,9 +9,10 @@ use Rattle.av_flat.specs.Trees.{view_system}
 use Rattle.av_names.specs.declared.size.Size.{Size}
 use Rattle.av_names.specs.Sizes.{instance_of}
 use Rattle.av_net.specs.declared.design.Entry.{Entry}
-use Rattle.av_net.specs.declared.design.Design.{Design}
+use Rattle.av_net.specs.declared.plan.Plan.{Plan}
 use Rattle.av_net.specs.Clocked.{Run}
-use Rattle.av_net.specs.Texts.{text}
+use Rattle.av_net.specs.Flat.{flat_of, flat_module}
+use Rattle.av_net.specs.PlanTexts.{text2}
 use Rattle.av_space.specs.declared.cells.Cells.{Cells}
 use Rattle.av_data.specs.declared.fault.DataFault.{DataFault}
 use Rattle.av_data.specs.Divisions.{IsDivided, HasNoMark}
@@ -36,14 +37,14 @@ pub data RefusesRun (sizes : List Size) (bits box : ℕ) (bytes reason : List �
 
 -- ---- what is computed
 
--- a design of the text before the mark, and the words of its inputs that the lines behind it spell
-pub record HasData (sizes : List Size) (bits box : ℕ) (bytes : List ℕ) (timed : Timed) (cells : Cells) (design : Design) (inputs : Assignment) : Type 0 where
+-- a plan of the text before the mark, and the words of its inputs that the lines behind it spell
+pub record HasData (sizes : List Size) (bits box : ℕ) (bytes : List ℕ) (timed : Timed) (cells : Cells) (plan : Plan) (inputs : Assignment) : Type 0 where
   pub before : List ℕ
   pub rest : List ℕ
   pub first : ℕ
   pub divided : IsDivided bytes before rest first
   pub mapped : IsMapped before sizes bits box timed cells
-  pub computes : Headline before sizes bits box timed cells design
+  pub computes : Headline before sizes bits box timed cells plan
   pub spelled : SpellsInputs (view_system timed.flat) rest inputs
   pub are_inputs : AreInputs (instance_of computes.system sizes bits) inputs
 
@@ -67,24 +68,24 @@ results is (line ∷ lines) (word ∷ words) = (if is line then result_line line
 pub record GivesResults (sizes : List Size) (bits box : ℕ) (bytes out : List ℕ) : Type 0 where
   pub timed : Timed
   pub cells : Cells
-  pub design : Design
+  pub plan : Plan
   pub inputs : Assignment
-  pub has : HasData sizes bits box bytes timed cells design inputs
+  pub has : HasData sizes bits box bytes timed cells plan inputs
   pub solution : Assignment
   pub solves : IsSolution (instance_of has.computes.system sizes bits) inputs solution
   pub words : List ℕ
-  pub solved : AreSolved solution design.listing.ats words
-  pub lines : out ≡ results (is_result (instance_of has.computes.system sizes bits)) design.listing.ats words
+  pub solved : AreSolved solution plan.listing.ats words
+  pub lines : out ≡ results (is_result (instance_of has.computes.system sizes bits)) plan.listing.ats words
 
 -- ---- `trace`
 
--- the text of the design, a line `%%`, and the lines of the design's run over the cycles of its array
+-- the text of the plan, a line `%%`, and the lines of the run of its flat design over the cycles of its array
 pub record GivesTrace (sizes : List Size) (bits box : ℕ) (bytes out : List ℕ) : Type 0 where
   pub timed : Timed
   pub cells : Cells
-  pub design : Design
+  pub plan : Plan
   pub inputs : Assignment
-  pub has : HasData sizes bits box bytes timed cells design inputs
+  pub has : HasData sizes bits box bytes timed cells plan inputs
   pub run : Run
-  pub clocked : IsFedRun design inputs cells.cycles run
-  pub lines : out ≡ text design ++ codes "%%\n" ++ run_lines design.module run.in_cycle cells.cycles
+  pub clocked : IsFedRun (flat_of plan) inputs cells.cycles run
+  pub lines : out ≡ text2 plan ++ codes "%%\n" ++ run_lines (flat_module plan) run.in_cycle cells.cycles

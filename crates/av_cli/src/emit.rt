@@ -4,11 +4,11 @@ ghost use Rattle.std.specs.Prelude.{◌≤◌, length};
 ghost use Rattle.av_cli.specs.inner.WithWords.{RefusesEmitWith, GivesEmitWith};
 ghost use Rattle.av_cli.specs.inner.Written.{IsAnswered};
 
-use crate::put::{put_alpha_refusal, put_design};
+use crate::put::{put_alpha_refusal, put_plan};
 use crate::sizes::sizes;
 use crate::status::Status;
 use av_base::{Memory, Name, Sink, Width};
-use av_compile::compile;
+use av_compile::planned;
 use av_flat::Reach;
 use std::alloc::Global;
 
@@ -28,8 +28,8 @@ pub(crate) fn emit<K: Sink>(
         Err(Memory) => return Status::Memory,
         Ok(sizes) => sizes,
     };
-    match compile(alloc, bytes, sizes.as_slice(), width, reach) {
+    match planned(alloc, bytes, sizes.as_slice(), width, reach) {
         Err(refusal) => put_alpha_refusal(sink, &refusal),
-        Ok(compiled) => put_design(sink, &compiled.design),
+        Ok(plan) => put_plan(sink, &plan),
     }
 }

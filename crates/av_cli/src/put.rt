@@ -1,7 +1,8 @@
 //! Texts that are put into a sink.
 
 ghost use Rattle.std.specs.Prelude.{◌≡◌, ◌++◌};
-ghost use Rattle.av_net.specs.Texts.{text};
+ghost use Rattle.av_net.specs.Designs.{IsSoundPlan};
+ghost use Rattle.av_net.specs.PlanTexts.{text2};
 ghost use Rattle.av_flat.specs.Legal.{IsLegal};
 ghost use Rattle.av_data.specs.Schedules.{schedule_text};
 ghost use Rattle.av_data.specs.Tables.{table_text};
@@ -24,9 +25,9 @@ use av_best::BestFault;
 use av_compile::{Array, Refusal};
 use av_data::{DataFault, write_schedule, write_table};
 use av_flat::Timed;
-use av_net::Design;
+use av_net::Plan;
 use av_vread::VFault;
-use av_vtext::write_design;
+use av_vtext::write_plan;
 
 /// Adds the text. The status is the one wanted, or that of a fault of the sink.
 pub(crate) fn put<K: Sink>(sink: &mut K, text: &str, wanted: Status) -> Status
@@ -38,11 +39,12 @@ pub(crate) fn put<K: Sink>(sink: &mut K, text: &str, wanted: Status) -> Status
     }
 }
 
-/// Adds the text of the design.
-pub(crate) fn put_design<K: Sink>(sink: &mut K, design: &Design) -> Status
-    ensures { IsPut (K.state sink.old) (K.state sink.new) (text design.now) Status.Done result }
+/// Adds the text of the plan.
+pub(crate) fn put_plan<K: Sink>(sink: &mut K, plan: &Plan) -> Status
+    requires { IsSoundPlan plan.now }
+    ensures { IsPut (K.state sink.old) (K.state sink.new) (text2 plan.now) Status.Done result }
 {
-    match write_design(design, sink) {
+    match write_plan(plan, sink) {
         Ok(()) => Status::Done,
         Err(_) => Status::WriteFault,
     }

@@ -4,7 +4,8 @@ ghost use Rattle.std.specs.Prelude.{◌≡◌, ◌<◌, ◌≤◌, ◌+◌, ◌+
 ghost use Rattle.av_base.specs.Outside.{Adds, AddsPrefix, HasRisen};
 ghost use Rattle.av_flat.specs.Trees.{view_system, view_variable};
 ghost use Rattle.av_net.specs.Clocked.{Stream as Ports, Run as Clocked, IsRun};
-ghost use Rattle.av_net.specs.Texts.{text};
+ghost use Rattle.av_net.specs.Designs.{IsSoundPlan};
+ghost use Rattle.av_net.specs.PlanTexts.{text2};
 ghost use Rattle.av_data.specs.Inputs.{words_of};
 ghost use Rattle.av_flat.specs.OneSolution.{AreInputs};
 ghost use Rattle.av_cli.specs.inner.Clocking.{AreLeft, IsPrepared};
@@ -25,15 +26,15 @@ use av_base::{Memory, Name, Sink, Width, Word, WriteFault, write_all};
 use av_compile::{Compiled, compile};
 use av_data::{Inputs, Stimulus, divide, read_data, write_result};
 use av_flat::{Flat, Kind, Reach, Var};
-use av_net::{Design, Entry};
-use av_vtext::write_design;
+use av_net::Entry;
+use av_vtext::write_plan;
 use std::alloc::Global;
 
 const NO_MARK: &str = "refused: no mark\n";
 
 const MARK: &str = "%%\n";
 
-/// What is reported of a run: the words of the outputs, or the design and each cycle.
+/// What is reported of a run: the words of the outputs, or the plan and each cycle.
 #[derive(Clone, Copy, Debug)]
 pub(crate) enum Report {
     Results,
@@ -75,9 +76,10 @@ fn report_on<K: Sink>(
     report: Report,
     sink: &mut K,
 ) -> Status
+    requires plan { IsSoundPlan compiled.now.plan }
     requires clockable { IsClockable compiled.now.timed compiled.now.design }
     requires lines { first_line + length bytes.now < 4294967295 }
-    ensures { IsAnswered (RefusesLines compiled.now.timed first_line bytes.now) (GivesReported report compiled.now.timed compiled.now.cells compiled.now.design bytes.now) (K.state sink.old) (K.state sink.new) result }
+    ensures { IsAnswered (RefusesLines compiled.now.timed first_line bytes.now) (GivesReported report compiled.now.timed compiled.now.cells compiled.now.plan compiled.now.design bytes.now) (K.state sink.old) (K.state sink.new) result }
 {
     match read_data(alloc, bytes, first_line, &compiled.timed.flat) {
         Err(fault) => put_data_refusal(sink, &fault),
@@ -92,7 +94,7 @@ fn report_on<K: Sink>(
 fn put_results<K: Sink>(alloc: Global, compiled: &Compiled, inputs: &Inputs, sink: &mut K) -> Status
     requires clockable { IsClockable compiled.now.timed compiled.now.design }
     requires inputs { AreInputs (view_system compiled.now.timed.flat) (words_of inputs.now) }
-    ensures { PutsOneOf (IsReport report.Results compiled.now.timed compiled.now.cells compiled.now.design (words_of inputs.now)) (K.state sink.old) (K.state sink.new) result }
+    ensures { PutsOneOf (IsReport report.Results compiled.now.timed compiled.now.cells compiled.now.plan compiled.now.design (words_of inputs.now)) (K.state sink.old) (K.state sink.new) result }
 {
     match shown(alloc, &compiled.design, inputs) {
         Err(Memory) => Status::Memory,
@@ -147,18 +149,19 @@ fn write_results<K: Sink>(
     Ok(())
 }
 
-// Adds the text of the design, a line `%%`, and a line for each cycle of the design's run.
+// Adds the text of the plan, a line `%%`, and a line for each cycle of the run of its flat design.
 fn put_trace<K: Sink>(alloc: Global, compiled: &Compiled, inputs: &Inputs, sink: &mut K) -> Status
+    requires plan { IsSoundPlan compiled.now.plan }
     requires clockable { IsClockable compiled.now.timed compiled.now.design }
     requires inputs { AreInputs (view_system compiled.now.timed.flat) (words_of inputs.now) }
-    ensures { PutsOneOf (IsReport report.Trace compiled.now.timed compiled.now.cells compiled.now.design (words_of inputs.now)) (K.state sink.old) (K.state sink.new) result }
+    ensures { PutsOneOf (IsReport report.Trace compiled.now.timed compiled.now.cells compiled.now.plan compiled.now.design (words_of inputs.now)) (K.state sink.old) (K.state sink.new) result }
 {
     let design = &compiled.design;
     match feed(alloc, design, inputs, compiled.cells.cycles) {
         Err(Memory) => Status::Memory,
         Ok(stimulus) => match make_ready(alloc, &design.module) {
             Err(Memory) => Status::Memory,
-            Ok(mut parts) => match write_trace(design, &mut parts, &stimulus, sink) {
+            Ok(mut parts) => match write_trace(compiled, &mut parts, &stimulus, sink) {
                 Ok(()) => Status::Done,
                 Err(_) => Status::WriteFault,
             },
@@ -166,22 +169,23 @@ fn put_trace<K: Sink>(alloc: Global, compiled: &Compiled, inputs: &Inputs, sink:
     }
 }
 
-// Writes the text of the design, a line `%%`, and the lines of its run under a stimulus. It takes no memory.
+// Writes the text of the plan, a line `%%`, and the lines of the run of its flat design under a stimulus. It takes no memory.
 fn write_trace<K: Sink>(
-    design: &Design,
+    compiled: &Compiled,
     parts: &mut Prepared<'_>,
     stimulus: &Stimulus,
     sink: &mut K,
 ) -> Result<(), WriteFault>
-    requires prepared { IsPrepared design.now.module parts.old }
-    requires left { AreLeft design.now.module.inputs stimulus.now.values 0 0 stimulus.now.values }
-    ensures added { OnOk result ((stream : Ports) (run : Clocked) → IsStimulated design.now.module stimulus.now stream → IsRun design.now.module stimulus.now.cycles stream run
-        → Adds (K.state sink.old).held (K.state sink.new).held (text design.now ++ codes "%%\n" ++ run_lines design.now.module run.in_cycle stimulus.now.cycles)) }
+    requires plan { IsSoundPlan compiled.now.plan }
+    requires prepared { IsPrepared compiled.now.design.module parts.old }
+    requires left { AreLeft compiled.now.design.module.inputs stimulus.now.values 0 0 stimulus.now.values }
+    ensures added { OnOk result ((stream : Ports) (run : Clocked) → IsStimulated compiled.now.design.module stimulus.now stream → IsRun compiled.now.design.module stimulus.now.cycles stream run
+        → Adds (K.state sink.old).held (K.state sink.new).held (text2 compiled.now.plan ++ codes "%%\n" ++ run_lines compiled.now.design.module run.in_cycle stimulus.now.cycles)) }
     ensures fault { IsErr result → HasRisen (K.state sink.old).faults (K.state sink.new).faults }
-    ensures front { OnErr result ((stream : Ports) (run : Clocked) → IsStimulated design.now.module stimulus.now stream → IsRun design.now.module stimulus.now.cycles stream run
-        → AddsPrefix (K.state sink.old).held (K.state sink.new).held (text design.now ++ codes "%%\n" ++ run_lines design.now.module run.in_cycle stimulus.now.cycles)) }
+    ensures front { OnErr result ((stream : Ports) (run : Clocked) → IsStimulated compiled.now.design.module stimulus.now stream → IsRun compiled.now.design.module stimulus.now.cycles stream run
+        → AddsPrefix (K.state sink.old).held (K.state sink.new).held (text2 compiled.now.plan ++ codes "%%\n" ++ run_lines compiled.now.design.module run.in_cycle stimulus.now.cycles)) }
 {
-    write_design(design, sink)?;
+    write_plan(&compiled.plan, sink)?;
     write_all(sink, MARK.as_bytes())?;
     run(parts, stimulus, sink)
 }

@@ -4,7 +4,7 @@ use crate::answers::{Row, answer, assert_rows, calls, joined};
 use crate::texts::{INCREMENT, USAGE};
 use av_base::{MemSink, MemSource};
 use av_cli::Status;
-use av_testing::texts::INCREMENT_DESIGN;
+use av_testing::texts::INCREMENT_PLAN;
 use av_vread::read_design;
 use av_vtext::write_design;
 use std::alloc::Global;
@@ -23,70 +23,85 @@ const DOUBLE: &str =
 const SHIFTED: &str =
     "system inc (X : {i | 0<=i<=2} of integer)\n  returns (Y : {i | 0<=i<=2} of integer);\nlet Y[i] = X[i-1] + 1; tel;\n";
 
-const OF_WIDTH_1: &str = "// alphav 1
+const OF_WIDTH_1: &str = "// alphav 2
 // in X (0) i0 0
 // in X (1) i0 1
 // in X (2) i0 2
 // at Y (0) o0 0
 // at Y (1) o0 1
 // at Y (2) o0 2
+module k0(input [0:0] i0, output [0:0] v);
+  assign v = i0 + 1'd1;
+endmodule
 module array(input clk, input rst, input [0:0] i0, output [0:0] o0);
   wire [0:0] c0;
-  assign c0 = i0 + 1'd1;
+  k0 u0 (.i0(i0), .v(c0));
   assign o0 = c0;
 endmodule
 ";
 
-const OF_WIDTH_64: &str = "// alphav 1
+const OF_WIDTH_64: &str = "// alphav 2
 // in X (0) i0 0
 // in X (1) i0 1
 // in X (2) i0 2
 // at Y (0) o0 0
 // at Y (1) o0 1
 // at Y (2) o0 2
+module k0(input [63:0] i0, output [63:0] v);
+  assign v = i0 + 64'd1;
+endmodule
 module array(input clk, input rst, input [63:0] i0, output [63:0] o0);
   wire [63:0] c0;
-  assign c0 = i0 + 64'd1;
+  k0 u0 (.i0(i0), .v(c0));
   assign o0 = c0;
 endmodule
 ";
 
-const OF_WIDTH_32: &str = "// alphav 1
+const OF_WIDTH_32: &str = "// alphav 2
 // in X (0) i0 0
 // in X (1) i0 1
 // in X (2) i0 2
 // at Y (0) o0 0
 // at Y (1) o0 1
 // at Y (2) o0 2
+module k0(input [31:0] i0, output [31:0] v);
+  assign v = i0 + 32'd1;
+endmodule
 module array(input clk, input rst, input [31:0] i0, output [31:0] o0);
   wire [31:0] c0;
-  assign c0 = i0 + 32'd1;
+  k0 u0 (.i0(i0), .v(c0));
   assign o0 = c0;
 endmodule
 ";
 
-const OF_ONE_POINT: &str = "// alphav 1
+const OF_ONE_POINT: &str = "// alphav 2
 // in X (5) i0 0
 // at Y (5) o0 0
+module k0(input [7:0] i0, output [7:0] v);
+  assign v = i0 + 8'd1;
+endmodule
 module array(input clk, input rst, input [7:0] i0, output [7:0] o0);
   wire [7:0] c0;
-  assign c0 = i0 + 8'd1;
+  k0 u0 (.i0(i0), .v(c0));
   assign o0 = c0;
 endmodule
 ";
 
-const OF_CONSTANT: &str = "// alphav 1
+const OF_CONSTANT: &str = "// alphav 2
 // at Y (0) o0 0
 // at Y (1) o0 1
 // at Y (2) o0 2
+module k0(output [7:0] v);
+  assign v = 8'd3;
+endmodule
 module array(input clk, input rst, output [7:0] o0);
   wire [7:0] c0;
-  assign c0 = 8'd3;
+  k0 u0 (.v(c0));
   assign o0 = c0;
 endmodule
 ";
 
-const OF_DOUBLE: &str = "// alphav 1
+const OF_DOUBLE: &str = "// alphav 2
 // in X (0) i0 0
 // in X (1) i0 1
 // in X (2) i0 2
@@ -96,9 +111,12 @@ const OF_DOUBLE: &str = "// alphav 1
 // at Y (0) o0 0
 // at Y (1) o0 1
 // at Y (2) o0 2
+module k0(input [7:0] i0, input [7:0] i1, output [7:0] v);
+  assign v = i0 + i1;
+endmodule
 module array(input clk, input rst, input [7:0] i0, input [7:0] i1, output [7:0] o0);
   wire [7:0] c0;
-  assign c0 = i0 + i1;
+  k0 u0 (.i0(i0), .i1(i1), .v(c0));
   assign o0 = c0;
 endmodule
 ";
@@ -118,7 +136,7 @@ cycles 3
 const WIDTH_8: &[&str] = &["emit", "--width", "8"];
 
 const ROWS: &[Row] = &[
-    (WIDTH_8, INCREMENT, Status::Done, INCREMENT_DESIGN),
+    (WIDTH_8, INCREMENT, Status::Done, INCREMENT_PLAN),
     (
         &["emit", "--width", "0001"],
         INCREMENT,
@@ -150,7 +168,7 @@ const ROWS: &[Row] = &[
         &["emit", "--width=8"],
         INCREMENT,
         Status::Done,
-        INCREMENT_DESIGN,
+        INCREMENT_PLAN,
     ),
     (
         &[
@@ -170,7 +188,7 @@ const ROWS: &[Row] = &[
         &["emit", "--box=4", "--width", "008", "--"],
         INCREMENT,
         Status::Done,
-        INCREMENT_DESIGN,
+        INCREMENT_PLAN,
     ),
     (&["emit", "N=1048577"], INCREMENT, Status::Words, USAGE),
     (
@@ -194,13 +212,32 @@ fn the_words_and_the_text_fix_status_and_output(rt: HostRuntime) -> Result<(), F
     assert_rows(&rt, rt.alloc(), ROWS)
 }
 
+// The flat module of the increment.
+const INCREMENT_FLAT: &str = "// alphav 1
+// in X (0) i0 0
+// in X (1) i0 1
+// in X (2) i0 2
+// at Y (0) o0 0
+// at Y (1) o0 1
+// at Y (2) o0 2
+module array(input clk, input rst, input [7:0] i0, output [7:0] o0);
+  wire [7:0] c0;
+  wire [7:0] u0_i0;
+  wire [7:0] u0_v;
+  assign u0_i0 = i0;
+  assign u0_v = u0_i0 + 8'd1;
+  assign c0 = u0_v;
+  assign o0 = c0;
+endmodule
+";
+
 #[test]
-fn a_design_text_read_and_written_again_is_the_same(rt: HostRuntime) -> Result<(), Fail> {
+fn the_text_is_read_as_the_flat_design(rt: HostRuntime) -> Result<(), Fail> {
     let alloc = rt.alloc();
-    for text in [INCREMENT_DESIGN, OF_WIDTH_1, OF_WIDTH_64] {
+    for text in [INCREMENT_PLAN, INCREMENT_FLAT] {
         let mut sink = MemSink::new(alloc, 4096, 7, calls(alloc, None)?)?;
         assert!(rt; written_again(alloc, text, &mut sink), "{text}");
-        assert_eq!(rt; sink.held(), text.as_bytes());
+        assert_eq!(rt; sink.held(), INCREMENT_FLAT.as_bytes());
     }
     Ok(())
 }
@@ -234,11 +271,11 @@ fn a_source_may_fail_at_each_call(rt: HostRuntime) -> Result<(), Fail> {
     Ok(())
 }
 
-// The sink holds the first bytes of the design of the increment, so many.
+// The sink holds the first bytes of the array of the increment, so many.
 fn assert_front(rt: &impl Abort, sink: &MemSink, count: usize) {
     assert_eq!(rt; sink.held().len(), count, "after {count} bytes");
     assert!(rt;
-        INCREMENT_DESIGN.as_bytes().starts_with(sink.held()),
+        INCREMENT_PLAN.as_bytes().starts_with(sink.held()),
         "after {count} bytes"
     );
 }
@@ -259,7 +296,7 @@ fn assert_cut(
 #[test]
 fn a_sink_may_fail_at_each_call_and_be_full_at_each_byte(rt: HostRuntime) -> Result<(), Fail> {
     let alloc = rt.alloc();
-    for n in 0..INCREMENT_DESIGN.len() {
+    for n in 0..INCREMENT_PLAN.len() {
         let mut failing = MemSink::new(alloc, 4096, 1, calls(alloc, Some(n as u64))?)?;
         assert_cut(&rt, alloc, &mut failing, n)?;
         let mut full = MemSink::new(alloc, n, 7, calls(alloc, None)?)?;

@@ -22,16 +22,19 @@ const SCALARS: &str = "system t (a : {|} of integer; B : {i | -1<=i<=0} of integ
 
 const THREE_WORDS: &str = "X (0) = 0\nX (1) = 254\nX (2) = 255\n";
 
-const TRACED: &str = "// alphav 1
+const TRACED: &str = "// alphav 2
 // in X (0) i0 0
 // in X (1) i0 1
 // in X (2) i0 2
 // at Y (0) o0 0
 // at Y (1) o0 1
 // at Y (2) o0 2
+module k0(input [7:0] i0, output [7:0] v);
+  assign v = i0 + 8'd1;
+endmodule
 module array(input clk, input rst, input [7:0] i0, output [7:0] o0);
   wire [7:0] c0;
-  assign c0 = i0 + 8'd1;
+  k0 u0 (.i0(i0), .v(c0));
   assign o0 = c0;
 endmodule
 %%

@@ -15,8 +15,8 @@ use av_net::Module;
 use std::alloc::Global;
 use std::marker::Model;
 
-// The ticks of a dense clock between two at which changed registers are counted.
-const UNCOUNTED_TICKS: u32 = 63;
+// The ticks between two at which changed registers are counted.
+const UNCOUNTED_TICKS: u32 = 15;
 
 /// A module that is clocked.
 #[derive(Drop)]
@@ -32,9 +32,9 @@ pub struct Clock<'a> {
     due: Marks,
     // All drives are marked, whatever `stale` says, and each settle computes them.
     dense: bool,
-    // The last settle by marks computed more than half of what a settle of all drives takes.
+    // The last settle by marks computed more than a third of what a settle of all drives takes.
     busy: bool,
-    // In a dense clock, the ticks to come before changed registers are counted again.
+    // The ticks to come before changed registers are counted again.
     uncounted: u32,
     settled: bool,
     // The drives computed so far.
@@ -105,7 +105,7 @@ impl<'a> Clock<'a> {
         let computed = self
             .circuit
             .settle_marked(&mut self.words, &mut self.stale, &mut self.due);
-        self.busy = computed > self.circuit.dense_work() / 2;
+        self.busy = computed > self.circuit.dense_work() / 3;
         self.work = self.work.saturating_add(computed as u64);
         self.settled = true;
     }
@@ -192,14 +192,14 @@ impl<'a> Clock<'a> {
         }
     }
 
-    // Whether the next tick is one of all steps. Where most registers change, marks cost more than they save; and in a dense clock
-    // counting those that change costs too, so that it is done each sixty-fourth time.
+    // Whether the next tick is one of all steps. A marked drive or step takes three or four times as long as one in a pass over all, so
+    // that marks serve where few registers change. Counting those that do costs as much as a pass, so that it is done now and then.
     fn is_dense_tick(&mut self) -> bool
         ensures kept { self.new ≡ self.old }
     {
-        if self.dense && self.uncounted > 0 {
+        if self.uncounted > 0 {
             self.uncounted -= 1;
-            return true;
+            return self.dense;
         }
         if !self.dense && !self.busy {
             return false;
@@ -207,7 +207,7 @@ impl<'a> Clock<'a> {
         self.uncounted = UNCOUNTED_TICKS;
         self.circuit.next_words(&self.words, &mut self.next);
         let changed = self.circuit.changed(&self.words, &self.next);
-        changed > self.circuit.steps() / 2
+        changed > self.circuit.steps() / 4
     }
 
     // The same by the marked steps alone.

@@ -25,6 +25,8 @@ use Rattle.av_flat.proofs.Solving.{declared_from, declares}
 use Rattle.av_net.specs.declared.design.Entry.{Entry}
 use Rattle.av_net.specs.declared.design.Design.{Design}
 use Rattle.av_net.specs.declared.design.Listing.{Listing}
+use Rattle.av_net.specs.declared.plan.Plan.{Plan}
+use Rattle.av_net.specs.Flat.{flat_of}
 use Rattle.av_net.specs.Meaning.{Words}
 use Rattle.av_net.specs.Shown.{Shows, HasListed}
 use Rattle.av_names.specs.declared.size.Size.{Size}
@@ -36,7 +38,7 @@ use Rattle.av_space.specs.declared.cells.Cells.{Cells}
 use Rattle.av_space.specs.Listings.{AtLine, IsAtLine}
 use Rattle.av_space.specs.Whole.{IsListedOnce}
 use Rattle.av_space.proofs.ByPlace.{from_map, all_by_place, place_of}
-use Rattle.av_build.specs.ArrayDesigns.{IsDesignOf, ShowsSolution}
+use Rattle.av_build.specs.ArrayPlans.{IsPlanOf, ShowsSolution}
 use Rattle.av_compile.specs.Scheduled.{HasOneSolutionEach}
 use Rattle.av_compile.specs.Mapped.{IsMapped}
 use Rattle.av_compile.specs.Headline.{Computes, Headline}
@@ -60,10 +62,13 @@ either : (a b : Bool) → IsTrue (a || b) → IsTrue a ⊎ IsTrue b
 either true b h = inl refl
 either false b h = inr h
 
-module _ (bytes : List ℕ) (words : List Size) (width c : ℕ) (t : Timed) (a : Cells) (d : Design) (short : length bytes < 4294967295) (wide : 1 ≤ width)
-    (h : IsMapped bytes words width c t a) (g : IsDesignOf t a d) (s : System) (program : IsProgramText bytes s) (each : HasOneSolutionEach bytes words width) where
+module _ (bytes : List ℕ) (words : List Size) (width c : ℕ) (t : Timed) (a : Cells) (p : Plan) (short : length bytes < 4294967295) (wide : 1 ≤ width)
+    (h : IsMapped bytes words width c t a) (g : IsPlanOf t a p) (s : System) (program : IsProgramText bytes s) (each : HasOneSolutionEach bytes words width) where
   abbrev own : FlatSystem
   own = view_system t.flat
+
+  abbrev d : Design
+  d = flat_of p
 
   same : SameMeaning (shows_in (instance_of s words width)) (declares_in (instance_of s words width)) (shows_of own) (declares_of own)
   same = meaning bytes words width own short h.pipelined.serialises s program
@@ -90,10 +95,10 @@ module _ (bytes : List ℕ) (words : List Size) (width c : ℕ) (t : Timed) (a :
   listed variable z declared =
       let i = instance_of s words width in
       let parts : IsTrue (is_declared i.sizes s.outputs variable z || is_declared i.sizes s.locals variable z) = sym (declared_parts i.sizes s.outputs s.locals variable z) ∙ declared in
-      subst (λ (l : Listing). IsListedOnce l.ats variable z) (sym g.carries.listing)
+      subst (λ (l : Listing). IsListedOnce l.ats variable z) (sym g.is_plan.carries.listing)
       (elim (either (is_declared i.sizes s.outputs variable z) (is_declared i.sizes s.locals variable z) parts) [
-        | inl p ↦ listed_as kind.Output refl refl variable z p
-        | inr p ↦ listed_as kind.Local refl refl variable z p
+        | inl output ↦ listed_as kind.Output refl refl variable z output
+        | inr local ↦ listed_as kind.Local refl refl variable z local
       ])
 
   -- ---- the listed wires have the words of the text's solution
@@ -112,16 +117,16 @@ module _ (bytes : List ℕ) (words : List Size) (width c : ℕ) (t : Timed) (a :
       subst (λ (l : Entry). IsTrue (flat.is_declared is_shown (signatures own) l.variable l.point)) b.2
       (subst (λ (n : Text). IsTrue (flat.is_declared is_shown (signatures own) n b.0.entry.point)) (sym is.variable_is) there)
 
-  module _ (x u : Assignment) (p : text.AreInputs (instance_of s words width) x) (solves : text.IsSolution (instance_of s words width) x u) where
+  module _ (x u : Assignment) (are : text.AreInputs (instance_of s words width) x) (solves : text.IsSolution (instance_of s words width) x u) where
     shown : ShowsSolution t d x
-    shown = g.shows x (inputs bytes words width own short h.pipelined.serialises s program wide x p)
+    shown = g.shows x (inputs bytes words width own short h.pipelined.serialises s program wide x are)
 
     -- where the chained system's solution has a word, the text's has it
     agrees : (variable : Text) (z : Point) (w : ℕ) → IsTrue (flat.is_declared is_shown (signatures own) variable z) → shown.one.solution variable z ≡ Some w → u variable z ≡ Some w
     agrees variable z w declared e =
         let said : ShowsFlat own x variable z w = record { solution = shown.one.solution; solves = shown.one.solves; shown = declared; word = e } in
         let told = (same.shown x variable z w).1 said in
-        let one = each s program x p in
+        let one = each s program x are in
         ap (λ (v : Assignment). v variable z) (one.only u solves ∙ sym (one.only told.solution told.solves)) ∙ told.word
 
     line_shows : (n : ℕ) (in_cycle : ℕ → Words) (i : ℕ) (line : Entry) → slice_get a.listing.ats i ≡ Some line → HasListed n in_cycle shown.one.solution line → HasListed n in_cycle u line
@@ -130,22 +135,22 @@ module _ (bytes : List ℕ) (words : List Size) (width c : ℕ) (t : Timed) (a :
     shows : Shows d x u
     shows = λ n stream run is presents.
         let ats = shown.shows n stream run is presents in
-        let all = subst (λ (l : Listing). All (HasListed n run.in_cycle shown.one.solution) l.ats) g.carries.listing ats in
-        subst (λ (l : Listing). All (HasListed n run.in_cycle u) l.ats) (sym g.carries.listing)
+        let all = subst (λ (l : Listing). All (HasListed n run.in_cycle shown.one.solution) l.ats) g.is_plan.carries.listing ats in
+        subst (λ (l : Listing). All (HasListed n run.in_cycle u) l.ats) (sym g.is_plan.carries.listing)
         (all_by_place (HasListed n run.in_cycle u) a.listing.ats
         (λ i line e. line_shows n run.in_cycle i line e (all_at (HasListed n run.in_cycle shown.one.solution) a.listing.ats i line all e)))
 
   computes : Computes (instance_of s words width) d
   computes = record {
-    one_solution = λ x p. each s program x p;
-    presentable = λ x p. (g.shows x (inputs bytes words width own short h.pipelined.serialises s program wide x p)).presentable;
+    one_solution = λ x are. each s program x are;
+    presentable = λ x are. (g.shows x (inputs bytes words width own short h.pipelined.serialises s program wide x are)).presentable;
     listed = listed;
     shows = shows;
   }
 
-pub headline : (bytes : List ℕ) (words : List Size) (width c : ℕ) (t : Timed) (a : Cells) (d : Design) → length bytes < 4294967295 → 1 ≤ width → IsMapped bytes words width c t a → IsDesignOf t a d
-    → HasOneSolutionEach bytes words width → Headline bytes words width c t a d
-headline bytes words width c t a d short wide h g each =
+pub headline : (bytes : List ℕ) (words : List Size) (width c : ℕ) (t : Timed) (a : Cells) (p : Plan) → length bytes < 4294967295 → 1 ≤ width → IsMapped bytes words width c t a → IsPlanOf t a p
+    → HasOneSolutionEach bytes words width → Headline bytes words width c t a p
+headline bytes words width c t a p short wide h g each =
     let serialises = h.pipelined.serialises in
     let normalises = serialises.normalises in
     let flattens = normalises.flattens in
@@ -158,6 +163,6 @@ headline bytes words width c t a d short wide h g each =
       chains = serialises.given.form;
       first = h.pipelined.first;
       helpers = h.pipelined.helpers;
-      design = g;
-      computes = computes bytes words width c t a d short wide h g flattens.system flattens.text each;
+      plan = g;
+      computes = computes bytes words width c t a p short wide h g flattens.system flattens.text each;
     }

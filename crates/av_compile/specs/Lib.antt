@@ -4,4 +4,5 @@ pub mod Checked
 pub mod Scheduled
 pub mod Mapped
 pub mod Headline
+pub mod Planned
 pub mod inner

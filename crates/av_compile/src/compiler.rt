@@ -2,6 +2,7 @@ ghost use Rattle.std.specs.Prelude.{◌≡◌, ◌≢◌, ◌<◌, ◌⊎◌, le
 ghost use Rattle.av_flat.specs.Trees.{view_system};
 ghost use Rattle.av_flat.specs.declared.timed.Timed.{Timed as System};
 ghost use Rattle.av_names.specs.Texts.{AreSmall};
+ghost use Rattle.av_net.specs.Flat.{flat_of};
 ghost use Rattle.av_compile.specs.Scheduled.{Serialises};
 ghost use Rattle.av_compile.specs.Mapped.{HasArray, IsPipelined, IsMapped, IsUnmapped};
 ghost use Rattle.av_compile.specs.Headline.{Headline};
@@ -14,24 +15,25 @@ use av_base::Width;
 use av_build::build;
 use av_flat::{Flat, Reach, Timed, copy_flat};
 use av_names::Size;
-use av_net::Design;
+use av_net::{Design, Plan, flatten};
 use av_space::Cells;
 use std::alloc::Global;
 
-/// What is made of a text: its chained system, the same with its first schedule and pipelines, its array, and the design of
-/// that.
+/// What is made of a text: its chained system, the same with its first schedule and pipelines, its array, the plan of that,
+/// and the plan's flat design.
 #[derive(Debug, Drop)]
 pub struct Compiled {
     pub flat: Flat,
     pub timed: Timed,
     pub cells: Cells,
+    pub plan: Plan,
     pub design: Design,
 }
 
 /// Compiles a text with its sizes, in words of this width, by its first schedule in the box, to a systolic array in Verilog.
 ///
 /// The listing has the points of inputs at the input ports, by port and cycle, and those of outputs and locals at their wires, by
-/// variable and point. The module is named `array`.
+/// variable and point. The top module is named `array`; each cell is an instance of its kind.
 ///
 /// Else the first fault is answered: those of `mapped`. `Memory` comes where memory runs out, whatever else holds.
 pub fn compile(
@@ -44,8 +46,11 @@ pub fn compile(
     requires short { length bytes.now < 4294967295 }
     requires small { AreSmall sizes.now }
 
-    // The equations have one solution for every input, and the design shows it, whatever stands on idle ports.
-    ensures headline { IfOk result (λ to. Headline bytes.now sizes.now width.bits reach.size to.timed to.cells to.design) }
+    // The equations have one solution for every input, and the plan's flat design shows it, whatever stands on idle ports.
+    ensures headline { IfOk result (λ to. Headline bytes.now sizes.now width.bits reach.size to.timed to.cells to.plan) }
+
+    // That design is the last field.
+    ensures design { IfOk result (λ to. to.design ≡ flat_of to.plan) }
 
     // The system and the array are those that `mapped` gives: no step finds a fault.
     ensures mapped { IfOk result (λ to. IsMapped bytes.now sizes.now width.bits reach.size to.timed to.cells) }
@@ -63,12 +68,14 @@ pub fn compile(
     ensures complete { (t : System) → IsPipelined bytes.now sizes.now width.bits reach.size t → HasArray t → IfErr result (λ f. f ≡ refusal.Memory) }
 {
     let Array { timed, cells } = mapped(alloc, bytes, sizes, width, reach)?;
-    let design = build(alloc, &timed, &cells)?;
+    let plan = build(alloc, &timed, &cells)?;
+    let design = flatten(alloc, &plan)?;
     let flat = copy_flat(alloc, &timed.flat)?;
     Ok(Compiled {
         flat,
         timed,
         cells,
+        plan,
         design,
     })
 }

@@ -7,11 +7,11 @@ use Rattle.av_tree.specs.Values.{Assignment}
 use Rattle.av_flat.specs.Helped.{HelperWords, IsHelpedSolution}
 use Rattle.av_kinds.specs.declared.counter.Counter.{Counter}
 use Rattle.av_kinds.specs.declared.counter.Counter.TheVariants.{Cycles, Phases}
-use Rattle.av_kinds.specs.Counters.{count_in}
+use Rattle.av_kinds.specs.Counters.{count_in, number_count}
 use Rattle.av_kinds.specs.Histories.{Tasks, Signals, IsHistory}
 use Rattle.av_history.specs.Performing.{Array, Lanes, Perform}
 use Rattle.av_history.specs.Arranged.{IsArranged}
-use Rattle.av_history.specs.Problems.{Presents, HaveWords, CountsAnew, number_count}
+use Rattle.av_history.specs.Problems.{Presents, HaveWords, CountsAnew}
 use Rattle.av_history.proofs.Shown.{Setting, computed}
 use Rattle.av_history.proofs.Serving.{IsPlacedAt, IsHandedAt, IsFedAt, serves}
 use Rattle.av_history.proofs.Residues.{later_residue}

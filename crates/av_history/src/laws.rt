@@ -4,11 +4,11 @@ ghost use Rattle.std.specs.Prelude.{ℕ, ◌*◌};
 ghost use Rattle.av_tree.specs.Values.{Assignment};
 ghost use Rattle.av_flat.specs.Helped.{HelperWords, IsHelpedSolution};
 ghost use Rattle.av_kinds.specs.declared.counter.Counter.{Counter};
-ghost use Rattle.av_kinds.specs.Counters.{count_in};
+ghost use Rattle.av_kinds.specs.Counters.{count_in, number_count};
 ghost use Rattle.av_kinds.specs.Histories.{Tasks, Signals, IsHistory};
 ghost use Rattle.av_history.specs.Performing.{Array, Lanes, Perform};
 ghost use Rattle.av_history.specs.Arranged.{IsArranged};
-ghost use Rattle.av_history.specs.Problems.{Presents, HaveWords, CountsAnew, number_count};
+ghost use Rattle.av_history.specs.Problems.{Presents, HaveWords, CountsAnew};
 
 /// A law on arrays: where the tasks of lanes perform an array, the lanes have in each history the words of the system's solution for
 /// the inputs that are presented.

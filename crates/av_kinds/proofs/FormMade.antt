@@ -15,10 +15,10 @@ use Rattle.av_kinds.specs.declared.counter.Counter.TheVariants.{Cycles, Phases}
 use Rattle.av_kinds.specs.declared.planning.Modules.{Modules}
 use Rattle.av_kinds.specs.Programs.{Program, IsProgram}
 use Rattle.av_kinds.specs.Names.{Labels, labels}
-use Rattle.av_kinds.specs.Counters.{counter_width, counter_name}
+use Rattle.av_kinds.specs.Counters.{counter_width, counter_name, next_name}
 use Rattle.av_kinds.specs.Tops.{port, output_drives, lane_wires, lane_registers, lane_steps}
 use Rattle.av_kinds.specs.Netlists.{plan_of}
-use Rattle.av_kinds.specs.Forms.{IsWire, IsRegister, next_number, IsCounterWire, HasNext, HasCounter, HasNoCounter, IsFormedBy, AreFormedBy}
+use Rattle.av_kinds.specs.Forms.{IsWire, IsRegister, IsCounterWire, HasNext, HasCounter, HasNoCounter, IsFormedBy, AreFormedBy}
 use Rattle.av_kinds.specs.inner.Counts.{counter_wires, counter_drives, counter_step}
 use Rattle.av_kinds.specs.inner.Shapes.{LaneShape}
 use Rattle.av_kinds.specs.inner.Kinds.{counts}
@@ -42,15 +42,15 @@ not_named R ports each name none at =
 
 -- ---- the counter's own wires, drives and step
 
-next_wire : (counter : Counter) → Contains (counter_wires counter) (port counter_width (next_number counter))
+next_wire : (counter : Counter) → Contains (counter_wires counter) (port counter_width (next_name counter))
 next_wire Cycles = (0, omega arith, refl)
 next_wire (Phases period) = (2, omega arith, refl)
 
-next_step : (counter : Counter) → counter_step counter ≡ record { register = counter_name counter; reset = 0; next = Name (next_number counter) }
+next_step : (counter : Counter) → counter_step counter ≡ record { register = counter_name counter; reset = 0; next = Name (next_name counter) }
 next_step Cycles = refl
 next_step (Phases period) = refl
 
-next_is : (counter : Counter) → IsCounterWire counter (next_number counter)
+next_is : (counter : Counter) → IsCounterWire counter (next_name counter)
 next_is Cycles = refl
 next_is (Phases period) = inr (inr refl)
 
@@ -89,8 +89,8 @@ module _ (counter : Counter) (program : Program) (is : IsProgram program) (shape
   has_counter l counting = record {
     register = Contains-append_right (lane_registers N 0 program.lanes) (if counted then port counter_width own_name ∷ [] else []) (port counter_width own_name)
         (in_if counted (port counter_width own_name ∷ []) (port counter_width own_name) counting (0, omega arith, refl));
-    wire = Contains-append_left top.wires parts (port counter_width (next_number counter))
-        (Contains-append_right (lane_wires N 0 program.lanes) (if counted then counter_wires counter else []) (port counter_width (next_number counter)) (in_if counted (counter_wires counter) (port counter_width (next_number counter)) counting (next_wire counter)));
+    wire = Contains-append_left top.wires parts (port counter_width (next_name counter))
+        (Contains-append_right (lane_wires N 0 program.lanes) (if counted then counter_wires counter else []) (port counter_width (next_name counter)) (in_if counted (counter_wires counter) (port counter_width (next_name counter)) counting (next_wire counter)));
     step = subst (Contains top.steps) (next_step counter)
         (Contains-append_right (lane_steps N 0 program.lanes) (if counted then counter_step counter ∷ [] else []) (counter_step counter) (in_if counted (counter_step counter ∷ []) (counter_step counter) counting (0, omega arith, refl)));
     next = has_next counter (m l) (λ d at. Contains-append_right part_drives top.drives d
@@ -109,7 +109,7 @@ module _ (counter : Counter) (program : Program) (is : IsProgram program) (shape
     wire = not_named (OfCell IsWire) (flat.wires counter program is shapes are few) (flat.wires_each counter program is shapes are few (λ (x : Port). OfCell IsWire x.name)
         (λ q lane there. (lane.home, small_home counter program is shapes are few q lane there, inl (value_wire program q lane there)))
         (λ p own is_cell x. (p, is_small counter program is shapes are few p own is_cell, inr (x.name, refl)))
-        (λ counting. absurd (true≢false (sym counting ∙ none)))) (next_number counter) (λ of_cell. counter_wire_none counter (next_number counter) (next_is counter) of_cell.0 of_cell.1 of_cell.2);
+        (λ counting. absurd (true≢false (sym counting ∙ none)))) (next_name counter) (λ of_cell. counter_wire_none counter (next_name counter) (next_is counter) of_cell.0 of_cell.1 of_cell.2);
   }
 
   counter_is : (l : Listing) → HasCounter counter (m l) ⊎ HasNoCounter counter (m l)

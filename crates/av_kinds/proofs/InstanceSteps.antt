@@ -20,13 +20,10 @@ use Rattle.av_kinds.specs.inner.Counts.{bound}
 use Rattle.av_kinds.specs.inner.Shapes.{ModeShape, ModeShapeMade, LaneShapeMade, mode_shape_of, lane_shape_of, SuitsMode, SuitModes, SuitsLane, SuitLanes}
 use Rattle.av_kinds.specs.inner.Instances.{words_for, bounds_for, site_operands, sites_operands, intervals_for, mode_operands, modes_operands, lanes_operands, outputs_from, cell_operands, instance_by}
 use Rattle.av_kinds.specs.inner.Reads.{IsThere, SiteThere, ModeThere, LaneThere}
-use Rattle.av_kinds.proofs.Placing.{one_less, some_less, read_mapped}
+use Rattle.av_kinds.proofs.Placing.{one_less, one_more, some_less, read_mapped}
 use Rattle.av_kinds.proofs.ShapeSuits.{mode_there}
 use Rattle.av_kinds.proofs.ShapeMade.{suit_at}
 use Rattle.av_kinds.proofs.TopInstances.{suit_many}
-
-one_more : (k : ℕ) → suc k ≡ k + 1
-one_more k = omega arith
 
 abbrev pub source_of : Link → Source
 source_of l = l.source

@@ -19,9 +19,7 @@ use Rattle.av_kinds.specs.Tops.{port}
 use Rattle.av_kinds.specs.inner.Interfaces.{PortCounts, ports_by, bounds_by, options_by, last_by, tap_by, guards_by, interval_ports, ports_in, past, tap_in, site_ports, past_site, tap_of, tested_ports, past_tested, sites_ports, past_sites}
 use Rattle.av_kinds.specs.inner.Shapes.{ModeShape}
 use Rattle.av_kinds.specs.inner.Numbers.{counts_of, AreFew, AddsPorts}
-
-one_more : (k : ℕ) → suc k ≡ k + 1
-one_more k = omega arith
+use Rattle.av_kinds.proofs.Placing.{one_more}
 
 ports_more : (name : Naming) (w : Width) (k n : ℕ) → ports_by name w k (suc n) ≡ ports_by name w k n ++ port w (name (k + n)) ∷ []
 ports_more name w k zero = let e : k ≡ k + 0 = omega arith in ap (λ i. port w (name i) ∷ []) e

@@ -13,9 +13,9 @@ use Rattle.av_kinds.specs.declared.counter.Counter.{Counter}
 use Rattle.av_kinds.specs.declared.counter.Counter.TheVariants.{Cycles, Phases}
 use Rattle.av_kinds.specs.Programs.{Lane, Program}
 use Rattle.av_kinds.specs.Names.{Labels, line_name, labels}
-use Rattle.av_kinds.specs.Counters.{IsCounter, counter_name, count_in}
+use Rattle.av_kinds.specs.Counters.{IsCounter, counter_name, count_in, next_name, last_name, sum_name}
 use Rattle.av_kinds.specs.Tops.{line_step, lane_steps}
-use Rattle.av_kinds.specs.inner.Counts.{next_name, last_name, sum_name, counter_drives, counter_step}
+use Rattle.av_kinds.specs.inner.Counts.{counter_drives, counter_step}
 use Rattle.av_kinds.proofs.Works.{chosen_bit}
 use Rattle.av_kinds.proofs.Residues.{next_residue, last_test, next_of_all}
 

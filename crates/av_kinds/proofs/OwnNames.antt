@@ -39,12 +39,12 @@ part_owner p own small = ap owner (part_is p own) ∙ owner_numbered 117 p (95 �
 pub part_sort : (p : ℕ) (own : List ℕ) → p < 10 ^ 64 → sort (part_name (instance_name p) own) ≡ 117
 part_sort p own small = ap sort (part_is p own) ∙ sort_numbered 117 p (95 ∷ own) small
 
+pub part_after : (p : ℕ) (own : List ℕ) → p < 10 ^ 64 → after (part_name (instance_name p) own) ≡ 95 ∷ own
+part_after p own small = ap after (part_is p own) ∙ after_numbered 117 p (95 ∷ own) small refl
+
 -- and the name in the instance
 pub part_own : (p : ℕ) (x y : List ℕ) → p < 10 ^ 64 → part_name (instance_name p) x ≡ part_name (instance_name p) y → x ≡ y
 part_own p x y small e = rest_is 95 x y (sym (part_after p x small) ∙ ap after e ∙ part_after p y small)
-  where
-    part_after : (p : ℕ) (own : List ℕ) → p < 10 ^ 64 → after (part_name (instance_name p) own) ≡ 95 ∷ own
-    part_after p own small = ap after (part_is p own) ∙ after_numbered 117 p (95 ∷ own) small refl
 
 cell_owner : (p : ℕ) (x : List ℕ) → p < 10 ^ 64 → IsCellWire p x → owner x ≡ decimal p
 cell_owner p x small (inl e) = ap owner e ∙ one_owner 99 p small

@@ -1,6 +1,6 @@
 -- The names of instances and of what they bring are distinct: each begins with the number of its cell.
 use Rattle.std.proofs.Common.{◌≡◌, ℕ, zero, suc, ◌+◌, ◌^◌, ◌<◌, ◌≤◌, List, [], ◌∷◌, ◌++◌, length, map, get_or, refl, sym, subst, arith, ◌∙◌, ap, append_assoc}
-use Rattle.std.specs.Prelude.{decimal, codes}
+use Rattle.std.specs.Prelude.{decimal}
 use Rattle.std.specs.List.{AllByRecursion, range_with_len, flat_map}
 use Rattle.std.proofs.lemmas.List.{map-append, append-nil, length-map}
 use Rattle.av_base.proofs.Lists.{each_append, each_weaker}
@@ -13,7 +13,8 @@ use Rattle.av_net.specs.Plans.{instance_names, part_names}
 use Rattle.av_net.specs.Sound.{IsSound}
 use Rattle.av_net.proofs.Distinct.{rest_distinct}
 use Rattle.av_kinds.specs.Names.{instance_name}
-use Rattle.av_kinds.proofs.NameParts.{decimal_once, owner, after, owner_numbered, after_numbered, sort, sort_numbered, nothing_distinct, rest_is}
+use Rattle.av_kinds.proofs.NameParts.{decimal_once, owner, after, sort, sort_numbered, nothing_distinct}
+use Rattle.av_kinds.proofs.OwnNames.{part_owner, part_after, part_sort, part_own}
 use Rattle.av_kinds.proofs.PortNames.{joined_apart, letter_distinct}
 use Rattle.av_kinds.proofs.TopNames.{one_number, one_after}
 
@@ -22,18 +23,6 @@ use Rattle.av_kinds.proofs.TopNames.{one_number, one_after}
 named_parts : (u : List ℕ) (ports : List Port) → names_of (map (part_port u) ports) ≡ map (part_name u) (names_of ports)
 named_parts u [] = refl
 named_parts u (p ∷ ports) = ap (λ (ys : List (List ℕ)). part_name u p.name ∷ ys) (named_parts u ports)
-
-part_is : (p : ℕ) (x : List ℕ) → part_name (instance_name p) x ≡ 117 ∷ (decimal p ++ (95 ∷ x))
-part_is p x = append_assoc (instance_name p) (codes "_") x
-
-part_owner : (p : ℕ) (x : List ℕ) → p < 10 ^ 64 → owner (part_name (instance_name p) x) ≡ decimal p
-part_owner p x few = ap owner (part_is p x) ∙ owner_numbered 117 p (95 ∷ x) few refl
-
-part_after : (p : ℕ) (x : List ℕ) → p < 10 ^ 64 → after (part_name (instance_name p) x) ≡ 95 ∷ x
-part_after p x few = ap after (part_is p x) ∙ after_numbered 117 p (95 ∷ x) few refl
-
-part_once : (p : ℕ) (x y : List ℕ) → p < 10 ^ 64 → part_name (instance_name p) x ≡ part_name (instance_name p) y → x ≡ y
-part_once p x y few e = rest_is 95 x y (sym (part_after p x few) ∙ ap after e ∙ part_after p y few)
 
 -- a name that an instance from the p-th on brings
 record IsPart (low high : ℕ) (x : List ℕ) : Type 0 where
@@ -67,7 +56,7 @@ parts_distinct p few names distinct i j d lt lj same =
     let high : j < length names = omega (arith, lj, many) in
     let left = mapped_get (part_name (instance_name p)) names i d (omega (arith, lt, high)) in
     let right = mapped_get (part_name (instance_name p)) names j d high in
-    distinct i j d lt high (part_once p (get_or names i d) (get_or names j d) few (sym left ∙ same ∙ right))
+    distinct i j d lt high (part_own p (get_or names i d) (get_or names j d) few (sym left ∙ same ∙ right))
 
 -- ---- all instances
 
@@ -144,7 +133,7 @@ instances_named kinds instances are few =
 
     mapped_sorts : (p : ℕ) → p < 10 ^ 64 → (names : List (List ℕ)) → AllByRecursion (λ x. sort x ≡ 117) (map (part_name (instance_name p)) names)
     mapped_sorts p small [] = tt
-    mapped_sorts p small (x ∷ names) = (ap sort (part_is p x) ∙ sort_numbered 117 p (95 ∷ x) small, mapped_sorts p small names)
+    mapped_sorts p small (x ∷ names) = (part_sort p x small, mapped_sorts p small names)
 
     part_sorts : (ks : List CellKind) (p : ℕ) (is : List Instance) → AreNamed ks p is → p + length is ≤ 10 ^ 64 → AllByRecursion (λ x. sort x ≡ 117) (part_names ks is)
     part_sorts ks p [] are few = tt

@@ -17,6 +17,9 @@ use Rattle.av_kinds.specs.Programs.{Program}
 use Rattle.av_kinds.specs.inner.Gates.{drives_from, ports_from}
 use Rattle.av_kinds.specs.inner.Numbered.{line_in, IsNaming}
 
+pub one_more : (k : ℕ) → suc k ≡ k + 1
+one_more k = omega arith
+
 pub range_more : {X : Type 0} (f : ℕ → X) (front old new : List X) (n : ℕ) (x : X) → old ≡ front ++ map f (range_with_len 0 n) → new ≡ old ++ x ∷ [] → x ≡ f n → new ≡ front ++ map f (range_with_len 0 (n + 1))
 range_more f front old new n x before is here =
     let at : 0 + n ≡ n = omega arith in

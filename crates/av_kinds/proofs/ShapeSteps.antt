@@ -15,14 +15,11 @@ use Rattle.av_kinds.specs.Programs.{Mode, Lane, Program, lanes_of}
 use Rattle.av_kinds.specs.Written.{ModeMade, LaneMade, mode_of, lane_of}
 use Rattle.av_kinds.specs.inner.Shapes.{ModeShape, LaneShape, ModeShapeMade, LaneShapeMade, mode_shape_of, lane_shape_of}
 use Rattle.av_kinds.specs.inner.Shaped.{site_shape, site_shapes, mode_shape_by, mode_shapes, lane_shape_by, lane_shapes, shapes_by, is_used}
-use Rattle.av_kinds.proofs.Placing.{one_less, one_seen, some_less, from_place, dropped, read_mapped}
+use Rattle.av_kinds.proofs.Placing.{one_less, one_more, one_seen, some_less, from_place, dropped, read_mapped}
 use Rattle.av_kinds.proofs.Steps.{not_same}
 
 abbrev pub links_of : SiteShape → ℕ
 links_of s = s.links
-
-one_more : (k : ℕ) → suc k ≡ k + 1
-one_more k = omega arith
 
 sites_more : (before : List SiteShape) (k : ℕ) (site : Site) (sites : List Site) → site_shapes (drop k before) (site ∷ sites) ≡ site_shape (get_or (map links_of before) k 0) site ∷ site_shapes (drop (suc k) before) sites
 sites_more [] zero site sites = refl

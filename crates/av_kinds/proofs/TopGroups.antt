@@ -10,8 +10,8 @@ use Rattle.av_kinds.specs.declared.counter.Counter.TheVariants.{Cycles, Phases}
 use Rattle.av_kinds.specs.declared.program.CellLanes.{CellLanes}
 use Rattle.av_kinds.specs.Programs.{Lane, Program, AreInTurn, IsLaneOf, IsProgram}
 use Rattle.av_kinds.specs.Names.{Labels, labels}
-use Rattle.av_kinds.specs.Counters.{counter_name}
-use Rattle.av_kinds.specs.inner.Counts.{next_name, last_name, sum_name, counter_wires}
+use Rattle.av_kinds.specs.Counters.{counter_name, next_name, last_name, sum_name}
+use Rattle.av_kinds.specs.inner.Counts.{counter_wires}
 use Rattle.av_kinds.specs.inner.Shapes.{LaneShape}
 use Rattle.av_kinds.specs.inner.Instances.{outputs_from}
 use Rattle.av_kinds.specs.inner.Modules.{instances_by}

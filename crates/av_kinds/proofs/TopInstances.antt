@@ -36,6 +36,7 @@ use Rattle.av_kinds.proofs.KindSound.{kind_sound}
 use Rattle.av_kinds.proofs.PlanShown.{got, kind_there}
 use Rattle.av_kinds.proofs.ShapeSuits.{below_length}
 use Rattle.av_kinds.proofs.PartNames.{AreNamed}
+use Rattle.av_kinds.proofs.SortedKinds.{or_second}
 use Rattle.av_kinds.proofs.TopGroups.{HaveRoom}
 use Rattle.av_kinds.proofs.Feeds.{IsFeed, Feed, IsSourceFeed, InletFeeds, SiteFeeds, ModeFeeds, ModesFeed, feed_suits, feed_known, feed_fits, cell_feed}
 
@@ -107,14 +108,10 @@ lanes_many program own h =
     let left : length (drop own.first program.lanes) ≡ length program.lanes - own.first = length-drop own.first program.lanes in
     length-take-le (suc (own.value - own.first)) (drop own.first program.lanes) (omega (arith, left, h.low, h.high))
 
-or_later : (a b : Bool) → b ≡ true → (a || b) ≡ true
-or_later true b e = refl
-or_later false b e = e
-
 pub some_counts : (shapes : List (List LaneShape)) (k : ℕ) (shape : List LaneShape) → slice_get shapes k ≡ Some shape → counts shape ≡ true → list_any counts shapes ≡ true
 some_counts [] k shape is counted = absurd cc
 some_counts (s ∷ shapes) zero shape is counted = let e : counts s ≡ true = ap counts (some_is s shape is) ∙ counted in rw e refl
-some_counts (s ∷ shapes) (suc k) shape is counted = or_later (counts s) (list_any counts shapes) (some_counts shapes k shape is counted)
+some_counts (s ∷ shapes) (suc k) shape is counted = or_second (counts s) (list_any counts shapes) (some_counts shapes k shape is counted)
 
 -- what holds without a mode, and of each that is there, holds of that of each number
 at_mode : (P : Mode → Type 0) → P no_mode → (modes : List Mode) → AllByRecursion P modes → (k : ℕ) → P (mode_at modes k)

@@ -26,9 +26,9 @@ use Rattle.av_kinds.specs.declared.counter.Counter.{Counter}
 use Rattle.av_kinds.specs.declared.counter.Counter.TheVariants.{Cycles, Phases}
 use Rattle.av_kinds.specs.Programs.{Lane, Program, IsProgram}
 use Rattle.av_kinds.specs.Names.{Naming, Labels, input_name, output_name, line_name, labels}
-use Rattle.av_kinds.specs.Counters.{IsCounter, counter_width, counter_name}
+use Rattle.av_kinds.specs.Counters.{IsCounter, counter_width, counter_name, next_name, last_name, sum_name}
 use Rattle.av_kinds.specs.Tops.{port, width_in, numbered_ports, output_widths, output_drives, lane_wires, lane_registers, line_step, lane_steps}
-use Rattle.av_kinds.specs.inner.Counts.{next_name, last_name, sum_name, counter_wires, counter_drives, counter_step}
+use Rattle.av_kinds.specs.inner.Counts.{counter_wires, counter_drives, counter_step}
 use Rattle.av_kinds.specs.inner.Shapes.{LaneShape}
 use Rattle.av_kinds.specs.inner.Kinds.{counts}
 use Rattle.av_kinds.specs.inner.Modules.{AreShapesOf, top_by, kinds_by, instances_by}

@@ -18,7 +18,24 @@ abbrev pub counter_name : Counter → List ℕ
 counter_name Cycles = codes "cyc"
 counter_name (Phases period) = codes "phase"
 
+-- the wire with its next number
+abbrev pub next_name : Counter → List ℕ
+next_name Cycles = codes "cyc_next"
+next_name (Phases period) = codes "phase_next"
+
+-- whether the phase is the last one of its period, and the sum of the phase and 1
+abbrev pub last_name : List ℕ
+last_name = codes "phase_last"
+
+abbrev pub sum_name : List ℕ
+sum_name = codes "phase_sum"
+
 -- what the counter has in a cycle
 abbrev pub count_in : Counter → ℕ → ℕ
 count_in Cycles cycle = cycle % 2 ^ 12
 count_in (Phases period) cycle = cycle % period
+
+-- how many numbers it has before it begins anew
+abbrev pub number_count : Counter → ℕ
+number_count Cycles = 2 ^ 12
+number_count (Phases period) = period

@@ -26,7 +26,7 @@ use Rattle.av_kinds.specs.declared.program.Site.{Site}
 use Rattle.av_kinds.specs.declared.program.CellLanes.{CellLanes}
 use Rattle.av_kinds.specs.Programs.{Mode, Lane, Program, lanes_of}
 use Rattle.av_kinds.specs.Names.{input_name, output_name, value_name, wire_name, register_name, instance_name, labels}
-use Rattle.av_kinds.specs.Counters.{counter_width, counter_name}
+use Rattle.av_kinds.specs.Counters.{counter_width, counter_name, next_name, last_name, sum_name}
 use Rattle.av_kinds.specs.Tops.{port}
 use Rattle.av_kinds.specs.Netlists.{plan_of}
 use Rattle.av_kinds.specs.Sorts.{Sort, rest, IsInstanceWire, AreOfSorts, how_many, lanes_operators}
@@ -91,20 +91,9 @@ MayTake p (Name name) = IsWire p name ⊎ IsRegister p name
 
 -- ---- the counter
 
-abbrev pub last_phase : List ℕ
-last_phase = codes "phase_last"
-
-abbrev pub phase_sum : List ℕ
-phase_sum = codes "phase_sum"
-
--- the wire with its next number
-abbrev pub next_number : Counter → List ℕ
-next_number Cycles = codes "cyc_next"
-next_number (Phases period) = codes "phase_next"
-
 abbrev pub IsCounterWire : Counter → List ℕ → Type 0
-IsCounterWire Cycles name = name ≡ next_number Cycles
-IsCounterWire (Phases period) name = (name ≡ last_phase) ⊎ (name ≡ phase_sum) ⊎ (name ≡ next_number (Phases period))
+IsCounterWire Cycles name = name ≡ next_name Cycles
+IsCounterWire (Phases period) name = (name ≡ last_name) ⊎ (name ≡ sum_name) ⊎ (name ≡ next_name (Phases period))
 
 -- the module drives the name by this
 abbrev pub IsDriven : Module → List ℕ → Operation → Type 0
@@ -112,23 +101,23 @@ IsDriven m name operation = Contains m.drives (record { target = name; operation
 
 -- the number of the counter plus 1; a phase is 0 again where it is the last one of the period
 abbrev pub HasNext : Counter → Module → Type 0
-HasNext Cycles m = IsDriven m (next_number Cycles) (Binary (Name (counter_name Cycles)) Add (Literal counter_width 1))
+HasNext Cycles m = IsDriven m (next_name Cycles) (Binary (Name (counter_name Cycles)) Add (Literal counter_width 1))
 HasNext (Phases period) m =
-    IsDriven m last_phase (Binary (Name (counter_name (Phases period))) Equal (Literal counter_width (period - 1)))
-    × IsDriven m phase_sum (Binary (Name (counter_name (Phases period))) Add (Literal counter_width 1))
-    × IsDriven m (next_number (Phases period)) (Choose (Name last_phase) (Literal counter_width 0) (Name phase_sum))
+    IsDriven m last_name (Binary (Name (counter_name (Phases period))) Equal (Literal counter_width (period - 1)))
+    × IsDriven m sum_name (Binary (Name (counter_name (Phases period))) Add (Literal counter_width 1))
+    × IsDriven m (next_name (Phases period)) (Choose (Name last_name) (Literal counter_width 0) (Name sum_name))
 
 -- a register of 12 bits that is 0 after reset and takes the next number
 pub record HasCounter (counter : Counter) (m : Module) : Type 0 where
   pub register : Contains m.registers (port counter_width (counter_name counter))
-  pub wire : Contains m.wires (port counter_width (next_number counter))
-  pub step : Contains m.steps (record { register = counter_name counter; reset = 0; next = Name (next_number counter) })
+  pub wire : Contains m.wires (port counter_width (next_name counter))
+  pub step : Contains m.steps (record { register = counter_name counter; reset = 0; next = Name (next_name counter) })
   pub next : HasNext counter m
 
 -- neither of the two names is there
 pub record HasNoCounter (counter : Counter) (m : Module) : Type 0 where
   pub register : Contains (names_of m.registers) (counter_name counter) → ⊥
-  pub wire : Contains (names_of m.wires) (next_number counter) → ⊥
+  pub wire : Contains (names_of m.wires) (next_name counter) → ⊥
 
 -- ---- operators
 

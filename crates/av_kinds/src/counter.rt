@@ -38,8 +38,8 @@ pub(crate) fn bound(number: u32) -> Operand
 }
 
 impl Counter {
-    ghost use Rattle.av_kinds.specs.Counters.{IsCounter, counter_name, count_in};
-    ghost use Rattle.av_kinds.specs.inner.Counts.{next_name, counter_wires, counter_drives, counter_step};
+    ghost use Rattle.av_kinds.specs.Counters.{IsCounter, counter_name, next_name, count_in};
+    ghost use Rattle.av_kinds.specs.inner.Counts.{counter_wires, counter_drives, counter_step};
 
     /// What the counter has in a cycle.
     pub fn number(self, cycle: u32) -> u32

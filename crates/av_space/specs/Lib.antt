@@ -9,7 +9,6 @@ pub mod Quantities
 pub mod SpaceFaults
 pub mod Arrays
 pub mod Whole
-pub mod ArrayForm
 pub mod Layouts
 pub mod Sites
 pub mod Spots

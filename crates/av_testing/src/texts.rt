@@ -65,7 +65,7 @@ pub const SWEEP: &str = "system sweep (A : {j | 0<=j<=255} of integer) \
     returns (S : {i,j | 0<=i<=255; 0<=j<=255} of integer); \
     let S[i,j] = case {| i=0} : A[j]; {| i>=1} : S[i-1,j] + 1; esac; tel;";
 
-/// The array of the increment of three inputs of 8 bits.
+/// The increment of three inputs of 8 bits, as the one sum that its array is.
 pub const INCREMENT_DESIGN: &str = "// alphav 1
 // in X (0) i0 0
 // in X (1) i0 1
@@ -76,6 +76,24 @@ pub const INCREMENT_DESIGN: &str = "// alphav 1
 module array(input clk, input rst, input [7:0] i0, output [7:0] o0);
   wire [7:0] c0;
   assign c0 = i0 + 8'd1;
+  assign o0 = c0;
+endmodule
+";
+
+/// The array of the increment of three inputs of 8 bits.
+pub const INCREMENT_PLAN: &str = "// alphav 2
+// in X (0) i0 0
+// in X (1) i0 1
+// in X (2) i0 2
+// at Y (0) o0 0
+// at Y (1) o0 1
+// at Y (2) o0 2
+module k0(input [7:0] i0, output [7:0] v);
+  assign v = i0 + 8'd1;
+endmodule
+module array(input clk, input rst, input [7:0] i0, output [7:0] o0);
+  wire [7:0] c0;
+  k0 u0 (.i0(i0), .v(c0));
   assign o0 = c0;
 endmodule
 ";

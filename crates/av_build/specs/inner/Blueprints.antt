@@ -8,9 +8,8 @@ use Rattle.av_space.specs.declared.spots.Spot.{Spot as SpotMade}
 use Rattle.av_space.specs.Taps.{Handing}
 use Rattle.av_space.specs.Spots.{system_of, helpers_of, placings_of, cells_of, IsArray, AreSpots, AreSites, ComputesIn}
 use Rattle.av_kinds.specs.declared.counter.Counter.{Counter}
-use Rattle.av_kinds.specs.Counters.{IsCounter}
+use Rattle.av_kinds.specs.Counters.{IsCounter, number_count}
 use Rattle.av_history.specs.Performing.{Array, Lanes, Spot}
-use Rattle.av_history.specs.Problems.{number_count}
 use Rattle.av_build.specs.declared.blueprint.Blueprint.{Blueprint}
 use Rattle.av_build.specs.declared.blueprint.CellPlan.{CellPlan}
 use Rattle.av_build.specs.declared.blueprint.HelperPlan.{HelperPlan}

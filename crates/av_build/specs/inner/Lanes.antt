@@ -95,11 +95,16 @@ abbrev pub IsPlanOn : Blueprint → ℕ → Option HelperPlan → Type 0
 IsPlanOn b p None = p < length b.cells
 IsPlanOn b p (Some h) = HasPlan b p h
 
+-- the lane of a cell's value, with a mode for each piece on the cell, in their order
+pub record IsValueBuilt (b : Blueprint) (counter : Counter) (p : ℕ) (plan : CellPlan) (lane : Lane) : Type 0 where
+  pub is_lane : (c n : ℕ) (z : Point) (v : Variable) → ComputesIn b.array p c n z → slice_get (nodes (system_of b.array)) n ≡ Some v
+      → IsValueLane (seen b.array) (count_in counter) (lanes_of b.cells) plan.lanes.first p n v lane
+  pub one_each : length lane.modes ≡ length plan.pieces.spots
+  pub works : (k : ℕ) (mode : Mode) (at : SpotMade) → slice_get lane.modes k ≡ Some mode → slice_get plan.pieces.spots k ≡ Some at → IsValueWork b counter at mode.work
+
 -- the lane is what its plan says
 abbrev pub IsBuiltBy : Blueprint → Counter → ℕ → Option HelperPlan → Lane → Type 0
-IsBuiltBy b counter p None lane =
-    (plan : CellPlan) → slice_get b.cells p ≡ Some plan → (c n : ℕ) (z : Point) (v : Variable) → ComputesIn b.array p c n z → slice_get (nodes (system_of b.array)) n ≡ Some v
-    → IsValueLane (seen b.array) (count_in counter) (lanes_of b.cells) plan.lanes.first p n v lane
+IsBuiltBy b counter p None lane = (plan : CellPlan) → slice_get b.cells p ≡ Some plan → IsValueBuilt b counter p plan lane
 IsBuiltBy b counter p (Some h) lane =
     (helper : Helper) (v : Variable) (piece : Piece) (r : Reference) → IsHelper (seen b.array) h.number helper v piece r
     → IsHelperLane (seen b.array) (count_in counter) (lanes_of b.cells) (helper_spot (seen b.array) helper v piece p) h.number helper r lane

@@ -10,10 +10,11 @@ use Rattle.av_flat.specs.Signatures.{is_kind}
 use Rattle.av_flat.specs.Chained.{IsChained}
 use Rattle.av_names.specs.declared.size.Size.{Size}
 use Rattle.av_net.specs.declared.design.Design.{Design}
+use Rattle.av_net.specs.declared.plan.Plan.{Plan}
 use Rattle.av_net.specs.Clocked.{Run}
 use Rattle.av_net.specs.Designs.{IsSoundDesign}
 use Rattle.av_net.specs.Presented.{AreApart, HaveFittingWords}
-use Rattle.av_net.specs.Texts.{text}
+use Rattle.av_net.specs.PlanTexts.{text2}
 use Rattle.av_space.specs.declared.cells.Cells.{Cells}
 use Rattle.av_data.specs.declared.fault.DataFault.{DataFault}
 use Rattle.av_data.specs.Data.{SpellsInputs, IsInputFault}
@@ -69,17 +70,17 @@ pub record AreResultsOf (timed : Timed) (design : Design) (x : Assignment) (out 
   pub shown : AreShown design x words
   pub lines : out ≡ results (λ line. names_output (view_system timed.flat) line.variable) design.listing.ats words
 
-pub record IsTraceOf (cells : Cells) (design : Design) (x : Assignment) (out : List ℕ) : Type 0 where
+pub record IsTraceOf (cells : Cells) (plan : Plan) (design : Design) (x : Assignment) (out : List ℕ) : Type 0 where
   pub run : Run
   pub clocked : IsFedRun design x cells.cycles run
-  pub lines : out ≡ text design ++ codes "%%\n" ++ run_lines design.module run.in_cycle cells.cycles
+  pub lines : out ≡ text2 plan ++ codes "%%\n" ++ run_lines design.module run.in_cycle cells.cycles
 
-abbrev pub IsReport : Report → Timed → Cells → Design → Assignment → List ℕ → Type 0
-IsReport Results timed cells design x out = AreResultsOf timed design x out
-IsReport Trace timed cells design x out = IsTraceOf cells design x out
+abbrev pub IsReport : Report → Timed → Cells → Plan → Design → Assignment → List ℕ → Type 0
+IsReport Results timed cells plan design x out = AreResultsOf timed design x out
+IsReport Trace timed cells plan design x out = IsTraceOf cells plan design x out
 
-pub record GivesReported (report : Report) (timed : Timed) (cells : Cells) (design : Design) (bytes out : List ℕ) : Type 0 where
+pub record GivesReported (report : Report) (timed : Timed) (cells : Cells) (plan : Plan) (design : Design) (bytes out : List ℕ) : Type 0 where
   pub inputs : Assignment
   pub spelled : SpellsInputs (view_system timed.flat) bytes inputs
   pub are : AreInputs (view_system timed.flat) inputs
-  pub reports : IsReport report timed cells design inputs out
+  pub reports : IsReport report timed cells plan design inputs out

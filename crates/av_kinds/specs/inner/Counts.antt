@@ -1,5 +1,5 @@
 -- What the counter brings into the top module: after the last number of a period the phase is 0 again.
-use Rattle.std.specs.Prelude.{ℕ, ◌-◌, List, [], ◌∷◌, codes}
+use Rattle.std.specs.Prelude.{ℕ, ◌-◌, List, [], ◌∷◌}
 use Rattle.av_net.specs.declared.operation.Symbol.TheVariants.{Add, Equal}
 use Rattle.av_net.specs.declared.operation.Operand.{Operand}
 use Rattle.av_net.specs.declared.operation.Operand.TheVariants.{Name, Literal}
@@ -10,22 +10,12 @@ use Rattle.av_net.specs.declared.netlist.Drive.{Drive}
 use Rattle.av_net.specs.declared.netlist.Step.{Step}
 use Rattle.av_kinds.specs.declared.counter.Counter.{Counter}
 use Rattle.av_kinds.specs.declared.counter.Counter.TheVariants.{Cycles, Phases}
-use Rattle.av_kinds.specs.Counters.{counter_width, counter_name}
+use Rattle.av_kinds.specs.Counters.{counter_width, counter_name, next_name, last_name, sum_name}
 use Rattle.av_kinds.specs.Tops.{port, one_bit}
 
 -- a number that the counter is compared with, or raised by
 abbrev pub bound : ℕ → Operand
 bound n = Literal counter_width n
-
-abbrev pub next_name : Counter → List ℕ
-next_name Cycles = codes "cyc_next"
-next_name (Phases period) = codes "phase_next"
-
-abbrev pub last_name : List ℕ
-last_name = codes "phase_last"
-
-abbrev pub sum_name : List ℕ
-sum_name = codes "phase_sum"
 
 -- the sum, or 0 after the last number
 abbrev pub begun_again : Operation

@@ -1,4 +1,4 @@
-use Rattle.std.proofs.Common.{◌≡◌, ◌∙◌, ◌+◌, ◌++◌, List, sym, ap, subst}
+use Rattle.std.proofs.Common.{◌≡◌, ◌∙◌, ◌++◌, [], ◌∷◌, List, sym, ap, subst}
 use Rattle.av_base.proofs.Lists.{some_is}
 use Rattle.av_space.specs.declared.spots.Site.{Site}
 use Rattle.av_space.specs.Taps.{Handing}
@@ -19,13 +19,13 @@ loop-site-preserved c =
     let h = c.in-Some.handing in
     let number = ap (λ (h : Handing). h.number) c.handing.view_is in
     some_step c.args.piece c.loop-site.site c.loop-site.helpers (c.args.helpers.now ++ site_helpers c.args.piece 0 sites) c.push.new.self sites c.index-sites-site.result h c.loop-site-test.true c.in-Some.is c.loop-site.invariant
-    (c.in_ok-push.ensures.ok ∙ ap (λ j. c.loop-site.helpers ++ record { number = j; piece = c.args.piece; site = c.loop-site.site } ∷ []) (sym number))
+    (c.in_ok-push.ensures.ok ∙ ap (λ j. c.loop-site.helpers ++ record { number = j; piece = c.args.piece; site = c.loop-site.site } ∷ []) number)
 
 pub returns : goal.returns
 returns c = λ own is.
     let sites = c.as_slice-sites.result.now in
     let pieces = c.args.pieces.now in
-    let here = element_of pieces.sites c.as_slice.result.now c.args.piece c.index-as_slice-piece.result c.index-as_slice-piece.result c.as_slice.ensures c.requires.clause c.index-as_slice-piece.is in
+    let here = element_of pieces.sites c.as_slice.result.now c.args.piece c.index-as_slice-piece.result c.index-as_slice-piece.result c.as_slice.ensures c.requires c.index-as_slice-piece.is in
     let same : sites ≡ own = c.as_slice-sites.ensures ∙ some_is c.index-as_slice-piece.result own (sym here ∙ is) in
     subst (λ (l : List Site). c.loop-site.helpers ≡ c.args.helpers.now ++ site_helpers c.args.piece 0 l) same
     (last_step c.args.piece c.loop-site.site c.loop-site.helpers (c.args.helpers.now ++ site_helpers c.args.piece 0 sites) sites c.loop-site-test.false c.loop-site.invariant)

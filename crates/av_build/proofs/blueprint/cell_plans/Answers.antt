@@ -1,10 +1,13 @@
-use Rattle.std.proofs.Common.{sym, subst}
+use Rattle.std.proofs.Common.{List, [], sym, subst}
+use Rattle.av_build.specs.declared.blueprint.CellPlan.{CellPlan}
 use Rattle.av_build.specs.inner.Blueprints.{AreCellPlans}
 use Rattle.av_build.proofs.BlueprintSteps.{no_cells, cell_step}
 use Rattle.av_build.proofs.blueprint.cell_plans.Goals as goal
 
-pub loop-cell-starts : goal.loop-cell-starts
-loop-cell-starts c = subst (AreCellPlans c.args.array.now 0 []) (sym c.requires.none) (no_cells c.args.array.now)
+pub loop-cell-init : goal.loop-cell-init
+loop-cell-init c =
+    subst (λ (cells : List CellPlan). AreCellPlans c.args.array.now 0 cells c.args.lanes.now) (sym c.new-cells.ensures)
+    (subst (AreCellPlans c.args.array.now 0 []) (sym c.requires.none) (no_cells c.args.array.now))
 
 pub loop-cell-preserved : goal.loop-cell-preserved
 loop-cell-preserved c =

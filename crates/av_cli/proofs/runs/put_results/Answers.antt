@@ -13,10 +13,10 @@ write_results-requires g c =
 pub returns-in-Ok-write_results : goal.returns-in-Ok-write_results
 returns-in-Ok-write_results g c =
     let compiled = c.args.compiled.now in
-    results_put compiled.timed compiled.cells compiled.design (words_of c.args.inputs.now) c.in-Ok.words c.as_slice.result.now c.as_slice-lines.result.now c.as_slice-lines.ensures c.as_slice.ensures c.in-Ok.ensures c.in-Ok-write_results.ensures.added
+    results_put compiled.timed compiled.cells compiled.plan compiled.design (words_of c.args.inputs.now) c.in-Ok.words c.as_slice.result.now c.as_slice-lines.result.now c.as_slice-lines.ensures c.as_slice.ensures c.in-Ok.ensures c.in-Ok-write_results.ensures.added
 
 pub returns : goal.returns
 returns g c =
     let compiled = c.args.compiled.now in
-    results_failed compiled.timed compiled.cells compiled.design (words_of c.args.inputs.now) c.in-Ok.words c.as_slice.result.now c.as_slice-lines.result.now c.as_slice-lines.ensures c.as_slice.ensures c.in-Ok.ensures
+    results_failed compiled.timed compiled.cells compiled.plan compiled.design (words_of c.args.inputs.now) c.in-Ok.words c.as_slice.result.now c.as_slice-lines.result.now c.as_slice-lines.ensures c.as_slice.ensures c.in-Ok.ensures
     (c.in-Err-write_results.ensures.fault refl) c.in-Err-write_results.ensures.front

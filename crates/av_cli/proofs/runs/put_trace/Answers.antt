@@ -15,10 +15,10 @@ write_trace-requires-clause-left g c =
 pub returns-in-Ok-write_trace : goal.returns-in-Ok-write_trace
 returns-in-Ok-write_trace g c =
     let compiled = c.args.compiled.now in
-    trace_put compiled.timed compiled.cells compiled.design (words_of c.args.inputs.now) c.in-Ok.stimulus c.requires.clockable.sound.sound c.in-Ok.ensures.values c.in-Ok.ensures.cycles c.in-Ok-write_trace.ensures.added
+    trace_put compiled.timed compiled.cells compiled.plan compiled.design (words_of c.args.inputs.now) c.in-Ok.stimulus c.requires.clockable.sound.sound c.in-Ok.ensures.values c.in-Ok.ensures.cycles c.in-Ok-write_trace.ensures.added
 
 pub returns : goal.returns
 returns g c =
     let compiled = c.args.compiled.now in
-    trace_failed compiled.timed compiled.cells compiled.design (words_of c.args.inputs.now) c.in-Ok.stimulus c.requires.clockable.sound.sound c.in-Ok.ensures.values c.in-Ok.ensures.cycles
+    trace_failed compiled.timed compiled.cells compiled.plan compiled.design (words_of c.args.inputs.now) c.in-Ok.stimulus c.requires.clockable.sound.sound c.in-Ok.ensures.values c.in-Ok.ensures.cycles
     (c.in-Err-write_trace.ensures.fault refl) c.in-Err-write_trace.ensures.front

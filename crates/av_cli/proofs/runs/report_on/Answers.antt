@@ -8,7 +8,7 @@ use Rattle.av_cli.proofs.runs.report_on.Goals as goal
 pub returns-in-Err : goal.returns-in-Err
 returns-in-Err g c =
     let compiled = c.args.compiled.now in
-    data_refused compiled.timed c.args.first_line c.args.bytes.now (GivesReported c.args.report compiled.timed compiled.cells compiled.design c.args.bytes.now) c.in-Err.fault (c.in-Err.ensures.fault c.in-Err.fault refl)
+    data_refused compiled.timed c.args.first_line c.args.bytes.now (GivesReported c.args.report compiled.timed compiled.cells compiled.plan compiled.design c.args.bytes.now) c.in-Err.fault (c.in-Err.ensures.fault c.in-Err.fault refl)
     c.put_data_refusal.ensures.memory c.put_data_refusal.ensures.refused
 
 pub returns-in-Results : goal.returns-in-Results
@@ -19,7 +19,7 @@ returns-in-Results g c =
       inputs = x;
       spelled = c.in-Ok.ensures.found;
       are = c.in-Ok.ensures.inputs;
-      reports = subst (λ (r : Report). IsReport r compiled.timed compiled.cells compiled.design x out) (sym c.in-Results.is) told;
+      reports = subst (λ (r : Report). IsReport r compiled.timed compiled.cells compiled.plan compiled.design x out) (sym c.in-Results.is) told;
     }) c.put_results.ensures
 
 pub returns : goal.returns
@@ -30,5 +30,5 @@ returns g c =
       inputs = x;
       spelled = c.in-Ok.ensures.found;
       are = c.in-Ok.ensures.inputs;
-      reports = subst (λ (r : Report). IsReport r compiled.timed compiled.cells compiled.design x out) (sym c.in-Trace.is) told;
+      reports = subst (λ (r : Report). IsReport r compiled.timed compiled.cells compiled.plan compiled.design x out) (sym c.in-Trace.is) told;
     }) c.put_trace.ensures

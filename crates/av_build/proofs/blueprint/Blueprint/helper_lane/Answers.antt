@@ -1,4 +1,4 @@
-use Rattle.std.proofs.Common.{◌≡◌, ◌∙◌, ℕ, List, length, sym, ap, arith, inl, inr}
+use Rattle.std.proofs.Common.{◌≡◌, ◌∙◌, ℕ, List, length, get_or, refl, sym, ap, arith, inl, inr, None}
 use Rattle.std.specs.Prelude.{slice_get}
 use Rattle.std.proofs.lemmas.Bool.{cases_lt}
 use Rattle.av_base.proofs.Lists.{some_is}
@@ -7,8 +7,41 @@ use Rattle.av_build.specs.declared.blueprint.CellPlan.{CellPlan}
 use Rattle.av_build.specs.declared.blueprint.LanePlan.{LanePlan}
 use Rattle.av_build.specs.inner.Blueprints.{is_of_helper}
 use Rattle.av_build.proofs.Pairwise.{element_of}
-use Rattle.av_build.proofs.HelperSearch.{found_below, first_found}
+use Rattle.av_build.proofs.HelperSearch.{value_there, found_below, first_found}
 use Rattle.av_build.proofs.blueprint.Blueprint.helper_lane.Goals as goal
+
+abbrev none : LanePlan
+none = record { cell = 0; helper = None }
+
+pub loop-number-init : goal.loop-number-init
+loop-number-init c = λ q lane le lt is_lane. absurd (omega (arith, le, lt))
+
+pub offset_bounds-lanes-number : goal.offset_bounds-lanes-number
+offset_bounds-lanes-number c =
+    let b = c.args.self.now in
+    let has = c.requires.helper in
+    let plan = c.index-as_slice-cell.result in
+    let low = in_range b.cells c.args.cell has.plan has.is_plan in
+    let is = element_of b.cells c.as_slice.result.now c.args.cell plan plan c.as_slice.ensures low c.index-as_slice-cell.is in
+    let value = ap (λ (x : CellPlan). x.lanes.value) (sym c.index-as_slice-cell.is ∙ some_is plan has.plan (sym is ∙ has.is_plan)) in
+    let there = value_there b c.requires.blueprint c.args.cell c.args.helper has in
+    let many = ap (λ (l : List LanePlan). length l) c.as_slice-lanes.ensures in
+    let high = c.loop-number-test.true in
+    let size = c.as_slice-lanes.type_inv.1 in
+    omega (arith, high, value, there, many, size)
+
+pub bounds-lanes-number : goal.bounds-lanes-number
+bounds-lanes-number c =
+    let b = c.args.self.now in
+    let has = c.requires.helper in
+    let plan = c.index-as_slice-cell.result in
+    let low = in_range b.cells c.args.cell has.plan has.is_plan in
+    let is = element_of b.cells c.as_slice.result.now c.args.cell plan plan c.as_slice.ensures low c.index-as_slice-cell.is in
+    let value = ap (λ (x : CellPlan). x.lanes.value) (sym c.index-as_slice-cell.is ∙ some_is plan has.plan (sym is ∙ has.is_plan)) in
+    let there = value_there b c.requires.blueprint c.args.cell c.args.helper has in
+    let many = ap (λ (l : List LanePlan). length l) c.as_slice-lanes.ensures in
+    let high = c.loop-number-test.true in
+    omega (arith, high, value, there, many)
 
 -- the plan of the cell is that of the helper
 pub unreachable-requires : goal.unreachable-requires
@@ -18,7 +51,7 @@ unreachable-requires c =
     let plan = c.index-as_slice-cell.result in
     let low = in_range b.cells c.args.cell has.plan has.is_plan in
     let is = element_of b.cells c.as_slice.result.now c.args.cell plan plan c.as_slice.ensures low c.index-as_slice-cell.is in
-    let same : plan ≡ has.plan = some_is plan has.plan (sym is ∙ has.is_plan) in
+    let same = sym c.index-as_slice-cell.is ∙ some_is plan has.plan (sym is ∙ has.is_plan) in
     let end = c.loop-number-test.false in
     let value = ap (λ (x : CellPlan). x.lanes.value) same in
     let first = ap (λ (x : CellPlan). x.lanes.first) same in
@@ -31,16 +64,15 @@ returns-then-is_helper c =
     let plan = c.index-as_slice-cell.result in
     let low = in_range b.cells c.args.cell has.plan has.is_plan in
     let is = element_of b.cells c.as_slice.result.now c.args.cell plan plan c.as_slice.ensures low c.index-as_slice-cell.is in
-    let same : plan ≡ has.plan = some_is plan has.plan (sym is ∙ has.is_plan) in
+    let same = sym c.index-as_slice-cell.is ∙ some_is plan has.plan (sym is ∙ has.is_plan) in
     let value = ap (λ (x : CellPlan). x.lanes.value) same in
     let first = ap (λ (x : CellPlan). x.lanes.first) same in
     let n = c.loop-number.number in
-    let lane = c.index-lanes-number.result in
     let from = c.loop-number.auto.number in
     let high = c.loop-number-test.true in
-    let in_lanes = c.index-lanes-number.bounds in
-    let many = ap (λ (l : List LanePlan). length l) c.as_slice-lanes.ensures in
-    let is_lane = element_of b.lanes c.as_slice-lanes.result.now n lane lane c.as_slice-lanes.ensures (omega (arith, in_lanes, many)) c.index-lanes-number.is in
+    let there = value_there b c.requires.blueprint c.args.cell c.args.helper has in
+    let lane = get_or c.as_slice-lanes.result.now n none in
+    let is_lane = element_of b.lanes c.as_slice-lanes.result.now n none lane c.as_slice-lanes.ensures (omega (arith, high, value, there)) refl in
     first_found b c.requires.blueprint c.args.cell c.args.helper has n lane (omega (arith, from, first)) (omega (arith, high, value)) is_lane (sym c.if-is_helper.ensures)
     (λ q other le lt is_other. c.loop-number.invariant q other (omega (arith, le, first)) lt is_other)
 
@@ -48,13 +80,13 @@ pub loop-number-preserved : goal.loop-number-preserved
 loop-number-preserved c = λ q lane le lt is_lane.
     let b = c.args.self.now in
     let n = c.loop-number.number in
-    let own = c.index-lanes-number.result in
+    let own = get_or c.as_slice-lanes.result.now n none in
     elim (cases_lt q n) [
       | inl l ↦ c.loop-number.invariant q lane le l is_lane
       | inr ge ↦ (
           let e : q ≡ n = omega (arith, lt, ge) in
           let r = in_range b.lanes q lane is_lane in
-          let is = element_of b.lanes c.as_slice-lanes.result.now n own own c.as_slice-lanes.ensures (omega (arith, r, e)) c.index-lanes-number.is in
+          let is = element_of b.lanes c.as_slice-lanes.result.now n none own c.as_slice-lanes.ensures (omega (arith, r, e)) refl in
           let same : own ≡ lane = some_is own lane (sym is ∙ ap (λ (k : ℕ). slice_get b.lanes k) (sym e) ∙ is_lane) in
           ap (λ (x : LanePlan). is_of_helper x c.args.helper) (sym same) ∙ sym c.if-is_helper.ensures)
     ]

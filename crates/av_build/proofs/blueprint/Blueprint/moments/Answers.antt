@@ -1,4 +1,4 @@
-use Rattle.std.proofs.Common.{◌+◌, refl, sym, subst, get_or}
+use Rattle.std.proofs.Common.{◌+◌, ℕ, refl, sym, subst, arith, get_or}
 use Rattle.std.proofs.lemmas.Option.{slice_get-get_or}
 use Rattle.av_flat.specs.Trees.{view}
 use Rattle.av_kinds.specs.Counters.{count_in}
@@ -21,8 +21,17 @@ loop-k-preserved c =
     let is_place = slice_get-get_or c.args.order.now n 0 c.loop-k-test.true in
     let slot = c.index-slots-k.result in
     let low = c.requires.order.within n place is_place in
-    let is_slot = element_of spot.slots c.as_slice.result.now place slot slot c.as_slice.ensures low c.index-slots-k.is in
+    let is_slot = element_of spot.slots c.as_slice-slots.result.now place slot slot c.as_slice-slots.ensures low c.index-slots-k.is in
     let source = plain_source b.array (lanes_of b.cells) spot site c.requires.site slot c.requires.spot c.requires.plain (view site.place.tree) refl c.own_source.result c.own_source.ensures in
     subst (AreMomentsTo (count_in c.args.counter) spot.slots c.args.order.now Always (λ z d source. IsPlaceSource (seen b.array) (lanes_of b.cells) (spot_of spot) z d site.place.site (view site.place.tree) source) (n + 1)) (sym c.in_ok-push.ensures.ok)
     (one_more (count_in c.args.counter) spot.slots c.args.order.now Always (λ z d source. IsPlaceSource (seen b.array) (lanes_of b.cells) (spot_of spot) z d site.place.site (view site.place.tree) source) n c.loop-k.moments c.loop-k.invariant slot
     (record { place = place; is_place = is_place; is_slot = is_slot }) c.requires.order tt (record { number = c.number.result; source = c.own_source.result }) c.number.ensures source)
+
+pub returns : goal.returns
+returns c =
+    let b = c.args.self.now in
+    let spot = c.args.spot.now in
+    let site = c.args.site.now in
+    let test = c.loop-k-test.false in
+    let end = c.loop-k.auto.k-index-end in
+    subst (λ (n : ℕ). AreMomentsTo (count_in c.args.counter) spot.slots c.args.order.now Always (λ z d source. IsPlaceSource (seen b.array) (lanes_of b.cells) (spot_of spot) z d site.place.site (view site.place.tree) source) n c.loop-k.moments) (omega (arith, test, end)) c.loop-k.invariant

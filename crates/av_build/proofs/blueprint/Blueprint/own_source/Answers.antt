@@ -10,13 +10,13 @@ use Rattle.av_build.proofs.OriginCells.{value_in}
 use Rattle.av_build.proofs.PlaceSources.{own_source}
 use Rattle.av_build.proofs.blueprint.Blueprint.own_source.Goals as goal
 
-pub value_lane-requires-clause : goal.value_lane-requires-clause
-value_lane-requires-clause c =
+pub value_lane-requires : goal.value_lane-requires
+value_lane-requires c =
     let p = place_of c.args.site.now.place in
     let h = c.args.site.now.handing in
     let tree = view c.args.site.now.place.tree in
     let low = value_in c.args.self.now.array c.requires.blueprint.array c.args.spot.now c.args.slot.now p h c.in-Value.cell c.in-Value.delay tree
-        (subst (λ (o : Origin). IsOriginBy c.args.self.now.array c.args.spot.now c.args.slot.now p h tree o) c.in-Value.is c.origin.ensures) in
+    (subst (λ (o : Origin). IsOriginBy c.args.self.now.array c.args.spot.now c.args.slot.now p h tree o) c.in-Value.is c.origin.ensures) in
     let many = c.requires.blueprint.plans.one_each in
     omega (arith, low, many)
 

@@ -7,9 +7,9 @@ use Rattle.av_net.specs.declared.operation.Operation.{Operation}
 use Rattle.av_net.specs.declared.operation.Operation.TheVariants.{Binary}
 use Rattle.av_kinds.specs.declared.counter.Counter.{Counter}
 use Rattle.av_kinds.specs.declared.counter.Counter.TheVariants.{Phases}
-use Rattle.av_kinds.specs.Counters.{counter_width, counter_name}
+use Rattle.av_kinds.specs.Counters.{counter_width, counter_name, next_name, last_name, sum_name}
 use Rattle.av_kinds.specs.Tops.{port, one_bit}
-use Rattle.av_kinds.specs.inner.Counts.{bound, next_name, last_name, sum_name, begun_again}
+use Rattle.av_kinds.specs.inner.Counts.{bound, begun_again}
 use Rattle.av_kinds.proofs.Placing.{drive_of}
 use Rattle.av_kinds.proofs.TopSteps.{three_put}
 use Rattle.av_kinds.proofs.counter.Counter.add_parts.Goals as goal

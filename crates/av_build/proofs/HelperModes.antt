@@ -1,0 +1,155 @@
+-- The lane of a helper on a cell, from its place in the blueprint.
+use Rattle.std.proofs.Common.{◌≡◌, ℕ, suc, ◌<◌, List, [], ◌∷◌, length, refl, sym, ap, ap₂, subst, ◌∙◌, Some, None}
+use Rattle.std.specs.Prelude.{slice_get}
+use Rattle.av_base.specs.declared.width.Width.{Width}
+use Rattle.av_base.proofs.Lists.{some_is}
+use Rattle.av_flat.specs.Trees.{Tree, Variable, FlatSystem, view, view_variable, reference}
+use Rattle.av_space.specs.declared.array.Array.{Array as ArrayMade}
+use Rattle.av_space.specs.declared.spots.Spot.{Spot as SpotMade}
+use Rattle.av_space.specs.Links.{line_length}
+use Rattle.av_space.specs.Spots.{system_of, helpers_of, cells_of}
+use Rattle.av_space.proofs.Elements.{in_range}
+use Rattle.av_kinds.specs.declared.counter.Counter.{Counter}
+use Rattle.av_kinds.specs.declared.program.Inlet.{Inlet}
+use Rattle.av_kinds.specs.declared.program.Inlet.TheVariants.{Taps}
+use Rattle.av_kinds.specs.declared.program.Site.{Site}
+use Rattle.av_kinds.specs.Counters.{count_in}
+use Rattle.av_kinds.specs.Programs.{Mode, Lane}
+use Rattle.av_history.specs.Performing.{helper_spot}
+use Rattle.av_history.specs.Widths.{read_width}
+use Rattle.av_build.specs.declared.blueprint.Blueprint.{Blueprint}
+use Rattle.av_build.specs.declared.blueprint.HelperPlan.{HelperPlan}
+use Rattle.av_build.specs.declared.moments.HandMoments.{HandMoments}
+use Rattle.av_build.specs.inner.Blueprints.{seen, spot_of, lanes_of, ArePieces, IsBlueprint, IsCounted}
+use Rattle.av_build.specs.inner.Intervals.{intervals_by}
+use Rattle.av_build.specs.inner.Lanes.{HasPlan, AreHelperModes, IsHelperOn, IsBuiltBy}
+use Rattle.av_build.specs.inner.Moments.{site_by}
+use Rattle.av_build.specs.inner.Orders.{IsInOrder}
+use Rattle.av_build.specs.inner.Programmed.{inlet_by, one_site, IsHelperLane}
+use Rattle.av_build.specs.inner.Sources.{AreHandMomentsTo}
+use Rattle.av_build.proofs.HandModes.{hand_lane}
+use Rattle.av_build.proofs.HelperPlaces.{IsHelped, helped, spot_at, variable_is, tree_is, moments_are, slots_are}
+use Rattle.av_build.proofs.HelpersOn.{IsFromPlace, place_of_helper}
+use Rattle.av_build.proofs.SeenArray.{one_seen}
+
+-- ---- a helper of a piece, as one of a place of its cell
+
+module _ (b : Blueprint) (is : IsBlueprint b) (at : SpotMade) (h : HelperPlan) (on : IsHelperOn b at h) where
+  pub from_place : IsFromPlace on.spot_on.plan.pieces h
+  from_place = record {
+    sites = on.sites;
+    are_sites = subst (λ (k : ℕ). slice_get on.spot_on.plan.pieces.sites k ≡ Some on.sites) (sym on.piece_is) on.spot_on.are_sites;
+    site = on.place;
+    is_site = on.is_place;
+    handing = on.handing;
+    is_handing = on.is_handing;
+    number = on.number;
+  }
+
+  pub pieces_there : ArePieces b.array at.cell on.spot_on.plan.pieces
+  pieces_there = is.plans.pieces at.cell on.spot_on.plan on.spot_on.is_plan
+
+  pub helped_there : IsHelped b.array is.array at.cell on.spot_on.plan.pieces pieces_there h at on.place on.handing
+  unfolding from_place
+  helped_there =
+      let x = helped b.array is.array at.cell on.spot_on.plan.pieces pieces_there h from_place in
+      let e : slice_get on.spot_on.plan.pieces.spots h.piece ≡ Some at = ap (λ (k : ℕ). slice_get on.spot_on.plan.pieces.spots k) on.piece_is ∙ on.spot_on.is_spot in
+      subst (λ (y : SpotMade). IsHelped b.array is.array at.cell on.spot_on.plan.pieces pieces_there h y on.place on.handing) (some_is x.0 at (sym x.1.is_spot ∙ e)) x.1
+
+  -- ---- its modes
+
+  module _ (counter : Counter) (counted : IsCounted b.array counter) (order : List ℕ) (in_order : IsInOrder (count_in counter) at.slots order) (found : HandMoments)
+      (are : AreHandMomentsTo (seen b.array) (count_in counter) (lanes_of b.cells) (spot_of at) on.place.place.site on.handing (view on.place.place.tree) at.slots order (length order) found)
+      (entries : Site) (entries_are : entries ≡ site_by (inlet_by (system_of b.array) (λ j. j) None (view on.place.place.tree)) entries.width found.entries)
+      (entry_bits : entries.width.bits ≡ read_width (system_of b.array) (view_variable at.var.now).width None (view on.place.place.tree))
+      (width : Width) (own_bits : width.bits ≡ (view_variable at.var.now).width) (own : Site) (own_is : own ≡ site_by Taps width found.own) where
+    abbrev w : ArrayMade
+    w = b.array
+
+    abbrev s : FlatSystem
+    s = system_of w
+
+    abbrev tree : Tree
+    tree = view on.place.place.tree
+
+    abbrev entry_mode : Mode
+    entry_mode = record { intervals = intervals_by found.entry_marks; work = one_site entries tree }
+
+    abbrev own_mode : Mode
+    own_mode = record { intervals = intervals_by found.own_marks; work = one_site own tree }
+
+    abbrev mode_by : Inlet → Tree → Mode
+    mode_by inlet t = record { intervals = intervals_by found.entry_marks; work = one_site (site_by inlet entries.width found.entries) t }
+
+    pub helper_modes : AreHelperModes b counter at h (entry_mode ∷ own_mode ∷ [])
+    unfolding from_place
+    helper_modes = λ lane frame modes helper v piece r it.
+        let pieces = on.spot_on.plan.pieces in
+        let there = pieces_there in
+        let x = helped_there in
+        let variable : view_variable at.var.now ≡ v = variable_is w is.array at.cell pieces there h from_place at x helper v piece r it in
+        let wide = ap (λ (u : Variable). u.width) variable in
+        let read : tree ≡ reference r.place r.map = tree_is w is.array at.cell pieces there h from_place at x helper v piece r it in
+        let first : entry_mode ≡ mode_by (inlet_by s (λ j. j) None (reference r.place r.map)) (reference r.place r.map) =
+        ap (λ (y : Site). record { intervals = intervals_by found.entry_marks; work = one_site y tree }) entries_are ∙ ap (λ (t : Tree). mode_by (inlet_by s (λ j. j) None t) t) read in
+        let second : own_mode ≡ record { intervals = intervals_by found.own_marks; work = one_site (site_by Taps width found.own) (reference r.place r.map) } =
+        ap₂ (λ (y : Site) (t : Tree). record { intervals = intervals_by found.own_marks; work = one_site y t }) own_is read in
+        hand_lane (seen w) counter (lanes_of b.cells) (helper_spot (seen w) helper v piece at.cell) h.number helper r
+        (λ c d m n y z. counted.within at.cell c d m n y z) (λ c m n y z. one_seen w is.array at.cell c m n y z)
+        at.slots (slots_are w is.array at.cell pieces there h from_place at x helper v piece r it) order in_order
+        found (moments_are w is.array at.cell pieces there h from_place at x helper v piece r it (count_in counter) (lanes_of b.cells) order found are)
+        entries.width width (entry_bits ∙ ap (λ (t : Tree). read_width s (view_variable at.var.now).width None t) read) (own_bits ∙ wide)
+        lane frame.home frame.rank (frame.width ∙ wide) (modes ∙ ap₂ (λ (m n : Mode). m ∷ n ∷ []) first second) frame.size
+
+-- ---- a helper that has a lane
+
+module _ (b : Blueprint) (is : IsBlueprint b) (p : ℕ) (h : HelperPlan) (has : HasPlan b p h) where
+  from : IsFromPlace has.plan.pieces h
+  from = place_of_helper has.plan.pieces has.index h has.is_helper
+
+  pieces_of : ArePieces b.array p has.plan.pieces
+  pieces_of = is.plans.pieces p has.plan has.is_plan
+
+  -- the piece of its place
+  pub record IsPlanned (at : SpotMade) : Type 0 where
+    pub cell : at.cell ≡ p
+    pub on : IsHelperOn b at h
+    pub few : h.number < length (helpers_of b.array)
+
+  pub planned : (at : SpotMade) → slice_get has.plan.pieces.spots h.piece ≡ Some at → IsPlanned at
+  planned at e =
+      let there = spot_at b.array is.array p has.plan.pieces pieces_of h.piece at e in
+      let x = helped b.array is.array p has.plan.pieces pieces_of h from in
+      record {
+        cell = there.0;
+        on = record {
+          sites = from.sites;
+          spot_on = record { plan = has.plan; is_plan = ap (λ (k : ℕ). slice_get b.cells k) there.0 ∙ has.is_plan; number = h.piece; is_spot = e; are_sites = from.are_sites };
+          piece_is = refl;
+          place = from.site;
+          is_place = from.is_site;
+          handing = from.handing;
+          is_handing = from.is_handing;
+          number = from.number;
+        };
+        few = in_range (helpers_of b.array) h.number x.1.helper x.1.helps.is_helper;
+      }
+
+  pub piece_there : h.piece < length has.plan.pieces.spots
+  piece_there =
+      let x = helped b.array is.array p has.plan.pieces pieces_of h from in
+      in_range has.plan.pieces.spots h.piece x.0 x.1.is_spot
+
+  -- the lane of its modes is what its plan says
+  pub lane_built : (counter : Counter) (at : SpotMade) → slice_get has.plan.pieces.spots h.piece ≡ Some at → (modes : List Mode) → AreHelperModes b counter at h modes
+      → (lane : Lane) → lane.home ≡ p → lane.rank ≡ suc h.number → lane.width.bits ≡ (view_variable at.var.now).width → lane.modes ≡ modes
+      → lane.length ≡ line_length (system_of b.array) (helpers_of b.array) (cells_of b.array) b.array.cells.now.links p (Some h.number) → IsBuiltBy b counter p (Some h) lane
+  lane_built counter at e modes made lane home rank width are size = λ helper v piece r it.
+      let cell = (planned at e).cell in
+      subst (λ (q : ℕ). IsHelperLane (seen b.array) (count_in counter) (lanes_of b.cells) (helper_spot (seen b.array) helper v piece q) h.number helper r lane) cell
+      (made lane (record {
+        home = home ∙ sym cell;
+        rank = rank;
+        width = width;
+        size = size ∙ ap (λ (q : ℕ). line_length (system_of b.array) (helpers_of b.array) (cells_of b.array) b.array.cells.now.links q (Some h.number)) (sym cell);
+      }) are helper v piece r it)
