@@ -34,7 +34,7 @@ use Rattle.av_space.proofs.WholeListing.{input_once, output_once, no_output}
 use Rattle.av_kinds.specs.declared.counter.Counter.{Counter}
 use Rattle.av_kinds.specs.declared.counter.Counter.TheVariants.{Cycles}
 use Rattle.av_kinds.specs.declared.planning.Modules.{Modules}
-use Rattle.av_kinds.specs.Counters.{count_in, number_count}
+use Rattle.av_kinds.specs.Counters.{number_count}
 use Rattle.av_kinds.specs.Programs.{Lane, Program}
 use Rattle.av_kinds.specs.Tops.{port, numbered_ports, width_in, output_widths}
 use Rattle.av_kinds.specs.Netlists.{plan_of, AreNetlistsOf}

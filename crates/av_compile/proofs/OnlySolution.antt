@@ -1,6 +1,6 @@
 -- A text whose system has a schedule has one solution for all words of its inputs: they are inputs of the flat system, of its normal
 -- form and of the chained system, and the one solution of that is the text's.
-use Rattle.std.proofs.Common.{◌≡◌, ℕ, ◌<◌, ◌≤◌, List, length, sym, ap, subst, ◌∙◌}
+use Rattle.std.proofs.Common.{◌≡◌, ℕ, ◌<◌, ◌≤◌, List, length, ap, subst, ◌∙◌}
 use Rattle.av_parse.proofs.Parsed.{one_text}
 use Rattle.av_tree.specs.Trees.{System}
 use Rattle.av_tree.specs.Values.{Assignment}
