@@ -375,7 +375,8 @@ module _ (a : Array) (g : IsArranged a) (lanes : Lanes) (start : ℕ) where
               (k_is, ap (λ (x : Piece). x.tree) x_is ∙ sym done.2.tree);
           wide = done.2.width;
           brought = subst (λ (t : Tree). EachPlace (λ k i t. Brings k i t × Wide k i t × Picks k i t) 0 0 t) (sym done.2.tree)
-              (place_both Brings (λ k i t. Wide k i t × Picks k i t) 0 0 piece.tree brought (place_both Wide Picks 0 0 piece.tree wide (g.widths v number piece among some.2)));
+              (place_weaker (λ k i t. Brings k i t × (Wide k i t × Picks k i t)) (λ k i t. Brings k i t × Wide k i t × Picks k i t) (λ k i t x. (x.0, x.1.0, x.1.1)) 0 0 piece.tree
+              (place_both Brings (λ k i t. Wide k i t × Picks k i t) 0 0 piece.tree brought (place_both Wide Picks 0 0 piece.tree wide (g.widths v number piece among some.2))));
         }
 
     -- a word of a helper
