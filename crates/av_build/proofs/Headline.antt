@@ -100,7 +100,7 @@ module _ (t : Timed) (a : Cells) (legal : IsLegal t) (counter : Counter) (progra
   own = view_system t.flat
 
   -- the port of an input line is as wide as the variable that is read there
-  input_line : (i k : ℕ) (line : Entry) (w : Width) → slice_get a.listing.ins i ≡ Some line → slice_get program.inputs k ≡ Some w → line.wire ≡ input_name k → HasWidthOf own line.variable w.bits
+  pub input_line : (i k : ℕ) (line : Entry) (w : Width) → slice_get a.listing.ins i ≡ Some line → slice_get program.inputs k ≡ Some w → line.wire ≡ input_name k → HasWidthOf own line.variable w.bits
   input_line i k line w is there wire =
       let array = g.whole.list in
       let b = from_map (λ (l : InLine). l.entry) array.ins.lines i line (sym (ap (λ (es : List Entry). slice_get es i) array.ins.entries) ∙ is) in
@@ -132,14 +132,14 @@ module _ (t : Timed) (a : Cells) (legal : IsLegal t) (counter : Counter) (progra
       let plain = helped (view_system t.flat) x u (λ j z. None) solves in
       shows (array_of t a g.whole.list.placings) counter g.lanes a.outputs a.listing program m given k x u _ (with_helpers (view_system t.flat) t.times legal.chained legal.schedule x u (λ j z. None) plain t.helpers hs)
 
-  outputs_many : length (output_widths program) ≡ length a.outputs
+  pub outputs_many : length (output_widths program) ≡ length a.outputs
   outputs_many = length-map program.outputs (λ q. width_in (slice_get program.lanes q)) ∙ ap (λ (l : List ℕ). length l) g.outputs_are ∙ length-map a.outputs g.lanes.of_value
 
   few_outputs : length a.outputs < 2 ^ 32
   few_outputs = (let few = g.is_program.outputs_few in let size = ap (λ (l : List ℕ). length l) g.outputs_are ∙ length-map a.outputs g.lanes.of_value in omega (arith, few, size))
 
   -- and that of an output's line as wide as the variable of its cell
-  output_line : (i k : ℕ) (line : Entry) (w : Width) → slice_get a.listing.ats i ≡ Some line → slice_get (output_widths program) k ≡ Some w → line.wire ≡ output_name k → HasWidthOf own line.variable w.bits
+  pub output_line : (i k : ℕ) (line : Entry) (w : Width) → slice_get a.listing.ats i ≡ Some line → slice_get (output_widths program) k ≡ Some w → line.wire ≡ output_name k → HasWidthOf own line.variable w.bits
   output_line i k line w is there wire =
       let array = g.whole.list in
       let b = from_map (λ (l : AtLine). l.entry) array.ats.lines i line (sym (ap (λ (es : List Entry). slice_get es i) array.ats.entries) ∙ is) in
