@@ -6,7 +6,8 @@ ghost use Rattle.av_flat.specs.Trees.{view_system, view_variable};
 ghost use Rattle.av_net.specs.Clocked.{Stream as Ports, Run as Clocked, IsRun};
 ghost use Rattle.av_net.specs.Designs.{IsSoundPlan};
 ghost use Rattle.av_net.specs.PlanTexts.{text2};
-ghost use Rattle.av_data.specs.Inputs.{words_of, AreInputsOf};
+ghost use Rattle.av_data.specs.Inputs.{words_of};
+ghost use Rattle.av_flat.specs.OneSolution.{AreInputs};
 ghost use Rattle.av_wave.specs.Clocking.{AreLeft};
 ghost use Rattle.av_cli.specs.inner.Clocking.{IsPrepared};
 ghost use Rattle.av_cli.specs.Runs.{results};
@@ -97,7 +98,7 @@ fn report_on<K: Sink>(
 // Adds a line for each point of an output.
 fn put_results<K: Sink>(alloc: Global, compiled: &Compiled, inputs: &Inputs, sink: &mut K) -> Status
     requires clockable { IsClockable compiled.now.timed compiled.now.design }
-    requires inputs { AreInputsOf (view_system compiled.now.timed.flat) (words_of inputs.now) }
+    requires inputs { AreInputs (view_system compiled.now.timed.flat) (words_of inputs.now) }
     ensures { PutsOneOf (IsReport report.Results compiled.now.timed compiled.now.cells compiled.now.plan compiled.now.design (words_of inputs.now)) (K.state sink.old) (K.state sink.new) result }
 {
     match shown(alloc, &compiled.design, inputs) {
@@ -157,7 +158,7 @@ fn write_results<K: Sink>(
 fn put_trace<K: Sink>(alloc: Global, compiled: &Compiled, inputs: &Inputs, sink: &mut K) -> Status
     requires plan { IsSoundPlan compiled.now.plan }
     requires clockable { IsClockable compiled.now.timed compiled.now.design }
-    requires inputs { AreInputsOf (view_system compiled.now.timed.flat) (words_of inputs.now) }
+    requires inputs { AreInputs (view_system compiled.now.timed.flat) (words_of inputs.now) }
     ensures { PutsOneOf (IsReport report.Trace compiled.now.timed compiled.now.cells compiled.now.plan compiled.now.design (words_of inputs.now)) (K.state sink.old) (K.state sink.new) result }
 {
     let design = &compiled.design;
@@ -177,7 +178,7 @@ fn put_trace<K: Sink>(alloc: Global, compiled: &Compiled, inputs: &Inputs, sink:
 fn put_wave<K: Sink>(alloc: Global, compiled: &Compiled, inputs: &Inputs, sink: &mut K) -> Status
     requires clockable { IsClockable compiled.now.timed compiled.now.design }
     requires cycles { compiled.now.cells.cycles ≤ 4096 }
-    requires inputs { AreInputsOf (view_system compiled.now.timed.flat) (words_of inputs.now) }
+    requires inputs { AreInputs (view_system compiled.now.timed.flat) (words_of inputs.now) }
     ensures { PutsOneOf (IsReport report.Wave compiled.now.timed compiled.now.cells compiled.now.plan compiled.now.design (words_of inputs.now)) (K.state sink.old) (K.state sink.new) result }
 {
     match feed(alloc, &compiled.design, inputs, compiled.cells.cycles) {

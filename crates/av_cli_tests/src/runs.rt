@@ -2,7 +2,7 @@
 
 use crate::answers::{answer, answered, assert_answer, calls, joined};
 use crate::checks::UNCOVERED;
-use crate::texts::{INCREMENT, USAGE};
+use crate::texts::{BOTH_ENDS, CUT_DOWN, INCREMENT, TOO_WIDE, USAGE, WIDENED};
 use av_base::{MemSink, MemSource};
 use av_cli::Status;
 use av_testing::texts::{
@@ -268,10 +268,129 @@ const ROWS: &[(&[&str], &str, &str, Status, &str)] = &[
     ),
 ];
 
+/// Texts whose variables have widths of their own.
+const OF_WIDTHS: &[(&[&str], &str, &str, Status, &str)] = &[
+    // What an equation reads is sign-extended to its width, or cut down to it.
+    (
+        &["run"],
+        WIDENED,
+        "%%\nX (0) = 255\nX (1) = 127\nX (2) = 128\n",
+        Status::Done,
+        "Y (0) = 0\nY (1) = 128\nY (2) = 65409\n",
+    ),
+    (
+        &["run", "--width=3"],
+        WIDENED,
+        "%%\nX (0) = -1\nX (1) = 127\nX (2) = -128\n",
+        Status::Done,
+        "Y (0) = 0\nY (1) = 128\nY (2) = 65409\n",
+    ),
+    (
+        &["run"],
+        CUT_DOWN,
+        "%%\nX (0) = 31\nX (1) = 255\nX (2) = 0\n",
+        Status::Done,
+        "Y (0) = 0\nY (1) = 0\nY (2) = 1\n",
+    ),
+    (
+        &["run"],
+        TOO_WIDE,
+        "%%\nX (0) = 0\nX (1) = 1\nX (2) = 2\n",
+        Status::Refused,
+        "refused: width X 1:13\n",
+    ),
+    // A value fits the words of its input, and where it names none those of the run.
+    (
+        &["run"],
+        CUT_DOWN,
+        "%%\nX (0) = 256\nX (1) = 1\nX (2) = 2\n",
+        Status::Refused,
+        "refused: data syntax 5\n",
+    ),
+    (
+        &["run", "--width=64"],
+        WIDENED,
+        "%%\nX (0) = 1\nX (1) = -129\nX (2) = 2\n",
+        Status::Refused,
+        "refused: data syntax 6\n",
+    ),
+    (
+        &["run", "--width=4"],
+        WIDENED,
+        "%%\nX (0) = 255\nX (1) = -128\n",
+        Status::Refused,
+        "refused: data missing X (2)\n",
+    ),
+    (
+        &["run", "--width=9"],
+        WIDENED,
+        "%%\nZ (0) = 511\n",
+        Status::Refused,
+        "refused: data unknown 5\n",
+    ),
+    (
+        &["run", "--width=9"],
+        WIDENED,
+        "%%\nY (0) = 512\n",
+        Status::Refused,
+        "refused: data syntax 5\n",
+    ),
+    (
+        &["run", "--width=9"],
+        WIDENED,
+        "%%\nY (0) = -256\n",
+        Status::Refused,
+        "refused: data unknown 5\n",
+    ),
+    // The least width and the greatest: the ends of each, and one beyond them.
+    (
+        &["run"],
+        BOTH_ENDS,
+        "%%\nA () = 1\nB () = 18446744073709551615\n",
+        Status::Done,
+        "Y () = 1\nZ () = 18446744073709551615\n",
+    ),
+    (
+        &["run"],
+        BOTH_ENDS,
+        "%%\nA () = -1\nB () = -9223372036854775808\n",
+        Status::Done,
+        "Y () = 1\nZ () = 9223372036854775808\n",
+    ),
+    (
+        &["run"],
+        BOTH_ENDS,
+        "%%\nA () = 2\n",
+        Status::Refused,
+        "refused: data syntax 5\n",
+    ),
+    (
+        &["run"],
+        BOTH_ENDS,
+        "%%\nA () = -2\n",
+        Status::Refused,
+        "refused: data syntax 5\n",
+    ),
+    (
+        &["run"],
+        BOTH_ENDS,
+        "%%\nB () = 18446744073709551616\n",
+        Status::Refused,
+        "refused: data syntax 5\n",
+    ),
+    (
+        &["run"],
+        BOTH_ENDS,
+        "%%\nB () = -9223372036854775809\n",
+        Status::Refused,
+        "refused: data syntax 5\n",
+    ),
+];
+
 #[test]
 fn the_words_the_text_and_the_data_fix_status_and_output(rt: HostRuntime) -> Result<(), Fail> {
     let alloc = rt.alloc();
-    for (words, text, data, status, out) in ROWS {
+    for (words, text, data, status, out) in ROWS.iter().chain(OF_WIDTHS) {
         let answer = answered(alloc, words, joined(alloc, &[text, data])?, 4096)?;
         assert_answer(&rt, &answer, *status, out, text);
     }

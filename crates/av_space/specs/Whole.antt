@@ -75,15 +75,19 @@ pub record IsWhole (t : Timed) (a : Cells) : Type 0 where
 
 -- ---- designs
 
--- ports of this width with these names, by their numbers
-pub record ArePortsOf (name : ℕ → List ℕ) (number width : ℕ) (ports : List Port) : Type 0 where
-  pub names : map (λ p. p.name) ports ≡ map name (range_with_len 0 number)
-  pub widths : All (λ p. p.width.bits ≡ width) ports
+-- the words of the variable of this name have this width
+abbrev pub HasWidthOf : FlatSystem → List ℕ → ℕ → Type 0
+HasWidthOf s name width = All (λ v. v.name ≡ name → width ≡ v.width) s.variables
 
--- the design carries the listing on the ports of the array, each as wide as the words of the system
+-- ports with these names, by their numbers, each as wide as the words of the variable of each line at it
+pub record ArePortsOf (s : FlatSystem) (name : ℕ → List ℕ) (number : ℕ) (lines : List Entry) (ports : List Port) : Type 0 where
+  pub names : map (λ p. p.name) ports ≡ map name (range_with_len 0 number)
+  pub widths : All (λ line. All (λ p. line.wire ≡ p.name → HasWidthOf s line.variable p.width.bits) ports) lines
+
+-- the design carries the listing on the ports of the array
 pub record HasWholeListing (t : Timed) (a : Cells) (d : Design) : Type 0 where
   pub whole : IsWhole t a
   pub listing : d.listing ≡ a.listing
   pub name : d.module.name ≡ codes "array"
-  pub inputs : ArePortsOf input_name (length a.inputs) (view_system t.flat).width d.module.inputs
-  pub outputs : ArePortsOf output_name (length a.outputs) (view_system t.flat).width d.module.outputs
+  pub inputs : ArePortsOf (view_system t.flat) input_name (length a.inputs) a.listing.ins d.module.inputs
+  pub outputs : ArePortsOf (view_system t.flat) output_name (length a.outputs) a.listing.ats d.module.outputs
