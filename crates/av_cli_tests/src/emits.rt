@@ -1,7 +1,7 @@
 //! The answers of `emit`, from sources and into sinks that fail.
 
 use crate::answers::{Row, answer, assert_rows, calls, joined};
-use crate::texts::{CUT_DOWN, INCREMENT, USAGE, WIDENED};
+use crate::texts::{CUT_DOWN, INCREMENT, TOO_WIDE, USAGE, WIDENED};
 use av_base::{MemSink, MemSource};
 use av_cli::Status;
 use av_testing::texts::INCREMENT_PLAN;
@@ -195,6 +195,12 @@ const ROWS: &[Row] = &[
     (WIDTH_8, DOUBLE, Status::Done, OF_DOUBLE),
     (&["emit"], WIDENED, Status::Done, OF_WIDENED),
     (&["emit"], CUT_DOWN, Status::Done, OF_CUT_DOWN),
+    (
+        &["emit"],
+        TOO_WIDE,
+        Status::Refused,
+        "refused: width X 1:13\n",
+    ),
     (
         WIDTH_8,
         SHIFTED,

@@ -43,6 +43,29 @@ endmodule
 2 i0=255 o0=0
 ";
 
+const TRACED_WIDENED: &str = "// alphav 2
+// in X (0) i0 0
+// in X (1) i0 1
+// in X (2) i0 2
+// at Y (0) o0 0
+// at Y (1) o0 1
+// at Y (2) o0 2
+module k0(input [7:0] i0, output [15:0] v);
+  wire [15:0] w0;
+  assign w0 = {{8{i0[7:7]}}, i0};
+  assign v = w0 + 16'd1;
+endmodule
+module array(input clk, input rst, input [7:0] i0, output [15:0] o0);
+  wire [15:0] c0;
+  k0 u0 (.i0(i0), .v(c0));
+  assign o0 = c0;
+endmodule
+%%
+0 i0=255 o0=0
+1 i0=127 o0=128
+2 i0=128 o0=65409
+";
+
 // The words, the text, what stands behind it, the status and the output.
 const ROWS: &[(&[&str], &str, &str, Status, &str)] = &[
     (
@@ -279,6 +302,13 @@ const OF_WIDTHS: &[(&[&str], &str, &str, Status, &str)] = &[
         "Y (0) = 0\nY (1) = 128\nY (2) = 65409\n",
     ),
     (
+        &["trace"],
+        WIDENED,
+        "%%\nX (0) = 255\nX (1) = 127\nX (2) = 128\n",
+        Status::Done,
+        TRACED_WIDENED,
+    ),
+    (
         &["run", "--width=3"],
         WIDENED,
         "%%\nX (0) = -1\nX (1) = 127\nX (2) = -128\n",
@@ -294,6 +324,13 @@ const OF_WIDTHS: &[(&[&str], &str, &str, Status, &str)] = &[
     ),
     (
         &["run"],
+        TOO_WIDE,
+        "%%\nX (0) = 0\nX (1) = 1\nX (2) = 2\n",
+        Status::Refused,
+        "refused: width X 1:13\n",
+    ),
+    (
+        &["trace"],
         TOO_WIDE,
         "%%\nX (0) = 0\nX (1) = 1\nX (2) = 2\n",
         Status::Refused,
