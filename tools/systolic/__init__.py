@@ -16,6 +16,7 @@ They read what the program writes, or compute it a second time, and prove nothin
 | `streamed` | a run on one problem after another, compared with what `run` and `trace` write of each |
 | `bench` | test benches in Verilog |
 | `designs` | a Verilog text with kinds and instances by its rules: grammar, faults, flat module, run |
+| `dump` | what a value change dump tells, whoever wrote it |
 | `flat` | the flat module of an emitted text, in the first version of the text |
 | `others` | what Icarus Verilog, Verilator and Yosys say of a text |
 | `page` | the page that plays a run; `page.html` is its frame |

@@ -7,7 +7,7 @@ use crate::asserts::{assert_held, same};
 use av_base::{List, MemSink, Width};
 use av_compile::{Compiled, compile};
 use av_flat::Reach;
-use av_net::Design;
+use av_net::{Design, Plan};
 use av_testing::texts::INCREMENT_PLAN;
 use av_vread::read_design;
 use av_vtext::{write_design, write_plan};
@@ -16,7 +16,7 @@ use std::process::Abort;
 use std::test::Fail;
 
 /// What a text compiles to, in words of 8 bits.
-fn compiled(alloc: Global, text: &str) -> Result<Compiled, Fail>
+pub(crate) fn compiled(alloc: Global, text: &str) -> Result<Compiled, Fail>
     ensures { IfOk result (λ found. IsSoundPlan found.plan) }
 {
     let width = Width::new(8).ok_or("a width")?;
@@ -30,6 +30,26 @@ fn compiled(alloc: Global, text: &str) -> Result<Compiled, Fail>
     }
 }
 
+/// A sink that has the text of the design.
+fn design_text(alloc: Global, design: &Design) -> Result<MemSink, Fail> {
+    let mut sink = MemSink::new(alloc, 8192, 8192, List::new(alloc))?;
+    write_design(design, &mut sink)?;
+    Ok(sink)
+}
+
+/// Both designs have one text.
+fn assert_same_text(
+    rt: &impl Abort,
+    alloc: Global,
+    read: &Design,
+    design: &Design,
+) -> Result<(), Fail> {
+    let again = design_text(alloc, read)?;
+    let flat = design_text(alloc, design)?;
+    assert_held(rt, &again, flat.held());
+    Ok(())
+}
+
 /// The design that is read of these bytes is this one: both have one text of the first version.
 pub(crate) fn assert_read_back(
     rt: &impl Abort,
@@ -40,24 +60,40 @@ pub(crate) fn assert_read_back(
     if bytes.len() >= 4_294_967_295 {
         return Err(Fail::new("long"));
     }
-    let Ok(read) = read_design(alloc, bytes) else {
-        return Err(Fail::new("a design"));
-    };
-    let mut again = MemSink::new(alloc, 8192, 8192, List::new(alloc))?;
-    write_design(&read, &mut again)?;
-    let mut flat = MemSink::new(alloc, 8192, 8192, List::new(alloc))?;
-    write_design(design, &mut flat)?;
-    assert_held(rt, &again, flat.held());
-    Ok(())
+    match read_design(alloc, bytes) {
+        Ok(read) => assert_same_text(rt, alloc, &read, design),
+        Err(_) => Err(Fail::new("a design")),
+    }
+}
+
+/// A sink that has the text of the plan.
+fn plan_text(alloc: Global, plan: &Plan) -> Result<MemSink, Fail>
+    requires { IsSoundPlan plan.now }
+{
+    let mut sink = MemSink::new(alloc, 8192, 8192, List::new(alloc))?;
+    write_plan(plan, &mut sink)?;
+    Ok(sink)
+}
+
+/// The text of the plan is this one, and it is read back as this design.
+fn assert_written(
+    rt: &impl Abort,
+    alloc: Global,
+    plan: &Plan,
+    design: &Design,
+    wanted: &str,
+) -> Result<(), Fail>
+    requires { IsSoundPlan plan.now }
+{
+    let sink = plan_text(alloc, plan)?;
+    same(rt, str::from_utf8(sink.held()).unwrap_or(""), wanted);
+    assert_read_back(rt, alloc, sink.held(), design)
 }
 
 /// The text of the plan is this one, and it is read back as the plan's flat design.
 fn assert_compiled(rt: &impl Abort, alloc: Global, text: &str, wanted: &str) -> Result<(), Fail> {
     let found = compiled(alloc, text)?;
-    let mut sink = MemSink::new(alloc, 8192, 8192, List::new(alloc))?;
-    write_plan(&found.plan, &mut sink)?;
-    same(rt, str::from_utf8(sink.held()).unwrap_or(""), wanted);
-    assert_read_back(rt, alloc, sink.held(), &found.design)
+    assert_written(rt, alloc, &found.plan, &found.design, wanted)
 }
 
 const INCREMENT: &str =

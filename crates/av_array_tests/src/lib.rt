@@ -15,6 +15,8 @@ mod depend;
 #[cfg(test)]
 mod kernels;
 #[cfg(test)]
+mod lanes;
+#[cfg(test)]
 mod pipe;
 #[cfg(test)]
 mod sched;

@@ -1,27 +1,23 @@
 -- A run that is clocked and written cycle by cycle.
-use Rattle.std.proofs.Common.{◌≡◌, ℕ, zero, suc, ◌+◌, ◌<◌, ◌≤◌, true, false, List, [], ◌∷◌, ◌++◌, length, get_or, take, drop, Option, Some, slice_get, refl, sym, ap, ◌∙◌, subst, arith, inl, inr, add-one, append_assoc, length-append}
+use Rattle.std.proofs.Common.{◌≡◌, ℕ, zero, suc, ◌+◌, ◌<◌, ◌≤◌, false, List, [], ◌∷◌, ◌++◌, length, get_or, take, drop, Option, Some, slice_get, refl, sym, ap, ◌∙◌, subst, arith, add-one, length-append}
 use Rattle.std.specs.Prelude.{All, Contains}
-use Rattle.std.proofs.lemmas.Bool.{cases_lt}
-use Rattle.std.proofs.lemmas.List.{append-nil, length-map}
-use Rattle.std.proofs.lemmas.List.Elements.{All-append, All-map, All-contains, All-head, All-tail, Contains-append_left, Contains-append_right}
-use Rattle.std.proofs.lemmas.Option.{slice_get-get_or, slice_get_within}
+use Rattle.std.proofs.lemmas.List.{length-map}
+use Rattle.std.proofs.lemmas.List.Elements.{All-contains, All-head, All-tail, Contains-append_left}
+use Rattle.std.proofs.lemmas.Option.{slice_get_within}
 use Rattle.std.proofs.Math.Seq.{take-append-add}
 use Rattle.av_base.specs.Outside.{SinkState, Adds, AddsPrefix}
 use Rattle.av_base.proofs.Moves.{Adds-more}
 use Rattle.av_net.specs.declared.netlist.Port.{Port}
-use Rattle.av_net.specs.declared.netlist.Step.{Step}
 use Rattle.av_net.specs.declared.netlist.Module.{Module}
 use Rattle.av_net.specs.Meaning.{Words}
-use Rattle.av_net.specs.Names.{names_of, registers_of, given_names, wire_names, all_names}
+use Rattle.av_net.specs.Names.{names_of, given_names, all_names}
 use Rattle.av_net.specs.Settled.{Settled, Agree}
-use Rattle.av_net.specs.Clocked.{Stream, Run, IsRun, Edge}
-use Rattle.av_net.specs.Sound.{IsSound}
-use Rattle.av_net.proofs.Once.{agree_within, same_word, one_settled}
+use Rattle.av_net.specs.Clocked.{Edge}
 use Rattle.av_clock.specs.Seen.{Seen, carried}
 use Rattle.av_data.specs.declared.stimulus.Stimulus.{Stimulus}
 use Rattle.av_data.specs.Cycles.{cycle_line}
 use Rattle.av_cli.specs.declared.simulation.Prepared.{Prepared}
-use Rattle.av_wave.specs.Simulated.{given_word, IsStimulated, header_ports, port_words, words_line, run_lines}
+use Rattle.av_wave.specs.Simulated.{header_ports, port_words, words_line, run_lines}
 use Rattle.av_wave.specs.Clocking.{AreLeft, ArePresented}
 use Rattle.av_cli.specs.inner.Clocking.{IsPrepared}
 use Rattle.av_wave.proofs.Presenting.{words_noted}

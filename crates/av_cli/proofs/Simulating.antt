@@ -1,35 +1,30 @@
 -- How the answers of `sim` follow from what its steps did.
-use Rattle.std.proofs.Common.{◌≡◌, ℕ, List, Option, Some, None, get_or, refl, ap, subst, inl, inr}
+use Rattle.std.proofs.Common.{◌≡◌, ℕ, List, get_or, refl, ap, subst, inl, inr}
 use Rattle.std.specs.Prelude.{◌⊎◌}
 use Rattle.av_base.specs.Outside.{SinkState, Adds, AddsPrefix, HasRisen}
+use Rattle.av_net.specs.declared.netlist.Port.{Port}
 use Rattle.av_net.specs.declared.netlist.Module.{Module}
 use Rattle.av_net.specs.declared.design.Design.{Design}
 use Rattle.av_net.specs.Meaning.{Words}
-use Rattle.av_net.specs.Names.{names_of}
 use Rattle.av_net.specs.Clocked.{Stream, Run, IsRun}
 use Rattle.av_net.specs.Sound.{IsSound}
 use Rattle.av_net.specs.Designs.{Spells}
 use Rattle.av_net.proofs.Cycles.{has_runs}
-use Rattle.av_net.proofs.Distinct.{front_distinct}
 use Rattle.av_vread.specs.declared.fault.VFault.{VFault}
 use Rattle.av_vread.specs.declared.fault.VFault.TheVariants as verilog_fault
 use Rattle.av_vread.specs.Faults.{IsFault}
 use Rattle.av_data.specs.declared.fault.DataFault.{DataFault}
 use Rattle.av_data.specs.declared.fault.DataFault.TheVariants.{DataSyntax, DataUnknown, DataOutside, DataTwice, DataMissing, Memory}
-use Rattle.av_data.specs.declared.stimulus.Given.{Given}
 use Rattle.av_data.specs.declared.stimulus.Stimulus.{Stimulus}
 use Rattle.av_data.specs.Divisions.{IsDivided}
 use Rattle.av_data.specs.Stimuli.{SpellsStimulus, IsStimulusFault}
-use Rattle.av_data.specs.Reading.{place_of}
-use Rattle.av_data.proofs.Lined.{place_at}
 use Rattle.av_cli.specs.declared.status.Status.{Status}
 use Rattle.av_cli.specs.declared.status.Status.TheVariants.{Done, Refused, WriteFault, Memory as OutOfMemory}
 use Rattle.av_cli.specs.Refusals.{refusal_line, verilog_reason, data_reason}
-use Rattle.av_wave.specs.Simulated.{given_word, IsStimulated, run_lines}
+use Rattle.av_wave.specs.Simulated.{IsStimulated, run_lines}
 use Rattle.av_cli.specs.Sims.{RefusesSim, bad_text, bad_stimulus, GivesSim}
 use Rattle.av_cli.specs.inner.WithModule.{RefusesStimulus, GivesRun}
 use Rattle.av_cli.specs.inner.Written.{IsPut, IsAnswered, refused, given, no_memory, IsClocked}
-use Rattle.av_wave.proofs.Presenting.{given_distinct}
 use Rattle.av_wave.proofs.Walking.{values_left}
 use Rattle.av_wave.proofs.Cycling.{stream_of, is_stream}
 use Rattle.av_wave.specs.Clocking.{AreLeft}

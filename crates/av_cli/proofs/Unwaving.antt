@@ -1,12 +1,11 @@
 -- The values of a wave's ports, change by change and cycle by cycle.
-use Rattle.std.proofs.Common.{◌≡◌, ◌≢◌, ℕ, zero, suc, ◌+◌, ◌<◌, ◌≤◌, List, [], ◌∷◌, ◌++◌, map, length, get_or, take, set, replicate, eqb, Option, append_assoc, add-one, true, false, Bool, refl, sym, ◌∙◌, ap, arith, subst, inl, inr}
-use Rattle.std.specs.Prelude.{if◌then◌else◌, nat_eq, nat_le, filter, All, AllPairs, slice_get, Some}
+use Rattle.std.proofs.Common.{◌≡◌, ◌≢◌, ℕ, zero, suc, ◌+◌, ◌<◌, ◌≤◌, List, [], ◌∷◌, ◌++◌, map, length, get_or, take, set, replicate, eqb, Option, append_assoc, add-one, true, false, refl, sym, ◌∙◌, ap, arith, subst, inl, inr}
+use Rattle.std.specs.Prelude.{nat_le, All, AllPairs, slice_get, Some}
 use Rattle.std.specs.List.{range_with_len}
 use Rattle.std.proofs.lemmas.Bool.{eq-eqb, ne_eqb, le-leb, lt-leb, cases_eq, cases_lt}
 use Rattle.std.proofs.lemmas.List.{take_more, length-map}
 use Rattle.std.proofs.lemmas.List.FromFn.{length-range_with_len}
 use Rattle.std.proofs.lemmas.Option.{slice_get-get_or, slice_get_within, get_or_from_slice_get}
-use Rattle.av_base.proofs.Lists.{some_is}
 use Rattle.av_wave.specs.declared.wave.Change.{Change}
 use Rattle.av_wave.specs.Waves.{Recording, Values, zeros, changed, all_changed, changes_to, IsBefore, IsWave}
 use Rattle.av_wave.proofs.Values.{changed_on}

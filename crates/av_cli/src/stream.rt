@@ -163,13 +163,29 @@ fn put_stream<K: Sink>(
     requires few { (0 < length inputs.now) × (cycles ≤ 4096) }
     ensures { PutsOneOf (IsStreamOn array.now cycles (map words_of inputs.now)) (K.state sink.old) (K.state sink.new) result }
 {
-    let streamed = match build_stream(alloc, &array.timed, &array.cells) {
-        Err(Memory) => return Status::Memory,
-        Ok(streamed) => streamed,
-    };
+    match build_stream(alloc, &array.timed, &array.cells) {
+        Err(Memory) => Status::Memory,
+        Ok(streamed) => clock_plan(alloc, &streamed, inputs, cycles, sink),
+    }
+}
+
+// Makes the flat design of the plan, and clocks it on all sets.
+fn clock_plan<K: Sink>(
+    alloc: Global,
+    streamed: &Streamed,
+    inputs: &[Inputs],
+    cycles: u32,
+    sink: &mut K,
+) -> Status
+    requires plan { IsSoundPlan streamed.now.plan }
+    requires apart { AreApartEach (flat_of streamed.now.plan).listing.ins streamed.now.period }
+    requires words { All (λ x. HaveFittingWords (flat_of streamed.now.plan) (words_of x)) inputs.now }
+    requires few { length inputs.now * streamed.now.period ≤ 8192 }
+    ensures { PutsOneOf (IsStreamed cycles streamed.now (map words_of inputs.now)) (K.state sink.old) (K.state sink.new) result }
+{
     match flatten(alloc, &streamed.plan) {
         Err(Memory) => Status::Memory,
-        Ok(design) => clock_stream(alloc, &streamed, &design, inputs, cycles, sink),
+        Ok(design) => clock_stream(alloc, streamed, &design, inputs, cycles, sink),
     }
 }
 

@@ -1,6 +1,6 @@
 //! The command `unwave`.
 
-ghost use Rattle.std.specs.Prelude.{◌≡◌, ◌<◌, ◌≤◌, replicate, length, take, drop, IsErr, IfOk, OnOk, OnErr, All};
+ghost use Rattle.std.specs.Prelude.{◌≡◌, ◌<◌, ◌≤◌, replicate, length, take, IsErr, OnOk, OnErr, All};
 ghost use Rattle.av_base.specs.Outside.{Adds, AddsPrefix, HasRisen};
 ghost use Rattle.av_cli.specs.Waves.{RefusesUnwave, GivesUnwave, wave_lines};
 ghost use Rattle.av_cli.specs.inner.Changing.{values_of, AreMade};

@@ -10,8 +10,8 @@ use Rattle.std.proofs.lemmas.List.{same_lists, get_or-set_same, get_or-set_other
 use Rattle.std.proofs.lemmas.Nat.{shr-shr, shr_le}
 use Rattle.std.proofs.lemmas.Nat.Bits.{bit_at-zero, bit_at-lt, bit_at_above, bit_at-trailing_zeros}
 use Rattle.av_clock.specs.Marked.{IsClear}
-use Rattle.av_clock.specs.inner.Bits.{bit_mark, marks_from}
-use Rattle.av_clock.specs.inner.Marking.{IsSet}
+use Rattle.av_clock.specs.Bits.{bit_mark, marks_from}
+use Rattle.av_clock.specs.Marking.{IsSet}
 use Rattle.av_clock.proofs.Views.{new_items}
 
 zero_below : (n : ℕ) → n < 2 → n ≢ 1 → n ≡ 0

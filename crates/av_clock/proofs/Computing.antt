@@ -26,8 +26,8 @@ use Rattle.av_clock.specs.declared.gate.Gate.{Gate}
 use Rattle.av_clock.specs.declared.gate.Gate.TheVariants.{Buffer, Operator, Comparator, Multiplexer, Slice, Extender}
 use Rattle.av_clock.specs.declared.gate.Assignment.{Assignment}
 use Rattle.av_clock.specs.Named.{named, AllFit}
-use Rattle.av_clock.specs.inner.Gates.{gate_word, is_zero, IsResolved, IsAssigned, AreAssigned}
-use Rattle.av_clock.specs.inner.Kept.{computes, IsZero, AreZero}
+use Rattle.av_clock.specs.Gates.{gate_word, is_zero, IsResolved, IsAssigned, AreAssigned}
+use Rattle.av_clock.specs.Kept.{computes, IsZero, AreZero}
 use Rattle.av_clock.proofs.Held.{given_apart}
 use Rattle.av_clock.proofs.Lookup.{look_set, look_zero, same_or_not}
 use Rattle.av_clock.proofs.Resolved.{at_item, drive_reads, drive_suits}

@@ -19,7 +19,7 @@ use Rattle.av_net.proofs.Settles.{with_word, with_word_same, with_word_other, na
 use Rattle.av_clock.specs.declared.gate.FlipFlop.{FlipFlop}
 use Rattle.av_clock.specs.declared.gate.Reading.TheVariants.{At}
 use Rattle.av_clock.specs.Named.{named, AllFit}
-use Rattle.av_clock.specs.inner.Gates.{reading_word, IsWithin, IsStepped, AreStepped, AreTaken, FitRegisters}
+use Rattle.av_clock.specs.Gates.{reading_word, IsWithin, IsStepped, AreStepped, AreTaken, FitRegisters}
 use Rattle.av_clock.proofs.Lookup.{look_set}
 use Rattle.av_clock.proofs.Settling.{read_word, read_within, fit_with}
 

@@ -7,7 +7,7 @@ use Rattle.av_clock.specs.declared.gate.Gate.{Gate}
 use Rattle.av_clock.specs.declared.gate.Gate.TheVariants.{Buffer, Operator, Comparator, Multiplexer, Slice, Extender}
 use Rattle.av_clock.specs.declared.gate.Assignment.{Assignment}
 use Rattle.av_clock.specs.declared.key.Key.{Key}
-use Rattle.av_clock.specs.inner.Gates.{reading_word, gate_word}
+use Rattle.av_clock.specs.Gates.{reading_word, gate_word}
 use Rattle.av_clock.specs.inner.Keys.{number_of, gate_key, key_of}
 
 abbrev symbol_of : ℕ → Symbol

@@ -6,7 +6,7 @@ pub mod Edges
 pub mod Views
 pub mod Runs
 pub mod Marking
-pub mod Reading
+pub mod Readings
 pub mod Held
 pub mod Taking
 pub mod Extended

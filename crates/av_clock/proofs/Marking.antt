@@ -5,7 +5,7 @@ use Rattle.std.proofs.Math.ListN.{length-set}
 use Rattle.std.proofs.lemmas.Bool.{cases_eq, cases_lt}
 use Rattle.std.proofs.lemmas.List.{get_or-set_same, get_or-set_other, get_or-replicate, length-replicate, get_or_past, get_or_default}
 use Rattle.av_clock.specs.Marked.{IsClear}
-use Rattle.av_clock.specs.inner.Marking.{IsSet}
+use Rattle.av_clock.specs.Marking.{IsSet}
 
 pub never : true ≡ false → ⊥
 never e = cc

@@ -23,10 +23,9 @@ use Rattle.av_net.specs.Sound.{IsSound, IsInOrder, SuitsWidth, IsFitting, Compar
 use Rattle.av_net.proofs.Declared.{names_declared}
 use Rattle.av_net.proofs.Settles.{names_distinct, given_or_driven}
 use Rattle.av_clock.specs.Named.{named}
-use Rattle.av_clock.specs.inner.Sources.{resolved}
-use Rattle.av_clock.specs.inner.Merged.{source_of, sourced, sourced_operation, zero_of, merged_drive, merged_step, merged, known_before, AreMerged}
+use Rattle.av_clock.specs.Merged.{source_of, sourced, sourced_operation, zero_of, merged_drive, merged_step, merged, known_before, AreMerged, resolved}
 use Rattle.av_clock.proofs.Lookup.{look_at}
-use Rattle.av_clock.proofs.Reading.{in_order_at}
+use Rattle.av_clock.proofs.Readings.{in_order_at}
 use Rattle.av_clock.proofs.Resolved.{target_declared}
 
 -- ---- sources

@@ -27,15 +27,16 @@ use Rattle.av_clock.specs.declared.gate.Gate.TheVariants.{Buffer, Operator, Comp
 use Rattle.av_clock.specs.declared.gate.Assignment.{Assignment}
 use Rattle.av_clock.specs.declared.gate.FlipFlop.{FlipFlop}
 use Rattle.av_clock.specs.Named.{named}
-use Rattle.av_clock.specs.inner.Gates.{gate_word, IsWithin, IsRead, IsResolved, IsAssigned, AreAssigned, IsStepped, AreStepped}
+use Rattle.av_clock.specs.Gates.{gate_word, IsWithin, IsRead, IsResolved, IsAssigned, AreAssigned, IsStepped, AreStepped}
 use Rattle.av_clock.specs.inner.Keys.{key_of}
 use Rattle.av_clock.specs.inner.Sources.{at_source, gate_at_sources, flip_flop_at_source}
-use Rattle.av_clock.specs.inner.Merged.{source_of, sourced, sourced_operation, merged_drive, merged_step, merged, known_before, IsGiven, AreMerged, IsMerging, IsEqual, IsSource}
+use Rattle.av_clock.specs.Merged.{source_of, sourced, sourced_operation, merged_drive, merged_step, merged, known_before, IsGiven, AreMerged, IsMerging}
+use Rattle.av_clock.specs.inner.Choices.{IsEqual, IsSource}
 use Rattle.av_clock.proofs.Held.{given_apart}
 use Rattle.av_clock.proofs.Keys.{same_key, same_width}
 use Rattle.av_clock.proofs.Lookup.{contains_at}
 use Rattle.av_clock.proofs.MergedModules.{place_of, source_at, source_found, own_drive, other_drive, merged_at, target_zero, all_known, known_all, merged_sound}
-use Rattle.av_clock.proofs.Reading.{in_order_at, not_known, one_place}
+use Rattle.av_clock.proofs.Readings.{in_order_at, not_known, one_place}
 use Rattle.av_clock.proofs.Resolved.{drive_suits, both_more}
 use Rattle.av_clock.proofs.Settling.{IsFor, gate_gives, reading_within}
 

@@ -30,15 +30,14 @@ use Rattle.av_clock.specs.Named.{named}
 use Rattle.av_clock.specs.Seen.{Seen, carried}
 use Rattle.av_clock.specs.Marked.{IsClear, has_kept, reads_same, touched}
 use Rattle.av_clock.specs.inner.Engine.{IsWhole}
-use Rattle.av_clock.specs.inner.Marking.{KeepsWord}
-use Rattle.av_clock.specs.inner.Merged.{source_of, sourced, sourced_operation, merged_drive, merged_step, merged, AreMerged}
+use Rattle.av_clock.specs.Marking.{KeepsWord}
+use Rattle.av_clock.specs.Merged.{source_of, sourced, sourced_operation, merged_drive, merged_step, merged, AreMerged, resolved}
 use Rattle.av_clock.specs.inner.Sourced.{mark_of, marks_of, seen_of, IsEngine}
-use Rattle.av_clock.specs.inner.Sources.{resolved}
 use Rattle.av_clock.proofs.Held.{register_given}
 use Rattle.av_clock.proofs.Lookup.{look_at, contains_at}
 use Rattle.av_clock.proofs.Marking.{never}
 use Rattle.av_clock.proofs.MergedModules.{source_at, source_found, resolved_at, resolved_size, source_word, sourced_word, sourced_result, of_merged, merged_at, target_zero}
-use Rattle.av_clock.proofs.Reading.{name_at, one_place}
+use Rattle.av_clock.proofs.Readings.{name_at, one_place}
 use Rattle.av_clock.proofs.Resolved.{target_declared}
 use Rattle.av_clock.proofs.Touched.{each_kept, same_read}
 use Rattle.av_clock.proofs.Views.{port_at, input_at, set_port, set_others}
@@ -128,7 +127,7 @@ own_place m sources place name sound are at own =
     let found = source_found m sources place name distinct are.size at (are.within place (slice_get_within (all_names m) place name at)) in
     one_place (all_names m) (get_or sources place 0) place name distinct (found ∙ ap Some own) at
 
-set_resolved : (m : Module) (sources words : List ℕ) (k value : ℕ) → IsSound m → AreMerged m sources → length words ≡ length (all_names m) → k < length m.inputs → resolved sources (set words k value) ≡ set (resolved sources words) k value
+pub set_resolved : (m : Module) (sources words : List ℕ) (k value : ℕ) → IsSound m → AreMerged m sources → length words ≡ length (all_names m) → k < length m.inputs → resolved sources (set words k value) ≡ set (resolved sources words) k value
 set_resolved m sources words k value sound are long lt = elim (slice_get_cases m.inputs k).1 [
   | inl (port, within, found, here) ↦
       let at : slice_get (all_names m) k ≡ Some port.name = port_at m k port found in

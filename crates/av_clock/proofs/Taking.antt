@@ -21,9 +21,9 @@ use Rattle.av_net.proofs.Once.{agree_by}
 use Rattle.av_net.proofs.Settles.{with_word, with_word_same, with_word_other, names_distinct}
 use Rattle.av_clock.specs.declared.gate.FlipFlop.{FlipFlop}
 use Rattle.av_clock.specs.Named.{named, AllFit}
-use Rattle.av_clock.specs.inner.Gates.{reading_word, AreTaken}
+use Rattle.av_clock.specs.Gates.{reading_word, AreTaken}
 use Rattle.av_clock.specs.Marked.{IsClear, AreHeld}
-use Rattle.av_clock.specs.inner.Marking.{IsSet, ReadTheSame, AreDue}
+use Rattle.av_clock.specs.Marking.{IsSet, ReadTheSame, AreDue}
 use Rattle.av_clock.proofs.Edges.{IsFor, registers_apart}
 use Rattle.av_clock.proofs.Held.{read_after, same_read, given_apart}
 use Rattle.av_clock.proofs.Lookup.{look_set}

@@ -16,12 +16,12 @@ use Rattle.av_net.proofs.Ordered.{each_weaker}
 use Rattle.av_net.proofs.Settles.{with_word, with_word_same, names_distinct}
 use Rattle.av_clock.specs.Named.{named}
 use Rattle.av_clock.specs.Marked.{IsClear, has_kept, reads_same, touched}
-use Rattle.av_clock.specs.inner.Marking.{IsSet, KeepsWord, AreTouched}
-use Rattle.av_clock.specs.inner.Readers.{IsOther}
+use Rattle.av_clock.specs.Marking.{IsSet, KeepsWord, AreTouched}
+use Rattle.av_clock.specs.Readers.{IsOther}
 use Rattle.av_clock.proofs.Lookup.{look_at, look_set, same_or_not}
 use Rattle.av_clock.proofs.Held.{targets_apart}
 use Rattle.av_clock.proofs.Marking.{cleared, clear_after, never}
-use Rattle.av_clock.proofs.Reading.{name_at}
+use Rattle.av_clock.proofs.Readings.{name_at}
 
 -- ---- operands that keep their words
 

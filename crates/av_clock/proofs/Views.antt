@@ -26,12 +26,12 @@ use Rattle.av_net.proofs.Declared.{declared_width, input_declared}
 use Rattle.av_net.proofs.Distinct.{apart, front_distinct}
 use Rattle.av_net.proofs.Settles.{with_word, with_word_same, with_word_other, names_distinct}
 use Rattle.av_clock.specs.Named.{named, AllFit}
-use Rattle.av_clock.specs.inner.Gates.{AreTaken, FitRegisters}
+use Rattle.av_clock.specs.Gates.{AreTaken, FitRegisters}
 use Rattle.av_clock.specs.Seen.{Seen, carried}
 use Rattle.av_clock.specs.Marked.{IsClear, AreHeld, touched}
 use Rattle.av_clock.specs.inner.Engine.{IsWhole}
-use Rattle.av_clock.specs.inner.Kept.{AreZero}
-use Rattle.av_clock.specs.inner.Marking.{ReadTheSame}
+use Rattle.av_clock.specs.Kept.{AreZero}
+use Rattle.av_clock.specs.Marking.{ReadTheSame}
 use Rattle.av_clock.proofs.Computing.{settled_zero, edge_zero}
 use Rattle.av_clock.proofs.Held.{given_apart}
 use Rattle.av_clock.proofs.Marking.{none_clear}
@@ -217,7 +217,7 @@ set_fits_call m v before new k value sound size lt fits fit same is wrote =
     subst P (sym (written_call v before new k value same is wrote)) (set_fits m v.items k value sound size lt fits fit)
 
 -- what is not marked holds after it was
-set_held : (m : Module) (words : List ℕ) (k value : ℕ) (stale stale' due due' : List Bool) → IsSound m → length words ≡ length (all_names m) → k < length m.inputs
+pub set_held : (m : Module) (words : List ℕ) (k value : ℕ) (stale stale' due due' : List Bool) → IsSound m → length words ≡ length (all_names m) → k < length m.inputs
     → ReadTheSame m words (set words k value) stale stale' due due' → AreHeld m words stale due → AreHeld m (set words k value) stale' due'
 set_held m words k value stale stale' due due' sound size lt reads held = elim (slice_get_cases m.inputs k).1 [
   | inl (port, within, found, here) ↦
@@ -364,19 +364,22 @@ pub zero_edge : (m : Module) (v : Vec ℕ Global) (before new : List ℕ) → Is
 zero_edge m v before new sound same is others zeros = subst (AreZero m) (sym (new_items v before new same is)) (edge_zero m before new sound others (zero_lent m v before is zeros))
 
 -- and of those after a word was set at a port
-pub zero_set : (m : Module) (v : Vec ℕ Global) (before new : List ℕ) (k value : ℕ) → IsSound m → length v.items ≡ length (all_names m) → k < length m.inputs → length new ≡ length before → before ≡ v.items → new ≡ set before k value
-    → AreZero m v.items → AreZero m (with_items v new).items
-zero_set m v before new k value sound size lt same is wrote zeros = elim (slice_get_cases m.inputs k).1 [
+pub set_zero : (m : Module) (words : List ℕ) (k value : ℕ) → IsSound m → length words ≡ length (all_names m) → k < length m.inputs → AreZero m words → AreZero m (set words k value)
+set_zero m words k value sound size lt zeros = elim (slice_get_cases m.inputs k).1 [
   | inl (port, within, found, here) ↦
-      let set' = port_set m v.items k value port sound size found in
+      let set' = port_set m words k value port sound size found in
       let given : Contains (given_names m) port.name =
       Contains-append_left (names_of m.inputs) (names_of m.registers) port.name (contains_at (names_of m.inputs) k port.name (input_at m k port found)) in
-      subst (AreZero m) (sym (written_call v before new k value same is wrote)) (λ i d below zero'.
+      (λ i d below zero'.
       ap (λ (w : Words). w (get_or m.drives i d).target) set'
-      ∙ with_word_other (named m v.items) port.name value (get_or m.drives i d).target (given_apart m i d port.name sound below given)
+      ∙ with_word_other (named m words) port.name value (get_or m.drives i d).target (given_apart m i d port.name sound below given)
       ∙ zeros i d below zero')
   | inr (past, none) ↦ absurd (omega arith)
 ]
+
+pub zero_set : (m : Module) (v : Vec ℕ Global) (before new : List ℕ) (k value : ℕ) → IsSound m → length v.items ≡ length (all_names m) → k < length m.inputs → length new ≡ length before → before ≡ v.items → new ≡ set before k value
+    → AreZero m v.items → AreZero m (with_items v new).items
+zero_set m v before new k value sound size lt same is wrote zeros = subst (AreZero m) (sym (written_call v before new k value same is wrote)) (set_zero m v.items k value sound size lt zeros)
 
 -- ---- a word that is read
 

@@ -1,4 +1,11 @@
 pub mod Named
 pub mod Seen
 pub mod Marked
+pub mod Gates
+pub mod Merged
+pub mod Kept
+pub mod Readers
+pub mod Circuit
+pub mod Marking
+pub mod Bits
 pub mod inner

@@ -1,13 +1,7 @@
-pub mod Gates
 pub mod Found
 pub mod Resolver
 pub mod Sources
 pub mod Keys
-pub mod Merged
-pub mod Kept
-pub mod Circuit
-pub mod Readers
-pub mod Marking
-pub mod Bits
+pub mod Choices
 pub mod Engine
 pub mod Sourced

@@ -8,12 +8,12 @@ ghost use Rattle.av_net.specs.Sound.{IsSound};
 ghost use Rattle.av_net.specs.Meaning.{word_of, EachOperand};
 ghost use Rattle.av_clock.specs.Named.{named, AllFit};
 ghost use Rattle.av_clock.specs.Marked.{IsClear, AreHeld, touched};
-ghost use Rattle.av_clock.specs.inner.Marking.{IsSet, ReadTheSame, AreAhead, AreTouched, AreDue};
-ghost use Rattle.av_clock.specs.inner.Readers.{IsOther};
-ghost use Rattle.av_clock.specs.inner.Kept.{computes, AreZero};
-ghost use Rattle.av_clock.specs.inner.Merged.{merged as merged_module, IsMerging};
+ghost use Rattle.av_clock.specs.Marking.{IsSet, ReadTheSame, AreAhead, AreTouched, AreDue};
+ghost use Rattle.av_clock.specs.Readers.{IsOther};
+ghost use Rattle.av_clock.specs.Kept.{computes, AreComputed, AreZero};
+ghost use Rattle.av_clock.specs.Merged.{merged as merged_module, IsMerging};
 
-use crate::gate::Assignment;
+use crate::gate::{Assignment, FlipFlop};
 use crate::marks::{Marks, set_all};
 use crate::merged::Merged;
 use crate::readers::{drives_reading, steps_reading};
@@ -26,7 +26,7 @@ use std::marker::Model;
 /// The merged drives and steps of a sound module, as the module of which contracts see it. Words stand in the order of its
 /// declarations: input ports, registers, outputs and wires.
 #[derive(Drop)]
-pub(crate) struct Circuit<'a> {
+pub struct Circuit<'a> {
     of: &'a Module,
     merged: Merged,
     // The assignments that compute a word: all but those of the constant 0.
@@ -40,7 +40,7 @@ impl<'a> Model for Circuit<'a> {
 
     ghost Value = { Netlist };
 
-    ghost use Rattle.av_clock.specs.inner.Circuit.{net, IsCircuit};
+    ghost use Rattle.av_clock.specs.Circuit.{net, IsCircuit};
 
     ghost view = { net };
 
@@ -48,10 +48,10 @@ impl<'a> Model for Circuit<'a> {
 }
 
 impl<'a> Circuit<'a> {
-    ghost use Rattle.av_clock.specs.inner.Gates.{AreTaken, FitRegisters};
+    ghost use Rattle.av_clock.specs.Gates.{AreAssigned, AreStepped, AreTaken, FitRegisters};
 
     /// The circuit of a sound module's merged drives and steps.
-    pub(crate) fn new(alloc: Global, of: &'a Module, merged: Merged) -> Result<Circuit<'a>, Memory>
+    pub fn new(alloc: Global, of: &'a Module, merged: Merged) -> Result<Circuit<'a>, Memory>
         requires { IsMerging of.now merged }
         ensures { IfOk result (λ circuit. circuit ≡ merged_module of.now merged.sources.items) }
     {
@@ -68,14 +68,14 @@ impl<'a> Circuit<'a> {
     }
 
     /// The number of words.
-    pub(crate) fn size(&self) -> usize
+    pub fn size(&self) -> usize
         ensures { result ≡ length (all_names self.now) }
     {
         size_of_module(self.of)
     }
 
     /// The number of drives.
-    pub(crate) fn drives(&self) -> usize
+    pub fn drives(&self) -> usize
         ensures { result ≡ length self.now.drives }
     {
         self.merged.assignments.len()
@@ -87,14 +87,35 @@ impl<'a> Circuit<'a> {
     }
 
     /// The number of flip-flops.
-    pub(crate) fn steps(&self) -> usize
+    pub fn steps(&self) -> usize
         ensures { result ≡ length self.now.steps }
     {
         self.merged.flip_flops.len()
     }
 
+    /// The assignments, one for each drive, in order.
+    pub fn assignments(&self) -> &[Assignment]
+        ensures { AreAssigned self.now (length self.now.drives) result.now }
+    {
+        &self.merged.assignments
+    }
+
+    /// The assignments that a settle of all computes, in order.
+    pub fn computed(&self) -> &[Assignment]
+        ensures { AreComputed self.now result.now }
+    {
+        &self.computed
+    }
+
+    /// The flip-flops, one for each step, in order.
+    pub fn flip_flops(&self) -> &[FlipFlop]
+        ensures { AreStepped self.now (length self.now.steps) result.now }
+    {
+        &self.merged.flip_flops
+    }
+
     /// The place of what a drive drives.
-    pub(crate) fn target(&self, drive: usize) -> usize
+    pub fn target(&self, drive: usize) -> usize
         requires { drive < length self.now.drives }
         ensures { (d : _) → slice_get (all_names self.now) result ≡ Some (slice_index_or self.now.drives drive d).target }
     {
@@ -115,8 +136,8 @@ impl<'a> Circuit<'a> {
         }
     }
 
-    // Marks the drives and the steps that read a place.
-    fn mark_readers(&self, place: usize, stale: &mut Marks, due: &mut Marks)
+    /// Marks the drives and the steps that read a place.
+    pub fn mark_readers(&self, place: usize, stale: &mut Marks, due: &mut Marks)
         requires place { place < length (all_names self.now) }
         requires stale { length stale.old ≡ length self.now.drives }
         requires due { length due.old ≡ length self.now.steps }

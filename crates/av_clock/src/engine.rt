@@ -7,7 +7,7 @@ ghost use Rattle.av_net.specs.Clocked.{Edge};
 ghost use Rattle.av_clock.specs.Marked.{IsClear, touched};
 ghost use Rattle.av_clock.specs.Seen.{carried};
 ghost use Rattle.av_clock.specs.inner.Engine.{IsWhole};
-ghost use Rattle.av_clock.specs.inner.Merged.{merged as merged_module, IsMerging};
+ghost use Rattle.av_clock.specs.Merged.{merged as merged_module, IsMerging};
 
 use crate::circuit::Circuit;
 use crate::marks::{Marks, mark_anew};

@@ -13,4 +13,8 @@ mod readers;
 mod resolver;
 mod sourced;
 
+pub use circuit::Circuit;
 pub use clock::Clock;
+pub use gate::{Assignment, FlipFlop, Gate, Reading};
+pub use marks::{Marks, mark_anew};
+pub use merged::Merged;

@@ -1,7 +1,7 @@
 ghost use Rattle.std.specs.Prelude.{◌≡◌, ◌≢◌, ◌↔◌, ◌<◌, ◌≤◌, ◌+◌, ℕ, length, replicate, slice_set, true, false, ◌==◌, All, Contains, IfOk, IsTrue};
 ghost use Rattle.std.specs.Int.{bit_at};
 ghost use Rattle.av_clock.specs.Marked.{IsClear};
-ghost use Rattle.av_clock.specs.inner.Marking.{IsSet};
+ghost use Rattle.av_clock.specs.Marking.{IsSet};
 
 use av_base::Memory;
 use std::alloc::Global;
@@ -12,7 +12,7 @@ const BITS: usize = 64;
 
 /// A mark for each of some things in order, set or clear, a bit for each. Contracts see the list of the marks.
 #[derive(Drop)]
-pub(crate) struct Marks {
+pub struct Marks {
     words: Vec<u64>,
     count: usize,
 }
@@ -22,7 +22,7 @@ impl Model for Marks {
 
     ghost Value = { Items Bool };
 
-    ghost use Rattle.av_clock.specs.inner.Bits.{marks_in, HasWords};
+    ghost use Rattle.av_clock.specs.Bits.{marks_in, HasWords};
 
     ghost view = { marks_in };
 
@@ -31,7 +31,7 @@ impl Model for Marks {
 
 impl Marks {
     /// So many marks, all clear.
-    pub(crate) fn new(alloc: Global, count: usize) -> Result<Marks, Memory>
+    pub fn new(alloc: Global, count: usize) -> Result<Marks, Memory>
         ensures { IfOk result (λ marks. marks ≡ replicate count false) }
     {
         let words = vec![in alloc; 0u64; count / BITS + 1]?;
@@ -62,7 +62,7 @@ impl Marks {
     }
 
     /// Clears a mark.
-    pub(crate) fn clear(&mut self, index: usize)
+    pub fn clear(&mut self, index: usize)
         requires { index < length self.old }
         ensures { self.new ≡ slice_set self.old index false }
     {
@@ -71,7 +71,7 @@ impl Marks {
     }
 
     /// The first mark that is set, from this one on, or the number of marks where none is.
-    pub(crate) fn next(&self, from: usize) -> usize
+    pub fn next(&self, from: usize) -> usize
         ensures later { from ≤ length self.now → from ≤ result }
         ensures within { result ≤ length self.now }
         ensures clear { (k : ℕ) → from ≤ k → k < result → IsClear self.now k }
@@ -103,7 +103,7 @@ impl Marks {
     }
 
     /// Sets or clears all marks.
-    pub(crate) fn fill(&mut self, mark: bool)
+    pub fn fill(&mut self, mark: bool)
         ensures { self.new ≡ replicate (length self.old) mark }
     {
         fill(&mut self.words, word_of(mark));
@@ -185,7 +185,7 @@ pub(crate) fn set_all(list: &[usize], marks: &mut Marks)
 }
 
 /// In a dense clock marks say nothing, and where it has settled, all drives hold: their marks are cleared, and the steps are marked.
-pub(crate) fn mark_anew(dense: bool, stale: &mut Marks, due: &mut Marks)
+pub fn mark_anew(dense: bool, stale: &mut Marks, due: &mut Marks)
     ensures dense { IsTrue dense → (stale.new ≡ replicate (length stale.old) false) × (due.new ≡ replicate (length due.old) true) }
     ensures kept { dense ≡ false → (stale.new ≡ stale.old) × (due.new ≡ due.old) }
 {

@@ -1,8 +1,9 @@
 ghost use Rattle.std.specs.Prelude.{◌≡◌, ◌<◌, ℕ, length, map, slice_index, All, IfOk, OnOk};
 ghost use Rattle.av_net.specs.Names.{all_names};
 ghost use Rattle.av_net.specs.Sound.{IsSound};
-ghost use Rattle.av_clock.specs.inner.Gates.{AreAssigned, IsWithin};
-ghost use Rattle.av_clock.specs.inner.Merged.{merged as merged_module, AreMerged, IsMerging, IsSource};
+ghost use Rattle.av_clock.specs.Gates.{AreAssigned, IsWithin};
+ghost use Rattle.av_clock.specs.Merged.{merged as merged_module, AreMerged, IsMerging};
+ghost use Rattle.av_clock.specs.inner.Choices.{IsSource};
 ghost use Rattle.av_clock.specs.inner.Keys.{key_of};
 ghost use Rattle.av_clock.specs.inner.Sources.{flip_flop_at_source};
 
@@ -18,15 +19,15 @@ use std::collections::BTreeMap;
 /// has the word of what it copies, and of drives with equal gates each has the word of the first. Each place has a source where its word
 /// stands, and gates and flip-flops read at sources. The drives whose targets have theirs elsewhere are left out: their gates give 0.
 #[derive(Drop)]
-pub(crate) struct Merged {
-    pub(crate) sources: Vec<usize>,
-    pub(crate) assignments: Vec<Assignment>,
-    pub(crate) flip_flops: Vec<FlipFlop>,
+pub struct Merged {
+    pub sources: Vec<usize>,
+    pub assignments: Vec<Assignment>,
+    pub flip_flops: Vec<FlipFlop>,
 }
 
 impl Merged {
     /// Those of a sound module.
-    pub(crate) fn new(alloc: Global, of: &Module) -> Result<Merged, Memory>
+    pub fn new(alloc: Global, of: &Module) -> Result<Merged, Memory>
         requires { IsSound of.now }
         ensures { IfOk result (λ merged. IsMerging of.now merged) }
     {

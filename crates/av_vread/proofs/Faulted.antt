@@ -1,30 +1,23 @@
 -- What checking a text answers: the design that the text spells, or its first fault.
-use Rattle.std.proofs.Common.{◌≡◌, ℕ, ◌-◌, List, length, take, Option, Some, None, Result, Ok, Err, refl, sym, ap, subst, ◌∙◌, arith, inl, inr, ◌⊎◌}
+use Rattle.std.proofs.Common.{◌≡◌, ℕ, ◌-◌, List, take, Option, Some, None, Result, Ok, Err, refl, sym, ap, subst, ◌∙◌, inl, inr, ◌⊎◌}
 use Rattle.std.specs.Prelude.{IfOk}
-use Rattle.av_base.specs.declared.place.Place.{Place}
-use Rattle.av_base.specs.Tokens.{start}
 use Rattle.av_net.specs.declared.netlist.Module.{Module}
 use Rattle.av_net.specs.declared.design.Design.{Design}
 use Rattle.av_net.specs.declared.design.Listing.{Listing}
 use Rattle.av_net.specs.Names.{names_of, wire_names}
-use Rattle.av_net.specs.Lexemes.{Token, design_texts}
 use Rattle.av_net.specs.Grammar.{Text}
 use Rattle.av_net.specs.Listed.{Line, lines_of, numbered, listing_lines, IsListing, IsBadLine}
 use Rattle.av_net.specs.Rows.{is_in, module_of, flat_text, twice_name, wrong_name, undriven_name, early_name, unsuited_name}
-use Rattle.av_net.specs.Designs.{Says, HasNoRow, Spells, IsSoundDesign, first_line}
+use Rattle.av_net.specs.Designs.{Says, HasNoRow, Spells, IsSoundDesign}
+use Rattle.av_vparse.specs.declared.fault.ParseFault.{ParseFault}
+use Rattle.av_vparse.specs.declared.fault.ParseFault.TheVariants as parsing
+use Rattle.av_vparse.specs.Parsing.{IsFault as IsTextFault}
+use Rattle.av_vparse.proofs.Answered.{one_said, said_or_faulty, said_apart, one_fault}
 use Rattle.av_vread.specs.declared.fault.VFault.{VFault}
 use Rattle.av_vread.specs.declared.fault.VFault.TheVariants.{VByte, VSyntax, VListing, VTwice, VName, VUnassigned, VOrder, VWidth, Memory}
-use Rattle.av_vread.specs.inner.Lexing.{Lexed, scanner, lexed_of}
-use Rattle.av_vread.specs.inner.Reading.{text_at}
 use Rattle.av_vread.specs.inner.Listings.{Listed, no_lines, listing_at}
-use Rattle.av_vread.specs.Beginnings.{BreaksOff}
 use Rattle.av_vread.specs.Faults.{or_row, first_row, ListsBadly, HasRow, IsFault, GivesDesign, GivesFault}
-use Rattle.av_vread.specs.inner.Checked.{Checked, checked_row, checked_listing, checked_text, checked_tokens, checked_of, FaultIs, AnswersDesign}
-use Rattle.av_base.proofs.Readings.{read_sound, read_fault, read_complete, fault_complete}
-use Rattle.av_vread.proofs.Longest.{finds}
-use Rattle.av_vread.proofs.Sound.{text_took}
-use Rattle.av_vread.proofs.Complete.{text_gives}
-use Rattle.av_vread.proofs.BeginningTexts.{stops_there, one_stop, stops_say_none, lexed_ends}
+use Rattle.av_vread.specs.inner.Checked.{Checked, checked_row, checked_listing, checked_at, fault_for, FaultIs, AnswersSaid, AnswersWhatIsSaid, AnswersNothingSaid, AnswersBytes}
 use Rattle.av_vread.proofs.NamesSpelled.{tokens_named, IsNamed, text_named, input_names, wires_have_names, are_words}
 use Rattle.av_vread.proofs.ListingLines.{read_listed, listing_is, listing_read, bad_is, bad_read, kept_listed}
 use Rattle.av_vread.proofs.SoundDesigns.{spelled_sound}
@@ -111,34 +104,16 @@ module _ (bytes : List ℕ) (x : Text) (line : ℕ) (s : Says bytes x line) wher
   bad_given n b =
       sym (read_listed ports wires no_lines lines) ∙ bad_read ports wires (are_words ports (input_names x.top named.top)) (are_words wires (wires_have_names x.top named.top)) (listing_lines bytes line) n (kept_listed lines) b
 
-  -- what is said is checked
-  checked_said : checked_of bytes ≡ checked_listing x (listing_of bytes x line)
-  checked_said =
-      ap (checked_tokens bytes) (read_complete design_texts scanner finds s.lexed (length bytes) (omega arith)) ∙ ap (λ n. checked_text bytes n (text_at s.tokens)) s.begins
-      ∙ ap (checked_text bytes line) (text_gives s.tokens x s.parsed)
-
--- ---- what an answer of checking tells
-
--- the bytes say one text, whose module begins on one line
-pub one_said : (bytes : List ℕ) (x y : Text) (m n : ℕ) → Says bytes x m → Says bytes y n → (x ≡ y) × (m ≡ n)
-one_said bytes x y m n s t =
-    let tokens : s.tokens ≡ t.tokens = ok_tokens s.tokens t.tokens (sym (read_complete design_texts scanner finds s.lexed (length bytes) (omega arith)) ∙ read_complete design_texts scanner finds t.lexed (length bytes) (omega arith)) in
-    (ok_text x y (sym (text_gives s.tokens x s.parsed) ∙ ap text_at tokens ∙ text_gives t.tokens y t.parsed), sym s.begins ∙ ap first_line tokens ∙ t.begins)
-  where
-    ok_tokens : (a b : List Token) → ◌≡◌ {A = Lexed} (Ok a) (Ok b) → a ≡ b
-    ok_tokens a b e = cc
-
-    ok_text : (a b : Text) → ◌≡◌ {A = Result Text Place} (Ok a) (Ok b) → a ≡ b
-    ok_text a b e = cc
-
-says_by : (bytes : List ℕ) (tokens : List Token) (x : Text) → lexed_of (length bytes) start bytes ≡ Ok tokens → text_at tokens ≡ Ok x → Says bytes x (first_line tokens)
-says_by bytes tokens x e f = record { tokens = tokens; lexed = read_sound design_texts scanner finds (length bytes) start bytes tokens e; parsed = text_took tokens x f; begins = refl }
+-- ---- what checking what is said tells
 
 ok_read : (a b : Text × Listing) → ◌≡◌ {A = Checked} (Ok a) (Ok b) → a ≡ b
 ok_read a b e = cc
 
 err_fault : (f g : VFault) → ◌≡◌ {A = Checked} (Err f) (Err g) → f ≡ g
 err_fault f g e = cc
+
+ok_or_err : {f : VFault} {read : Text × Listing} → ◌≡◌ {A = Checked} (Ok read) (Err f) → ⊥
+ok_or_err e = cc
 
 module _ (bytes : List ℕ) where
   pub record Said (read : Text × Listing) : Type 0 where
@@ -154,17 +129,6 @@ module _ (bytes : List ℕ) where
   said_listing : (read : Text × Listing) (x : Text) (line : ℕ) (r : Listed) → Says bytes x line → listing_of bytes x line ≡ r → checked_listing x r ≡ Ok read → Said read
   said_listing read x line (Ok listing) s e c = said_row read x line listing (first_row x) s (listing_ok bytes x line s listing e) refl c
   said_listing read x line (Err n) s e c = absurd cc
-
-  pub said_ok : (read : Text × Listing) → checked_of bytes ≡ Ok read → Said read
-  said_ok read c = by_tokens (lexed_of (length bytes) start bytes) refl c
-    where
-      by_text : (tokens : List Token) → lexed_of (length bytes) start bytes ≡ Ok tokens → (r : Result Text Place) → text_at tokens ≡ r → checked_text bytes (first_line tokens) r ≡ Ok read → Said read
-      by_text tokens e (Ok x) f c = said_listing read x (first_line tokens) (listing_of bytes x (first_line tokens)) (says_by bytes tokens x e f) refl c
-      by_text tokens e (Err p) f c = absurd cc
-
-      by_tokens : (r : Lexed) → lexed_of (length bytes) start bytes ≡ r → checked_tokens bytes r ≡ Ok read → Said read
-      by_tokens (Ok tokens) e c = by_text tokens e (text_at tokens) refl c
-      by_tokens (Err p) e c = absurd cc
 
   row_fault : (f : VFault) → HasRow bytes f → IsRow f → IsFault bytes f
   row_fault (VTwice name) h r = h
@@ -189,91 +153,51 @@ module _ (bytes : List ℕ) where
       let bad : ListsBadly bytes n = record { said = x; line = line; says = s; bad = bad_line bytes x line s n e } in
       subst (IsFault bytes) (err_fault (VListing n) f c) bad
 
-  pub said_err : (f : VFault) → checked_of bytes ≡ Err f → IsFault bytes f
-  said_err f c = by_tokens (lexed_of (length bytes) start bytes) refl c
-    where
-      broken : (tokens : List Token) (p : Place) → lexed_of (length bytes) start bytes ≡ Ok tokens → text_at tokens ≡ Err p → BreaksOff bytes p
-      broken tokens p e g =
-          let lexed = read_sound design_texts scanner finds (length bytes) start bytes tokens e in
-          record { tokens = tokens; lexed = lexed; stops = stops_there tokens p (lexed_ends lexed) g }
+  -- ---- what checking bytes gives: what is said, checked, or the fault of the text
 
-      by_text : (tokens : List Token) → lexed_of (length bytes) start bytes ≡ Ok tokens → (r : Result Text Place) → text_at tokens ≡ r → checked_text bytes (first_line tokens) r ≡ Err f → IsFault bytes f
-      by_text tokens e (Ok x) g c = fault_listing f x (first_line tokens) (listing_of bytes x (first_line tokens)) (says_by bytes tokens x e g) refl c
-      by_text tokens e (Err p) g c = subst (IsFault bytes) (err_fault (VSyntax p) f c) (broken tokens p e g)
+  abbrev pub Verdict : Checked → Type 0
+  Verdict r = ((x : Text) × (line : ℕ) × Says bytes x line × (checked_at bytes x line ≡ r)) ⊎ ((f : ParseFault) × IsTextFault bytes f × (r ≡ Err (fault_for f)))
 
-      by_tokens : (r : Lexed) → lexed_of (length bytes) start bytes ≡ r → checked_tokens bytes r ≡ Err f → IsFault bytes f
-      by_tokens (Ok tokens) e c = by_text tokens e (text_at tokens) refl c
-      by_tokens (Err p) e c = subst (IsFault bytes) (err_fault (VByte p) f c) (read_fault design_texts scanner finds (length bytes) start bytes p (omega arith) e)
+  -- there is one at most
+  one_verdict : (r s : Checked) → Verdict r → Verdict s → r ≡ s
+  one_verdict r s (inl a) (inl b) =
+      let same = one_said bytes a.0 b.0 a.1 b.1 a.2 b.2 in
+      sym a.3 ∙ ap (λ x. checked_at bytes x a.1) same.0 ∙ ap (checked_at bytes b.0) same.1 ∙ b.3
+  one_verdict r s (inl a) (inr b) = absurd (said_apart bytes a.0 a.1 b.0 a.2 b.1)
+  one_verdict r s (inr a) (inl b) = absurd (said_apart bytes b.0 b.1 a.0 b.2 a.1)
+  one_verdict r s (inr a) (inr b) = a.2 ∙ ap (λ f. Err (fault_for f)) (one_fault bytes a.0 b.0 a.1 b.1) ∙ sym b.2
 
-  break_answer : (p : Place) → BreaksOff bytes p → checked_of bytes ≡ Err (VSyntax p)
-  break_answer p s = ap (checked_tokens bytes) lexed ∙ ap (checked_text bytes (first_line s.tokens)) (go (text_at s.tokens) refl)
-    where
-      lexed : lexed_of (length bytes) start bytes ≡ Ok s.tokens
-      lexed = read_complete design_texts scanner finds s.lexed (length bytes) (omega arith)
+  -- a fault of the text is none of a design that is read
+  no_text : (read : Text × Listing) (f : ParseFault) → ◌≡◌ {A = Checked} (Ok read) (Err (fault_for f)) → ⊥
+  no_text read f e = cc
 
-      go : (r : Result Text Place) → text_at s.tokens ≡ r → text_at s.tokens ≡ Err p
-      go (Ok x) e = absurd (stops_say_none s.tokens p x s.stops (text_took s.tokens x e))
-      go (Err q) e = e ∙ ap (λ z. Err z) (one_stop s.tokens q p (stops_there s.tokens q (lexed_ends s.lexed) e) s.stops)
+  pub said_ok : (read : Text × Listing) → Verdict (Ok read) → Said read
+  said_ok read (inl a) = said_listing read a.0 a.1 (listing_of bytes a.0 a.1) a.2 refl a.3
+  said_ok read (inr a) = absurd (no_text read a.0 a.2)
 
-  bad_answer : (n : ℕ) → ListsBadly bytes n → checked_of bytes ≡ Err (VListing n)
-  bad_answer n h = checked_said bytes h.said h.line h.says ∙ ap (checked_listing h.said) (bad_given bytes h.said h.line h.says n h.bad)
+  of_text : (f : ParseFault) → IsTextFault bytes f → IsFault bytes (fault_for f)
+  of_text (parsing.Byte p) h = h
+  of_text (parsing.Syntax p) h = h
+  of_text parsing.Memory h = absurd h
 
-  row_answer : (f : VFault) → HasRow bytes f → checked_of bytes ≡ Err f
+  pub said_err : (f : VFault) → Verdict (Err f) → IsFault bytes f
+  said_err f (inl a) = fault_listing f a.0 a.1 (listing_of bytes a.0 a.1) a.2 refl a.3
+  said_err f (inr a) = subst (IsFault bytes) (sym (err_fault f (fault_for a.0) a.2)) (of_text a.0 a.1)
+
+  bad_answer : (n : ℕ) → ListsBadly bytes n → Verdict (Err (VListing n))
+  bad_answer n h = inl (h.said, h.line, h.says, ap (checked_listing h.said) (bad_given bytes h.said h.line h.says n h.bad))
+
+  row_answer : (f : VFault) → HasRow bytes f → Verdict (Err f)
   row_answer f h =
-      checked_said bytes h.said h.line h.says ∙ ap (checked_listing h.said) (listing_given bytes h.said h.line h.says h.listing h.lists) ∙ ap (checked_row h.said h.listing) h.row
+      inl (h.said, h.line, h.says, ap (checked_listing h.said) (listing_given bytes h.said h.line h.says h.listing h.lists) ∙ ap (checked_row h.said h.listing) h.row)
 
-  -- ---- the clauses
+  text_answer : (f : ParseFault) → IsTextFault bytes f → Verdict (Err (fault_for f))
+  text_answer f h = inr (f, h, refl)
 
-  abbrev pub designed : Listing → Module → Design
-  designed listing m = record { listing = listing; «module» = m }
-
-  pub found : (x : Text) (listing : Listing) (m : Module) → checked_of bytes ≡ Ok (x, listing) → m ≡ flat_text x → Spells bytes (designed listing m)
-  found x listing m c e =
-      let s = said_ok (x, listing) c in
-      record { said = x; line = s.line; says = s.says; lists = s.lists; is_flat = e; no_row = row_none x s.no_row_holds }
-
-  pub sound : (x : Text) (listing : Listing) (m : Module) → checked_of bytes ≡ Ok (x, listing) → m ≡ flat_text x → IsSoundDesign (designed listing m)
-  sound x listing m c e = spelled_sound bytes (designed listing m) (found x listing m c e)
-
-  given : (design : Design) (s : Spells bytes design) → checked_of bytes ≡ Ok (s.said, design.listing)
-  given design s =
-      checked_said bytes s.said s.line s.says ∙ ap (checked_listing s.said) (listing_given bytes s.said s.line s.says design.listing s.lists)
-      ∙ ap (checked_row s.said design.listing) (none_row s.said s.no_row)
-
-  pub only_ok : (x : Text) (listing : Listing) (m : Module) (wanted : Design) → checked_of bytes ≡ Ok (x, listing) → m ≡ flat_text x → Spells bytes wanted → designed listing m ≡ wanted
-  only_ok x listing m wanted c e s =
-      let same : (x, listing) ≡ (s.said, wanted.listing) = ok_read (x, listing) (s.said, wanted.listing) (sym c ∙ given wanted s) in
-      ap (designed listing) e ∙ ap (λ read. designed read.1 (flat_text read.0)) same ∙ ap (designed wanted.listing) (sym s.is_flat)
-
-  ok_or_err : {f : VFault} {read : Text × Listing} → ◌≡◌ {A = Checked} (Ok read) (Err f) → ⊥
-  ok_or_err e = cc
-
-  pub only_err : (f : VFault) (wanted : Design) → FaultIs f (checked_of bytes) → Spells bytes wanted → GivesDesign (Err f) wanted
-  only_err Memory wanted c s = tt
-  only_err (VByte p) wanted c s = ok_or_err (sym (given wanted s) ∙ c)
-  only_err (VSyntax p) wanted c s = ok_or_err (sym (given wanted s) ∙ c)
-  only_err (VListing n) wanted c s = ok_or_err (sym (given wanted s) ∙ c)
-  only_err (VTwice n) wanted c s = ok_or_err (sym (given wanted s) ∙ c)
-  only_err (VName n) wanted c s = ok_or_err (sym (given wanted s) ∙ c)
-  only_err (VUnassigned n) wanted c s = ok_or_err (sym (given wanted s) ∙ c)
-  only_err (VOrder n) wanted c s = ok_or_err (sym (given wanted s) ∙ c)
-  only_err (VWidth n) wanted c s = ok_or_err (sym (given wanted s) ∙ c)
-
-  pub fault : (f : VFault) → FaultIs f (checked_of bytes) → (f ≡ Memory) ⊎ IsFault bytes f
-  fault Memory c = inl refl
-  fault (VByte p) c = inr (said_err (VByte p) c)
-  fault (VSyntax p) c = inr (said_err (VSyntax p) c)
-  fault (VListing n) c = inr (said_err (VListing n) c)
-  fault (VTwice n) c = inr (said_err (VTwice n) c)
-  fault (VName n) c = inr (said_err (VName n) c)
-  fault (VUnassigned n) c = inr (said_err (VUnassigned n) c)
-  fault (VOrder n) c = inr (said_err (VOrder n) c)
-  fault (VWidth n) c = inr (said_err (VWidth n) c)
-
-  -- what checking answers where a fault is the first
-  answered : (f : VFault) → IsFault bytes f → checked_of bytes ≡ Err f
-  answered (VByte p) h = ap (checked_tokens bytes) (fault_complete design_texts scanner finds h (length bytes) (omega arith))
-  answered (VSyntax p) h = break_answer p h
+  -- where a fault is the first
+  answered : (f : VFault) → IsFault bytes f → Verdict (Err f)
+  answered (VByte p) h = text_answer (parsing.Byte p) h
+  answered (VSyntax p) h = text_answer (parsing.Syntax p) h
   answered (VListing n) h = bad_answer n h
   answered (VTwice n) h = row_answer (VTwice n) h
   answered (VName n) h = row_answer (VName n) h
@@ -282,24 +206,97 @@ module _ (bytes : List ℕ) where
   answered (VWidth n) h = row_answer (VWidth n) h
   answered Memory h = absurd h
 
-  pub refused_ok : (read : Text × Listing) (f : VFault) → checked_of bytes ≡ Ok read → IsFault bytes f → ⊥
-  refused_ok read f c h = ok_or_err (sym c ∙ answered f h)
+  -- ---- designs
 
-  -- the answer where one fault is the first and another was met
-  same_fault : (f g : VFault) → checked_of bytes ≡ Err f → checked_of bytes ≡ Err g → f ≡ g
-  same_fault f g c d = err_fault f g (sym c ∙ d)
+  abbrev pub designed : Listing → Module → Design
+  designed listing m = record { listing = listing; «module» = m }
 
-  -- an answer other than out of memory
-  told : (g : VFault) → FaultIs g (checked_of bytes) → (g ≡ Memory) ⊎ (checked_of bytes ≡ Err g)
-  told Memory c = inl refl
-  told (VByte p) c = inr c
-  told (VSyntax p) c = inr c
-  told (VListing p) c = inr c
-  told (VTwice p) c = inr c
-  told (VName p) c = inr c
-  told (VUnassigned p) c = inr c
-  told (VOrder p) c = inr c
-  told (VWidth p) c = inr c
+  pub found : (x : Text) (listing : Listing) (m : Module) → Verdict (Ok (x, listing)) → m ≡ flat_text x → Spells bytes (designed listing m)
+  found x listing m c e =
+      let s = said_ok (x, listing) c in
+      record { said = x; line = s.line; says = s.says; lists = s.lists; is_flat = e; no_row = row_none x s.no_row_holds }
+
+  given : (design : Design) (s : Spells bytes design) → Verdict (Ok (s.said, design.listing))
+  given design s =
+      inl (s.said, s.line, s.says, ap (checked_listing s.said) (listing_given bytes s.said s.line s.says design.listing s.lists) ∙ ap (checked_row s.said design.listing) (none_row s.said s.no_row))
+
+  pub only_ok : (x : Text) (listing : Listing) (m : Module) (wanted : Design) → Verdict (Ok (x, listing)) → m ≡ flat_text x → Spells bytes wanted → designed listing m ≡ wanted
+  only_ok x listing m wanted c e s =
+      let same : (x, listing) ≡ (s.said, wanted.listing) = ok_read (x, listing) (s.said, wanted.listing) (one_verdict (Ok (x, listing)) (Ok (s.said, wanted.listing)) c (given wanted s)) in
+      ap (designed listing) e ∙ ap (λ read. designed read.1 (flat_text read.0)) same ∙ ap (designed wanted.listing) (sym s.is_flat)
+
+  pub refused_ok : (read : Text × Listing) (f : VFault) → Verdict (Ok read) → IsFault bytes f → ⊥
+  refused_ok read f c h = ok_or_err (one_verdict (Ok read) (Err f) c (answered f h))
+
+  -- ---- the answer of a reader
+
+  -- a design, or a fault, or out of memory
+  abbrev pub Told : Result Design VFault → Type 0
+  Told (Ok design) = (x : Text) × Verdict (Ok (x, design.listing)) × (design.«module» ≡ flat_text x)
+  Told (Err f) = (f ≡ Memory) ⊎ Verdict (Err f)
+
+  fault_told : (f : VFault) (r : Checked) → FaultIs f r → (f ≡ Memory) ⊎ (r ≡ Err f)
+  fault_told Memory r c = inl refl
+  fault_told (VByte p) r c = inr c
+  fault_told (VSyntax p) r c = inr c
+  fault_told (VListing n) r c = inr c
+  fault_told (VTwice n) r c = inr c
+  fault_told (VName n) r c = inr c
+  fault_told (VUnassigned n) r c = inr c
+  fault_told (VOrder n) r c = inr c
+  fault_told (VWidth n) r c = inr c
+
+  said_verdict : (x : Text) (line : ℕ) (r : Checked) → Says bytes x line → checked_at bytes x line ≡ r → Verdict r
+  said_verdict x line r s e = inl (x, line, s, e)
+
+  said_told : (r : Result Design VFault) → AnswersWhatIsSaid bytes r → Told r
+  said_told (Ok design) a = (a.answers.0, said_verdict a.said a.line (Ok (a.answers.0, design.listing)) a.says a.answers.1, a.answers.2)
+  said_told (Err f) a = elim (fault_told f (checked_at bytes a.said a.line) a.answers) [
+    | inl e ↦ inl e
+    | inr e ↦ inr (said_verdict a.said a.line (Err f) a.says e)
+  ]
+
+  nothing_told : (f : ParseFault) → (f ≡ parsing.Memory) ⊎ IsTextFault bytes f → Told (Err (fault_for f))
+  nothing_told f h = elim h [
+    | inl e ↦ inl (ap fault_for e)
+    | inr is ↦ inr (text_answer f is)
+  ]
+
+  is_told : (r : Result Design VFault) → AnswersBytes bytes r → Told r
+  is_told r (inl a) = said_told r a
+  is_told r (inr a) = subst Told (sym a.told) (nothing_told a.fault a.is)
+
+  -- ---- the clauses
+
+  found_by : (r : Result Design VFault) → Told r → IfOk r (λ design. Spells bytes design)
+  found_by (Ok design) a = found a.0 design.listing design.«module» a.1 a.2
+  found_by (Err f) a = tt
+
+  only_by : (r : Result Design VFault) → Told r → (design : Design) → Spells bytes design → GivesDesign r design
+  only_by (Ok design) a wanted s = only_ok a.0 design.listing design.«module» wanted a.1 a.2 s
+  only_by (Err f) a wanted s = elim a [
+    | inl e ↦ subst (λ z. GivesDesign (Err z) wanted) (sym e) (memory wanted)
+    | inr v ↦ absurd (ok_or_err (one_verdict (Ok (s.said, wanted.listing)) (Err f) (given wanted s) v))
+  ]
+    where
+      memory : (wanted : Design) → GivesDesign (Err Memory) wanted
+      memory wanted = tt
+
+  fault_or_memory : (g : VFault) → Told (Err g) → (g ≡ Memory) ⊎ IsFault bytes g
+  fault_or_memory g a = elim a [
+    | inl m ↦ inl m
+    | inr v ↦ inr (said_err g v)
+  ]
+
+  fault_by : (r : Result Design VFault) → Told r → (f : VFault) → r ≡ Err f → (f ≡ Memory) ⊎ IsFault bytes f
+  fault_by (Ok design) a f e = absurd (no_err design f e)
+    where
+      no_err : (d : Design) (f : VFault) → ◌≡◌ {A = Result Design VFault} (Ok d) (Err f) → ⊥
+      no_err d f e = cc
+  fault_by (Err g) a f e = subst (λ z. (z ≡ Memory) ⊎ IsFault bytes z) (err_is g f e) (fault_or_memory g a)
+    where
+      err_is : (g f : VFault) → ◌≡◌ {A = Result Design VFault} (Err g) (Err f) → g ≡ f
+      err_is g f e = cc
 
   gives_same : (f : VFault) → GivesFault (Err f) f
   gives_same Memory = tt
@@ -312,51 +309,44 @@ module _ (bytes : List ℕ) where
   gives_same (VOrder p) = refl
   gives_same (VWidth p) = refl
 
-  pub refused_err : (g f : VFault) → FaultIs g (checked_of bytes) → IsFault bytes f → GivesFault (Err g) f
-  refused_err g f c h = elim (told g c) [
+  refused_by : (r : Result Design VFault) → Told r → (f : VFault) → IsFault bytes f → GivesFault r f
+  refused_by (Ok design) a f h = refused_ok (a.0, design.listing) f a.1 h
+  refused_by (Err g) a f h = elim a [
     | inl e ↦ subst (λ z. GivesFault (Err z) f) (sym e) (memory f)
-    | inr d ↦ subst (λ z. GivesFault (Err z) f) (same_fault f g (answered f h) d) (gives_same f)
+    | inr v ↦ subst (λ z. GivesFault (Err z) f) (err_fault f g (one_verdict (Err f) (Err g) (answered f h) v)) (gives_same f)
   ]
     where
       memory : (f : VFault) → GivesFault (Err Memory) f
       memory f = tt
 
--- ---- the answer of a reader
+  pub answered_found : (r : Result Design VFault) → AnswersBytes bytes r → IfOk r (λ design. Spells bytes design)
+  answered_found r a = found_by r (is_told r a)
 
-module _ (bytes : List ℕ) where
-  pub answered_found : (r : Result Design VFault) → AnswersDesign r (checked_of bytes) → IfOk r (λ design. Spells bytes design)
-  answered_found (Ok design) a = found bytes a.0 design.listing design.«module» a.1 a.2
-  answered_found (Err f) a = tt
+  pub answered_only : (r : Result Design VFault) → AnswersBytes bytes r → (design : Design) → Spells bytes design → GivesDesign r design
+  answered_only r a = only_by r (is_told r a)
 
-  pub answered_sound : (r : Result Design VFault) → AnswersDesign r (checked_of bytes) → IfOk r IsSoundDesign
-  answered_sound (Ok design) a = sound bytes a.0 design.listing design.«module» a.1 a.2
+  pub answered_sound : (r : Result Design VFault) → AnswersBytes bytes r → IfOk r IsSoundDesign
+  answered_sound (Ok design) a = spelled_sound bytes design (answered_found (Ok design) a)
   answered_sound (Err f) a = tt
 
-  pub answered_only : (r : Result Design VFault) → AnswersDesign r (checked_of bytes) → (design : Design) → Spells bytes design → GivesDesign r design
-  answered_only (Ok design) a wanted s = only_ok bytes a.0 design.listing design.«module» wanted a.1 a.2 s
-  answered_only (Err f) a wanted s = only_err bytes f wanted a s
+  pub answered_fault : (r : Result Design VFault) → AnswersBytes bytes r → (f : VFault) → r ≡ Err f → (f ≡ Memory) ⊎ IsFault bytes f
+  answered_fault r a = fault_by r (is_told r a)
 
-  pub answered_fault : (r : Result Design VFault) → AnswersDesign r (checked_of bytes) → (f : VFault) → r ≡ Err f → (f ≡ Memory) ⊎ IsFault bytes f
-  answered_fault (Ok design) a f e = absurd (no_err design f e)
-    where
-      no_err : (d : Design) (f : VFault) → ◌≡◌ {A = Result Design VFault} (Ok d) (Err f) → ⊥
-      no_err d f e = cc
-  answered_fault (Err g) a f e = fault bytes f (subst (λ z. FaultIs z (checked_of bytes)) (err_is g f e) a)
-    where
-      err_is : (g f : VFault) → ◌≡◌ {A = Result Design VFault} (Err g) (Err f) → g ≡ f
-      err_is g f e = cc
+  pub answered_refused : (r : Result Design VFault) → AnswersBytes bytes r → (f : VFault) → IsFault bytes f → GivesFault r f
+  answered_refused r a = refused_by r (is_told r a)
 
-  pub answered_refused : (r : Result Design VFault) → AnswersDesign r (checked_of bytes) → (f : VFault) → IsFault bytes f → GivesFault r f
-  answered_refused (Ok design) a f h = refused_ok bytes (a.0, design.listing) f a.1 h
-  answered_refused (Err g) a f h = refused_err bytes g f a h
+-- ---- laws
 
 -- each text spells a design or has a first fault
 pub either : (bytes : List ℕ) → ((design : Design) × Spells bytes design) ⊎ ((f : VFault) × IsFault bytes f)
-either bytes = go (checked_of bytes) refl
+either bytes = elim (said_or_faulty bytes) [
+  | inl s ↦ go s.0 s.1 s.2 (checked_at bytes s.0 s.1) refl
+  | inr h ↦ inr (fault_for h.0, of_text bytes h.0 h.1)
+]
   where
-    go : (r : Checked) → checked_of bytes ≡ r → ((design : Design) × Spells bytes design) ⊎ ((f : VFault) × IsFault bytes f)
-    go (Ok read) e = inl (designed bytes read.1 (flat_text read.0), found bytes read.0 read.1 (flat_text read.0) e refl)
-    go (Err f) e = inr (f, said_err bytes f e)
+    go : (x : Text) (line : ℕ) → Says bytes x line → (r : Checked) → checked_at bytes x line ≡ r → ((design : Design) × Spells bytes design) ⊎ ((f : VFault) × IsFault bytes f)
+    go x line s (Ok read) e = inl (designed bytes read.1 (flat_text read.0), found bytes read.0 read.1 (flat_text read.0) (said_verdict bytes x line (Ok read) s e) refl)
+    go x line s (Err f) e = inr (f, said_err bytes f (said_verdict bytes x line (Err f) s e))
 
 pub not_both : (bytes : List ℕ) (design : Design) (f : VFault) → Spells bytes design → IsFault bytes f → ⊥
 not_both bytes design f s h = refused_ok bytes (s.said, design.listing) f (given bytes design s) h

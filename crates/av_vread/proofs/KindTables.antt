@@ -14,10 +14,10 @@ use Rattle.av_net.specs.Grammar.{Link, Instantiation, ModuleText, instance}
 use Rattle.av_net.specs.Rows.{Among, is_in, first_from, first_some, kind_from, kind_or, kind_named, unlinked_in, driven_by, driven_by_link, is_early_link, reads_early}
 use Rattle.av_vread.specs.inner.Numbered.{place_among, number_of}
 use Rattle.av_vread.specs.inner.Scoped.{Bytes, width_found}
-use Rattle.av_vread.specs.declared.parsed.ModuleText.{ModuleText as FoundModule}
-use Rattle.av_vread.specs.declared.parsed.Link.{Link as FoundLink}
-use Rattle.av_vread.specs.declared.parsed.Instantiation.{Instantiation as FoundInstance}
-use Rattle.av_vread.specs.inner.Reading.{said_link, said_instance, said_module}
+use Rattle.av_vparse.specs.declared.parsed.ModuleText.{ModuleText as FoundModule}
+use Rattle.av_vparse.specs.declared.parsed.Link.{Link as FoundLink}
+use Rattle.av_vparse.specs.declared.parsed.Instantiation.{Instantiation as FoundInstance}
+use Rattle.av_vparse.specs.Said.{said_link, said_instance, said_module}
 use Rattle.av_base.proofs.Lists.{next_item, nothing_left}
 use Rattle.av_vread.proofs.Walks.{found_more}
 use Rattle.av_vread.proofs.Table.{flip}

@@ -14,7 +14,7 @@ use Rattle.av_net.specs.Listed.{Line, is_listed, line_text, MayBeListed, IsListi
 use Rattle.av_net.specs.Rows.{is_in}
 use Rattle.av_vread.specs.inner.Entries.{entry_at}
 use Rattle.av_vread.specs.inner.Listings.{Listed, begins_with, with_in, with_at, with_in_line, with_at_line, with_line, and_then, with_lines, no_lines}
-use Rattle.av_vread.proofs.Tables.{and_false}
+use Rattle.av_vparse.proofs.Tables.{and_false}
 use Rattle.av_vread.proofs.EntryLines.{body, entry_gives, entry_is}
 use Rattle.av_base.proofs.Truths.{both}
 

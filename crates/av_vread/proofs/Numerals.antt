@@ -10,7 +10,7 @@ use Rattle.std.proofs.lemmas.Bool.{ltb-true, leb-true, eqb-true}
 use Rattle.std.proofs.lemmas.Fmt.{digits_decimal, digits_value-decimal, decimal-digits_value, decimal_digit, first_decimal, decimal_nonempty}
 use Rattle.std.proofs.lemmas.Str.Parse.{IsNumeralModel, numerals_by_fold, tells_all_ascii_digits}
 use Rattle.av_base.specs.Tokens.{number_of, number_from}
-use Rattle.av_vread.specs.inner.Reading.{are_digits}
+use Rattle.av_vparse.specs.Digits.{are_digits}
 use Rattle.av_vread.specs.inner.Entries.{is_numeral, numeral_of, below_zero, not_below, index_of}
 use Rattle.av_vread.specs.inner.Lines.{is_not}
 use Rattle.av_vread.proofs.Cuts.{Without}

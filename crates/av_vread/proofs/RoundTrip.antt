@@ -24,7 +24,7 @@ use Rattle.av_net.proofs.Said.{plan_said, top_said, flat_of_said}
 use Rattle.av_vread.specs.SpelledParts.{IsEntrySpelled, IsKindSpelled, IsPlanSpelled}
 use Rattle.av_vread.proofs.Faulted.{one_design}
 use Rattle.av_vread.proofs.ListingLines.{texts_of}
-use Rattle.av_vread.proofs.Spaced.{bytes_of, tokens_from, spaced_tokens}
+use Rattle.av_vparse.proofs.Spaced.{bytes_of, tokens_from, spaced_tokens}
 use Rattle.av_vread.proofs.WrittenParts.{kinds_onto, top_parts, plan_parts}
 use Rattle.av_vread.proofs.WrittenSpaced.{plan_spaced}
 use Rattle.av_vread.proofs.WrittenBytes.{plan_bytes, module_bytes}

@@ -8,10 +8,10 @@ use Rattle.av_net.specs.Names.{width_in}
 use Rattle.av_net.specs.Grammar.{Item}
 use Rattle.av_net.specs.Rows.{Among, is_in, target_of, driven_by, reads_early, first_early, wires_of, registers_in}
 use Rattle.av_vread.specs.inner.Scoped.{Bytes, texts, width_found}
-use Rattle.av_vread.specs.declared.parsed.Item.{Item as FoundItem}
-use Rattle.av_vread.specs.declared.parsed.Declaration.{Declaration as FoundDeclaration}
-use Rattle.av_vread.specs.declared.parsed.Declaration.TheVariants as declaration
-use Rattle.av_vread.specs.inner.Reading.{said_declaration, said_item}
+use Rattle.av_vparse.specs.declared.parsed.Item.{Item as FoundItem}
+use Rattle.av_vparse.specs.declared.parsed.Declaration.{Declaration as FoundDeclaration}
+use Rattle.av_vparse.specs.declared.parsed.Declaration.TheVariants as declaration
+use Rattle.av_vparse.specs.Said.{said_declaration, said_item}
 use Rattle.av_vread.proofs.Walks.{put_in, any_or_of, found_more, or_one, width_or_one}
 use denote.Ref.{Bor}
 use Rattle.av_base.proofs.Lists.{next_item}

@@ -8,9 +8,9 @@ use Rattle.std.proofs.lemmas.List.Folds.{list_any-append}
 use Rattle.std.proofs.lemmas.Slice.Eq.{bytes_eq-Decides}
 use Rattle.av_base.proofs.Lists.{next_item, nothing_left, same_default}
 use Rattle.av_net.specs.declared.plan.CellKind.{CellKind}
-use Rattle.av_net.specs.Names.{clk, rst, names_of}
-use Rattle.av_net.specs.Grammar.{Link, ModuleText}
-use Rattle.av_net.specs.Rows.{is_in, first_from, Mention, of_module, declares, drives, links, mentioned, is_same, first_again, declared_names, driven_by_link, link_mentions, item_mentions}
+use Rattle.av_net.specs.Names.{clk, rst}
+use Rattle.av_net.specs.Grammar.{Link}
+use Rattle.av_net.specs.Rows.{is_in, first_from, Mention, of_module, declares, drives, links, mentioned, is_same, first_again, driven_by_link, link_mentions}
 use Rattle.av_vread.specs.declared.twice.Seen.{Seen as FoundSeen}
 use Rattle.av_vread.specs.inner.Scoped.{Bytes, texts}
 use Rattle.av_vread.specs.inner.Seen.{IsPut, Stands, StandsIn, Tells, standing}
@@ -258,10 +258,6 @@ behind_modules modules name seen h = record {
   driven = λ q. h.driven q ∙ any_standing modules name (is_same (drives q)) (λ n. refl);
   linked = λ u q none. sym (any_standing modules name (is_same (links u q)) (λ n. refl)) ∙ h.linked u q none;
 }
-
--- what is mentioned behind the name of a module
-abbrev pub own_mentions : List CellKind → ModuleText → List Mention
-own_mentions kinds x = map declares (names_of x.inputs ++ names_of x.outputs ++ declared_names x.declarations) ++ flat_map (item_mentions kinds) x.items
 
 -- the name of a module that is told
 pub module_told : (modules new : List Bytes) (name : Bytes) (ms : List Mention) (y : Bytes) → IsPut modules new name (Some y) → Some y ≡ first_again (standing modules) (of_module name ∷ ms)

@@ -28,7 +28,8 @@ use Rattle.av_vread.specs.SpelledParts.{IsEntrySpelled, HasSpelledParts, IsPlanS
 use Rattle.av_vread.proofs.Each.{all_unmap, both_all}
 use Rattle.av_vread.proofs.NamesSpelled.{tokens_named, text_named, input_names, wires_have_names, are_words}
 use Rattle.av_vread.proofs.ListingLines.{texts_of, one_listing}
-use Rattle.av_vread.proofs.Faulted.{one_said, either, not_both}
+use Rattle.av_vparse.proofs.Answered.{one_said}
+use Rattle.av_vread.proofs.Faulted.{either, not_both}
 use Rattle.av_vread.proofs.SoundDesigns.{spelled_sound}
 use Rattle.av_vread.proofs.WrittenListing.{entry_lines, first_version}
 use Rattle.av_vread.proofs.NoRows.{drives_back, steps_back}

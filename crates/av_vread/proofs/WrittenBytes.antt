@@ -26,7 +26,7 @@ use Rattle.av_net.specs.Meaning.{Widths}
 use Rattle.av_net.specs.Flat.{kind_module, kind_of}
 use Rattle.av_net.specs.PlanTexts.{behind_commas, joined, directed_text, kind_text, link_text, link_texts, links_text, instance_line, top_text}
 use Rattle.av_net.specs.Texts.{header_line, declarations_text, items_text, written_width, part_text, widening_text, range_text, port_text, clocked_text, declaration_line, literal_text, operand_text, symbol_text, signed_text, operation_text, drive_line, assignment_text, reset_text, edge_text, step_line, module_text}
-use Rattle.av_vread.proofs.Spaced.{Written, bytes_of}
+use Rattle.av_vparse.proofs.Spaced.{Written, bytes_of}
 use Rattle.av_vread.proofs.WrittenParts.{select_parts, widening_parts, link_onto, links_onto, all_links_onto, instance_onto, instances_onto, directed_onto, inputs_onto, outputs_onto, kind_body_onto, kind_onto, kinds_onto, top_parts, plan_parts, word, named, symbol, operand_part, port_parts, ports_onto, end_of_line, declaration_parts, declarations_onto, signed_parts, operation_parts, drive_onto, drives_onto, step_onto, steps_onto, items_onto, body_onto, closed_onto}
 
 -- ---- declarations

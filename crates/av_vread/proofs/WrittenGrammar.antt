@@ -27,13 +27,13 @@ use Rattle.av_net.specs.Grammar.{wire, register, Link, Item, drive, widening, in
 use Rattle.av_net.proofs.Said.{said_by, drive_said, kind_said, width_for, width_for_is, step_said, instance_said, top_said, plan_said}
 use Rattle.av_vread.specs.SpelledParts.{IsOperandSpelled, HasBitsSpelled, IsDriveSpelled, IsStepSpelled, IsInstanceSpelled, IsKindSpelled, IsPlanSpelled}
 use Rattle.av_vread.proofs.Numerals.{number_value}
-use Rattle.av_vread.proofs.Sound.{any_item}
-use Rattle.av_vread.proofs.Spaced.{Written, past, passed, tokens_from}
+use Rattle.av_vparse.proofs.Sound.{any_item}
+use Rattle.av_vparse.proofs.Spaced.{Written, past, passed, tokens_from}
 use Rattle.av_vread.proofs.Spelled.{word_small, AreNarrow, narrow, IsLinkSpelled, instance_spelled}
 use Rattle.av_vread.proofs.WrittenParts as part
 use Rattle.av_vread.proofs.WrittenParts.{operand_part, range_parts, port_parts, ports_onto, end_of_line, declaration_parts, declarations_onto, select_parts, widening_parts, signed_parts, operation_parts, drive_onto, drives_onto, edge_parts, otherwise_onto, becomes_onto, step_onto, steps_onto, link_onto, links_onto, instance_onto, instances_onto, directed_onto, inputs_onto, outputs_onto, kind_body_onto, kind_onto, kinds_onto, clocked_parts, items_onto, body_onto, closed_onto, top_parts, plan_parts}
-use Rattle.av_vread.proofs.BeginningLists.{many_append}
-use Rattle.av_vread.proofs.BeginningTexts.{output_first}
+use Rattle.av_vparse.proofs.BeginningLists.{many_append}
+use Rattle.av_vparse.proofs.BeginningTexts.{output_first}
 use Rattle.av_base.proofs.Digits.{number_digits}
 
 -- ---- tokens that are no names

@@ -20,7 +20,7 @@ use Rattle.av_net.specs.Texts.{written_width}
 use Rattle.av_net.specs.Flat.{kind_module}
 use Rattle.av_net.specs.Grammar.{Link, Instantiation, spelling}
 use Rattle.av_net.proofs.Said.{instance_said}
-use Rattle.av_vread.proofs.Spaced.{Written}
+use Rattle.av_vparse.proofs.Spaced.{Written}
 
 -- ---- single tokens, by what stands after them
 

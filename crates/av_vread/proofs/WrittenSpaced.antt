@@ -29,8 +29,8 @@ use Rattle.av_net.specs.Flat.{kind_module}
 use Rattle.av_net.proofs.Said.{width_for, width_for_is, instance_said}
 use Rattle.av_vread.specs.SpelledParts.{IsOperandSpelled, HasBitsSpelled, IsDriveSpelled, IsStepSpelled, IsInstanceSpelled, IsKindSpelled, IsPlanSpelled}
 use Rattle.av_base.proofs.Tables.{is_there, none_there}
-use Rattle.av_vread.proofs.Spaced.{Written, bytes_of, IsNext, AreBlank, AreSpaced}
-use Rattle.av_vread.proofs.NextTokens.{is_clear, name_next, reserved_next, plain_next, single_next, pair_next, signed_next, number_next, literal_next}
+use Rattle.av_vparse.proofs.Spaced.{Written, bytes_of, IsNext, AreBlank, AreSpaced}
+use Rattle.av_vparse.proofs.NextTokens.{is_clear, name_next, reserved_next, plain_next, single_next, pair_next, signed_next, number_next, literal_next}
 use Rattle.av_vread.proofs.WrittenParts.{word, named, symbol, literal, operand_part, range_parts, port_parts, ports_onto, end_of_line, declaration_parts, declarations_onto, signed_parts, operation_parts, drive_onto, drives_onto, edge_parts, otherwise_onto, becomes_onto, step_onto, steps_onto, closed_onto, select_parts, widening_parts, link_onto, links_onto, all_links_onto, instance_onto, instances_onto, directed_onto, inputs_onto, outputs_onto, kind_body_onto, kind_onto, kinds_onto, top_parts, plan_parts}
 use Rattle.av_vread.proofs.Spelled.{word_small, ArePortsSpelled, AreNarrow, narrow, spelled_by_kind, IsLinkSpelled, IsInstantiationSpelled, instance_spelled}
 use Rattle.av_base.proofs.Digits.{number_digits}

@@ -3,11 +3,7 @@ pub mod Seen
 pub mod KindPorts
 pub mod Numbered
 pub mod Kinds
-pub mod Reading
-pub mod Lexing
 pub mod Lines
 pub mod Listings
 pub mod Entries
-pub mod Scan
-pub mod Bits
 pub mod Checked

@@ -5,12 +5,12 @@ ghost use Rattle.av_net.specs.Rows.{is_in};
 ghost use Rattle.av_vread.specs.inner.Entries.{numeral_of, below_zero, index_of, indices_of, inside_of, point_of, is_wire, parts_view, parts_of, entry_of, entry_at};
 
 use crate::line::cut;
-use crate::literal::are_digits;
 use arrayvec::ArrayVec;
 use av_base::limits::{MOST_COORDINATE, MOST_INDICES};
 use av_base::{Memory, Name, Point, are_word_bytes, decimal_value, is_name};
 use av_net::Entry;
 use av_table::NameSet;
+use av_vparse::are_digits;
 use std::alloc::Global;
 
 // The greatest number of an index and of a cycle.
@@ -112,7 +112,7 @@ fn is_wire(wires: &NameSet, text: &[u8]) -> bool
 // ---- lines
 
 /// The parts of a line, with a blank between them.
-#[derive(Clone, Copy, Debug)]
+#[derive(Clone, Copy)]
 struct Parts<'a> {
     variable: &'a [u8],
     point: &'a [u8],

@@ -2,6 +2,7 @@ ghost use Rattle.std.specs.Prelude.{◌≡◌};
 ghost use Rattle.av_vread.specs.declared.fault.VFault.TheVariants as fault;
 
 use av_base::{Memory, Name, Place};
+use av_vparse::ParseFault;
 
 /// Why a text spells no design. Of several faults the first variant of this list is answered, and of one
 /// variant the first in the text.
@@ -35,33 +36,17 @@ impl From<Memory> for VFault {
     }
 }
 
-/// Why the tokens of a text say nothing.
-#[derive(Clone, Copy, Debug)]
-pub(crate) enum ReadError {
-    Syntax(Place),
-    Memory,
-}
-
-impl From<Memory> for ReadError {
-    ghost use Rattle.av_vread.specs.declared.fault.ReadError.TheVariants as error;
-
-    ghost from_gives = { λ _ e. e ≡ error.Memory };
-
-    fn from(_: Memory) -> ReadError {
-        ReadError::Memory
-    }
-}
-
-impl ReadError {
+impl VFault {
     ghost use Rattle.av_vread.specs.inner.Checked.{fault_for};
 
-    /// The fault of the text that it stands for.
-    pub(crate) fn fault(self) -> VFault
-        ensures { result ≡ fault_for self }
+    /// The fault of the design for that of its text.
+    pub(crate) fn of(fault: ParseFault) -> VFault
+        ensures { result ≡ fault_for fault }
     {
-        match self {
-            ReadError::Syntax(place) => VFault::VSyntax(place),
-            ReadError::Memory => VFault::Memory,
+        match fault {
+            ParseFault::Byte(place) => VFault::VByte(place),
+            ParseFault::Syntax(place) => VFault::VSyntax(place),
+            ParseFault::Memory => VFault::Memory,
         }
     }
 }

@@ -1,15 +1,16 @@
 //! A kind of cell of a text.
 
 ghost use Rattle.std.specs.Prelude.{◌≡◌, ◌++◌, IfOk};
-ghost use Rattle.av_net.specs.Names.{width_in};
-ghost use Rattle.av_net.specs.Rows.{kind_from, is_input_of, is_output_of};
-ghost use Rattle.av_vread.specs.inner.Reading.{said_module};
+ghost use Rattle.av_net.specs.Names.{names_of, width_in};
+ghost use Rattle.av_net.specs.Rows.{is_in, kind_from, is_input_of, is_output_of};
+ghost use Rattle.av_vread.specs.inner.Scoped.{Bytes};
+ghost use Rattle.av_vparse.specs.Said.{said_module};
 
-use crate::parsed::ModuleText;
 use crate::scope;
 use crate::widths::Widths;
 use av_base::Memory;
 use av_table::NameSet;
+use av_vparse::ModuleText;
 use std::alloc::Global;
 use std::marker::Model;
 
@@ -25,7 +26,7 @@ pub(crate) struct Kind<'a> {
 impl<'a> Model for Kind<'a> {
     ghost use Rattle.av_net.specs.declared.plan.CellKind.{CellKind as Cell};
     ghost use Rattle.av_net.specs.Rows.{kind_from};
-    ghost use Rattle.av_vread.specs.inner.Reading.{said_module};
+    ghost use Rattle.av_vparse.specs.Said.{said_module};
     ghost use Rattle.av_vread.specs.inner.KindPorts.{HasPorts};
 
     ghost Value = { Cell };
@@ -36,21 +37,33 @@ impl<'a> Model for Kind<'a> {
 }
 
 impl<'a> Kind<'a> {
-    /// That of a text.
-    pub(crate) fn new(alloc: Global, of: &'a ModuleText) -> Result<Kind<'a>, Memory>
+    // That of a text whose ports have these names.
+    fn with_names(
+        alloc: Global,
+        of: &'a ModuleText,
+        inputs: NameSet<'a>,
+        outputs: NameSet<'a>,
+    ) -> Result<Kind<'a>, Memory>
+        requires inputs { (q : Bytes) → is_in inputs q ≡ is_in (names_of of.now.inputs) q }
+        requires outputs { (q : Bytes) → is_in outputs q ≡ is_in (names_of of.now.outputs) q }
         ensures { IfOk result (λ kind. kind ≡ kind_from (said_module of.now)) }
     {
-        let mut widths = Widths::new(alloc);
-        scope::insert_ports(&mut widths, of.inputs.as_slice())?;
-        scope::insert_ports(&mut widths, of.outputs.as_slice())?;
-        let inputs = scope::port_names(alloc, of.inputs.as_slice())?;
-        let outputs = scope::port_names(alloc, of.outputs.as_slice())?;
+        let widths = scope::port_widths(alloc, of)?;
         Ok(Kind {
             of,
             inputs,
             outputs,
             widths,
         })
+    }
+
+    /// That of a text.
+    pub(crate) fn new(alloc: Global, of: &'a ModuleText) -> Result<Kind<'a>, Memory>
+        ensures { IfOk result (λ kind. kind ≡ kind_from (said_module of.now)) }
+    {
+        let inputs = scope::port_names(alloc, of.inputs.as_slice())?;
+        let outputs = scope::port_names(alloc, of.outputs.as_slice())?;
+        Kind::with_names(alloc, of, inputs, outputs)
     }
 
     /// Its text.

@@ -9,8 +9,8 @@ ghost use Rattle.av_net.specs.PlanTexts.{text2};
 ghost use Rattle.av_net.specs.Designs.{Spells, IsSoundDesign, IsSoundPlan};
 ghost use Rattle.av_vread.specs.declared.fault.VFault.{VFault as Fault};
 ghost use Rattle.av_net.specs.Lexemes.{Token};
-ghost use Rattle.av_vread.specs.Fronts.{FrontText};
-ghost use Rattle.av_vread.specs.Beginnings.{Begins};
+ghost use Rattle.av_vparse.specs.Fronts.{FrontText};
+ghost use Rattle.av_vparse.specs.Beginnings.{Begins};
 ghost use Rattle.av_vread.specs.Faults.{IsFault};
 ghost use Rattle.av_vread.specs.SpelledParts.{HasSpelledParts};
 

@@ -38,7 +38,7 @@ fn trimmed(text: &[u8]) -> &[u8]
 }
 
 /// A line, and how many bytes come before its line feed.
-#[derive(Clone, Copy, Debug)]
+#[derive(Clone, Copy)]
 pub(crate) struct Line<'a> {
     pub(crate) text: &'a [u8],
     pub(crate) len: usize,

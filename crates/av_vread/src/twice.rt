@@ -1,23 +1,23 @@
 //! A name that stands a second time in a text, where it may stand once.
 
-ghost use Rattle.std.specs.Prelude.{◌≡◌, ◌++◌, ◌∷◌, [], None, map, option_map, IfOk};
+ghost use Rattle.std.specs.Prelude.{◌≡◌, ◌++◌, ◌∷◌, [], None, map, option_map, IfOk, OnOk};
 ghost use Rattle.std.specs.List.{flat_map};
 ghost use Rattle.av_net.specs.Grammar.{instance};
 ghost use Rattle.av_net.specs.Flat.{instance_wires};
-ghost use Rattle.av_net.specs.Names.{clk, rst};
-ghost use Rattle.av_net.specs.Rows.{is_in, kind_or, kinds_of, modules_of, declares, drives, first_again, driven_by_link, link_mentions, item_mentions, mentions_of, instances_in, twice_from, part_twice};
-ghost use Rattle.av_vread.specs.inner.Reading.{said_link, said_instance, said_item, said_module, said};
-ghost use Rattle.av_vread.specs.inner.Scoped.{texts, listed, own_names, Bytes};
-ghost use Rattle.av_vread.specs.inner.Seen.{IsPut, Stands, StandsIn, Tells, standing};
+ghost use Rattle.av_net.specs.Names.{clk, rst, names_of};
+ghost use Rattle.av_net.specs.Rows.{is_in, kind_or, kinds_of, modules_of, declares, drives, first_again, driven_by_link, link_mentions, item_mentions, mentions_of, instances_in, twice_from, first_repeated, part_twice};
+ghost use Rattle.av_vparse.specs.Said.{said_link, said_instance, said_item, said_module, said};
+ghost use Rattle.av_vread.specs.inner.Scoped.{texts, listed, instances_named, own_names, Bytes};
+ghost use Rattle.av_vread.specs.inner.Seen.{IsPut, Stands, StandsIn, Tells, standing, own_declared, own_mentions};
 
 use crate::kind::Kind;
 use crate::kinds::Kinds;
 use crate::names::set_of;
-use crate::parsed::{Instantiation, Item, Link, ModuleText, Text};
 use crate::scope;
-use av_base::{Memory, Name};
+use av_base::Memory;
 use av_net::Port;
 use av_table::NameSet;
+use av_vparse::{Instantiation, Item, Link, ModuleText, Text};
 use std::alloc::Global;
 
 // Puts a name among others. The name, if it was there.
@@ -106,6 +106,23 @@ impl<'a> Seen<'a> {
         }
     }
 
+    // The first port or driven name of these links that stands again, of an instance that linked these ports before.
+    fn all_links(
+        &mut self,
+        linked: &mut NameSet<'a>,
+        kind: Option<&Kind>,
+        links: &'a [Link],
+    ) -> Result<Option<&'a str>, Memory>
+        ensures { IfOk result (λ r. (u : Bytes) → Tells (StandsIn u) (self.old, linked.old) (self.new, linked.new) (flat_map (link_mentions (kind_or (option_map (λ kind. kind.now) kind.entry)) u) (map said_link links.now)) (option_map (λ name. name.now) r)) }
+    {
+        for link in links {
+            if let Some(name) = self.links(linked, kind, link)? {
+                return Ok(Some(name));
+            }
+        }
+        Ok(None)
+    }
+
     // The first name of an instance that stands again.
     fn instance(
         &mut self,
@@ -120,12 +137,7 @@ impl<'a> Seen<'a> {
         }
         let kind = kinds.named(of.kind.as_str());
         let mut linked = NameSet::new(alloc);
-        for link in of.links.as_slice() {
-            if let Some(name) = self.links(&mut linked, kind, link)? {
-                return Ok(Some(name));
-            }
-        }
-        Ok(None)
+        self.all_links(&mut linked, kind, of.links.as_slice())
     }
 
     // The first name of an item that stands again.
@@ -160,6 +172,29 @@ impl<'a> Seen<'a> {
         }
         Ok(None)
     }
+
+    // The first name that a module declares again.
+    fn declarations(&mut self, alloc: Global, of: &'a ModuleText) -> Result<Option<&'a str>, Memory>
+        ensures { IfOk result (λ r. Tells Stands self.old self.new (map declares (own_declared (said_module of.now))) (option_map (λ name. name.now) r)) }
+    {
+        let names = scope::declared(alloc, of)?;
+        self.declares_all(names.as_slice())
+    }
+
+    // The first name of a module that stands again, but for its own.
+    fn mentions(
+        &mut self,
+        alloc: Global,
+        kinds: &Kinds,
+        of: &'a ModuleText,
+    ) -> Result<Option<&'a str>, Memory>
+        ensures { IfOk result (λ r. Tells Stands self.old self.new (own_mentions kinds.now (said_module of.now)) (option_map (λ name. name.now) r)) }
+    {
+        if let Some(name) = self.declarations(alloc, of)? {
+            return Ok(Some(name));
+        }
+        self.items(alloc, kinds, of.items.as_slice())
+    }
 }
 
 // The first name of a module that stands again: its own among those of earlier modules, and what it declares, drives
@@ -177,11 +212,25 @@ fn twice_in<'a>(
         return Ok(Some(name));
     }
     let mut seen = Seen::new(alloc)?;
-    let names = scope::declared(alloc, of)?;
-    if let Some(name) = seen.declares_all(names.as_slice())? {
-        return Ok(Some(name));
+    seen.mentions(alloc, kinds, of)
+}
+
+// The same of all modules, behind others with these names.
+fn twice_among<'a>(
+    alloc: Global,
+    kinds: &Kinds,
+    modules: &mut NameSet<'a>,
+    text: &'a Text,
+) -> Result<Option<&'a str>, Memory>
+    requires { kinds.now ≡ kinds_of (said text.now) }
+    ensures { IfOk result (λ r. option_map (λ name. name.now) r ≡ twice_from (kinds_of (said text.now)) modules.old (modules_of (said text.now))) }
+{
+    for kind in text.kinds.as_slice() {
+        if let Some(name) = twice_in(alloc, kinds, modules, kind)? {
+            return Ok(Some(name));
+        }
     }
-    seen.items(alloc, kinds, of.items.as_slice())
+    twice_in(alloc, kinds, modules, &text.top)
 }
 
 /// The first name that is declared, driven or linked a second time, or the second of two modules.
@@ -194,12 +243,21 @@ pub(crate) fn twice_name<'a>(
     ensures { IfOk result (λ r. option_map (λ name. name.now) r ≡ twice_from (kinds_of (said text.now)) [] (modules_of (said text.now))) }
 {
     let mut modules = NameSet::new(alloc);
-    for kind in text.kinds.as_slice() {
-        if let Some(name) = twice_in(alloc, kinds, &mut modules, kind)? {
-            return Ok(Some(name));
+    twice_among(alloc, kinds, &mut modules, text)
+}
+
+// Puts what the top declares besides behind other names: `clk`, `rst` and its instances.
+fn push_top<'a>(names: &mut Vec<&'a str>, items: &'a [Item]) -> Result<(), Memory>
+    ensures { OnOk result (texts names.new.items ≡ texts names.old.items ++ clk ∷ rst ∷ instances_named (map said_item items.now)) }
+{
+    names.push("clk")?;
+    names.push("rst")?;
+    for item in items {
+        if let Item::Instance(of) = item {
+            names.push(of.name.as_str())?;
         }
     }
-    twice_in(alloc, kinds, &mut modules, &text.top)
+    Ok(())
 }
 
 // The names that the top declares.
@@ -207,26 +265,31 @@ fn top_names<'a>(alloc: Global, top: &'a ModuleText) -> Result<NameSet<'a>, Memo
     ensures { IfOk result (λ set. (q : Bytes) → is_in set q ≡ is_in (own_names (said_module top.now)) q) }
 {
     let mut names = scope::declared(alloc, top)?;
-    names.push("clk")?;
-    names.push("rst")?;
-    for item in top.items.as_slice() {
-        if let Item::Instance(of) = item {
-            names.push(of.name.as_str())?;
-        }
-    }
+    push_top(&mut names, top.items.as_slice())?;
     set_of(alloc, names.as_slice())
 }
 
-/// The first name of these flat wires of instances that the top declares or that stands there before.
-pub(crate) fn part_twice(alloc: Global, text: &Text, parts: &[Port]) -> Result<Option<Name>, Memory>
-    requires { parts.now ≡ flat_map (instance_wires (kinds_of (said text.now))) (instances_in (kinds_of (said text.now)) (said text.now).top.items) }
-    ensures { IfOk result (λ r. r ≡ part_twice (said text.now)) }
+// The first name of these flat wires that is among others or stands there before.
+fn repeated<'a>(seen: &mut NameSet<'a>, parts: &'a [Port]) -> Result<Option<&'a str>, Memory>
+    ensures { IfOk result (λ r. option_map (λ name. name.now) r ≡ first_repeated seen.old (names_of parts.now)) }
 {
-    let mut seen = top_names(alloc, &text.top)?;
     for part in parts {
         if !seen.insert(part.name.as_str().as_bytes())? {
-            return Ok(Some(Name::new(alloc, part.name.as_str())?));
+            return Ok(Some(part.name.as_str()));
         }
     }
     Ok(None)
+}
+
+/// The first name of these flat wires of instances that the top declares or that stands there before.
+pub(crate) fn part_twice<'a>(
+    alloc: Global,
+    text: &'a Text,
+    parts: &'a [Port],
+) -> Result<Option<&'a str>, Memory>
+    requires { parts.now ≡ flat_map (instance_wires (kinds_of (said text.now))) (instances_in (kinds_of (said text.now)) (said text.now).top.items) }
+    ensures { IfOk result (λ r. option_map (λ name. name.now) r ≡ part_twice (said text.now)) }
+{
+    let mut seen = top_names(alloc, &text.top)?;
+    repeated(&mut seen, parts)
 }

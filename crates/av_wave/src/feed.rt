@@ -91,8 +91,8 @@ pub fn wires(alloc: Global, of: &Module) -> Result<List<u32>, Memory>
     Ok(wires)
 }
 
-// What the next of the values gives to a port in a cycle, or 0, and where the values after it begin.
-fn word_next(given: &[Given], next: usize, cycle: u32, port: u32) -> (u64, usize)
+/// What the next of the values gives to a port in a cycle, or 0, and where the values after it begin.
+pub fn word_next(given: &[Given], next: usize, cycle: u32, port: u32) -> (u64, usize)
     requires { next ≤ length given.now }
     ensures word { result.0 ≡ word_next (drop next given.now) cycle port }
     ensures rest { drop result.1 given.now ≡ rest_next (drop next given.now) cycle port }

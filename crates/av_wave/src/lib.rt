@@ -18,7 +18,9 @@ mod wave;
 mod writer;
 
 pub use fault::{RunFault, WaveFault};
-pub use feed::{are_numbered, header_ports, place_of, present, show, targets, wires, zeros};
+pub use feed::{
+    are_numbered, header_ports, place_of, present, show, targets, wires, word_next, zeros,
+};
 pub use laws::{dumps_are_unique, dumps_have_one_fault};
 pub use reader::read_wave;
 pub use recording::capture;

@@ -7,7 +7,7 @@ use Rattle.av_clock.specs.declared.engine.Engine.TheInside.{Inside}
 use Rattle.av_clock.specs.Named.{named, AllFit}
 use Rattle.av_clock.specs.Seen.{Seen}
 use Rattle.av_clock.specs.Marked.{AreHeld}
-use Rattle.av_clock.specs.inner.Kept.{AreZero}
+use Rattle.av_clock.specs.Kept.{AreZero}
 
 -- all drives of a dense clock are marked
 abbrev pub marks_of : Inside → List Bool

@@ -7,8 +7,7 @@ use Rattle.av_net.specs.Sound.{IsSound}
 use Rattle.av_clock.specs.declared.sourced.SourcedClock.TheInside.{Inside}
 use Rattle.av_clock.specs.Seen.{Seen}
 use Rattle.av_clock.specs.inner.Engine.{IsWhole}
-use Rattle.av_clock.specs.inner.Sources.{resolved}
-use Rattle.av_clock.specs.inner.Merged.{merged, source_of, AreMerged}
+use Rattle.av_clock.specs.Merged.{merged, source_of, AreMerged, resolved}
 
 -- the mark of the drive of a name, clear where nothing drives it
 abbrev pub mark_of : List Drive → List Bool → List ℕ → Bool

@@ -1,14 +1,10 @@
--- Words that are read at the sources of their places.
-use Rattle.std.specs.Prelude.{ℕ, List, map, slice_index}
+-- Gates and flip-flops that read at the sources of their places.
+use Rattle.std.specs.Prelude.{ℕ, List, slice_index}
 use Rattle.av_clock.specs.declared.gate.Reading.{Reading}
 use Rattle.av_clock.specs.declared.gate.Reading.TheVariants.{At, Constant}
 use Rattle.av_clock.specs.declared.gate.Gate.{Gate}
 use Rattle.av_clock.specs.declared.gate.Gate.TheVariants.{Buffer, Operator, Comparator, Multiplexer, Slice, Extender}
 use Rattle.av_clock.specs.declared.gate.FlipFlop.{FlipFlop}
-
--- the words of all places, each read at its source
-abbrev pub resolved : List ℕ → List ℕ → List ℕ
-resolved sources words = map (λ source. slice_index words source) sources
 
 -- the place that a reading reads, replaced by its source
 abbrev pub at_source : List ℕ → Reading → Reading

@@ -6,7 +6,7 @@ use Rattle.av_base.specs.Spelling.{is_name}
 use Rattle.av_net.specs.declared.design.Entry.{Entry}
 use Rattle.av_net.specs.Rows.{Among}
 use Rattle.av_vread.specs.declared.entry.Parts.{Parts as Found}
-use Rattle.av_vread.specs.inner.Reading.{are_digits}
+use Rattle.av_vparse.specs.Digits.{are_digits}
 use Rattle.av_vread.specs.inner.Lines.{cut}
 
 -- ---- numbers

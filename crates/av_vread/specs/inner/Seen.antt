@@ -1,8 +1,10 @@
 -- What stands before in a module, as far as its names are looked for a second time.
 use Rattle.std.specs.Prelude.{◌≡◌, List, [], ◌∷◌, ◌++◌, map, true, false, Option, Some, None, if◌then◌else◌}
-use Rattle.std.specs.List.{list_any}
-use Rattle.av_net.specs.Names.{clk, rst}
-use Rattle.av_net.specs.Rows.{is_in, Mention, of_module, declares, drives, links, is_same, first_again}
+use Rattle.std.specs.List.{list_any, flat_map}
+use Rattle.av_net.specs.declared.plan.CellKind.{CellKind}
+use Rattle.av_net.specs.Names.{clk, rst, names_of}
+use Rattle.av_net.specs.Grammar.{ModuleText}
+use Rattle.av_net.specs.Rows.{is_in, Mention, of_module, declares, drives, links, is_same, first_again, declared_names, item_mentions}
 use Rattle.av_vread.specs.declared.twice.Seen.{Seen as FoundSeen}
 use Rattle.av_vread.specs.inner.Scoped.{Bytes}
 
@@ -30,3 +32,11 @@ Tells Stand old new mentions found = (earlier : List Mention) → Stand earlier 
 -- what stands before a module, behind others with these names; `clk` and `rst` count as declared
 abbrev pub standing : List Bytes → List Mention
 standing modules = map of_module modules ++ declares clk ∷ declares rst ∷ []
+
+-- what a module declares
+abbrev pub own_declared : ModuleText → List Bytes
+own_declared x = names_of x.inputs ++ names_of x.outputs ++ declared_names x.declarations
+
+-- what is mentioned behind the name of a module
+abbrev pub own_mentions : List CellKind → ModuleText → List Mention
+own_mentions kinds x = map declares (own_declared x) ++ flat_map (item_mentions kinds) x.items

@@ -1,4 +1,4 @@
-use Rattle.std.proofs.Common.{refl, ap, subst, sym, ◌∙◌, ℕ, ◌≤◌}
+use Rattle.std.proofs.Common.{refl, ap, subst, sym, ℕ, ◌≤◌}
 use Rattle.std.specs.Prelude.{Err}
 use Rattle.av_data.specs.Inputs.{words_of}
 use Rattle.av_cli.specs.inner.Outputs.{nothing_put}

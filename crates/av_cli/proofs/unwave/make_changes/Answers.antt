@@ -1,4 +1,4 @@
-use Rattle.std.proofs.Common.{◌≡◌, ◌+◌, ◌<◌, ◌≤◌, ℕ, List, length, take, set, ap, sym, ◌∙◌, refl, arith}
+use Rattle.std.proofs.Common.{◌<◌, ℕ, List, length, ap, ◌∙◌, refl, arith}
 use Rattle.std.proofs.lemmas.List.{length-set}
 use Rattle.av_wave.specs.declared.wave.Change.{Change}
 use Rattle.av_cli.proofs.Unwaving.{change_made, none_made, one_made, some_made, all_made}

@@ -1,9 +1,10 @@
-use Rattle.std.proofs.Common.{replicate, refl, inl, inr, ap, ◌∙◌}
+use Rattle.std.proofs.Common.{ℕ, length, replicate, refl, inl, inr, ap, ◌∙◌}
+use Rattle.av_wave.specs.Waves.{Recording}
 use Rattle.av_cli.specs.inner.Outputs.{puts}
 use Rattle.av_cli.proofs.unwave.put_cycles.Goals as goal
 
 pub write_cycles-requires : goal.write_cycles-requires
-write_cycles-requires g c = c.in-Ok.ensures.zeros ∙ ap (λ n. replicate n 0) c.len.ensures.count
+write_cycles-requires g c = c.in-Ok.ensures.zeros ∙ ap (λ (n : ℕ). replicate n 0) c.len.ensures.count ∙ ap (λ (w : Recording). replicate (length w.ports) 0) c.wave.view_is
 
 pub returns-in-Ok-write_cycles : goal.returns-in-Ok-write_cycles
 returns-in-Ok-write_cycles g c = puts refl (record { ends = inl (refl, c.in-Ok-write_cycles.ensures.added) })

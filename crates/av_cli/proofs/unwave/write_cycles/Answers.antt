@@ -1,7 +1,6 @@
 use Rattle.std.proofs.Common.{◌≡◌, ◌≤◌, ◌<◌, ℕ, List, length, take, subst, sym, ap, ◌∙◌, refl, arith}
 use Rattle.av_base.proofs.Moves.{on_err}
-use Rattle.av_base.specs.Outside.{Adds, AddsPrefix}
-use Rattle.av_data.specs.Cycles.{cycle_line}
+use Rattle.av_base.specs.Outside.{Adds}
 use Rattle.av_net.specs.declared.netlist.Port.{Port}
 use Rattle.av_wave.specs.declared.wave.Change.{Change}
 use Rattle.av_wave.specs.Waves.{Recording, IsWave}

@@ -1,6 +1,6 @@
 use Rattle.std.proofs.Common.{◌≡◌, take}
 use Rattle.std.specs.Prelude.{filter}
-use Rattle.av_clock.specs.inner.Kept.{computes}
+use Rattle.av_clock.specs.Kept.{computes}
 use Rattle.av_clock.proofs.circuit.computed.Given as goal
 
 abbrev pub invariant-loop-assignment : goal.invariant-loop-assignment

@@ -1,7 +1,7 @@
 use Rattle.std.proofs.Common.{◌<◌, ◌+◌, List, length, sym, subst, arith}
 use Rattle.av_net.specs.Names.{all_names, width_of}
 use Rattle.av_clock.specs.declared.gate.Assignment.{Assignment}
-use Rattle.av_clock.specs.inner.Merged.{IsSource}
+use Rattle.av_clock.specs.inner.Choices.{IsSource}
 use Rattle.av_clock.proofs.Merging.{SoFar, none_yet, merges_more, source_within, all_merged, all_assigned, target_in, end_of}
 use Rattle.av_clock.proofs.Settling.{is_for, gate_within}
 use Rattle.av_clock.proofs.merged.merge.Goals as goal

@@ -1,9 +1,9 @@
 use Rattle.std.proofs.Common.{length, sym, subst}
 use Rattle.av_net.specs.Names.{all_names, width_of}
 use Rattle.av_net.proofs.Settles.{names_distinct}
-use Rattle.av_clock.specs.inner.Gates.{AreAssigned}
-use Rattle.av_clock.specs.inner.Merged.{merged}
-use Rattle.av_clock.proofs.Reading.{drives_more, drives_read}
+use Rattle.av_clock.specs.Gates.{AreAssigned}
+use Rattle.av_clock.specs.Merged.{merged}
+use Rattle.av_clock.proofs.Readings.{drives_more, drives_read}
 use Rattle.av_clock.proofs.Settling.{for_items, gate_within}
 use Rattle.av_clock.proofs.readers.drives_reading.Goals as goal
 

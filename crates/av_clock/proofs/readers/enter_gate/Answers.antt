@@ -1,7 +1,7 @@
 use Rattle.std.proofs.Common.{◌∙◌, subst, inl, inr}
 use Rattle.std.proofs.lemmas.Result.{on_ok_weaker}
-use Rattle.av_clock.specs.inner.Gates.{IsResolved}
-use Rattle.av_clock.proofs.Reading.{enters_buffer, enters_slice, enters_extender, enters_operator, enters_comparator, enters_multiplexer}
+use Rattle.av_clock.specs.Gates.{IsResolved}
+use Rattle.av_clock.proofs.Readings.{enters_buffer, enters_slice, enters_extender, enters_operator, enters_comparator, enters_multiplexer}
 use Rattle.av_clock.proofs.readers.enter_gate.Goals as goal
 
 pub returns-in-Buffer : goal.returns-in-Buffer

@@ -1,7 +1,7 @@
 use Rattle.std.proofs.Common.{subst}
 use Rattle.std.proofs.lemmas.Result.{on_ok_weaker}
-use Rattle.av_clock.specs.inner.Gates.{IsRead}
-use Rattle.av_clock.proofs.Reading.{entered_push}
+use Rattle.av_clock.specs.Gates.{IsRead}
+use Rattle.av_clock.proofs.Readings.{entered_push}
 use Rattle.av_clock.proofs.readers.enter_reading.Goals as goal
 
 pub returns-in-At-clause-entered : goal.returns-in-At-clause-entered

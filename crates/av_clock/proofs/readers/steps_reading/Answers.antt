@@ -1,10 +1,10 @@
 use Rattle.std.proofs.Common.{refl, get_or, length, sym, subst}
 use Rattle.av_net.specs.Names.{all_names}
 use Rattle.av_net.proofs.Settles.{names_distinct}
-use Rattle.av_clock.specs.inner.Gates.{AreStepped}
-use Rattle.av_clock.specs.inner.Merged.{merged}
+use Rattle.av_clock.specs.Gates.{AreStepped}
+use Rattle.av_clock.specs.Merged.{merged}
 use Rattle.av_clock.proofs.Edges.{no_flip_flop, for_read}
-use Rattle.av_clock.proofs.Reading.{steps_more, steps_read}
+use Rattle.av_clock.proofs.Readings.{steps_more, steps_read}
 use Rattle.av_clock.proofs.Settling.{reading_within}
 use Rattle.av_clock.proofs.readers.steps_reading.Goals as goal
 

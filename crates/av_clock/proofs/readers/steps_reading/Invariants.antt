@@ -1,5 +1,5 @@
-use Rattle.av_clock.specs.inner.Merged.{merged}
-use Rattle.av_clock.specs.inner.Readers.{HaveSteps}
+use Rattle.av_clock.specs.Merged.{merged}
+use Rattle.av_clock.specs.Readers.{HaveSteps}
 use Rattle.av_clock.proofs.readers.steps_reading.Given as goal
 
 abbrev pub invariant-loop-i : goal.invariant-loop-i

@@ -1,4 +1,4 @@
-use Rattle.av_vread.proofs.FrontTexts.{front_begins, begins_front}
+use Rattle.av_vparse.proofs.FrontTexts.{front_begins, begins_front}
 use Rattle.av_vread.proofs.laws.fronts.Goals as goal
 
 pub returns-clause-begin : goal.returns-clause-begin

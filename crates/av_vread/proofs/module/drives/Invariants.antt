@@ -1,6 +1,6 @@
 use Rattle.std.proofs.Common.{◌≡◌, ◌++◌, drop, map}
 use Rattle.av_net.specs.Rows.{flat_drives}
-use Rattle.av_vread.specs.inner.Reading.{said_item}
+use Rattle.av_vparse.specs.Said.{said_item}
 use Rattle.av_vread.proofs.module.drives.Given as goal
 
 abbrev pub invariant-loop-item : goal.invariant-loop-item

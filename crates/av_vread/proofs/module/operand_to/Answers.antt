@@ -2,8 +2,8 @@ use Rattle.std.proofs.Common.{◌≡◌, Some, None, map, sym, ap, subst, ◌∙
 use Rattle.std.specs.Prelude.{IfOk}
 use Rattle.av_net.specs.declared.operation.Operand.TheVariants.{Name}
 use Rattle.av_net.specs.Rows.{operand_or}
-use Rattle.av_vread.specs.declared.parsed.Link.{Link}
-use Rattle.av_vread.specs.inner.Reading.{said_link}
+use Rattle.av_vparse.specs.declared.parsed.Link.{Link}
+use Rattle.av_vparse.specs.Said.{said_link}
 use Rattle.av_vread.specs.inner.Numbered.{place_of}
 use Rattle.av_vread.proofs.PlacedInstances.{link_there, link_none, link_within}
 use Rattle.av_vread.proofs.module.operand_to.Goals as goal

@@ -1,6 +1,6 @@
 use Rattle.std.proofs.Common.{◌≡◌, ◌++◌, drop, map}
 use Rattle.av_net.specs.Rows.{name_to}
-use Rattle.av_vread.specs.inner.Reading.{said_link}
+use Rattle.av_vparse.specs.Said.{said_link}
 use Rattle.av_vread.proofs.module.outputs_of.Given as goal
 
 abbrev pub invariant-loop-port : goal.invariant-loop-port

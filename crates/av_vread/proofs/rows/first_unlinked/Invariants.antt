@@ -1,5 +1,5 @@
 use Rattle.std.proofs.Common.{◌≡◌, drop, map}
-use Rattle.av_vread.specs.inner.Reading.{said_item}
+use Rattle.av_vparse.specs.Said.{said_item}
 use Rattle.av_net.specs.Rows.{first_some, unlinked_in}
 use Rattle.av_vread.proofs.rows.first_unlinked.Given as goal
 

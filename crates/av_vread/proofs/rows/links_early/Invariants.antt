@@ -1,6 +1,6 @@
 use Rattle.std.proofs.Common.{◌≡◌, drop, map}
 use Rattle.std.specs.List.{list_any}
-use Rattle.av_vread.specs.inner.Reading.{said_link}
+use Rattle.av_vparse.specs.Said.{said_link}
 use Rattle.av_net.specs.Rows.{is_in, is_early_link}
 use Rattle.av_vread.proofs.rows.links_early.Given as goal
 

@@ -1,6 +1,6 @@
 use Rattle.std.proofs.Common.{sym, ap, ◌∙◌}
 use Rattle.av_net.specs.Rows.{is_in, kind_named}
-use Rattle.av_vread.specs.inner.Reading.{said_instance}
+use Rattle.av_vparse.specs.Said.{said_instance}
 use Rattle.av_vread.proofs.KindTables.{unknown_early}
 use Rattle.av_vread.proofs.rows.reads_early.Goals as goal
 

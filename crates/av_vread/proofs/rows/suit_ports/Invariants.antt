@@ -2,7 +2,7 @@ use Rattle.std.proofs.Common.{◌≡◌, ◌++◌, drop, map, not}
 use Rattle.std.specs.Prelude.{option_map}
 use Rattle.std.specs.List.{list_any}
 use Rattle.av_net.specs.Names.{width_in}
-use Rattle.av_vread.specs.inner.Reading.{said_link}
+use Rattle.av_vparse.specs.Said.{said_link}
 use Rattle.av_net.specs.Rows.{kind_or, suits_port}
 use Rattle.av_vread.proofs.rows.suit_ports.Given as goal
 

@@ -1,7 +1,7 @@
 use Rattle.std.proofs.Common.{◌≡◌, ◌<◌, ◌≤◌, ◌++◌, [], ◌∷◌, map, length, get_or, Some, sym, ap, subst, ◌∙◌, arith}
 use Rattle.std.specs.Prelude.{IfOk, option_map}
 use Rattle.av_net.specs.Rows.{first_some, undriven_in_module, undriven_name}
-use Rattle.av_vread.specs.inner.Reading.{said_module, said}
+use Rattle.av_vparse.specs.Said.{said_module, said}
 use Rattle.av_vread.proofs.KindTables.{told_by_kind, told_by_top}
 use Rattle.av_vread.proofs.rows.undriven_name.Goals as goal
 

@@ -1,5 +1,5 @@
 use Rattle.std.proofs.Common.{◌≡◌, drop, map}
-use Rattle.av_vread.specs.inner.Reading.{said_module}
+use Rattle.av_vparse.specs.Said.{said_module}
 use Rattle.av_net.specs.Rows.{first_some, undriven_in_module}
 use Rattle.av_vread.proofs.rows.undriven_name.Given as goal
 

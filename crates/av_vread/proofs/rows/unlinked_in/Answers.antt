@@ -7,6 +7,5 @@ use Rattle.av_vread.proofs.rows.unlinked_in.Goals as goal
 
 pub returns : goal.returns
 returns c =
-    c.first_missing.ensures
-    ∙ missing_same c.in_ok-linked.linked (map (λ link. link.port) c.args.links.now) (texts c.as_slice-2.result.now) (λ q. c.in_ok-linked.ensures q ∙ ap (λ z. is_in z q) (ap texts c.as_slice.ensures.value ∙ c.in_ok-ports.ensures))
-    ∙ ap (find (λ port. not (is_in (map (λ link. link.port) c.args.links.now) port))) (ap texts c.as_slice-2.ensures.value ∙ c.in_ok-names.ensures)
+    c.first_missing.ensures ∙ missing_same c.in_ok-linked.linked (map (λ link. link.port) c.args.links.now) (texts c.as_slice.result.now) c.in_ok-linked.ensures
+    ∙ ap (find (λ port. not (is_in (map (λ link. link.port) c.args.links.now) port))) (ap texts c.as_slice.ensures.value ∙ c.in_ok-names.ensures)

@@ -2,7 +2,7 @@ use Rattle.std.proofs.Common.{◌≡◌, ap, ◌∙◌, map, not}
 use Rattle.std.specs.Prelude.{find, option_map}
 use Rattle.av_net.specs.Names.{width_in, width_of}
 use Rattle.av_net.specs.Rows.{module_of, suits, target_of}
-use Rattle.av_vread.specs.inner.Reading.{said_item, said_module}
+use Rattle.av_vparse.specs.Said.{said_item, said_module}
 use Rattle.av_vread.proofs.RowWalks.{widths_test}
 use Rattle.av_vread.proofs.rows.unsuited_in.Goals as goal
 

@@ -1,6 +1,6 @@
 use Rattle.std.proofs.Common.{◌≡◌, ◌++◌, drop, map}
 use Rattle.av_vread.specs.inner.Scoped.{texts}
-use Rattle.av_vread.specs.inner.Reading.{said_item}
+use Rattle.av_vparse.specs.Said.{said_item}
 use Rattle.av_net.specs.Rows.{driven_names}
 use Rattle.av_vread.proofs.scope.driven.Given as goal
 

@@ -1,7 +1,7 @@
 use Rattle.std.proofs.Common.{List, ◌++◌, map}
 use Rattle.av_net.specs.Rows.{registers_in}
-use Rattle.av_vread.specs.declared.parsed.Declaration.{Declaration}
-use Rattle.av_vread.specs.inner.Reading.{said_declaration}
+use Rattle.av_vparse.specs.declared.parsed.Declaration.{Declaration}
+use Rattle.av_vparse.specs.Said.{said_declaration}
 use Rattle.av_vread.specs.inner.Scoped.{width_found}
 use Rattle.av_vread.proofs.RowWalks.{widths_more, registers_each}
 use Rattle.av_vread.proofs.scope.insert_registers.Goals as goal

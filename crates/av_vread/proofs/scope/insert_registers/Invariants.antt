@@ -1,6 +1,6 @@
 use Rattle.std.proofs.Common.{◌≡◌, ◌++◌, drop, map}
 use Rattle.av_vread.specs.inner.Scoped.{Bytes, width_found}
-use Rattle.av_vread.specs.inner.Reading.{said_declaration}
+use Rattle.av_vparse.specs.Said.{said_declaration}
 use Rattle.av_net.specs.Rows.{registers_in}
 use Rattle.av_vread.proofs.scope.insert_registers.Given as goal
 

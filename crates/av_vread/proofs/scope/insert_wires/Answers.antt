@@ -1,7 +1,7 @@
 use Rattle.std.proofs.Common.{List, ◌++◌, map}
 use Rattle.av_net.specs.Rows.{wires_of}
-use Rattle.av_vread.specs.declared.parsed.Declaration.{Declaration}
-use Rattle.av_vread.specs.inner.Reading.{said_declaration}
+use Rattle.av_vparse.specs.declared.parsed.Declaration.{Declaration}
+use Rattle.av_vparse.specs.Said.{said_declaration}
 use Rattle.av_vread.specs.inner.Scoped.{width_found}
 use Rattle.av_vread.proofs.RowWalks.{widths_more, wires_each}
 use Rattle.av_vread.proofs.scope.insert_wires.Goals as goal

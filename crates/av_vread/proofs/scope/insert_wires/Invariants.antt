@@ -1,6 +1,6 @@
 use Rattle.std.proofs.Common.{◌≡◌, ◌++◌, drop, map}
 use Rattle.av_vread.specs.inner.Scoped.{Bytes, width_found}
-use Rattle.av_vread.specs.inner.Reading.{said_declaration}
+use Rattle.av_vparse.specs.Said.{said_declaration}
 use Rattle.av_net.specs.Rows.{wires_of}
 use Rattle.av_vread.proofs.scope.insert_wires.Given as goal
 

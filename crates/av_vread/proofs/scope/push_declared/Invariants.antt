@@ -1,6 +1,6 @@
 use Rattle.std.proofs.Common.{◌≡◌, ◌++◌, drop, map}
 use Rattle.av_vread.specs.inner.Scoped.{texts}
-use Rattle.av_vread.specs.inner.Reading.{said_declaration}
+use Rattle.av_vparse.specs.Said.{said_declaration}
 use Rattle.av_net.specs.Rows.{declared_names}
 use Rattle.av_vread.proofs.scope.push_declared.Given as goal
 

@@ -1,7 +1,7 @@
 use Rattle.std.proofs.Common.{◌++◌, sym, ap, ◌∙◌}
 use Rattle.std.proofs.lemmas.List.{append-nil}
 use Rattle.av_net.specs.Rows.{kind_named}
-use Rattle.av_vread.specs.inner.Reading.{said_instance}
+use Rattle.av_vparse.specs.Said.{said_instance}
 use Rattle.av_vread.specs.inner.Scoped.{texts}
 use Rattle.av_vread.proofs.KindTables.{unknown_drives}
 use Rattle.av_vread.proofs.scope.push_instance.Goals as goal

@@ -1,7 +1,7 @@
 use Rattle.std.proofs.Common.{◌≡◌, ◌++◌, drop, map}
 use Rattle.std.specs.List.{flat_map}
 use Rattle.av_vread.specs.inner.Scoped.{texts}
-use Rattle.av_vread.specs.inner.Reading.{said_link}
+use Rattle.av_vparse.specs.Said.{said_link}
 use Rattle.av_net.specs.Rows.{driven_by_link}
 use Rattle.av_vread.proofs.scope.push_linked.Given as goal
 

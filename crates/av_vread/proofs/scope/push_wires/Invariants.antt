@@ -1,7 +1,7 @@
 use Rattle.std.proofs.Common.{◌≡◌, ◌++◌, drop, map}
 use Rattle.av_vread.specs.inner.Scoped.{texts}
 use Rattle.av_net.specs.Names.{names_of}
-use Rattle.av_vread.specs.inner.Reading.{said_declaration}
+use Rattle.av_vparse.specs.Said.{said_declaration}
 use Rattle.av_net.specs.Rows.{wires_of}
 use Rattle.av_vread.proofs.scope.push_wires.Given as goal
 

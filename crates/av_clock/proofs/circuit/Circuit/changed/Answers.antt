@@ -1,5 +1,5 @@
 use Rattle.std.proofs.Common.{◌<◌, get_or, length, arith}
-use Rattle.av_clock.specs.inner.Circuit.{net}
+use Rattle.av_clock.specs.Circuit.{net}
 use Rattle.av_clock.proofs.Edges.{no_flip_flop, for_read, register_within}
 use Rattle.av_clock.proofs.circuit.Circuit.changed.Goals as goal
 

@@ -1,6 +1,6 @@
 use Rattle.std.proofs.Common.{subst, sym}
 use Rattle.av_net.specs.Sound.{IsSound}
-use Rattle.av_clock.specs.inner.Circuit.{net}
+use Rattle.av_clock.specs.Circuit.{net}
 use Rattle.av_clock.proofs.Held.{computed}
 use Rattle.av_clock.proofs.Touched.{cleared_touched}
 use Rattle.av_clock.proofs.Marking.{set_within}

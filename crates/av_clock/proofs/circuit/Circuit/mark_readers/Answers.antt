@@ -1,7 +1,7 @@
 use Rattle.std.proofs.Common.{subst, length}
 use Rattle.av_net.specs.declared.netlist.Module.{Module}
-use Rattle.av_clock.specs.inner.Readers.{HaveDrives, HaveSteps}
-use Rattle.av_clock.proofs.Reading.{drives_within, steps_within, drives_marked, steps_marked, drives_others, drives_ahead}
+use Rattle.av_clock.specs.Readers.{HaveDrives, HaveSteps}
+use Rattle.av_clock.proofs.Readings.{drives_within, steps_within, drives_marked, steps_marked, drives_others, drives_ahead}
 use Rattle.av_clock.proofs.circuit.Circuit.mark_readers.Goals as goal
 
 pub set_all-requires : goal.set_all-requires

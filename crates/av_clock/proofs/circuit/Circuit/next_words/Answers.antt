@@ -1,7 +1,7 @@
 use Rattle.std.proofs.Common.{subst, ◌∙◌, false, get_or}
 use Rattle.av_net.specs.Sound.{IsSound}
 use Rattle.av_clock.specs.Named.{named}
-use Rattle.av_clock.specs.inner.Circuit.{net}
+use Rattle.av_clock.specs.Circuit.{net}
 use Rattle.av_clock.proofs.Edges.{no_flip_flop, for_read, past_items, next_within, next_more, taken_all}
 use Rattle.av_clock.proofs.circuit.Circuit.next_words.Goals as goal
 

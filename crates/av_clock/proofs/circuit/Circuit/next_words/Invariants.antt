@@ -1,6 +1,6 @@
 use Rattle.std.proofs.Common.{false}
 use Rattle.av_clock.specs.Named.{named}
-use Rattle.av_clock.specs.inner.Gates.{AreTaken}
+use Rattle.av_clock.specs.Gates.{AreTaken}
 use Rattle.av_clock.proofs.circuit.Circuit.next_words.Given as goal
 
 abbrev pub invariant-loop-i : goal.invariant-loop-i

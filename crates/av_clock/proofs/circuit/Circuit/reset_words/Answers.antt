@@ -1,5 +1,5 @@
 use Rattle.std.proofs.Common.{◌∙◌, ◌<◌, true, get_or, length, arith}
-use Rattle.av_clock.specs.inner.Circuit.{net}
+use Rattle.av_clock.specs.Circuit.{net}
 use Rattle.av_clock.proofs.Edges.{no_flip_flop, for_read, past_items, reset_more, taken_all, taken_itself}
 use Rattle.av_clock.proofs.circuit.Circuit.reset_words.Goals as goal
 

@@ -1,6 +1,6 @@
 use Rattle.std.proofs.Common.{◌≡◌, ◌<◌, ℕ, true, slice_index}
 use Rattle.av_net.specs.Meaning.{Words}
-use Rattle.av_clock.specs.inner.Gates.{AreTaken}
+use Rattle.av_clock.specs.Gates.{AreTaken}
 use Rattle.av_clock.proofs.circuit.Circuit.reset_words.Given as goal
 
 abbrev pub invariant-loop-i : goal.invariant-loop-i

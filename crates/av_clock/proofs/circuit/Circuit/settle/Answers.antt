@@ -1,7 +1,7 @@
 use Rattle.std.proofs.Common.{◌<◌, ◌∙◌, length, subst, arith}
 use Rattle.av_net.specs.declared.netlist.Module.{Module}
 use Rattle.av_net.specs.Sound.{IsSound}
-use Rattle.av_clock.specs.inner.Gates.{AreAssigned}
+use Rattle.av_clock.specs.Gates.{AreAssigned}
 use Rattle.av_clock.proofs.Computing.{each_one, computes_none, computes_more, have_settled}
 use Rattle.av_clock.proofs.Resolved.{at_item}
 use Rattle.av_clock.proofs.Computing.{IsOne}

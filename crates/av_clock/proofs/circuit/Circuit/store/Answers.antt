@@ -1,6 +1,6 @@
 use Rattle.std.proofs.Common.{subst, ◌∙◌, ◌<◌, length, get_or, arith, refl}
 use Rattle.av_net.specs.Sound.{IsSound}
-use Rattle.av_clock.specs.inner.Circuit.{net}
+use Rattle.av_clock.specs.Circuit.{net}
 use Rattle.av_clock.proofs.Edges.{no_flip_flop, for_read, past_items, register_within, stores_more, ports_kept, registers_stored}
 use Rattle.av_clock.proofs.circuit.Circuit.store.Goals as goal
 

@@ -1,6 +1,6 @@
 use Rattle.std.proofs.Common.{slice_index, subst, ◌∙◌}
 use Rattle.av_net.specs.Sound.{IsSound}
-use Rattle.av_clock.specs.inner.Circuit.{net}
+use Rattle.av_clock.specs.Circuit.{net}
 use Rattle.av_clock.proofs.Edges.{for_place, register_within}
 use Rattle.av_clock.proofs.Taking.{gives_more, all_given}
 use Rattle.av_clock.proofs.circuit.Circuit.store_taken.Goals as goal

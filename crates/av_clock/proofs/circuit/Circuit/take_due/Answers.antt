@@ -1,7 +1,7 @@
 use Rattle.std.proofs.Common.{◌≡◌, ◌<◌, false, length, subst, refl, arith}
 use Rattle.std.proofs.Math.ListN.{length-set}
 use Rattle.av_net.specs.Sound.{IsSound}
-use Rattle.av_clock.specs.inner.Circuit.{net}
+use Rattle.av_clock.specs.Circuit.{net}
 use Rattle.av_clock.proofs.Edges.{for_item, next_within}
 use Rattle.av_clock.proofs.Taking.{takes_more}
 use Rattle.av_clock.proofs.circuit.Circuit.take_due.Goals as goal

@@ -1,4 +1,4 @@
-use Rattle.av_clock.specs.inner.Circuit.{net}
+use Rattle.av_clock.specs.Circuit.{net}
 use Rattle.av_clock.proofs.Settling.{target_read}
 use Rattle.av_clock.proofs.circuit.Circuit.target.Goals as goal
 

@@ -2,7 +2,7 @@ use Rattle.std.proofs.Common.{◌≡◌, List, ℕ, length, ◌∙◌, ap, sym, 
 use Rattle.std.proofs.lemmas.List.{length-replicate}
 use Rattle.av_net.specs.Sound.{IsSound}
 use Rattle.av_clock.specs.Named.{AllFit}
-use Rattle.av_clock.specs.inner.Kept.{AreZero}
+use Rattle.av_clock.specs.Kept.{AreZero}
 use Rattle.av_clock.proofs.Computing.{zeros_zero}
 use Rattle.av_clock.proofs.Views.{zeros_fit}
 use Rattle.av_clock.proofs.engine.Engine.new.Goals as goal

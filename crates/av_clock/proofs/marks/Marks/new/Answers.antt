@@ -1,5 +1,5 @@
 use Rattle.std.proofs.Common.{List, ℕ, ◌∙◌, ap}
-use Rattle.av_clock.specs.inner.Bits.{marks_from}
+use Rattle.av_clock.specs.Bits.{marks_from}
 use Rattle.av_clock.proofs.Bits.{new_bits}
 use Rattle.av_clock.proofs.marks.Marks.new.Goals as goal
 

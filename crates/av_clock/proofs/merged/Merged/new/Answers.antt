@@ -2,8 +2,8 @@ use Rattle.std.proofs.Common.{◌≡◌, ◌∙◌, List, ℕ, length, map, ap, 
 use Rattle.std.specs.Vec.{with_items}
 use Rattle.av_net.specs.declared.netlist.Module.{Module}
 use Rattle.av_clock.specs.declared.gate.FlipFlop.{FlipFlop}
-use Rattle.av_clock.specs.inner.Gates.{AreAssigned, AreStepped}
-use Rattle.av_clock.specs.inner.Merged.{merged, AreMerged}
+use Rattle.av_clock.specs.Gates.{AreAssigned, AreStepped}
+use Rattle.av_clock.specs.Merged.{merged, AreMerged}
 use Rattle.av_clock.specs.inner.Sources.{flip_flop_at_source}
 use Rattle.av_clock.proofs.Merging.{nexts_within, is_merging}
 use Rattle.av_clock.proofs.Views.{new_items}

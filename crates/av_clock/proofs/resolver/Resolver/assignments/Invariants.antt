@@ -1,4 +1,4 @@
-use Rattle.av_clock.specs.inner.Gates.{AreAssigned}
+use Rattle.av_clock.specs.Gates.{AreAssigned}
 use Rattle.av_clock.proofs.resolver.Resolver.assignments.Given as goal
 
 abbrev pub invariant-loop-drive : goal.invariant-loop-drive

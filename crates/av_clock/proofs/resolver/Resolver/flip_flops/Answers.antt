@@ -1,7 +1,7 @@
 use Rattle.std.proofs.Common.{◌+◌, List, refl, sym, subst}
 use Rattle.av_net.specs.Sound.{IsSound}
 use Rattle.av_clock.specs.declared.gate.FlipFlop.{FlipFlop}
-use Rattle.av_clock.specs.inner.Gates.{AreStepped}
+use Rattle.av_clock.specs.Gates.{AreStepped}
 use Rattle.av_clock.proofs.Resolved.{read_step, register_declared, step_reads, stepped_more}
 use Rattle.av_clock.proofs.resolver.Resolver.flip_flops.Goals as goal
 

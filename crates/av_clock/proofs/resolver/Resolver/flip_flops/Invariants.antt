@@ -1,4 +1,4 @@
-use Rattle.av_clock.specs.inner.Gates.{AreStepped}
+use Rattle.av_clock.specs.Gates.{AreStepped}
 use Rattle.av_clock.proofs.resolver.Resolver.flip_flops.Given as goal
 
 abbrev pub invariant-loop-step : goal.invariant-loop-step

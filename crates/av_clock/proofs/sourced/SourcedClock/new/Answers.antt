@@ -1,6 +1,6 @@
 use Rattle.std.proofs.Common.{◌≡◌, List, ℕ, ◌∙◌, ap, subst, rules, replicate, length, true}
 use Rattle.std.proofs.lemmas.List.Elements.{same_from_all_zip}
-use Rattle.av_clock.specs.inner.Merged.{merged, AreMerged}
+use Rattle.av_clock.specs.Merged.{merged, AreMerged}
 use Rattle.av_clock.proofs.SourcedWords.{new_marks, new_words}
 use Rattle.av_clock.proofs.sourced.SourcedClock.new.Goals as goal
 

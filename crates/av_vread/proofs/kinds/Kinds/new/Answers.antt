@@ -5,8 +5,8 @@ use Rattle.std.specs.Str.{bytes_eq}
 use Rattle.std.proofs.lemmas.List.{length-map, map_push}
 use Rattle.av_net.specs.declared.plan.CellKind.{CellKind}
 use Rattle.av_net.specs.Rows.{kind_from}
-use Rattle.av_vread.specs.declared.parsed.ModuleText.{ModuleText}
-use Rattle.av_vread.specs.inner.Reading.{said_module}
+use Rattle.av_vparse.specs.declared.parsed.ModuleText.{ModuleText}
+use Rattle.av_vparse.specs.Said.{said_module}
 use Rattle.av_vread.specs.inner.Numbered.{place_among, number_of}
 use Rattle.av_vread.proofs.Walks.{made_more}
 use Rattle.av_vread.proofs.KindTables.{more_places}
@@ -28,12 +28,10 @@ loop-text-preserved c =
     let size : length c.as_slice-text-items.result.now ≡ length texts = ap length c.as_slice-text-items.ensures in
     let lt : at < length texts = omega (arith, test, size) in
     let is : text ≡ get_or texts at text = c.text-item.is ∙ ap (λ items. get_or items at text) c.as_slice-text-items.ensures in
-    let pushed : c.push.new.self.items ≡ before ++ kind ∷ [] = c.in_ok-push.ensures.items ∙ ap (λ k. before ++ k ∷ []) c.in_ok-new.ensures in
-    let name = c.as_bytes.ensures.value ∙ c.as_str.ensures in
-    let put = subst (λ key. c.insert.new.self ≡ (if is_some (lookup (bytes_eq key) numbers) then numbers else (numbers ++ (key, c.len-in-loop-text.result) ∷ []))) name c.in_ok-insert.ensures.all in
-    let count = c.len-in-loop-text.ensures ∙ c.loop-text.kinds.ok.0 ∙ sym (length-map before (λ (k : CellKind). k.name)) in
+    let pushed : c.push_kind.new.kinds.items ≡ before ++ kind ∷ [] = c.in_ok-push_kind.ensures.kinds in
+    let count = sym (length-map before (λ (k : CellKind). k.name)) in
     record {
-      made = made_more cells (λ x xs. refl) before c.push.new.self.items (cells texts) texts at text c.loop-text.invariant.made lt is pushed;
-      numbered = λ q. more_places numbers c.insert.new.self (map (λ k. k.name) before) kind.name c.len-in-loop-text.result c.loop-text.invariant.numbered count put q
+      made = made_more cells (λ x xs. refl) before c.push_kind.new.kinds.items (cells texts) texts at text c.loop-text.invariant.made lt is pushed;
+      numbered = λ q. more_places numbers c.push_kind.new.numbers (map (λ k. k.name) before) kind.name (length before) c.loop-text.invariant.numbered count c.in_ok-push_kind.ensures.numbers q
           ∙ ap (λ names. place_among names q) (sym (map_push (λ (k : CellKind). k.name) before kind)) ∙ ap (λ kinds. number_of kinds q) (sym pushed);
     }

@@ -2,7 +2,7 @@ use Rattle.std.proofs.Common.{◌≡◌, ◌++◌, drop, map}
 use Rattle.std.specs.Map.{lookup}
 use Rattle.std.specs.Str.{bytes_eq}
 use Rattle.av_net.specs.Rows.{kind_from}
-use Rattle.av_vread.specs.inner.Reading.{said_module}
+use Rattle.av_vparse.specs.Said.{said_module}
 use Rattle.av_vread.specs.inner.Numbered.{number_of}
 use Rattle.av_vread.specs.inner.Scoped.{Bytes}
 use Rattle.av_vread.proofs.kinds.Kinds.new.Given as goal

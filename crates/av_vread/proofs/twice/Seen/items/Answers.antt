@@ -1,8 +1,8 @@
 use Rattle.std.proofs.Common.{map, refl}
 use Rattle.std.specs.List.{flat_map}
 use Rattle.av_net.specs.Rows.{item_mentions}
-use Rattle.av_vread.specs.declared.parsed.Item.{Item}
-use Rattle.av_vread.specs.inner.Reading.{said_item}
+use Rattle.av_vparse.specs.declared.parsed.Item.{Item}
+use Rattle.av_vparse.specs.Said.{said_item}
 use Rattle.av_vread.specs.inner.Seen.{Stands}
 use Rattle.av_vread.proofs.SeenMentions.{told_some, told_none, goes_more, goes_found, goes_over}
 use Rattle.av_vread.proofs.twice.Seen.items.Goals as goal

@@ -1,7 +1,7 @@
 use Rattle.std.proofs.Common.{drop, map}
 use Rattle.std.specs.List.{flat_map}
 use Rattle.av_net.specs.Rows.{item_mentions}
-use Rattle.av_vread.specs.inner.Reading.{said_item}
+use Rattle.av_vparse.specs.Said.{said_item}
 use Rattle.av_vread.specs.inner.Seen.{Stands}
 use Rattle.av_vread.proofs.SeenMentions.{GoesOn}
 use Rattle.av_vread.proofs.twice.Seen.items.Given as goal

@@ -2,7 +2,7 @@ use Rattle.std.proofs.Common.{◌∷◌, []}
 use Rattle.std.specs.Prelude.{option_map}
 use Rattle.std.proofs.lemmas.Result.{IfOk-weaker}
 use Rattle.av_net.specs.Rows.{kind_or, drives, link_mentions}
-use Rattle.av_vread.specs.inner.Reading.{said_link}
+use Rattle.av_vparse.specs.Said.{said_link}
 use Rattle.av_vread.specs.inner.Scoped.{Bytes}
 use Rattle.av_vread.specs.inner.Seen.{Stands, StandsIn, Tells}
 use Rattle.av_vread.proofs.SeenMentions.{put_none, name_told, none_told}

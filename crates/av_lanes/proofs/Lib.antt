@@ -1,0 +1,7 @@
+pub mod Raised
+pub mod Vectors
+pub mod ByLane
+pub mod GateLanes
+pub mod LanePasses
+pub mod LaneStates
+pub mod Alike

@@ -1,5 +1,0 @@
-use Rattle.av_verilog_tests.proofs.Unfed.{unfed}
-use Rattle.av_verilog_tests.proofs.wave.assert_run_written.Goals as goal
-
-pub write_run-requires-clause-stimulus : goal.write_run-requires-clause-stimulus
-write_run-requires-clause-stimulus g c = unfed c.args.of.now.inputs c.four_cycles.result c.four_cycles.ensures.cycles c.four_cycles.ensures.values

@@ -1,6 +1,0 @@
-use Rattle.std.proofs.Common.{refl}
-use Rattle.av_vread.proofs.BitsOf.{is_width_of}
-use Rattle.av_vread.proofs.declarations.width_above.Goals as goal
-
-pub returns : goal.returns
-returns c = is_width_of _ _ refl

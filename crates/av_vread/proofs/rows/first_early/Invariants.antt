@@ -1,7 +1,0 @@
-use Rattle.std.proofs.Common.{◌≡◌, [], drop, map}
-use Rattle.av_vread.specs.inner.Reading.{said_item}
-use Rattle.av_net.specs.Rows.{is_in, first_early}
-use Rattle.av_vread.proofs.rows.first_early.Given as goal
-
-abbrev pub invariant-loop-item : goal.invariant-loop-item
-invariant-loop-item l = first_early l.kinds (is_in l.wires) l.earlier (map said_item (drop l.item-index l.items)) ≡ first_early l.kinds (is_in l.wires) [] (map said_item l.items)
