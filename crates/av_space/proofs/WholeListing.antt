@@ -60,7 +60,7 @@ output_once i j small few e = same_number i j small few (rest_is 111 (decimal i)
 value_once : (i j : ℕ) → i < 2 ^ 64 → j < 2 ^ 64 → value_name i ≡ value_name j → i ≡ j
 value_once i j small few e = same_number i j small few (rest_is 99 (decimal i) (decimal j) e)
 
-pub no_output : (i j : ℕ) → output_name i ≡ value_name j → ⊥
+no_output : (i j : ℕ) → output_name i ≡ value_name j → ⊥
 no_output i j e = let h = ap (λ (xs : List ℕ). slice_get xs 0) e in let f : ◌≡◌ {A = ℕ} 111 99 = some_is 111 99 h in absurd (omega (arith, f))
 
 -- ---- filtered lists
