@@ -61,7 +61,7 @@ port_at name b (w ∷ ws) (suc k) p e =
     (r.0, r.1, r.2 ∙ ap (λ (i : ℕ). port r.0 (name i)) n)
 
 -- ports of these widths
-ports_are : (name : ℕ → List ℕ) (number : ℕ) (HasWidth : ℕ → ℕ → Type 0) (ws : List Width) (ports : List Port) → ports ≡ numbered_ports name 0 ws → length ws ≡ number
+pub ports_are : (name : ℕ → List ℕ) (number : ℕ) (HasWidth : ℕ → ℕ → Type 0) (ws : List Width) (ports : List Port) → ports ≡ numbered_ports name 0 ws → length ws ≡ number
     → ((i k : ℕ) (w : Width) → slice_get ws i ≡ Some w → name k ≡ name i → HasWidth k w.bits) → ArePortsOf name number HasWidth ports
 ports_are name number HasWidth ws ports are size each = record {
   names = ap (λ (l : List Port). map (λ (p : Port). p.name) l) are ∙ names_of name 0 ws ∙ ap (λ n. map name (range_with_len 0 n)) size;
@@ -83,7 +83,7 @@ module _ (t : Timed) (a : Cells) (legal : IsLegal t) (counter : Counter) (progra
   own = view_system t.flat
 
   -- an input port is as wide as the input that is read there
-  input_width : (i k : ℕ) (w : Width) → slice_get program.inputs i ≡ Some w → input_name k ≡ input_name i → HasInputWidth own t.helpers g.whole.list.placings a k w.bits
+  pub input_width : (i k : ℕ) (w : Width) → slice_get program.inputs i ≡ Some w → input_name k ≡ input_name i → HasInputWidth own t.helpers g.whole.list.placings a k w.bits
   input_width i k w there named = λ at_port c z input m is_port fed.
       let size = g.ports.one_each in
       let few = g.is_program.inputs_few in
@@ -117,7 +117,7 @@ module _ (t : Timed) (a : Cells) (legal : IsLegal t) (counter : Counter) (progra
   few_outputs = (let few = g.is_program.outputs_few in let size = ap (λ (l : List ℕ). length l) g.outputs_are ∙ length-map a.outputs g.lanes.of_value in omega (arith, few, size))
 
   -- and an output port as the variable of its cell
-  output_width : (i k : ℕ) (w : Width) → slice_get (output_widths program) i ≡ Some w → output_name k ≡ output_name i → HasOutputWidth own a k w.bits
+  pub output_width : (i k : ℕ) (w : Width) → slice_get (output_widths program) i ≡ Some w → output_name k ≡ output_name i → HasOutputWidth own a k w.bits
   output_width i k w there named = λ p cell v is_output is_cell is_variable.
       let size = outputs_many in
       let few = few_outputs in
