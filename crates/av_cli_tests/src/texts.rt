@@ -20,4 +20,4 @@ pub(crate) const BOTH_ENDS: &str =
     "system ends (A : {|} of word[1]; B : {|} of word[64])\n  returns (Y : {|} of word[1]; Z : {|} of word[64]);\nlet Y[] = A[]; Z[] = B[]; tel;\n";
 
 pub(crate) const USAGE: &str =
-    "usage: alphav check|schedule|table|emit|run|trace|best|stream|wave [--width W] [--box C] [NAME=VALUE ...] | sim | unwave | demo K\n";
+    "usage: alphav check|schedule|table|emit|run|trace|best|stream|wave|run8 [--width W] [--box C] [NAME=VALUE ...] | sim | unwave | demo K\n";
