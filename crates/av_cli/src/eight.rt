@@ -3,7 +3,8 @@
 ghost use Rattle.std.specs.Prelude.{◌≡◌, ◌<◌, ◌≤◌, ◌+◌, ℕ, List as Items, length, map, All, Some, slice_get, IsErr, OnOk, OnErr};
 ghost use Rattle.av_base.specs.Outside.{Adds, AddsPrefix, HasRisen};
 ghost use Rattle.av_flat.specs.Trees.{view_system};
-ghost use Rattle.av_data.specs.Inputs.{words_of, AreInputsOf};
+ghost use Rattle.av_data.specs.Inputs.{words_of};
+ghost use Rattle.av_flat.specs.OneSolution.{AreInputs};
 ghost use Rattle.av_cli.specs.Eights.{sets_reason, set_line, set_lines};
 ghost use Rattle.av_cli.specs.Refusals.{refusal_line};
 ghost use Rattle.av_cli.specs.Runs.{results};
@@ -109,7 +110,7 @@ fn answer_sets<K: Sink>(
 fn put_sets<K: Sink>(alloc: Global, compiled: &Compiled, inputs: &[Inputs], sink: &mut K) -> Status
     requires clockable { IsClockable compiled.now.timed compiled.now.design }
     requires few { length inputs.now ≤ 8 }
-    requires inputs { All (λ x. AreInputsOf (view_system compiled.now.timed.flat) (words_of x)) inputs.now }
+    requires inputs { All (λ x. AreInputs (view_system compiled.now.timed.flat) (words_of x)) inputs.now }
     ensures { PutsOneOf (AreResultsOfSets compiled.now.timed compiled.now.design (map words_of inputs.now)) (K.state sink.old) (K.state sink.new) result }
 {
     match shown_in_lanes(alloc, &compiled.design, inputs) {
