@@ -64,13 +64,31 @@ pub(crate) fn answer_run<K: Sink>(
         return put(sink, NO_MARK, Status::Refused);
     };
     match compile(alloc, parts.text, sizes.as_slice(), width, reach) {
-        Err(refusal) => put_alpha_refusal(sink, &refusal),
-        Ok(compiled) => { report_on(alloc, &compiled, parts.rest, parts.first_line, report, sink) }
+        Err(refusal) => put_alpha_refusal(sink, refusal),
+        Ok(compiled) => { report_on(alloc, compiled, parts.rest, parts.first_line, report, sink) }
     }
 }
 
-// Reads the data for a compiled text, and tells the run on it.
+// Reads the data for a compiled text, and tells the run on it. Who calls it is rid of the text: what a function owns it pays for at each exit.
 fn report_on<K: Sink>(
+    alloc: Global,
+    compiled: Compiled,
+    bytes: &[u8],
+    first_line: u32,
+    report: Report,
+    sink: &mut K,
+) -> Status
+    requires plan { IsSoundPlan compiled.plan }
+    requires clockable { IsClockable compiled.timed compiled.design }
+    requires cycles { compiled.cells.cycles ≤ 4096 }
+    requires lines { first_line + length bytes.now < 4294967295 }
+    ensures { IsAnswered (RefusesLines compiled.timed first_line bytes.now) (GivesReported report compiled.timed compiled.cells compiled.plan compiled.design bytes.now) (K.state sink.old) (K.state sink.new) result }
+{
+    report_compiled(alloc, &compiled, bytes, first_line, report, sink)
+}
+
+// The same, of a text that stays.
+fn report_compiled<K: Sink>(
     alloc: Global,
     compiled: &Compiled,
     bytes: &[u8],
