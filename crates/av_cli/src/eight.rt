@@ -15,7 +15,7 @@ ghost use Rattle.av_cli.specs.inner.Written.{IsAnswered, IsPut};
 
 use crate::lane_showing::shown_in_lanes;
 use crate::put::{put, put_alpha_refusal, put_data_refusal};
-use crate::runs::write_results;
+use crate::runs::{let_go, write_results};
 use crate::sizes::sizes;
 use crate::status::Status;
 use crate::stream::read_sets;
@@ -87,7 +87,7 @@ fn put_sets_refusal<K: Sink>(sink: &mut K, count: usize) -> Status
     }
 }
 
-// Reads the sets for a compiled text, and tells the run on each. Who calls it is rid of the text.
+// Reads the sets for a compiled text, and tells the run on each.
 fn answer_sets<K: Sink>(
     alloc: Global,
     compiled: Compiled,
@@ -99,7 +99,9 @@ fn answer_sets<K: Sink>(
     requires lines { All (λ set. set.first_line + length set.bytes.now < 4294967295) sets.now }
     ensures { IsAnswered (RefusesBadSet compiled.timed sets.now) (GivesEightOf compiled.timed compiled.design sets.now) (K.state sink.old) (K.state sink.new) result }
 {
-    answer_each_set(alloc, &compiled, sets, sink)
+    let status = answer_each_set(alloc, &compiled, sets, sink);
+    let_go(compiled);
+    status
 }
 
 // The same, of a text that stays.

@@ -69,7 +69,7 @@ pub(crate) fn answer_run<K: Sink>(
     }
 }
 
-// Reads the data for a compiled text, and tells the run on it. Who calls it is rid of the text: what a function owns it pays for at each exit.
+// Reads the data for a compiled text, and tells the run on it.
 fn report_on<K: Sink>(
     alloc: Global,
     compiled: Compiled,
@@ -84,8 +84,13 @@ fn report_on<K: Sink>(
     requires lines { first_line + length bytes.now < 4294967295 }
     ensures { IsAnswered (RefusesLines compiled.timed first_line bytes.now) (GivesReported report compiled.timed compiled.cells compiled.plan compiled.design bytes.now) (K.state sink.old) (K.state sink.new) result }
 {
-    report_compiled(alloc, &compiled, bytes, first_line, report, sink)
+    let status = report_compiled(alloc, &compiled, bytes, first_line, report, sink);
+    let_go(compiled);
+    status
 }
+
+/// Lets go of a compiled text. A function that drops one is dear to prove, so this is the only one.
+pub(crate) fn let_go(compiled: Compiled) {}
 
 // The same, of a text that stays.
 fn report_compiled<K: Sink>(
