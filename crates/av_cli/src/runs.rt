@@ -89,9 +89,6 @@ fn report_on<K: Sink>(
     status
 }
 
-/// Lets go of a compiled text. A function that drops one is dear to prove, so this is the only one.
-pub(crate) fn let_go(compiled: Compiled) {}
-
 // The same, of a text that stays.
 fn report_compiled<K: Sink>(
     alloc: Global,
@@ -234,3 +231,6 @@ fn write_trace<K: Sink>(
     write_all(sink, MARK.as_bytes())?;
     run(parts, stimulus, sink)
 }
+
+/// Lets go of a compiled text. A function that drops one is dear to prove, so this is the only one.
+pub(crate) fn let_go(compiled: Compiled) {}
