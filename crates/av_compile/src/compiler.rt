@@ -43,7 +43,7 @@ struct Designed {
     design: Design,
 }
 
-fn designed(alloc: Global, timed: &Timed, cells: &Cells) -> Result<Designed, Memory>
+fn plan_and_design(alloc: Global, timed: &Timed, cells: &Cells) -> Result<Designed, Memory>
     requires legal { IsLegal timed.now }
     requires whole { IsWhole timed.now cells.now }
     requires within { (f : Fault) → IsSpaceFault timed.now f → f ≡ fault.Memory }
@@ -94,7 +94,7 @@ pub fn compile(
 {
     let Array { timed, cells } = mapped(alloc, bytes, sizes, width, reach)?;
     let flat = copy_flat(alloc, &timed.flat)?;
-    let Designed { plan, design } = designed(alloc, &timed, &cells)?;
+    let Designed { plan, design } = plan_and_design(alloc, &timed, &cells)?;
     Ok(Compiled {
         flat,
         timed,

@@ -1,4 +1,0 @@
-use Rattle.av_compile.proofs.compiler.designed.Goals as goal
-
-pub flatten-requires : goal.flatten-requires
-flatten-requires c = c.in_ok-plan.ensures.is_plan.sound
