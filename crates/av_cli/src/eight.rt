@@ -16,7 +16,7 @@ ghost use Rattle.av_cli.specs.inner.Written.{IsAnswered, IsPut};
 
 use crate::lane_showing::shown_in_lanes;
 use crate::put::{put, put_alpha_refusal, put_data_refusal};
-use crate::runs::write_results;
+use crate::runs::{let_go, write_results};
 use crate::sizes::sizes;
 use crate::status::Status;
 use crate::stream::read_sets;
@@ -60,8 +60,8 @@ pub(crate) fn run8<K: Sink>(
         return put_sets_refusal(sink, sets.len());
     }
     match compile(alloc, parts.text, sizes.as_slice(), width, reach) {
-        Err(refusal) => put_alpha_refusal(sink, &refusal),
-        Ok(compiled) => answer_sets(alloc, &compiled, sets.as_slice(), sink),
+        Err(refusal) => put_alpha_refusal(sink, refusal),
+        Ok(compiled) => answer_sets(alloc, compiled, sets.as_slice(), sink),
     }
 }
 
@@ -90,6 +90,23 @@ fn put_sets_refusal<K: Sink>(sink: &mut K, count: usize) -> Status
 
 // Reads the sets for a compiled text, and tells the run on each.
 fn answer_sets<K: Sink>(
+    alloc: Global,
+    compiled: Compiled,
+    sets: &[DataSet<'_>],
+    sink: &mut K,
+) -> Status
+    requires clockable { IsClockable compiled.timed compiled.design }
+    requires few { length sets.now ≤ 8 }
+    requires lines { All (λ set. set.first_line + length set.bytes.now < 4294967295) sets.now }
+    ensures { IsAnswered (RefusesBadSet compiled.timed sets.now) (GivesEightOf compiled.timed compiled.design sets.now) (K.state sink.old) (K.state sink.new) result }
+{
+    let status = answer_each_set(alloc, &compiled, sets, sink);
+    let_go(compiled);
+    status
+}
+
+// The same, of a text that stays.
+fn answer_each_set<K: Sink>(
     alloc: Global,
     compiled: &Compiled,
     sets: &[DataSet<'_>],

@@ -65,13 +65,33 @@ pub(crate) fn answer_run<K: Sink>(
         return put(sink, NO_MARK, Status::Refused);
     };
     match compile(alloc, parts.text, sizes.as_slice(), width, reach) {
-        Err(refusal) => put_alpha_refusal(sink, &refusal),
-        Ok(compiled) => { report_on(alloc, &compiled, parts.rest, parts.first_line, report, sink) }
+        Err(refusal) => put_alpha_refusal(sink, refusal),
+        Ok(compiled) => { report_on(alloc, compiled, parts.rest, parts.first_line, report, sink) }
     }
 }
 
 // Reads the data for a compiled text, and tells the run on it.
 fn report_on<K: Sink>(
+    alloc: Global,
+    compiled: Compiled,
+    bytes: &[u8],
+    first_line: u32,
+    report: Report,
+    sink: &mut K,
+) -> Status
+    requires plan { IsSoundPlan compiled.plan }
+    requires clockable { IsClockable compiled.timed compiled.design }
+    requires cycles { compiled.cells.cycles ≤ 4096 }
+    requires lines { first_line + length bytes.now < 4294967295 }
+    ensures { IsAnswered (RefusesLines compiled.timed first_line bytes.now) (GivesReported report compiled.timed compiled.cells compiled.plan compiled.design bytes.now) (K.state sink.old) (K.state sink.new) result }
+{
+    let status = report_compiled(alloc, &compiled, bytes, first_line, report, sink);
+    let_go(compiled);
+    status
+}
+
+// The same, of a text that stays.
+fn report_compiled<K: Sink>(
     alloc: Global,
     compiled: &Compiled,
     bytes: &[u8],
@@ -212,3 +232,6 @@ fn write_trace<K: Sink>(
     write_all(sink, MARK.as_bytes())?;
     run(parts, stimulus, sink)
 }
+
+/// Lets go of a compiled text. A function that drops one is dear to prove, so this is the only one.
+pub(crate) fn let_go(compiled: Compiled) {}

@@ -67,7 +67,7 @@ pub(crate) fn stream<K: Sink>(
         return put(sink, NO_MARK, Status::Refused);
     };
     match mapped(alloc, parts.text, sizes.as_slice(), width, reach) {
-        Err(refusal) => put_alpha_refusal(sink, &refusal),
+        Err(refusal) => put_alpha_refusal(sink, refusal),
         Ok(array) => stream_on(alloc, &array, parts.rest, parts.first_line, sink),
     }
 }

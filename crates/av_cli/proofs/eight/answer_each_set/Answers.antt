@@ -6,7 +6,7 @@ use Rattle.av_flat.specs.Trees.{view_system}
 use Rattle.av_cli.specs.inner.Eighting.{GivesEightOf, AreResultsOfSets}
 use Rattle.av_cli.specs.inner.Outputs.{PutsOneOf}
 use Rattle.av_cli.proofs.EightAnswers.{set_refused, sets_answered}
-use Rattle.av_cli.proofs.eight.answer_sets.Goals as goal
+use Rattle.av_cli.proofs.eight.answer_each_set.Goals as goal
 
 pub put_sets-requires-clause-inputs : goal.put_sets-requires-clause-inputs
 put_sets-requires-clause-inputs g c =
