@@ -229,27 +229,6 @@ new_lane m sources k ws word are is none =
     let same : lane k ws ≡ replicate n 0 = ap (lane k) is ∙ lane_replicate k n word ∙ ap (replicate n) none in
     lane_sources k sources ws ∙ ap (resolved sources) same ∙ zeros_resolved m sources are
 
--- ---- an edge of all steps
-
--- what the registers take, as it was noted, and as it is read
-noted : (u : Vec (List ℕ) Global) (given room read : List (List ℕ)) → length given ≡ length room → room ≡ u.items → read ≡ (with_items u given).items → read ≡ given
-noted u given room read long own is = is ∙ items_after u room given long own
-
--- it fits the registers
-pub next_fitting : (net : Module) (v u : Vec (List ℕ) Global) (k : ℕ) (seen given room read : List (List ℕ)) → IsSound net → AllFit net (lane k v.items) → seen ≡ v.items → AreTaken net false (named net (lane k seen)) (length net.steps) (lane k given)
-    → length given ≡ length room → room ≡ u.items → read ≡ (with_items u given).items → FitRegisters net (lane k read)
-next_fitting net v u k seen given room read sound fit same taken long own is =
-    subst (λ ws. FitRegisters net (lane k ws)) (sym (noted u given room read long own is))
-    (next_fits net (lane k seen) (lane k given) sound (subst (λ ws. AllFit net (lane k ws)) (sym same) fit) taken)
-
--- and the edge is one without reset
-pub edge_taken : (net : Module) (v u : Vec (List ℕ) Global) (k : ℕ) (seen given room read new : List (List ℕ)) → seen ≡ v.items → AreTaken net false (named net (lane k seen)) (length net.steps) (lane k given)
-    → length given ≡ length room → room ≡ u.items → read ≡ (with_items u given).items
-    → ((i : ℕ) → i < length net.steps → (d : Step) → named net (lane k new) (get_or net.steps i d).register ≡ get_or (lane k read) i 0) → Edge net false (named net (lane k v.items)) (named net (lane k new))
-edge_taken net v u k seen given room read new same taken long own is stored i d lt =
-    let taken' : AreTaken net false (named net (lane k v.items)) (length net.steps) (lane k given) = subst (λ ws. AreTaken net false (named net (lane k ws)) (length net.steps) (lane k given)) same taken in
-    stored i lt d ∙ ap (λ ws. get_or (lane k ws) i 0) (noted u given room read long own is) ∙ taken' i lt d
-
 -- ---- a word that is read
 
 -- a drive of what is seen is one of the engine
