@@ -1,9 +1,9 @@
 -- Steps in an order in which each register may take its word at once: how the order is tested, and what holds after one step more.
-use Rattle.std.proofs.Common.{◌≡◌, ◌≢◌, ℕ, zero, suc, ◌+◌, ◌<◌, ◌≤◌, List, length, get_or, set, replicate, slice_get, Some, refl, sym, ◌∙◌, ap, subst, arith, inl, inr, Bool, true, false}
+use Rattle.std.proofs.Common.{◌≡◌, ◌≢◌, ℕ, zero, suc, ◌+◌, ◌<◌, ◌≤◌, List, length, map, take, get_or, set, replicate, slice_get, Some, refl, sym, ◌∙◌, ap, subst, arith, inl, inr, Bool, true, false}
 use Rattle.std.specs.Prelude.{Contains}
 use Rattle.std.proofs.Math.ListN.{length-set}
 use Rattle.std.proofs.lemmas.Bool.{cases_lt}
-use Rattle.std.proofs.lemmas.List.{get_or_default, get_or-set_same, get_or-set_other, length-replicate}
+use Rattle.std.proofs.lemmas.List.{get_or_default, get_or-set_same, get_or-set_other, get_or-map, length-map, length-replicate, take_all}
 use Rattle.std.proofs.lemmas.Option.{slice_get_within, slice_get_cases}
 use Rattle.av_base.specs.Words.{IsWord}
 use Rattle.av_net.specs.declared.operation.Operand.{Operand}
@@ -180,9 +180,10 @@ is_order m order stored flip_flops n sound are past most marked so_far = record 
       let for = for_step m i flip_flops are (omega (arith, lt, count)) in
       let place = (get_or flip_flops i no_flip_flop).register in
       let at : slice_get (all_names m) place ≡ Some for.step.register = for.stepped.register in
-      let mark : IsSet stored place = marked i place for.step lt (at ∙ ap (λ (s : Step). Some s.register) (sym (step_is m i (get_or flip_flops i no_flip_flop) for for.step))) in
+      let mark : IsSet stored place = marked i place for.step lt (at ∙ ap (λ (s : Step). Some s.register) for.at) in
       let (l, below, found) = so_far.only place for.step.register at mark in
-      let same : (step_at m order l for.step).register ≡ (get_or m.steps i for.step).register = found for.step ∙ ap (λ (s : Step). s.register) (sym (step_is m i (get_or flip_flops i no_flip_flop) for for.step)) in
+      let own : for.step ≡ get_or m.steps i for.step = for.at in
+      let same : (step_at m order l for.step).register ≡ (get_or m.steps i for.step).register = found for.step ∙ ap (λ (s : Step). s.register) own in
       (l, omega (arith, below, most), same_step m (get_or order l 0) i for.step for.step sound (so_far.within l below) lt same);
 }
 
@@ -203,14 +204,31 @@ marks_more m flip_flops stored n sound for is so_far i place d lt at = elim (cas
 -- ---- the edge
 
 -- the flip-flop that stands at a place of the order
-pub for_move : (m : Module) (moves : List FlipFlop) (are : AreMoves m moves) (n : ℕ) (flip_flop : FlipFlop) → n < length moves → flip_flop ≡ get_or moves n flip_flop → IsFor m (get_or are.order n 0) flip_flop
-for_move m moves are n flip_flop lt at =
+pub for_move : (m : Module) (moves : List FlipFlop) (are : AreMoves m moves) (n : ℕ) → n < length moves → IsFor m (get_or are.order n 0) (get_or moves n no_flip_flop)
+for_move m moves are n lt =
     let long = are.count in
     let inside : n < length are.order = omega (arith, lt, long) in
     let step = are.ordered.within n inside in
     let count = are.stepped.count in
-    let is : flip_flop ≡ get_or are.flip_flops (get_or are.order n 0) no_flip_flop = at ∙ are.each n flip_flop no_flip_flop inside in
-    subst (IsFor m (get_or are.order n 0)) (sym is) (for_step m (get_or are.order n 0) are.flip_flops are.stepped (omega (arith, step, count)))
+    subst (IsFor m (get_or are.order n 0)) (sym (are.each n no_flip_flop no_flip_flop inside)) (for_step m (get_or are.order n 0) are.flip_flops are.stepped (omega (arith, step, count)))
+
+-- the flip-flops of all steps of an order
+pub are_moves : (m : Module) (order : List ℕ) (flip_flops moves : List FlipFlop) (n : ℕ) → AreStepped m (length m.steps) flip_flops → IsOrder m order → length order ≤ n → moves ≡ map (λ k. get_or flip_flops k no_flip_flop) (take n order) → AreMoves m moves
+are_moves m order flip_flops moves n are ordered past is =
+    let at : ℕ → FlipFlop = λ k. get_or flip_flops k no_flip_flop in
+    let whole : moves ≡ map at order = is ∙ ap (map at) (take_all n order past) in
+    let long : length moves ≡ length order = ap length whole ∙ length-map order at in
+    record {
+      order = order;
+      flip_flops = flip_flops;
+      stepped = are;
+      count = long;
+      each = λ j d e lt.
+          let step = ordered.within j lt in
+          let count = are.count in
+          ap (λ fs. get_or fs j d) whole ∙ get_or-map at order j 0 d lt ∙ get_or_default flip_flops (get_or order j 0) no_flip_flop e (omega (arith, step, count));
+      ordered = ordered;
+    }
 
 -- the registers of the first n steps of the order have their new words, and no other name has another word
 pub record Moves (m : Module) (order before words : List ℕ) (n : ℕ) : Type 0 where

@@ -40,31 +40,45 @@ impl Moves {
     }
 }
 
-// Of each place the step whose register it is, and else the number of steps.
-fn steps_of(alloc: Global, circuit: &Circuit<'_>) -> Result<Vec<usize>, Memory>
-    requires { IsSound circuit.now }
-    ensures { IfOk result (λ steps. length steps.items ≡ length (all_names circuit.now)) }
+// Enters at the place of each register its step.
+fn enter_steps(circuit: &Circuit<'_>, steps: &mut [usize])
+    requires size { length steps.old ≡ length (all_names circuit.now) }
 {
-    let mut steps = vec![in alloc; circuit.steps(); circuit.size()]?;
     for (i, flip_flop) in circuit.flip_flops().iter().enumerate() {
         steps[flip_flop.register] = i;
     }
-    Ok(steps)
+}
+
+// The step that is entered at the place of a reading, and else none.
+fn step_read(reading: Reading, steps: &[usize], none: usize) -> usize
+    requires { IsWithin (length steps.now) reading }
+{
+    match reading {
+        Reading::At(place) => steps[place],
+        Reading::Constant(_) => none,
+    }
+}
+
+// Enters for each step the other one whose register it reads, where there is one.
+fn enter_reads(circuit: &Circuit<'_>, steps: &[usize], reads: &mut [usize])
+    requires size { length steps.now ≡ length (all_names circuit.now) }
+    requires reads { length reads.old ≡ length circuit.now.steps }
+{
+    let none = circuit.steps();
+    for (i, flip_flop) in circuit.flip_flops().iter().enumerate() {
+        let read = step_read(flip_flop.next, steps, none);
+        if read != i {
+            reads[i] = read;
+        }
+    }
 }
 
 // Of each step the other step whose register it reads, and else the number of steps.
-fn reads(alloc: Global, circuit: &Circuit<'_>) -> Result<Vec<usize>, Memory>
-    requires { IsSound circuit.now }
-{
-    let steps = steps_of(alloc, circuit)?;
+fn reads(alloc: Global, circuit: &Circuit<'_>) -> Result<Vec<usize>, Memory> {
+    let mut steps = vec![in alloc; circuit.steps(); circuit.size()]?;
+    enter_steps(circuit, &mut steps);
     let mut reads = vec![in alloc; circuit.steps(); circuit.steps()]?;
-    for (i, flip_flop) in circuit.flip_flops().iter().enumerate() {
-        if let Reading::At(place) = flip_flop.next {
-            if steps[place] != i {
-                reads[i] = steps[place];
-            }
-        }
-    }
+    enter_reads(circuit, &steps, &mut reads);
     Ok(reads)
 }
 
@@ -164,8 +178,8 @@ fn in_order(alloc: Global, circuit: &Circuit<'_>, order: &[usize]) -> Result<Vec
 {
     let flip_flops = circuit.flip_flops();
     let mut moves = Vec::new(alloc);
-    for i in 0..order.len() {
-        moves.push(flip_flops[order[i]])?;
+    for step in order {
+        moves.push(flip_flops[*step])?;
     }
     Ok(moves)
 }

@@ -1,5 +1,5 @@
 use Rattle.std.proofs.Common.{◌<◌, ◌≤◌, ◌∙◌, length, get_or, arith}
-use Rattle.av_clock.proofs.Edges.{IsFor}
+use Rattle.av_clock.proofs.Edges.{no_flip_flop}
 use Rattle.av_clock.proofs.Taking.{ports_same}
 use Rattle.av_clock.specs.Named.{named}
 use Rattle.av_lanes.specs.Seen.{lane}
@@ -9,19 +9,19 @@ use Rattle.av_lanes.proofs.passes.move_all.Goals as goal
 
 pub word_read-requires : goal.word_read-requires
 word_read-requires c =
-    next_within c.args.circuit.now (length c.loop-flip_flop.words) _ c.flip_flop-item.result (c.loop-flip_flop.auto.words ∙ c.requires.size)
-    (for_move c.args.circuit.now c.args.moves.now c.requires.moves c.loop-flip_flop.flip_flop-index c.flip_flop-item.result c.loop-flip_flop-test.true c.flip_flop-item.is)
+    next_within c.args.circuit.now (length c.loop-flip_flop.words) _ (get_or c.args.moves.now c.loop-flip_flop.flip_flop-index no_flip_flop) (c.loop-flip_flop.auto.words ∙ c.requires.size)
+    (for_move c.args.circuit.now c.args.moves.now c.requires.moves c.loop-flip_flop.flip_flop-index c.loop-flip_flop-test.true)
 
 pub bounds-words-flip_flop : goal.bounds-words-flip_flop
 bounds-words-flip_flop c =
-    register_within c.args.circuit.now (length c.loop-flip_flop.words) _ c.flip_flop-item.result (c.loop-flip_flop.auto.words ∙ c.requires.size)
-    (for_move c.args.circuit.now c.args.moves.now c.requires.moves c.loop-flip_flop.flip_flop-index c.flip_flop-item.result c.loop-flip_flop-test.true c.flip_flop-item.is)
+    register_within c.args.circuit.now (length c.loop-flip_flop.words) _ (get_or c.args.moves.now c.loop-flip_flop.flip_flop-index no_flip_flop) (c.loop-flip_flop.auto.words ∙ c.requires.size)
+    (for_move c.args.circuit.now c.args.moves.now c.requires.moves c.loop-flip_flop.flip_flop-index c.loop-flip_flop-test.true)
 
 pub offset_bounds-words-flip_flop : goal.offset_bounds-words-flip_flop
 offset_bounds-words-flip_flop c =
-    let within : c.flip_flop-item.result.register < length c.loop-flip_flop.words =
-    register_within c.args.circuit.now (length c.loop-flip_flop.words) _ c.flip_flop-item.result (c.loop-flip_flop.auto.words ∙ c.requires.size)
-    (for_move c.args.circuit.now c.args.moves.now c.requires.moves c.loop-flip_flop.flip_flop-index c.flip_flop-item.result c.loop-flip_flop-test.true c.flip_flop-item.is) in
+    let within : (get_or c.args.moves.now c.loop-flip_flop.flip_flop-index no_flip_flop).register < length c.loop-flip_flop.words =
+    register_within c.args.circuit.now (length c.loop-flip_flop.words) _ (get_or c.args.moves.now c.loop-flip_flop.flip_flop-index no_flip_flop) (c.loop-flip_flop.auto.words ∙ c.requires.size)
+    (for_move c.args.circuit.now c.args.moves.now c.requires.moves c.loop-flip_flop.flip_flop-index c.loop-flip_flop-test.true) in
     omega arith
 
 pub loop-flip_flop-init : goal.loop-flip_flop-init
@@ -31,8 +31,8 @@ pub loop-flip_flop-preserved : goal.loop-flip_flop-preserved
 loop-flip_flop-preserved c are k lt =
     let here = c.loop-flip_flop-test.true in
     let count = are.count in
-    moves_lane k c.args.circuit.now are.order c.args.words.now c.loop-flip_flop.words c.loop-flip_flop.flip_flop-index c.flip_flop-item.result c.word_read.result c.requires.sound are.ordered (c.loop-flip_flop.auto.words ∙ c.requires.size) (omega (arith, here, count))
-    (for_move c.args.circuit.now c.args.moves.now are c.loop-flip_flop.flip_flop-index c.flip_flop-item.result c.loop-flip_flop-test.true c.flip_flop-item.is) (c.word_read.ensures k lt) (c.loop-flip_flop.invariant are k lt)
+    moves_lane k c.args.circuit.now are.order c.args.words.now c.loop-flip_flop.words c.loop-flip_flop.flip_flop-index (get_or c.args.moves.now c.loop-flip_flop.flip_flop-index no_flip_flop) c.word_read.result c.requires.sound are.ordered (c.loop-flip_flop.auto.words ∙ c.requires.size) (omega (arith, here, count))
+    (for_move c.args.circuit.now c.args.moves.now are c.loop-flip_flop.flip_flop-index c.loop-flip_flop-test.true) (c.word_read.ensures k lt) (c.loop-flip_flop.invariant are k lt)
 
 pub returns-clause-edge : goal.returns-clause-edge
 returns-clause-edge c k lt =
