@@ -10,8 +10,8 @@ use Rattle.av_lanes.proofs.LaneStates.{kept_new, new_lane}
 use Rattle.av_lanes.proofs.Vectors.{zeros}
 use Rattle.av_lanes.proofs.engine.Engine.new.Goals as goal
 
-pub new-moves-requires : goal.new-moves-requires
-new-moves-requires c = subst IsSound (sym c.in_ok-circuit.ensures) c.in_ok-merged.ensures.safe
+pub new-requires-3 : goal.new-requires-3
+new-requires-3 c = subst IsSound (sym c.in_ok-circuit.ensures) c.in_ok-merged.ensures.safe
 
 pub returns-clause-words : goal.returns-clause-words
 returns-clause-words c k lt =
