@@ -10,7 +10,6 @@ use Rattle.std.proofs.lemmas.Option.{slice_get_within, slice_get_cases}
 use Rattle.av_base.specs.Words.{IsWord}
 use Rattle.av_net.specs.declared.netlist.Port.{Port}
 use Rattle.av_net.specs.declared.netlist.Drive.{Drive}
-use Rattle.av_net.specs.declared.netlist.Step.{Step}
 use Rattle.av_net.specs.declared.netlist.Module.{Module}
 use Rattle.av_net.specs.Meaning.{Words}
 use Rattle.av_net.specs.Names.{names_of, given_names, wire_names, all_names, registers_of, width_of}
@@ -18,7 +17,6 @@ use Rattle.av_net.specs.Settled.{Settled, Agree}
 use Rattle.av_net.specs.Clocked.{Edge}
 use Rattle.av_net.specs.Sound.{IsSound}
 use Rattle.av_net.proofs.Settles.{with_word_same, with_word_other, names_distinct}
-use Rattle.av_clock.specs.Gates.{AreTaken, FitRegisters}
 use Rattle.av_clock.specs.Kept.{AreZero}
 use Rattle.av_clock.specs.Marked.{AreHeld}
 use Rattle.av_clock.specs.Marking.{ReadTheSame}
@@ -26,7 +24,6 @@ use Rattle.av_clock.specs.Merged.{merged, merged_drive, AreMerged, resolved}
 use Rattle.av_clock.specs.Named.{named, AllFit}
 use Rattle.av_clock.specs.Seen as clock
 use Rattle.av_clock.proofs.Computing.{zeros_zero, settled_zero, edge_zero}
-use Rattle.av_clock.proofs.Edges.{next_fits}
 use Rattle.av_clock.proofs.Lookup.{look_at, contains_at}
 use Rattle.av_clock.proofs.MergedModules.{merged_at}
 use Rattle.av_clock.proofs.SourcedWords.{seen_settled, seen_given, seen_ports, seen_edge, seen_word, seen_fits, set_resolved, zeros_resolved}

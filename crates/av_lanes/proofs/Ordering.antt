@@ -4,7 +4,7 @@ use Rattle.std.specs.Prelude.{Contains}
 use Rattle.std.proofs.Math.ListN.{length-set}
 use Rattle.std.proofs.lemmas.Bool.{cases_lt}
 use Rattle.std.proofs.lemmas.List.{get_or_default, get_or-set_same, get_or-set_other, get_or-map, length-map, length-replicate, take_all}
-use Rattle.std.proofs.lemmas.Option.{slice_get_within, slice_get_cases}
+use Rattle.std.proofs.lemmas.Option.{slice_get_within}
 use Rattle.av_base.specs.Words.{IsWord}
 use Rattle.av_net.specs.declared.operation.Operand.{Operand}
 use Rattle.av_net.specs.declared.operation.Operand.TheVariants.{Name, Literal}
@@ -21,7 +21,7 @@ use Rattle.av_net.proofs.Settles.{with_word, with_word_same, with_word_other, na
 use Rattle.av_clock.specs.declared.gate.Reading.{Reading}
 use Rattle.av_clock.specs.declared.gate.Reading.TheVariants.{At, Constant}
 use Rattle.av_clock.specs.declared.gate.FlipFlop.{FlipFlop}
-use Rattle.av_clock.specs.Gates.{reading_word, IsWithin, IsRead, IsStepped, AreStepped}
+use Rattle.av_clock.specs.Gates.{reading_word, IsWithin, IsRead, AreStepped}
 use Rattle.av_clock.specs.Marked.{IsClear}
 use Rattle.av_clock.specs.Marking.{IsSet}
 use Rattle.av_clock.specs.Named.{named, AllFit}

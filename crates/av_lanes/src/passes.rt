@@ -370,12 +370,7 @@ fn tick_together(circuit: &Circuit<'_>, words: &mut [u64x8], next: &mut [u64x8])
 }
 
 /// One edge without reset: all registers take the words of their operands together.
-pub(crate) fn tick(
-    circuit: &Circuit<'_>,
-    moves: &Moves,
-    words: &mut [u64x8],
-    next: &mut [u64x8],
-)
+pub(crate) fn tick(circuit: &Circuit<'_>, moves: &Moves, words: &mut [u64x8], next: &mut [u64x8])
     requires sound { IsSound circuit.now }
     requires size { length words.old ≡ length (all_names circuit.now) }
     requires next { length next.old ≡ length circuit.now.steps }

@@ -1,4 +1,4 @@
-use Rattle.std.proofs.Common.{◌<◌, ◌≤◌, length, get_or, arith}
+use Rattle.std.proofs.Common.{length, get_or, arith}
 use Rattle.av_clock.proofs.Edges.{no_flip_flop}
 use Rattle.av_lanes.proofs.Ordering.{register_within, for_step, marks_more}
 use Rattle.av_lanes.proofs.order.are_stored.Goals as goal

@@ -1,5 +1,5 @@
-use Rattle.std.proofs.Common.{◌<◌, ◌≤◌, length, get_or, arith}
-use Rattle.av_clock.proofs.Edges.{IsFor, no_flip_flop}
+use Rattle.std.proofs.Common.{length, get_or}
+use Rattle.av_clock.proofs.Edges.{no_flip_flop}
 use Rattle.av_lanes.proofs.Ordering.{next_within, register_within, for_step, tests_none, tests_more, is_order}
 use Rattle.av_lanes.proofs.order.is_order.Goals as goal
 

@@ -1,4 +1,4 @@
-use Rattle.std.proofs.Common.{◌<◌, ◌≤◌, ◌∙◌, length, get_or, arith}
+use Rattle.std.proofs.Common.{◌<◌, ◌∙◌, length, get_or, arith}
 use Rattle.av_clock.proofs.Edges.{no_flip_flop}
 use Rattle.av_clock.proofs.Taking.{ports_same}
 use Rattle.av_clock.specs.Named.{named}
