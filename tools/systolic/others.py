@@ -49,6 +49,8 @@ def synthesised(folder, top, wanted):
     if bits != wanted:
         return f"yosys has {bits} bits of flip-flops and the text declares {wanted}"
     with open(f"{folder}/after.txt", encoding="utf-8") as file:
-        cells = re.search(r"Number of cells:\s+(\d+)", file.read())
-    print(f"  yosys: {cells.group(1) if cells else '?'} cells after synth, {bits} bits of flip-flops")
+        after = file.read()
+    cells = re.search(r"Number of cells:\s+(\d+)", after)
+    left = sum(int(count) for count in re.findall(r"\$_S?DFF\w*\s+(\d+)", after))
+    print(f"  yosys: {bits} bits of flip-flops, {left} after synth, in {cells.group(1) if cells else '?'} cells")
     return ""

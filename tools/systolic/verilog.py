@@ -13,6 +13,8 @@ STEPPED = re.compile(r"  always @\(posedge clk\) if \(rst\) (\w+) <= \d+'d(\d+);
 INSTANTIATED = re.compile(r"  (\w+) (\w+) \((\..+)\);")
 LINKED = re.compile(r"\.(\w+)\(([^()]+)\)")
 LITERAL = re.compile(r"(\d+)'d(\d+)")
+CUT = re.compile(r"(\w+)\[\d+:0\]")
+WIDENED = re.compile(r"\{\{\d+\{(\w+)\[\d+:\d+\]\}\}, \w+\}")
 
 Literal = namedtuple("Literal", "word width")
 Operation = namedtuple("Operation", "operator operands is_signed")     # the operator is "" for a plain operand
@@ -33,7 +35,10 @@ def operand(text):
 
 
 def operation(text):
-    """Reads the right side of an `assign`."""
+    """Reads the right side of an `assign`. A part select that a kind has is a plain operand whose highest bits are left out, and a widening one
+    that is read as a signed number."""
+    if found := CUT.fullmatch(text) or WIDENED.fullmatch(text):
+        return Operation("", [found.group(1)], text.startswith("{"))
     first, *rest = re.sub(r"\$signed\((\S+)\)", r"\1", text).split()
     return Operation(rest[0] if rest else "", [operand(word) for word in [first, *rest[1::2]]], "$signed" in text)
 

@@ -203,6 +203,45 @@ const TOGETHER: &[TextRow] = &[
     ),
 ];
 
+/// Declarations of inputs: which widths they may give, and what is answered first.
+const WIDTHS: &[TextRow] = &[
+    (
+        "A : {} of word[1]; B : {} of word[64]) returns (Y : {} of word[8]); let Y = B;",
+        N2,
+        "ok 3",
+    ),
+    (
+        "A : {} of word[0]) returns (Y : {} of word[65]); let Y = A;",
+        N2,
+        "width A 2:3",
+    ),
+    (
+        "A : {} of word[8]) returns (Y : {} of word[65]; Z : {} of word[0]); let Y = A; Z = A;",
+        N2,
+        "width Y 2:31",
+    ),
+    (
+        "A : {} of word[18446744073709551615]) returns (Y : {} of word[65]); let Y = A;",
+        N2,
+        "width A 2:3",
+    ),
+    (
+        "A : {} of word[65]) returns (Y : {} of integer); let Y = 1.(->N-1048579);",
+        N2,
+        "limit constant 1048577",
+    ),
+    (
+        "A : {} of word[65]) returns (Y : {} of integer); let Y = A;",
+        &[("N", 1)],
+        "width A 2:3",
+    ),
+    (
+        "A : {} of integer) returns (Y : {} of integer); let Y = A;",
+        &[("N", 1)],
+        "size outside",
+    ),
+];
+
 /// Equations of the small system: each limit, and one above it.
 const LIMITS: &[TextRow] = &[
     ("Y = 1.(i->i,i,i,i);", N2, "ok 2"),
@@ -286,6 +325,7 @@ fn push_fault(out: &mut String, fault: &NameFault) -> Result<(), Fail> {
         NameFault::Unknown(name, place) => push_both(out, "unknown", name, *place),
         NameFault::DefinesInput(name, place) => push_both(out, "defines input", name, *place),
         NameFault::SecondEquation(name, place) => push_both(out, "second equation", name, *place),
+        NameFault::WidthRange(name, place) => push_both(out, "width", name, *place),
         NameFault::NoEquation(name, place) => push_both(out, "no equation", name, *place),
         NameFault::Arity(place) => push_place(out, "arity", *place),
         NameFault::Projection(place) => push_place(out, "projection", *place),
@@ -366,7 +406,15 @@ fn answers_the_first_rule(rt: HostRuntime) -> Result<(), Fail> {
     assert_texts(&rt, alloc, &Resolved, SMALL, " tel;", ALONE)?;
     assert_texts(&rt, alloc, &Resolved, TWO_OUTPUTS, " tel;", TOGETHER)?;
     assert_texts(&rt, alloc, &Resolved, SMALL, " tel;", LIMITS)?;
-    assert_texts(&rt, alloc, &Resolved, "", " tel;", INDICES)
+    assert_texts(&rt, alloc, &Resolved, "", " tel;", INDICES)?;
+    assert_texts(
+        &rt,
+        alloc,
+        &Resolved,
+        "system t :{N | N>1}\n (",
+        " tel;",
+        WIDTHS,
+    )
 }
 
 /// A system of so many variables.

@@ -153,3 +153,55 @@ endmodule
 fn lanes_of_a_cell_share_its_numbers(rt: HostRuntime) -> Result<(), Fail> {
     assert_compiled(&rt, rt.alloc(), SUMS, SUMS_TEXT)
 }
+
+/// The same with a scalar of 4 bits.
+const NARROW: &str = "system t (S : {|} of word[4]) returns (Y : {i | 0<=i<=3} of integer);
+let Y[i] = case {| i=0} : 7; {| 1<=i} : Y[i-1] + S[]; esac; tel;";
+
+/// It is widened once, where it comes in; the registers of its lane have the width of the sums.
+const NARROW_TEXT: &str = "// alphav 2
+// in S () i0 1
+// at Y (0) o0 0
+// at Y (1) o0 1
+// at Y (2) o0 2
+// at Y (3) o0 3
+module k0(input [11:0] cyc, input [3:0] i0, input [11:0] b0, input [11:0] b1, input [7:0] t0, input [11:0] b2, input [11:0] b3, input [7:0] t1, output [7:0] p0, output [7:0] v);
+  wire [7:0] w0;
+  wire [0:0] w1;
+  wire [0:0] w2;
+  wire [0:0] w3;
+  wire [7:0] w4;
+  wire [0:0] w5;
+  wire [0:0] w6;
+  wire [0:0] w7;
+  assign w0 = {{4{i0[3:3]}}, i0};
+  assign w1 = cyc >= b0;
+  assign w2 = cyc <= b1;
+  assign w3 = w1 & w2;
+  assign p0 = w3 ? w0 : t0;
+  assign w4 = t1 + p0;
+  assign w5 = cyc >= b2;
+  assign w6 = cyc <= b3;
+  assign w7 = w5 & w6;
+  assign v = w7 ? 8'd7 : w4;
+endmodule
+module array(input clk, input rst, input [3:0] i0, output [7:0] o0);
+  wire [7:0] c0_1;
+  wire [7:0] c0;
+  wire [11:0] cyc_next;
+  reg [7:0] r0_1;
+  reg [7:0] r0_0;
+  reg [11:0] cyc;
+  k0 u0 (.cyc(cyc), .i0(i0), .b0(12'd1), .b1(12'd1), .t0(r0_1), .b2(12'd0), .b3(12'd0), .t1(r0_0), .p0(c0_1), .v(c0));
+  assign o0 = c0;
+  assign cyc_next = cyc + 12'd1;
+  always @(posedge clk) if (rst) r0_1 <= 8'd0; else r0_1 <= c0_1;
+  always @(posedge clk) if (rst) r0_0 <= 8'd0; else r0_0 <= c0;
+  always @(posedge clk) if (rst) cyc <= 12'd0; else cyc <= cyc_next;
+endmodule
+";
+
+#[test]
+fn a_lane_takes_a_narrow_word_widened(rt: HostRuntime) -> Result<(), Fail> {
+    assert_compiled(&rt, rt.alloc(), NARROW, NARROW_TEXT)
+}

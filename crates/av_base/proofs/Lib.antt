@@ -1,6 +1,7 @@
 pub mod Moves
 pub mod Numbers
 pub mod Residues
+pub mod Resizing
 pub mod Passing
 pub mod Truths
 pub mod Lists

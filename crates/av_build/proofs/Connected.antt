@@ -1,14 +1,12 @@
 -- A legal timed system and its array give what the proof of the plan asks for.
 use Rattle.std.proofs.Common.{◌≡◌, ℕ, zero, suc, ◌≤◌, ◌<◌, ℤ, pos, ◌<ℤ◌, ◌⊎◌, inl, inr, List, [], ◌∷◌, length, map, sym, subst, arith, ◌∙◌, ap, Some}
-use Rattle.std.specs.Prelude.{slice_get}
+use Rattle.std.specs.Prelude.{Contains, slice_get}
 use Rattle.std.proofs.lemmas.Int.{ints}
-use Rattle.std.proofs.lemmas.List.Elements.{All-weaker}
 use Rattle.av_tree.specs.Points.{Point}
 use Rattle.av_flat.specs.declared.timed.Time.{Time}
 use Rattle.av_flat.specs.declared.timed.Timed.{Timed}
 use Rattle.av_flat.specs.Trees.{Piece, Variable, FlatSystem, view_system}
 use Rattle.av_flat.specs.Nodes.{is_node, nodes, IsComputation}
-use Rattle.av_flat.specs.Chained.{IsChainedVariable}
 use Rattle.av_flat.specs.Schedules.{cycle}
 use Rattle.av_flat.specs.Legal.{IsLegal}
 use Rattle.av_space.specs.declared.cells.Cells.{Cells}
@@ -25,7 +23,7 @@ use Rattle.av_base.proofs.Lists.{some_is}
 use Rattle.av_history.specs.Arranged.{IsArranged}
 use Rattle.av_build.specs.inner.Built.{array_of}
 use Rattle.av_build.proofs.FineLanes.{HasNumbers}
-use Rattle.av_build.proofs.Joined.{Legal, arranged, fits_words, one_point}
+use Rattle.av_build.proofs.Joined.{Legal, HasOwnPicks, own_picks, arranged, fits_words, one_point}
 
 module _ (t : Timed) (a : Cells) (legal : IsLegal t) (array : IsArrayOf t a) where
   abbrev own : FlatSystem
@@ -57,8 +55,13 @@ module _ (t : Timed) (a : Cells) (legal : IsLegal t) (array : IsArrayOf t a) whe
     inverts = inverted;
   }
 
+  picks : (v : Variable) (k : ℕ) (piece : Piece) → Contains own.variables v → slice_get v.pieces k ≡ Some piece → HasOwnPicks own v piece
+  picks v k piece among is =
+      let tree = (chained_piece t array.placings a.cells legal array.are_placings array.cells v k piece among is).tree in
+      own_picks own v.width 0 0 piece.tree tree.plain tree.no_reduction tree.partial
+
   pub arranged_array : IsArranged (array_of t a array.placings)
-  arranged_array = arranged (array_of t a array.placings) legal_array array.links (All-weaker (IsChainedVariable own) (λ (v : Variable). v.width ≡ own.width) (λ v h. h.width) own.variables legal.chained.each)
+  arranged_array = arranged (array_of t a array.placings) legal_array array.links picks
 
   -- no cell computes two points in one cycle
   pub one_computation : (p c m n : ℕ) (y z : Point) → Computes own array.placings a.cells p c m y → Computes own array.placings a.cells p c n z → (m ≡ n) × (y ≡ z)

@@ -8,6 +8,7 @@ use Rattle.std.proofs.lemmas.Nat.{pow_pos}
 use Rattle.av_base.specs.Words.{IsWord}
 use Rattle.av_base.proofs.Lists.{each_weaker, some_is}
 use Rattle.av_base.proofs.Widths.{width_is}
+use Rattle.av_base.proofs.Among.{among_at}
 use Rattle.av_affine.specs.declared.map.Map.{Map}
 use Rattle.av_tree.specs.Points.{Point}
 use Rattle.av_flat.specs.declared.tree.Choice.{Choice}
@@ -26,10 +27,11 @@ use Rattle.av_kinds.specs.declared.program.Inlet.TheVariants.{Inputs, Taps, Pipe
 use Rattle.av_kinds.specs.declared.program.Site.{Site}
 use Rattle.av_kinds.specs.declared.program.CellLanes.{CellLanes}
 use Rattle.av_kinds.specs.Programs.{source_in, site_count, Work, Program, IsSource, IsInletOf, IsSite, FitsTree}
-use Rattle.av_history.specs.Widths.{width_at, read_width}
+use Rattle.av_history.specs.Widths.{width_at, read_width, PicksAsWide}
 use Rattle.av_history.specs.Places.{EachPlace}
 use Rattle.av_history.specs.Performing.{Array, ComputesOn, Lanes, Spot, handing_at, IsHelpedSource, IsPlaceSource}
 use Rattle.av_history.specs.Arranged.{IsArranged}
+use Rattle.av_history.proofs.Words.{place_both}
 use Rattle.av_history.proofs.Serving.{Reading, moved_by}
 use Rattle.av_build.specs.inner.Programmed.{IsRight, IsSiteFor, inlet_by, Always, pipe_in, IsPiped, IsPlaceSite, IsWorkFor, IsProgramFor}
 use Rattle.av_build.specs.inner.Built.{HasPorts}
@@ -143,7 +145,6 @@ module _ (a : Array) (count : ℕ → ℕ) (few : (c : ℕ) → count c < 2 ^ 12
     pub own_node : is_node at.variable ≡ true
     pub number : at.node ≡ number_at a.system own
     pub own_place : node_place a.system at.node ≡ own
-    pub wide : at.variable.width ≡ a.system.width
     pub cycle : ℕ
     pub point : Point
     pub computes : ComputesOn a at.cell cycle at.node point
@@ -189,22 +190,22 @@ module _ (a : Array) (count : ℕ → ℕ) (few : (c : ℕ) → count c < 2 ^ 12
       )
 
   -- a pick
-  picking : (first q : ℕ) (at : Spot) (own : ℕ) → IsBusy at own → (i place : ℕ) (choices : List Choice) (n : ℕ) (site : Site) → PlaceSite first at i (pick place choices n) site → IsWord at.variable.width n → IsSite program first q site
-  picking first q at own busy i place choices n site h fits =
+  picking : (first q : ℕ) (at : Spot) (own : ℕ) → IsBusy at own → (i place : ℕ) (choices : List Choice) (n : ℕ) (site : Site) → PlaceSite first at i (pick place choices n) site → IsWord at.variable.width n → width_at a.system place ≡ at.variable.width → IsSite program first q site
+  picking first q at own busy i place choices n site h fits wide =
       let fine = fine_site a count few program at busy.is_variable busy.is_piece Always (λ z c source. IsPlaceSource a lanes at z c i (pick place choices n) source) site h.reads
-      (λ c z source r read brought. pick_owned a count lanes program g arranged ports site.width at c z r i place choices n (subst (λ (w : ℕ). IsWord w n) (sym h.width) fits) (h.width ∙ busy.wide) (picked choices z) refl source brought) in
+      (λ c z source r read brought. pick_owned a count lanes program g arranged ports site.width at c z r i place choices n (subst (λ (w : ℕ). IsWord w n) (sym h.width) fits) (h.width ∙ sym wide) (picked choices z) refl source brought) in
       subst (λ (x : Inlet). IsInletOf program first q x site) (sym (h.inlet ∙ inlet_pick a.system (pipe_in lanes at.cell first) (handing_at a at i) place choices n)) fine
 
   -- a place of the piece, in the lane of the cell's value
   place_fine : (first q : ℕ) (at : Spot) (own : ℕ) → IsBusy at own → q ≡ lanes.of_value at.cell → (cell : CellLanes) → slice_get program.cells at.cell ≡ Some cell → cell.first ≡ first
-      → (i : ℕ) (t : Tree) (site : Site) → PlaceSite first at i t site → HasNumbers at.variable.width t → IsSite program first q site
-  place_fine first q at own busy at_is cell is_cell first_is i (reference place m) site h fits = by_handing (handing_at a at i) refl
+      → (i : ℕ) (t : Tree) (site : Site) → PlaceSite first at i t site → HasNumbers at.variable.width t → PicksAsWide a.system at.variable.width t → IsSite program first q site
+  place_fine first q at own busy at_is cell is_cell first_is i (reference place m) site h fits wide = by_handing (handing_at a at i) refl
     where
       by_handing : (o : Option Handing) → handing_at a at i ≡ o → IsSite program first q site
       by_handing None e = plain_reference first q at own busy i place m site h e
       by_handing (Some o) e = piped_reference first q at own busy at_is cell is_cell first_is i place m site h o e
-  place_fine first q at own busy at_is cell is_cell first_is i (pick place choices n) site h fits = picking first q at own busy i place choices n site h fits
-  place_fine first q at own busy at_is cell is_cell first_is i _ site h fits = absurd (h.reads.all busy.cycle busy.point busy.computes busy.within tt)
+  place_fine first q at own busy at_is cell is_cell first_is i (pick place choices n) site h fits wide = picking first q at own busy i place choices n site h fits wide
+  place_fine first q at own busy at_is cell is_cell first_is i _ site h fits wide = absurd (h.reads.all busy.cycle busy.point busy.computes busy.within tt)
 
   -- all places of the piece
   pub work_fine : (first q : ℕ) (at : Spot) (own : ℕ) → IsBusy at own → q ≡ lanes.of_value at.cell → (cell : CellLanes) → slice_get program.cells at.cell ≡ Some cell → cell.first ≡ first
@@ -212,7 +213,12 @@ module _ (a : Array) (count : ℕ → ℕ) (few : (c : ℕ) → count c < 2 ^ 12
   work_fine first q at own busy at_is cell is_cell first_is work h fits =
       let Sited : ℕ → ℕ → Tree → Type 0 = λ k i t. (site : Site) × (slice_get work.sites k ≡ Some site) × IsPlaceSite a count lanes first at i t site in
       let Good : ℕ → Type 0 = λ k. (site : Site) × (slice_get work.sites k ≡ Some site) × IsSite program first q site in
-      let all = with_words at.variable.width Sited 0 0 at.piece.tree h.sites fits in
+      let good : (k i : ℕ) (t : Tree) → PicksAsWide a.system at.variable.width t → Sited k i t → HasNumbers at.variable.width t → Good k =
+      λ k i t wide x numbers. (x.0, x.1, place_fine first q at own busy at_is cell is_cell first_is i t x.0 x.2 numbers wide) in
+      let Picks : ℕ → ℕ → Tree → Type 0 = λ k i t. PicksAsWide a.system at.variable.width t in
+      let picks : EachPlace Picks 0 0 at.piece.tree = arranged.widths at.variable at.number at.piece (among_at a.system.variables own at.variable busy.is_own) busy.is_piece in
+      let Fine : ℕ → ℕ → Tree → Type 0 = λ k i t. Sited k i t × Picks k i t in
+      let all = with_words at.variable.width Fine 0 0 at.piece.tree (place_both Sited Picks 0 0 at.piece.tree h.sites picks) fits in
       each_found (IsSite program first q) work.sites
-      (λ k low. numbered (λ k i t. Sited k i t × HasNumbers at.variable.width t) Good
-      (λ k i t x. (x.0.0, x.0.1, place_fine first q at own busy at_is cell is_cell first_is i t x.0.0 x.0.2 x.1)) 0 0 at.piece.tree all k (omega arith) (let many = h.many in omega (arith, low, many)))
+      (λ k low. numbered (λ k i t. Fine k i t × HasNumbers at.variable.width t) Good
+      (λ k i t x. good k i t x.0.1 x.0.0 x.1) 0 0 at.piece.tree all k (omega arith) (let many = h.many in omega (arith, low, many)))

@@ -1,16 +1,15 @@
 -- The plan of an array: its listing on its ports, one solution for every input, which can be presented, and which the plan shows.
-use Rattle.std.proofs.Common.{◌≡◌, ℕ, ◌+◌, ◌*◌, ◌<◌, List, [], ◌∷◌, length, map, refl, sym, ap, subst, ◌∙◌, arith, All, Option, Some}
+use Rattle.std.proofs.Common.{◌≡◌, ℕ, zero, suc, ◌+◌, ◌*◌, ◌^◌, ◌<◌, List, [], ◌∷◌, length, map, refl, sym, ap, subst, ◌∙◌, arith, All, Option, Some}
 use Rattle.std.specs.Prelude.{None, slice_get}
-use Rattle.std.specs.List.{AllByRecursion, range_with_len}
+use Rattle.std.specs.List.{range_with_len}
 use Rattle.std.proofs.lemmas.List.{length-map}
-use Rattle.std.proofs.lemmas.List.Elements.{All-contains, All-from_recursion, recursion_from_All}
+use Rattle.std.proofs.lemmas.List.Elements.{recursion_from_All}
 use Rattle.av_base.specs.declared.width.Width.{Width}
-use Rattle.av_base.proofs.Among.{among_at}
-use Rattle.av_base.proofs.Lists.{there_is, each_by_place}
+use Rattle.av_base.proofs.Lists.{some_is}
 use Rattle.av_tree.specs.Values.{Assignment}
 use Rattle.av_flat.specs.declared.timed.Timed.{Timed}
-use Rattle.av_flat.specs.Trees.{Variable, view_system}
-use Rattle.av_flat.specs.Chained.{IsChainedVariable}
+use Rattle.av_flat.specs.Trees.{Variable, FlatSystem, view_system}
+use Rattle.av_flat.specs.Nodes.{nodes}
 use Rattle.av_flat.specs.Solutions.{IsSolution}
 use Rattle.av_flat.specs.OneSolution.{AreInputs, HasOneSolution}
 use Rattle.av_flat.specs.Legal.{IsMoving, IsLegal}
@@ -21,27 +20,26 @@ use Rattle.av_net.specs.declared.netlist.Port.{Port}
 use Rattle.av_net.specs.declared.plan.Plan.{Plan}
 use Rattle.av_net.specs.Flat.{flat_of}
 use Rattle.av_net.specs.Shown.{Shows}
+use Rattle.av_space.specs.declared.cells.Cell.{Cell}
 use Rattle.av_space.specs.declared.cells.Cells.{Cells}
-use Rattle.av_space.specs.Taps.{node_place}
 use Rattle.av_space.specs.Listings.{input_name, output_name}
-use Rattle.av_space.specs.Ports.{IsPort}
-use Rattle.av_space.specs.Whole.{ArePortsOf, HasWholeListing}
-use Rattle.av_space.proofs.ByPlace.{from_map}
+use Rattle.av_space.specs.Whole.{HasInputWidth, HasOutputWidth, ArePortsOf, HasWholeListing}
+use Rattle.av_space.proofs.ByPlace.{from_map, all_by_place}
 use Rattle.av_space.proofs.Elements.{in_range}
-use Rattle.av_space.proofs.Nodes.{node_variable}
 use Rattle.av_space.proofs.Streams.{presentable}
+use Rattle.av_space.proofs.WholeListing.{input_once, output_once}
 use Rattle.av_kinds.specs.declared.counter.Counter.{Counter}
 use Rattle.av_kinds.specs.declared.counter.Counter.TheVariants.{Cycles}
 use Rattle.av_kinds.specs.declared.planning.Modules.{Modules}
 use Rattle.av_kinds.specs.Counters.{count_in, number_count}
 use Rattle.av_kinds.specs.Programs.{Lane, Program}
-use Rattle.av_kinds.specs.Tops.{numbered_ports, width_in, output_widths}
+use Rattle.av_kinds.specs.Tops.{port, numbered_ports, width_in, output_widths}
 use Rattle.av_kinds.specs.Netlists.{plan_of, AreNetlistsOf}
 use Rattle.av_history.specs.Widths.{width_of}
 use Rattle.av_build.specs.Later.{later}
 use Rattle.av_build.specs.ArrayPlans.{ShowsSolution, IsPlanOf, IsCountingPlan, HasOnePoint}
 use Rattle.av_build.specs.inner.Built.{array_of, IsProgrammed}
-use Rattle.av_build.proofs.CellValues.{value_of, output_within}
+use Rattle.av_build.proofs.CellValues.{value_of}
 use Rattle.av_build.proofs.Connected.{arranged_array, one_computation}
 use Rattle.av_build.proofs.NotLater.{not_later}
 use Rattle.av_build.proofs.PlanShows.{Given, shows}
@@ -52,34 +50,48 @@ names_of : (name : ℕ → List ℕ) (k : ℕ) (ws : List Width) → map (λ (p 
 names_of name k [] = refl
 names_of name k (w ∷ ws) = ap (λ l. name k ∷ l) (names_of name (k + 1) ws)
 
-widths_of : (name : ℕ → List ℕ) (m k : ℕ) (ws : List Width) → AllByRecursion (λ (w : Width). w.bits ≡ m) ws → AllByRecursion (λ (p : Port). p.width.bits ≡ m) (numbered_ports name k ws)
-widths_of name m k [] h = tt
-widths_of name m k (w ∷ ws) h = (h.0, widths_of name m (k + 1) ws h.1)
+port_at : (name : ℕ → List ℕ) (b : ℕ) (ws : List Width) (k : ℕ) (p : Port) → slice_get (numbered_ports name b ws) k ≡ Some p → (w : Width) × (slice_get ws k ≡ Some w) × (p ≡ port w (name (b + k)))
+port_at name b [] k p e = absurd cc
+port_at name b (w ∷ ws) zero p e =
+    let n : b ≡ b + 0 = omega arith in
+    (w, refl, sym (some_is (port w (name b)) p e) ∙ ap (λ (i : ℕ). port w (name i)) n)
+port_at name b (w ∷ ws) (suc k) p e =
+    let r = port_at name (b + 1) ws k p e in
+    let n : b + 1 + k ≡ b + suc k = omega arith in
+    (r.0, r.1, r.2 ∙ ap (λ (i : ℕ). port r.0 (name i)) n)
 
-pub ports_are : (name : ℕ → List ℕ) (number m : ℕ) (ws : List Width) (ports : List Port) → ports ≡ numbered_ports name 0 ws → length ws ≡ number → AllByRecursion (λ (w : Width). w.bits ≡ m) ws → ArePortsOf name number m ports
-ports_are name number m ws ports are size each = record {
+-- ports of these widths
+pub ports_are : (name : ℕ → List ℕ) (number : ℕ) (HasWidth : ℕ → ℕ → Type 0) (ws : List Width) (ports : List Port) → ports ≡ numbered_ports name 0 ws → length ws ≡ number
+    → ((i k : ℕ) (w : Width) → slice_get ws i ≡ Some w → name k ≡ name i → HasWidth k w.bits) → ArePortsOf name number HasWidth ports
+ports_are name number HasWidth ws ports are size each = record {
   names = ap (λ (l : List Port). map (λ (p : Port). p.name) l) are ∙ names_of name 0 ws ∙ ap (λ n. map name (range_with_len 0 n)) size;
-  widths = subst (λ (l : List Port). All (λ (p : Port). p.width.bits ≡ m) l) (sym are) (All-from_recursion (λ (p : Port). p.width.bits ≡ m) (numbered_ports name 0 ws) (widths_of name m 0 ws each));
+  widths = subst (λ (l : List Port). All (λ (p : Port). (k : ℕ) → p.name ≡ name k → HasWidth k p.width.bits) l) (sym are)
+      (all_by_place (λ (p : Port). (k : ℕ) → p.name ≡ name k → HasWidth k p.width.bits) (numbered_ports name 0 ws) (λ i p there. of_port i p (port_at name 0 ws i p there)));
 }
+  where
+    of_port : (i : ℕ) (p : Port) → (w : Width) × (slice_get ws i ≡ Some w) × (p ≡ port w (name (0 + i))) → (k : ℕ) → p.name ≡ name k → HasWidth k p.width.bits
+    of_port i p (w, there, same) k named =
+        let plain : 0 + i ≡ i = omega arith in
+        let one : name k ≡ name i = sym named ∙ ap (λ (q : Port). q.name) same ∙ ap name plain in
+        subst (λ (q : Port). HasWidth k q.width.bits) (sym same) (each i k w there one)
 
 module _ (t : Timed) (a : Cells) (legal : IsLegal t) (counter : Counter) (program : Program) (g : IsProgrammed t a counter program) (m : Modules) (netlists : AreNetlistsOf counter program m) where
   abbrev plan : Plan
   plan = plan_of a.listing m
 
-  -- all variables have one width
-  one_width : (place : ℕ) (v : Variable) → slice_get (view_system t.flat).variables place ≡ Some v → v.width ≡ (view_system t.flat).width
-  one_width place v is =
-      (All-contains (IsChainedVariable (view_system t.flat)) (view_system t.flat).variables v legal.chained.each (among_at (view_system t.flat).variables place v is)).width
+  abbrev own : FlatSystem
+  own = view_system t.flat
 
-  pub input_width : (k : ℕ) (w : Width) → slice_get program.inputs k ≡ Some w → w.bits ≡ (view_system t.flat).width
-  input_width k w is =
+  -- an input port is as wide as the input that is read there
+  pub input_width : (i k : ℕ) (w : Width) → slice_get program.inputs i ≡ Some w → input_name k ≡ input_name i → HasInputWidth own t.helpers g.whole.list.placings a k w.bits
+  input_width i k w there named = λ at_port c z input m is_port fed.
       let size = g.ports.one_each in
-      let low = in_range program.inputs k w is in
-      let here = there_is a.inputs k (omega (arith, low, size)) in
-      let fed = All-contains (IsPort (view_system t.flat) t.helpers g.whole.list.placings a.cells) a.inputs here.0 g.whole.list.inputs.each (among_at a.inputs k here.0 here.1) in
-      let f = fed.4 in
-      let bits = g.ports.each k here.0 w here.1 is fed.0 f.node fed.1 f.variable f.piece (record { place = f.place; map = fed.3 }) f.computes f.is_variable f.is_piece f.is_reference in
-      bits ∙ ap (λ o. width_of o) f.is_variable_read ∙ one_width f.place fed.2 f.is_variable_read
+      let few = g.is_program.inputs_few in
+      let within = in_range a.inputs k at_port is_port in
+      let low = in_range program.inputs i w there in
+      let same : k ≡ i = input_once k i (omega (arith, within, size, few)) (omega (arith, low, few)) named in
+      let bits = g.ports.each k at_port w is_port (ap (slice_get program.inputs) same ∙ there) c fed.node z fed.variable fed.piece (record { place = fed.place; map = m }) fed.computes fed.is_variable fed.is_piece fed.is_reference in
+      bits ∙ ap (λ o. width_of o) fed.is_variable_read
 
   given : Given (array_of t a g.whole.list.placings) counter g.lanes a.outputs a.listing program m
   given = record {
@@ -98,22 +110,29 @@ module _ (t : Timed) (a : Cells) (legal : IsLegal t) (counter : Counter) (progra
       let plain = helped (view_system t.flat) x u (λ j z. None) solves in
       shows (array_of t a g.whole.list.placings) counter g.lanes a.outputs a.listing program m given k x u _ (with_helpers (view_system t.flat) t.times legal.chained legal.schedule x u (λ j z. None) plain t.helpers hs)
 
-  -- the lane of a cell's value is as wide as the words of the system
-  value_width : (p : ℕ) → p < length a.cells → (width_in (slice_get program.lanes (g.lanes.of_value p))).bits ≡ (view_system t.flat).width
-  value_width p lt =
-      let x = value_of (array_of t a g.whole.list.placings) (count_in counter) g.lanes program g.is_program_for g.whole.list.cells p lt in
-      let place = node_place (view_system t.flat) x.node in
-      ap (λ (o : Option Lane). (width_in o).bits) x.is_lane ∙ x.is_value.width_is ∙ one_width place x.variable (node_variable (view_system t.flat) x.node x.variable x.is_variable)
+  pub outputs_many : length (output_widths program) ≡ length a.outputs
+  outputs_many = length-map program.outputs (λ q. width_in (slice_get program.lanes q)) ∙ ap (λ (l : List ℕ). length l) g.outputs_are ∙ length-map a.outputs g.lanes.of_value
 
-  output_width : (i : ℕ) (w : Width) → slice_get (output_widths program) i ≡ Some w → w.bits ≡ (view_system t.flat).width
-  output_width i w is =
-      let x = from_map (λ (q : ℕ). width_in (slice_get program.lanes q)) program.outputs i w is in
+  few_outputs : length a.outputs < 2 ^ 32
+  few_outputs = (let few = g.is_program.outputs_few in let size = ap (λ (l : List ℕ). length l) g.outputs_are ∙ length-map a.outputs g.lanes.of_value in omega (arith, few, size))
+
+  -- and an output port as the variable of its cell
+  pub output_width : (i k : ℕ) (w : Width) → slice_get (output_widths program) i ≡ Some w → output_name k ≡ output_name i → HasOutputWidth own a k w.bits
+  output_width i k w there named = λ p cell v is_output is_cell is_variable.
+      let size = outputs_many in
+      let few = few_outputs in
+      let within = in_range a.outputs k p is_output in
+      let low = in_range (output_widths program) i w there in
+      let same : k ≡ i = output_once k i (omega (arith, within, few)) (omega (arith, low, size, few)) named in
+      let x = from_map (λ (q : ℕ). width_in (slice_get program.lanes q)) program.outputs i w there in
       let y = from_map g.lanes.of_value a.outputs i x.0 (sym (ap (λ (qs : List ℕ). slice_get qs i) g.outputs_are) ∙ x.1) in
-      let low : y.0 < length a.cells = output_within (view_system t.flat) a.cells i y.0 (sym (ap (λ (ps : List ℕ). slice_get ps i) g.whole.list.outputs) ∙ y.1) in
-      ap (λ (v : Width). v.bits) (sym x.2) ∙ ap (λ (q : ℕ). (width_in (slice_get program.lanes q)).bits) (sym y.2) ∙ value_width y.0 low
-
-  pub outputs_wide : AllByRecursion (λ (w : Width). w.bits ≡ (view_system t.flat).width) (output_widths program)
-  outputs_wide = each_by_place (λ (w : Width). w.bits ≡ (view_system t.flat).width) (output_widths program) output_width
+      let number : y.0 ≡ p = some_is y.0 p (sym y.1 ∙ ap (slice_get a.outputs) (sym same) ∙ is_output) in
+      let h = value_of (array_of t a g.whole.list.placings) (count_in counter) g.lanes program g.is_program_for g.whole.list.cells p (in_range a.cells p cell is_cell) in
+      let cells : h.computes.cell ≡ cell = some_is h.computes.cell cell (sym h.computes.is_cell ∙ is_cell) in
+      let node : h.node ≡ cell.node = sym h.computes.stands.node ∙ ap (λ (c : Cell). c.node) cells in
+      let one : h.variable ≡ v = some_is h.variable v (sym h.is_variable ∙ ap (slice_get (nodes own)) node ∙ is_variable) in
+      let of_lane : (width_in (slice_get program.lanes (g.lanes.of_value p))).bits ≡ v.width = ap (λ (o : Option Lane). (width_in o).bits) h.is_lane ∙ h.is_value.width_is ∙ ap (λ (u : Variable). u.width) one in
+      ap (λ (z : Width). z.bits) (sym x.2) ∙ ap (λ (q : ℕ). (width_in (slice_get program.lanes q)).bits) (sym y.2 ∙ ap g.lanes.of_value number) ∙ of_lane
 
   -- the listing, on its ports
   abbrev pub carries : HasWholeListing t a (flat_of plan)
@@ -121,9 +140,8 @@ module _ (t : Timed) (a : Cells) (legal : IsLegal t) (counter : Counter) (progra
     whole = g.whole;
     listing = refl;
     name = netlists.name;
-    inputs = ports_are input_name (length a.inputs) (view_system t.flat).width program.inputs m.top.inputs netlists.inputs g.ports.one_each (each_by_place (λ (w : Width). w.bits ≡ (view_system t.flat).width) program.inputs input_width);
-    outputs = ports_are output_name (length a.outputs) (view_system t.flat).width (output_widths program) m.top.outputs netlists.outputs
-        (length-map program.outputs (λ q. width_in (slice_get program.lanes q)) ∙ ap (λ (l : List ℕ). length l) g.outputs_are ∙ length-map a.outputs g.lanes.of_value) outputs_wide;
+    inputs = ports_are input_name (length a.inputs) (HasInputWidth own t.helpers g.whole.list.placings a) program.inputs m.top.inputs netlists.inputs g.ports.one_each input_width;
+    outputs = ports_are output_name (length a.outputs) (HasOutputWidth own a) (output_widths program) m.top.outputs netlists.outputs outputs_many output_width;
   }
 
   pub one_point : HasOnePoint t a (flat_of plan) carries
@@ -139,6 +157,6 @@ plan_of_one t a legal plan h = record { is_plan = h.is_plan; shows = λ x inputs
         let o : HasOneSolution (view_system t.flat) x = scheduled_once (view_system t.flat) 4 t.times legal.chained legal.proper legal.schedule x inputs in
         record {
           one = o;
-          presentable = presentable t a (flat_of plan) legal h.is_plan.carries x inputs;
+          presentable = presentable t a (flat_of plan) h.is_plan.carries x inputs;
           shows = subst (λ d. Shows d x o.solution) (not_later (flat_of plan)) (h.shows 0 x o.solution o.solves);
         }

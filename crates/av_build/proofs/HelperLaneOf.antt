@@ -29,7 +29,6 @@ use Rattle.av_build.proofs.ProgramLanes.{has_interval, numbers_small, short}
 module _ (a : Array) (count : ℕ → ℕ) (few : (c : ℕ) → count c < 2 ^ 12) (lanes : Lanes) (program : Program) (g : IsProgramFor a count lanes program) (arranged : IsArranged a) (ports : HasPorts a program.inputs)
     (cycles : (p c n : ℕ) (z : Point) → ComputesOn a p c n z → c < 2 ^ 12)
     (fits : (n : ℕ) (v : Variable) (k : ℕ) (piece : Piece) → slice_get (nodes a.system) n ≡ Some v → slice_get v.pieces k ≡ Some piece → HasNumbers v.width piece.tree)
-    (wide : (place : ℕ) (v : Variable) → slice_get a.system.variables place ≡ Some v → v.width ≡ a.system.width)
     (p first j : ℕ) (h : Helper) (v : Variable) (piece : Piece) (r : Reference) (it : IsHelper a j h v piece r) (c : ℕ) (z : Point) (computes : ComputesOn a p c (number_at a.system h.var) z) (inside : IsTrue (has piece.domain z))
     (lane : Lane) (l : IsHelperLane a count lanes (helper_spot a h v piece p) j h r lane) where
   abbrev at : Spot
@@ -67,10 +66,10 @@ module _ (a : Array) (count : ℕ → ℕ) (few : (c : ℕ) → count c < 2 ^ 12
       subst (λ (n : Inlet). IsInletOf program first q n l.own_site) (sym l.own_inlet) fine
 
   entry_small : AreSmall l.entry_mode
-  entry_small = numbers_small a count few lanes program g arranged ports cycles fits wide p (λ n z. (n ≡ at.node) × IsTrue (has at.piece.domain z)) (λ n z. IsEntry at.piece.domain h.direction z) l.entry_mode l.entry_numbers
+  entry_small = numbers_small a count few lanes program g arranged ports cycles fits p (λ n z. (n ≡ at.node) × IsTrue (has at.piece.domain z)) (λ n z. IsEntry at.piece.domain h.direction z) l.entry_mode l.entry_numbers
 
   own_small : AreSmall l.own_mode
-  own_small = numbers_small a count few lanes program g arranged ports cycles fits wide p (λ n z. (n ≡ at.node) × IsTrue (has at.piece.domain z)) (λ n z. IsTrue (has at.piece.domain (before z h.direction))) l.own_mode l.own_numbers
+  own_small = numbers_small a count few lanes program g arranged ports cycles fits p (λ n z. (n ≡ at.node) × IsTrue (has at.piece.domain z)) (λ n z. IsTrue (has at.piece.domain (before z h.direction))) l.own_mode l.own_numbers
 
   -- the point is an entry point, or the one before it is in the set
   some_mode : (k : ℕ) × (m : Mode) × (slice_get lane.modes k ≡ Some m) × (0 < length m.intervals)
@@ -91,7 +90,7 @@ module _ (a : Array) (count : ℕ → ℕ) (few : (c : ℕ) → count c < 2 ^ 12
       record {
         home = l.home_is;
         rank = omega (arith, rank, stride, number);
-        short = short a count few lanes program g arranged ports cycles fits wide lane.length (subst (λ (k : ℕ). k < 2 ^ 12) (sym l.length_is) low);
+        short = short a count few lanes program g arranged ports cycles fits lane.length (subst (λ (k : ℕ). k < 2 ^ 12) (sym l.length_is) low);
         modes = subst (AllByRecursion (IsModeOf program first q lane.width.bits)) (sym l.modes_are) (one_mode l.entry_mode l.entry_site l.entry_work entry_fine entry_small, (one_mode l.own_mode l.own_site l.own_work own_fine own_small, tt));
         some = some_mode;
         alone = l.alone;

@@ -1,10 +1,13 @@
 -- What a legal system gives to its array.
-use Rattle.std.proofs.Common.{◌≡◌, ℕ, ◌+◌, ◌<◌, length, sym, subst, ◌∙◌, ap, true, Some, All, ◌⊎◌, inl, inr}
-use Rattle.std.specs.Prelude.{slice_get, nat_eq}
+use Rattle.std.proofs.Common.{◌≡◌, ℕ, zero, suc, ◌+◌, ◌<◌, List, [], ◌∷◌, length, map, sym, subst, ◌∙◌, ap, true, false, Some, ◌⊎◌, inl, inr}
+use Rattle.std.specs.Prelude.{Contains, slice_get, nat_eq}
 use Rattle.av_tree.specs.Points.{Point}
 use Rattle.av_poly.specs.Points.{Set}
-use Rattle.av_flat.specs.Trees.{Tree, Piece, Variable, reference, constant, binary, choice, restriction, cases, dependence, reduction, pick}
-use Rattle.av_flat.specs.WellFormed.{EachPart, HasWords}
+use Rattle.av_flat.specs.Trees.{Tree, Piece, Variable, FlatSystem, reference, constant, binary, choice, restriction, cases, dependence, reduction, pick}
+use Rattle.av_flat.specs.Signatures.{Signature, signature, signatures}
+use Rattle.av_flat.specs.Broadcasts.{references}
+use Rattle.av_flat.specs.Chained.{IsOfPartial}
+use Rattle.av_flat.specs.WellFormed.{EachPart, HasWords, is_reduction}
 use Rattle.av_flat.specs.Kept.{IsPlain}
 use Rattle.av_flat.specs.Points.{has}
 use Rattle.av_flat.specs.Nodes.{is_node, nodes}
@@ -19,6 +22,9 @@ use Rattle.av_space.proofs.Placed.{empty}
 use Rattle.av_space.proofs.Helpers.{equal}
 use Rattle.av_base.proofs.Truths.{both}
 use Rattle.av_base.proofs.Lists.{some_is}
+use Rattle.av_kinds.specs.Programs.{site_count}
+use Rattle.av_history.specs.Widths.{width_of, PicksAsWide}
+use Rattle.av_history.specs.Places.{EachPlace}
 use Rattle.av_history.specs.Performing.{Array}
 use Rattle.av_history.specs.Arranged.{IsArranged}
 use Rattle.av_build.proofs.FineLanes.{HasNumbers}
@@ -46,7 +52,36 @@ tapped_earlier a g p c n z v piece j tap k y computes is_variable is_piece insid
     earlier a.system a.helpers a.times a.cells g.scheduled p c n z own.place v own.is own.passes (sym own.number) computes piece j tap is_piece inside
     (subst (λ m. slice_get (taps a.system a.helpers m v) j ≡ Some tap) same is_tap) k y reads
 
-pub arranged : (a : Array) → Legal a → AreLinks a.system a.helpers a.times a.cells a.links → All (λ (v : Variable). v.width ≡ a.system.width) a.system.variables → IsArranged a
+-- a pick reads words as wide as those of its equation
+abbrev pub HasOwnPicks : FlatSystem → Variable → Piece → Type 0
+HasOwnPicks s v piece = EachPlace (λ k i t. PicksAsWide s v.width t) 0 0 piece.tree
+
+signature_width : (vs : List Variable) (place : ℕ) (v : Signature) → slice_get (map signature vs) place ≡ Some v → width_of (slice_get vs place) ≡ v.width
+signature_width [] place v e = absurd cc
+signature_width (w ∷ vs) zero v e = ap (λ (x : Signature). x.width) (some_is (signature w) v e)
+signature_width (w ∷ vs) (suc place) v e = signature_width vs place v e
+
+pub own_picks : (s : FlatSystem) (w k i : ℕ) (t : Tree) → EachPart IsPlain t → EachPart (λ u. is_reduction u ≡ false) t → EachPart (IsOfPartial (signatures s) w) t → EachPlace (λ k i u. PicksAsWide s w u) k i t
+own_picks s w k i (reference place m) plain free partial = tt
+own_picks s w k i (constant n) plain free partial = tt
+own_picks s w k i (binary g l r) plain free partial = (
+  own_picks s w k i l plain.1 free.1 partial.1,
+  own_picks s w (k + site_count l) (i + length (references l)) r plain.2 free.2 partial.2,
+)
+own_picks s w k i (choice l c r x y) plain free partial = (
+  own_picks s w k i l plain.1 free.1 partial.1,
+  own_picks s w (k + site_count l) (i + length (references l)) r plain.2 free.2 partial.2,
+  own_picks s w (k + site_count l + site_count r) (i + length (references l) + length (references r)) x plain.3 free.3 partial.3,
+  own_picks s w (k + site_count l + site_count r + site_count x) (i + length (references l) + length (references r) + length (references x)) y plain.4 free.4 partial.4,
+)
+own_picks s w k i (pick place choices n) plain free partial = signature_width s.variables place partial.0 partial.1 ∙ partial.3
+own_picks s w k i (restriction d t) plain free partial = absurd (let k = plain.0.1 in cc)
+own_picks s w k i (cases ts) plain free partial = absurd (let k = plain.0.0 in cc)
+own_picks s w k i (dependence m t) plain free partial = absurd (let k = plain.0.2 in cc)
+own_picks s w k i (reduction o m t set) plain free partial = absurd (let k = free.0 in cc)
+
+pub arranged : (a : Array) → Legal a → AreLinks a.system a.helpers a.times a.cells a.links
+    → ((v : Variable) (k : ℕ) (piece : Piece) → Contains a.system.variables v → slice_get v.pieces k ≡ Some piece → HasOwnPicks a.system v piece) → IsArranged a
 arranged a g are_links widths = record {
   are_links = are_links;
   widths = widths;

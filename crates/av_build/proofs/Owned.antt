@@ -1,7 +1,6 @@
 -- The sources of an array's program are of its cell, of a width, and there: a number, a port of the cell, or a lane that is linked to it.
 use Rattle.std.proofs.Common.{◌≡◌, ℕ, ◌<◌, ◌≤◌, List, refl, sym, subst, arith, ◌∙◌, ap, true, Option, Some, None}
 use Rattle.std.specs.Prelude.{Contains, slice_get}
-use Rattle.std.proofs.lemmas.List.Elements.{recursion_from_All}
 use Rattle.av_base.specs.declared.width.Width.{Width}
 use Rattle.av_base.specs.Words.{IsWord}
 use Rattle.av_base.proofs.Widths.{width_is}
@@ -21,7 +20,7 @@ use Rattle.av_space.specs.declared.cells.InPort.{InPort}
 use Rattle.av_space.specs.declared.cells.Link.{Link as LinkMade}
 use Rattle.av_space.specs.Taps.{Way, each, handed, IsTapRead, helper_of}
 use Rattle.av_space.specs.Links.{line_length}
-use Rattle.av_space.proofs.Elements.{in_range, each_at}
+use Rattle.av_space.proofs.Elements.{in_range}
 use Rattle.av_space.proofs.NodePlaces.{node_at}
 use Rattle.av_kinds.specs.declared.program.Source.{Source}
 use Rattle.av_kinds.specs.declared.program.Source.TheVariants.{Word, Input, Line}
@@ -95,11 +94,10 @@ module _ (a : Array) (count : ℕ → ℕ) (lanes : Lanes) (program : Program) (
       subst (IsOwned a program w at.cell) (sym from)
       (link_owned w at c z r h.site tree way producer delay l f.some (lanes.of_helper j producer) there.4.0 there.4.1 lane.home_is (lane.width_is ∙ sym wide) lane.length_is)
 
-  pub pick_owned : (w : Width) (at : Spot) (c : ℕ) (z : Point) → Reading a at c z → (i place : ℕ) (choices : List Choice) (n : ℕ) → IsWord w.bits n → w.bits ≡ a.system.width
+  pub pick_owned : (w : Width) (at : Spot) (c : ℕ) (z : Point) → Reading a at c z → (i place : ℕ) (choices : List Choice) (n : ℕ) → IsWord w.bits n → w.bits ≡ width_at a.system place
       → (o : Option Point) → picked choices z ≡ o → (source : Source) → IsPickSource a lanes at c i place (pick place choices n) n o source → IsOwned a program w at.cell source
   pick_owned w at c z r i place choices n small wide None e source h = subst (IsOwned a program w at.cell) (sym h) small
   pick_owned w at c z r i place choices n small wide (Some y) e source (producer, delay, read, is_read, node, l, is) =
-      let all = recursion_from_All (λ (v : Variable). v.width ≡ a.system.width) a.system.variables arranged.widths in
-      let bits : read.width ≡ w.bits = each_at (λ (v : Variable). v.width ≡ a.system.width) a.system.variables all place read is_read ∙ sym wide in
+      let bits : read.width ≡ w.bits = sym (wide ∙ ap width_of is_read) in
       subst (IsOwned a program w at.cell) (sym is)
       (value_owned w at c z r i (pick place choices n) each producer delay l refl place y read is_read node bits (place, (refl, e), refl))

@@ -1,5 +1,5 @@
 -- The flat design of an array's plan shows each solution for the inputs, some times as many cycles later as the counter has numbers.
-use Rattle.std.proofs.Common.{◌≡◌, ℕ, zero, suc, ◌+◌, ◌*◌, ◌<◌, List, [], ◌∷◌, map, length, sym, ap, subst, ◌∙◌, arith, Option, Some}
+use Rattle.std.proofs.Common.{◌≡◌, ℕ, zero, suc, ◌+◌, ◌*◌, ◌<◌, List, [], ◌∷◌, map, length, sym, ap, subst, ◌∙◌, arith, Some}
 use Rattle.std.specs.Prelude.{All, Contains, slice_get}
 use Rattle.std.proofs.lemmas.List.Elements.{All-contains, All-from_recursion, recursion_from_All, All-map}
 use Rattle.av_base.specs.declared.width.Width.{Width}
@@ -8,8 +8,6 @@ use Rattle.av_base.proofs.Among.{among_map, first_among, more_among}
 use Rattle.av_tree.specs.Points.{Point}
 use Rattle.av_tree.specs.Values.{Assignment}
 use Rattle.av_flat.specs.Trees.{Variable}
-use Rattle.av_flat.specs.Signatures.{Signature}
-use Rattle.av_flat.specs.Values.{word_of}
 use Rattle.av_flat.specs.Nodes.{is_node, nodes, number_at}
 use Rattle.av_flat.specs.Helped.{HelperWords, IsHelpedSolution}
 use Rattle.av_net.specs.declared.netlist.Port.{Port}
@@ -33,7 +31,6 @@ use Rattle.av_history.specs.Performing.{Array, ComputesOn, Lanes}
 use Rattle.av_history.specs.Arranged.{IsArranged}
 use Rattle.av_history.specs.Problems.{Presents, HaveWords}
 use Rattle.av_history.proofs.Problems.{each_problem}
-use Rattle.av_history.proofs.Shown.{signature_at}
 use Rattle.av_build.specs.Later.{later_line, later_lines, later}
 use Rattle.av_build.specs.inner.Programmed.{IsProgramFor}
 use Rattle.av_build.proofs.CellValues.{value_label}
@@ -104,8 +101,7 @@ module _ (a : Array) (counter : Counter) (lanes : Lanes) (outputs : List ℕ) (l
       let v = is.variable in
       let at = passing is_node a.system.variables l.node v is.is_variable in
       let computes : ComputesOn a is.cell c (number_at a.system at.place) l.entry.point = subst (λ k. ComputesOn a is.cell c k l.entry.point) (sym at.number) is.computes in
-      let word = have at.place l.entry.point v at.is at.passes is.cell c computes late in
-      let known : u v.name l.entry.point ≡ Some (words (c + start) (lanes.of_value is.cell)) = sym (ap (λ (o : Option Signature). word_of u o l.entry.point) (signature_at a.system.variables at.place v at.is)) ∙ word in
+      let known = have at.place l.entry.point v at.is at.passes is.cell c computes late in
       ap (λ w. Some w) (wire_has (c + start) late is.cell c l.node l.entry.point v is.computes is.is_variable l.entry.wire is.wire_is) ∙ sym known ∙ sym (ap (λ name. u name l.entry.point) is.variable_is)
 
 -- Each solution is shown.

@@ -32,8 +32,7 @@ has_interval x m e = by_list m.intervals e
 
 module _ (a : Array) (count : ℕ → ℕ) (few : (c : ℕ) → count c < 2 ^ 12) (lanes : Lanes) (program : Program) (g : IsProgramFor a count lanes program) (arranged : IsArranged a) (ports : HasPorts a program.inputs)
     (cycles : (p c n : ℕ) (z : Point) → ComputesOn a p c n z → c < 2 ^ 12)
-    (fits : (n : ℕ) (v : Variable) (k : ℕ) (piece : Piece) → slice_get (nodes a.system) n ≡ Some v → slice_get v.pieces k ≡ Some piece → HasNumbers v.width piece.tree)
-    (wide : (place : ℕ) (v : Variable) → slice_get a.system.variables place ≡ Some v → v.width ≡ a.system.width) where
+    (fits : (n : ℕ) (v : Variable) (k : ℕ) (piece : Piece) → slice_get (nodes a.system) n ≡ Some v → slice_get v.pieces k ≡ Some piece → HasNumbers v.width piece.tree) where
   -- begins and ends with numbers of computations
   abbrev Ending : ℕ → Interval → Type 0
   Ending p i = ((c : ℕ) × (n : ℕ) × (z : Point) × ComputesOn a p c n z × (i.first ≡ count c)) × ((c : ℕ) × (n : ℕ) × (z : Point) × ComputesOn a p c n z × (i.last ≡ count c))
@@ -68,7 +67,6 @@ module _ (a : Array) (count : ℕ → ℕ) (few : (c : ℕ) → count c < 2 ^ 12
           own_node = own.passes;
           number = sym own.number;
           own_place = ap (node_place a.system) (sym own.number) ∙ own_place a.system own.place v own.is own.passes;
-          wide = wide own.place v own.is;
           cycle = there.0;
           point = there.1;
           computes = there.2;

@@ -7,7 +7,7 @@ use Rattle.std.proofs.lemmas.List.{length-map}
 use Rattle.av_base.proofs.Lists.{each_by_place, some_is, there_is}
 use Rattle.av_tree.specs.Points.{Point}
 use Rattle.av_flat.specs.declared.timed.Timed.{Timed}
-use Rattle.av_flat.specs.Trees.{Variable, view_system}
+use Rattle.av_flat.specs.Trees.{view_system}
 use Rattle.av_space.specs.declared.array.Array.{Array as ArrayMade}
 use Rattle.av_space.specs.declared.cells.Cell.{Cell}
 use Rattle.av_space.specs.declared.cells.Cells.{Cells}
@@ -102,16 +102,13 @@ module _ (b : Blueprint) (is : IsBlueprint b) (counter : Counter) (counts : IsCo
   cycles : HasFewCycles (seen w)
   cycles = subst HasFewCycles (seen_is w is.array) (few_cycles w.timed.now w.cells.now is.array.legal is.array.whole.list limit)
 
-  wide : (place : ℕ) (v : Variable) → slice_get (seen w).system.variables place ≡ Some v → v.width ≡ (seen w).system.width
-  wide place v e = at_index (λ (v : Variable). v.width ≡ (seen w).system.width) (seen w).system.variables arranged.widths place v e
-
   lane_fine : (p q : ℕ) (own : CellLanes) (lane : Lane) → slice_get program.cells p ≡ Some own → IsLaneFor (seen w) (count_in counter) lanes own.first p q lane → IsLaneOf program own.first p q lane
   lane_fine p q own lane is_own (of_value c n z v computes is_variable at h) =
       subst (λ (k : ℕ). IsLaneOf program own.first p k lane) (sym at)
-      (value_lane_of (seen w) (count_in counter) (few_numbers counter counts) lanes program for_array arranged ports cycles (words_fit w.timed.now w.cells.now is.array.legal is.array.whole.list) wide p own.first own is_own refl c n z v computes is_variable lane h)
+      (value_lane_of (seen w) (count_in counter) (few_numbers counter counts) lanes program for_array arranged ports cycles (words_fit w.timed.now w.cells.now is.array.legal is.array.whole.list) p own.first own is_own refl c n z v computes is_variable lane h)
   lane_fine p q own lane is_own (of_helper j h v piece r it c z computes inside at low high l) =
       subst (λ (k : ℕ). IsLaneOf program own.first p k lane) (sym at)
-      (helper_lane_of (seen w) (count_in counter) (few_numbers counter counts) lanes program for_array arranged ports cycles (words_fit w.timed.now w.cells.now is.array.legal is.array.whole.list) wide p own.first j h v piece r it c z computes inside lane l)
+      (helper_lane_of (seen w) (count_in counter) (few_numbers counter counts) lanes program for_array arranged ports cycles (words_fit w.timed.now w.cells.now is.array.legal is.array.whole.list) p own.first j h v piece r it c z computes inside lane l)
 
   -- ---- in turn
 

@@ -81,7 +81,8 @@ fn reference_of<'a, 'b>(pieces: &'b Pieces<'a>, port: &InPort) -> &'b Site<'a>
 }
 
 impl Blueprint<'_> {
-    // The width of the words at a port.
+    // The width of the words at a port. Its place is a reference, which has words of its own variable's width: that of the run is only what a
+    // pick would be asked with.
     fn port_width(&self, flat: &Flat, port: &InPort) -> Width
         requires blueprint { IsBlueprint self.now }
         requires flat { flat.now ≡ self.now.array.timed.now.flat }

@@ -18,7 +18,8 @@ use Rattle.av_data.specs.declared.fault.DataFault.TheVariants as data_fault
 use Rattle.av_data.specs.declared.sets.DataSet.{DataSet}
 use Rattle.av_data.specs.Data.{SpellsInputs}
 use Rattle.av_data.specs.Divisions.{IsDivided}
-use Rattle.av_data.specs.Inputs.{InputWords, words_of, AreInputsOf}
+use Rattle.av_data.specs.Inputs.{InputWords, words_of}
+use Rattle.av_flat.specs.OneSolution.{AreInputs}
 use Rattle.av_data.specs.Sets.{AreSets}
 use Rattle.av_data.proofs.Outcome.{readable}
 use Rattle.av_data.proofs.OneData.{not_both}
@@ -149,18 +150,18 @@ set_refused timed sets f Given bad none put = elim (fault_or_memory f) [
 
 -- the results of all sets were put
 pub sets_answered : (timed : Timed) (design : Design) (sets : List DataSet) (inputs : List InputWords) {sink sink' : SinkState} {status : Status} → AreSpelled (view_system timed.flat) sets (map words_of inputs)
-    → All (λ (x : InputWords). AreInputsOf (view_system timed.flat) (words_of x)) inputs → PutsOneOf (AreResultsOfSets timed design (map words_of inputs)) sink sink' status
+    → All (λ (x : InputWords). AreInputs (view_system timed.flat) (words_of x)) inputs → PutsOneOf (AreResultsOfSets timed design (map words_of inputs)) sink sink' status
     → IsAnswered (RefusesBadSet timed sets) (GivesEightOf timed design sets) sink sink' status
 sets_answered timed design sets inputs spelled are put =
     puts_given (λ out told. record {
       inputs = map words_of inputs;
       spelled = spelled;
-      are = λ k x at. all_at (AreInputsOf (view_system timed.flat)) (map words_of inputs) k x (All-map (AreInputsOf (view_system timed.flat)) words_of inputs are) at;
+      are = λ k x at. all_at (AreInputs (view_system timed.flat)) (map words_of inputs) k x (All-map (AreInputs (view_system timed.flat)) words_of inputs are) at;
       gives = told;
     }) put
 
 -- the answer to all sets, as one to the whole input
-module _ (before : List ℕ) (sizes : List Size) (bits box : ℕ) (t : Timed) (a : Cells) (plan : Plan) (short : length before < 4294967295) (h : Headline before sizes bits box t a plan)
+module _ (before : List ℕ) (sizes : List Size) (bits box : ℕ) (t : Timed) (a : Cells) (plan : Plan) (short : length before < 4294967295) (wide : 1 ≤ bits) (h : Headline before sizes bits box t a plan)
     (m : IsMapped before sizes bits box t a) (design : Design) (is_flat : design ≡ flat_of plan) (rest whole : List ℕ) (first : ℕ) (sets : List DataSet)
     (divided : IsDivided whole before rest first) (are : AreSets rest first sets) (few : length sets ≤ 8) where
   gives : (out : List ℕ) → GivesEightOf t design sets out → GivesEight sizes bits box whole out
@@ -177,7 +178,7 @@ module _ (before : List ℕ) (sizes : List Size) (bits box : ℕ) (t : Timed) (a
         let x = there_is g.inputs k (omega (arith, lt, many)) in
         let shows = subst (λ (e : Design). AreResultsOf t e x.0 one) is_flat (g.gives.each k x.0 one x.1 there) in
         let alone = other_data whole before rest first divided set.bytes.now in
-        results_given before sizes bits box t a plan short h m x.0 one set.bytes.now (with_set before set) first alone (g.spelled.each k set x.0 at x.1) (g.are k x.0 x.1) shows;
+        results_given before sizes bits box t a plan short wide h m x.0 one set.bytes.now (with_set before set) first alone (g.spelled.each k set x.0 at x.1) (g.are k x.0 x.1) shows;
     lines = g.gives.lines;
   }
 

@@ -116,6 +116,7 @@ fn put_alpha_reason<K: Sink>(page: &mut Page, sink: &mut K, refusal: &Refusal)
         Refusal::CaseInReduce(place) => put_place(page, sink, "case in reduce ", *place),
         Refusal::DependOnReduce(place) => { put_place(page, sink, "dependence on reduce ", *place) }
         Refusal::Limit(kind, amount) => put_limit(page, sink, *kind, *amount),
+        Refusal::WidthRange(name, at) => put_name_and_place(page, sink, "width ", name, *at),
         Refusal::SizeOutside => page.put(sink, "size outside"),
         Refusal::Pieces(amount) => put_amount(page, sink, "pieces ", *amount),
         Refusal::Unbounded(name) => put_name(page, sink, "unbounded ", name),

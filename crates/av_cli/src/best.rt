@@ -77,7 +77,7 @@ pub(crate) fn best<K: Sink>(
         Ok(sizes) => sizes,
     };
     match chained(alloc, bytes, sizes.as_slice(), width) {
-        Err(refusal) => put_alpha_refusal(sink, &refusal),
+        Err(refusal) => put_alpha_refusal(sink, refusal),
         Ok(flat) => match measured(alloc, &flat, reach) {
             Err(fault) => put_best_refusal(sink, &fault),
             Ok((timed, cycles)) => put_least_schedule(sink, &timed, cycles),

@@ -29,7 +29,7 @@ pub(crate) fn check<K: Sink>(
         Ok(sizes) => sizes,
     };
     match checked(alloc, bytes, sizes.as_slice(), width) {
-        Err(refusal) => put_alpha_refusal(sink, &refusal),
+        Err(refusal) => put_alpha_refusal(sink, refusal),
         Ok(_) => put(sink, OK, Status::Done),
     }
 }

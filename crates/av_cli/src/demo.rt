@@ -11,6 +11,7 @@ ghost use Rattle.av_cli.specs.inner.DemoData.{entry, entries, IsEntered, IsSumme
 ghost use Rattle.av_cli.specs.inner.Outputs.{PutsOneOf};
 ghost use Rattle.av_cli.specs.inner.Watching.{bits_of};
 
+use crate::runs::let_go;
 use crate::showing::{Data, shown};
 use crate::status::Status;
 use av_base::{List, Memory, Name, Point, Sink, Width, Word, WriteFault};
@@ -87,12 +88,22 @@ pub(crate) fn demo<K: Sink>(
     };
     match compile(alloc, PRODUCT.as_bytes(), sizes.as_slice(), width, reach) {
         Err(_) => Status::Memory,
-        Ok(compiled) => multiply(alloc, &compiled, width, sink),
+        Ok(compiled) => multiply(alloc, compiled, width, sink),
     }
 }
 
 // Clocks the design on the entries, and adds the two lines.
-fn multiply<K: Sink>(alloc: Global, compiled: &Compiled, width: Width, sink: &mut K) -> Status
+fn multiply<K: Sink>(alloc: Global, compiled: Compiled, width: Width, sink: &mut K) -> Status
+    requires { IsEntered compiled.design width.bits }
+    ensures { PutsOneOf (IsSummed compiled.cells compiled.design width.bits) (K.state sink.old) (K.state sink.new) result }
+{
+    let status = put_product(alloc, &compiled, width, sink);
+    let_go(compiled);
+    status
+}
+
+// The same, of a compiled text that stays.
+fn put_product<K: Sink>(alloc: Global, compiled: &Compiled, width: Width, sink: &mut K) -> Status
     requires { IsEntered compiled.now.design width.bits }
     ensures { PutsOneOf (IsSummed compiled.now.cells compiled.now.design width.bits) (K.state sink.old) (K.state sink.new) result }
 {

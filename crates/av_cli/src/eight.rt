@@ -3,7 +3,8 @@
 ghost use Rattle.std.specs.Prelude.{◌≡◌, ◌<◌, ◌≤◌, ◌+◌, ℕ, List as Items, length, map, All, Some, slice_get, IsErr, OnOk, OnErr};
 ghost use Rattle.av_base.specs.Outside.{Adds, AddsPrefix, HasRisen};
 ghost use Rattle.av_flat.specs.Trees.{view_system};
-ghost use Rattle.av_data.specs.Inputs.{words_of, AreInputsOf};
+ghost use Rattle.av_data.specs.Inputs.{words_of};
+ghost use Rattle.av_flat.specs.OneSolution.{AreInputs};
 ghost use Rattle.av_cli.specs.Eights.{sets_reason, set_line, set_lines};
 ghost use Rattle.av_cli.specs.Refusals.{refusal_line};
 ghost use Rattle.av_cli.specs.Runs.{results};
@@ -15,7 +16,7 @@ ghost use Rattle.av_cli.specs.inner.Written.{IsAnswered, IsPut};
 
 use crate::lane_showing::shown_in_lanes;
 use crate::put::{put, put_alpha_refusal, put_data_refusal};
-use crate::runs::write_results;
+use crate::runs::{let_go, write_results};
 use crate::sizes::sizes;
 use crate::status::Status;
 use crate::stream::read_sets;
@@ -59,8 +60,8 @@ pub(crate) fn run8<K: Sink>(
         return put_sets_refusal(sink, sets.len());
     }
     match compile(alloc, parts.text, sizes.as_slice(), width, reach) {
-        Err(refusal) => put_alpha_refusal(sink, &refusal),
-        Ok(compiled) => answer_sets(alloc, &compiled, sets.as_slice(), sink),
+        Err(refusal) => put_alpha_refusal(sink, refusal),
+        Ok(compiled) => answer_sets(alloc, compiled, sets.as_slice(), sink),
     }
 }
 
@@ -90,6 +91,23 @@ fn put_sets_refusal<K: Sink>(sink: &mut K, count: usize) -> Status
 // Reads the sets for a compiled text, and tells the run on each.
 fn answer_sets<K: Sink>(
     alloc: Global,
+    compiled: Compiled,
+    sets: &[DataSet<'_>],
+    sink: &mut K,
+) -> Status
+    requires clockable { IsClockable compiled.timed compiled.design }
+    requires few { length sets.now ≤ 8 }
+    requires lines { All (λ set. set.first_line + length set.bytes.now < 4294967295) sets.now }
+    ensures { IsAnswered (RefusesBadSet compiled.timed sets.now) (GivesEightOf compiled.timed compiled.design sets.now) (K.state sink.old) (K.state sink.new) result }
+{
+    let status = answer_each_set(alloc, &compiled, sets, sink);
+    let_go(compiled);
+    status
+}
+
+// The same, of a text that stays.
+fn answer_each_set<K: Sink>(
+    alloc: Global,
     compiled: &Compiled,
     sets: &[DataSet<'_>],
     sink: &mut K,
@@ -109,7 +127,7 @@ fn answer_sets<K: Sink>(
 fn put_sets<K: Sink>(alloc: Global, compiled: &Compiled, inputs: &[Inputs], sink: &mut K) -> Status
     requires clockable { IsClockable compiled.now.timed compiled.now.design }
     requires few { length inputs.now ≤ 8 }
-    requires inputs { All (λ x. AreInputsOf (view_system compiled.now.timed.flat) (words_of x)) inputs.now }
+    requires inputs { All (λ x. AreInputs (view_system compiled.now.timed.flat) (words_of x)) inputs.now }
     ensures { PutsOneOf (AreResultsOfSets compiled.now.timed compiled.now.design (map words_of inputs.now)) (K.state sink.old) (K.state sink.new) result }
 {
     match shown_in_lanes(alloc, &compiled.design, inputs) {

@@ -29,7 +29,7 @@ pub(crate) fn emit<K: Sink>(
         Ok(sizes) => sizes,
     };
     match planned(alloc, bytes, sizes.as_slice(), width, reach) {
-        Err(refusal) => put_alpha_refusal(sink, &refusal),
-        Ok(plan) => put_plan(sink, &plan),
+        Err(refusal) => put_alpha_refusal(sink, refusal),
+        Ok(plan) => put_plan(sink, plan),
     }
 }

@@ -43,31 +43,31 @@ pub(crate) fn put<K: Sink>(sink: &mut K, text: &str, wanted: Status) -> Status
 }
 
 /// Adds the text of the plan.
-pub(crate) fn put_plan<K: Sink>(sink: &mut K, plan: &Plan) -> Status
-    requires { IsSoundPlan plan.now }
-    ensures { IsPut (K.state sink.old) (K.state sink.new) (text2 plan.now) Status.Done result }
+pub(crate) fn put_plan<K: Sink>(sink: &mut K, plan: Plan) -> Status
+    requires { IsSoundPlan plan }
+    ensures { IsPut (K.state sink.old) (K.state sink.new) (text2 plan) Status.Done result }
 {
-    match write_plan(plan, sink) {
+    match write_plan(&plan, sink) {
         Ok(()) => Status::Done,
         Err(_) => Status::WriteFault,
     }
 }
 
 /// Adds the lines of the schedule.
-pub(crate) fn put_schedule<K: Sink>(sink: &mut K, timed: &Timed) -> Status
-    requires { IsLegal timed.now }
-    ensures { IsPut (K.state sink.old) (K.state sink.new) (schedule_text timed.now) Status.Done result }
+pub(crate) fn put_schedule<K: Sink>(sink: &mut K, timed: Timed) -> Status
+    requires { IsLegal timed }
+    ensures { IsPut (K.state sink.old) (K.state sink.new) (schedule_text timed) Status.Done result }
 {
-    match write_schedule(timed, sink) {
+    match write_schedule(&timed, sink) {
         Ok(()) => Status::Done,
         Err(_) => Status::WriteFault,
     }
 }
 
 /// Adds the lines of the array.
-pub(crate) fn put_table<K: Sink>(sink: &mut K, array: &Array) -> Status
-    requires { IsArrayOf array.now.timed array.now.cells }
-    ensures { IsPut (K.state sink.old) (K.state sink.new) (table_text array.now.timed array.now.cells) Status.Done result }
+pub(crate) fn put_table<K: Sink>(sink: &mut K, array: Array) -> Status
+    requires { IsArrayOf array.timed array.cells }
+    ensures { IsPut (K.state sink.old) (K.state sink.new) (table_text array.timed array.cells) Status.Done result }
 {
     match write_table(&array.timed, &array.cells, sink) {
         Ok(()) => Status::Done,
@@ -104,13 +104,13 @@ pub(crate) fn put_data_refusal<K: Sink>(sink: &mut K, fault: &DataFault) -> Stat
 }
 
 /// Adds the line of the refusal of an Alpha text. Out of memory has no line: the status tells it.
-pub(crate) fn put_alpha_refusal<K: Sink>(sink: &mut K, refusal: &Refusal) -> Status
-    ensures memory { refusal.now ≡ alpha_refusal.Memory → (result ≡ Status.Memory) × ((K.state sink.new).held ≡ (K.state sink.old).held) }
-    ensures refused { (refusal.now ≡ alpha_refusal.Memory → ⊥) → IsPut (K.state sink.old) (K.state sink.new) (refusal_line (alpha_reason refusal.now)) Status.Refused result }
+pub(crate) fn put_alpha_refusal<K: Sink>(sink: &mut K, refusal: Refusal) -> Status
+    ensures memory { refusal ≡ alpha_refusal.Memory → (result ≡ Status.Memory) × ((K.state sink.new).held ≡ (K.state sink.old).held) }
+    ensures refused { (refusal ≡ alpha_refusal.Memory → ⊥) → IsPut (K.state sink.old) (K.state sink.new) (refusal_line (alpha_reason refusal)) Status.Refused result }
 {
-    match refusal {
+    match &refusal {
         Refusal::Memory => Status::Memory,
-        _ => match write_alpha_refusal(refusal, sink) {
+        _ => match write_alpha_refusal(&refusal, sink) {
             Ok(()) => Status::Refused,
             Err(_) => Status::WriteFault,
         },

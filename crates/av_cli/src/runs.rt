@@ -6,7 +6,8 @@ ghost use Rattle.av_flat.specs.Trees.{view_system, view_variable};
 ghost use Rattle.av_net.specs.Clocked.{Stream as Ports, Run as Clocked, IsRun};
 ghost use Rattle.av_net.specs.Designs.{IsSoundPlan};
 ghost use Rattle.av_net.specs.PlanTexts.{text2};
-ghost use Rattle.av_data.specs.Inputs.{words_of, AreInputsOf};
+ghost use Rattle.av_data.specs.Inputs.{words_of};
+ghost use Rattle.av_flat.specs.OneSolution.{AreInputs};
 ghost use Rattle.av_wave.specs.Clocking.{AreLeft};
 ghost use Rattle.av_cli.specs.inner.Clocking.{IsPrepared};
 ghost use Rattle.av_cli.specs.Runs.{results};
@@ -64,13 +65,33 @@ pub(crate) fn answer_run<K: Sink>(
         return put(sink, NO_MARK, Status::Refused);
     };
     match compile(alloc, parts.text, sizes.as_slice(), width, reach) {
-        Err(refusal) => put_alpha_refusal(sink, &refusal),
-        Ok(compiled) => { report_on(alloc, &compiled, parts.rest, parts.first_line, report, sink) }
+        Err(refusal) => put_alpha_refusal(sink, refusal),
+        Ok(compiled) => { report_on(alloc, compiled, parts.rest, parts.first_line, report, sink) }
     }
 }
 
 // Reads the data for a compiled text, and tells the run on it.
 fn report_on<K: Sink>(
+    alloc: Global,
+    compiled: Compiled,
+    bytes: &[u8],
+    first_line: u32,
+    report: Report,
+    sink: &mut K,
+) -> Status
+    requires plan { IsSoundPlan compiled.plan }
+    requires clockable { IsClockable compiled.timed compiled.design }
+    requires cycles { compiled.cells.cycles ≤ 4096 }
+    requires lines { first_line + length bytes.now < 4294967295 }
+    ensures { IsAnswered (RefusesLines compiled.timed first_line bytes.now) (GivesReported report compiled.timed compiled.cells compiled.plan compiled.design bytes.now) (K.state sink.old) (K.state sink.new) result }
+{
+    let status = report_compiled(alloc, &compiled, bytes, first_line, report, sink);
+    let_go(compiled);
+    status
+}
+
+// The same, of a text that stays.
+fn report_compiled<K: Sink>(
     alloc: Global,
     compiled: &Compiled,
     bytes: &[u8],
@@ -97,7 +118,7 @@ fn report_on<K: Sink>(
 // Adds a line for each point of an output.
 fn put_results<K: Sink>(alloc: Global, compiled: &Compiled, inputs: &Inputs, sink: &mut K) -> Status
     requires clockable { IsClockable compiled.now.timed compiled.now.design }
-    requires inputs { AreInputsOf (view_system compiled.now.timed.flat) (words_of inputs.now) }
+    requires inputs { AreInputs (view_system compiled.now.timed.flat) (words_of inputs.now) }
     ensures { PutsOneOf (IsReport report.Results compiled.now.timed compiled.now.cells compiled.now.plan compiled.now.design (words_of inputs.now)) (K.state sink.old) (K.state sink.new) result }
 {
     match shown(alloc, &compiled.design, inputs) {
@@ -158,7 +179,7 @@ pub(crate) fn write_results<K: Sink>(
 fn put_trace<K: Sink>(alloc: Global, compiled: &Compiled, inputs: &Inputs, sink: &mut K) -> Status
     requires plan { IsSoundPlan compiled.now.plan }
     requires clockable { IsClockable compiled.now.timed compiled.now.design }
-    requires inputs { AreInputsOf (view_system compiled.now.timed.flat) (words_of inputs.now) }
+    requires inputs { AreInputs (view_system compiled.now.timed.flat) (words_of inputs.now) }
     ensures { PutsOneOf (IsReport report.Trace compiled.now.timed compiled.now.cells compiled.now.plan compiled.now.design (words_of inputs.now)) (K.state sink.old) (K.state sink.new) result }
 {
     let design = &compiled.design;
@@ -178,7 +199,7 @@ fn put_trace<K: Sink>(alloc: Global, compiled: &Compiled, inputs: &Inputs, sink:
 fn put_wave<K: Sink>(alloc: Global, compiled: &Compiled, inputs: &Inputs, sink: &mut K) -> Status
     requires clockable { IsClockable compiled.now.timed compiled.now.design }
     requires cycles { compiled.now.cells.cycles ≤ 4096 }
-    requires inputs { AreInputsOf (view_system compiled.now.timed.flat) (words_of inputs.now) }
+    requires inputs { AreInputs (view_system compiled.now.timed.flat) (words_of inputs.now) }
     ensures { PutsOneOf (IsReport report.Wave compiled.now.timed compiled.now.cells compiled.now.plan compiled.now.design (words_of inputs.now)) (K.state sink.old) (K.state sink.new) result }
 {
     match feed(alloc, &compiled.design, inputs, compiled.cells.cycles) {
@@ -211,3 +232,6 @@ fn write_trace<K: Sink>(
     write_all(sink, MARK.as_bytes())?;
     run(parts, stimulus, sink)
 }
+
+/// Lets go of a compiled text. A function that drops one is dear to prove, so this is the only one.
+pub(crate) fn let_go(compiled: Compiled) {}

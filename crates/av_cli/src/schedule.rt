@@ -29,7 +29,7 @@ pub(crate) fn schedule<K: Sink>(
         Ok(sizes) => sizes,
     };
     match scheduled(alloc, bytes, sizes.as_slice(), width, reach) {
-        Err(refusal) => put_alpha_refusal(sink, &refusal),
-        Ok(timed) => put_schedule(sink, &timed),
+        Err(refusal) => put_alpha_refusal(sink, refusal),
+        Ok(timed) => put_schedule(sink, timed),
     }
 }

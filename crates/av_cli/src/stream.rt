@@ -5,6 +5,7 @@ ghost use Rattle.av_base.specs.Outside.{Adds, AddsPrefix, HasRisen};
 ghost use Rattle.av_flat.specs.Chained.{IsChained};
 ghost use Rattle.av_flat.specs.Legal.{IsLegal};
 ghost use Rattle.av_flat.specs.Trees.{view_system};
+ghost use Rattle.av_flat.specs.OneSolution.{AreInputs};
 ghost use Rattle.av_net.specs.Clocked.{Stream as Ports, Run as Clocked, IsRun};
 ghost use Rattle.av_net.specs.Designs.{IsSoundPlan};
 ghost use Rattle.av_net.specs.Flat.{flat_module, flat_of};
@@ -14,7 +15,7 @@ ghost use Rattle.av_space.specs.declared.fault.SpaceFault.TheVariants as fault;
 ghost use Rattle.av_space.specs.SpaceFaults.{IsSpaceFault};
 ghost use Rattle.av_space.specs.Whole.{IsWhole};
 ghost use Rattle.av_data.specs.declared.fault.DataFault.TheVariants as data_fault;
-ghost use Rattle.av_data.specs.Inputs.{words_of, AreInputsOf};
+ghost use Rattle.av_data.specs.Inputs.{words_of};
 ghost use Rattle.av_stream.specs.Periods.{HasPeriod};
 ghost use Rattle.av_stream.specs.Streams.{AreApartEach};
 ghost use Rattle.av_stream.specs.StreamTexts.{stream_text};
@@ -66,7 +67,7 @@ pub(crate) fn stream<K: Sink>(
         return put(sink, NO_MARK, Status::Refused);
     };
     match mapped(alloc, parts.text, sizes.as_slice(), width, reach) {
-        Err(refusal) => put_alpha_refusal(sink, &refusal),
+        Err(refusal) => put_alpha_refusal(sink, refusal),
         Ok(array) => stream_on(alloc, &array, parts.rest, parts.first_line, sink),
     }
 }
@@ -140,7 +141,7 @@ pub(crate) fn read_sets(
     requires chained { IsChained (view_system flat.now) }
     requires lines { All (λ set. set.first_line + length set.bytes.now < 4294967295) sets.now }
     ensures spelled { IfOk result (λ inputs. AreSpelled (view_system flat.now) sets.now (map words_of inputs)) }
-    ensures words { IfOk result (All (λ x. AreInputsOf (view_system flat.now) (words_of x))) }
+    ensures words { IfOk result (All (λ x. AreInputs (view_system flat.now) (words_of x))) }
     ensures fault { IfErr result (λ f. f ≢ data_fault.Memory → IsFirstBadSet (view_system flat.now) sets.now f) }
 {
     let mut inputs = List::new(alloc);
@@ -161,7 +162,7 @@ fn put_stream<K: Sink>(
     requires legal { IsLegal array.now.timed }
     requires whole { IsWhole array.now.timed array.now.cells }
     requires within { (f : Fault) → IsSpaceFault array.now.timed f → f ≡ fault.Memory }
-    requires words { All (λ x. AreInputsOf (view_system array.now.timed.flat) (words_of x)) inputs.now }
+    requires words { All (λ x. AreInputs (view_system array.now.timed.flat) (words_of x)) inputs.now }
     requires short { (period : ℕ) → HasPeriod array.now.timed array.now.cells period → cycles ≡ stream_cycles array.now.cells.cycles period (length inputs.now) }
     requires few { (0 < length inputs.now) × (cycles ≤ 4096) }
     ensures { PutsOneOf (IsStreamOn array.now cycles (map words_of inputs.now)) (K.state sink.old) (K.state sink.new) result }

@@ -29,7 +29,7 @@ pub(crate) fn table<K: Sink>(
         Ok(sizes) => sizes,
     };
     match mapped(alloc, bytes, sizes.as_slice(), width, reach) {
-        Err(refusal) => put_alpha_refusal(sink, &refusal),
-        Ok(array) => put_table(sink, &array),
+        Err(refusal) => put_alpha_refusal(sink, refusal),
+        Ok(array) => put_table(sink, array),
     }
 }

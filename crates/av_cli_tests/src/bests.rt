@@ -2,7 +2,7 @@
 
 use crate::answers::{Row, assert_rows};
 use crate::checks::{HALVES, UNCOVERED};
-use crate::texts::USAGE;
+use crate::texts::{TOO_WIDE, USAGE, WIDENED};
 use av_cli::Status;
 use av_testing::texts::{
     CIRCLE, CONVOLUTION, FORWARD, LEAST, MATRIX_PRODUCT, MATRIX_VECTOR, NO_POINT, ROW_SUMS,
@@ -83,6 +83,7 @@ const FOUND: &[Row] = &[
     ),
     (&["best"], RUNNING_SUMS, Status::Done, "P (1) 0\ncycles 3\n"),
     (&["best"], NO_POINT, Status::Done, "cycles 0\n"),
+    (&["best"], WIDENED, Status::Done, "Y (1) 0\ncycles 3\n"),
     (
         &["best", "--box=4"],
         SWEEP,
@@ -92,6 +93,12 @@ const FOUND: &[Row] = &[
 ];
 
 const REFUSED: &[Row] = &[
+    (
+        &["best"],
+        TOO_WIDE,
+        Status::Refused,
+        "refused: width X 1:13\n",
+    ),
     (
         &["best", "--box", "1", "N=3"],
         FORWARD,

@@ -2,7 +2,7 @@
 
 use crate::answers::{answer, answered, assert_answer, calls, joined};
 use crate::checks::UNCOVERED;
-use crate::texts::{INCREMENT, USAGE};
+use crate::texts::{BOTH_ENDS, CUT_DOWN, INCREMENT, TOO_WIDE, USAGE, WIDENED};
 use av_base::{MemSink, MemSource};
 use av_cli::Status;
 use av_testing::texts::{
@@ -41,6 +41,29 @@ endmodule
 0 i0=0 o0=1
 1 i0=254 o0=255
 2 i0=255 o0=0
+";
+
+const TRACED_WIDENED: &str = "// alphav 2
+// in X (0) i0 0
+// in X (1) i0 1
+// in X (2) i0 2
+// at Y (0) o0 0
+// at Y (1) o0 1
+// at Y (2) o0 2
+module k0(input [7:0] i0, output [15:0] v);
+  wire [15:0] w0;
+  assign w0 = {{8{i0[7:7]}}, i0};
+  assign v = w0 + 16'd1;
+endmodule
+module array(input clk, input rst, input [7:0] i0, output [15:0] o0);
+  wire [15:0] c0;
+  k0 u0 (.i0(i0), .v(c0));
+  assign o0 = c0;
+endmodule
+%%
+0 i0=255 o0=0
+1 i0=127 o0=128
+2 i0=128 o0=65409
 ";
 
 // The words, the text, what stands behind it, the status and the output.
@@ -268,10 +291,143 @@ const ROWS: &[(&[&str], &str, &str, Status, &str)] = &[
     ),
 ];
 
+/// Texts whose variables have widths of their own.
+const OF_WIDTHS: &[(&[&str], &str, &str, Status, &str)] = &[
+    // What an equation reads is sign-extended to its width, or cut down to it.
+    (
+        &["run"],
+        WIDENED,
+        "%%\nX (0) = 255\nX (1) = 127\nX (2) = 128\n",
+        Status::Done,
+        "Y (0) = 0\nY (1) = 128\nY (2) = 65409\n",
+    ),
+    (
+        &["trace"],
+        WIDENED,
+        "%%\nX (0) = 255\nX (1) = 127\nX (2) = 128\n",
+        Status::Done,
+        TRACED_WIDENED,
+    ),
+    (
+        &["run", "--width=3"],
+        WIDENED,
+        "%%\nX (0) = -1\nX (1) = 127\nX (2) = -128\n",
+        Status::Done,
+        "Y (0) = 0\nY (1) = 128\nY (2) = 65409\n",
+    ),
+    (
+        &["run"],
+        CUT_DOWN,
+        "%%\nX (0) = 31\nX (1) = 255\nX (2) = 0\n",
+        Status::Done,
+        "Y (0) = 0\nY (1) = 0\nY (2) = 1\n",
+    ),
+    (
+        &["run"],
+        TOO_WIDE,
+        "%%\nX (0) = 0\nX (1) = 1\nX (2) = 2\n",
+        Status::Refused,
+        "refused: width X 1:13\n",
+    ),
+    (
+        &["trace"],
+        TOO_WIDE,
+        "%%\nX (0) = 0\nX (1) = 1\nX (2) = 2\n",
+        Status::Refused,
+        "refused: width X 1:13\n",
+    ),
+    // A value fits the words of its input, and where it names none those of the run.
+    (
+        &["run"],
+        CUT_DOWN,
+        "%%\nX (0) = 256\nX (1) = 1\nX (2) = 2\n",
+        Status::Refused,
+        "refused: data syntax 5\n",
+    ),
+    (
+        &["run", "--width=64"],
+        WIDENED,
+        "%%\nX (0) = 1\nX (1) = -129\nX (2) = 2\n",
+        Status::Refused,
+        "refused: data syntax 6\n",
+    ),
+    (
+        &["run", "--width=4"],
+        WIDENED,
+        "%%\nX (0) = 255\nX (1) = -128\n",
+        Status::Refused,
+        "refused: data missing X (2)\n",
+    ),
+    (
+        &["run", "--width=9"],
+        WIDENED,
+        "%%\nZ (0) = 511\n",
+        Status::Refused,
+        "refused: data unknown 5\n",
+    ),
+    (
+        &["run", "--width=9"],
+        WIDENED,
+        "%%\nY (0) = 512\n",
+        Status::Refused,
+        "refused: data syntax 5\n",
+    ),
+    (
+        &["run", "--width=9"],
+        WIDENED,
+        "%%\nY (0) = -256\n",
+        Status::Refused,
+        "refused: data unknown 5\n",
+    ),
+    // The least width and the greatest: the ends of each, and one beyond them.
+    (
+        &["run"],
+        BOTH_ENDS,
+        "%%\nA () = 1\nB () = 18446744073709551615\n",
+        Status::Done,
+        "Y () = 1\nZ () = 18446744073709551615\n",
+    ),
+    (
+        &["run"],
+        BOTH_ENDS,
+        "%%\nA () = -1\nB () = -9223372036854775808\n",
+        Status::Done,
+        "Y () = 1\nZ () = 9223372036854775808\n",
+    ),
+    (
+        &["run"],
+        BOTH_ENDS,
+        "%%\nA () = 2\n",
+        Status::Refused,
+        "refused: data syntax 5\n",
+    ),
+    (
+        &["run"],
+        BOTH_ENDS,
+        "%%\nA () = -2\n",
+        Status::Refused,
+        "refused: data syntax 5\n",
+    ),
+    (
+        &["run"],
+        BOTH_ENDS,
+        "%%\nB () = 18446744073709551616\n",
+        Status::Refused,
+        "refused: data syntax 5\n",
+    ),
+    (
+        &["run"],
+        BOTH_ENDS,
+        "%%\nB () = -9223372036854775809\n",
+        Status::Refused,
+        "refused: data syntax 5\n",
+    ),
+];
+
 #[test]
 fn the_words_the_text_and_the_data_fix_status_and_output(rt: HostRuntime) -> Result<(), Fail> {
     let alloc = rt.alloc();
-    for (words, text, data, status, out) in ROWS {
+    for (words, text, data, status, out) in ROWS.iter().chain(OF_WIDTHS) {
         let answer = answered(alloc, words, joined(alloc, &[text, data])?, 4096)?;
         assert_answer(&rt, &answer, *status, out, text);
     }

@@ -1,7 +1,7 @@
 //! The answers of `stream`.
 
 use crate::answers::{answered, assert_answer, joined};
-use crate::texts::INCREMENT;
+use crate::texts::{CUT_DOWN, INCREMENT, TOO_WIDE, WIDENED};
 use av_cli::Status;
 use av_testing::texts::{MATRIX_VECTOR, RUNNING_SUMS};
 use std::alloc::Global;
@@ -43,6 +43,22 @@ const WHOLE: &[(&[&str], &str, &str, &str)] = &[
          \n  k0 u0 (.i0(i0), .v(c0));\
          \n  assign o0 = c0;\nendmodule\n\
          %%\n0 i0=0 o0=1\n1 i0=254 o0=255\n2 i0=255 o0=0\n3 i0=1 o0=2\n4 i0=2 o0=3\n5 i0=3 o0=4\n",
+    ),
+    // inputs of 8 bits, results of 16
+    (
+        &["stream"],
+        WIDENED,
+        "%%\nX (0) = 255\nX (1) = 127\nX (2) = 128\n%%\nX (0) = 0\nX (1) = -1\nX (2) = -128\n",
+        "// alphav 2\n// period 3\n// in X (0) i0 0\n// in X (1) i0 1\n// in X (2) i0 2\n// at Y (0) o0 0\n// at Y (1) o0 1\n// at Y (2) o0 2\n\
+         module k0(input [7:0] i0, output [15:0] v);\
+         \n  wire [15:0] w0;\
+         \n  assign w0 = {{8{i0[7:7]}}, i0};\
+         \n  assign v = w0 + 16'd1;\nendmodule\n\
+         module array(input clk, input rst, input [7:0] i0, output [15:0] o0);\
+         \n  wire [15:0] c0;\
+         \n  k0 u0 (.i0(i0), .v(c0));\
+         \n  assign o0 = c0;\nendmodule\n\
+         %%\n0 i0=255 o0=0\n1 i0=127 o0=128\n2 i0=128 o0=65409\n3 i0=0 o0=1\n4 i0=255 o0=0\n5 i0=128 o0=65409\n",
     ),
     (
         &["stream", "N=2"],
@@ -240,6 +256,25 @@ const REFUSED: &[(&[&str], &str, &str, &str)] = &[
         LONG,
         "%%\nX\n%%\n%%\n",
         "refused: stream cycles 6144\n",
+    ),
+    // a width that is none, and values of a set that do not fit the words of their input
+    (
+        &["stream"],
+        TOO_WIDE,
+        "%%\nX (0) = 0\n",
+        "refused: width X 1:13\n",
+    ),
+    (
+        &["stream", "--width", "64"],
+        CUT_DOWN,
+        "%%\nX (0) = 255\nX (1) = -128\nX (2) = 0\n%%\nX (0) = 255\nX (1) = 256\nX (2) = 0\n",
+        "refused: data syntax 10\n",
+    ),
+    (
+        &["stream"],
+        CUT_DOWN,
+        "%%\nX (0) = 255\nX (1) = -128\nX (2) = 0\n%%\nX (0) = -129\nX (1) = 0\nX (2) = 0\n",
+        "refused: data syntax 9\n",
     ),
     // lines are counted from the start of the input
     (

@@ -2,7 +2,7 @@
 
 use crate::answers::{Row, answered, assert_end, assert_rows, joined};
 use crate::checks::{UNBOUNDED, UNCOVERED};
-use crate::texts::USAGE;
+use crate::texts::{TOO_WIDE, USAGE, WIDENED};
 use av_cli::Status;
 use av_testing::texts::{
     CIRCLE, CONVOLUTION, FORWARD, MATRIX_PRODUCT, MATRIX_VECTOR, NO_POINT, ROW_SUMS, TILTED_SQUARE,
@@ -142,6 +142,15 @@ const OF_DIAGONAL: &str = "cell 0 D (0)\n\
     at D (1,1) o1 1\n\
     cycles 2 cells 2 delays 1 links 1\n";
 
+const OF_WIDENED: &str = "cell 0 Y ()\n\
+    in X (0) i0 0\n\
+    in X (1) i0 1\n\
+    in X (2) i0 2\n\
+    at Y (0) o0 0\n\
+    at Y (1) o0 1\n\
+    at Y (2) o0 2\n\
+    cycles 3 cells 1 delays 0 links 0\n";
+
 const ROWS: &[Row] = &[
     (
         &["table", "N=4"],
@@ -165,7 +174,14 @@ const ROWS: &[Row] = &[
         Status::Done,
         "cycles 0 cells 0 delays 0 links 0\n",
     ),
+    (&["table"], WIDENED, Status::Done, OF_WIDENED),
     // faults of the steps before
+    (
+        &["table"],
+        TOO_WIDE,
+        Status::Refused,
+        "refused: width X 1:13\n",
+    ),
     (
         &["table", "--box", "1", "N=3"],
         FORWARD,

@@ -4,7 +4,7 @@ use crate::answers::{
     Row, answer, answered, assert_answer, assert_end, assert_front, assert_rows, calls, extend,
     joined, repeated,
 };
-use crate::texts::{INCREMENT, USAGE};
+use crate::texts::{INCREMENT, TOO_WIDE, USAGE, WIDENED};
 use av_base::{List, MemSink, MemSource};
 use av_cli::Status;
 use std::alloc::Global;
@@ -120,6 +120,40 @@ fn a_run_of_narrow_and_of_wide_ports(rt: HostRuntime) -> Result<(), Fail> {
         let answer = answered(alloc, words, joined(alloc, &[INCREMENT, data])?, 4096)?;
         assert_answer(&rt, &answer, Status::Done, out, data);
     }
+    Ok(())
+}
+
+// What stands behind the text of the increment from 8 bits to 16, and the dump: a port has its variable's width.
+const WIDENED_DATA: &str = "%%\nX (0) = 255\nX (1) = 127\nX (2) = 128\n";
+
+const WIDENED_DUMP: &str = "$timescale 1ns $end
+$scope module array $end
+$var wire 8 ! i0 $end
+$var wire 16 \" o0 $end
+$upscope $end
+$enddefinitions $end
+#0
+b11111111 !
+b0 \"
+#1
+b1111111 !
+b10000000 \"
+#2
+b10000000 !
+b1111111110000001 \"
+#3
+";
+
+#[test]
+fn a_run_of_ports_of_two_widths(rt: HostRuntime) -> Result<(), Fail> {
+    let alloc = rt.alloc();
+    let input = joined(alloc, &[WIDENED, WIDENED_DATA])?;
+    let answer = answered(alloc, &["wave"], input, 4096)?;
+    assert_answer(&rt, &answer, Status::Done, WIDENED_DUMP, WIDENED);
+    let input = joined(alloc, &[TOO_WIDE, WIDENED_DATA])?;
+    let answer = answered(alloc, &["wave"], input, 4096)?;
+    let refusal = "refused: width X 1:13\n";
+    assert_answer(&rt, &answer, Status::Refused, refusal, TOO_WIDE);
     Ok(())
 }
 
@@ -297,10 +331,17 @@ const ROWS: &[Row] = &[
     ),
     (&["unwave", "--width", "8"], "", Status::Words, USAGE),
     (&["unwave", "--box=1"], "", Status::Words, USAGE),
+    (
+        &["unwave"],
+        WIDENED_DUMP,
+        Status::Done,
+        "0 i0=255 o0=0\n1 i0=127 o0=128\n2 i0=128 o0=65409\n",
+    ),
     (&["unwave", "N=3"], "", Status::Words, USAGE),
     (&["unwave", "--", "--"], "", Status::Words, USAGE),
     (&["Unwave"], "", Status::Words, USAGE),
     (&["wave"], INCREMENT, Status::Refused, "refused: no mark\n"),
+    (&["wave"], TOO_WIDE, Status::Refused, "refused: no mark\n"),
     (
         &["wave"],
         "system (\n%%\n?\n",

@@ -1,6 +1,6 @@
 -- A text whose system has a schedule has one solution for all words of its inputs: they are inputs of the flat system, of its normal
 -- form and of the chained system, and the one solution of that is the text's.
-use Rattle.std.proofs.Common.{◌≡◌, ℕ, ◌<◌, ◌≤◌, List, length, sym, ap, subst, ◌∙◌}
+use Rattle.std.proofs.Common.{◌≡◌, ℕ, ◌<◌, ◌≤◌, List, length, ap, subst, ◌∙◌}
 use Rattle.av_parse.proofs.Parsed.{one_text}
 use Rattle.av_tree.specs.Trees.{System}
 use Rattle.av_tree.specs.Values.{Assignment}
@@ -25,13 +25,12 @@ use Rattle.av_serial.specs.SerialFaults as serialised
 use Rattle.av_compile.specs.Scheduled.{Serialises, IsScheduled, HasOneSolutionEach}
 
 -- a flat system has one solution where what its normal form is made into has one for each of its inputs
-one_of_flat : (s n t : FlatSystem) → 1 ≤ s.width → IsWellFormed s → normalised.IsGiven s n → serialised.IsGiven n t → ((x : Assignment) → AreInputs t x → HasOneSolution t x)
+one_of_flat : (s n t : FlatSystem) → IsWellFormed s → normalised.IsGiven s n → serialised.IsGiven n t → ((x : Assignment) → AreInputs t x → HasOneSolution t x)
     → (x : Assignment) → AreInputs s x → HasOneSolution s x
-one_of_flat s n t wide good given made one x inputs =
-    let narrow : 1 ≤ n.width = subst (λ (w : ℕ). 1 ≤ w) (sym given.form.width) wide in
+one_of_flat s n t good given made one x inputs =
     let of_normal = normal.same_inputs s n good given.form x inputs in
-    let of_chains = serial.same_inputs n t narrow given.kept made.form x of_normal in
-    normal.one_solution s n good given.form x (serial.one_solution n t narrow given.kept made.form x (one x of_chains))
+    let of_chains = serial.same_inputs n t given.kept made.form x of_normal in
+    normal.one_solution s n good given.form x (serial.one_solution n t given.kept made.form x (one x of_chains))
 
 -- and so has an accepted system of a text
 one_of_text : (s : System) (words : List Size) (width : ℕ) (n t : FlatSystem) → 1 ≤ width → IsOfText s → IsAccepted s words → normalised.IsGiven (flat_of (instance_of s words width)) n
@@ -40,8 +39,8 @@ one_of_text : (s : System) (words : List Size) (width : ℕ) (n t : FlatSystem) 
 one_of_text s words width n t wide of_text accepted given made one x inputs =
     let i = instance_of s words width in
     let regular = is_regular s words width of_text accepted in
-    let good = is_well_formed s words width of_text accepted in
-    names.one_solution i regular x (one_of_flat (flat_of i) n t wide good given made one x (names.same_inputs i regular x inputs))
+    let good = is_well_formed s words width of_text accepted wide in
+    names.one_solution i regular x (one_of_flat (flat_of i) n t good given made one x (names.same_inputs i regular x inputs))
 
 -- the equations of a text have one solution where the system that they are made into has a schedule
 pub one_solution_of : (bytes : List ℕ) (words : List Size) (width : ℕ) (t : Timed) → length bytes < 4294967295 → 1 ≤ width → Serialises bytes words width (view_system t.flat) → IsLegal t

@@ -1,8 +1,14 @@
 ghost use Rattle.std.specs.Prelude.{◌≡◌, ◌≢◌, ◌<◌, ◌⊎◌, length, IfOk, IfErr, Err};
 ghost use Rattle.av_flat.specs.Trees.{view_system};
+ghost use Rattle.av_flat.specs.Legal.{IsLegal};
 ghost use Rattle.av_flat.specs.declared.timed.Timed.{Timed as System};
 ghost use Rattle.av_names.specs.Texts.{AreSmall};
 ghost use Rattle.av_net.specs.Flat.{flat_of};
+ghost use Rattle.av_space.specs.declared.fault.SpaceFault.{SpaceFault as Fault};
+ghost use Rattle.av_space.specs.declared.fault.SpaceFault.TheVariants as fault;
+ghost use Rattle.av_space.specs.SpaceFaults.{IsSpaceFault};
+ghost use Rattle.av_space.specs.Whole.{IsWhole};
+ghost use Rattle.av_build.specs.ArrayPlans.{IsPlanOf};
 ghost use Rattle.av_compile.specs.Scheduled.{Serialises};
 ghost use Rattle.av_compile.specs.Mapped.{HasArray, IsPipelined, IsMapped, IsUnmapped};
 ghost use Rattle.av_compile.specs.Headline.{Headline};
@@ -11,7 +17,7 @@ ghost use Rattle.av_compile.specs.declared.refusal.Refusal.TheVariants as refusa
 
 use crate::Refusal;
 use crate::mapping::{Array, mapped};
-use av_base::Width;
+use av_base::{Memory, Width};
 use av_build::build;
 use av_flat::{Flat, Reach, Timed, copy_flat};
 use av_names::Size;
@@ -28,6 +34,25 @@ pub struct Compiled {
     pub cells: Cells,
     pub plan: Plan,
     pub design: Design,
+}
+
+// The plan of an array, and its flat design.
+#[derive(Drop)]
+struct Designed {
+    plan: Plan,
+    design: Design,
+}
+
+fn plan_and_design(alloc: Global, timed: &Timed, cells: &Cells) -> Result<Designed, Memory>
+    requires legal { IsLegal timed.now }
+    requires whole { IsWhole timed.now cells.now }
+    requires within { (f : Fault) → IsSpaceFault timed.now f → f ≡ fault.Memory }
+    ensures plan { IfOk result (λ made. IsPlanOf timed.now cells.now made.plan) }
+    ensures design { IfOk result (λ made. made.design ≡ flat_of made.plan) }
+{
+    let plan = build(alloc, timed, cells)?;
+    let design = flatten(alloc, &plan)?;
+    Ok(Designed { plan, design })
 }
 
 /// Compiles a text with its sizes, in words of this width, by its first schedule in the box, to a systolic array in Verilog.
@@ -68,9 +93,8 @@ pub fn compile(
     ensures complete { (t : System) → IsPipelined bytes.now sizes.now width.bits reach.size t → HasArray t → IfErr result (λ f. f ≡ refusal.Memory) }
 {
     let Array { timed, cells } = mapped(alloc, bytes, sizes, width, reach)?;
-    let plan = build(alloc, &timed, &cells)?;
-    let design = flatten(alloc, &plan)?;
     let flat = copy_flat(alloc, &timed.flat)?;
+    let Designed { plan, design } = plan_and_design(alloc, &timed, &cells)?;
     Ok(Compiled {
         flat,
         timed,

@@ -8,7 +8,7 @@ ghost use Rattle.av_compile.specs.Mapped.{IsUnmapped};
 ghost use Rattle.av_compile.specs.declared.refusal.Refusal.{Refusal};
 ghost use Rattle.av_compile.specs.declared.refusal.Refusal.TheVariants as refusal;
 
-/// A law on refusals: with its sizes, in words of one width and in one box, a text has at most one first fault, among those of
+/// A law on refusals: with its sizes, at one width of the run and in one box, a text has at most one first fault, among those of
 /// `checked`, among those of `scheduled`, and among those of `mapped` and `compile`.
 pub fn texts_have_one_fault()
     ensures checked { (bytes : List ℕ) (words : List Size) (width : ℕ) (some other : Refusal) →

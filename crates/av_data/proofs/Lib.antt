@@ -9,6 +9,7 @@ pub mod Spelled
 pub mod Pieced
 pub mod Worded
 pub mod Gathered
+pub mod ValueWidths
 pub mod Filled
 pub mod Entered
 pub mod Sentence

@@ -4,10 +4,11 @@ ghost use Rattle.std.specs.Prelude.{◌≡◌, ◌+◌, ◌<◌, ◌⊎◌, leng
 ghost use Rattle.av_tree.specs.Values.{Assignment};
 ghost use Rattle.av_flat.specs.Kept.{IsKept};
 ghost use Rattle.av_flat.specs.Chained.{IsChained};
+ghost use Rattle.av_flat.specs.OneSolution.{AreInputs};
 ghost use Rattle.av_flat.specs.Trees.{view_system};
 ghost use Rattle.av_data.specs.declared.fault.DataFault.{DataFault as Fault};
 ghost use Rattle.av_data.specs.declared.fault.DataFault.TheVariants.{Memory as OutOfMemory};
-ghost use Rattle.av_data.specs.Inputs.{words_of, AreInputsOf};
+ghost use Rattle.av_data.specs.Inputs.{words_of};
 ghost use Rattle.av_data.specs.Data.{SpellsInputs, IsInputFault, GivesInputs, RefusesInputs};
 ghost use Rattle.av_data.specs.inner.ReadData.{IsReadable, IsOutcome, TellsMissing, names_in};
 
@@ -92,7 +93,7 @@ pub fn read_data(
     // What is read is spelled so, and what is spelled so is read, unless memory runs out.
     ensures found { IfOk result (λ inputs. SpellsInputs (view_system flat.now) bytes.now (words_of inputs)) }
     ensures only { (x : Assignment) → SpellsInputs (view_system flat.now) bytes.now x → GivesInputs result x }
-    ensures inputs { IfOk result (λ inputs. AreInputsOf (view_system flat.now) (words_of inputs)) }
+    ensures inputs { IfOk result (λ inputs. AreInputs (view_system flat.now) (words_of inputs)) }
 
     // Each fault is that of the lines, and where the lines have a fault it is answered.
     ensures fault { (f : Fault) → result ≡ Err f → (f ≡ OutOfMemory) ⊎ IsInputFault (view_system flat.now) first_line bytes.now f }

@@ -1,9 +1,10 @@
 -- From each start at which the counter begins anew, the lanes of tasks that perform an array have the words of a solution for the inputs
 -- that are presented from there on.
-use Rattle.std.proofs.Common.{◌≡◌, ℕ, ◌+◌, ◌*◌, ◌<◌, ◌^◌, sym, refl, subst, Some}
+use Rattle.std.proofs.Common.{◌≡◌, ℕ, ◌+◌, ◌*◌, ◌<◌, ◌^◌, sym, refl, subst, ap, ◌∙◌, Option, Some}
 use Rattle.av_tree.specs.Points.{Point}
 use Rattle.av_tree.specs.Trees.{Text}
 use Rattle.av_tree.specs.Values.{Assignment}
+use Rattle.av_flat.specs.Signatures.{Signature}
 use Rattle.av_flat.specs.Helped.{HelperWords, IsHelpedSolution}
 use Rattle.av_kinds.specs.declared.counter.Counter.{Counter}
 use Rattle.av_kinds.specs.declared.counter.Counter.TheVariants.{Cycles, Phases}
@@ -12,7 +13,8 @@ use Rattle.av_kinds.specs.Histories.{Tasks, Signals, IsHistory}
 use Rattle.av_history.specs.Performing.{Array, Lanes, Perform}
 use Rattle.av_history.specs.Arranged.{IsArranged}
 use Rattle.av_history.specs.Problems.{Presents, HaveWords, CountsAnew}
-use Rattle.av_history.proofs.Shown.{Setting, computed}
+use Rattle.av_history.proofs.Resized.{assigned}
+use Rattle.av_history.proofs.Shown.{Setting, signature_at, computed}
 use Rattle.av_history.proofs.Serving.{IsPlacedAt, IsHandedAt, IsFedAt, serves}
 use Rattle.av_history.proofs.Residues.{later_residue}
 
@@ -21,12 +23,12 @@ pub from_start : (a : Array) (lanes : Lanes) (tasks : Tasks) (count : ℕ → �
 from_start a lanes tasks count arranged perform n ports words history start kept x u g solves presents place z v is_variable node p b computes lt =
     let setting : Setting a.system a.helpers tasks count (IsFedAt a start) (IsPlacedAt a lanes start) (IsHandedAt a lanes start) x u g n ports words = record {
       serves = serves a arranged lanes start tasks count perform kept;
-      widths = arranged.widths;
       solves = solves;
       history = history;
       presents = λ k name y c fed late. presented k name y c fed late;
     } in
-    computed a.system a.helpers tasks count (IsFedAt a start) (IsPlacedAt a lanes start) (IsHandedAt a lanes start) x u g n ports words setting (b + start) lt place z (lanes.of_value p)
+    sym (ap (λ (o : Option Signature). assigned u o z) (signature_at a.system.variables place v is_variable))
+    ∙ computed a.system a.helpers tasks count (IsFedAt a start) (IsPlacedAt a lanes start) (IsHandedAt a lanes start) x u g n ports words setting (b + start) lt place z (lanes.of_value p)
     (record { variable = v; is_variable = is_variable; is_node = node; cell = p; lane_is = refl; cycle = b; starts = refl; computes = computes })
   where
     presented : (k : ℕ) (name : Text) (y : Point) (c : ℕ) → IsFedAt a start k name y c → c < n → Some (ports c k) ≡ x name y

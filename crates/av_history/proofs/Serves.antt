@@ -15,7 +15,7 @@ use Rattle.av_space.specs.Taps.{Handing, helper_at}
 use Rattle.av_kinds.specs.declared.program.Source.{Source}
 use Rattle.av_kinds.specs.declared.program.Source.TheVariants.{Word, Input, Line}
 use Rattle.av_kinds.specs.Histories.{Task, Tasks}
-use Rattle.av_history.specs.Widths.{width_at, read_width}
+use Rattle.av_history.specs.Widths.{width_at, read_width, PicksAsWide}
 use Rattle.av_history.specs.Places.{EachPlace}
 
 -- the point of the variable at this place is computed on this lane in this cycle; or the helper's word at the point stands there
@@ -121,7 +121,7 @@ pub record IsWorked (s : FlatSystem) (hs : List Helper) (tasks : Tasks) (count :
   pub number : ℕ
   pub piece : (k : ℕ) (piece : Piece) → slice_get variable.pieces k ≡ Some piece → IsTrue (has piece.domain z) → (k ≡ number) × (piece.tree ≡ task.tree)
   pub wide : task.width ≡ variable.width
-  pub brought : EachPlace (λ k n t. IsBrought s Fed At Hand c (task.sources k) (read_at (helper_at hs place number n) t z) × (task.widths k ≡ read_width s variable.width (helper_at hs place number n) t)) 0 0 task.tree
+  pub brought : EachPlace (λ k n t. IsBrought s Fed At Hand c (task.sources k) (read_at (helper_at hs place number n) t z) × (task.widths k ≡ read_width s variable.width (helper_at hs place number n) t) × PicksAsWide s variable.width t) 0 0 task.tree
 
 -- the lane has in this cycle the helper's word at the point
 pub record IsHandled (s : FlatSystem) (hs : List Helper) (tasks : Tasks) (count : ℕ → ℕ) (Fed : Feeding) (At Hand : Placement) (j : ℕ) (z : Point) (p c : ℕ) : Type 0 where

@@ -23,7 +23,7 @@ use Rattle.av_space.specs.Listings.{InLine, IsInLine, input_name}
 use Rattle.av_kinds.specs.declared.program.Source.{Source}
 use Rattle.av_kinds.specs.declared.program.Source.TheVariants.{Line}
 use Rattle.av_kinds.specs.Histories.{Task, Tasks}
-use Rattle.av_history.specs.Widths.{read_width}
+use Rattle.av_history.specs.Widths.{read_width, PicksAsWide}
 use Rattle.av_history.specs.Places.{EachPlace}
 use Rattle.av_history.specs.Performing.{Array, ComputesOn, Lanes, Spot, IsLinked, IsReferenceSource, by_port, by_link, IsHandSource, hand_width, IsHelpedSource, IsPickSource, IsPlaceSource, IsHelper, helper_spot, Perform}
 use Rattle.av_history.specs.Arranged.{IsArranged}
@@ -354,6 +354,7 @@ module _ (a : Array) (g : IsArranged a) (lanes : Lanes) (start : ℕ) where
         let own = own_place a.system place v h.is_variable h.is_node in
         let Brings : ℕ → ℕ → Tree → Type 0 = λ k i t. IsBrought a.system Fed At Hand c (task.sources k) (read_at (helper_at a.helpers place number i) t z) in
         let Wide : ℕ → ℕ → Tree → Type 0 = λ k i t. task.widths k ≡ read_width a.system v.width (helper_at a.helpers place number i) t in
+        let Picks : ℕ → ℕ → Tree → Type 0 = λ k i t. PicksAsWide a.system v.width t in
         let brought : EachPlace Brings 0 0 piece.tree =
         place_weaker (λ k i t. IsPlaceSource a lanes at z b i t (task.sources k)) Brings
         (λ k i t from. place_brought at b c z h.starts r place h.is_variable h.is_node refl own i t (task.sources k) from) 0 0 piece.tree done.2.sources in
@@ -373,7 +374,9 @@ module _ (a : Array) (g : IsArranged a) (lanes : Lanes) (start : ℕ) where
               let x_is : x ≡ piece = some_of x piece (slice_get v.pieces number) (sym (ap (slice_get v.pieces) k_is) ∙ is) some.2 in
               (k_is, ap (λ (x : Piece). x.tree) x_is ∙ sym done.2.tree);
           wide = done.2.width;
-          brought = subst (λ (t : Tree). EachPlace (λ k i t. Brings k i t × Wide k i t) 0 0 t) (sym done.2.tree) (place_both Brings Wide 0 0 piece.tree brought wide);
+          brought = subst (λ (t : Tree). EachPlace (λ k i t. Brings k i t × Wide k i t × Picks k i t) 0 0 t) (sym done.2.tree)
+              (place_weaker (λ k i t. Brings k i t × (Wide k i t × Picks k i t)) (λ k i t. Brings k i t × Wide k i t × Picks k i t) (λ k i t x. (x.0, x.1.0, x.1.1)) 0 0 piece.tree
+              (place_both Brings (λ k i t. Wide k i t × Picks k i t) 0 0 piece.tree brought (place_both Wide Picks 0 0 piece.tree wide (g.widths v number piece among some.2))));
         }
 
     -- a word of a helper

@@ -1,11 +1,11 @@
 -- The lanes of tasks that serve a system have the words of a solution: by the cycle, and in one cycle the helpers before the computations.
 use Rattle.std.proofs.Common.{◌≡◌, ℕ, zero, suc, ◌<◌, ◌≤◌, List, [], ◌∷◌, map, refl, sym, ◌∙◌, ap, subst, arith, Bool, true, false, if◌then◌else◌, ◌&&◌, ◌||◌, Option, Some, None, inl, inr}
-use Rattle.std.specs.Prelude.{All, slice_get, nat_eq}
+use Rattle.std.specs.Prelude.{slice_get, nat_eq}
 use Rattle.std.specs.Str.{bytes_eq}
 use Rattle.std.proofs.lemmas.Slice.Eq.{bytes_eq-Decides}
-use Rattle.std.specs.List.{AllByRecursion}
 use Rattle.std.proofs.lemmas.List.Elements.{recursion_from_All}
 use Rattle.std.proofs.lemmas.Bool.{cases_lt}
+use Rattle.av_base.specs.Words.{IsWord}
 use Rattle.av_affine.specs.declared.map.Map.{Map}
 use Rattle.av_affine.specs.Maps.{image}
 use Rattle.av_tree.specs.Points.{Point}
@@ -14,8 +14,8 @@ use Rattle.av_tree.specs.Values.{Assignment}
 use Rattle.av_flat.specs.Trees.{Tree, Piece, Variable, FlatSystem, reference, pick}
 use Rattle.av_flat.specs.Points.{has}
 use Rattle.av_flat.specs.declared.flat.Kind.{Kind}
-use Rattle.av_flat.specs.Signatures.{Signature, signature, signatures, domain_has, is_declared, is_input}
-use Rattle.av_flat.specs.Values.{word_of, picked, HasPicked, IsWordAt}
+use Rattle.av_flat.specs.Signatures.{Signature, signature, signatures, domain_has, is_declared, is_declared_at, is_input}
+use Rattle.av_flat.specs.Values.{picked, HasPicked, IsWordAt}
 use Rattle.av_flat.specs.Solutions.{scene}
 use Rattle.av_flat.specs.declared.timed.Helper.{Helper}
 use Rattle.av_flat.specs.Broadcasts.{Reference, references}
@@ -24,11 +24,10 @@ use Rattle.av_space.specs.Taps.{Handing, helper_from, helper_at}
 use Rattle.av_kinds.specs.declared.program.Source.{Source}
 use Rattle.av_kinds.specs.declared.program.Source.TheVariants.{Line}
 use Rattle.av_kinds.specs.Histories.{value_by, resized, Tasks, Signals, HasWord, IsHistory}
-use Rattle.av_history.specs.Widths.{width_at, handed_width, read_width}
+use Rattle.av_history.specs.Widths.{width_at, handed_width, read_width, PicksAsWide}
 use Rattle.av_history.proofs.Serves.{Placement, Feeding, read_of, read_by, read_at, IsOfLane, IsPointBrought, IsHelperBrought, IsBrought, Serves}
 use Rattle.av_history.proofs.Words.{place_weaker, value_is, piece_value}
-use Rattle.av_history.proofs.Resized.{resized_same, declared_width}
-use Rattle.av_space.proofs.Elements.{each_at}
+use Rattle.av_history.proofs.Resized.{resized_same, assigned, read_word}
 use Rattle.av_base.proofs.Lists.{some_is}
 
 -- ---- declarations
@@ -78,14 +77,13 @@ same_helper g (h ∷ hs) j place piece site = rw (same_helper g hs (suc j) place
 
 pub record Setting (s : FlatSystem) (hs : List Helper) (tasks : Tasks) (count : ℕ → ℕ) (Fed : Feeding) (At Hand : Placement) (x u : Assignment) (g : HelperWords) (n : ℕ) (ports lanes : Signals) : Type 0 where
   pub serves : Serves s hs tasks count Fed At Hand
-  pub widths : All (λ (v : Variable). v.width ≡ s.width) s.variables
   pub solves : IsHelpedSolution s hs x u g
   pub history : IsHistory tasks count n ports lanes
   pub presents : (k : ℕ) (name : Text) (y : Point) (c : ℕ) → Fed k name y c → c < n → Some (ports c k) ≡ x name y
 
 -- the lane has in the cycle the word of the computation
 abbrev pub HasValueOf : FlatSystem → Assignment → Signals → ℕ → Point → ℕ → ℕ → Type 0
-HasValueOf s u lanes place z p c = word_of u (slice_get (signatures s) place) z ≡ Some (lanes c p)
+HasValueOf s u lanes place z p c = assigned u (slice_get (signatures s) place) z ≡ Some (lanes c p)
 
 -- and that of the helper
 abbrev pub HasHandOf : HelperWords → Signals → ℕ → Point → ℕ → ℕ → Type 0
@@ -107,37 +105,32 @@ module _ (s : FlatSystem) (hs : List Helper) (tasks : Tasks) (count : ℕ → �
       from_lane is.cycle is.later
 
   -- a source has the word of the point that it brings
-  point_word : (c : ℕ) → c < n → ((b : ℕ) → b < c → HasValues b) → (source : Source) (b : ℕ) → HasWord ports lanes c source b → (bits place : ℕ) (y : Point) (a : ℕ)
-      → IsPointBrought s Fed At c source place y → IsWordAt (record { variables = signatures s; words = u; width = bits }) place y a → a ≡ b
-  point_word c lt earlier source b on bits place y a (inl is) h =
+  point_word : (c : ℕ) → c < n → ((b : ℕ) → b < c → HasValues b) → (source : Source) (b : ℕ) → HasWord ports lanes c source b → (place : ℕ) (y : Point)
+      → IsPointBrought s Fed At c source place y → is_declared_at (signatures s) place y ≡ true → assigned u (slice_get (signatures s) place) y ≡ Some b
+  point_word c lt earlier source b on place y (inl is) declared =
       let on_port : b ≡ ports c is.port = subst (λ (r : Source). HasWord ports lanes c r b) is.from_port on in
       let shown = t.presents is.port is.variable.name y c is.fed lt in
-      let domain : has is.variable.domain y ≡ true = subst (λ (o : Option Signature). domain_has o y ≡ true) is.here h.declared in
+      let domain : has is.variable.domain y ≡ true = subst (λ (o : Option Signature). domain_has o y ≡ true) is.here declared in
       let same = t.solves.inputs is.variable.name y (declared_at is_input (signatures s) place is.variable y is.here is.is_input domain) in
-      let known : u is.variable.name y ≡ Some a = subst (λ (o : Option Signature). word_of u o y ≡ Some a) is.here h.has in
-      some_same a (ports c is.port) (u is.variable.name y) known (same ∙ sym shown) ∙ sym on_port
-  point_word c lt earlier source b on bits place y a (inr is) h =
+      ap (λ (o : Option Signature). assigned u o y) is.here ∙ same ∙ sym shown ∙ ap Some (sym on_port)
+  point_word c lt earlier source b on place y (inr is) declared =
       let l = is.of_lane in
-      let known = earlier l.cycle (omega (arith, is.some, l.later)) place y l.lane l.at in
-      some_same a (lanes l.cycle l.lane) (word_of u (slice_get (signatures s) place) y) h.has known ∙ sym (lane_word At c source b place y on l)
+      earlier l.cycle (omega (arith, is.some, l.later)) place y l.lane l.at ∙ ap Some (sym (lane_word At c source b place y on l))
 
-  one_width : AllByRecursion (λ (v : Variable). v.width ≡ s.width) s.variables
-  one_width = recursion_from_All (λ (v : Variable). v.width ≡ s.width) s.variables t.widths
+  -- an equation of so many bits reads it as the place brings it
+  read_at_point : (c : ℕ) → c < n → ((b : ℕ) → b < c → HasValues b) → (source : Source) (b : ℕ) → HasWord ports lanes c source b → (bits place : ℕ) (y : Point) (a : ℕ)
+      → IsPointBrought s Fed At c source place y → IsWordAt (record { variables = signatures s; words = u; width = bits }) place y a → a ≡ resized (width_at s place) bits b
+  read_at_point c lt earlier source b on bits place y a brought h =
+      read_word s.variables u (recursion_from_All (λ (v : Variable). (z : Point) (w : ℕ) → u v.name z ≡ Some w → IsWord v.width w) s.variables t.solves.words) bits place y a b h.has
+      (point_word c lt earlier source b on place y brought h.declared)
 
-  own_width : (v : Variable) (place : ℕ) → slice_get s.variables place ≡ Some v → v.width ≡ s.width
-  own_width v place is = each_at (λ (v : Variable). v.width ≡ s.width) s.variables one_width place v is
-
-  -- as the equation of a variable reads it: all variables have words of one width
-  as_read : (v : Variable) → v.width ≡ s.width → (place : ℕ) (y : Point) (a : ℕ) → IsWordAt (scene s u v) place y a → (b : ℕ) → a ≡ b → a ≡ resized (width_at s place) v.width b
-  as_read v own place y a h b e = e ∙ sym (resized_same (width_at s place) v.width b (declared_width s.variables s.width one_width place y h.declared ∙ sym own))
-
-  -- and of a pick
-  pick_word : (c : ℕ) → c < n → ((b : ℕ) → b < c → HasValues b) → (source : Source) (b : ℕ) → HasWord ports lanes c source b → (bits place k : ℕ) (o : Option Point) (a : ℕ)
+  -- and so does a pick, of words of the equation's width
+  pick_word : (c : ℕ) → c < n → ((b : ℕ) → b < c → HasValues b) → (source : Source) (b : ℕ) → HasWord ports lanes c source b → (bits place k : ℕ) → width_at s place ≡ bits → (o : Option Point) (a : ℕ)
       → IsBrought s Fed At Hand c source (read_of place k o) → HasPicked (record { variables = signatures s; words = u; width = bits }) place k o a → a ≡ b
-  pick_word c lt earlier source b on bits place k None a brought h =
+  pick_word c lt earlier source b on bits place k wide None a brought h =
       let number_is : b ≡ k = subst (λ (r : Source). HasWord ports lanes c r b) brought on in
       h ∙ sym number_is
-  pick_word c lt earlier source b on bits place k (Some y) a brought h = point_word c lt earlier source b on bits place y a brought h
+  pick_word c lt earlier source b on bits place k wide (Some y) a brought h = read_at_point c lt earlier source b on bits place y a brought h ∙ resized_same (width_at s place) bits b wide
 
   -- and of a helper: the reference's at an entry, else the helper's own of an earlier cycle
   helper_word : (c : ℕ) → c < n → ((b : ℕ) → b < c → HasValues b) → ((b : ℕ) → b < c → HasHands b) → (source : Source) (b : ℕ) → HasWord ports lanes c source b
@@ -151,8 +144,7 @@ module _ (s : FlatSystem) (hs : List Helper) (tasks : Tasks) (count : ℕ → �
         | inl e ↦ (let r = is.entry z (subst (λ (q : Piece). IsEntry q.domain h.helper.direction z) (sym same_piece) e.entry) in
             let own : IsWordAt (scene s u h.variable) is.site.place (image is.site.map.rows z) r.0 = subst (λ (v : Variable). IsWordAt (scene s u v) is.site.place (image is.site.map.rows z) r.0) same_variable r.2 in
             let read : IsWordAt (scene s u h.variable) h.read.place (image h.read.map.rows z) r.0 = subst (λ (y : Reference). IsWordAt (scene s u h.variable) y.place (image y.map.rows z) r.0) same_site own in
-            let raw = point_word c lt earlier source b on h.variable.width h.read.place (image h.read.map.rows z) r.0 e.point read in
-            let word = as_read h.variable (own_width h.variable h.helper.var h.variable_is) h.read.place (image h.read.map.rows z) r.0 read b raw in
+            let word = read_at_point c lt earlier source b on h.variable.width h.read.place (image h.read.map.rows z) r.0 e.point read in
             r.1 ∙ ap Some (word ∙ ap (λ k. resized k h.variable.width b) (sym e.wide)))
         | inr e ↦ (let l = e.earlier.of_lane in
             let known = handed l.cycle (omega (arith, e.earlier.some, l.later)) j (before z h.helper.direction) l.lane l.at in
@@ -167,24 +159,23 @@ module _ (s : FlatSystem) (hs : List Helper) (tasks : Tasks) (count : ℕ → �
 
   -- a reference has the word of its source
   reference_word : (c : ℕ) → c < n → ((b : ℕ) → b < c → HasValues b) → ((b : ℕ) → b ≤ c → HasHands b) → (source : Source) (b : ℕ) → HasWord ports lanes c source b
-      → (v : Variable) → v.width ≡ s.width → (z : Point) (place : ℕ) (m : Map) (h : Option Handing) → IsBrought s Fed At Hand c source (read_by h place (image m.rows z) z)
+      → (v : Variable) (z : Point) (place : ℕ) (m : Map) (h : Option Handing) → IsBrought s Fed At Hand c source (read_by h place (image m.rows z) z)
       → (a : ℕ) → HasRead (scene s u v) place m (words_by g h) z a → a ≡ resized (handed_width s v.width h place) v.width b
-  reference_word c lt earlier handed source b on v own z place m None brought a h =
-      as_read v own place (image m.rows z) a h b (point_word c lt earlier source b on v.width place (image m.rows z) a brought h)
-  reference_word c lt earlier handed source b on v own z place m (Some o) l a h =
+  reference_word c lt earlier handed source b on v z place m None brought a h = read_at_point c lt earlier source b on v.width place (image m.rows z) a brought h
+  reference_word c lt earlier handed source b on v z place m (Some o) l a h =
       let known = handed l.cycle (omega (arith, l.later)) o.number z l.lane l.at in
       some_same a (lanes l.cycle l.lane) (g o.number z) h known ∙ sym (lane_word Hand c source b o.number z on l) ∙ sym (resized_same v.width v.width b refl)
 
   -- what a place reads has the word of its source
   place_word : (c : ℕ) → c < n → ((b : ℕ) → b < c → HasValues b) → ((b : ℕ) → b ≤ c → HasHands b) → (source : Source) (b : ℕ) → HasWord ports lanes c source b
-      → (v : Variable) → v.width ≡ s.width → (own number : ℕ) (z : Point) (i : ℕ) (tree : Tree) → IsBrought s Fed At Hand c source (read_at (helper_at hs own number i) tree z)
+      → (v : Variable) (own number : ℕ) (z : Point) (i : ℕ) (tree : Tree) → IsBrought s Fed At Hand c source (read_at (helper_at hs own number i) tree z) → PicksAsWide s v.width tree
       → (a : ℕ) → HasHelped (scene s u v) (helped_at hs g 0 own number) i tree z a → a ≡ resized (read_width s v.width (helper_at hs own number i) tree) v.width b
-  place_word c lt earlier handed source b on v wide own number z i (reference place m) brought a h =
-      reference_word c lt earlier handed source b on v wide z place m (helper_at hs own number i) brought a
+  place_word c lt earlier handed source b on v own number z i (reference place m) brought wide a h =
+      reference_word c lt earlier handed source b on v z place m (helper_at hs own number i) brought a
       (subst (λ (o : Option PointWords). HasRead (scene s u v) place m o z a) (same_helper g hs 0 own number i) h)
-  place_word c lt earlier handed source b on v wide own number z i (pick place choices k) brought a h =
-      pick_word c lt earlier source b on v.width place k (picked choices z) a brought h ∙ sym (resized_same v.width v.width b refl)
-  place_word c lt earlier handed source b on v wide own number z i _ brought a h = absurd brought
+  place_word c lt earlier handed source b on v own number z i (pick place choices k) brought wide a h =
+      pick_word c lt earlier source b on v.width place k wide (picked choices z) a brought h ∙ sym (resized_same v.width v.width b refl)
+  place_word c lt earlier handed source b on v own number z i _ brought wide a h = absurd brought
 
   -- ---- by the cycle
 
@@ -209,12 +200,12 @@ module _ (s : FlatSystem) (hs : List Helper) (tasks : Tasks) (count : ℕ → �
       let a = satisfied.0 in
       let value : HasHelped (scene s u v) (helped_at hs g 0 place h.number) 0 task.tree z a = piece_value (scene s u v) (helped_at hs g 0 place) z h.number task.tree a 0 v.pieces (λ k q at inside. let o = h.piece k q at inside in (omega (arith, o.0), o.1)) satisfied.3 in
       let words : ℕ → ℕ = λ k. resized (task.widths k) v.width (done.brought k) in
-      let Brings : ℕ → ℕ → Tree → Type 0 = λ k i tree. IsBrought s Fed At Hand c (task.sources k) (read_at (helper_at hs place h.number i) tree z) × (task.widths k ≡ read_width s v.width (helper_at hs place h.number i) tree) in
+      let Brings : ℕ → ℕ → Tree → Type 0 = λ k i tree. IsBrought s Fed At Hand c (task.sources k) (read_at (helper_at hs place h.number i) tree z) × (task.widths k ≡ read_width s v.width (helper_at hs place h.number i) tree) × PicksAsWide s v.width tree in
       let each = place_weaker Brings (λ k i tree. (a : ℕ) → HasHelped (scene s u v) (helped_at hs g 0 place h.number) i tree z a → a ≡ words k)
-      (λ k i tree brought a is. place_word c lt earlier handed (task.sources k) (done.brought k) (done.has k) v (own_width v place h.variable_is) place h.number z i tree brought.0 a is ∙ ap (λ m. resized m v.width (done.brought k)) (sym brought.1)) 0 0 task.tree h.brought in
+      (λ k i tree brought a is. place_word c lt earlier handed (task.sources k) (done.brought k) (done.has k) v place h.number z i tree brought.0 brought.2 a is ∙ ap (λ m. resized m v.width (done.brought k)) (sym brought.1)) 0 0 task.tree h.brought in
       let is : a ≡ value_by v.width words 0 task.tree = value_is (scene s u v) (helped_at hs g 0 place h.number) z words 0 0 task.tree each a value in
       let same : a ≡ lanes c p = is ∙ ap (λ m. value_by m (λ k. resized (task.widths k) m (done.brought k)) 0 task.tree) (sym h.wide) ∙ sym done.value in
-      ap (λ (o : Option Signature). word_of u o z) (signature_at s.variables place v h.variable_is) ∙ satisfied.1 ∙ ap Some same
+      ap (λ (o : Option Signature). assigned u o z) (signature_at s.variables place v h.variable_is) ∙ satisfied.1 ∙ ap Some same
 
   -- all cycles before one: in each the helpers before the computations
   before_cycle : (m c : ℕ) → c < m → c < n → HasHands c × HasValues c

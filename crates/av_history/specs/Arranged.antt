@@ -1,5 +1,5 @@
 -- What an array has of the system that it is mapped from.
-use Rattle.std.specs.Prelude.{◌≡◌, ℕ, ◌+◌, ◌<◌, IsTrue, Some, All, Contains, slice_get}
+use Rattle.std.specs.Prelude.{◌≡◌, ℕ, ◌+◌, ◌<◌, IsTrue, Some, Contains, slice_get}
 use Rattle.av_tree.specs.Points.{Point}
 use Rattle.av_flat.specs.Trees.{Piece, Variable}
 use Rattle.av_flat.specs.Points.{has}
@@ -7,12 +7,14 @@ use Rattle.av_flat.specs.Signatures.{is_computed}
 use Rattle.av_flat.specs.Nodes.{nodes}
 use Rattle.av_space.specs.Taps.{node_place, Tap, taps, IsTapRead}
 use Rattle.av_space.specs.Links.{AreLinks}
+use Rattle.av_history.specs.Widths.{PicksAsWide}
+use Rattle.av_history.specs.Places.{EachPlace}
 use Rattle.av_history.specs.Performing.{Array, ComputesOn}
 
 pub record IsArranged (a : Array) : Type 0 where
   pub are_links : AreLinks a.system a.helpers a.times a.cells a.links
-  -- all variables have words of one width
-  pub widths : All (λ (v : Variable). v.width ≡ a.system.width) a.system.variables
+  -- a pick reads words as wide as those of its equation
+  pub widths : (v : Variable) (k : ℕ) (piece : Piece) → Contains a.system.variables v → slice_get v.pieces k ≡ Some piece → EachPlace (λ s i t. PicksAsWide a.system v.width t) 0 0 piece.tree
   -- each point of a node is in one piece
   pub some_piece : (v : Variable) (z : Point) → Contains a.system.variables v → IsTrue (is_computed v.kind) → IsTrue (has v.domain z) → (k : ℕ) × (piece : Piece) × (slice_get v.pieces k ≡ Some piece) × IsTrue (has piece.domain z)
   pub one_piece : (v : Variable) (z : Point) → Contains a.system.variables v → IsTrue (is_computed v.kind) → IsTrue (has v.domain z) → (j k : ℕ) (p q : Piece) → slice_get v.pieces j ≡ Some p → slice_get v.pieces k ≡ Some q

@@ -4,8 +4,6 @@ use Rattle.std.specs.Prelude.{◌≡◌, ℕ, ◌+◌, ◌<◌, IsTrue, Some, sl
 use Rattle.av_tree.specs.Points.{Point}
 use Rattle.av_tree.specs.Values.{Assignment}
 use Rattle.av_flat.specs.Trees.{Variable}
-use Rattle.av_flat.specs.Signatures.{signatures}
-use Rattle.av_flat.specs.Values.{word_of}
 use Rattle.av_flat.specs.Nodes.{is_node, number_at}
 use Rattle.av_space.specs.Listings.{InLine, IsInLine}
 use Rattle.av_kinds.specs.Histories.{Signals}
@@ -18,7 +16,7 @@ Presents a start x n ports = (l : InLine) → IsInLine a.system a.helpers a.time
 -- the lanes of values have the words of the computed points, so many cycles later than the array says
 abbrev pub HaveWords : Array → Lanes → ℕ → Assignment → ℕ → Signals → Type 0
 HaveWords a lanes start u n words = (place : ℕ) (z : Point) (v : Variable) → slice_get a.system.variables place ≡ Some v → IsTrue (is_node v)
-    → (p c : ℕ) → ComputesOn a p c (number_at a.system place) z → c + start < n → word_of u (slice_get (signatures a.system) place) z ≡ Some (words (c + start) (lanes.of_value p))
+    → (p c : ℕ) → ComputesOn a p c (number_at a.system place) z → c + start < n → u v.name z ≡ Some (words (c + start) (lanes.of_value p))
 
 -- the counter has in the cycle of each computation what it has so many cycles later
 abbrev pub CountsAnew : Array → (ℕ → ℕ) → ℕ → Type 0

@@ -1,6 +1,6 @@
 -- The widths of the words that places of trees read.
-use Rattle.std.specs.Prelude.{ℕ, Option, Some, None, slice_get}
-use Rattle.av_flat.specs.Trees.{Tree, Variable, FlatSystem, reference}
+use Rattle.std.specs.Prelude.{◌≡◌, ℕ, Option, Some, None, slice_get}
+use Rattle.av_flat.specs.Trees.{Tree, Variable, FlatSystem, reference, pick}
 use Rattle.av_space.specs.Taps.{Handing}
 
 abbrev pub width_of : Option Variable → ℕ
@@ -20,3 +20,8 @@ handed_width s own (Some h) place = own
 abbrev pub read_width : FlatSystem → ℕ → Option Handing → Tree → ℕ
 read_width s own h (reference place m) = handed_width s own h place
 read_width s own h _ = own
+
+-- the variable that a pick reads has words of that width
+abbrev pub PicksAsWide : FlatSystem → ℕ → Tree → Type 0
+PicksAsWide s own (pick place choices n) = width_at s place ≡ own
+PicksAsWide s own _ = Unit {0}

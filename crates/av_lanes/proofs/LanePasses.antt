@@ -19,7 +19,9 @@ use Rattle.av_clock.proofs.Edges.{IsFor, Stores, next_within, register_within, n
 use Rattle.av_clock.proofs.Held.{SettlesMarked, all_hold}
 use Rattle.av_clock.proofs.Taking.{Takes, HaveTaken, takes_more, Gives, gives_more}
 use Rattle.av_lanes.specs.Seen.{lane}
+use Rattle.av_lanes.specs.inner.Order.{IsOrder}
 use Rattle.av_lanes.proofs.ByLane.{lane_set, lane_size, lane_in}
+use Rattle.av_lanes.proofs.Ordering.{Moves, moves_more}
 
 -- there is a word for each name in each lane
 pub lane_long : (k : ℕ) (m : Module) (words : List (List ℕ)) → length words ≡ length (all_names m) → length (lane k words) ≡ length (all_names m)
@@ -133,3 +135,10 @@ stores_lane k m before words next n flip_flop d sound long room for fits so_far 
     let within : n < length m.steps = for.within in
     subst (λ ws. Stores m (lane k before) ws (lane k next) (n + 1)) (sym (lane_set k words flip_flop.register (get_or next n d)))
     (stores_more m (lane k before) (lane k words) (lane k next) n flip_flop (get_or (get_or next n d) k 0) sound (lane_long k m words long) for (sym (lane_in k next n d (omega arith))) fits so_far)
+
+-- one flip-flop more of those in order
+pub moves_lane : (k : ℕ) (m : Module) (order : List ℕ) (before words : List (List ℕ)) (n : ℕ) (flip_flop : FlipFlop) (word : List ℕ) → IsSound m → IsOrder m order → length words ≡ length (all_names m) → n < length order → IsFor m (get_or order n 0) flip_flop
+    → get_or word k 0 ≡ reading_word (lane k words) flip_flop.next → Moves m order (lane k before) (lane k words) n → Moves m order (lane k before) (lane k (set words flip_flop.register word)) (n + 1)
+moves_lane k m order before words n flip_flop word sound ordered long lt for is so_far =
+    subst (λ ws. Moves m order (lane k before) ws (n + 1)) (sym (lane_set k words flip_flop.register word))
+    (moves_more m order (lane k before) (lane k words) n flip_flop (get_or word k 0) sound ordered (lane_long k m words long) lt for is so_far)

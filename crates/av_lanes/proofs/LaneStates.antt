@@ -10,7 +10,6 @@ use Rattle.std.proofs.lemmas.Option.{slice_get_within, slice_get_cases}
 use Rattle.av_base.specs.Words.{IsWord}
 use Rattle.av_net.specs.declared.netlist.Port.{Port}
 use Rattle.av_net.specs.declared.netlist.Drive.{Drive}
-use Rattle.av_net.specs.declared.netlist.Step.{Step}
 use Rattle.av_net.specs.declared.netlist.Module.{Module}
 use Rattle.av_net.specs.Meaning.{Words}
 use Rattle.av_net.specs.Names.{names_of, given_names, wire_names, all_names, registers_of, width_of}
@@ -18,7 +17,6 @@ use Rattle.av_net.specs.Settled.{Settled, Agree}
 use Rattle.av_net.specs.Clocked.{Edge}
 use Rattle.av_net.specs.Sound.{IsSound}
 use Rattle.av_net.proofs.Settles.{with_word_same, with_word_other, names_distinct}
-use Rattle.av_clock.specs.Gates.{AreTaken, FitRegisters}
 use Rattle.av_clock.specs.Kept.{AreZero}
 use Rattle.av_clock.specs.Marked.{AreHeld}
 use Rattle.av_clock.specs.Marking.{ReadTheSame}
@@ -26,7 +24,6 @@ use Rattle.av_clock.specs.Merged.{merged, merged_drive, AreMerged, resolved}
 use Rattle.av_clock.specs.Named.{named, AllFit}
 use Rattle.av_clock.specs.Seen as clock
 use Rattle.av_clock.proofs.Computing.{zeros_zero, settled_zero, edge_zero}
-use Rattle.av_clock.proofs.Edges.{next_fits}
 use Rattle.av_clock.proofs.Lookup.{look_at, contains_at}
 use Rattle.av_clock.proofs.MergedModules.{merged_at}
 use Rattle.av_clock.proofs.SourcedWords.{seen_settled, seen_given, seen_ports, seen_edge, seen_word, seen_fits, set_resolved, zeros_resolved}
@@ -228,27 +225,6 @@ new_lane m sources k ws word are is none =
     let n = length (all_names m) in
     let same : lane k ws ≡ replicate n 0 = ap (lane k) is ∙ lane_replicate k n word ∙ ap (replicate n) none in
     lane_sources k sources ws ∙ ap (resolved sources) same ∙ zeros_resolved m sources are
-
--- ---- an edge of all steps
-
--- what the registers take, as it was noted, and as it is read
-noted : (u : Vec (List ℕ) Global) (given room read : List (List ℕ)) → length given ≡ length room → room ≡ u.items → read ≡ (with_items u given).items → read ≡ given
-noted u given room read long own is = is ∙ items_after u room given long own
-
--- it fits the registers
-pub next_fitting : (net : Module) (v u : Vec (List ℕ) Global) (k : ℕ) (seen given room read : List (List ℕ)) → IsSound net → AllFit net (lane k v.items) → seen ≡ v.items → AreTaken net false (named net (lane k seen)) (length net.steps) (lane k given)
-    → length given ≡ length room → room ≡ u.items → read ≡ (with_items u given).items → FitRegisters net (lane k read)
-next_fitting net v u k seen given room read sound fit same taken long own is =
-    subst (λ ws. FitRegisters net (lane k ws)) (sym (noted u given room read long own is))
-    (next_fits net (lane k seen) (lane k given) sound (subst (λ ws. AllFit net (lane k ws)) (sym same) fit) taken)
-
--- and the edge is one without reset
-pub edge_taken : (net : Module) (v u : Vec (List ℕ) Global) (k : ℕ) (seen given room read new : List (List ℕ)) → seen ≡ v.items → AreTaken net false (named net (lane k seen)) (length net.steps) (lane k given)
-    → length given ≡ length room → room ≡ u.items → read ≡ (with_items u given).items
-    → ((i : ℕ) → i < length net.steps → (d : Step) → named net (lane k new) (get_or net.steps i d).register ≡ get_or (lane k read) i 0) → Edge net false (named net (lane k v.items)) (named net (lane k new))
-edge_taken net v u k seen given room read new same taken long own is stored i d lt =
-    let taken' : AreTaken net false (named net (lane k v.items)) (length net.steps) (lane k given) = subst (λ ws. AreTaken net false (named net (lane k ws)) (length net.steps) (lane k given)) same taken in
-    stored i lt d ∙ ap (λ ws. get_or (lane k ws) i 0) (noted u given room read long own is) ∙ taken' i lt d
 
 -- ---- a word that is read
 

@@ -3,8 +3,9 @@ use Rattle.std.proofs.Common.{◌≡◌, ℕ, zero, suc, ◌+◌, ◌-◌, ◌*�
 use Rattle.std.specs.Prelude.{◌==◌, nat_lt, if◌then◌else◌}
 use lib.Lanes.{zip2, sel_l, mask_l, top, Each1}
 use Rattle.std.proofs.Math.Nat.{zero-div, mod-eq_of_lt}
+use Rattle.std.proofs.Math.Pow.{mod-mod-pow}
 use Rattle.std.proofs.lemmas.Bool.{eqb-true, ltb-true, ltb-false, leb-true, leb-false, lt-ltb, cases_lt}
-use Rattle.std.proofs.lemmas.Nat.{and_mask, and_comm, and_le_l, div_below, le-div, mul-add-lt}
+use Rattle.std.proofs.lemmas.Nat.{and_mask, and_comm, and_le_l, div_below, le-div, mul-add-lt, mul-mod}
 use Rattle.std.proofs.lemmas.Simd.{length-zip2, get_or-zip2, get_or-replicate, length-replicate, tops_compared, get_or-sel_l, mask_l-mod, bit_mask_l, Each1-get_or}
 use Rattle.av_net.specs.Meaning.{chosen, widened}
 use Rattle.av_lanes.proofs.Raised.{twice}
@@ -203,3 +204,19 @@ pub extended_lane : (w by : ℕ) (xs set : List ℕ) → 1 ≤ w → w + by ≤ 
     → get_or set k 0 ≡ chosen (get_or xs k 0 / 2 ^ (w - 1)) ((2 ^ by - 1) * 2 ^ w) 0 → get_or (zip2 more xs set) k 0 ≡ widened w by (get_or xs k 0)
 extended_lane w by xs set some most lx ls k lt fits is =
     zip_lane more xs set lx ls k lt ∙ ap (more (get_or xs k 0)) is ∙ one_extended w by (get_or xs k 0) some most fits
+
+-- ---- products
+
+-- a number has the same low bits as its low half
+half_bits : (n w : ℕ) → w ≤ 32 → n % 2 ^ 32 % 2 ^ w ≡ n % 2 ^ w
+half_bits n w few =
+    let whole : (32 - w) + w ≡ 32 = omega arith in
+    subst (λ k. n % 2 ^ k % 2 ^ w ≡ n % 2 ^ w) whole (mod-mod-pow n (32 - w) w)
+
+-- the low bits of a product are those of the product of the low halves
+pub low_product : (a b x y w : ℕ) → w ≤ 32 → x ≡ a % 2 ^ 32 → y ≡ b % 2 ^ 32 → (x * y) % 2 ^ w ≡ (a * b) % 2 ^ w
+low_product a b x y w few is is' =
+    mul-mod x y (2 ^ w)
+    ∙ ap (λ n. (n * (y % 2 ^ w)) % 2 ^ w) (ap (λ n. n % 2 ^ w) is ∙ half_bits a w few)
+    ∙ ap (λ n. (a % 2 ^ w * n) % 2 ^ w) (ap (λ n. n % 2 ^ w) is' ∙ half_bits b w few)
+    ∙ sym (mul-mod a b (2 ^ w))

@@ -7,6 +7,7 @@ ghost use Rattle.av_net.specs.Clocked.{Edge};
 ghost use Rattle.av_net.specs.Sound.{IsSound};
 ghost use Rattle.av_lanes.specs.Seen.{lane, carried};
 
+use crate::order::Moves;
 use crate::passes;
 use av_base::Memory;
 use av_clock::{Circuit, Marks, Merged, mark_anew};
@@ -31,6 +32,8 @@ pub(crate) struct Engine<'a> {
     // Room for the registers' next words, and for the steps that are taken.
     next: Vec<u64x8>,
     taken: Vec<usize>,
+    // The flip-flops in an order in which each may take its word at once, where there is one.
+    moves: Moves,
     // The drives and the steps of which an operand changed in some lane.
     stale: Marks,
     due: Marks,
@@ -69,6 +72,7 @@ impl<'a> Engine<'a> {
         let words = vec![in alloc; u64x8::splat(0); circuit.size()]?;
         let next = vec![in alloc; u64x8::splat(0); circuit.steps()]?;
         let taken = vec![in alloc; 0usize; circuit.steps()]?;
+        let moves = Moves::new(alloc, &circuit)?;
         let stale = Marks::new(alloc, circuit.drives())?;
         let due = Marks::new(alloc, circuit.steps())?;
         Ok(Engine {
@@ -78,6 +82,7 @@ impl<'a> Engine<'a> {
             words,
             next,
             taken,
+            moves,
             stale,
             due,
             dense: true,
@@ -216,8 +221,7 @@ impl<'a> Engine<'a> {
         ensures ports { (k : ℕ) → k < 8 → Agree (names_of self.new.of.inputs) (carried k self.old) (carried k self.new) }
         ensures flag { self.new.settled ≡ false }
     {
-        passes::next_words(&self.circuit, &self.words, &mut self.next);
-        passes::store(&self.circuit, &self.next, &mut self.words);
+        passes::tick(&self.circuit, &self.moves, &mut self.words, &mut self.next);
         self.dense = true;
         self.settled = false;
     }

@@ -59,11 +59,40 @@ fn difference(left: u64x8, right: u64x8, width: Width) -> u64x8
     cut(left - right, width)
 }
 
+// The low 32 bits of each lane.
+#[inline(always)]
+fn low_half(words: u64x8) -> u64x8
+    ensures { (k : ℕ) → k < 8 → slice_index result k ≡ residue 32 (slice_index words k) }
+{
+    words & u64x8::splat(0xffff_ffff)
+}
+
+// A product of at most 32 bits is that of the low halves, which a processor multiplies at once.
+#[inline(always)]
+fn small_product(left: u64x8, right: u64x8, width: Width) -> u64x8
+    requires { width.bits ≤ 32 }
+    ensures { (k : ℕ) → k < 8 → slice_index result k ≡ word_product width.bits (slice_index left k) (slice_index right k) }
+{
+    cut(low_half(left) * low_half(right), width)
+}
+
+// A product of any width.
+#[inline(always)]
+fn any_product(left: u64x8, right: u64x8, width: Width) -> u64x8
+    ensures { (k : ℕ) → k < 8 → slice_index result k ≡ word_product width.bits (slice_index left k) (slice_index right k) }
+{
+    cut(left * right, width)
+}
+
 #[inline(always)]
 fn product(left: u64x8, right: u64x8, width: Width) -> u64x8
     ensures { (k : ℕ) → k < 8 → slice_index result k ≡ word_product width.bits (slice_index left k) (slice_index right k) }
 {
-    cut(left * right, width)
+    if width.bits <= 32 {
+        small_product(left, right, width)
+    } else {
+        any_product(left, right, width)
+    }
 }
 
 #[inline(always)]

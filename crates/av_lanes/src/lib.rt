@@ -7,6 +7,7 @@ mod gates;
 mod kernel;
 mod lanes;
 mod laws;
+mod order;
 mod passes;
 
 pub use lanes::Lanes;

@@ -1,7 +1,7 @@
 //! Passes over the drives and the steps of a circuit, for eight lanes at once. What a pass does to the words in each lane is what the
 //! clock's pass of the same name does to its words.
 
-ghost use Rattle.std.specs.Prelude.{◌≡◌, ◌<◌, ◌≤◌, ◌+◌, ℕ, List as Items, length, true, false, slice_get, slice_set, slice_index, slice_index_or, Some, Contains};
+ghost use Rattle.std.specs.Prelude.{◌≡◌, ◌<◌, ◌≤◌, ◌+◌, ℕ, List as Items, length, true, false, slice_get, slice_set, slice_index, slice_index_or, Some, Contains, IsTrue};
 ghost use Rattle.av_base.specs.Words.{IsWord};
 ghost use Rattle.av_net.specs.Meaning.{Words, word_of};
 ghost use Rattle.av_net.specs.Names.{all_names, given_names, names_of, registers_of, width_of};
@@ -14,10 +14,12 @@ ghost use Rattle.av_clock.specs.Marked.{IsClear, AreHeld};
 ghost use Rattle.av_clock.specs.Marking.{IsSet, ReadTheSame, AreAhead, AreDue};
 ghost use Rattle.av_clock.specs.Named.{named, AllFit};
 ghost use Rattle.av_lanes.specs.Seen.{lane};
+ghost use Rattle.av_lanes.specs.inner.Order.{AreMoves};
 
 use crate::gates::{word_given, word_read};
 use crate::kernel::{constant, differ};
-use av_clock::{Circuit, Marks};
+use crate::order::Moves;
+use av_clock::{Circuit, FlipFlop, Marks};
 use std::simd::prelude::*;
 
 /// All drives in order, but those of the constant 0.
@@ -315,8 +317,8 @@ pub(crate) fn changed(circuit: &Circuit<'_>, words: &[u64x8], next: &[u64x8]) ->
     changed
 }
 
-/// Gives all registers these words.
-pub(crate) fn store(circuit: &Circuit<'_>, next: &[u64x8], words: &mut [u64x8])
+// Gives all registers these words.
+fn store(circuit: &Circuit<'_>, next: &[u64x8], words: &mut [u64x8])
     requires sound { IsSound circuit.now }
     requires size { length words.old ≡ length (all_names circuit.now) }
     requires fit { (k : ℕ) → k < 8 → AllFit circuit.now (lane k words.old) }
@@ -331,5 +333,58 @@ pub(crate) fn store(circuit: &Circuit<'_>, next: &[u64x8], words: &mut [u64x8])
 {
     for (i, flip_flop) in circuit.flip_flops().iter().enumerate() {
         words[flip_flop.register] = next[i];
+    }
+}
+
+// One edge without reset, by the flip-flops in an order in which none reads a register that an earlier one has stored.
+fn move_all(circuit: &Circuit<'_>, moves: &[FlipFlop], words: &mut [u64x8])
+    requires sound { IsSound circuit.now }
+    requires size { length words.old ≡ length (all_names circuit.now) }
+    requires fit { (k : ℕ) → k < 8 → AllFit circuit.now (lane k words.old) }
+    requires moves { AreMoves circuit.now moves.now }
+    ensures edge { (k : ℕ) → k < 8 → Edge circuit.now false (named circuit.now (lane k words.old)) (named circuit.now (lane k words.new)) }
+    ensures ports { (k : ℕ) → k < 8 → Agree (names_of circuit.now.inputs) (named circuit.now (lane k words.old)) (named circuit.now (lane k words.new)) }
+    ensures fit { (k : ℕ) → k < 8 → AllFit circuit.now (lane k words.new) }
+    ensures others { (k : ℕ) → k < 8 → (name : Items ℕ) → (Contains (registers_of circuit.now.steps) name → ⊥)
+        → named circuit.now (lane k words.new) name ≡ named circuit.now (lane k words.old) name }
+{
+    for flip_flop in moves {
+        words[flip_flop.register] = word_read(flip_flop.next, words);
+    }
+}
+
+// One edge without reset in two passes: the words are stored when all are read.
+fn tick_together(circuit: &Circuit<'_>, words: &mut [u64x8], next: &mut [u64x8])
+    requires sound { IsSound circuit.now }
+    requires size { length words.old ≡ length (all_names circuit.now) }
+    requires next { length next.old ≡ length circuit.now.steps }
+    requires fit { (k : ℕ) → k < 8 → AllFit circuit.now (lane k words.old) }
+    ensures edge { (k : ℕ) → k < 8 → Edge circuit.now false (named circuit.now (lane k words.old)) (named circuit.now (lane k words.new)) }
+    ensures ports { (k : ℕ) → k < 8 → Agree (names_of circuit.now.inputs) (named circuit.now (lane k words.old)) (named circuit.now (lane k words.new)) }
+    ensures fit { (k : ℕ) → k < 8 → AllFit circuit.now (lane k words.new) }
+    ensures others { (k : ℕ) → k < 8 → (name : Items ℕ) → (Contains (registers_of circuit.now.steps) name → ⊥)
+        → named circuit.now (lane k words.new) name ≡ named circuit.now (lane k words.old) name }
+{
+    next_words(circuit, words, next);
+    store(circuit, next, words);
+}
+
+/// One edge without reset: all registers take the words of their operands together.
+pub(crate) fn tick(circuit: &Circuit<'_>, moves: &Moves, words: &mut [u64x8], next: &mut [u64x8])
+    requires sound { IsSound circuit.now }
+    requires size { length words.old ≡ length (all_names circuit.now) }
+    requires next { length next.old ≡ length circuit.now.steps }
+    requires fit { (k : ℕ) → k < 8 → AllFit circuit.now (lane k words.old) }
+    requires moves { IsTrue moves.now.are_ordered → AreMoves circuit.now moves.now.flip_flops.items }
+    ensures edge { (k : ℕ) → k < 8 → Edge circuit.now false (named circuit.now (lane k words.old)) (named circuit.now (lane k words.new)) }
+    ensures ports { (k : ℕ) → k < 8 → Agree (names_of circuit.now.inputs) (named circuit.now (lane k words.old)) (named circuit.now (lane k words.new)) }
+    ensures fit { (k : ℕ) → k < 8 → AllFit circuit.now (lane k words.new) }
+    ensures others { (k : ℕ) → k < 8 → (name : Items ℕ) → (Contains (registers_of circuit.now.steps) name → ⊥)
+        → named circuit.now (lane k words.new) name ≡ named circuit.now (lane k words.old) name }
+{
+    if moves.are_ordered {
+        move_all(circuit, &moves.flip_flops, words);
+    } else {
+        tick_together(circuit, words, next);
     }
 }

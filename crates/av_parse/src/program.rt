@@ -5,12 +5,13 @@ ghost use Rattle.av_lex.specs.Lexing.{view as token_view, views};
 ghost use Rattle.av_tree.specs.Trees.{view_equation, view_equations, view_system};
 ghost use Rattle.av_tree.specs.Grammar.{declared};
 ghost use Rattle.av_parse.specs.inner.Reader.{Gives, with_front};
-ghost use Rattle.av_parse.specs.inner.ProgramReader.{declaration_of, declarations_of, inputs_of, variables_of, locals_of, sizes_of, index_names_of, equation_of, right_side_of, equations_of, semicolon_of, header_of, system_of, program_of};
+ghost use Rattle.av_parse.specs.inner.ProgramReader.{bits_of, width_of, declaration_of, declarations_of, inputs_of, variables_of, locals_of, sizes_of, index_names_of, equation_of, right_side_of, equations_of, semicolon_of, header_of, system_of, program_of};
 ghost use Rattle.av_parse.specs.inner.Views.{view_header};
 
 use crate::copy;
 use crate::cursor::Cursor;
 use crate::fault::Stop;
+use crate::text::value_of;
 use av_base::{List, Memory, Name, Place, TokenKind};
 use av_lex::Token;
 use av_tree::{Declaration, DomainText, Equation, System};
@@ -30,14 +31,16 @@ fn declare(
     alloc: Global,
     found: &mut List<Declaration>,
     domain: &DomainText,
+    width: Option<u64>,
     names: &[Token],
 ) -> Result<(), Memory>
-    ensures { IfOk result (λ _. found.new ≡ found.old ++ declared domain.now (views names.now)) }
+    ensures { IfOk result (λ _. found.new ≡ found.old ++ declared domain.now width (views names.now)) }
 {
     for token in names {
         found.push(Declaration {
             name: Name::from_ascii(alloc, token.text)?,
             domain: copy::domain(alloc, domain)?,
+            width,
             place: token.place,
         })?;
     }
@@ -45,7 +48,31 @@ fn declare(
 }
 
 impl<'t, 'a> Cursor<'t, 'a> {
-    // `names ":" domain "of" "integer"`, put behind these declarations.
+    // `"[" number "]"`, behind the word `word`.
+    #[tactic(auto, unfolding(crate::specs::inner::ProgramReader::bits_of))]
+    fn bits(&mut self) -> Result<Option<u64>, Stop>
+        ensures { Gives (λ w. (w, views self.new.rest.now)) result (bits_of (views self.old.rest.now)) }
+    {
+        self.symbol(b"[")?;
+        let number = self.expect(TokenKind::Number)?;
+        self.symbol(b"]")?;
+        Ok(Some(value_of(number.text)))
+    }
+
+    // `"integer"` or `"word" "[" number "]"`: the number of bits, if one is written.
+    #[tactic(auto, unfolding(crate::specs::inner::ProgramReader::width_of))]
+    fn width(&mut self) -> Result<Option<u64>, Stop>
+        ensures { Gives (λ w. (w, views self.new.rest.now)) result (width_of (views self.old.rest.now)) }
+    {
+        if self.is_word(b"word") {
+            self.skip();
+            return self.bits();
+        }
+        self.word(b"integer")?;
+        Ok(None)
+    }
+
+    // `names ":" domain "of" width`, put behind these declarations.
     #[tactic(auto, using(crate::proofs::Lists::stops_then), unfolding(crate::specs::inner::ProgramReader::declaration_of))]
     fn declaration(&mut self, found: &mut List<Declaration>) -> Result<(), Stop>
         ensures { Gives (λ _. (found.new, views self.new.rest.now)) result (with_front found.old (declaration_of (views self.old.rest.now))) }
@@ -54,8 +81,8 @@ impl<'t, 'a> Cursor<'t, 'a> {
         self.symbol(b":")?;
         let domain = self.domain()?;
         self.word(b"of")?;
-        self.word(b"integer")?;
-        declare(self.alloc, found, &domain, names.as_slice())?;
+        let width = self.width()?;
+        declare(self.alloc, found, &domain, width, names.as_slice())?;
         Ok(())
     }
 

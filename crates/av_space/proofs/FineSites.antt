@@ -33,12 +33,12 @@ in_signatures (v ∷ vs) (suc place) n e = let h = in_signatures vs place n e in
 abbrev IsOfPiece : ℕ → ℕ → ℕ → Place → Type 0
 IsOfPiece k n count p = (p.piece ≡ k) × IsReadable n count p.tree
 
-readable : (vs : List Signature) (n k i : ℕ) (t : Tree) → Fits vs n t → EachPart HasSmallRows t → EachPart (IsOfPartial vs) t → AllByRecursion (IsOfPiece k n (length vs)) (places_in k i t)
-readable vs n k i (reference place m) fits small partial = ((refl, (in_signatures vs place (length m.rows) fits.results, fits.from, small)), tt)
-readable vs n k i (constant w) fits small partial = tt
-readable vs n k i (binary g l r) fits small partial =
-    each_append (IsOfPiece k n (length vs)) (places_in k i l) (places_in k (i + length (references l)) r) (readable vs n k i l fits.0 small.1 partial.1) (readable vs n k (i + length (references l)) r fits.1 small.2 partial.2)
-readable vs n k i (choice l c r x y) fits small partial =
+readable : (vs : List Signature) (width n k i : ℕ) (t : Tree) → Fits vs n t → EachPart HasSmallRows t → EachPart (IsOfPartial vs width) t → AllByRecursion (IsOfPiece k n (length vs)) (places_in k i t)
+readable vs width n k i (reference place m) fits small partial = ((refl, (in_signatures vs place (length m.rows) fits.results, fits.from, small)), tt)
+readable vs width n k i (constant w) fits small partial = tt
+readable vs width n k i (binary g l r) fits small partial =
+    each_append (IsOfPiece k n (length vs)) (places_in k i l) (places_in k (i + length (references l)) r) (readable vs width n k i l fits.0 small.1 partial.1) (readable vs width n k (i + length (references l)) r fits.1 small.2 partial.2)
+readable vs width n k i (choice l c r x y) fits small partial =
     let P = IsOfPiece k n (length vs) in
     let ir = i + length (references l) in
     let ix = ir + length (references r) in
@@ -47,14 +47,14 @@ readable vs n k i (choice l c r x y) fits small partial =
     let rr = places_in k ir r in
     let xx = places_in k ix x in
     each_append P (ll ++ rr ++ xx) (places_in k iy y)
-    (each_append P (ll ++ rr) xx (each_append P ll rr (readable vs n k i l fits.0 small.1 partial.1) (readable vs n k ir r fits.1 small.2 partial.2)) (readable vs n k ix x fits.2 small.3 partial.3))
-    (readable vs n k iy y fits.3 small.4 partial.4)
-readable vs n k i (pick place choices w) fits small partial =
+    (each_append P (ll ++ rr) xx (each_append P ll rr (readable vs width n k i l fits.0 small.1 partial.1) (readable vs width n k ir r fits.1 small.2 partial.2)) (readable vs width n k ix x fits.2 small.3 partial.3))
+    (readable vs width n k iy y fits.3 small.4 partial.4)
+readable vs width n k i (pick place choices w) fits small partial =
     ((refl, (in_range vs place partial.0 partial.1, λ j d low. let f = fits j d low in (f.0, f.1.from, small j d low))), tt)
-readable vs n k i (restriction d t) fits small partial = tt
-readable vs n k i (cases ts) fits small partial = tt
-readable vs n k i (dependence m t) fits small partial = tt
-readable vs n k i (reduction o m t set) fits small partial = tt
+readable vs width n k i (restriction d t) fits small partial = tt
+readable vs width n k i (cases ts) fits small partial = tt
+readable vs width n k i (dependence m t) fits small partial = tt
+readable vs width n k i (reduction o m t set) fits small partial = tt
 
 -- of the pieces from number k on
 record IsOfPieces (k : ℕ) (pieces : List Piece) (n count : ℕ) (p : Place) : Type 0 where
@@ -70,7 +70,7 @@ places_are vs v k (q ∷ pieces) h =
     let n = v.domain.dim in
     each_append (IsOfPieces k (q ∷ pieces) n (length vs)) (places_in k 0 q.tree) (places_from (suc k) pieces)
     (each_weaker (IsOfPiece k n (length vs)) (IsOfPieces k (q ∷ pieces) n (length vs)) (λ p x. record { number = 0; number_is = x.0 ∙ omega arith; piece = q; is_piece = refl; fine = x.1 }) (places_in k 0 q.tree)
-    (readable vs n k 0 q.tree h.0.tree.fits h.0.tree.rows h.0.tree.partial))
+    (readable vs v.width n k 0 q.tree h.0.tree.fits h.0.tree.rows h.0.tree.partial))
     (each_weaker (IsOfPieces (suc k) pieces n (length vs)) (IsOfPieces k (q ∷ pieces) n (length vs))
     (λ p x. record { number = suc x.number; number_is = x.number_is ∙ omega arith; piece = x.piece; is_piece = x.is_piece; fine = x.fine }) (places_from (suc k) pieces) (places_are vs v (suc k) pieces h.1))
 

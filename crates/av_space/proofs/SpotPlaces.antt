@@ -34,15 +34,15 @@ IsPlaceBy vs whole p _ = ⊥
 abbrev IsKnown : List Signature → List Reference → Place → Type 0
 IsKnown vs whole p = IsPlaceBy vs whole p p.tree
 
-places_known : (vs : List Signature) (whole : List Reference) (k n : ℕ) (t : Tree) → StandAt n (references t) whole → EachPart (IsOfPartial vs) t → AllByRecursion (IsKnown vs whole) (places_in k n t)
-places_known vs whole k n (reference place m) h partial =
+places_known : (vs : List Signature) (width : ℕ) (whole : List Reference) (k n : ℕ) (t : Tree) → StandAt n (references t) whole → EachPart (IsOfPartial vs width) t → AllByRecursion (IsKnown vs whole) (places_in k n t)
+places_known vs width whole k n (reference place m) h partial =
     let e : n + 0 ≡ n = omega arith in (subst (λ (i : ℕ). slice_get whole i ≡ Some (record { place = place; map = m })) e (h 0 (record { place = place; map = m }) refl), tt)
-places_known vs whole k n (constant w) h partial = tt
-places_known vs whole k n (binary g l r) h partial =
+places_known vs width whole k n (constant w) h partial = tt
+places_known vs width whole k n (binary g l r) h partial =
     each_append (IsKnown vs whole) (places_in k n l) (places_in k (n + length (references l)) r)
-    (places_known vs whole k n l (stand_left n (references l) (references r) whole h) partial.1)
-    (places_known vs whole k (n + length (references l)) r (stand_right n (references l) (references r) whole h) partial.2)
-places_known vs whole k n (choice l c r x y) h partial =
+    (places_known vs width whole k n l (stand_left n (references l) (references r) whole h) partial.1)
+    (places_known vs width whole k (n + length (references l)) r (stand_right n (references l) (references r) whole h) partial.2)
+places_known vs width whole k n (choice l c r x y) h partial =
     let P = IsKnown vs whole in
     let ls = references l in
     let rs = references r in
@@ -57,27 +57,27 @@ places_known vs whole k n (choice l c r x y) h partial =
     let g = length-append ls rs in
     let e2 : n + length (ls ++ rs) ≡ nx = omega (arith, g) in
     let e3 : n + length (ls ++ rs ++ xs) ≡ ny = omega (arith, f, g) in
-    let pl = places_known vs whole k n l (stand_left n ls rs whole two) partial.1 in
-    let pr = places_known vs whole k nr r (stand_right n ls rs whole two) partial.2 in
-    let px = places_known vs whole k nx x (subst (λ (i : ℕ). StandAt i xs whole) e2 (stand_right n (ls ++ rs) xs whole three)) partial.3 in
-    let py = places_known vs whole k ny y (subst (λ (i : ℕ). StandAt i ys whole) e3 (stand_right n (ls ++ rs ++ xs) ys whole h)) partial.4 in
+    let pl = places_known vs width whole k n l (stand_left n ls rs whole two) partial.1 in
+    let pr = places_known vs width whole k nr r (stand_right n ls rs whole two) partial.2 in
+    let px = places_known vs width whole k nx x (subst (λ (i : ℕ). StandAt i xs whole) e2 (stand_right n (ls ++ rs) xs whole three)) partial.3 in
+    let py = places_known vs width whole k ny y (subst (λ (i : ℕ). StandAt i ys whole) e3 (stand_right n (ls ++ rs ++ xs) ys whole h)) partial.4 in
     let la = places_in k n l in
     let ra = places_in k nr r in
     let xa = places_in k nx x in
     let ya = places_in k ny y in
     each_append P (la ++ ra ++ xa) ya (each_append P (la ++ ra) xa (each_append P la ra pl pr) px) py
-places_known vs whole k n (pick place choices w) h partial = (partial, tt)
-places_known vs whole k n (restriction d t) h partial = tt
-places_known vs whole k n (cases ts) h partial = tt
-places_known vs whole k n (dependence m t) h partial = tt
-places_known vs whole k n (reduction o m t set) h partial = tt
+places_known vs width whole k n (pick place choices w) h partial = ((partial.0, partial.1, partial.2), tt)
+places_known vs width whole k n (restriction d t) h partial = tt
+places_known vs width whole k n (cases ts) h partial = tt
+places_known vs width whole k n (dependence m t) h partial = tt
+places_known vs width whole k n (reduction o m t set) h partial = tt
 
 -- of a place of the whole tree
-pub place_known : (vs : List Signature) (k : ℕ) (t : Tree) → EachPart (IsOfPartial vs) t → (p : Place) → Contains (places_in k 0 t) p → IsPlaceBy vs (references t) p p.tree
-place_known vs k t partial p among =
+pub place_known : (vs : List Signature) (width k : ℕ) (t : Tree) → EachPart (IsOfPartial vs width) t → (p : Place) → Contains (places_in k 0 t) p → IsPlaceBy vs (references t) p p.tree
+place_known vs width k t partial p among =
     let i = place_in (places_in k 0 t) p among in
     let whole : StandAt 0 (references t) (references t) = λ j x e. (let a : j ≡ 0 + j = omega arith in subst (λ (m : ℕ). slice_get (references t) m ≡ Some x) a e) in
-    each_at (IsKnown vs (references t)) (places_in k 0 t) (places_known vs (references t) k 0 t whole partial) i.0 p i.1
+    each_at (IsKnown vs (references t)) (places_in k 0 t) (places_known vs width (references t) k 0 t whole partial) i.0 p i.1
 
 pub place_read : (k : ℕ) (t : Tree) (p : Place) → Contains (places_in k 0 t) p → IsPlaceIn k t p
 place_read k t p among = let i = place_in (places_in k 0 t) p among in each_at (IsPlaceIn k t) (places_in k 0 t) (places_are k 0 t) i.0 p i.1

@@ -111,7 +111,7 @@ module _ (a : Array) (is : IsArray a) (at : Spot) (spot : IsSpot a at) where
     p = place_of mine.place
 
     pub known : IsPlaceBy (signatures s) (references piece.tree) p p.tree
-    known = place_known (signatures s) at.number piece.tree chained.tree.partial p placed.is_place
+    known = place_known (signatures s) v.width at.number piece.tree chained.tree.partial p placed.is_place
 
     pub piece_is : p.piece ≡ at.number
     piece_is = (place_read at.number piece.tree p placed.is_place).piece_is

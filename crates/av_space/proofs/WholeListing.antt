@@ -51,10 +51,10 @@ same_number i j small few e = decimal_injective i j small few e
 pub rest_is : (x : ℕ) (a b : List ℕ) → ◌≡◌ {A = List ℕ} (x ∷ a) (x ∷ b) → a ≡ b
 rest_is x a b e = cc
 
-input_once : (i j : ℕ) → i < 2 ^ 64 → j < 2 ^ 64 → input_name i ≡ input_name j → i ≡ j
+pub input_once : (i j : ℕ) → i < 2 ^ 64 → j < 2 ^ 64 → input_name i ≡ input_name j → i ≡ j
 input_once i j small few e = same_number i j small few (rest_is 105 (decimal i) (decimal j) e)
 
-output_once : (i j : ℕ) → i < 2 ^ 64 → j < 2 ^ 64 → output_name i ≡ output_name j → i ≡ j
+pub output_once : (i j : ℕ) → i < 2 ^ 64 → j < 2 ^ 64 → output_name i ≡ output_name j → i ≡ j
 output_once i j small few e = same_number i j small few (rest_is 111 (decimal i) (decimal j) e)
 
 value_once : (i j : ℕ) → i < 2 ^ 64 → j < 2 ^ 64 → value_name i ≡ value_name j → i ≡ j

@@ -2,8 +2,10 @@
 -- a listing on the ports of the array (own form).
 use Rattle.std.specs.Prelude.{◌≡◌, ◌≢◌, ℕ, ◌<◌, pos, ◌⊎◌, List, length, map, All, AllPairs, IsTrue, Some, slice_get, codes}
 use Rattle.std.specs.List.{range_with_len}
+use Rattle.av_affine.specs.declared.map.Map.{Map}
 use Rattle.av_tree.specs.Trees.{Text}
 use Rattle.av_tree.specs.Points.{Point}
+use Rattle.av_flat.specs.declared.timed.Helper.{Helper}
 use Rattle.av_flat.specs.declared.timed.Time.{Time}
 use Rattle.av_flat.specs.declared.timed.Timed.{Timed}
 use Rattle.av_flat.specs.declared.flat.Kind.{Kind}
@@ -17,9 +19,12 @@ use Rattle.av_net.specs.declared.netlist.Port.{Port}
 use Rattle.av_net.specs.declared.design.Entry.{Entry}
 use Rattle.av_net.specs.declared.design.Design.{Design}
 use Rattle.av_net.specs.Presented.{AreApart}
+use Rattle.av_space.specs.declared.cells.Cell.{Cell}
 use Rattle.av_space.specs.declared.cells.Cells.{Cells}
+use Rattle.av_space.specs.declared.cells.InPort.{InPort}
 use Rattle.av_space.specs.Coordinates.{Placing}
 use Rattle.av_space.specs.Occupancy.{Computes}
+use Rattle.av_space.specs.Ports.{IsFed}
 use Rattle.av_space.specs.Listings.{input_name, output_name, value_name}
 use Rattle.av_space.specs.Arrays.{IsArrayOf}
 
@@ -75,15 +80,24 @@ pub record IsWhole (t : Timed) (a : Cells) : Type 0 where
 
 -- ---- designs
 
--- ports of this width with these names, by their numbers
-pub record ArePortsOf (name : ℕ → List ℕ) (number width : ℕ) (ports : List Port) : Type 0 where
-  pub names : map (λ p. p.name) ports ≡ map name (range_with_len 0 number)
-  pub widths : All (λ p. p.width.bits ≡ width) ports
+-- an input port is as wide as the words of the input that is read there
+abbrev pub HasInputWidth : FlatSystem → List Helper → List Placing → Cells → ℕ → ℕ → Type 0
+HasInputWidth s hs placings a k width =
+    (port : InPort) (c : ℕ) (z : Point) (input : Variable) (m : Map) → slice_get a.inputs k ≡ Some port → IsFed s hs placings a.cells port c z input m → width ≡ input.width
 
--- the design carries the listing on the ports of the array, each as wide as the words of the system
+-- and an output port as those of the variable of its cell
+abbrev pub HasOutputWidth : FlatSystem → Cells → ℕ → ℕ → Type 0
+HasOutputWidth s a k width = (p : ℕ) (cell : Cell) (v : Variable) → slice_get a.outputs k ≡ Some p → slice_get a.cells p ≡ Some cell → slice_get (nodes s) cell.node ≡ Some v → width ≡ v.width
+
+-- ports with these names, by their numbers, each of its number's width
+pub record ArePortsOf (name : ℕ → List ℕ) (number : ℕ) (HasWidth : ℕ → ℕ → Type 0) (ports : List Port) : Type 0 where
+  pub names : map (λ p. p.name) ports ≡ map name (range_with_len 0 number)
+  pub widths : All (λ p. (k : ℕ) → p.name ≡ name k → HasWidth k p.width.bits) ports
+
+-- the design carries the listing on the ports of the array
 pub record HasWholeListing (t : Timed) (a : Cells) (d : Design) : Type 0 where
   pub whole : IsWhole t a
   pub listing : d.listing ≡ a.listing
   pub name : d.module.name ≡ codes "array"
-  pub inputs : ArePortsOf input_name (length a.inputs) (view_system t.flat).width d.module.inputs
-  pub outputs : ArePortsOf output_name (length a.outputs) (view_system t.flat).width d.module.outputs
+  pub inputs : ArePortsOf input_name (length a.inputs) (HasInputWidth (view_system t.flat) t.helpers whole.list.placings a) d.module.inputs
+  pub outputs : ArePortsOf output_name (length a.outputs) (HasOutputWidth (view_system t.flat) a) d.module.outputs

@@ -1,7 +1,7 @@
 -- A list of inputs can be presented with a period where no port and cycle is asked for two words: the stream has the listed words of each problem,
 -- and 0 elsewhere.
-use Rattle.std.proofs.Common.{◌≡◌, ◌≢◌, ℕ, zero, suc, ◌+◌, ◌*◌, ◌<◌, List, [], ◌∷◌, length, get_or, map, refl, sym, ap, subst, ◌∙◌, arith, Bool, true, false, if◌then◌else◌, ◌&&◌, ◌||◌, ◌==◌, Some, inl, inr, suc-mul}
-use Rattle.std.specs.Prelude.{All, AllPairs, slice_get}
+use Rattle.std.proofs.Common.{◌≡◌, ◌≢◌, ℕ, zero, suc, ◌+◌, ◌*◌, ◌<◌, List, [], ◌∷◌, length, get_or, map, refl, sym, ap, subst, ◌∙◌, arith, Bool, true, false, if◌then◌else◌, ◌&&◌, ◌||◌, ◌==◌, Some}
+use Rattle.std.specs.Prelude.{All, slice_get}
 use Rattle.std.specs.List.{list_any}
 use Rattle.std.specs.Str.{bytes_eq}
 use Rattle.std.proofs.lemmas.Nat.{pow_pos}
@@ -15,24 +15,11 @@ use Rattle.av_net.specs.declared.design.Entry.{Entry}
 use Rattle.av_net.specs.declared.design.Design.{Design}
 use Rattle.av_net.specs.Clocked.{Stream}
 use Rattle.av_net.specs.Shown.{Values, HasListed, Presents}
-use Rattle.av_net.specs.Presented.{AreApart, HasFittingWord, HaveFittingWords, IsPresentable}
+use Rattle.av_net.specs.Presented.{AreApart, HasFittingWord, HaveFittingWords}
 use Rattle.av_net.proofs.Streams.{listed_word, listed_stream, presents_listed}
 use Rattle.av_space.proofs.ByPlace.{from_map, pair_at, pairs_by_place, all_by_place}
 use Rattle.av_build.specs.Later.{later_line, later_lines, later}
 use Rattle.av_stream.specs.Streams.{PresentsEach, AreApartEach, IsPresentableEach}
-
--- where an input can be presented, each of its listed words fits its port
-pub fitting_words : (d : Design) (x : Values) → IsPresentable d x → HaveFittingWords d x
-fitting_words d x presentable = all_by_place (HasFittingWord d.module.inputs x) d.listing.ins fits
-  where
-    fits : (i : ℕ) (line : Entry) → slice_get d.listing.ins i ≡ Some line → HasFittingWord d.module.inputs x line
-    fits i line is =
-        let p = presentable (line.cycle + 1) in
-        let late : line.cycle < line.cycle + 1 = omega arith in (
-          p.0.in_cycle line.cycle line.wire,
-          sym (all_at (HasListed (line.cycle + 1) p.0.in_cycle x) d.listing.ins i line p.1.points is late),
-          λ k port at e. subst (λ (name : List ℕ). IsWord (get_or d.module.inputs k port).width.bits (p.0.in_cycle line.cycle name)) (sym e) (p.1.fits line.cycle late k port at),
-        )
 
 -- ---- lines at a port in a cycle
 

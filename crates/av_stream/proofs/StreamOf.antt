@@ -14,7 +14,7 @@ use Rattle.av_net.specs.declared.plan.Plan.{Plan}
 use Rattle.av_net.specs.Flat.{flat_of}
 use Rattle.av_net.specs.Presented.{AreApart, HaveFittingWords}
 use Rattle.av_space.specs.declared.cells.Cells.{Cells}
-use Rattle.av_space.proofs.Streams.{presentable}
+use Rattle.av_space.proofs.Streams.{fitting_words}
 use Rattle.av_kinds.specs.declared.counter.Counter.TheVariants.{Phases}
 use Rattle.av_build.specs.ArrayPlans.{IsCountingPlan}
 use Rattle.av_stream.specs.Periods.{HasPeriod}
@@ -22,7 +22,7 @@ use Rattle.av_stream.specs.Streams.{AreApartEach}
 use Rattle.av_stream.specs.StreamPlans.{ShowsSolutions, IsStreamOf}
 use Rattle.av_stream.proofs.Apart.{lines_apart}
 use Rattle.av_stream.proofs.EachProblem.{each_problem}
-use Rattle.av_stream.proofs.Presenting.{fitting_words, presentable_each}
+use Rattle.av_stream.proofs.Presenting.{presentable_each}
 
 module _ (t : Timed) (a : Cells) (legal : IsLegal t) (period : ℕ) (has : HasPeriod t a period) (p : Plan) (counts : IsCountingPlan t a (Phases period) p) where
   abbrev own : FlatSystem
@@ -40,7 +40,7 @@ module _ (t : Timed) (a : Cells) (legal : IsLegal t) (period : ℕ) (has : HasPe
       record {
         one = All-weaker (AreInputs own) (HasOneSolution own) (λ x i. scheduled_once own 4 t.times legal.chained legal.proper legal.schedule x i) xs inputs;
         presentable = presentable_each d period (subst (λ (l : Listing). AreApart l.ins) (sym carries.listing) carries.whole.apart) (subst (λ (l : Listing). AreApartEach l.ins period) (sym carries.listing) apart) xs
-            (All-weaker (AreInputs own) (HaveFittingWords d) (λ x i. fitting_words d x (presentable t a d legal carries x i)) xs inputs);
+            (All-weaker (AreInputs own) (HaveFittingWords d) (λ x i. fitting_words t a d carries x i) xs inputs);
         shows = λ us solve. each_problem t d period (λ k x u s. counts.shows k x u s) xs us solve;
       }
 

@@ -9,7 +9,7 @@ use Rattle.av_net.specs.declared.design.Design.{Design}
 use Rattle.av_net.specs.declared.design.Entry.{Entry}
 use Rattle.av_data.specs.declared.fault.DataFault.{DataFault}
 use Rattle.av_data.specs.declared.sets.DataSet.{DataSet}
-use Rattle.av_data.specs.Inputs.{AreInputsOf}
+use Rattle.av_flat.specs.OneSolution.{AreInputs}
 use Rattle.av_cli.specs.Commands.{GiveSizes}
 use Rattle.av_cli.specs.Eights.{RefusesEight, GivesEight, set_lines}
 use Rattle.av_cli.specs.Refusals.{data_reason}
@@ -47,7 +47,7 @@ pub record AreResultsOfSets (timed : Timed) (design : Design) (inputs : List Ass
 pub record GivesEightOf (timed : Timed) (design : Design) (sets : List DataSet) (out : List ℕ) : Type 0 where
   pub inputs : List Assignment
   pub spelled : AreSpelled (view_system timed.flat) sets inputs
-  pub are : (k : ℕ) (x : Assignment) → slice_get inputs k ≡ Some x → AreInputsOf (view_system timed.flat) x
+  pub are : (k : ℕ) (x : Assignment) → slice_get inputs k ≡ Some x → AreInputs (view_system timed.flat) x
   pub gives : AreResultsOfSets timed design inputs out
 
 -- ---- what is written

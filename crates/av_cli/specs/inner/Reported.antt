@@ -18,7 +18,7 @@ use Rattle.av_net.specs.PlanTexts.{text2}
 use Rattle.av_space.specs.declared.cells.Cells.{Cells}
 use Rattle.av_data.specs.declared.fault.DataFault.{DataFault}
 use Rattle.av_data.specs.Data.{SpellsInputs, IsInputFault}
-use Rattle.av_data.specs.Inputs.{AreInputsOf}
+use Rattle.av_flat.specs.OneSolution.{AreInputs}
 use Rattle.av_cli.specs.declared.runs.Report.{Report}
 use Rattle.av_cli.specs.declared.runs.Report.TheVariants.{Results, Trace, Wave}
 use Rattle.av_cli.specs.Commands.{GiveSizes}
@@ -55,7 +55,7 @@ pub record IsClockable (timed : Timed) (design : Design) : Type 0 where
   pub chained : IsChained (view_system timed.flat)
   pub sound : IsSoundDesign design
   pub apart : AreApart design.listing.ins
-  pub fitting : (x : Assignment) → AreInputsOf (view_system timed.flat) x → HaveFittingWords design x
+  pub fitting : (x : Assignment) → AreInputs (view_system timed.flat) x → HaveFittingWords design x
 
 -- one of the outputs has this name
 abbrev pub is_output_named : List ℕ → Variable → Bool
@@ -95,5 +95,5 @@ IsReport Wave timed cells plan design x out = IsDumpOf cells design x out
 pub record GivesReported (report : Report) (timed : Timed) (cells : Cells) (plan : Plan) (design : Design) (bytes out : List ℕ) : Type 0 where
   pub inputs : Assignment
   pub spelled : SpellsInputs (view_system timed.flat) bytes inputs
-  pub are : AreInputsOf (view_system timed.flat) inputs
+  pub are : AreInputs (view_system timed.flat) inputs
   pub reports : IsReport report timed cells plan design inputs out

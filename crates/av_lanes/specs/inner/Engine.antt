@@ -10,6 +10,7 @@ use Rattle.av_clock.specs.Merged.{merged, AreMerged}
 use Rattle.av_clock.specs.Named.{named, AllFit}
 use Rattle.av_lanes.specs.declared.engine.Engine.TheInside.{Inside}
 use Rattle.av_lanes.specs.Seen.{Seen, lane}
+use Rattle.av_lanes.specs.inner.Order.{AreMoves}
 
 -- the words of all places, each read at its source
 abbrev pub at_sources : List ℕ → List (List ℕ) → List (List ℕ)
@@ -25,8 +26,8 @@ pub record IsLane (m : Module) (words : List ℕ) (stale due : List Bool) (dense
   pub zeros : AreZero m words
   pub held : dense ≡ false → AreHeld m words stale due
 
--- the circuit of the merged module, a word for each name in each of eight lanes, room for the next words and their steps, and a mark
--- for each drive and each step
+-- the circuit of the merged module, a word for each name in each of eight lanes, room for the next words and their steps, the
+-- flip-flops in order, where they say so, and a mark for each drive and each step
 pub record IsKept (c : Inside) : Type 0 where
   pub sound : IsSound c.of.now
   pub sources : AreMerged c.of.now c.sources.items
@@ -35,6 +36,7 @@ pub record IsKept (c : Inside) : Type 0 where
   pub size : length c.words.items ≡ length (all_names c.circuit)
   pub next : length c.next.items ≡ length c.circuit.steps
   pub taken : length c.taken.items ≡ length c.circuit.steps
+  pub moves : IsTrue c.moves.are_ordered → AreMoves c.circuit c.moves.flip_flops.items
   pub stale : length c.stale ≡ length c.circuit.drives
   pub due : length c.due ≡ length c.circuit.steps
   pub lanes : (k : ℕ) → k < 8 → IsLane c.circuit (lane k c.words.items) c.stale c.due c.dense c.settled

@@ -2,14 +2,15 @@ use Rattle.std.proofs.Common.{refl}
 use Rattle.std.proofs.lemmas.List.Elements.{All-weaker}
 use Rattle.av_flat.specs.Trees.{view_system}
 use Rattle.av_net.specs.Presented.{HaveFittingWords}
-use Rattle.av_data.specs.Inputs.{InputWords, words_of, AreInputsOf}
+use Rattle.av_data.specs.Inputs.{InputWords, words_of}
+use Rattle.av_flat.specs.OneSolution.{AreInputs}
 use Rattle.av_cli.proofs.SetOutputs.{all_long, sets_put, sets_failed}
 use Rattle.av_cli.proofs.eight.put_sets.Goals as goal
 
 pub shown_in_lanes-requires-clause-words : goal.shown_in_lanes-requires-clause-words
 shown_in_lanes-requires-clause-words g c =
     let compiled = c.args.compiled.now in
-    All-weaker (λ (x : InputWords). AreInputsOf (view_system compiled.timed.flat) (words_of x)) (λ (x : InputWords). HaveFittingWords compiled.design (words_of x))
+    All-weaker (λ (x : InputWords). AreInputs (view_system compiled.timed.flat) (words_of x)) (λ (x : InputWords). HaveFittingWords compiled.design (words_of x))
     (λ x are. c.requires.clockable.fitting (words_of x) are) c.args.inputs.now c.requires.inputs
 
 pub write_sets-requires : goal.write_sets-requires

@@ -53,7 +53,7 @@ returns g c =
     let box = c.args.reach.size in
     let text = c.in-Some.parts.text.now in
     let S = g.K.Sink.state in
-    eight_given text c.in-Ok.sizes bits box made.timed made.cells made.plan (omega (arith, c.in-Some.ensures.within, c.requires))
+    eight_given text c.in-Ok.sizes bits box made.timed made.cells made.plan (omega (arith, c.in-Some.ensures.within, c.requires)) c.args.width.least
     (subst (λ (xs : List Size). Headline text xs bits box made.timed made.cells made.plan) c.as_slice.ensures c.in-Ok-compile.ensures.headline)
     (subst (λ (xs : List Size). IsMapped text xs bits box made.timed made.cells) c.as_slice.ensures c.in-Ok-compile.ensures.mapped)
     made.design c.in-Ok-compile.ensures.design c.in-Some.parts.rest.now c.args.bytes.now c.in-Some.parts.first_line c.in-Ok-data_sets.sets c.in-Some.ensures.some c.in-Ok-data_sets.ensures.sets (omega arith) c.args.words.now c.in-Ok.ensures.given

@@ -1,15 +1,16 @@
 use Rattle.std.proofs.Common.{ℕ, List, length, sym, subst, arith}
 use Rattle.std.proofs.lemmas.List.Elements.{All-weaker}
 use Rattle.av_flat.specs.Trees.{view_system}
+use Rattle.av_flat.specs.OneSolution.{AreInputs}
 use Rattle.av_net.specs.declared.design.Listing.{Listing}
 use Rattle.av_net.specs.Flat.{flat_of}
 use Rattle.av_net.specs.Presented.{HaveFittingWords}
 use Rattle.av_stream.specs.Streams.{AreApartEach}
 use Rattle.av_stream.proofs.Counted.{counts}
-use Rattle.av_data.specs.Inputs.{InputWords, words_of, AreInputsOf}
+use Rattle.av_data.specs.Inputs.{InputWords, words_of}
 use Rattle.av_cli.proofs.FedEach.{few_starts}
 use Rattle.av_cli.proofs.Outputs.{puts_more}
-use Rattle.av_cli.proofs.Reporting.{plan_fitting}
+use Rattle.av_space.proofs.Streams.{fitting_words}
 use Rattle.av_cli.proofs.stream.put_stream.Goals as goal
 
 pub clock_plan-requires-clause-plan : goal.clock_plan-requires-clause-plan
@@ -25,8 +26,8 @@ pub clock_plan-requires-clause-words : goal.clock_plan-requires-clause-words
 clock_plan-requires-clause-words g c =
     let a = c.args.array.now in
     let plan = c.in-Ok.streamed.plan in
-    All-weaker (λ (x : InputWords). AreInputsOf (view_system a.timed.flat) (words_of x)) (λ (x : InputWords). HaveFittingWords (flat_of plan) (words_of x))
-    (λ x are. plan_fitting a.timed a.cells plan c.in-Ok.ensures.is_plan.carries (words_of x) are) c.args.inputs.now c.requires.words
+    All-weaker (λ (x : InputWords). AreInputs (view_system a.timed.flat) (words_of x)) (λ (x : InputWords). HaveFittingWords (flat_of plan) (words_of x))
+    (λ x are. fitting_words a.timed a.cells (flat_of plan) c.in-Ok.ensures.is_plan.carries (words_of x) are) c.args.inputs.now c.requires.words
 
 pub clock_plan-requires-clause-few : goal.clock_plan-requires-clause-few
 clock_plan-requires-clause-few g c =

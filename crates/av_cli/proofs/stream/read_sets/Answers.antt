@@ -5,10 +5,11 @@ use Rattle.std.proofs.lemmas.Option.{slice_get-get_or}
 use Rattle.std.proofs.lemmas.List.Elements.{All-push}
 use Rattle.av_base.proofs.Lists.{all_at}
 use Rattle.av_flat.specs.Trees.{view_system}
+use Rattle.av_flat.specs.OneSolution.{AreInputs}
 use Rattle.av_data.specs.declared.fault.DataFault.{DataFault}
 use Rattle.av_data.specs.declared.fault.DataFault.TheVariants as data_fault
 use Rattle.av_data.specs.declared.sets.DataSet.{DataSet}
-use Rattle.av_data.specs.Inputs.{InputWords, words_of, AreInputsOf}
+use Rattle.av_data.specs.Inputs.{InputWords, words_of}
 use Rattle.av_cli.specs.Streams.{IsFirstBadSet}
 use Rattle.av_cli.proofs.SetsRead.{read_more, all_read, first_bad, if_answered}
 use Rattle.av_cli.proofs.stream.read_sets.Goals as goal
@@ -54,8 +55,8 @@ loop-set-preserved c =
     record {
       read = read_more s sets n (map words_of inputs) (map words_of c.push.new.self) set (words_of read) c.loop-set.invariant.read there c.in_ok-read_data.ensures.found
           (ap (map words_of) c.in_ok-push.ensures.ok ∙ map-append words_of inputs (read ∷ []));
-      words = subst (λ (xs : List InputWords). All (λ (x : InputWords). AreInputsOf s (words_of x)) xs) (sym c.in_ok-push.ensures.ok)
-          (All-push (λ (x : InputWords). AreInputsOf s (words_of x)) inputs read c.loop-set.invariant.words c.in_ok-read_data.ensures.inputs);
+      words = subst (λ (xs : List InputWords). All (λ (x : InputWords). AreInputs s (words_of x)) xs) (sym c.in_ok-push.ensures.ok)
+          (All-push (λ (x : InputWords). AreInputs s (words_of x)) inputs read c.loop-set.invariant.words c.in_ok-read_data.ensures.inputs);
     }
 
 pub returns-clause-spelled : goal.returns-clause-spelled

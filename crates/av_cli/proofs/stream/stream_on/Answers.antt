@@ -1,8 +1,9 @@
 use Rattle.std.proofs.Common.{◌≡◌, ◌∙◌, ◌+◌, ◌<◌, List, All, length, map, ap, sym, subst, arith}
 use Rattle.av_data.specs.declared.fault.DataFault.TheVariants as data_fault
 use Rattle.av_data.specs.declared.sets.DataSet.{DataSet}
-use Rattle.av_data.specs.Inputs.{InputWords, words_of, AreInputsOf}
+use Rattle.av_data.specs.Inputs.{InputWords, words_of}
 use Rattle.av_flat.specs.Trees.{view_system}
+use Rattle.av_flat.specs.OneSolution.{AreInputs}
 use Rattle.av_cli.specs.Streams.{stream_cycles, AreSpelled, IsFirstBadSet}
 use Rattle.av_cli.specs.inner.Streaming.{GivesSets, IsStreamOn}
 use Rattle.av_cli.specs.inner.Outputs.{PutsOneOf}
@@ -38,7 +39,7 @@ returns-in-Err-read_sets g c =
 
 pub put_stream-requires-clause-words : goal.put_stream-requires-clause-words
 put_stream-requires-clause-words g c =
-    subst (λ (xs : List InputWords). All (λ (x : InputWords). AreInputsOf (view_system c.args.array.now.timed.flat) (words_of x)) xs) (sym c.as_slice-in-Ok-read_sets.ensures) c.in-Ok-read_sets.ensures.words
+    subst (λ (xs : List InputWords). All (λ (x : InputWords). AreInputs (view_system c.args.array.now.timed.flat) (words_of x)) xs) (sym c.as_slice-in-Ok-read_sets.ensures) c.in-Ok-read_sets.ensures.words
 
 pub put_stream-requires-clause-short : goal.put_stream-requires-clause-short
 put_stream-requires-clause-short g c = λ other has.

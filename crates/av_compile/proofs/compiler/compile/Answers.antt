@@ -14,14 +14,8 @@ returns-in_err-timed-clause-refused c = λ f is not_memory.
     let was : c.mapped.result ≡ Err f = cc in
     c.mapped.ensures.refused f was not_memory
 
-pub flatten-requires : goal.flatten-requires
-flatten-requires c = c.in_ok-plan.ensures.is_plan.sound
-
 pub returns-in_err-plan-clause-complete : goal.returns-in_err-plan-clause-complete
 returns-in_err-plan-clause-complete c = λ t h has. memory_only c.from_residual-in_err-plan.result refusal.Memory c.from_residual-in_err-plan.ensures.1 refl
-
-pub returns-in_err-design-clause-complete : goal.returns-in_err-design-clause-complete
-returns-in_err-design-clause-complete c = λ t h has. memory_only c.from_residual-in_err-design.result refusal.Memory c.from_residual-in_err-design.ensures.1 refl
 
 pub returns-in_err-flat-clause-complete : goal.returns-in_err-flat-clause-complete
 returns-in_err-flat-clause-complete c = λ t h has. memory_only c.from_residual-in_err-flat.result refusal.Memory c.from_residual-in_err-flat.ensures.1 refl
@@ -29,8 +23,8 @@ returns-in_err-flat-clause-complete c = λ t h has. memory_only c.from_residual-
 pub returns-clause-headline : goal.returns-clause-headline
 returns-clause-headline c =
     let array = c.in_ok-timed.field-0 in
-    headline c.args.bytes.now c.args.sizes.now c.args.width.bits c.args.reach.size array.timed array.cells c.in_ok-plan.plan c.requires.short c.args.width.least
-    c.in_ok-timed.ensures.found c.in_ok-plan.ensures c.in_ok-timed.ensures.one_solution
+    headline c.args.bytes.now c.args.sizes.now c.args.width.bits c.args.reach.size array.timed array.cells c.in_ok-plan.field-0.plan c.requires.short c.args.width.least
+    c.in_ok-timed.ensures.found c.in_ok-plan.ensures.plan c.in_ok-timed.ensures.one_solution
 
 -- ---- each cause has its answer
 
@@ -40,9 +34,6 @@ returns-in_err-timed-clause-cause c =
 
 pub returns-in_err-plan-clause-cause : goal.returns-in_err-plan-clause-cause
 returns-in_err-plan-clause-cause c = answered_memory (IsUnmapped c.args.bytes.now c.args.sizes.now c.args.width.bits c.args.reach.size) (one_unmapped c.args.bytes.now c.args.sizes.now c.args.width.bits c.args.reach.size) c.from_residual-in_err-plan.result c.from_residual-in_err-plan.ensures.1
-
-pub returns-in_err-design-clause-cause : goal.returns-in_err-design-clause-cause
-returns-in_err-design-clause-cause c = answered_memory (IsUnmapped c.args.bytes.now c.args.sizes.now c.args.width.bits c.args.reach.size) (one_unmapped c.args.bytes.now c.args.sizes.now c.args.width.bits c.args.reach.size) c.from_residual-in_err-design.result c.from_residual-in_err-design.ensures.1
 
 pub returns-in_err-flat-clause-cause : goal.returns-in_err-flat-clause-cause
 returns-in_err-flat-clause-cause c = answered_memory (IsUnmapped c.args.bytes.now c.args.sizes.now c.args.width.bits c.args.reach.size) (one_unmapped c.args.bytes.now c.args.sizes.now c.args.width.bits c.args.reach.size) c.from_residual-in_err-flat.result c.from_residual-in_err-flat.ensures.1

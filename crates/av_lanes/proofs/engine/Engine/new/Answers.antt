@@ -10,6 +10,9 @@ use Rattle.av_lanes.proofs.LaneStates.{kept_new, new_lane}
 use Rattle.av_lanes.proofs.Vectors.{zeros}
 use Rattle.av_lanes.proofs.engine.Engine.new.Goals as goal
 
+pub new-requires-3 : goal.new-requires-3
+new-requires-3 c = subst IsSound (sym c.in_ok-circuit.ensures) c.in_ok-merged.ensures.safe
+
 pub returns-clause-words : goal.returns-clause-words
 returns-clause-words c k lt =
     let same : c.in_ok-merged.merged.sources.items ≡ c.in_ok-sources.sources.items = search (rules, same_from_all_zip) in
@@ -28,6 +31,7 @@ invariant_of-result c =
       size = sym c.in_ok-words.words.ok.0 ∙ c.in_ok-words.ensures.len ∙ c.size.ensures;
       next = sym c.in_ok-next.next.ok.0 ∙ c.in_ok-next.ensures.len ∙ c.steps.ensures;
       taken = sym c.in_ok-taken.taken.ok.0 ∙ c.in_ok-taken.ensures.len ∙ c.steps-2.ensures;
+      moves = c.in_ok-moves.ensures;
       stale = ap length c.in_ok-stale.ensures ∙ length-replicate c.drives.result false ∙ c.drives.ensures;
       due = ap length c.in_ok-due.ensures ∙ length-replicate c.steps-3.result false ∙ c.steps-3.ensures;
       lanes = λ k lt. kept_new c.in_ok-circuit.circuit k c.size.result c.in_ok-words.words.items zeros _ _ (c.in_ok-words.ensures.items_if_clones_equal (λ y same. same)) (get_or-replicate 8 k 0 0 lt);

@@ -37,6 +37,7 @@ invariant_of-self c = record {
   size = size_after c.self.inside.words _ c.reset.new.words c.reset.auto.words c.deref_mut.ensures.value ∙ c.self.invariant.size;
   next = size_after c.self.inside.next _ c.reset.new.next c.reset.auto.next c.deref_mut-2.ensures.value ∙ c.self.invariant.next;
   taken = size_call c.self.inside.taken _ c.reset.new.taken c.reset.auto.taken c.deref_mut-3.ensures.value ∙ c.self.invariant.taken;
+  moves = c.self.invariant.moves;
   stale = c.reset.ensures.stale ∙ c.self.invariant.stale;
   due = c.reset.ensures.due ∙ c.self.invariant.due;
   lanes = λ k lt. kept_edge c.self.inside.circuit (lane k c.self.inside.words.items) (lane k (with_items c.self.inside.words c.reset.new.words).items) c.reset.new.stale c.reset.new.due c.self.inside.dense c.self.invariant.safe (after_call (λ old new. AllFit c.self.inside.circuit (lane k new)) c.self.inside.words _ c.reset.new.words c.reset.auto.words c.deref_mut.ensures.value (c.reset.ensures.fit k lt)) (c.self.invariant.lanes k lt).zeros (after_call (λ old new. (name : List ℕ) → (Contains (registers_of c.self.inside.circuit.steps) name → ⊥) → named c.self.inside.circuit (lane k new) name ≡ named c.self.inside.circuit (lane k old) name) c.self.inside.words _ c.reset.new.words c.reset.auto.words c.deref_mut.ensures.value (c.reset.ensures.others k lt))

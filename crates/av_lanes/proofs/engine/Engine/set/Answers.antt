@@ -43,6 +43,7 @@ invariant_of-self c = record {
   size = size_after c.self.inside.words _ c.present.new.words c.present.auto.words c.deref_mut.ensures.value ∙ c.self.invariant.size;
   next = c.self.invariant.next;
   taken = c.self.invariant.taken;
+  moves = c.self.invariant.moves;
   stale = c.present.ensures.stale ∙ c.self.invariant.stale;
   due = c.present.ensures.due ∙ c.self.invariant.due;
   lanes = λ k lt. kept_set c.self.inside.circuit (lane k c.self.inside.words.items) (lane k (with_items c.self.inside.words c.present.new.words).items) c.self.inside.stale c.present.new.stale c.self.inside.due c.present.new.due c.self.inside.dense c.self.inside.settled c.args.port (get_or c.args.values k 0) c.self.invariant.safe (lane_long k c.self.inside.circuit c.self.inside.words.items c.self.invariant.size) (c.self.invariant.lanes k lt) (port_within c.args.self.now c.self.inside.of.now c.self.inside.circuit c.self.inside.sources.items c.self.inside.words.items c.self.inside.settled c.args.port c.self.view_is c.self.invariant.circuit c.requires.port)

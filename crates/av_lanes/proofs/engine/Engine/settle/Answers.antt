@@ -37,6 +37,7 @@ invariant_of-self c = record {
   size = size_after c.self.inside.words _ c.settle_marked-computed.new.words c.settle_marked-computed.auto.words c.deref_mut.ensures.value ∙ c.self.invariant.size;
   next = c.self.invariant.next;
   taken = c.self.invariant.taken;
+  moves = c.self.invariant.moves;
   stale = c.settle_marked-computed.ensures.stale ∙ c.self.invariant.stale;
   due = c.settle_marked-computed.ensures.due ∙ c.self.invariant.due;
   lanes = λ k lt. kept_settled c.self.inside.circuit (lane k (with_items c.self.inside.words c.settle_marked-computed.new.words).items) c.settle_marked-computed.new.stale c.settle_marked-computed.new.due c.self.inside.dense (after_call (λ old new. AllFit c.self.inside.circuit (lane k new)) c.self.inside.words _ c.settle_marked-computed.new.words c.settle_marked-computed.auto.words c.deref_mut.ensures.value (c.settle_marked-computed.ensures.fit k lt)) (after_call (λ old new. Settled c.self.inside.circuit (named c.self.inside.circuit (lane k new))) c.self.inside.words _ c.settle_marked-computed.new.words c.settle_marked-computed.auto.words c.deref_mut.ensures.value (c.settle_marked-computed.ensures.settled k lt)) (λ some. (after_call (λ old new. AreHeld c.self.inside.circuit (lane k new) c.settle_marked-computed.new.stale c.settle_marked-computed.new.due) c.self.inside.words _ c.settle_marked-computed.new.words c.settle_marked-computed.auto.words c.deref_mut.ensures.value (c.settle_marked-computed.ensures.held k lt)));

@@ -37,6 +37,7 @@ invariant_of-self c = record {
   size = size_after c.self.inside.words _ c.settle.new.words c.settle.auto.words c.deref_mut.ensures.value ∙ c.self.invariant.size;
   next = c.self.invariant.next;
   taken = c.self.invariant.taken;
+  moves = c.self.invariant.moves;
   stale = c.self.invariant.stale;
   due = c.self.invariant.due;
   lanes = λ k lt. kept_settled c.self.inside.circuit (lane k (with_items c.self.inside.words c.settle.new.words).items) c.self.inside.stale c.self.inside.due true (after_call (λ old new. AllFit c.self.inside.circuit (lane k new)) c.self.inside.words _ c.settle.new.words c.settle.auto.words c.deref_mut.ensures.value (c.settle.ensures.fit k lt)) (after_call (λ old new. Settled c.self.inside.circuit (named c.self.inside.circuit (lane k new))) c.self.inside.words _ c.settle.new.words c.settle.auto.words c.deref_mut.ensures.value (c.settle.ensures.settled k lt)) (λ some. absurd (let e : true ≡ false = some in cc));

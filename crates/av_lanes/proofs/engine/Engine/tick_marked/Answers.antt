@@ -49,6 +49,7 @@ invariant_of-self c = record {
   size = size_after c.self.inside.words _ c.tick_marked.new.words c.tick_marked.auto.words c.deref_mut.ensures.value ∙ c.self.invariant.size;
   next = size_after c.self.inside.next _ c.tick_marked.new.next c.tick_marked.auto.next c.deref_mut-2.ensures.value ∙ c.self.invariant.next;
   taken = size_call c.self.inside.taken _ c.tick_marked.new.taken c.tick_marked.auto.taken c.deref_mut-3.ensures.value ∙ c.self.invariant.taken;
+  moves = c.self.invariant.moves;
   stale = c.tick_marked.ensures.stale ∙ anew_size c.self.inside.dense false c.self.inside.stale c.mark_anew.new.stale (λ t. (c.mark_anew.ensures.dense t).0) (λ f. (c.mark_anew.ensures.kept f).0) ∙ c.self.invariant.stale;
   due = c.tick_marked.ensures.due ∙ anew_size c.self.inside.dense true c.self.inside.due c.mark_anew.new.due (λ t. (c.mark_anew.ensures.dense t).1) (λ f. (c.mark_anew.ensures.kept f).1) ∙ c.self.invariant.due;
   lanes = λ k lt. kept_edge c.self.inside.circuit (lane k c.self.inside.words.items) (lane k (with_items c.self.inside.words c.tick_marked.new.words).items) c.tick_marked.new.stale c.tick_marked.new.due false c.self.invariant.safe (after_call (λ old new. AllFit c.self.inside.circuit (lane k new)) c.self.inside.words _ c.tick_marked.new.words c.tick_marked.auto.words c.deref_mut.ensures.value (c.tick_marked.ensures.fit k lt)) (c.self.invariant.lanes k lt).zeros (after_call (λ old new. (name : List ℕ) → (Contains (registers_of c.self.inside.circuit.steps) name → ⊥) → named c.self.inside.circuit (lane k new) name ≡ named c.self.inside.circuit (lane k old) name) c.self.inside.words _ c.tick_marked.new.words c.tick_marked.auto.words c.deref_mut.ensures.value (c.tick_marked.ensures.others k lt)) (λ some. (after_call (λ old new. AreHeld c.self.inside.circuit (lane k new) c.tick_marked.new.stale c.tick_marked.new.due) c.self.inside.words _ c.tick_marked.new.words c.tick_marked.auto.words c.deref_mut.ensures.value (c.tick_marked.ensures.held k lt)));

@@ -1,6 +1,6 @@
 use Rattle.std.proofs.Common.{refl}
 use Rattle.av_cli.proofs.Outputs.{summed_put, summed_failed}
-use Rattle.av_cli.proofs.demo.multiply.Goals as goal
+use Rattle.av_cli.proofs.demo.put_product.Goals as goal
 
 pub returns-in-Ok-write_lines : goal.returns-in-Ok-write_lines
 returns-in-Ok-write_lines g c =

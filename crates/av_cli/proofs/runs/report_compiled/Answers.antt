@@ -3,7 +3,7 @@ use Rattle.av_data.specs.Inputs.{words_of}
 use Rattle.av_cli.specs.declared.runs.Report.{Report}
 use Rattle.av_cli.specs.inner.Reported.{GivesReported, IsReport}
 use Rattle.av_cli.proofs.Outputs.{data_refused, puts_given}
-use Rattle.av_cli.proofs.runs.report_on.Goals as goal
+use Rattle.av_cli.proofs.runs.report_compiled.Goals as goal
 
 pub returns-in-Err : goal.returns-in-Err
 returns-in-Err g c =

@@ -1,15 +1,16 @@
 use Rattle.std.proofs.Common.{List, All, map, sym, subst}
 use Rattle.av_data.specs.declared.fault.DataFault.TheVariants as data_fault
-use Rattle.av_data.specs.Inputs.{InputWords, words_of, AreInputsOf}
+use Rattle.av_data.specs.Inputs.{InputWords, words_of}
+use Rattle.av_flat.specs.OneSolution.{AreInputs}
 use Rattle.av_flat.specs.Trees.{view_system}
 use Rattle.av_cli.specs.inner.Eighting.{GivesEightOf, AreResultsOfSets}
 use Rattle.av_cli.specs.inner.Outputs.{PutsOneOf}
 use Rattle.av_cli.proofs.EightAnswers.{set_refused, sets_answered}
-use Rattle.av_cli.proofs.eight.answer_sets.Goals as goal
+use Rattle.av_cli.proofs.eight.answer_each_set.Goals as goal
 
 pub put_sets-requires-clause-inputs : goal.put_sets-requires-clause-inputs
 put_sets-requires-clause-inputs g c =
-    subst (λ (xs : List InputWords). All (λ (x : InputWords). AreInputsOf (view_system c.args.compiled.now.timed.flat) (words_of x)) xs) (sym c.as_slice.ensures) c.in-Ok.ensures.words
+    subst (λ (xs : List InputWords). All (λ (x : InputWords). AreInputs (view_system c.args.compiled.now.timed.flat) (words_of x)) xs) (sym c.as_slice.ensures) c.in-Ok.ensures.words
 
 pub returns-in-Err : goal.returns-in-Err
 returns-in-Err g c =

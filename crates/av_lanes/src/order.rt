@@ -1,0 +1,185 @@
+//! An order of the flip-flops in which each may take its word at once: none reads a register that an earlier one has stored.
+
+ghost use Rattle.std.specs.Prelude.{◌≡◌, length, replicate, false, IfOk, IsTrue};
+ghost use Rattle.av_net.specs.Names.{all_names};
+ghost use Rattle.av_net.specs.Sound.{IsSound};
+ghost use Rattle.av_clock.specs.Gates.{IsWithin};
+ghost use Rattle.av_lanes.specs.inner.Order.{AreMoves, IsOrder, IsUnread, AreMarked};
+
+use av_base::Memory;
+use av_clock::{Circuit, FlipFlop, Reading};
+use std::alloc::Global;
+
+/// The flip-flops in such an order, where there is one. There is none where registers stand in a circle.
+#[derive(Drop)]
+pub(crate) struct Moves {
+    pub(crate) are_ordered: bool,
+    pub(crate) flip_flops: Vec<FlipFlop>,
+}
+
+impl Moves {
+    /// Those of a circuit.
+    pub(crate) fn new(alloc: Global, circuit: &Circuit<'_>) -> Result<Moves, Memory>
+        requires { IsSound circuit.now }
+        ensures { IfOk result (λ moves. IsTrue moves.are_ordered → AreMoves circuit.now moves.flip_flops.items) }
+    {
+        let reads = reads(alloc, circuit)?;
+        let order = ordered(alloc, &reads)?;
+        let mut stored = vec![in alloc; false; circuit.size()]?;
+        if !is_order(circuit, &order, &mut stored) {
+            return Ok(Moves {
+                are_ordered: false,
+                flip_flops: Vec::new(alloc),
+            });
+        }
+        let flip_flops = in_order(alloc, circuit, &order)?;
+        Ok(Moves {
+            are_ordered: true,
+            flip_flops,
+        })
+    }
+}
+
+// Enters at the place of each register its step.
+fn enter_steps(circuit: &Circuit<'_>, steps: &mut [usize])
+    requires size { length steps.old ≡ length (all_names circuit.now) }
+{
+    for (i, flip_flop) in circuit.flip_flops().iter().enumerate() {
+        steps[flip_flop.register] = i;
+    }
+}
+
+// The step that is entered at the place of a reading, and else none.
+fn step_read(reading: Reading, steps: &[usize], none: usize) -> usize
+    requires { IsWithin (length steps.now) reading }
+{
+    match reading {
+        Reading::At(place) => steps[place],
+        Reading::Constant(_) => none,
+    }
+}
+
+// Enters for each step the other one whose register it reads, where there is one.
+fn enter_reads(circuit: &Circuit<'_>, steps: &[usize], reads: &mut [usize])
+    requires size { length steps.now ≡ length (all_names circuit.now) }
+    requires reads { length reads.old ≡ length circuit.now.steps }
+{
+    let none = circuit.steps();
+    for (i, flip_flop) in circuit.flip_flops().iter().enumerate() {
+        let read = step_read(flip_flop.next, steps, none);
+        if read != i {
+            reads[i] = read;
+        }
+    }
+}
+
+// Of each step the other step whose register it reads, and else the number of steps.
+fn reads(alloc: Global, circuit: &Circuit<'_>) -> Result<Vec<usize>, Memory> {
+    let mut steps = vec![in alloc; circuit.steps(); circuit.size()]?;
+    enter_steps(circuit, &mut steps);
+    let mut reads = vec![in alloc; circuit.steps(); circuit.steps()]?;
+    enter_reads(circuit, &steps, &mut reads);
+    Ok(reads)
+}
+
+// How many others read the register of each step.
+fn readers(alloc: Global, reads: &[usize]) -> Result<Vec<usize>, Memory> {
+    let mut readers = vec![in alloc; 0usize; reads.len()]?;
+    for read in reads {
+        if *read < readers.len() {
+            readers[*read] = readers[*read].wrapping_add(1);
+        }
+    }
+    Ok(readers)
+}
+
+// The steps whose register no other reads.
+fn unread(alloc: Global, readers: &[usize]) -> Result<Vec<usize>, Memory> {
+    let mut steps = Vec::new(alloc);
+    for (i, count) in readers.iter().enumerate() {
+        if *count == 0 {
+            steps.push(i)?;
+        }
+    }
+    Ok(steps)
+}
+
+// The steps in an order in which each stands before the one whose register it reads, but those in circles and what these read.
+fn ordered(alloc: Global, reads: &[usize]) -> Result<Vec<usize>, Memory> {
+    let mut readers = readers(alloc, reads)?;
+    let mut order = unread(alloc, &readers)?;
+    for i in 0..reads.len() {
+        if i >= order.len() {
+            break;
+        }
+        let step = order[i];
+        if step < reads.len() {
+            let read = reads[step];
+            if read < readers.len() {
+                readers[read] = readers[read].wrapping_sub(1);
+                if readers[read] == 0 {
+                    order.push(read)?;
+                }
+            }
+        }
+    }
+    Ok(order)
+}
+
+// Whether a reading is of no place that is marked.
+fn is_unread(reading: Reading, stored: &[bool]) -> bool
+    requires { IsWithin (length stored.now) reading }
+    ensures { IsTrue result → IsUnread stored.now reading }
+{
+    match reading {
+        Reading::At(place) => !stored[place],
+        Reading::Constant(_) => true,
+    }
+}
+
+// Whether all steps stand in the order, and none behind one whose register it reads. Marks the places of the registers.
+fn is_order(circuit: &Circuit<'_>, order: &[usize], stored: &mut [bool]) -> bool
+    requires sound { IsSound circuit.now }
+    requires none { stored.old ≡ replicate (length (all_names circuit.now)) false }
+    ensures { IsTrue result → IsOrder circuit.now order.now }
+{
+    let flip_flops = circuit.flip_flops();
+    for i in 0..order.len() {
+        let step = order[i];
+        if step >= flip_flops.len() {
+            return false;
+        }
+        if !is_unread(flip_flops[step].next, stored) {
+            return false;
+        }
+        stored[flip_flops[step].register] = true;
+    }
+    are_stored(circuit, stored)
+}
+
+// Whether the places of all registers are marked.
+fn are_stored(circuit: &Circuit<'_>, stored: &[bool]) -> bool
+    requires sound { IsSound circuit.now }
+    requires size { length stored.now ≡ length (all_names circuit.now) }
+    ensures { IsTrue result → AreMarked circuit.now stored.now }
+{
+    for flip_flop in circuit.flip_flops() {
+        if !stored[flip_flop.register] {
+            return false;
+        }
+    }
+    true
+}
+
+// The flip-flops of steps.
+fn in_order(alloc: Global, circuit: &Circuit<'_>, order: &[usize]) -> Result<Vec<FlipFlop>, Memory>
+    requires { IsOrder circuit.now order.now }
+    ensures { IfOk result (λ moves. AreMoves circuit.now moves.items) }
+{
+    let flip_flops = circuit.flip_flops();
+    let mut moves = Vec::new(alloc);
+    for step in order {
+        moves.push(flip_flops[*step])?;
+    }
+    Ok(moves)
+}
