@@ -17,7 +17,7 @@ use Rattle.av_vread.specs.declared.fault.VFault.{VFault}
 use Rattle.av_vread.specs.declared.fault.VFault.TheVariants.{VByte, VSyntax, VListing, VTwice, VName, VUnassigned, VOrder, VWidth, Memory}
 use Rattle.av_vread.specs.inner.Listings.{Listed, no_lines, listing_at}
 use Rattle.av_vread.specs.Faults.{or_row, first_row, ListsBadly, HasRow, IsFault, GivesDesign, GivesFault}
-use Rattle.av_vread.specs.inner.Checked.{Checked, checked_row, checked_listing, checked_at, fault_for, FaultIs, AnswersSaid, AnswersWhatIsSaid, AnswersNothingSaid, AnswersBytes}
+use Rattle.av_vread.specs.inner.Checked.{Checked, checked_row, checked_listing, checked_at, fault_for, FaultIs, AnswersWhatIsSaid, AnswersBytes}
 use Rattle.av_vread.proofs.NamesSpelled.{tokens_named, IsNamed, text_named, input_names, wires_have_names, are_words}
 use Rattle.av_vread.proofs.ListingLines.{read_listed, listing_is, listing_read, bad_is, bad_read, kept_listed}
 use Rattle.av_vread.proofs.SoundDesigns.{spelled_sound}

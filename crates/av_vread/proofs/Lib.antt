@@ -2,7 +2,6 @@ pub mod Each
 pub mod Faulted
 pub mod NamesSeen
 pub mod RowWalks
-pub mod Table
 pub mod Walks
 pub mod Cuts
 pub mod Numerals
@@ -25,6 +24,4 @@ pub mod FreshMentions
 pub mod SaidLinks
 pub mod Spelled
 pub mod KindTables
-pub mod SeenMentions
 pub mod PlacedInstances
-pub mod RepeatedParts

@@ -12,9 +12,11 @@ use Rattle.av_net.specs.Grammar.{Link, Instantiation, instance}
 use Rattle.av_net.specs.Rows.{kind_or, kind_for, kind_number, linked_to, instance_by, instance_of, instances_in}
 use Rattle.av_vparse.specs.declared.parsed.Link.{Link as FoundLink}
 use Rattle.av_vparse.specs.Said.{said_link}
-use Rattle.av_vread.specs.inner.Numbered.{place_among, number_of, place_of}
-use Rattle.av_vread.specs.inner.Scoped.{Bytes}
-use Rattle.av_vread.proofs.KindTables.{place_within, more_places, taken_map, number_item, number_below}
+use Rattle.av_vnames.specs.Numbered.{place_among, number_of}
+use Rattle.av_vread.specs.inner.Numbered.{place_of}
+use Rattle.av_vnames.specs.Scoped.{Bytes}
+use Rattle.av_vnames.proofs.KindTables.{place_within, more_places, number_item, number_below}
+use Rattle.av_vread.proofs.KindTables.{taken_map}
 
 -- ---- links
 

@@ -98,8 +98,6 @@ registers_are p (port ∷ ports) ws =
     let more = registers_are (passed p (declaration_parts (codes "reg") port)) ports ws in
     record { place = more.place; is = one_more (register_declaration (kind_port p (codes "reg") port (declarations_onto (codes "reg") ports ws)) (next_word no_symbol refl no_word)) more.is }
 
--- ---- many and many more
-
 -- ---- operands
 
 literal_is : (width : Width) (value : ℕ) → IsWord width.bits value → IsLiteral (decimal width.bits ++ (39 ∷ 100 ∷ decimal value)) width value

@@ -1,8 +1,4 @@
-pub mod Scoped
-pub mod Seen
-pub mod KindPorts
 pub mod Numbered
-pub mod Kinds
 pub mod Lines
 pub mod Listings
 pub mod Entries

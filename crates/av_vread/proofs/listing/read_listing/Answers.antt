@@ -3,7 +3,7 @@ use Rattle.av_net.specs.Names.{names_of, wire_names}
 use Rattle.av_net.specs.Rows.{Among, is_in, module_of}
 use Rattle.av_vparse.specs.Said.{said_module}
 use Rattle.av_vread.specs.inner.Listings.{listing_at, GivesListing}
-use Rattle.av_vread.proofs.RowWalks.{same_test}
+use Rattle.av_vnames.proofs.RowWalks.{same_test}
 use Rattle.av_vread.proofs.listing.read_listing.Goals as goal
 
 pub returns : goal.returns

@@ -3,7 +3,7 @@ use Rattle.std.specs.Map.{lookup}
 use Rattle.std.specs.Str.{bytes_eq}
 use Rattle.av_vparse.specs.Said.{said_link}
 use Rattle.av_vread.specs.inner.Numbered.{place_of}
-use Rattle.av_vread.specs.inner.Scoped.{Bytes}
+use Rattle.av_vnames.specs.Scoped.{Bytes}
 use Rattle.av_vread.proofs.module.links_by_port.Given as goal
 
 abbrev pub invariant-loop-place : goal.invariant-loop-place

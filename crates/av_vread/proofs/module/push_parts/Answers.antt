@@ -2,8 +2,8 @@ use Rattle.std.proofs.Common.{◌≡◌, ◌++◌, Some, None, sym, ap, ◌∙�
 use Rattle.std.proofs.lemmas.List.{append-nil}
 use Rattle.av_net.specs.Flat.{part_wires}
 use Rattle.av_vparse.specs.Said.{said_instance}
-use Rattle.av_vread.specs.inner.Numbered.{number_of}
-use Rattle.av_vread.proofs.RowWalks.{on_ok}
+use Rattle.av_vnames.specs.Numbered.{number_of}
+use Rattle.av_vnames.proofs.RowWalks.{on_ok}
 use Rattle.av_vread.proofs.PlacedInstances.{parts_there, parts_nowhere}
 use Rattle.av_vread.proofs.module.push_parts.Goals as goal
 

@@ -1,7 +1,7 @@
 use Rattle.std.proofs.Common.{◌≡◌, List, ap, subst, ◌∙◌}
 use Rattle.std.specs.Prelude.{IfOk}
 use Rattle.av_net.specs.Rows.{is_in}
-use Rattle.av_vread.specs.inner.Scoped.{Bytes, texts}
+use Rattle.av_vnames.specs.Scoped.{Bytes, texts}
 use Rattle.av_vread.proofs.rows.driven_set.Goals as goal
 
 pub returns : goal.returns

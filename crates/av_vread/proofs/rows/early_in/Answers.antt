@@ -3,7 +3,7 @@ use Rattle.std.specs.Prelude.{IfOk, option_map}
 use Rattle.av_net.specs.Names.{wire_names}
 use Rattle.av_net.specs.Rows.{is_in, module_of, first_early, early_in_module}
 use Rattle.av_vparse.specs.Said.{said_item, said_module}
-use Rattle.av_vread.proofs.RowWalks.{same_test}
+use Rattle.av_vnames.proofs.RowWalks.{same_test}
 use Rattle.av_vread.proofs.rows.early_in.Goals as goal
 
 pub returns : goal.returns

@@ -1,5 +1,5 @@
 use Rattle.std.proofs.Common.{◌≡◌, drop}
-use Rattle.av_vread.specs.inner.Scoped.{texts}
+use Rattle.av_vnames.specs.Scoped.{texts}
 use Rattle.av_net.specs.Rows.{is_in}
 use Rattle.std.specs.Prelude.{find, not}
 use Rattle.av_vread.proofs.rows.first_missing.Given as goal

@@ -1,7 +1,8 @@
 use Rattle.std.proofs.Common.{◌++◌}
 use Rattle.av_net.specs.Rows.{is_in}
-use Rattle.av_vread.specs.inner.Scoped.{texts}
-use Rattle.av_vread.proofs.RowWalks.{set_as, set_walk}
+use Rattle.av_vnames.specs.Scoped.{texts}
+use Rattle.av_vnames.proofs.RowWalks.{set_as}
+use Rattle.av_vread.proofs.RowWalks.{set_walk}
 use Rattle.av_vread.proofs.rows.insert_all.Goals as goal
 
 pub loop-name-preserved : goal.loop-name-preserved

@@ -1,5 +1,5 @@
 use Rattle.std.proofs.Common.{◌≡◌, ◌++◌, drop}
-use Rattle.av_vread.specs.inner.Scoped.{Bytes, texts}
+use Rattle.av_vnames.specs.Scoped.{Bytes, texts}
 use Rattle.av_net.specs.Rows.{is_in}
 use Rattle.av_vread.proofs.rows.insert_all.Given as goal
 

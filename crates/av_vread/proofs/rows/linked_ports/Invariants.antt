@@ -1,5 +1,5 @@
 use Rattle.std.proofs.Common.{◌≡◌, ◌++◌, drop, map}
-use Rattle.av_vread.specs.inner.Scoped.{texts}
+use Rattle.av_vnames.specs.Scoped.{texts}
 use Rattle.av_vread.proofs.rows.linked_ports.Given as goal
 
 abbrev pub invariant-loop-link : goal.invariant-loop-link

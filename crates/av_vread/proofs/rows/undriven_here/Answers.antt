@@ -2,7 +2,7 @@ use Rattle.std.proofs.Common.{◌≡◌, ◌∙◌, ap, map, not}
 use Rattle.std.specs.Prelude.{find}
 use Rattle.av_net.specs.Rows.{is_in, driven_names}
 use Rattle.av_vparse.specs.Said.{said_item}
-use Rattle.av_vread.specs.inner.Scoped.{Bytes, texts}
+use Rattle.av_vnames.specs.Scoped.{Bytes, texts}
 use Rattle.av_vread.proofs.RowWalks.{missing_same}
 use Rattle.av_vread.proofs.rows.undriven_here.Goals as goal
 

@@ -2,7 +2,7 @@ use Rattle.std.proofs.Common.{◌≡◌, ◌∙◌, sym, ap, subst, map}
 use Rattle.std.specs.Prelude.{IfOk, option_map}
 use Rattle.av_net.specs.Rows.{first_from, first_some, unlinked_in}
 use Rattle.av_vparse.specs.Said.{said_item}
-use Rattle.av_vread.proofs.SeenMentions.{untold}
+use Rattle.av_vnames.proofs.SeenMentions.{untold}
 use Rattle.av_vread.proofs.rows.undriven_in.Goals as goal
 
 pub returns-in-Some : goal.returns-in-Some

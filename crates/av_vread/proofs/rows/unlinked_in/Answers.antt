@@ -1,7 +1,7 @@
 use Rattle.std.proofs.Common.{map, not, ap, ◌∙◌}
 use Rattle.std.specs.Prelude.{find}
 use Rattle.av_net.specs.Rows.{is_in}
-use Rattle.av_vread.specs.inner.Scoped.{texts}
+use Rattle.av_vnames.specs.Scoped.{texts}
 use Rattle.av_vread.proofs.RowWalks.{missing_same}
 use Rattle.av_vread.proofs.rows.unlinked_in.Goals as goal
 

@@ -2,7 +2,7 @@ use Rattle.std.proofs.Common.{◌≡◌, ◌∙◌, ap, map}
 use Rattle.av_net.specs.Names.{names_of, wire_names, all_names}
 use Rattle.av_net.specs.Rows.{is_in, module_of, first_some, wrong_in}
 use Rattle.av_vparse.specs.Said.{said_item, said_module}
-use Rattle.av_vread.proofs.RowWalks.{same_test}
+use Rattle.av_vnames.proofs.RowWalks.{same_test}
 use Rattle.av_vread.proofs.rows.wrong_among.Goals as goal
 
 pub returns : goal.returns

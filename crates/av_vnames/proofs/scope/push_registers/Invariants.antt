@@ -1,0 +1,9 @@
+use Rattle.std.proofs.Common.{◌≡◌, ◌++◌, drop, map}
+use Rattle.av_vnames.specs.Scoped.{texts}
+use Rattle.av_net.specs.Names.{names_of}
+use Rattle.av_vparse.specs.Said.{said_declaration}
+use Rattle.av_net.specs.Rows.{registers_in}
+use Rattle.av_vnames.proofs.scope.push_registers.Given as goal
+
+abbrev pub invariant-loop-declaration : goal.invariant-loop-declaration
+invariant-loop-declaration l = texts l.names.items ++ names_of (registers_in (map said_declaration (drop l.declaration-index l.declarations))) ≡ texts l.fn.names.items ++ names_of (registers_in (map said_declaration l.declarations))

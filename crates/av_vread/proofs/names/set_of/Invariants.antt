@@ -1,7 +1,0 @@
-use Rattle.std.proofs.Common.{◌≡◌, ◌++◌, drop}
-use Rattle.av_vread.specs.inner.Scoped.{texts, Bytes}
-use Rattle.av_net.specs.Rows.{is_in}
-use Rattle.av_vread.proofs.names.set_of.Given as goal
-
-abbrev pub invariant-loop-name : goal.invariant-loop-name
-invariant-loop-name l = (q : Bytes) → is_in (l.set ++ texts (drop l.name-index l.names)) q ≡ is_in (texts l.names) q

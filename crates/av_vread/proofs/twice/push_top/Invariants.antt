@@ -1,8 +1,0 @@
-use Rattle.std.proofs.Common.{◌≡◌, ◌++◌, ◌∷◌, drop, map}
-use Rattle.av_net.specs.Names.{clk, rst}
-use Rattle.av_vparse.specs.Said.{said_item}
-use Rattle.av_vread.specs.inner.Scoped.{texts, instances_named}
-use Rattle.av_vread.proofs.twice.push_top.Given as goal
-
-abbrev pub invariant-loop-item : goal.invariant-loop-item
-invariant-loop-item l = texts l.names.items ++ instances_named (map said_item (drop l.item-index l.items)) ≡ texts l.fn.names.items ++ clk ∷ rst ∷ instances_named (map said_item l.items)
