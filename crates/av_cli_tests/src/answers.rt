@@ -103,11 +103,56 @@ pub(crate) fn assert_end(rt: &impl Abort, answer: &Outcome, status: Status, out:
     assert_eq!(rt; answer.status, status, "{out}");
 }
 
+/// The answer to these words and this input has this status and this output.
+pub(crate) fn assert_given(
+    rt: &impl Abort,
+    alloc: Global,
+    words: &[&str],
+    input: List<u8>,
+    status: Status,
+    out: &str,
+    text: &str,
+) -> Result<(), Fail> {
+    let answer = answered(alloc, words, input, 65536)?;
+    assert_answer(rt, &answer, status, out, text);
+    Ok(())
+}
+
+/// The same of an input of these parts.
+pub(crate) fn assert_parts(
+    rt: &impl Abort,
+    alloc: Global,
+    words: &[&str],
+    parts: &[&str],
+    status: Status,
+    out: &str,
+    text: &str,
+) -> Result<(), Fail> {
+    let input = joined(alloc, parts)?;
+    assert_given(rt, alloc, words, input, status, out, text)
+}
+
+/// A source that fails at this call is told, and nothing is written.
+pub(crate) fn assert_read_fault(
+    rt: &impl Abort,
+    alloc: Global,
+    words: &[&str],
+    input: List<u8>,
+    piece: usize,
+    call: u64,
+) -> Result<(), Fail> {
+    let mut source = MemSource::new(input, piece, calls(alloc, Some(call))?);
+    let mut sink = MemSink::new(alloc, 4096, 4096, List::new(alloc))?;
+    let status = answer(alloc, words, &mut source, &mut sink)?;
+    assert_eq!(rt; status, Status::ReadFault, "call {call}");
+    assert!(rt; sink.held().is_empty(), "call {call}");
+    Ok(())
+}
+
 /// Each row's words and input have its status and output.
 pub(crate) fn assert_rows(rt: &impl Abort, alloc: Global, rows: &[Row]) -> Result<(), Fail> {
     for (words, text, status, out) in rows {
-        let answer = answered(alloc, words, joined(alloc, &[text])?, 4096)?;
-        assert_answer(rt, &answer, *status, out, text);
+        assert_parts(rt, alloc, words, &[text], *status, out, text)?;
     }
     Ok(())
 }

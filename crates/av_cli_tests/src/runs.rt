@@ -1,6 +1,6 @@
 //! The answers of `run`, `trace` and `demo`, and what designs show.
 
-use crate::answers::{answer, answered, assert_answer, calls, joined};
+use crate::answers::{answer, assert_parts, calls, joined};
 use crate::checks::UNCOVERED;
 use crate::texts::{INCREMENT, USAGE};
 use av_base::{MemSink, MemSource};
@@ -272,8 +272,7 @@ const ROWS: &[(&[&str], &str, &str, Status, &str)] = &[
 fn the_words_the_text_and_the_data_fix_status_and_output(rt: HostRuntime) -> Result<(), Fail> {
     let alloc = rt.alloc();
     for (words, text, data, status, out) in ROWS {
-        let answer = answered(alloc, words, joined(alloc, &[text, data])?, 4096)?;
-        assert_answer(&rt, &answer, *status, out, text);
+        assert_parts(&rt, alloc, words, &[text, data], *status, out, text)?;
     }
     Ok(())
 }
