@@ -293,8 +293,7 @@ const REFUSED: &[(&[&str], &str, &str, &str)] = &[
 fn streams_are_refused_for_their_first_fault(rt: HostRuntime) -> Result<(), Fail> {
     let alloc = rt.alloc();
     for (words, text, data, out) in REFUSED {
-        let parts = &[text, data];
-        assert_parts(&rt, alloc, words, parts, Status::Refused, out, data)?;
+        assert_parts(&rt, alloc, words, &[text, data], Status::Refused, out, data)?;
     }
     Ok(())
 }
