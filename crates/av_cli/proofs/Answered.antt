@@ -15,8 +15,8 @@ use Rattle.av_names.specs.declared.size.Size.{Size}
 use Rattle.av_cli.specs.declared.status.Status.{Status}
 use Rattle.av_cli.specs.declared.status.Status.TheVariants.{Done, Refused, Words, ReadFault, WriteFault, Memory}
 use Rattle.av_cli.specs.declared.words.Command.{Command}
-use Rattle.av_cli.specs.declared.words.Command.TheVariants.{Check, Schedule, Table, Emit, Run, Trace, Best, Stream, Wave, Sim, Unwave, Demo}
-use Rattle.av_cli.specs.Commands.{Asks, IsCheck, IsSchedule, IsTable, IsEmit, IsRun, IsTrace, IsBest, IsStream, AsksWave, IsSim, IsUnwave, IsDemo, TakeInput, AskDemo, AreRead}
+use Rattle.av_cli.specs.declared.words.Command.TheVariants.{Check, Schedule, Table, Emit, Run, Trace, Best, Stream, Wave, Run8, Sim, Unwave, Demo}
+use Rattle.av_cli.specs.Commands.{Asks, IsCheck, IsSchedule, IsTable, IsEmit, IsRun, IsTrace, IsBest, IsStream, AsksWave, IsRun8, IsSim, IsUnwave, IsDemo, TakeInput, AskDemo, AreRead}
 use Rattle.av_cli.specs.inner.WithWords.{GivesMapped}
 use Rattle.av_cli.specs.inner.CommandsSeen.{Are, takes_input}
 use Rattle.av_cli.specs.Refusals.{refusal_line}
@@ -30,6 +30,7 @@ use Rattle.av_cli.specs.Tables.{RefusesTable, GivesTable}
 use Rattle.av_cli.specs.Runs.{RefusesRun, GivesResults, GivesTrace}
 use Rattle.av_cli.specs.Bests.{RefusesBest, GivesBest}
 use Rattle.av_cli.specs.Streams.{RefusesStream, GivesStream}
+use Rattle.av_cli.specs.Eights.{RefusesEight, GivesEight}
 use Rattle.av_cli.specs.Waves.{GivesDump, RefusesUnwave, GivesUnwave}
 use Rattle.av_cli.proofs.Checking.{exclusive_check}
 use Rattle.av_cli.proofs.Scheduling.{exclusive_schedule}
@@ -37,6 +38,7 @@ use Rattle.av_cli.proofs.Tabling.{exclusive_table}
 use Rattle.av_cli.proofs.Emitting.{exclusive_emit}
 use Rattle.av_cli.proofs.Reporting.{exclusive_run}
 use Rattle.av_cli.proofs.LeastSchedules.{exclusive_best}
+use Rattle.av_cli.proofs.EightAnswers.{exclusive_eight}
 use Rattle.av_cli.proofs.StreamAnswers.{exclusive_stream}
 use Rattle.av_cli.proofs.GivenSizes.{one_asked}
 use Rattle.av_wave.proofs.Presenting.{given_distinct}
@@ -50,7 +52,8 @@ input_of (Trace width reach) words (sizes, are) t = inr (inr (inr (inr (inr (inr
 input_of (Best width reach) words (sizes, are) t = inr (inr (inr (inr (inr (inr (inr (inl (width.bits, reach.size, sizes, are))))))))
 input_of (Stream width reach) words (sizes, are) t = inr (inr (inr (inr (inr (inr (inr (inr (inl (width.bits, reach.size, sizes, are)))))))))
 input_of (Wave width reach) words (sizes, are) t = inr (inr (inr (inr (inr (inr (inr (inr (inr (inl (width.bits, reach.size, sizes, are))))))))))
-input_of Unwave words are t = inr (inr (inr (inr (inr (inr (inr (inr (inr (inr are)))))))))
+input_of (Run8 width reach) words (sizes, are) t = inr (inr (inr (inr (inr (inr (inr (inr (inr (inr (inl (width.bits, reach.size, sizes, are)))))))))))
+input_of Unwave words are t = inr (inr (inr (inr (inr (inr (inr (inr (inr (inr (inr are))))))))))
 input_of (Emit width reach) words (sizes, are) t = inl (width.bits, reach.size, sizes, are)
 input_of Sim words are t = inr (inl are)
 input_of (Demo width reach k) words are t = absurd (true≢false (sym t))
@@ -65,6 +68,7 @@ read_of (Best width reach) words are = inl (input_of (Best width reach) words ar
 read_of (Stream width reach) words are = inl (input_of (Stream width reach) words are refl)
 read_of (Emit width reach) words are = inl (input_of (Emit width reach) words are refl)
 read_of (Wave width reach) words are = inl (input_of (Wave width reach) words are refl)
+read_of (Run8 width reach) words are = inl (input_of (Run8 width reach) words are refl)
 read_of Sim words are = inl (input_of Sim words are refl)
 read_of Unwave words are = inl (input_of Unwave words are refl)
 read_of (Demo width reach k) words are = inr (width.bits, reach.size, k, are)
@@ -78,7 +82,8 @@ refusal_of (Trace width reach) words bytes reason are within (sizes, is, r) = in
 refusal_of (Best width reach) words bytes reason are within (sizes, is, r) = inr (inr (inr (inr (inr (inr (inr (inr (inl (within, (width.bits, reach.size, sizes, is, r))))))))))
 refusal_of (Stream width reach) words bytes reason are within (sizes, is, r) = inr (inr (inr (inr (inr (inr (inr (inr (inr (inl (within, (width.bits, reach.size, sizes, is, r)))))))))))
 refusal_of (Wave width reach) words bytes reason are within (sizes, is, r) = inr (inr (inr (inr (inr (inr (inr (inr (inr (inr (inl (within, (width.bits, reach.size, sizes, is, r))))))))))))
-refusal_of Unwave words bytes reason are within r = inr (inr (inr (inr (inr (inr (inr (inr (inr (inr (inr (within, are, r)))))))))))
+refusal_of (Run8 width reach) words bytes reason are within (sizes, is, r) = inr (inr (inr (inr (inr (inr (inr (inr (inr (inr (inr (inl (within, (width.bits, reach.size, sizes, is, r)))))))))))))
+refusal_of Unwave words bytes reason are within r = inr (inr (inr (inr (inr (inr (inr (inr (inr (inr (inr (inr (within, are, r))))))))))))
 refusal_of (Emit width reach) words bytes reason are within (sizes, is, r) = inr (inl (within, (width.bits, reach.size, sizes, is, r)))
 refusal_of Sim words bytes reason are within r = inr (inr (inl (within, are, r)))
 refusal_of (Demo width reach k) words bytes reason are within r = absurd r
@@ -103,7 +108,9 @@ writes_output (Emit w r) words left left' bytes out are t takes end within (size
     inl (record { bits = w.bits; box = r.size; sizes = sizes; read = is; taken = bytes; takes = takes; whole = end; within = within; gives = g.gives; mapped = g.mapped })
 writes_output (Wave w r) words left left' bytes out are t takes end within (sizes, is, g) =
     inr (inr (inr (inr (inr (inr (inr (inr (inr (inl (record { bits = w.bits; box = r.size; sizes = sizes; read = is; taken = bytes; takes = takes; whole = end; within = within; gives = g }))))))))))
-writes_output Unwave words left left' bytes out are t takes end within g = inr (inr (inr (inr (inr (inr (inr (inr (inr (inr (inl (record { read = are; taken = bytes; takes = takes; whole = end; within = within; gives = g })))))))))))
+writes_output (Run8 w r) words left left' bytes out are t takes end within (sizes, is, g) =
+    inr (inr (inr (inr (inr (inr (inr (inr (inr (inr (inl (record { bits = w.bits; box = r.size; sizes = sizes; read = is; taken = bytes; takes = takes; whole = end; within = within; gives = g })))))))))))
+writes_output Unwave words left left' bytes out are t takes end within g = inr (inr (inr (inr (inr (inr (inr (inr (inr (inr (inr (inl (record { read = are; taken = bytes; takes = takes; whole = end; within = within; gives = g }))))))))))))
 writes_output Sim words left left' bytes out are t takes end within g = inr (inl (record { read = are; taken = bytes; takes = takes; whole = end; within = within; gives = g }))
 writes_output (Demo w r k) words left left' bytes out are t takes end within g = absurd (true≢false (sym t))
 
@@ -164,29 +171,32 @@ exclude : (name : List ℕ) (words : List (List ℕ)) (bytes : List ℕ) → Beg
     → (codes "best" ≡ name → (bits box : ℕ) (sizes : List Size) → IsBest words bits box sizes → (reason : List ℕ) → RefusesBest sizes bits box bytes reason → ⊥)
     → (codes "stream" ≡ name → (bits box : ℕ) (sizes : List Size) → IsStream words bits box sizes → (reason : List ℕ) → RefusesStream sizes bits box bytes reason → ⊥)
     → (codes "wave" ≡ name → (bits box : ℕ) (sizes : List Size) → AsksWave words bits box sizes → (reason : List ℕ) → RefusesRun sizes bits box bytes reason → ⊥)
+    → (codes "run8" ≡ name → (bits box : ℕ) (sizes : List Size) → IsRun8 words bits box sizes → (reason : List ℕ) → RefusesEight sizes bits box bytes reason → ⊥)
     → (codes "unwave" ≡ name → (reason : List ℕ) → RefusesUnwave bytes reason → ⊥)
     → HasRefusal words bytes → ⊥
-exclude name words bytes is within emit sim check schedule table run trace best stream wave unwave (reason, inl (long, input, e)) = absurd (omega (arith, long, within))
-exclude name words bytes is within emit sim check schedule table run trace best stream wave unwave (reason, inr (inl (short, (bits, box, sizes, other, r)))) =
+exclude name words bytes is within emit sim check schedule table run trace best stream wave eight unwave (reason, inl (long, input, e)) = absurd (omega (arith, long, within))
+exclude name words bytes is within emit sim check schedule table run trace best stream wave eight unwave (reason, inr (inl (short, (bits, box, sizes, other, r)))) =
     emit (same_name (codes "emit") name words (begins (codes "emit") words bits box sizes other) is) bits box sizes other reason r
-exclude name words bytes is within emit sim check schedule table run trace best stream wave unwave (reason, inr (inr (inl (short, other, r)))) = sim (same_name (codes "sim") name words (begins_sim words other) is) reason r
-exclude name words bytes is within emit sim check schedule table run trace best stream wave unwave (reason, inr (inr (inr (inl (short, (bits, sizes, other, r)))))) =
+exclude name words bytes is within emit sim check schedule table run trace best stream wave eight unwave (reason, inr (inr (inl (short, other, r)))) = sim (same_name (codes "sim") name words (begins_sim words other) is) reason r
+exclude name words bytes is within emit sim check schedule table run trace best stream wave eight unwave (reason, inr (inr (inr (inl (short, (bits, sizes, other, r)))))) =
     check (same_name (codes "check") name words (begins (codes "check") words bits other.0 sizes other.1) is) bits sizes other reason r
-exclude name words bytes is within emit sim check schedule table run trace best stream wave unwave (reason, inr (inr (inr (inr (inl (short, (bits, box, sizes, other, r))))))) =
+exclude name words bytes is within emit sim check schedule table run trace best stream wave eight unwave (reason, inr (inr (inr (inr (inl (short, (bits, box, sizes, other, r))))))) =
     schedule (same_name (codes "schedule") name words (begins (codes "schedule") words bits box sizes other) is) bits box sizes other reason r
-exclude name words bytes is within emit sim check schedule table run trace best stream wave unwave (reason, inr (inr (inr (inr (inr (inl (short, (bits, box, sizes, other, r)))))))) =
+exclude name words bytes is within emit sim check schedule table run trace best stream wave eight unwave (reason, inr (inr (inr (inr (inr (inl (short, (bits, box, sizes, other, r)))))))) =
     table (same_name (codes "table") name words (begins (codes "table") words bits box sizes other) is) bits box sizes other reason r
-exclude name words bytes is within emit sim check schedule table run trace best stream wave unwave (reason, inr (inr (inr (inr (inr (inr (inl (short, (bits, box, sizes, other, r))))))))) =
+exclude name words bytes is within emit sim check schedule table run trace best stream wave eight unwave (reason, inr (inr (inr (inr (inr (inr (inl (short, (bits, box, sizes, other, r))))))))) =
     run (same_name (codes "run") name words (begins (codes "run") words bits box sizes other) is) bits box sizes other reason r
-exclude name words bytes is within emit sim check schedule table run trace best stream wave unwave (reason, inr (inr (inr (inr (inr (inr (inr (inl (short, (bits, box, sizes, other, r)))))))))) =
+exclude name words bytes is within emit sim check schedule table run trace best stream wave eight unwave (reason, inr (inr (inr (inr (inr (inr (inr (inl (short, (bits, box, sizes, other, r)))))))))) =
     trace (same_name (codes "trace") name words (begins (codes "trace") words bits box sizes other) is) bits box sizes other reason r
-exclude name words bytes is within emit sim check schedule table run trace best stream wave unwave (reason, inr (inr (inr (inr (inr (inr (inr (inr (inl (short, (bits, box, sizes, other, r))))))))))) =
+exclude name words bytes is within emit sim check schedule table run trace best stream wave eight unwave (reason, inr (inr (inr (inr (inr (inr (inr (inr (inl (short, (bits, box, sizes, other, r))))))))))) =
     best (same_name (codes "best") name words (begins (codes "best") words bits box sizes other) is) bits box sizes other reason r
-exclude name words bytes is within emit sim check schedule table run trace best stream wave unwave (reason, inr (inr (inr (inr (inr (inr (inr (inr (inr (inl (short, (bits, box, sizes, other, r)))))))))))) =
+exclude name words bytes is within emit sim check schedule table run trace best stream wave eight unwave (reason, inr (inr (inr (inr (inr (inr (inr (inr (inr (inl (short, (bits, box, sizes, other, r)))))))))))) =
     stream (same_name (codes "stream") name words (begins (codes "stream") words bits box sizes other) is) bits box sizes other reason r
-exclude name words bytes is within emit sim check schedule table run trace best stream wave unwave (reason, inr (inr (inr (inr (inr (inr (inr (inr (inr (inr (inl (short, (bits, box, sizes, other, r))))))))))))) =
+exclude name words bytes is within emit sim check schedule table run trace best stream wave eight unwave (reason, inr (inr (inr (inr (inr (inr (inr (inr (inr (inr (inl (short, (bits, box, sizes, other, r))))))))))))) =
     wave (same_name (codes "wave") name words (begins (codes "wave") words bits box sizes other) is) bits box sizes other reason r
-exclude name words bytes is within emit sim check schedule table run trace best stream wave unwave (reason, inr (inr (inr (inr (inr (inr (inr (inr (inr (inr (inr (short, other, r)))))))))))) = unwave (same_name (codes "unwave") name words (begins_unwave words other) is) reason r
+exclude name words bytes is within emit sim check schedule table run trace best stream wave eight unwave (reason, inr (inr (inr (inr (inr (inr (inr (inr (inr (inr (inr (inl (short, (bits, box, sizes, other, r)))))))))))))) =
+    eight (same_name (codes "run8") name words (begins (codes "run8") words bits box sizes other) is) bits box sizes other reason r
+exclude name words bytes is within emit sim check schedule table run trace best stream wave eight unwave (reason, inr (inr (inr (inr (inr (inr (inr (inr (inr (inr (inr (inr (short, other, r))))))))))))) = unwave (same_name (codes "unwave") name words (begins_unwave words other) is) reason r
 
 -- names that differ in a letter differ
 letter : (k : ℕ) (a b : List ℕ) → (slice_index_or a k 0 ≡ slice_index_or b k 0 → ⊥) → a ≡ b → ⊥
@@ -207,6 +217,7 @@ exclude_check words bits bytes out sizes is within g refusal =
     (λ e. absurd (letter 0 (codes "best") (codes "check") (λ (f : 98 ≡ 99). omega (arith, f)) e))
     (λ e. absurd (letter 0 (codes "stream") (codes "check") (λ (f : 115 ≡ 99). omega (arith, f)) e))
     (λ e. absurd (letter 0 (codes "wave") (codes "check") (λ (f : 119 ≡ 99). omega (arith, f)) e))
+    (λ e. absurd (letter 0 (codes "run8") (codes "check") (λ (f : 114 ≡ 99). omega (arith, f)) e))
     (λ e. absurd (letter 0 (codes "unwave") (codes "check") (λ (f : 117 ≡ 99). omega (arith, f)) e))
     refusal
 
@@ -225,6 +236,7 @@ exclude_schedule words bits box bytes out sizes is within g refusal =
     (λ e. absurd (letter 0 (codes "best") (codes "schedule") (λ (f : 98 ≡ 115). omega (arith, f)) e))
     (λ e. absurd (letter 1 (codes "stream") (codes "schedule") (λ (f : 116 ≡ 99). omega (arith, f)) e))
     (λ e. absurd (letter 0 (codes "wave") (codes "schedule") (λ (f : 119 ≡ 115). omega (arith, f)) e))
+    (λ e. absurd (letter 0 (codes "run8") (codes "schedule") (λ (f : 114 ≡ 115). omega (arith, f)) e))
     (λ e. absurd (letter 0 (codes "unwave") (codes "schedule") (λ (f : 117 ≡ 115). omega (arith, f)) e))
     refusal
 
@@ -243,6 +255,7 @@ exclude_table words bits box bytes out sizes is within g refusal =
     (λ e. absurd (letter 0 (codes "best") (codes "table") (λ (f : 98 ≡ 116). omega (arith, f)) e))
     (λ e. absurd (letter 0 (codes "stream") (codes "table") (λ (f : 115 ≡ 116). omega (arith, f)) e))
     (λ e. absurd (letter 0 (codes "wave") (codes "table") (λ (f : 119 ≡ 116). omega (arith, f)) e))
+    (λ e. absurd (letter 0 (codes "run8") (codes "table") (λ (f : 114 ≡ 116). omega (arith, f)) e))
     (λ e. absurd (letter 0 (codes "unwave") (codes "table") (λ (f : 117 ≡ 116). omega (arith, f)) e))
     refusal
 
@@ -261,6 +274,7 @@ exclude_emit words bits box bytes out sizes is within g refusal =
     (λ e. absurd (letter 0 (codes "best") (codes "emit") (λ (f : 98 ≡ 101). omega (arith, f)) e))
     (λ e. absurd (letter 0 (codes "stream") (codes "emit") (λ (f : 115 ≡ 101). omega (arith, f)) e))
     (λ e. absurd (letter 0 (codes "wave") (codes "emit") (λ (f : 119 ≡ 101). omega (arith, f)) e))
+    (λ e. absurd (letter 0 (codes "run8") (codes "emit") (λ (f : 114 ≡ 101). omega (arith, f)) e))
     (λ e. absurd (letter 0 (codes "unwave") (codes "emit") (λ (f : 117 ≡ 101). omega (arith, f)) e))
     refusal
 
@@ -279,6 +293,7 @@ exclude_run words bits box bytes out sizes is within g refusal =
     (λ e. absurd (letter 0 (codes "best") (codes "run") (λ (f : 98 ≡ 114). omega (arith, f)) e))
     (λ e. absurd (letter 0 (codes "stream") (codes "run") (λ (f : 115 ≡ 114). omega (arith, f)) e))
     (λ e. absurd (letter 0 (codes "wave") (codes "run") (λ (f : 119 ≡ 114). omega (arith, f)) e))
+    (λ e. absurd (letter 3 (codes "run8") (codes "run") (λ (f : 56 ≡ 0). omega (arith, f)) e))
     (λ e. absurd (letter 0 (codes "unwave") (codes "run") (λ (f : 117 ≡ 114). omega (arith, f)) e))
     refusal
 
@@ -297,6 +312,7 @@ exclude_trace words bits box bytes out sizes is within g refusal =
     (λ e. absurd (letter 0 (codes "best") (codes "trace") (λ (f : 98 ≡ 116). omega (arith, f)) e))
     (λ e. absurd (letter 0 (codes "stream") (codes "trace") (λ (f : 115 ≡ 116). omega (arith, f)) e))
     (λ e. absurd (letter 0 (codes "wave") (codes "trace") (λ (f : 119 ≡ 116). omega (arith, f)) e))
+    (λ e. absurd (letter 0 (codes "run8") (codes "trace") (λ (f : 114 ≡ 116). omega (arith, f)) e))
     (λ e. absurd (letter 0 (codes "unwave") (codes "trace") (λ (f : 117 ≡ 116). omega (arith, f)) e))
     refusal
 
@@ -315,6 +331,7 @@ exclude_best words bits box bytes out sizes is within g refusal =
     exclusive_best others n c bytes reason out r (subst (λ (m : ℕ). GivesBest others m c bytes out) same_bits (subst (λ (m : ℕ). GivesBest others bits m bytes out) same_box (subst (λ (xs : List Size). GivesBest xs bits box bytes out) same_sizes g))))
     (λ e. absurd (letter 0 (codes "stream") (codes "best") (λ (f : 115 ≡ 98). omega (arith, f)) e))
     (λ e. absurd (letter 0 (codes "wave") (codes "best") (λ (f : 119 ≡ 98). omega (arith, f)) e))
+    (λ e. absurd (letter 0 (codes "run8") (codes "best") (λ (f : 114 ≡ 98). omega (arith, f)) e))
     (λ e. absurd (letter 0 (codes "unwave") (codes "best") (λ (f : 117 ≡ 98). omega (arith, f)) e))
     refusal
 
@@ -333,6 +350,7 @@ exclude_stream words bits box bytes out sizes is within g refusal =
     let (same_bits, same_box, same_sizes) = one_asked (codes "stream") words bits n box c sizes others is other in
     exclusive_stream others n c bytes reason out r (subst (λ (m : ℕ). GivesStream others m c bytes out) same_bits (subst (λ (m : ℕ). GivesStream others bits m bytes out) same_box (subst (λ (xs : List Size). GivesStream xs bits box bytes out) same_sizes g))))
     (λ e. absurd (letter 0 (codes "wave") (codes "stream") (λ (f : 119 ≡ 115). omega (arith, f)) e))
+    (λ e. absurd (letter 0 (codes "run8") (codes "stream") (λ (f : 114 ≡ 115). omega (arith, f)) e))
     (λ e. absurd (letter 0 (codes "unwave") (codes "stream") (λ (f : 117 ≡ 115). omega (arith, f)) e))
     refusal
 
@@ -349,6 +367,7 @@ exclude_sim words bytes out is within g refusal =
     (λ e. absurd (letter 0 (codes "best") (codes "sim") (λ (f : 98 ≡ 115). omega (arith, f)) e))
     (λ e. absurd (letter 1 (codes "stream") (codes "sim") (λ (f : 116 ≡ 105). omega (arith, f)) e))
     (λ e. absurd (letter 0 (codes "wave") (codes "sim") (λ (f : 119 ≡ 115). omega (arith, f)) e))
+    (λ e. absurd (letter 0 (codes "run8") (codes "sim") (λ (f : 114 ≡ 115). omega (arith, f)) e))
     (λ e. absurd (letter 0 (codes "unwave") (codes "sim") (λ (f : 117 ≡ 115). omega (arith, f)) e))
     refusal
 
@@ -367,7 +386,27 @@ exclude_wave words bits box bytes out sizes is within g refusal =
     (λ _ n c others other reason r.
     let (same_bits, same_box, same_sizes) = one_asked (codes "wave") words bits n box c sizes others is other in
     (let h = (subst (λ (m : ℕ). GivesDump others m c bytes out) same_bits (subst (λ (m : ℕ). GivesDump others bits m bytes out) same_box (subst (λ (xs : List Size). GivesDump xs bits box bytes out) same_sizes g))) in exclusive_run others n c bytes reason h.timed h.cells h.plan h.inputs r h.has))
+    (λ e. absurd (letter 0 (codes "run8") (codes "wave") (λ (f : 114 ≡ 119). omega (arith, f)) e))
     (λ e. absurd (letter 0 (codes "unwave") (codes "wave") (λ (f : 117 ≡ 119). omega (arith, f)) e))
+    refusal
+
+exclude_eight : (words : List (List ℕ)) (bits box : ℕ) (bytes out : List ℕ) (sizes : List Size) → IsRun8 words bits box sizes → length bytes ≤ 1048576 → GivesEight sizes bits box bytes out → HasRefusal words bytes → ⊥
+exclude_eight words bits box bytes out sizes is within g refusal =
+    exclude (codes "run8") words bytes (begins (codes "run8") words bits box sizes is) within
+    (λ e. absurd (letter 0 (codes "emit") (codes "run8") (λ (f : 101 ≡ 114). omega (arith, f)) e))
+    (λ e. absurd (letter 0 (codes "sim") (codes "run8") (λ (f : 115 ≡ 114). omega (arith, f)) e))
+    (λ e. absurd (letter 0 (codes "check") (codes "run8") (λ (f : 99 ≡ 114). omega (arith, f)) e))
+    (λ e. absurd (letter 0 (codes "schedule") (codes "run8") (λ (f : 115 ≡ 114). omega (arith, f)) e))
+    (λ e. absurd (letter 0 (codes "table") (codes "run8") (λ (f : 116 ≡ 114). omega (arith, f)) e))
+    (λ e. absurd (letter 3 (codes "run") (codes "run8") (λ (f : 0 ≡ 56). omega (arith, f)) e))
+    (λ e. absurd (letter 0 (codes "trace") (codes "run8") (λ (f : 116 ≡ 114). omega (arith, f)) e))
+    (λ e. absurd (letter 0 (codes "best") (codes "run8") (λ (f : 98 ≡ 114). omega (arith, f)) e))
+    (λ e. absurd (letter 0 (codes "stream") (codes "run8") (λ (f : 115 ≡ 114). omega (arith, f)) e))
+    (λ e. absurd (letter 0 (codes "wave") (codes "run8") (λ (f : 119 ≡ 114). omega (arith, f)) e))
+    (λ _ n c others other reason r.
+    let (same_bits, same_box, same_sizes) = one_asked (codes "run8") words bits n box c sizes others is other in
+    exclusive_eight others n c bytes reason out r (subst (λ (m : ℕ). GivesEight others m c bytes out) same_bits (subst (λ (m : ℕ). GivesEight others bits m bytes out) same_box (subst (λ (xs : List Size). GivesEight xs bits box bytes out) same_sizes g))))
+    (λ e. absurd (letter 0 (codes "unwave") (codes "run8") (λ (f : 117 ≡ 114). omega (arith, f)) e))
     refusal
 
 exclude_unwave : (words : List (List ℕ)) (bytes out : List ℕ) → IsUnwave words → length bytes ≤ 1048576 → GivesUnwave bytes out → HasRefusal words bytes → ⊥
@@ -383,6 +422,7 @@ exclude_unwave words bytes out is within g refusal =
     (λ e. absurd (letter 0 (codes "best") (codes "unwave") (λ (f : 98 ≡ 117). omega (arith, f)) e))
     (λ e. absurd (letter 0 (codes "stream") (codes "unwave") (λ (f : 115 ≡ 117). omega (arith, f)) e))
     (λ e. absurd (letter 0 (codes "wave") (codes "unwave") (λ (f : 119 ≡ 117). omega (arith, f)) e))
+    (λ e. absurd (letter 0 (codes "run8") (codes "unwave") (λ (f : 114 ≡ 117). omega (arith, f)) e))
     (λ _ reason r. exclusive_unwave bytes reason out r g)
     refusal
 
@@ -404,7 +444,8 @@ demo_alone words input (m, b, k, demo) = by input
     by (inr (inr (inr (inr (inr (inr (inr (inl (bits, box, sizes, other))))))))) = letter 0 (codes "best") (codes "demo") (λ (f : 98 ≡ 100). omega (arith, f)) (same_name (codes "best") (codes "demo") words (begins (codes "best") words bits box sizes other) is)
     by (inr (inr (inr (inr (inr (inr (inr (inr (inl (bits, box, sizes, other)))))))))) = letter 0 (codes "stream") (codes "demo") (λ (f : 115 ≡ 100). omega (arith, f)) (same_name (codes "stream") (codes "demo") words (begins (codes "stream") words bits box sizes other) is)
     by (inr (inr (inr (inr (inr (inr (inr (inr (inr (inl (bits, box, sizes, other))))))))))) = letter 0 (codes "wave") (codes "demo") (λ (f : 119 ≡ 100). omega (arith, f)) (same_name (codes "wave") (codes "demo") words (begins (codes "wave") words bits box sizes other) is)
-    by (inr (inr (inr (inr (inr (inr (inr (inr (inr (inr other)))))))))) = letter 0 (codes "unwave") (codes "demo") (λ (f : 117 ≡ 100). omega (arith, f)) (same_name (codes "unwave") (codes "demo") words (begins_unwave words other) is)
+    by (inr (inr (inr (inr (inr (inr (inr (inr (inr (inr (inl (bits, box, sizes, other)))))))))))) = letter 0 (codes "run8") (codes "demo") (λ (f : 114 ≡ 100). omega (arith, f)) (same_name (codes "run8") (codes "demo") words (begins (codes "run8") words bits box sizes other) is)
+    by (inr (inr (inr (inr (inr (inr (inr (inr (inr (inr (inr other))))))))))) = letter 0 (codes "unwave") (codes "demo") (λ (f : 117 ≡ 100). omega (arith, f)) (same_name (codes "unwave") (codes "demo") words (begins_unwave words other) is)
 
 pub exclude_demo : (words : List (List ℕ)) (bytes : List ℕ) → AskDemo words → HasRefusal words bytes → ⊥
 exclude_demo words bytes demo (reason, inl (long, input, e)) = demo_alone words input demo
@@ -418,7 +459,8 @@ exclude_demo words bytes demo (reason, inr (inr (inr (inr (inr (inr (inr (inl (s
 exclude_demo words bytes demo (reason, inr (inr (inr (inr (inr (inr (inr (inr (inl (short, (bits, box, sizes, other, r))))))))))) = demo_alone words (inr (inr (inr (inr (inr (inr (inr (inl (bits, box, sizes, other))))))))) demo
 exclude_demo words bytes demo (reason, inr (inr (inr (inr (inr (inr (inr (inr (inr (inl (short, (bits, box, sizes, other, r)))))))))))) = demo_alone words (inr (inr (inr (inr (inr (inr (inr (inr (inl (bits, box, sizes, other)))))))))) demo
 exclude_demo words bytes demo (reason, inr (inr (inr (inr (inr (inr (inr (inr (inr (inr (inl (short, (bits, box, sizes, other, r))))))))))))) = demo_alone words (inr (inr (inr (inr (inr (inr (inr (inr (inr (inl (bits, box, sizes, other))))))))))) demo
-exclude_demo words bytes demo (reason, inr (inr (inr (inr (inr (inr (inr (inr (inr (inr (inr (short, other, r)))))))))))) = demo_alone words (inr (inr (inr (inr (inr (inr (inr (inr (inr (inr other)))))))))) demo
+exclude_demo words bytes demo (reason, inr (inr (inr (inr (inr (inr (inr (inr (inr (inr (inr (inl (short, (bits, box, sizes, other, r)))))))))))))) = demo_alone words (inr (inr (inr (inr (inr (inr (inr (inr (inr (inr (inl (bits, box, sizes, other)))))))))))) demo
+exclude_demo words bytes demo (reason, inr (inr (inr (inr (inr (inr (inr (inr (inr (inr (inr (inr (short, other, r))))))))))))) = demo_alone words (inr (inr (inr (inr (inr (inr (inr (inr (inr (inr (inr other))))))))))) demo
 
 exclusive : (command : Command) (words : List (List ℕ)) (bytes out : List ℕ) → Are command words → length bytes ≤ 1048576 → Gives command words bytes out → HasRefusal words bytes → ⊥
 exclusive (Check width) words bytes out are within g refusal = exclude_check words width.bits bytes out g.0 g.1 within g.2 refusal
@@ -430,6 +472,7 @@ exclusive (Trace width reach) words bytes out are within g refusal = exclude_tra
 exclusive (Best width reach) words bytes out are within g refusal = exclude_best words width.bits reach.size bytes out g.0 g.1 within g.2 refusal
 exclusive (Stream width reach) words bytes out are within g refusal = exclude_stream words width.bits reach.size bytes out g.0 g.1 within g.2 refusal
 exclusive (Wave width reach) words bytes out are within g refusal = exclude_wave words width.bits reach.size bytes out g.0 g.1 within g.2 refusal
+exclusive (Run8 width reach) words bytes out are within g refusal = exclude_eight words width.bits reach.size bytes out g.0 g.1 within g.2 refusal
 exclusive Sim words bytes out are within g refusal = exclude_sim words bytes out are within g refusal
 exclusive Unwave words bytes out are within g refusal = exclude_unwave words bytes out are within g refusal
 exclusive (Demo width reach k) words bytes out are within g refusal = exclude_demo words bytes (width.bits, reach.size, k, are) refusal
@@ -619,6 +662,7 @@ is_demo (Best width reach) words are t = absurd (true≢false t)
 is_demo (Stream width reach) words are t = absurd (true≢false t)
 is_demo (Emit width reach) words are t = absurd (true≢false t)
 is_demo (Wave width reach) words are t = absurd (true≢false t)
+is_demo (Run8 width reach) words are t = absurd (true≢false t)
 is_demo Sim words are t = absurd (true≢false t)
 is_demo Unwave words are t = absurd (true≢false t)
 is_demo (Demo width reach k) words are t = (width.bits, reach.size, k, are)
@@ -633,10 +677,11 @@ demo_writes (Best width reach) words left bytes out are t g = absurd (true≢fal
 demo_writes (Stream width reach) words left bytes out are t g = absurd (true≢false t)
 demo_writes (Emit width reach) words left bytes out are t g = absurd (true≢false t)
 demo_writes (Wave width reach) words left bytes out are t g = absurd (true≢false t)
+demo_writes (Run8 width reach) words left bytes out are t g = absurd (true≢false t)
 demo_writes Sim words left bytes out are t g = absurd (true≢false t)
 demo_writes Unwave words left bytes out are t g = absurd (true≢false t)
 demo_writes (Demo width reach k) words left bytes out are t g =
-    inr (inr (inr (inr (inr (inr (inr (inr (inr (inr (inr (record { bits = width.bits; box = reach.size; k = k; read = are; untouched = refl; gives = g })))))))))))
+    inr (inr (inr (inr (inr (inr (inr (inr (inr (inr (inr (inr (record { bits = width.bits; box = reach.size; k = k; read = are; untouched = refl; gives = g }))))))))))))
 
 demo_unrefused : (command : Command) (words : List (List ℕ)) (bytes reason : List ℕ) → takes_input command ≡ false → Refuses command words bytes reason → ⊥
 demo_unrefused (Check width) words bytes reason t r = true≢false t
@@ -648,6 +693,7 @@ demo_unrefused (Best width reach) words bytes reason t r = true≢false t
 demo_unrefused (Stream width reach) words bytes reason t r = true≢false t
 demo_unrefused (Emit width reach) words bytes reason t r = true≢false t
 demo_unrefused (Wave width reach) words bytes reason t r = true≢false t
+demo_unrefused (Run8 width reach) words bytes reason t r = true≢false t
 demo_unrefused Sim words bytes reason t r = true≢false t
 demo_unrefused Unwave words bytes reason t r = true≢false t
 demo_unrefused (Demo width reach k) words bytes reason t r = r

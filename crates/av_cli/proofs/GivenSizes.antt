@@ -191,5 +191,8 @@ best_is_no_size is = let k = text_is (codes "best") is in cc
 pub stream_is_no_size : IsSize (codes "stream") → ⊥
 stream_is_no_size is = let k = text_is (codes "stream") is in cc
 
+pub run8_is_no_size : IsSize (codes "run8") → ⊥
+run8_is_no_size is = let k = text_is (codes "run8") is in cc
+
 pub wave_is_no_size : IsSize (codes "wave") → ⊥
 wave_is_no_size is = let k = text_is (codes "wave") is in cc

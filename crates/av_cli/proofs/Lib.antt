@@ -17,6 +17,13 @@ pub mod SetsRead
 pub mod StreamSets
 pub mod StreamAnswers
 pub mod Tabling
+pub mod OneSet
+pub mod LanesPresented
+pub mod LanesWatched
+pub mod LanesFed
+pub mod SetTexts
+pub mod SetOutputs
+pub mod EightAnswers
 pub mod Emitting
 pub mod Fed
 pub mod Watched

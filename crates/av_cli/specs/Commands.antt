@@ -120,6 +120,9 @@ IsStream words bits reach found = Asks (codes "stream") words bits reach found
 abbrev pub AsksWave : List (List ℕ) → ℕ → ℕ → List Size → Type 0
 AsksWave words bits reach found = Asks (codes "wave") words bits reach found
 
+abbrev pub IsRun8 : List (List ℕ) → ℕ → ℕ → List Size → Type 0
+IsRun8 words bits reach found = Asks (codes "run8") words bits reach found
+
 -- nothing, or `--` alone
 abbrev pub IsBare : List (List ℕ) → Type 0
 IsBare words = (words ≡ []) ⊎ (words ≡ codes "--" ∷ [])
@@ -166,6 +169,7 @@ TakeInput words =
     ⊎ ((bits : ℕ) × (reach : ℕ) × (found : List Size) × IsBest words bits reach found)
     ⊎ ((bits : ℕ) × (reach : ℕ) × (found : List Size) × IsStream words bits reach found)
     ⊎ ((bits : ℕ) × (reach : ℕ) × (found : List Size) × AsksWave words bits reach found)
+    ⊎ ((bits : ℕ) × (reach : ℕ) × (found : List Size) × IsRun8 words bits reach found)
     ⊎ IsUnwave words
 
 -- `demo`, which reads none
@@ -176,4 +180,4 @@ abbrev pub AreRead : List (List ℕ) → Type 0
 AreRead words = TakeInput words ⊎ AskDemo words
 
 abbrev pub usage_line : List ℕ
-usage_line = codes "usage: alphav check|schedule|table|emit|run|trace|best|stream|wave [--width W] [--box C] [NAME=VALUE ...] | sim | unwave | demo K\n"
+usage_line = codes "usage: alphav check|schedule|table|emit|run|trace|best|stream|wave|run8 [--width W] [--box C] [NAME=VALUE ...] | sim | unwave | demo K\n"

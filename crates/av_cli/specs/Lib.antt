@@ -12,5 +12,6 @@ pub mod Runs
 pub mod Bests
 pub mod Streams
 pub mod Waves
+pub mod Eights
 pub mod Demos
 pub mod inner

@@ -6,7 +6,7 @@ use Rattle.av_names.specs.declared.size.Size.{Size}
 use Rattle.av_compile.specs.Mapped.{IsMapped}
 use Rattle.av_cli.specs.declared.status.Status.{Status}
 use Rattle.av_cli.specs.declared.status.Status.TheVariants.{Done, Refused, Words, ReadFault, WriteFault, Memory}
-use Rattle.av_cli.specs.Commands.{IsCheck, IsSchedule, IsTable, IsEmit, IsRun, IsTrace, IsBest, IsStream, AsksWave, IsSim, IsUnwave, IsDemo, TakeInput, AskDemo, AreRead, usage_line}
+use Rattle.av_cli.specs.Commands.{IsCheck, IsSchedule, IsTable, IsEmit, IsRun, IsTrace, IsBest, IsStream, AsksWave, IsRun8, IsSim, IsUnwave, IsDemo, TakeInput, AskDemo, AreRead, usage_line}
 use Rattle.av_cli.specs.Refusals.{refusal_line}
 use Rattle.av_cli.specs.Checks.{RefusesCheck, GivesCheck}
 use Rattle.av_cli.specs.Schedules.{RefusesSchedule, GivesSchedule}
@@ -17,6 +17,7 @@ use Rattle.av_cli.specs.Runs.{RefusesRun, GivesResults, GivesTrace}
 use Rattle.av_cli.specs.Bests.{RefusesBest, GivesBest}
 use Rattle.av_cli.specs.Streams.{RefusesStream, GivesStream}
 use Rattle.av_cli.specs.Waves.{GivesDump, RefusesUnwave, GivesUnwave}
+use Rattle.av_cli.specs.Eights.{RefusesEight, GivesEight}
 use Rattle.av_cli.specs.Demos.{GivesDemo}
 
 -- ---- refusals, in their order
@@ -35,6 +36,7 @@ IsRefused words bytes reason =
     ⊎ ((length bytes ≤ 1048576) × ((bits : ℕ) × (box : ℕ) × (sizes : List Size) × IsBest words bits box sizes × RefusesBest sizes bits box bytes reason))
     ⊎ ((length bytes ≤ 1048576) × ((bits : ℕ) × (box : ℕ) × (sizes : List Size) × IsStream words bits box sizes × RefusesStream sizes bits box bytes reason))
     ⊎ ((length bytes ≤ 1048576) × ((bits : ℕ) × (box : ℕ) × (sizes : List Size) × AsksWave words bits box sizes × RefusesRun sizes bits box bytes reason))
+    ⊎ ((length bytes ≤ 1048576) × ((bits : ℕ) × (box : ℕ) × (sizes : List Size) × IsRun8 words bits box sizes × RefusesEight sizes bits box bytes reason))
     ⊎ ((length bytes ≤ 1048576) × IsUnwave words × RefusesUnwave bytes reason)
 
 -- ---- what is written
@@ -172,6 +174,18 @@ pub record WritesDump (words : List (List ℕ)) (left left' : Option (List ℕ))
   pub within : length taken ≤ 1048576
   pub gives : GivesDump sizes bits box taken out
 
+-- the output of `run8`: for each set of the data up to the source's end what `run` writes for the text and that set
+pub record WritesEight (words : List (List ℕ)) (left left' : Option (List ℕ)) (out : List ℕ) : Type 0 where
+  pub bits : ℕ
+  pub box : ℕ
+  pub sizes : List Size
+  pub read : IsRun8 words bits box sizes
+  pub taken : List ℕ
+  pub takes : Takes left left' taken
+  pub whole : IsAtEnd left'
+  pub within : length taken ≤ 1048576
+  pub gives : GivesEight sizes bits box taken out
+
 -- the output of `unwave`: the cycles of the wave whose dump the source gave up to its end
 pub record WritesCycles (words : List (List ℕ)) (left left' : Option (List ℕ)) (out : List ℕ) : Type 0 where
   pub read : IsUnwave words
@@ -203,6 +217,7 @@ WritesOutput words left left' out =
     ⊎ WritesBest words left left' out
     ⊎ WritesStream words left left' out
     ⊎ WritesDump words left left' out
+    ⊎ WritesEight words left left' out
     ⊎ WritesCycles words left left' out
     ⊎ WritesDemo words left left' out
 

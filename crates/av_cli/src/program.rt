@@ -9,6 +9,7 @@ ghost use Rattle.av_cli.specs.inner.CommandsSeen.{Are};
 use crate::best::best;
 use crate::check::check;
 use crate::demo::demo;
+use crate::eight::run8;
 use crate::emit::emit;
 use crate::put::put;
 use crate::runs::{Report, answer_run};
@@ -24,7 +25,7 @@ use av_base::{Name, ReadAll, Sink, Source, read_all};
 use std::alloc::Global;
 
 const USAGE: &str =
-    "usage: alphav check|schedule|table|emit|run|trace|best|stream|wave [--width W] [--box C] [NAME=VALUE ...] | sim | unwave | demo K\n";
+    "usage: alphav check|schedule|table|emit|run|trace|best|stream|wave|run8 [--width W] [--box C] [NAME=VALUE ...] | sim | unwave | demo K\n";
 
 const TOO_LONG: &str = "refused: too long\n";
 
@@ -91,6 +92,7 @@ fn answer<K: Sink>(
         Command::Wave { width, reach } => {
             answer_run(alloc, words, bytes, width, reach, Report::Wave, sink)
         }
+        Command::Run8 { width, reach } => run8(alloc, words, bytes, width, reach, sink),
         Command::Sim => sim(alloc, bytes, sink),
         Command::Unwave => unwave(alloc, bytes, sink),
         Command::Demo { width, reach, size } => demo(alloc, size, width, reach, sink),

@@ -133,8 +133,8 @@ fn names_output(flat: &Flat, name: &Name) -> bool
     false
 }
 
-// Writes the words of the lines that list points of outputs.
-fn write_results<K: Sink>(
+/// Writes the words of the lines that list points of outputs.
+pub(crate) fn write_results<K: Sink>(
     flat: &Flat,
     lines: &[Entry],
     words: &[Word],
@@ -144,6 +144,7 @@ fn write_results<K: Sink>(
     ensures added { OnOk result (Adds (K.state sink.old).held (K.state sink.new).held (results (λ line. names_output (view_system flat.now) line.variable) lines.now (bits_of words.now))) }
     ensures fault { IsErr result → HasRisen (K.state sink.old).faults (K.state sink.new).faults }
     ensures front { OnErr result (AddsPrefix (K.state sink.old).held (K.state sink.new).held (results (λ line. names_output (view_system flat.now) line.variable) lines.now (bits_of words.now))) }
+    ensures later { (K.state sink.old).faults ≤ (K.state sink.new).faults }
 {
     for (k, line) in lines.iter().enumerate() {
         if names_output(flat, &line.variable) {

@@ -154,8 +154,8 @@ fn given_of<D: Data>(ports: &NameSet, values: &D, line: &Entry) -> Given
     }
 }
 
-// One cycle more than the greatest cycle of the lines, or none.
-fn cycles_of(lines: &[Entry]) -> u32
+/// One cycle more than the greatest cycle of the lines, or none.
+pub(crate) fn cycles_of(lines: &[Entry]) -> u32
     requires { All (λ line. line.cycle ≤ 4095) lines.now }
     ensures { All (λ line. line.cycle < result) lines.now }
 {
@@ -168,8 +168,8 @@ fn cycles_of(lines: &[Entry]) -> u32
     cycles
 }
 
-// The place of the drive of each line's wire.
-fn taps(alloc: Global, of: &Module, lines: &[Entry]) -> Result<List<u32>, Memory>
+/// The place of the drive of each line's wire.
+pub(crate) fn taps(alloc: Global, of: &Module, lines: &[Entry]) -> Result<List<u32>, Memory>
     requires sound { IsSound of.now }
     requires wires { All (λ line. Contains (wire_names of.now) line.wire) lines.now }
     ensures { IfOk result (λ taps. AreTaps of.now lines.now (length lines.now) taps) }

@@ -131,8 +131,12 @@ fn put_cycles_refusal<K: Sink>(sink: &mut K, cycles: u128) -> Status
     }
 }
 
-// The words of each set, or the fault of the first set that has one.
-fn read_sets(alloc: Global, flat: &Flat, sets: &[DataSet<'_>]) -> Result<List<Inputs>, DataFault>
+/// The words of each set, or the fault of the first set that has one.
+pub(crate) fn read_sets(
+    alloc: Global,
+    flat: &Flat,
+    sets: &[DataSet<'_>],
+) -> Result<List<Inputs>, DataFault>
     requires chained { IsChained (view_system flat.now) }
     requires lines { All (λ set. set.first_line + length set.bytes.now < 4294967295) sets.now }
     ensures spelled { IfOk result (λ inputs. AreSpelled (view_system flat.now) sets.now (map words_of inputs)) }

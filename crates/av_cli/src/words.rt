@@ -59,6 +59,11 @@ pub(crate) enum Command {
         width: Width,
         reach: Reach,
     },
+    /// The solutions of a system for eight data sets at most, by its array. Its sizes stand in the words.
+    Run8 {
+        width: Width,
+        reach: Reach,
+    },
     /// The run of a module under a stimulus.
     Sim,
     /// The cycles of a dump.
@@ -87,6 +92,7 @@ impl Command {
             | Command::Best { .. }
             | Command::Stream { .. }
             | Command::Wave { .. }
+            | Command::Run8 { .. }
             | Command::Sim
             | Command::Unwave => true,
         }
@@ -134,6 +140,10 @@ pub(crate) fn read_words(words: &[Name]) -> Option<Command>
         "wave" => {
             let (width, reach) = read_width_and_reach(words)?;
             Some(Command::Wave { width, reach })
+        }
+        "run8" => {
+            let (width, reach) = read_width_and_reach(words)?;
+            Some(Command::Run8 { width, reach })
         }
         "sim" if is_bare(words) => Some(Command::Sim),
         "unwave" if is_bare(words) => Some(Command::Unwave),

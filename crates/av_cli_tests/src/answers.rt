@@ -156,3 +156,21 @@ pub(crate) fn assert_rows(rt: &impl Abort, alloc: Global, rows: &[Row]) -> Resul
     }
     Ok(())
 }
+
+/// A sink that fails at this call holds what it took before, which the whole output begins with.
+pub(crate) fn assert_front(
+    rt: &impl Abort,
+    alloc: Global,
+    words: &[&str],
+    input: List<u8>,
+    call: u64,
+    whole: &[u8],
+) -> Result<(), Fail> {
+    let mut source = MemSource::new(input, 4096, List::new(alloc));
+    let mut sink = MemSink::new(alloc, 4096, 5, calls(alloc, Some(call))?)?;
+    let status = answer(alloc, words, &mut source, &mut sink)?;
+    assert_eq!(rt; status, Status::WriteFault, "call {call}");
+    assert_eq!(rt; sink.held().is_empty(), call == 0, "call {call}");
+    assert!(rt; whole.starts_with(sink.held()), "call {call}");
+    Ok(())
+}

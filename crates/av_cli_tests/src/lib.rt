@@ -13,6 +13,8 @@ mod demos;
 #[cfg(test)]
 mod designs;
 #[cfg(test)]
+mod eights;
+#[cfg(test)]
 mod emits;
 #[cfg(test)]
 mod faults;

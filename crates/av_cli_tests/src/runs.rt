@@ -11,12 +11,12 @@ use av_testing::texts::{
 use std::alloc::Global;
 use std::test::Fail;
 
-const ABSOLUTE: &str = "system inc (X : {i | 0<=i<=2} of integer) \
+pub(crate) const ABSOLUTE: &str = "system inc (X : {i | 0<=i<=2} of integer) \
     returns (Y : {i | 0<=i<=2} of integer); \
     let Y[i] = if X[i] < 0 then -X[i] else X[i]; tel;";
 
-// Without indices, with two outputs, one of which has no point.
-const SCALARS: &str = "system t (a : {|} of integer; B : {i | -1<=i<=0} of integer) \
+/// Without indices, with two outputs, one of which has no point.
+pub(crate) const SCALARS: &str = "system t (a : {|} of integer; B : {i | -1<=i<=0} of integer) \
     returns (Z : {i | 1<=i<=0} of integer; y : {|} of integer; X : {i | -1<=i<=0} of integer); \
     var u : {|} of integer; let u[] = a[] + 1; y[] = u[] * 2; Z[i] = 1; X[i] = B[i] - a[]; tel;";
 

@@ -1,7 +1,8 @@
 //! The answers of `wave` and `unwave`.
 
 use crate::answers::{
-    Row, answer, answered, assert_answer, assert_end, assert_rows, calls, extend, joined, repeated,
+    Row, answer, answered, assert_answer, assert_end, assert_front, assert_rows, calls, extend,
+    joined, repeated,
 };
 use crate::texts::{INCREMENT, USAGE};
 use av_base::{List, MemSink, MemSource};
@@ -494,24 +495,6 @@ const FAILING: &[(&[&str], &str, &str)] = &[
     (&["unwave"], HEAD_OF_ONES, "#1\n#2\n#3\n#4\n"),
     (&["unwave"], HEAD_OF_ONES, "#1\n#2\n#3\n#5\n"),
 ];
-
-// A sink that fails at this call holds what it took before, which the whole output begins with.
-fn assert_front(
-    rt: &impl Abort,
-    alloc: Global,
-    words: &[&str],
-    input: List<u8>,
-    call: u64,
-    whole: &[u8],
-) -> Result<(), Fail> {
-    let mut source = MemSource::new(input, 4096, List::new(alloc));
-    let mut sink = MemSink::new(alloc, 4096, 5, calls(alloc, Some(call))?)?;
-    let status = answer(alloc, words, &mut source, &mut sink)?;
-    assert_eq!(rt; status, Status::WriteFault, "call {call}");
-    assert_eq!(rt; sink.held().is_empty(), call == 0, "call {call}");
-    assert!(rt; whole.starts_with(sink.held()), "call {call}");
-    Ok(())
-}
 
 #[test]
 fn a_sink_may_fail_at_a_dump(rt: HostRuntime) -> Result<(), Fail> {

@@ -2,8 +2,8 @@
 use Rattle.std.specs.Prelude.{ℕ, List}
 use Rattle.av_names.specs.declared.size.Size.{Size}
 use Rattle.av_cli.specs.declared.words.Command.{Command}
-use Rattle.av_cli.specs.declared.words.Command.TheVariants.{Check, Schedule, Table, Emit, Run, Trace, Best, Stream, Wave, Sim, Unwave, Demo}
-use Rattle.av_cli.specs.Commands.{IsCheck, IsSchedule, IsTable, IsEmit, IsRun, IsTrace, IsBest, IsStream, AsksWave}
+use Rattle.av_cli.specs.declared.words.Command.TheVariants.{Check, Schedule, Table, Emit, Run, Trace, Best, Stream, Wave, Run8, Sim, Unwave, Demo}
+use Rattle.av_cli.specs.Commands.{IsCheck, IsSchedule, IsTable, IsEmit, IsRun, IsTrace, IsBest, IsStream, AsksWave, IsRun8}
 use Rattle.av_cli.specs.Checks.{RefusesCheck, GivesCheck}
 use Rattle.av_cli.specs.Schedules.{RefusesSchedule, GivesSchedule}
 use Rattle.av_cli.specs.Tables.{RefusesTable, GivesTable}
@@ -11,6 +11,7 @@ use Rattle.av_cli.specs.Sims.{RefusesSim, GivesSim}
 use Rattle.av_cli.specs.Runs.{RefusesRun, GivesResults, GivesTrace}
 use Rattle.av_cli.specs.Bests.{RefusesBest, GivesBest}
 use Rattle.av_cli.specs.Streams.{RefusesStream, GivesStream}
+use Rattle.av_cli.specs.Eights.{RefusesEight, GivesEight}
 use Rattle.av_cli.specs.Waves.{GivesDump, RefusesUnwave, GivesUnwave}
 use Rattle.av_cli.specs.Demos.{GivesDemo}
 use Rattle.av_cli.specs.inner.WithWords.{GivesMapped}
@@ -27,6 +28,7 @@ Refuses (Stream width reach) words bytes reason = (sizes : List Size) × IsStrea
 Refuses (Demo width reach k) words bytes reason = ⊥
 Refuses Sim words bytes reason = RefusesSim bytes reason
 Refuses (Wave width reach) words bytes reason = (sizes : List Size) × AsksWave words width.bits reach.size sizes × RefusesRun sizes width.bits reach.size bytes reason
+Refuses (Run8 width reach) words bytes reason = (sizes : List Size) × IsRun8 words width.bits reach.size sizes × RefusesEight sizes width.bits reach.size bytes reason
 Refuses Unwave words bytes reason = RefusesUnwave bytes reason
 
 abbrev pub Gives : Command → List (List ℕ) → List ℕ → List ℕ → Type 0
@@ -41,4 +43,5 @@ Gives (Stream width reach) words bytes out = (sizes : List Size) × IsStream wor
 Gives (Demo width reach k) words bytes out = GivesDemo k width.bits reach.size out
 Gives Sim words bytes out = GivesSim bytes out
 Gives (Wave width reach) words bytes out = (sizes : List Size) × AsksWave words width.bits reach.size sizes × GivesDump sizes width.bits reach.size bytes out
+Gives (Run8 width reach) words bytes out = (sizes : List Size) × IsRun8 words width.bits reach.size sizes × GivesEight sizes width.bits reach.size bytes out
 Gives Unwave words bytes out = GivesUnwave bytes out

@@ -2,9 +2,9 @@
 use Rattle.std.specs.Prelude.{List, ℕ, Bool, true, false, option_map}
 use Rattle.av_cli.specs.declared.options.Options.{Options as Kept}
 use Rattle.av_cli.specs.declared.words.Command.{Command}
-use Rattle.av_cli.specs.declared.words.Command.TheVariants.{Check, Schedule, Table, Emit, Run, Trace, Best, Stream, Wave, Sim, Unwave, Demo}
+use Rattle.av_cli.specs.declared.words.Command.TheVariants.{Check, Schedule, Table, Emit, Run, Trace, Best, Stream, Wave, Run8, Sim, Unwave, Demo}
 use Rattle.av_names.specs.declared.size.Size.{Size}
-use Rattle.av_cli.specs.Commands.{Options, IsCheck, IsSchedule, IsTable, IsEmit, IsRun, IsTrace, IsBest, IsStream, AsksWave, IsSim, IsUnwave, IsDemo}
+use Rattle.av_cli.specs.Commands.{Options, IsCheck, IsSchedule, IsTable, IsEmit, IsRun, IsTrace, IsBest, IsStream, AsksWave, IsRun8, IsSim, IsUnwave, IsDemo}
 
 abbrev pub seen : Kept → Options
 seen o = record { width = option_map (λ w. w.bits) o.width; box = option_map (λ r. r.size) o.reach }
@@ -21,6 +21,7 @@ Are (Best w r) words = (sizes : List Size) × IsBest words w.bits r.size sizes
 Are (Stream w r) words = (sizes : List Size) × IsStream words w.bits r.size sizes
 Are (Wave w r) words = (sizes : List Size) × AsksWave words w.bits r.size sizes
 Are Sim words = IsSim words
+Are (Run8 w r) words = (sizes : List Size) × IsRun8 words w.bits r.size sizes
 Are Unwave words = IsUnwave words
 Are (Demo w r k) words = IsDemo words w.bits r.size k
 
@@ -36,5 +37,6 @@ takes_input (Best w r) = true
 takes_input (Stream w r) = true
 takes_input (Wave w r) = true
 takes_input Sim = true
+takes_input (Run8 w r) = true
 takes_input Unwave = true
 takes_input (Demo w r k) = false

@@ -1,6 +1,6 @@
 use Rattle.std.proofs.Common.{subst}
 use Rattle.av_cli.specs.declared.words.Command.{Command}
-use Rattle.av_cli.specs.declared.words.Command.TheVariants.{Check, Schedule, Table, Emit, Run, Trace, Best, Stream, Wave, Sim, Unwave, Demo}
+use Rattle.av_cli.specs.declared.words.Command.TheVariants.{Check, Schedule, Table, Emit, Run, Trace, Best, Stream, Wave, Run8, Sim, Unwave, Demo}
 use Rattle.av_cli.specs.inner.CommandsSeen.{Are}
 use Rattle.av_cli.proofs.Answered.{by_command}
 use Rattle.av_cli.proofs.Checking.{check_answered}
@@ -9,6 +9,7 @@ use Rattle.av_cli.proofs.Tabling.{table_answered}
 use Rattle.av_cli.proofs.Emitting.{emit_answered}
 use Rattle.av_cli.proofs.Reporting.{run_words, trace_words, wave_words}
 use Rattle.av_cli.proofs.LeastSchedules.{best_answered}
+use Rattle.av_cli.proofs.EightAnswers.{eight_answered}
 use Rattle.av_cli.proofs.StreamAnswers.{stream_answered}
 use Rattle.av_cli.proofs.Outputs.{puts_given}
 use Rattle.av_cli.proofs.program.answer.Goals as goal
@@ -94,6 +95,15 @@ returns-in-Wave g c =
     let reach = c.in-Wave.reach in
     by_command c.args.command (Wave width reach) words bytes c.in-Wave.is
     (wave_words words width.bits reach.size bytes (subst (λ (x : Command). Are x words) c.in-Wave.is c.requires.read) c.answer_run-in-Wave.ensures)
+
+pub returns-in-Run8 : goal.returns-in-Run8
+returns-in-Run8 g c =
+    let words = c.args.words.now in
+    let bytes = c.args.bytes.now in
+    let width = c.in-Run8.width in
+    let reach = c.in-Run8.reach in
+    by_command c.args.command (Run8 width reach) words bytes c.in-Run8.is
+    (eight_answered words width.bits reach.size bytes (subst (λ (x : Command). Are x words) c.in-Run8.is c.requires.read) c.run8.ensures)
 
 pub returns-in-Unwave : goal.returns-in-Unwave
 returns-in-Unwave g c = by_command c.args.command Unwave c.args.words.now c.args.bytes.now c.in-Unwave.is c.unwave.ensures

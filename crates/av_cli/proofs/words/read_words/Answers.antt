@@ -1,7 +1,7 @@
 use Rattle.std.proofs.Common.{◌≡◌, ◌∷◌, ◌∙◌, drop, ap, refl, sym}
 use Rattle.std.specs.Prelude.{codes}
 use Rattle.av_cli.proofs.OptionWords.{at_words}
-use Rattle.av_cli.proofs.GivenSizes.{check_read, asked, schedule_is_no_size, table_is_no_size, emit_is_no_size, run_is_no_size, trace_is_no_size, best_is_no_size, stream_is_no_size, wave_is_no_size}
+use Rattle.av_cli.proofs.GivenSizes.{check_read, asked, schedule_is_no_size, table_is_no_size, emit_is_no_size, run_is_no_size, trace_is_no_size, best_is_no_size, stream_is_no_size, wave_is_no_size, run8_is_no_size}
 use Rattle.av_cli.proofs.words.read_words.Goals as goal
 
 pub returns-in_ok-read_width-in-check-clause-read : goal.returns-in_ok-read_width-in-check-clause-read
@@ -74,3 +74,11 @@ returns-in_ok-width-in-wave-clause-read c =
     let first : words ≡ c.in_ok-first.first.now ∷ drop 1 words = at_words words 0 1 c.in_ok-first.first.now item.3.0 refl item.1 in
     let said = c.in_ok-width-in-wave in
     asked (codes "wave") words said.width.bits said.reach.size (drop 1 words) wave_is_no_size (first ∙ ap (λ w. w ∷ drop 1 words) (sym c.as_str.ensures ∙ c.in-wave.is)) said.ensures.read
+
+pub returns-in_ok-width-in-run8-clause-read : goal.returns-in_ok-width-in-run8-clause-read
+returns-in_ok-width-in-run8-clause-read c =
+    let words = c.args.words.now in
+    let item = c.in_ok-first.ensures.item in
+    let first : words ≡ c.in_ok-first.first.now ∷ drop 1 words = at_words words 0 1 c.in_ok-first.first.now item.3.0 refl item.1 in
+    let said = c.in_ok-width-in-run8 in
+    asked (codes "run8") words said.width.bits said.reach.size (drop 1 words) run8_is_no_size (first ∙ ap (λ w. w ∷ drop 1 words) (sym c.as_str.ensures ∙ c.in-run8.is)) said.ensures.read
