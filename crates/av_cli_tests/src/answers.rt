@@ -132,6 +132,25 @@ pub(crate) fn assert_parts(
     assert_given(rt, alloc, words, input, status, out, text)
 }
 
+// What is answered where the source gives pieces of this size and fails at this call.
+fn unread(
+    alloc: Global,
+    words: &[&str],
+    input: List<u8>,
+    piece: usize,
+    call: u64,
+) -> Result<Outcome, Fail> {
+    let mut source = MemSource::new(input, piece, calls(alloc, Some(call))?);
+    let mut sink = MemSink::new(alloc, 4096, 4096, List::new(alloc))?;
+    let status = answer(alloc, words, &mut source, &mut sink)?;
+    Ok(Outcome { status, sink })
+}
+
+fn assert_unread(rt: &impl Abort, found: &Outcome, call: u64) {
+    assert_eq!(rt; found.status, Status::ReadFault, "call {call}");
+    assert!(rt; found.sink.held().is_empty(), "call {call}");
+}
+
 /// A source that fails at this call is told, and nothing is written.
 pub(crate) fn assert_read_fault(
     rt: &impl Abort,
@@ -141,11 +160,8 @@ pub(crate) fn assert_read_fault(
     piece: usize,
     call: u64,
 ) -> Result<(), Fail> {
-    let mut source = MemSource::new(input, piece, calls(alloc, Some(call))?);
-    let mut sink = MemSink::new(alloc, 4096, 4096, List::new(alloc))?;
-    let status = answer(alloc, words, &mut source, &mut sink)?;
-    assert_eq!(rt; status, Status::ReadFault, "call {call}");
-    assert!(rt; sink.held().is_empty(), "call {call}");
+    let found = unread(alloc, words, input, piece, call)?;
+    assert_unread(rt, &found, call);
     Ok(())
 }
 
@@ -157,6 +173,20 @@ pub(crate) fn assert_rows(rt: &impl Abort, alloc: Global, rows: &[Row]) -> Resul
     Ok(())
 }
 
+// What is answered where the sink takes five bytes in a call and fails at this one.
+fn cut_off(alloc: Global, words: &[&str], input: List<u8>, call: u64) -> Result<Outcome, Fail> {
+    let mut source = MemSource::new(input, 4096, List::new(alloc));
+    let mut sink = MemSink::new(alloc, 4096, 5, calls(alloc, Some(call))?)?;
+    let status = answer(alloc, words, &mut source, &mut sink)?;
+    Ok(Outcome { status, sink })
+}
+
+fn assert_cut_off(rt: &impl Abort, found: &Outcome, call: u64, whole: &[u8]) {
+    assert_eq!(rt; found.status, Status::WriteFault, "call {call}");
+    assert_eq!(rt; found.sink.held().is_empty(), call == 0, "call {call}");
+    assert!(rt; whole.starts_with(found.sink.held()), "call {call}");
+}
+
 /// A sink that fails at this call holds what it took before, which the whole output begins with.
 pub(crate) fn assert_front(
     rt: &impl Abort,
@@ -166,11 +196,7 @@ pub(crate) fn assert_front(
     call: u64,
     whole: &[u8],
 ) -> Result<(), Fail> {
-    let mut source = MemSource::new(input, 4096, List::new(alloc));
-    let mut sink = MemSink::new(alloc, 4096, 5, calls(alloc, Some(call))?)?;
-    let status = answer(alloc, words, &mut source, &mut sink)?;
-    assert_eq!(rt; status, Status::WriteFault, "call {call}");
-    assert_eq!(rt; sink.held().is_empty(), call == 0, "call {call}");
-    assert!(rt; whole.starts_with(sink.held()), "call {call}");
+    let found = cut_off(alloc, words, input, call)?;
+    assert_cut_off(rt, &found, call, whole);
     Ok(())
 }

@@ -1,11 +1,11 @@
 //! The answers of `wave` and `unwave`.
 
 use crate::answers::{
-    Row, answer, answered, assert_answer, assert_end, assert_front, assert_rows, calls, extend,
+    Row, answered, assert_answer, assert_end, assert_front, assert_read_fault, assert_rows, extend,
     joined, repeated,
 };
 use crate::texts::{INCREMENT, USAGE};
-use av_base::{List, MemSink, MemSource};
+use av_base::List;
 use av_cli::Status;
 use std::alloc::Global;
 use std::fmt::Write;
@@ -514,11 +514,7 @@ fn a_source_may_fail_at_a_dump(rt: HostRuntime) -> Result<(), Fail> {
     let alloc = rt.alloc();
     for call in 0..5 {
         let input = dump_with(alloc, 0, &[])?;
-        let mut source = MemSource::new(input, 50, calls(alloc, Some(call))?);
-        let mut sink = MemSink::new(alloc, 4096, 4096, List::new(alloc))?;
-        let status = answer(alloc, &["unwave"], &mut source, &mut sink)?;
-        assert_eq!(rt; status, Status::ReadFault, "call {call}");
-        assert!(rt; sink.held().is_empty(), "call {call}");
+        assert_read_fault(&rt, alloc, &["unwave"], input, 50, call)?;
     }
     Ok(())
 }
