@@ -297,7 +297,7 @@ struct Declared {
     registers: List<Port>,
 }
 
-fn declared(alloc: Global) -> Result<Declared, Memory>
+fn declarations(alloc: Global) -> Result<Declared, Memory>
     ensures inputs { IfOk result (λ d. d.inputs ≡ port_of (codes "i") four_bits ∷ []) }
     ensures outputs { IfOk result (λ d. d.outputs ≡ port_of (codes "o") eight_bits ∷ port_of (codes "p") two_bits ∷ []) }
     ensures wires { IfOk result (λ d. d.wires ≡ port_of (codes "c") four_bits ∷ port_of (codes "d") four_bits ∷ []) }
@@ -335,7 +335,7 @@ fn top(alloc: Global) -> Result<Module, Memory>
     let name = Name::new(alloc, "t")?;
     let drives = drives(alloc)?;
     let steps = steps(alloc)?;
-    let declared = declared(alloc)?;
+    let declared = declarations(alloc)?;
     Ok(Module {
         name,
         inputs: declared.inputs,
