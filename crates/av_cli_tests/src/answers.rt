@@ -103,13 +103,88 @@ pub(crate) fn assert_end(rt: &impl Abort, answer: &Outcome, status: Status, out:
     assert_eq!(rt; answer.status, status, "{out}");
 }
 
+/// The answer to these words and this input has this status and this output.
+pub(crate) fn assert_given(
+    rt: &impl Abort,
+    alloc: Global,
+    words: &[&str],
+    input: List<u8>,
+    status: Status,
+    out: &str,
+    text: &str,
+) -> Result<(), Fail> {
+    let answer = answered(alloc, words, input, 65536)?;
+    assert_answer(rt, &answer, status, out, text);
+    Ok(())
+}
+
+/// The same of an input of these parts.
+pub(crate) fn assert_parts(
+    rt: &impl Abort,
+    alloc: Global,
+    words: &[&str],
+    parts: &[&str],
+    status: Status,
+    out: &str,
+    text: &str,
+) -> Result<(), Fail> {
+    let input = joined(alloc, parts)?;
+    assert_given(rt, alloc, words, input, status, out, text)
+}
+
+// What is answered where the source gives pieces of this size and fails at this call.
+fn unread(
+    alloc: Global,
+    words: &[&str],
+    input: List<u8>,
+    piece: usize,
+    call: u64,
+) -> Result<Outcome, Fail> {
+    let mut source = MemSource::new(input, piece, calls(alloc, Some(call))?);
+    let mut sink = MemSink::new(alloc, 4096, 4096, List::new(alloc))?;
+    let status = answer(alloc, words, &mut source, &mut sink)?;
+    Ok(Outcome { status, sink })
+}
+
+fn assert_unread(rt: &impl Abort, found: &Outcome, call: u64) {
+    assert_eq!(rt; found.status, Status::ReadFault, "call {call}");
+    assert!(rt; found.sink.held().is_empty(), "call {call}");
+}
+
+/// A source that fails at this call is told, and nothing is written.
+pub(crate) fn assert_read_fault(
+    rt: &impl Abort,
+    alloc: Global,
+    words: &[&str],
+    input: List<u8>,
+    piece: usize,
+    call: u64,
+) -> Result<(), Fail> {
+    let found = unread(alloc, words, input, piece, call)?;
+    assert_unread(rt, &found, call);
+    Ok(())
+}
+
 /// Each row's words and input have its status and output.
 pub(crate) fn assert_rows(rt: &impl Abort, alloc: Global, rows: &[Row]) -> Result<(), Fail> {
     for (words, text, status, out) in rows {
-        let answer = answered(alloc, words, joined(alloc, &[text])?, 4096)?;
-        assert_answer(rt, &answer, *status, out, text);
+        assert_parts(rt, alloc, words, &[text], *status, out, text)?;
     }
     Ok(())
+}
+
+// What is answered where the sink takes five bytes in a call and fails at this one.
+fn cut_off(alloc: Global, words: &[&str], input: List<u8>, call: u64) -> Result<Outcome, Fail> {
+    let mut source = MemSource::new(input, 4096, List::new(alloc));
+    let mut sink = MemSink::new(alloc, 4096, 5, calls(alloc, Some(call))?)?;
+    let status = answer(alloc, words, &mut source, &mut sink)?;
+    Ok(Outcome { status, sink })
+}
+
+fn assert_cut_off(rt: &impl Abort, found: &Outcome, call: u64, whole: &[u8]) {
+    assert_eq!(rt; found.status, Status::WriteFault, "call {call}");
+    assert_eq!(rt; found.sink.held().is_empty(), call == 0, "call {call}");
+    assert!(rt; whole.starts_with(found.sink.held()), "call {call}");
 }
 
 /// A sink that fails at this call holds what it took before, which the whole output begins with.
@@ -121,11 +196,7 @@ pub(crate) fn assert_front(
     call: u64,
     whole: &[u8],
 ) -> Result<(), Fail> {
-    let mut source = MemSource::new(input, 4096, List::new(alloc));
-    let mut sink = MemSink::new(alloc, 4096, 5, calls(alloc, Some(call))?)?;
-    let status = answer(alloc, words, &mut source, &mut sink)?;
-    assert_eq!(rt; status, Status::WriteFault, "call {call}");
-    assert_eq!(rt; sink.held().is_empty(), call == 0, "call {call}");
-    assert!(rt; whole.starts_with(sink.held()), "call {call}");
+    let found = cut_off(alloc, words, input, call)?;
+    assert_cut_off(rt, &found, call, whole);
     Ok(())
 }

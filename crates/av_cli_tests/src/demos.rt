@@ -1,6 +1,6 @@
 //! The answers of `demo`, for each size and box.
 
-use crate::answers::{answered, assert_answer, joined};
+use crate::answers::assert_parts;
 use av_cli::Status;
 use std::alloc::Global;
 use std::fmt::Write;
@@ -62,6 +62,45 @@ fn sum(size: u32, width: u32) -> u64 {
     }
 }
 
+// A word that ends with a number.
+fn word(alloc: Global, before: &str, number: u32) -> Result<String, Fail> {
+    let mut word = String::from_str(alloc, before)?;
+    write!(word, "{number}")?;
+    Ok(word)
+}
+
+// The words that are behind `demo`.
+#[derive(Drop)]
+struct DemoWords {
+    size: String,
+    reach: String,
+    width: String,
+}
+
+fn demo_words(alloc: Global, size: u32, reach: u32, width: u32) -> Result<DemoWords, Fail> {
+    let size = word(alloc, "", size)?;
+    let reach = word(alloc, "--box=", reach)?;
+    let width = word(alloc, "--width=", width)?;
+    Ok(DemoWords { size, reach, width })
+}
+
+// What is written of a size and a width of words.
+fn output(alloc: Global, size: u32, width: u32) -> Result<String, Fail> {
+    let mut out = totals(alloc, size)?;
+    write!(out, "sum {}\n", sum(size, width))?;
+    Ok(out)
+}
+
+fn assert_output(rt: &impl Abort, alloc: Global, words: &DemoWords, out: &str) -> Result<(), Fail> {
+    let words = [
+        "demo",
+        words.size.as_str(),
+        words.reach.as_str(),
+        words.width.as_str(),
+    ];
+    assert_parts(rt, alloc, &words, &[], Status::Done, out, words[2])
+}
+
 fn assert_demo(
     rt: &impl Abort,
     alloc: Global,
@@ -69,23 +108,9 @@ fn assert_demo(
     reach: u32,
     width: u32,
 ) -> Result<(), Fail> {
-    let mut size_word = String::new(alloc);
-    write!(size_word, "{size}")?;
-    let mut box_word = String::new(alloc);
-    write!(box_word, "--box={reach}")?;
-    let mut width_word = String::new(alloc);
-    write!(width_word, "--width={width}")?;
-    let mut out = totals(alloc, size)?;
-    write!(out, "sum {}\n", sum(size, width))?;
-    let words = [
-        "demo",
-        size_word.as_str(),
-        box_word.as_str(),
-        width_word.as_str(),
-    ];
-    let answer = answered(alloc, &words, joined(alloc, &[])?, 256)?;
-    assert_answer(rt, &answer, Status::Done, out.as_str(), box_word.as_str());
-    Ok(())
+    let words = demo_words(alloc, size, reach, width)?;
+    let out = output(alloc, size, width)?;
+    assert_output(rt, alloc, &words, out.as_str())
 }
 
 // Each size in each box, and each width once.

@@ -181,11 +181,10 @@ fn designs_show_their_points_whatever_stands_on_idle_ports(rt: HostRuntime) -> R
     Ok(())
 }
 
-// Emits a design, and clocks it.
-fn stimulated(alloc: Global, it: &Clocked<'_>) -> Result<Outcome, Fail> {
-    let emitted = answered(alloc, it.words, joined(alloc, &[it.text])?, 65536)?;
+// The design that was emitted, and behind it the words of each cycle as a stimulus.
+fn with_stimulus(alloc: Global, it: &Clocked<'_>, design: &[u8]) -> Result<List<u8>, Fail> {
     let mut text = List::new(alloc);
-    extend(&mut text, emitted.sink.held())?;
+    extend(&mut text, design)?;
     extend(&mut text, b"%%\ncycles ")?;
     let count = NUMBERS.get(it.cycles.len()).unwrap_or(&"0");
     extend(&mut text, count.as_bytes())?;
@@ -193,6 +192,13 @@ fn stimulated(alloc: Global, it: &Clocked<'_>) -> Result<Outcome, Fail> {
     for (cycle, words) in NUMBERS.iter().zip(it.cycles) {
         put_cycle(alloc, &mut text, cycle, words)?;
     }
+    Ok(text)
+}
+
+// Emits a design, and clocks it.
+fn stimulated(alloc: Global, it: &Clocked<'_>) -> Result<Outcome, Fail> {
+    let emitted = answered(alloc, it.words, joined(alloc, &[it.text])?, 65536)?;
+    let text = with_stimulus(alloc, it, emitted.sink.held())?;
     answered(alloc, &["sim"], text, 4096)
 }
 

@@ -1,12 +1,11 @@
 //! The answers of `run8`.
 
 use crate::answers::{
-    Row, answer, answered, assert_answer, assert_front, assert_rows, calls, joined, repeated,
+    Row, answered, assert_answer, assert_front, assert_read_fault, assert_rows, joined, repeated,
 };
 use crate::checks::UNCOVERED;
 use crate::runs::{ABSOLUTE, SCALARS};
 use crate::texts::{INCREMENT, USAGE};
-use av_base::{List, MemSink, MemSource};
 use av_cli::Status;
 use av_testing::texts::{
     CIRCLE, CONVOLUTION, FORWARD, LEAST, MATRIX_PRODUCT, MATRIX_VECTOR, NO_POINT, RUNNING_SUMS,
@@ -381,11 +380,7 @@ fn a_source_may_fail_at_eight_sets(rt: HostRuntime) -> Result<(), Fail> {
     let alloc = rt.alloc();
     for call in 0..4 {
         let input = joined(alloc, &[INCREMENT, TWO_SETS])?;
-        let mut source = MemSource::new(input, 50, calls(alloc, Some(call))?);
-        let mut sink = MemSink::new(alloc, 4096, 4096, List::new(alloc))?;
-        let status = answer(alloc, WIDTH_8, &mut source, &mut sink)?;
-        assert_eq!(rt; status, Status::ReadFault, "call {call}");
-        assert!(rt; sink.held().is_empty(), "call {call}");
+        assert_read_fault(&rt, alloc, WIDTH_8, input, 50, call)?;
     }
     Ok(())
 }

@@ -1,7 +1,9 @@
 //! Hostile ends: a text cut short at each byte, bytes that spell nothing, and a source that fails at each call.
 
-use crate::answers::{answer, answered, assert_answer, calls, extend, joined, repeated};
-use av_base::{List, MemSink, MemSource};
+use crate::answers::{
+    answered, assert_answer, assert_given, assert_read_fault, extend, joined, repeated,
+};
+use av_base::List;
 use av_cli::Status;
 use av_testing::texts::MATRIX_VECTOR;
 use std::alloc::Global;
@@ -22,13 +24,16 @@ const BLANKS: &[(usize, &str)] = &[
     (1_048_577, "refused: too long\n"),
 ];
 
+fn bytes_of(alloc: Global, bytes: &[u8]) -> Result<List<u8>, Fail> {
+    let mut list = List::new(alloc);
+    extend(&mut list, bytes)?;
+    Ok(list)
+}
+
 // The first bytes of the text are no text, unless at most its last line feed and its last semicolon lack.
 fn assert_front(rt: &impl Abort, alloc: Global, count: usize) -> Result<(), Fail> {
-    let mut front = List::new(alloc);
-    extend(
-        &mut front,
-        MATRIX_VECTOR.as_bytes().get(..count).unwrap_or(&[]),
-    )?;
+    let bytes = MATRIX_VECTOR.as_bytes().get(..count).unwrap_or(&[]);
+    let front = bytes_of(alloc, bytes)?;
     let answer = answered(alloc, CHECK, front, 4096)?;
     if count < MATRIX_VECTOR.len().saturating_sub(2) {
         assert_eq!(rt; answer.status, Status::Refused, "the first {count} bytes");
@@ -55,10 +60,8 @@ fn a_text_may_end_at_each_byte(rt: HostRuntime) -> Result<(), Fail> {
 fn bytes_that_spell_nothing_are_refused_at_their_place(rt: HostRuntime) -> Result<(), Fail> {
     let alloc = rt.alloc();
     for (words, text, line) in ROWS {
-        let mut bytes = List::new(alloc);
-        extend(&mut bytes, text)?;
-        let answer = answered(alloc, words, bytes, 4096)?;
-        assert_answer(&rt, &answer, Status::Refused, line, line);
+        let input = bytes_of(alloc, text)?;
+        assert_given(&rt, alloc, words, input, Status::Refused, line, line)?;
     }
     Ok(())
 }
@@ -68,8 +71,7 @@ fn blanks_are_read_up_to_the_limit(rt: HostRuntime) -> Result<(), Fail> {
     let alloc = rt.alloc();
     for (count, line) in BLANKS {
         let blanks = repeated(alloc, "", " ", *count, "")?;
-        let answer = answered(alloc, CHECK, blanks, 4096)?;
-        assert_answer(&rt, &answer, Status::Refused, line, line);
+        assert_given(&rt, alloc, CHECK, blanks, Status::Refused, line, line)?;
     }
     Ok(())
 }
@@ -79,11 +81,7 @@ fn a_source_may_fail_at_each_call_of_check(rt: HostRuntime) -> Result<(), Fail> 
     let alloc = rt.alloc();
     for call in 0..=MATRIX_VECTOR.len() as u64 {
         let text = joined(alloc, &[MATRIX_VECTOR])?;
-        let mut source = MemSource::new(text, 1, calls(alloc, Some(call))?);
-        let mut sink = MemSink::new(alloc, 4096, 1, calls(alloc, None)?)?;
-        let status = answer(alloc, CHECK, &mut source, &mut sink)?;
-        assert_eq!(rt; status, Status::ReadFault, "call {call}");
-        assert!(rt; sink.held().is_empty(), "call {call}");
+        assert_read_fault(&rt, alloc, CHECK, text, 1, call)?;
     }
     Ok(())
 }

@@ -1,6 +1,6 @@
 //! What `check` answers of pieces, sets and boxes: each quantity at its limit and one above.
 
-use crate::answers::{answered, assert_answer, repeated};
+use crate::answers::{assert_given, repeated};
 use av_cli::Status;
 use std::test::Fail;
 
@@ -218,13 +218,12 @@ fn quantities_at_their_limits_and_one_above(rt: HostRuntime) -> Result<(), Fail>
     let alloc = rt.alloc();
     for (before, part, count, after, line) in ROWS {
         let text = repeated(alloc, before, part, *count, after)?;
-        let answer = answered(alloc, &["check"], text, 200)?;
         let status = if *line == "ok\n" {
             Status::Done
         } else {
             Status::Refused
         };
-        assert_answer(&rt, &answer, status, line, after);
+        assert_given(&rt, alloc, &["check"], text, status, line, after)?;
     }
     Ok(())
 }

@@ -1,6 +1,6 @@
 //! The answers of `run`, `trace` and `demo`, and what designs show.
 
-use crate::answers::{answer, answered, assert_answer, calls, joined};
+use crate::answers::{answer, assert_parts, calls, joined};
 use crate::checks::UNCOVERED;
 use crate::texts::{BOTH_ENDS, CUT_DOWN, INCREMENT, TOO_WIDE, USAGE, WIDENED};
 use av_base::{MemSink, MemSource};
@@ -428,8 +428,7 @@ const OF_WIDTHS: &[(&[&str], &str, &str, Status, &str)] = &[
 fn the_words_the_text_and_the_data_fix_status_and_output(rt: HostRuntime) -> Result<(), Fail> {
     let alloc = rt.alloc();
     for (words, text, data, status, out) in ROWS.iter().chain(OF_WIDTHS) {
-        let answer = answered(alloc, words, joined(alloc, &[text, data])?, 4096)?;
-        assert_answer(&rt, &answer, *status, out, text);
+        assert_parts(&rt, alloc, words, &[text, data], *status, out, text)?;
     }
     Ok(())
 }

@@ -1,4 +1,4 @@
-use crate::answers::{answered, assert_answer, joined};
+use crate::answers::{assert_given, joined};
 use av_cli::Status;
 use std::test::Fail;
 
@@ -313,8 +313,7 @@ fn the_module_and_the_stimulus_fix_status_and_output(rt: HostRuntime) -> Result<
     let alloc = rt.alloc();
     for (module, rest, status, out) in ROWS {
         let text = joined(alloc, &[module, "endmodule\n", rest])?;
-        let answer = answered(alloc, &["sim"], text, 4096)?;
-        assert_answer(&rt, &answer, *status, out, rest);
+        assert_given(&rt, alloc, &["sim"], text, *status, out, rest)?;
     }
     Ok(())
 }

@@ -1,6 +1,6 @@
 //! The answers of `stream`.
 
-use crate::answers::{answered, assert_answer, joined};
+use crate::answers::{answered, assert_parts, joined};
 use crate::texts::{CUT_DOWN, INCREMENT, TOO_WIDE, WIDENED};
 use av_cli::Status;
 use av_testing::texts::{MATRIX_VECTOR, RUNNING_SUMS};
@@ -159,8 +159,7 @@ const WHOLE: &[(&[&str], &str, &str, &str)] = &[
 fn whole_streams(rt: HostRuntime) -> Result<(), Fail> {
     let alloc = rt.alloc();
     for (words, text, data, out) in WHOLE {
-        let answer = answered(alloc, words, joined(alloc, &[text, data])?, 65536)?;
-        assert_answer(&rt, &answer, Status::Done, out, text);
+        assert_parts(&rt, alloc, words, &[text, data], Status::Done, out, text)?;
     }
     Ok(())
 }
@@ -329,8 +328,7 @@ const REFUSED: &[(&[&str], &str, &str, &str)] = &[
 fn streams_are_refused_for_their_first_fault(rt: HostRuntime) -> Result<(), Fail> {
     let alloc = rt.alloc();
     for (words, text, data, out) in REFUSED {
-        let answer = answered(alloc, words, joined(alloc, &[text, data])?, 4096)?;
-        assert_answer(&rt, &answer, Status::Refused, out, data);
+        assert_parts(&rt, alloc, words, &[text, data], Status::Refused, out, data)?;
     }
     Ok(())
 }

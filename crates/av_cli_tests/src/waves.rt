@@ -1,11 +1,11 @@
 //! The answers of `wave` and `unwave`.
 
 use crate::answers::{
-    Row, answer, answered, assert_answer, assert_end, assert_front, assert_rows, calls, extend,
-    joined, repeated,
+    Row, answered, assert_answer, assert_end, assert_front, assert_parts, assert_read_fault,
+    assert_rows, extend, joined, repeated,
 };
 use crate::texts::{INCREMENT, TOO_WIDE, USAGE, WIDENED};
-use av_base::{List, MemSink, MemSource};
+use av_base::List;
 use av_cli::Status;
 use std::alloc::Global;
 use std::fmt::Write;
@@ -147,13 +147,25 @@ b1111111110000001 \"
 #[test]
 fn a_run_of_ports_of_two_widths(rt: HostRuntime) -> Result<(), Fail> {
     let alloc = rt.alloc();
-    let input = joined(alloc, &[WIDENED, WIDENED_DATA])?;
-    let answer = answered(alloc, &["wave"], input, 4096)?;
-    assert_answer(&rt, &answer, Status::Done, WIDENED_DUMP, WIDENED);
-    let input = joined(alloc, &[TOO_WIDE, WIDENED_DATA])?;
-    let answer = answered(alloc, &["wave"], input, 4096)?;
+    assert_parts(
+        &rt,
+        alloc,
+        &["wave"],
+        &[WIDENED, WIDENED_DATA],
+        Status::Done,
+        WIDENED_DUMP,
+        WIDENED,
+    )?;
     let refusal = "refused: width X 1:13\n";
-    assert_answer(&rt, &answer, Status::Refused, refusal, TOO_WIDE);
+    assert_parts(
+        &rt,
+        alloc,
+        &["wave"],
+        &[TOO_WIDE, WIDENED_DATA],
+        Status::Refused,
+        refusal,
+        TOO_WIDE,
+    )?;
     Ok(())
 }
 
@@ -555,11 +567,7 @@ fn a_source_may_fail_at_a_dump(rt: HostRuntime) -> Result<(), Fail> {
     let alloc = rt.alloc();
     for call in 0..5 {
         let input = dump_with(alloc, 0, &[])?;
-        let mut source = MemSource::new(input, 50, calls(alloc, Some(call))?);
-        let mut sink = MemSink::new(alloc, 4096, 4096, List::new(alloc))?;
-        let status = answer(alloc, &["unwave"], &mut source, &mut sink)?;
-        assert_eq!(rt; status, Status::ReadFault, "call {call}");
-        assert!(rt; sink.held().is_empty(), "call {call}");
+        assert_read_fault(&rt, alloc, &["unwave"], input, 50, call)?;
     }
     Ok(())
 }

@@ -36,15 +36,20 @@ fn push_instances(text: &mut String, instances: u32) -> Result<(), Fail> {
     Ok(())
 }
 
+fn push_modules(text: &mut String, instances: u32) -> Result<(), Fail> {
+    push_kind(text)?;
+    push_drives(text)?;
+    text.push_str("module t(input clk, input rst, input i);\n")?;
+    push_links(text, instances)?;
+    push_instances(text, instances)?;
+    text.push_str("endmodule\n")?;
+    Ok(())
+}
+
 // A text with so many instances, each of which brings 2,048 names.
 fn text_with(alloc: Global, instances: u32) -> Result<String, Fail> {
     let mut text = String::new(alloc);
-    push_kind(&mut text)?;
-    push_drives(&mut text)?;
-    text.push_str("module t(input clk, input rst, input i);\n")?;
-    push_links(&mut text, instances)?;
-    push_instances(&mut text, instances)?;
-    text.push_str("endmodule\n")?;
+    push_modules(&mut text, instances)?;
     Ok(text)
 }
 

@@ -181,6 +181,11 @@ fn words(alloc: Global, of: &Module, drive: u32) -> Result<[u64; 3], Fail>
     ])
 }
 
+fn words_of_text(alloc: Global, text: &str, drive: u32) -> Result<[u64; 3], Fail> {
+    let read = design(alloc, text)?;
+    words(alloc, &read.module, drive)
+}
+
 /// This drive of a text has these words in three cycles from a reset.
 pub(crate) fn assert_words(
     rt: &impl Abort,
@@ -189,7 +194,7 @@ pub(crate) fn assert_words(
     drive: u32,
     wanted: [u64; 3],
 ) -> Result<(), Fail> {
-    let read = design(alloc, text)?;
-    assert_eq!(rt; words(alloc, &read.module, drive)?, wanted);
+    let words = words_of_text(alloc, text, drive)?;
+    assert_eq!(rt; words, wanted);
     Ok(())
 }

@@ -65,8 +65,8 @@ pub(crate) fn around(alloc: Global, ports: &str, body: &str) -> Result<String, F
     Ok(text)
 }
 
-fn push_fault(out: &mut String, fault: &VFault) -> Result<(), Fail> {
-    match fault {
+fn push_fault(out: &mut String, fault: VFault) -> Result<(), Fail> {
+    match &fault {
         VFault::VByte(place) => push_place(out, "byte", *place),
         VFault::VSyntax(place) => push_place(out, "syntax", *place),
         VFault::VListing(line) => push_number(out, "listing", u128::from(*line)),
@@ -79,13 +79,21 @@ fn push_fault(out: &mut String, fault: &VFault) -> Result<(), Fail> {
     }
 }
 
+fn push_module(out: &mut String, read: Design) -> Result<(), Fail> {
+    push_named(out, "module", &read.module.name)
+}
+
+fn push_told(out: &mut String, alloc: Global, bytes: &[u8]) -> Result<(), Fail> {
+    match read(alloc, bytes) {
+        Ok(read) => push_module(out, read),
+        Err(fault) => push_fault(out, fault),
+    }
+}
+
 // What the reader answers, as a line of text.
 fn told(alloc: Global, bytes: &[u8]) -> Result<String, Fail> {
     let mut out = String::new(alloc);
-    match read(alloc, bytes) {
-        Ok(read) => push_named(&mut out, "module", &read.module.name)?,
-        Err(fault) => push_fault(&mut out, &fault)?,
-    }
+    push_told(&mut out, alloc, bytes)?;
     Ok(out)
 }
 

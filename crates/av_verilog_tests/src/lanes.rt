@@ -163,35 +163,77 @@ fn push_register(
     Ok(())
 }
 
+// The text of a module: its ports and declarations, and its items.
+#[derive(Drop)]
+struct Halves {
+    declarations: String,
+    items: String,
+}
+
+impl Halves {
+    fn new(alloc: Global) -> Halves {
+        Halves {
+            declarations: String::new(alloc),
+            items: String::new(alloc),
+        }
+    }
+
+    // The wire of a drive, with a test of its own.
+    fn push_drive(&mut self, random: &mut Random, drive: u32, width: u32) -> Result<(), Fail>
+        requires { (0 < width) × (width ≤ 64) }
+    {
+        let high = width - 1;
+        write!(
+            self.declarations,
+            "  wire [{high}:0] w{drive};\n  wire [0:0] b{drive};\n"
+        )?;
+        push_test(&mut self.items, random, drive)?;
+        if width > 1 && random.below(6) == 0 {
+            push_part(
+                &mut self.declarations,
+                &mut self.items,
+                random,
+                drive,
+                width,
+            )
+        } else {
+            push_operation(&mut self.items, random, drive)
+        }
+    }
+
+    fn push_all(&mut self, random: &mut Random, width: u32) -> Result<(), Fail>
+        requires { (0 < width) × (width ≤ 64) }
+    {
+        let high = width - 1;
+        write!(
+            self.declarations,
+            "module t(input clk, input rst, input [{high}:0] i0, input [{high}:0] i1, output [{high}:0] o);\n"
+        )?;
+        for drive in 0..DRIVES {
+            self.push_drive(random, drive, width)?;
+        }
+        for register in 0..REGISTERS {
+            push_register(
+                &mut self.declarations,
+                &mut self.items,
+                random,
+                register,
+                width,
+            )?;
+        }
+        write!(self.items, "  assign o = w{};\nendmodule\n", DRIVES - 1)?;
+        self.declarations.push_str(self.items.as_str())?;
+        Ok(())
+    }
+}
+
 // The text of a module of random drives on words of a width.
 fn random_text(alloc: Global, random: &mut Random, width: u32) -> Result<String, Fail>
     requires { (0 < width) × (width ≤ 64) }
 {
-    let high = width - 1;
-    let mut text = String::new(alloc);
-    let mut items = String::new(alloc);
-    write!(
-        text,
-        "module t(input clk, input rst, input [{high}:0] i0, input [{high}:0] i1, output [{high}:0] o);\n"
-    )?;
-    for drive in 0..DRIVES {
-        write!(
-            text,
-            "  wire [{high}:0] w{drive};\n  wire [0:0] b{drive};\n"
-        )?;
-        push_test(&mut items, random, drive)?;
-        if width > 1 && random.below(6) == 0 {
-            push_part(&mut text, &mut items, random, drive, width)?;
-        } else {
-            push_operation(&mut items, random, drive)?;
-        }
-    }
-    for register in 0..REGISTERS {
-        push_register(&mut text, &mut items, random, register, width)?;
-    }
-    write!(items, "  assign o = w{};\nendmodule\n", DRIVES - 1)?;
-    text.push_str(items.as_str())?;
-    Ok(text)
+    let mut text = Halves::new(alloc);
+    text.push_all(random, width)?;
+    Ok(text.declarations)
 }
 
 fn assert_beside(rt: &impl Abort, alloc: Global, of: &Module) -> Result<(), Fail>

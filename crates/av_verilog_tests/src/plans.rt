@@ -1,9 +1,11 @@
 //! A plan by hand: its text, its flat design, and the design that is read back.
 
-ghost use Rattle.std.specs.Prelude.{◌≡◌, [], ◌∷◌, IfOk};
+ghost use Rattle.std.specs.Prelude.{◌≡◌, [], ◌∷◌, codes, IfOk};
+ghost use Rattle.av_net.specs.declared.operation.Symbol.TheVariants.{Add};
 ghost use Rattle.av_net.specs.declared.operation.Operand.TheVariants.{Name as Named};
+ghost use Rattle.av_net.specs.declared.operation.Operation.TheVariants.{Binary};
 ghost use Rattle.av_net.specs.Designs.{IsSoundPlan};
-ghost use Rattle.av_verilog_tests.specs.inner.Plans.{two_bits, four_bits, eight_bits, port_of, drive_of, entry_of, instance_of, adder, widener, upper_half, kept_sum, sums_top, sums_instances, sums_listing, sums_plan};
+ghost use Rattle.av_verilog_tests.specs.inner.Plans.{two_bits, four_bits, eight_bits, port_of, drive_of, entry_of, instance_of, cell_of, adder, widener, upper_half, kept_sum, sums_top, first_sum, second_sum, wide_sum, sums_instances, sums_listing, sums_plan};
 
 use crate::asserts::assert_held;
 use crate::designs::{assert_text, assert_written};
@@ -88,14 +90,6 @@ fn two<T: Drop>(alloc: Global, first: T, second: T) -> Result<List<T>, Memory>
     Ok(list)
 }
 
-fn three<T: Drop>(alloc: Global, first: T, second: T, third: T) -> Result<List<T>, Memory>
-    ensures { IfOk result (λ list. list ≡ first ∷ second ∷ third ∷ []) }
-{
-    let mut list = two(alloc, first, second)?;
-    list.push(third)?;
-    Ok(list)
-}
-
 fn two_wide() -> Width
     ensures { result ≡ two_bits }
 {
@@ -121,6 +115,27 @@ fn port(alloc: Global, name: &str, width: Width) -> Result<Port, Memory>
     Ok(Port { name, width })
 }
 
+fn one_port(alloc: Global, name: &str, width: Width) -> Result<List<Port>, Memory>
+    ensures { IfOk result (λ ports. ports ≡ port_of name.now width ∷ []) }
+{
+    let first = port(alloc, name, width)?;
+    one(alloc, first)
+}
+
+fn two_ports(
+    alloc: Global,
+    name: &str,
+    width: Width,
+    other: &str,
+    wide: Width,
+) -> Result<List<Port>, Memory>
+    ensures { IfOk result (λ ports. ports ≡ port_of name.now width ∷ port_of other.now wide ∷ []) }
+{
+    let mut ports = one_port(alloc, name, width)?;
+    ports.push(port(alloc, other, wide)?)?;
+    Ok(ports)
+}
+
 fn named(alloc: Global, name: &str) -> Result<Operand, Memory>
     ensures { IfOk result (λ operand. operand ≡ Named name.now) }
 {
@@ -132,6 +147,13 @@ fn drive(alloc: Global, target: &str, operation: Operation) -> Result<Drive, Mem
 {
     let target = Name::new(alloc, target)?;
     Ok(Drive { target, operation })
+}
+
+fn one_drive(alloc: Global, target: &str, operation: Operation) -> Result<List<Drive>, Memory>
+    ensures { IfOk result (λ drives. drives ≡ drive_of target.now operation ∷ []) }
+{
+    let first = drive(alloc, target, operation)?;
+    one(alloc, first)
 }
 
 fn entry(
@@ -153,6 +175,13 @@ fn entry(
     })
 }
 
+fn one_name(alloc: Global, name: &str) -> Result<List<Name>, Memory>
+    ensures { IfOk result (λ names. names ≡ name.now ∷ []) }
+{
+    let first = Name::new(alloc, name)?;
+    one(alloc, first)
+}
+
 fn instance(
     alloc: Global,
     name: &str,
@@ -163,7 +192,7 @@ fn instance(
     ensures { IfOk result (λ instance. instance ≡ instance_of name.now kind inputs (output.now ∷ [])) }
 {
     let name = Name::new(alloc, name)?;
-    let outputs = one(alloc, Name::new(alloc, output)?)?;
+    let outputs = one_name(alloc, output)?;
     Ok(Instance {
         name,
         kind,
@@ -174,37 +203,63 @@ fn instance(
 
 // ---- the plan
 
+// A kind with one output and one drive.
+fn cell(
+    alloc: Global,
+    name: &str,
+    inputs: List<Port>,
+    width: Width,
+    operation: Operation,
+) -> Result<CellKind, Memory>
+    ensures { IfOk result (λ kind. kind ≡ cell_of name.now inputs (port_of (codes "v") width) operation) }
+{
+    let drives = one_drive(alloc, "v", operation)?;
+    let outputs = one_port(alloc, "v", width)?;
+    let name = Name::new(alloc, name)?;
+    Ok(CellKind {
+        name,
+        inputs,
+        outputs,
+        wires: List::new(alloc),
+        drives,
+    })
+}
+
+fn sum(alloc: Global) -> Result<Operation, Memory>
+    ensures { IfOk result (λ sum. sum ≡ Binary (Named (codes "a")) Add (Named (codes "b"))) }
+{
+    let left = named(alloc, "a")?;
+    let right = named(alloc, "b")?;
+    Ok(Operation::Binary {
+        left,
+        symbol: Symbol::Add,
+        right,
+    })
+}
+
 fn add(alloc: Global) -> Result<CellKind, Memory>
     ensures { IfOk result (λ kind. kind ≡ adder) }
 {
-    let left = port(alloc, "a", four_wide())?;
-    let right = port(alloc, "b", four_wide())?;
-    let sum = Operation::Binary {
-        left: named(alloc, "a")?,
-        symbol: Symbol::Add,
-        right: named(alloc, "b")?,
-    };
-    Ok(CellKind {
-        name: Name::new(alloc, "add")?,
-        inputs: two(alloc, left, right)?,
-        outputs: one(alloc, port(alloc, "v", four_wide())?)?,
-        wires: List::new(alloc),
-        drives: one(alloc, drive(alloc, "v", sum)?)?,
-    })
+    let inputs = two_ports(alloc, "a", four_wide(), "b", four_wide())?;
+    let sum = sum(alloc)?;
+    cell(alloc, "add", inputs, four_wide(), sum)
 }
 
 fn widen(alloc: Global) -> Result<CellKind, Memory>
     ensures { IfOk result (λ kind. kind ≡ widener) }
 {
+    let inputs = one_port(alloc, "a", four_wide())?;
     let name = Name::new(alloc, "a")?;
     let wider = Operation::Widen { name, by: 4 };
-    Ok(CellKind {
-        name: Name::new(alloc, "widen")?,
-        inputs: one(alloc, port(alloc, "a", four_wide())?)?,
-        outputs: one(alloc, port(alloc, "v", eight_wide())?)?,
-        wires: List::new(alloc),
-        drives: one(alloc, drive(alloc, "v", wider)?)?,
-    })
+    cell(alloc, "widen", inputs, eight_wide(), wider)
+}
+
+fn kinds(alloc: Global) -> Result<List<CellKind>, Memory>
+    ensures { IfOk result (λ kinds. kinds ≡ adder ∷ widener ∷ []) }
+{
+    let first = add(alloc)?;
+    let second = widen(alloc)?;
+    two(alloc, first, second)
 }
 
 // `assign p = q[3:2];`
@@ -233,61 +288,137 @@ fn step(alloc: Global) -> Result<Step, Memory>
     })
 }
 
-fn top(alloc: Global) -> Result<Module, Memory>
-    ensures { IfOk result (λ top. top ≡ sums_top) }
+// The ports, wires and registers of the top.
+#[derive(Drop)]
+struct Declared {
+    inputs: List<Port>,
+    outputs: List<Port>,
+    wires: List<Port>,
+    registers: List<Port>,
+}
+
+fn declarations(alloc: Global) -> Result<Declared, Memory>
+    ensures inputs { IfOk result (λ d. d.inputs ≡ port_of (codes "i") four_bits ∷ []) }
+    ensures outputs { IfOk result (λ d. d.outputs ≡ port_of (codes "o") eight_bits ∷ port_of (codes "p") two_bits ∷ []) }
+    ensures wires { IfOk result (λ d. d.wires ≡ port_of (codes "c") four_bits ∷ port_of (codes "d") four_bits ∷ []) }
+    ensures registers { IfOk result (λ d. d.registers ≡ port_of (codes "q") four_bits ∷ []) }
 {
-    let wide = port(alloc, "o", eight_wide())?;
-    let half = port(alloc, "p", two_wide())?;
-    let first = port(alloc, "c", four_wide())?;
-    let second = port(alloc, "d", four_wide())?;
-    Ok(Module {
-        name: Name::new(alloc, "t")?,
-        inputs: one(alloc, port(alloc, "i", four_wide())?)?,
-        outputs: two(alloc, wide, half)?,
-        wires: two(alloc, first, second)?,
-        registers: one(alloc, port(alloc, "q", four_wide())?)?,
-        drives: one(alloc, part_drive(alloc)?)?,
-        steps: one(alloc, step(alloc)?)?,
+    let inputs = one_port(alloc, "i", four_wide())?;
+    let outputs = two_ports(alloc, "o", eight_wide(), "p", two_wide())?;
+    let wires = two_ports(alloc, "c", four_wide(), "d", four_wide())?;
+    let registers = one_port(alloc, "q", four_wide())?;
+    Ok(Declared {
+        inputs,
+        outputs,
+        wires,
+        registers,
     })
 }
 
-fn instances(alloc: Global) -> Result<List<Instance>, Memory>
-    ensures { IfOk result (λ instances. instances ≡ sums_instances) }
+fn drives(alloc: Global) -> Result<List<Drive>, Memory>
+    ensures { IfOk result (λ drives. drives ≡ upper_half ∷ []) }
+{
+    let first = part_drive(alloc)?;
+    one(alloc, first)
+}
+
+fn steps(alloc: Global) -> Result<List<Step>, Memory>
+    ensures { IfOk result (λ steps. steps ≡ kept_sum ∷ []) }
+{
+    let first = step(alloc)?;
+    one(alloc, first)
+}
+
+fn top(alloc: Global) -> Result<Module, Memory>
+    ensures { IfOk result (λ top. top ≡ sums_top) }
+{
+    let name = Name::new(alloc, "t")?;
+    let drives = drives(alloc)?;
+    let steps = steps(alloc)?;
+    let declared = declarations(alloc)?;
+    Ok(Module {
+        name,
+        inputs: declared.inputs,
+        outputs: declared.outputs,
+        wires: declared.wires,
+        registers: declared.registers,
+        drives,
+        steps,
+    })
+}
+
+fn first_sum(alloc: Global) -> Result<Instance, Memory>
+    ensures { IfOk result (λ instance. instance ≡ first_sum) }
+{
+    let left = named(alloc, "i")?;
+    let right = named(alloc, "q")?;
+    let inputs = two(alloc, left, right)?;
+    instance(alloc, "u0", 0, inputs, "c")
+}
+
+fn second_sum(alloc: Global) -> Result<Instance, Memory>
+    ensures { IfOk result (λ instance. instance ≡ second_sum) }
 {
     let five = Operand::Literal {
         width: four_wide(),
         value: 5,
     };
-    let first = two(alloc, named(alloc, "i")?, named(alloc, "q")?)?;
-    let second = two(alloc, named(alloc, "c")?, five)?;
-    let third = one(alloc, named(alloc, "d")?)?;
-    three(
-        alloc,
-        instance(alloc, "u0", 0, first, "c")?,
-        instance(alloc, "u1", 0, second, "d")?,
-        instance(alloc, "u2", 1, third, "o")?,
-    )
+    let left = named(alloc, "c")?;
+    let inputs = two(alloc, left, five)?;
+    instance(alloc, "u1", 0, inputs, "d")
+}
+
+fn wide_sum(alloc: Global) -> Result<Instance, Memory>
+    ensures { IfOk result (λ instance. instance ≡ wide_sum) }
+{
+    let only = named(alloc, "d")?;
+    let inputs = one(alloc, only)?;
+    instance(alloc, "u2", 1, inputs, "o")
+}
+
+fn instances(alloc: Global) -> Result<List<Instance>, Memory>
+    ensures { IfOk result (λ instances. instances ≡ sums_instances) }
+{
+    let first = first_sum(alloc)?;
+    let second = second_sum(alloc)?;
+    let mut instances = two(alloc, first, second)?;
+    instances.push(wide_sum(alloc)?)?;
+    Ok(instances)
+}
+
+fn one_entry(
+    alloc: Global,
+    variable: &str,
+    point: Point,
+    wire: &str,
+    cycle: u32,
+) -> Result<List<Entry>, Memory>
+    ensures { IfOk result (λ entries. entries ≡ entry_of variable.now point wire.now cycle ∷ []) }
+{
+    let first = entry(alloc, variable, point, wire, cycle)?;
+    one(alloc, first)
 }
 
 fn listing(alloc: Global) -> Result<Listing, Memory>
     ensures { IfOk result (λ listing. listing ≡ sums_listing) }
 {
-    let input = entry(alloc, "X", Point::from_slice(&[]), "i", 0)?;
-    let output = entry(alloc, "Y", Point::from_slice(&[-1]), "o", 2)?;
-    Ok(Listing {
-        ins: one(alloc, input)?,
-        ats: one(alloc, output)?,
-    })
+    let ins = one_entry(alloc, "X", Point::from_slice(&[]), "i", 0)?;
+    let ats = one_entry(alloc, "Y", Point::from_slice(&[-1]), "o", 2)?;
+    Ok(Listing { ins, ats })
 }
 
 fn sums(alloc: Global) -> Result<Plan, Memory>
     ensures { IfOk result (λ plan. plan ≡ sums_plan) }
 {
+    let listing = listing(alloc)?;
+    let kinds = kinds(alloc)?;
+    let top = top(alloc)?;
+    let instances = instances(alloc)?;
     Ok(Plan {
-        listing: listing(alloc)?,
-        kinds: two(alloc, add(alloc)?, widen(alloc)?)?,
-        top: top(alloc)?,
-        instances: instances(alloc)?,
+        listing,
+        kinds,
+        top,
+        instances,
     })
 }
 
@@ -309,12 +440,17 @@ fn assert_plan_text(rt: &impl Abort, alloc: Global, plan: &Plan, wanted: &str) -
     Ok(())
 }
 
+fn assert_flat(rt: &impl Abort, alloc: Global, plan: &Plan, wanted: &str) -> Result<(), Fail>
+    requires { IsSoundPlan plan.now }
+{
+    let flat = flatten(alloc, plan)?;
+    assert_text(rt, alloc, &flat, wanted)
+}
+
 #[test]
 fn a_plan_is_written_and_read(rt: HostRuntime) -> Result<(), Fail> {
-    let alloc = rt.alloc();
-    let plan = plan(alloc)?;
-    assert_plan_text(&rt, alloc, &plan, PLAN)?;
-    let flat = flatten(alloc, &plan)?;
-    assert_text(&rt, alloc, &flat, FLAT)?;
-    assert_written(&rt, alloc, PLAN, FLAT)
+    let plan = plan(rt.alloc())?;
+    assert_plan_text(&rt, rt.alloc(), &plan, PLAN)?;
+    assert_flat(&rt, rt.alloc(), &plan, FLAT)?;
+    assert_written(&rt, rt.alloc(), PLAN, FLAT)
 }
