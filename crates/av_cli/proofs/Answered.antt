@@ -3,45 +3,38 @@ use Rattle.std.proofs.Common.{◌≡◌, ◌≢◌, ℕ, ◌<◌, ◌≤◌, tru
 use Rattle.std.specs.Prelude.{IfSome, slice_index_or}
 use Rattle.std.proofs.lemmas.List.{append-nil}
 use Rattle.av_base.specs.Outside.{SinkState, Takes, TakesMore, IsAtEnd, HasRisen}
-use Rattle.av_net.specs.declared.design.Design.{Design}
-use Rattle.av_net.specs.Designs.{Spells}
-use Rattle.av_net.specs.Names.{names_of, AreDistinct}
-use Rattle.av_net.proofs.Distinct.{front_distinct}
-use Rattle.av_vread.proofs.Faulted.{not_both, one_design}
-use Rattle.av_vread.proofs.SoundDesigns.{spelled_sound}
-use Rattle.av_data.specs.Stimuli.{SpellsStimulus}
-use Rattle.av_data.proofs.Told.{not_both as not_both_stimuli}
 use Rattle.av_names.specs.declared.size.Size.{Size}
-use Rattle.av_cli.specs.declared.status.Status.{Status}
-use Rattle.av_cli.specs.declared.status.Status.TheVariants.{Done, Refused, Words, ReadFault, WriteFault, Memory}
+use Rattle.av_commands.specs.declared.status.Status.{Status}
+use Rattle.av_commands.specs.declared.status.Status.TheVariants.{Done, Refused, Words, ReadFault, WriteFault, Memory}
 use Rattle.av_cli.specs.declared.words.Command.{Command}
 use Rattle.av_cli.specs.declared.words.Command.TheVariants.{Check, Schedule, Table, Emit, Run, Trace, Best, Stream, Wave, Run8, Sim, Unwave, Demo}
 use Rattle.av_cli.specs.Commands.{Asks, IsCheck, IsSchedule, IsTable, IsEmit, IsRun, IsTrace, IsBest, IsStream, AsksWave, IsRun8, IsSim, IsUnwave, IsDemo, TakeInput, AskDemo, AreRead}
-use Rattle.av_cli.specs.inner.WithWords.{GivesMapped}
+use Rattle.av_commands.specs.WithWords.{GivesMapped}
 use Rattle.av_cli.specs.inner.CommandsSeen.{Are, takes_input}
-use Rattle.av_cli.specs.Refusals.{refusal_line}
-use Rattle.av_cli.specs.Sims.{RefusesSim, no_mark, bad_text, bad_stimulus, GivesSim}
+use Rattle.av_commands.specs.Refusals.{refusal_line}
+use Rattle.av_commands.specs.Sims.{RefusesSim, GivesSim}
 use Rattle.av_cli.specs.inner.Asked.{Refuses, Gives}
 use Rattle.av_cli.specs.Program.{Writes, WritesRefusal, IsRefused, HasRefusal, AddsWhole, AddsFront, IsComplete}
-use Rattle.av_cli.specs.inner.Written.{IsPut, IsAnswered, refused, given, no_memory}
-use Rattle.av_cli.specs.Checks.{RefusesCheck, GivesCheck}
-use Rattle.av_cli.specs.Schedules.{RefusesSchedule, GivesSchedule}
-use Rattle.av_cli.specs.Tables.{RefusesTable, GivesTable}
-use Rattle.av_cli.specs.Runs.{RefusesRun, GivesResults, GivesTrace}
-use Rattle.av_cli.specs.Bests.{RefusesBest, GivesBest}
-use Rattle.av_cli.specs.Streams.{RefusesStream, GivesStream}
-use Rattle.av_cli.specs.Eights.{RefusesEight, GivesEight}
-use Rattle.av_cli.specs.Waves.{GivesDump, RefusesUnwave, GivesUnwave}
-use Rattle.av_cli.proofs.Checking.{exclusive_check}
-use Rattle.av_cli.proofs.Scheduling.{exclusive_schedule}
-use Rattle.av_cli.proofs.Tabling.{exclusive_table}
-use Rattle.av_cli.proofs.Emitting.{exclusive_emit}
-use Rattle.av_cli.proofs.Reporting.{exclusive_run}
-use Rattle.av_cli.proofs.LeastSchedules.{exclusive_best}
-use Rattle.av_cli.proofs.EightAnswers.{exclusive_eight}
-use Rattle.av_cli.proofs.StreamAnswers.{exclusive_stream}
+use Rattle.av_commands.specs.Written.{IsPut, IsAnswered, refused, given, no_memory}
+use Rattle.av_commands.specs.Checks.{RefusesCheck, GivesCheck}
+use Rattle.av_commands.specs.Schedules.{RefusesSchedule, GivesSchedule}
+use Rattle.av_commands.specs.Tables.{RefusesTable, GivesTable}
+use Rattle.av_commands.specs.Runs.{RefusesRun, GivesResults, GivesTrace}
+use Rattle.av_commands.specs.Bests.{RefusesBest, GivesBest}
+use Rattle.av_commands.specs.Streams.{RefusesStream, GivesStream}
+use Rattle.av_commands.specs.Eights.{RefusesEight, GivesEight}
+use Rattle.av_commands.specs.Waves.{GivesDump, RefusesUnwave, GivesUnwave}
+use Rattle.av_commands.proofs.Checking.{exclusive_check}
+use Rattle.av_commands.proofs.Scheduling.{exclusive_schedule}
+use Rattle.av_commands.proofs.Tabling.{exclusive_table}
+use Rattle.av_commands.proofs.Emitting.{exclusive_emit}
+use Rattle.av_commands.proofs.Reporting.{exclusive_run}
+use Rattle.av_commands.proofs.LeastSchedules.{exclusive_best}
+use Rattle.av_commands.proofs.EightAnswers.{exclusive_eight}
+use Rattle.av_commands.proofs.StreamAnswers.{exclusive_stream}
 use Rattle.av_cli.proofs.GivenSizes.{one_asked}
-use Rattle.av_wave.proofs.Presenting.{given_distinct}
+use Rattle.av_commands.proofs.Simulating.{exclusive_sim}
+use Rattle.av_commands.proofs.Unwaving.{exclusive_unwave}
 
 pub input_of : (command : Command) (words : List (List ℕ)) → Are command words → takes_input command ≡ true → TakeInput words
 input_of (Check width) words (sizes, are) t = inr (inr (inl (width.bits, sizes, are)))
@@ -136,28 +129,6 @@ same_name : (a b : List ℕ) (words : List (List ℕ)) → Begins a words → Be
 same_name a b words (rest, p) (more, q) =
     let same : a ∷ rest ≡ b ∷ more = sym p ∙ q in
     cc
-
-inputs_distinct : (text : List ℕ) (design : Design) → Spells text design → AreDistinct (names_of design.module.inputs)
-inputs_distinct text design spelled =
-    let sound = spelled_sound text design spelled in
-    front_distinct (names_of design.module.inputs) (names_of design.module.registers) (given_distinct design.module sound.sound)
-
-exclusive_sim : (bytes reason out : List ℕ) → RefusesSim bytes reason → GivesSim bytes out → ⊥
-exclusive_sim bytes reason out (no_mark none e) g =
-    let marked = g.divided.marked in
-    omega (arith, none, marked)
-exclusive_sim bytes reason out (bad_text {text} fault divided is e) g =
-    let same : g.text ≡ text = g.divided.text_is ∙ sym divided.text_is in
-    not_both text g.design fault (subst (λ t. Spells t g.design) same g.spelled) is
-exclusive_sim bytes reason out (bad_stimulus {text} {rest} {first} {design} fault divided spelled is e) g =
-    let same : g.text ≡ text = g.divided.text_is ∙ sym divided.text_is in
-    let one : g.design ≡ design = one_design text g.design design (subst (λ t. Spells t g.design) same g.spelled) spelled in
-    let later : g.rest ≡ rest = g.divided.rest_is ∙ sym divided.rest_is in
-    let stimulated = subst (λ (d : Design). SpellsStimulus d.module.inputs rest g.stimulus) one (subst (λ r. SpellsStimulus g.design.module.inputs r g.stimulus) later g.stimulated) in
-    not_both_stimuli design.module.inputs (inputs_distinct text design spelled) first rest g.stimulus fault stimulated is
-
-exclusive_unwave : (bytes reason out : List ℕ) → RefusesUnwave bytes reason → GivesUnwave bytes out → ⊥
-exclusive_unwave bytes reason out r g = r.fault.none g.wave g.is g.text
 
 -- what words of a command refuse, each command by its name
 exclude : (name : List ℕ) (words : List (List ℕ)) (bytes : List ℕ) → Begins name words → length bytes ≤ 1048576

@@ -3,7 +3,8 @@ use Rattle.std.proofs.Common.{◌≡◌, ℕ, zero, suc, ◌+◌, ◌-◌, ◌<�
 use Rattle.std.specs.Prelude.{codes, slice_index_or, Contains, All}
 use Rattle.std.proofs.lemmas.List.Elements.{All-cons, All-head, All-tail}
 use Rattle.std.proofs.lemmas.List.{take_all}
-use Rattle.av_cli.specs.Commands.{Options, Say, IsSize, SpellsUpTo, GiveSizes, no_more, passed, IsDemo, no_options}
+use Rattle.av_cli.specs.Commands.{Options, Say, IsDemo, no_options}
+use Rattle.av_commands.specs.SizeWords.{IsSize, SpellsUpTo, GiveSizes, no_more, passed}
 use Rattle.av_cli.specs.inner.DemoWords.{IsDemoAt}
 use Rattle.av_cli.proofs.OptionWords.{one_said}
 
@@ -147,5 +148,3 @@ pub said_behind : (words : List (List ℕ)) (at bits box k : ℕ) (middle : Opti
 said_behind words at bits box k middle is say =
     let same : is.middle ≡ middle = one_said no_options is.middle middle (take (at - 1) (drop 1 words)) is.say_before say in
     (is.options, subst (λ (o : Options). Say o (drop (at + 1) words) is.options) same is.say_after)
-
--- ---- the places before the next

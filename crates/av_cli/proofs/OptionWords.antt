@@ -1,15 +1,16 @@
 -- What the words behind an option, a size or `--` say.
-use Rattle.std.proofs.Common.{◌≡◌, ◌≢◌, ◌⊎◌, inl, inr, ◌↔◌, ℕ, suc, ◌+◌, ◌<◌, get_or, Bool, List, [], ◌∷◌, ◌++◌, length, drop, None, Option, IsTrue, refl, sym, ap, subst, ◌∙◌, arith, length-append}
-use Rattle.std.specs.Prelude.{codes}
+use Rattle.std.proofs.Common.{◌≡◌, ◌≢◌, ◌⊎◌, inl, inr, ◌↔◌, ℕ, ◌+◌, ◌<◌, get_or, Bool, List, [], ◌∷◌, ◌++◌, length, drop, None, Option, IsTrue, refl, sym, ap, subst, ◌∙◌, arith, length-append}
+use Rattle.std.specs.Prelude.{codes, IfNone}
 use Rattle.std.specs.Str.{bytes_eq}
 use Rattle.std.proofs.lemmas.Slice.Eq.{bytes_eq-Decides}
 use Rattle.std.specs.Char.{is_ascii_alphabetic}
 use Rattle.std.specs.List.{AllByRecursion}
-use Rattle.std.specs.Prelude.{IfNone}
 use Rattle.std.proofs.lemmas.List.{append-nil, drop_all}
-use Rattle.std.proofs.Math.Seq.{drop-append_seam, drop-cons}
+use Rattle.std.proofs.Math.Seq.{drop-append_seam}
 use Rattle.av_base.specs.Tokens.{IsWord}
-use Rattle.av_cli.specs.Commands.{SpellsUpTo, IsSize, Options, having_width, having_box, IsOption, Say, nothing, width, box, size, sizes, IsBare}
+use Rattle.av_commands.specs.SizeWords.{SpellsUpTo, IsSize}
+use Rattle.av_cli.specs.Commands.{Options, having_width, having_box, IsOption, Say, nothing, width, box, size, sizes}
+use Rattle.av_commands.proofs.GivenSizes.{at_words}
 
 -- ---- the first word of an option
 
@@ -166,11 +167,6 @@ one_said o p q (w ∷ ws) (sizes dashes all) other = sym (sizes_said o q w ws da
 
 pub if_none : {A : Type 0} (x : Option A) (P : Type 0) → x ≡ None → P → IfNone x P
 if_none x P e p = rw e p
-
-pub at_words : (words : List (List ℕ)) (at next : ℕ) (w : List ℕ) → at < length words → next ≡ at + 1 → w ≡ get_or words at w → drop at words ≡ w ∷ drop next words
-at_words words at next w lt is_next is =
-    let e : suc at ≡ next = omega (arith, is_next) in
-    drop-cons words at w lt ∙ (ap (λ x. x ∷ drop (suc at) words) (sym is) ∙ ap (λ n. w ∷ drop n words) e)
 
 -- no option of this name stands at the place
 pub none_at : (name : List ℕ) (words : List (List ℕ)) (at : ℕ) (w : List ℕ) → at < length words → w ≡ get_or words at w → ((t : List ℕ) → w ≢ name ++ t)

@@ -1,17 +1,3 @@
 pub mod Commands
-pub mod Refusals
-pub mod AlphaRefusals
-pub mod Emits
-pub mod Sims
-pub mod Checks
 pub mod Program
-pub mod Schedules
-pub mod Tables
-pub mod Shown
-pub mod Runs
-pub mod Bests
-pub mod Streams
-pub mod Waves
-pub mod Eights
-pub mod Demos
 pub mod inner

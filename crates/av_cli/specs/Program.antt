@@ -4,21 +4,21 @@ use Rattle.std.specs.Prelude.{◌≡◌, ◌⊎◌, ℕ, ◌<◌, ◌≤◌, Lis
 use Rattle.av_base.specs.Outside.{Takes, Adds, AddsPrefix, IsAtEnd}
 use Rattle.av_names.specs.declared.size.Size.{Size}
 use Rattle.av_compile.specs.Mapped.{IsMapped}
-use Rattle.av_cli.specs.declared.status.Status.{Status}
-use Rattle.av_cli.specs.declared.status.Status.TheVariants.{Done, Refused, Words, ReadFault, WriteFault, Memory}
+use Rattle.av_commands.specs.declared.status.Status.{Status}
+use Rattle.av_commands.specs.declared.status.Status.TheVariants.{Done, Refused, Words, ReadFault, WriteFault, Memory}
 use Rattle.av_cli.specs.Commands.{IsCheck, IsSchedule, IsTable, IsEmit, IsRun, IsTrace, IsBest, IsStream, AsksWave, IsRun8, IsSim, IsUnwave, IsDemo, TakeInput, AskDemo, AreRead, usage_line}
-use Rattle.av_cli.specs.Refusals.{refusal_line}
-use Rattle.av_cli.specs.Checks.{RefusesCheck, GivesCheck}
-use Rattle.av_cli.specs.Schedules.{RefusesSchedule, GivesSchedule}
-use Rattle.av_cli.specs.Tables.{RefusesTable, GivesTable}
-use Rattle.av_cli.specs.Emits.{GivesEmit}
-use Rattle.av_cli.specs.Sims.{RefusesSim, GivesSim}
-use Rattle.av_cli.specs.Runs.{RefusesRun, GivesResults, GivesTrace}
-use Rattle.av_cli.specs.Bests.{RefusesBest, GivesBest}
-use Rattle.av_cli.specs.Streams.{RefusesStream, GivesStream}
-use Rattle.av_cli.specs.Waves.{GivesDump, RefusesUnwave, GivesUnwave}
-use Rattle.av_cli.specs.Eights.{RefusesEight, GivesEight}
-use Rattle.av_cli.specs.Demos.{GivesDemo}
+use Rattle.av_commands.specs.Refusals.{refusal_line}
+use Rattle.av_commands.specs.Checks.{RefusesCheck, GivesCheck}
+use Rattle.av_commands.specs.Schedules.{RefusesSchedule, GivesSchedule}
+use Rattle.av_commands.specs.Tables.{RefusesTable, GivesTable}
+use Rattle.av_commands.specs.Emits.{GivesEmit}
+use Rattle.av_commands.specs.Sims.{RefusesSim, GivesSim}
+use Rattle.av_commands.specs.Runs.{RefusesRun, GivesResults, GivesTrace}
+use Rattle.av_commands.specs.Bests.{RefusesBest, GivesBest}
+use Rattle.av_commands.specs.Streams.{RefusesStream, GivesStream}
+use Rattle.av_commands.specs.Waves.{GivesDump, RefusesUnwave, GivesUnwave}
+use Rattle.av_commands.specs.Eights.{RefusesEight, GivesEight}
+use Rattle.av_commands.specs.Demos.{GivesDemo}
 
 -- ---- refusals, in their order
 

@@ -2,13 +2,13 @@
 
 ghost use Rattle.std.specs.Prelude.{◌≡◌, ◌<◌, ◌≤◌, ◌↔◌, ℕ, List, Some, None, codes, drop, length, IsTrue, IfSome, IfNone};
 ghost use Rattle.std.specs.List.{AllByRecursion};
-ghost use Rattle.av_cli.specs.Commands.{Options as Said, Say, IsOption, IsSize, SpellsUpTo, no_options, having_width, having_box, given_or, default_width, default_box};
+ghost use Rattle.av_cli.specs.Commands.{Options as Said, Say, IsOption, no_options, having_width, having_box, given_or, default_width, default_box};
+ghost use Rattle.av_commands.specs.SizeWords.{IsSize, SpellsUpTo};
 ghost use Rattle.av_cli.specs.inner.CommandsSeen.{seen};
 
-use crate::numbers::number_up_to;
-use crate::size_word::is_size;
 use av_base::limits::{MOST_BITS, MOST_BOX};
 use av_base::{Name, Width};
+use av_commands::{is_size, number_up_to};
 use av_flat::Reach;
 
 // Bits of a word where no option gives them.

@@ -2,26 +2,17 @@ ghost use Rattle.std.specs.Prelude.{◌≡◌, ◌≤◌, length};
 ghost use Rattle.av_base.specs.Outside.{HasRisen};
 ghost use Rattle.av_cli.specs.Commands.{TakeInput};
 ghost use Rattle.av_cli.specs.Program.{AddsWhole, AddsFront, IsComplete};
-ghost use Rattle.av_cli.specs.inner.Written.{IsAnswered};
+ghost use Rattle.av_commands.specs.Written.{IsAnswered};
 ghost use Rattle.av_cli.specs.inner.Asked.{Refuses, Gives};
 ghost use Rattle.av_cli.specs.inner.CommandsSeen.{Are};
 
-use crate::best::best;
-use crate::check::check;
-use crate::demo::demo;
-use crate::eight::run8;
-use crate::emit::emit;
-use crate::put::put;
-use crate::runs::{Report, answer_run};
-use crate::schedule::schedule;
-use crate::sim::sim;
-use crate::status::Status;
-use crate::stream::stream;
-use crate::table::table;
-use crate::unwave::unwave;
 use crate::words::{Command, read_words};
 use av_base::limits::MOST_BYTES;
 use av_base::{Name, ReadAll, Sink, Source, read_all};
+use av_commands::{
+    Report, Status, answer_run, best, check, demo, emit, put, run8, schedule, sim, stream, table,
+    unwave,
+};
 use std::alloc::Global;
 
 const USAGE: &str =

@@ -1,12 +1,12 @@
 ghost use Rattle.std.specs.Prelude.{◌≡◌, ◌<◌, ◌≤◌, ◌↔◌, ◌∷◌, [], ℕ, List as Items, false, codes, drop, length, Contains, IsTrue, IfSome, IfNone};
-ghost use Rattle.av_cli.specs.Commands.{Options as Said, Say, GiveSizes, AreRead, AskDemo, IsDemo, IsBare, no_options, given_or, default_width, default_box};
+ghost use Rattle.av_cli.specs.Commands.{Options as Said, Say, AreRead, AskDemo, IsDemo, IsBare, no_options, given_or, default_width, default_box};
+ghost use Rattle.av_commands.specs.SizeWords.{GiveSizes};
 ghost use Rattle.av_cli.specs.inner.CommandsSeen.{Are, takes_input};
 ghost use Rattle.av_cli.specs.inner.DemoWords.{IsDemoAt};
 
-use crate::numbers::number_up_to;
 use crate::options::read_options;
-use crate::size_word::is_size;
 use av_base::{Name, Width};
+use av_commands::{is_size, number_up_to};
 use av_flat::Reach;
 
 // The greatest size of the matrices of a demo.

@@ -7,7 +7,7 @@ ghost use Rattle.av_data.specs.Inputs.{words_of};
 
 use crate::texts::INCREMENT;
 use av_base::{Memory, Width, Word};
-use av_cli::shown;
+use av_commands::shown;
 use av_compile::checked;
 use av_data::{Inputs, read_data};
 use av_net::{Design, Entry, Port};

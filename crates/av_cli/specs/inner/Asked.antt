@@ -4,17 +4,17 @@ use Rattle.av_names.specs.declared.size.Size.{Size}
 use Rattle.av_cli.specs.declared.words.Command.{Command}
 use Rattle.av_cli.specs.declared.words.Command.TheVariants.{Check, Schedule, Table, Emit, Run, Trace, Best, Stream, Wave, Run8, Sim, Unwave, Demo}
 use Rattle.av_cli.specs.Commands.{IsCheck, IsSchedule, IsTable, IsEmit, IsRun, IsTrace, IsBest, IsStream, AsksWave, IsRun8}
-use Rattle.av_cli.specs.Checks.{RefusesCheck, GivesCheck}
-use Rattle.av_cli.specs.Schedules.{RefusesSchedule, GivesSchedule}
-use Rattle.av_cli.specs.Tables.{RefusesTable, GivesTable}
-use Rattle.av_cli.specs.Sims.{RefusesSim, GivesSim}
-use Rattle.av_cli.specs.Runs.{RefusesRun, GivesResults, GivesTrace}
-use Rattle.av_cli.specs.Bests.{RefusesBest, GivesBest}
-use Rattle.av_cli.specs.Streams.{RefusesStream, GivesStream}
-use Rattle.av_cli.specs.Eights.{RefusesEight, GivesEight}
-use Rattle.av_cli.specs.Waves.{GivesDump, RefusesUnwave, GivesUnwave}
-use Rattle.av_cli.specs.Demos.{GivesDemo}
-use Rattle.av_cli.specs.inner.WithWords.{GivesMapped}
+use Rattle.av_commands.specs.Checks.{RefusesCheck, GivesCheck}
+use Rattle.av_commands.specs.Schedules.{RefusesSchedule, GivesSchedule}
+use Rattle.av_commands.specs.Tables.{RefusesTable, GivesTable}
+use Rattle.av_commands.specs.Sims.{RefusesSim, GivesSim}
+use Rattle.av_commands.specs.Runs.{RefusesRun, GivesResults, GivesTrace}
+use Rattle.av_commands.specs.Bests.{RefusesBest, GivesBest}
+use Rattle.av_commands.specs.Streams.{RefusesStream, GivesStream}
+use Rattle.av_commands.specs.Eights.{RefusesEight, GivesEight}
+use Rattle.av_commands.specs.Waves.{GivesDump, RefusesUnwave, GivesUnwave}
+use Rattle.av_commands.specs.Demos.{GivesDemo}
+use Rattle.av_commands.specs.WithWords.{GivesMapped}
 
 abbrev pub Refuses : Command → List (List ℕ) → List ℕ → List ℕ → Type 0
 Refuses (Check width) words bytes reason = (sizes : List Size) × IsCheck words width.bits sizes × RefusesCheck sizes width.bits bytes reason

@@ -1,6 +1,7 @@
 -- The words of a demo, read at the place of its size.
 use Rattle.std.specs.Prelude.{◌≡◌, ℕ, ◌+◌, ◌-◌, List, [], take, drop, codes, slice_index_or, Contains}
-use Rattle.av_cli.specs.Commands.{Options, Say, SpellsUpTo, no_options, given_or, default_width, default_box}
+use Rattle.av_cli.specs.Commands.{Options, Say, no_options, given_or, default_width, default_box}
+use Rattle.av_commands.specs.SizeWords.{SpellsUpTo}
 
 -- behind the name of the command, the words before this place and those after it are whole options, and the word there is the size
 pub record IsDemoAt (words : List (List ℕ)) (at bits box k : ℕ) : Type 0 where

@@ -1,6 +1,6 @@
 use Rattle.std.proofs.Common.{◌≡◌, sym, subst, refl, ◌∙◌, drop, arith}
 use Rattle.std.proofs.lemmas.List.{drop_all}
-use Rattle.av_cli.specs.Commands.{IsSize}
+use Rattle.av_commands.specs.SizeWords.{IsSize}
 use Rattle.av_cli.proofs.OptionWords.{sizes_from}
 use Rattle.av_cli.proofs.options.are_sizes.Goals as goal
 

@@ -1,6 +1,6 @@
 use Rattle.std.proofs.Common.{◌≤◌, ◌↔◌, ◌-◌, length, drop}
 use Rattle.std.specs.List.{AllByRecursion}
-use Rattle.av_cli.specs.Commands.{IsSize}
+use Rattle.av_commands.specs.SizeWords.{IsSize}
 use Rattle.av_cli.proofs.options.are_sizes.Given as goal
 
 abbrev pub invariant-loop-at : goal.invariant-loop-at

@@ -1,8 +1,7 @@
 use Rattle.std.proofs.Common.{◌≡◌, ◌+◌, ◌<◌, ◌++◌, Some, None, List, [], ◌∷◌, ℕ, sym, ap, subst, ◌∙◌, length, drop, arith}
 use Rattle.std.proofs.lemmas.List.{append-nil}
-use Rattle.std.proofs.lemmas.Bool.Decides.{Decides-eqb}
+use Rattle.std.proofs.lemmas.Bool.Decides.{Decides-eqb, nat_tests}
 use Rattle.std.proofs.lemmas.Slice.Eq.{strip_prefix_is}
-use Rattle.std.proofs.lemmas.Bool.Decides.{nat_tests}
 use Rattle.av_cli.specs.Commands.{IsOption}
 use Rattle.av_cli.proofs.OptionWords.{if_none, none_at, apart_at, joined_at, empty_of}
 use Rattle.av_cli.proofs.options.option_at.Goals as goal

@@ -3,8 +3,8 @@ use Rattle.av_cli.specs.Commands.{AreRead, TakeInput}
 use Rattle.av_cli.specs.declared.words.Command.{Command}
 use Rattle.av_cli.specs.inner.CommandsSeen.{Are, takes_input}
 use Rattle.av_cli.specs.Program.{IsComplete}
-use Rattle.av_cli.specs.declared.status.Status.{Status}
-use Rattle.av_cli.specs.declared.status.Status.TheVariants.{Refused, Words}
+use Rattle.av_commands.specs.declared.status.Status.{Status}
+use Rattle.av_commands.specs.declared.status.Status.TheVariants.{Refused, Words}
 use Rattle.av_cli.proofs.Answered.{input_of, read_of, whole, front, as_wanted, too_long_left, writes_too_long, complete_refused, complete_memory, answered_refused, answered_done, answered_fault, answered_complete, demo_refused, demo_done, demo_fault, demo_complete}
 use Rattle.av_cli.proofs.program.alphav.Goals as goal
 

@@ -3,15 +3,8 @@ use Rattle.av_cli.specs.declared.words.Command.{Command}
 use Rattle.av_cli.specs.declared.words.Command.TheVariants.{Check, Schedule, Table, Emit, Run, Trace, Best, Stream, Wave, Run8, Sim, Unwave, Demo}
 use Rattle.av_cli.specs.inner.CommandsSeen.{Are}
 use Rattle.av_cli.proofs.Answered.{by_command}
-use Rattle.av_cli.proofs.Checking.{check_answered}
-use Rattle.av_cli.proofs.Scheduling.{schedule_answered}
-use Rattle.av_cli.proofs.Tabling.{table_answered}
-use Rattle.av_cli.proofs.Emitting.{emit_answered}
-use Rattle.av_cli.proofs.Reporting.{run_words, trace_words, wave_words}
-use Rattle.av_cli.proofs.LeastSchedules.{best_answered}
-use Rattle.av_cli.proofs.EightAnswers.{eight_answered}
-use Rattle.av_cli.proofs.StreamAnswers.{stream_answered}
-use Rattle.av_cli.proofs.Outputs.{puts_given}
+use Rattle.av_cli.proofs.AskedAnswers.{check_answered, schedule_answered, table_answered, emit_answered, run_words, trace_words, wave_words, best_answered, eight_answered, stream_answered}
+use Rattle.av_commands.proofs.Outputs.{puts_given}
 use Rattle.av_cli.proofs.program.answer.Goals as goal
 
 pub returns-in-Check : goal.returns-in-Check

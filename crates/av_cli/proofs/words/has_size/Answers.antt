@@ -1,5 +1,5 @@
 use Rattle.std.proofs.Common.{◌≡◌, ◌∙◌, refl, sym, subst}
-use Rattle.av_cli.specs.Commands.{IsSize}
+use Rattle.av_commands.specs.SizeWords.{IsSize}
 use Rattle.av_cli.proofs.DemoPlaces.{give_none, none_next, no_sizes}
 use Rattle.av_cli.proofs.words.has_size.Goals as goal
 

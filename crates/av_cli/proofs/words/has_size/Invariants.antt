@@ -1,5 +1,5 @@
 use Rattle.std.proofs.Common.{take, All}
-use Rattle.av_cli.specs.Commands.{IsSize}
+use Rattle.av_commands.specs.SizeWords.{IsSize}
 use Rattle.av_cli.proofs.words.has_size.Given as goal
 
 abbrev pub invariant-loop-word : goal.invariant-loop-word

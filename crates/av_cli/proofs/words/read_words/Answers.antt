@@ -1,6 +1,6 @@
 use Rattle.std.proofs.Common.{◌≡◌, ◌∷◌, ◌∙◌, drop, ap, refl, sym}
 use Rattle.std.specs.Prelude.{codes}
-use Rattle.av_cli.proofs.OptionWords.{at_words}
+use Rattle.av_commands.proofs.GivenSizes.{at_words}
 use Rattle.av_cli.proofs.GivenSizes.{check_read, asked, schedule_is_no_size, table_is_no_size, emit_is_no_size, run_is_no_size, trace_is_no_size, best_is_no_size, stream_is_no_size, wave_is_no_size, run8_is_no_size}
 use Rattle.av_cli.proofs.words.read_words.Goals as goal
 

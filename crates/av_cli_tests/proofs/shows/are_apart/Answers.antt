@@ -2,7 +2,7 @@ use Rattle.std.proofs.Common.{◌≡◌, ◌≢◌, ◌∙◌, ◌⊎◌, inl, i
 use Rattle.std.proofs.lemmas.List.{get_or-drop, length-drop, take_rest}
 use Rattle.std.proofs.lemmas.Option.{get_or_from_slice_get}
 use Rattle.av_net.specs.declared.design.Entry.{Entry}
-use Rattle.av_cli.proofs.Fed.{at_index}
+use Rattle.av_commands.proofs.Fed.{at_index}
 use Rattle.av_cli_tests.proofs.shows.are_apart.Goals as goal
 
 before_next : (at n : ℕ) → at < n + 1 → (at < n) ⊎ (n ≡ at)

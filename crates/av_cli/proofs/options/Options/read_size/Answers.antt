@@ -1,7 +1,7 @@
 use Rattle.std.proofs.Common.{◌≡◌, true, false, sym, subst, refl, ◌∙◌, length, arith}
 use Rattle.std.specs.Prelude.{codes}
 use Rattle.std.proofs.lemmas.Slice.Eq.{bytes_eq-Decides}
-use Rattle.av_cli.specs.Commands.{IsSize}
+use Rattle.av_commands.specs.SizeWords.{IsSize}
 use Rattle.av_cli.specs.inner.CommandsSeen.{seen}
 use Rattle.av_cli.proofs.OptionWords.{dashes_turn, dashes_fail, size_turn, size_fail}
 use Rattle.av_cli.proofs.options.Options.read_size.Goals as goal

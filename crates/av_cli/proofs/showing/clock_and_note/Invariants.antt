@@ -1,5 +1,0 @@
-use Rattle.av_cli.proofs.Watching.{IsWatching}
-use Rattle.av_cli.proofs.showing.clock_and_note.Given as goal
-
-abbrev pub invariant-loop-cycle : goal.invariant-loop-cycle
-invariant-loop-cycle l = IsWatching l.fn.clock.of l.stimulus l.lines l.inputs l.cycle l.clock l.next l.ports l.words

@@ -1,5 +1,0 @@
-use Rattle.av_cli.specs.inner.Watching.{AreTaps}
-use Rattle.av_cli.proofs.showing.taps.Given as goal
-
-abbrev pub invariant-loop-line : goal.invariant-loop-line
-invariant-loop-line l = AreTaps l.of l.lines l.line-index l.taps

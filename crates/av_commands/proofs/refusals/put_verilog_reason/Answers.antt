@@ -1,0 +1,19 @@
+use Rattle.std.proofs.Common.{sym, ap}
+use Rattle.av_page.proofs.Putting.{Puts-is}
+use Rattle.av_commands.specs.Refusals.{verilog_reason}
+use Rattle.av_commands.proofs.refusals.put_verilog_reason.Goals as goal
+
+pub returns-in-VTwice : goal.returns-in-VTwice
+returns-in-VTwice g c = Puts-is c.put_name.ensures (ap verilog_reason (sym c.in-VTwice.is))
+
+pub returns-in-VName : goal.returns-in-VName
+returns-in-VName g c = Puts-is c.put_name-in-VName.ensures (ap verilog_reason (sym c.in-VName.is))
+
+pub returns-in-VUnassigned : goal.returns-in-VUnassigned
+returns-in-VUnassigned g c = Puts-is c.put_name-in-VUnassigned.ensures (ap verilog_reason (sym c.in-VUnassigned.is))
+
+pub returns-in-VOrder : goal.returns-in-VOrder
+returns-in-VOrder g c = Puts-is c.put_name-in-VOrder.ensures (ap verilog_reason (sym c.in-VOrder.is))
+
+pub returns-in-VWidth : goal.returns-in-VWidth
+returns-in-VWidth g c = Puts-is c.put_name-in-VWidth.ensures (ap verilog_reason (sym c.in-VWidth.is))

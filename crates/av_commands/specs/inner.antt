@@ -1,0 +1,10 @@
+pub mod Watching
+pub mod Feeding
+pub mod DemoData
+pub mod Reported
+pub mod Streaming
+pub mod LaneClocking
+pub mod Eighting
+pub mod Clocking
+pub mod WithModule
+pub mod Changing

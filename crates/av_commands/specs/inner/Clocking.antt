@@ -1,0 +1,28 @@
+-- What is needed to clock a module.
+use Rattle.std.specs.Prelude.{◌≡◌, length, ◌⊎◌}
+use Rattle.av_net.specs.declared.netlist.Module.{Module}
+use Rattle.av_net.specs.Sound.{IsSound}
+use Rattle.av_wave.specs.Clocking.{AreWires}
+use Rattle.av_wave.specs.Simulated.{header_ports, IsStimulated, run_lines}
+use Rattle.av_commands.specs.declared.simulation.Prepared.{Prepared}
+use Rattle.av_base.specs.Outside.{SinkState}
+use Rattle.av_net.specs.Clocked.{Stream, Run, IsRun}
+use Rattle.av_data.specs.declared.stimulus.Stimulus.{Stimulus}
+use Rattle.av_commands.specs.declared.status.Status.{Status}
+use Rattle.av_commands.specs.declared.status.Status.TheVariants.{Done, Memory}
+use Rattle.av_commands.specs.Written.{IsPut}
+
+-- everything is there to clock the module
+pub record IsPrepared (m : Module) (p : Prepared) : Type 0 where
+  pub sound : IsSound m
+  pub clock : p.clock.of ≡ m
+  pub ports : p.ports ≡ header_ports m
+  pub wires : AreWires m (length m.outputs) p.wires
+  pub room : length p.words ≡ length (header_ports m)
+  pub count : p.inputs ≡ length m.inputs
+
+-- the lines of each run under the stimulus were put, or memory ran out and nothing was added
+abbrev pub IsClocked : Module → Stimulus → SinkState → SinkState → Status → Type 0
+IsClocked m s sink sink' status =
+    ((status ≡ Memory) × (sink'.held ≡ sink.held))
+    ⊎ ((stream : Stream) (run : Run) → IsStimulated m s stream → IsRun m s.cycles stream run → IsPut sink sink' (run_lines m run.in_cycle s.cycles) Done status)
