@@ -1,5 +1,6 @@
 -- How the words of the command line are read.
 use Rattle.std.specs.Prelude.{◌≡◌, ◌⊎◌, ℕ, List, [], ◌∷◌, ◌++◌, Option, Some, None, codes, Contains}
+use Rattle.std.specs.List.{AllByRecursion}
 use Rattle.av_names.specs.declared.size.Size.{Size}
 use Rattle.av_commands.specs.SizeWords.{SpellsUpTo, IsSize, GiveSizes}
 
