@@ -1,10 +1,7 @@
 -- Assignments in forms.
-use Rattle.std.proofs.Common.{◌≡◌, ℕ, ◌+◌, ◌<◌, List, [], ◌∷◌, ◌++◌, length, map, take, get_or, sym, ◌∙◌, ap, subst}
-use Rattle.std.specs.Prelude.{All}
-use Rattle.std.proofs.lemmas.List.{length-map, get_or-map, map-append, take_more}
-use Rattle.std.proofs.lemmas.List.Elements.{All-push}
+use Rattle.std.proofs.Common.{◌≡◌, ℕ, ◌<◌, List, length, map, get_or, sym, ◌∙◌, ap, subst}
+use Rattle.std.proofs.lemmas.List.{length-map, get_or-map}
 use Rattle.av_net.specs.declared.netlist.Module.{Module}
-use Rattle.av_clock.specs.declared.gate.Assignment.{Assignment}
 use Rattle.av_clock.proofs.Computing.{IsOne, each_one}
 use Rattle.av_clock.proofs.Resolved.{at_item}
 use Rattle.av_lanes.specs.declared.forms.Formed.{Formed}
@@ -27,11 +24,3 @@ formed_one m drives i drive are lt at =
 -- and has its mask
 pub formed_masked : (m : Module) (drives : List Formed) (i : ℕ) (drive : Formed) → AreFormed m drives → i < length drives → drive ≡ get_or drives i drive → IsMasked drive.form
 formed_masked m drives i drive are lt at = at_item (λ (it : Formed). IsMasked it.form) drives i drive lt at are.masked
-
--- one more of those that were formed
-pub formed_more : (assignments : List Assignment) (i : ℕ) (assignment : Assignment) (drives : List Formed) (drive : Formed) → i < length assignments → assignment ≡ get_or assignments i assignment → assignment_of drive ≡ assignment → IsMasked drive.form
-    → (map assignment_of drives ≡ take i assignments) × All (λ (it : Formed). IsMasked it.form) drives
-    → (map assignment_of (drives ++ drive ∷ []) ≡ take (i + 1) assignments) × All (λ (it : Formed). IsMasked it.form) (drives ++ drive ∷ [])
-formed_more assignments i assignment drives drive lt at is masked so_far =
-    (map-append assignment_of drives (drive ∷ []) ∙ ap (λ (xs : List Assignment). xs ++ assignment_of drive ∷ []) so_far.0 ∙ ap (λ (x : Assignment). take i assignments ++ x ∷ []) (is ∙ at) ∙ sym (take_more assignments i assignment lt),
-    All-push (λ (it : Formed). IsMasked it.form) drives drive so_far.1 masked)

@@ -18,12 +18,12 @@ returns c k lt =
     elim c.match-form.branch [
       | in-Sum w ↦
           let is = subst IsMasked w.in-Sum.is c.requires.masked in
-          let left = w.word_read-in-Sum.ensures k lt in
-          let right = w.word_read-in-Sum-2.ensures k lt in
+          let left = w.word_read.ensures k lt in
+          let right = w.word_read-in-Sum.ensures k lt in
           subst P (sym w.in-Sum.is)
           (ap at w.result-is
           ∙ w.masked_sum.ensures w.in-Sum.width.bits w.in-Sum.width.most is k lt
-          ∙ of_two (sum w.in-Sum.width.bits) (at w.word_read-in-Sum.result) (at w.word_read-in-Sum-2.result) (reading_word ws w.in-Sum.left) (reading_word ws w.in-Sum.right) left right)
+          ∙ of_two (sum w.in-Sum.width.bits) (at w.word_read.result) (at w.word_read-in-Sum.result) (reading_word ws w.in-Sum.left) (reading_word ws w.in-Sum.right) left right)
       | in-Product w ↦
           let is = subst IsMasked w.in-Product.is c.requires.masked in
           let left = w.word_read-in-Product.ensures k lt in
