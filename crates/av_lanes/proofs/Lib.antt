@@ -4,5 +4,6 @@ pub mod ByLane
 pub mod GateLanes
 pub mod Ordering
 pub mod LanePasses
+pub mod Forming
 pub mod LaneStates
 pub mod Alike

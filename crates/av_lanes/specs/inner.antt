@@ -1,2 +1,3 @@
+pub mod Forms
 pub mod Engine
 pub mod Order

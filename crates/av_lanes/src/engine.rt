@@ -7,6 +7,7 @@ ghost use Rattle.av_net.specs.Clocked.{Edge};
 ghost use Rattle.av_net.specs.Sound.{IsSound};
 ghost use Rattle.av_lanes.specs.Seen.{lane, carried};
 
+use crate::forms::{Formed, all_formed};
 use crate::order::Moves;
 use crate::passes;
 use av_base::Memory;
@@ -17,7 +18,7 @@ use std::marker::Model;
 use std::simd::prelude::*;
 
 // The ticks between two at which changed registers are counted.
-const UNCOUNTED_TICKS: u32 = 15;
+const UNCOUNTED_TICKS: u32 = 7;
 
 /// Eight lanes of a module in which what gives the same word is computed once: each word is read at its source.
 #[derive(Drop)]
@@ -27,6 +28,8 @@ pub(crate) struct Engine<'a> {
     sources: Vec<usize>,
     // The merged module.
     circuit: Circuit<'a>,
+    // What a settle of all drives computes.
+    drives: Vec<Formed>,
     // The words of all names, in the order of declarations.
     words: Vec<u64x8>,
     // Room for the registers' next words, and for the steps that are taken.
@@ -39,7 +42,7 @@ pub(crate) struct Engine<'a> {
     due: Marks,
     // All drives are computed at each settle, whatever the marks say.
     dense: bool,
-    // The last settle by marks computed more than a third of what a settle of all drives takes.
+    // The last settle by marks computed more than a sixth of what a settle of all drives takes.
     busy: bool,
     // The ticks to come before changed registers are counted again.
     uncounted: u32,
@@ -69,6 +72,7 @@ impl<'a> Engine<'a> {
         let merged = Merged::new(alloc, of)?;
         let sources = merged.sources.clone()?;
         let circuit = Circuit::new(alloc, of, merged)?;
+        let drives = all_formed(alloc, &circuit)?;
         let words = vec![in alloc; u64x8::splat(0); circuit.size()]?;
         let next = vec![in alloc; u64x8::splat(0); circuit.steps()]?;
         let taken = vec![in alloc; 0usize; circuit.steps()]?;
@@ -79,6 +83,7 @@ impl<'a> Engine<'a> {
             of,
             sources,
             circuit,
+            drives,
             words,
             next,
             taken,
@@ -132,7 +137,7 @@ impl<'a> Engine<'a> {
             &mut self.stale,
             &mut self.due,
         );
-        self.busy = computed > self.circuit.computed().len() / 3;
+        self.busy = computed > self.drives.len() / 6;
         self.settled = true;
     }
 
@@ -143,7 +148,7 @@ impl<'a> Engine<'a> {
         ensures given { (k : ℕ) → k < 8 → Agree (given_names self.new.of) (carried k self.old) (carried k self.new) }
         ensures flag { IsTrue self.new.settled }
     {
-        passes::settle(&self.circuit, &mut self.words);
+        passes::settle(&self.circuit, &self.drives, &mut self.words);
         self.dense = true;
         self.settled = true;
     }
@@ -175,7 +180,8 @@ impl<'a> Engine<'a> {
         }
     }
 
-    // Whether the next tick is one of all steps, by the measure that a clock takes.
+    // Whether the next tick is one of all steps. Beside a pass over all, marks cost lanes more than they cost a clock, so that they serve
+    // where fewer registers change.
     fn is_dense_tick(&mut self) -> bool
         ensures kept { self.new ≡ self.old }
     {
@@ -187,9 +193,7 @@ impl<'a> Engine<'a> {
             return false;
         }
         self.uncounted = UNCOUNTED_TICKS;
-        passes::next_words(&self.circuit, &self.words, &mut self.next);
-        let changed = passes::changed(&self.circuit, &self.words, &self.next);
-        changed > self.circuit.steps() / 4
+        passes::changing(&self.circuit, &self.words) > self.circuit.steps() / 8
     }
 
     // The same by the marked steps alone.

@@ -16,9 +16,9 @@ pub(crate) fn constant(word: u64) -> u64x8
     u64x8::splat(word)
 }
 
-// The greatest word of a width.
+/// The greatest word of a width.
 #[inline(always)]
-fn greatest(width: Width) -> u64
+pub(crate) fn greatest(width: Width) -> u64
     ensures { result ≡ 2 ^ width.bits - 1 }
 {
     if width.bits == 64 {
@@ -33,7 +33,15 @@ fn greatest(width: Width) -> u64
 fn cut(numbers: u64x8, width: Width) -> u64x8
     ensures { (k : ℕ) → k < 8 → slice_index result k ≡ residue width.bits (slice_index numbers k) }
 {
-    numbers & u64x8::splat(greatest(width))
+    masked(numbers, greatest(width))
+}
+
+// The bits of each lane that a mask has.
+#[inline(always)]
+fn masked(numbers: u64x8, mask: u64) -> u64x8
+    ensures { (w : ℕ) → mask ≡ 2 ^ w - 1 → (k : ℕ) → k < 8 → slice_index result k ≡ residue w (slice_index numbers k) }
+{
+    numbers & u64x8::splat(mask)
 }
 
 // The word where the bit is 1, else 0.
@@ -44,11 +52,19 @@ fn where_set(bits: u64x8, words: u64x8) -> u64x8
     (u64x8::splat(0) - bits) & words
 }
 
+/// The sum of words of a width, whose bits the mask has.
+#[inline(always)]
+pub(crate) fn masked_sum(left: u64x8, right: u64x8, mask: u64) -> u64x8
+    ensures { (w : ℕ) → w ≤ 64 → mask ≡ 2 ^ w - 1 → (k : ℕ) → k < 8 → slice_index result k ≡ word_sum w (slice_index left k) (slice_index right k) }
+{
+    masked(left + right, mask)
+}
+
 #[inline(always)]
 fn sum(left: u64x8, right: u64x8, width: Width) -> u64x8
     ensures { (k : ℕ) → k < 8 → slice_index result k ≡ word_sum width.bits (slice_index left k) (slice_index right k) }
 {
-    cut(left + right, width)
+    masked_sum(left, right, greatest(width))
 }
 
 #[inline(always)]
@@ -67,13 +83,21 @@ fn low_half(words: u64x8) -> u64x8
     words & u64x8::splat(0xffff_ffff)
 }
 
-// A product of at most 32 bits is that of the low halves, which a processor multiplies at once.
+/// The product of words of at most 32 bits, whose bits the mask has: that of the low halves, which a processor multiplies at once.
+#[inline(always)]
+pub(crate) fn masked_product(left: u64x8, right: u64x8, mask: u64) -> u64x8
+    ensures { (w : ℕ) → w ≤ 32 → mask ≡ 2 ^ w - 1 → (k : ℕ) → k < 8 → slice_index result k ≡ word_product w (slice_index left k) (slice_index right k) }
+{
+    masked(low_half(left) * low_half(right), mask)
+}
+
+// A product of at most 32 bits.
 #[inline(always)]
 fn small_product(left: u64x8, right: u64x8, width: Width) -> u64x8
     requires { width.bits ≤ 32 }
     ensures { (k : ℕ) → k < 8 → slice_index result k ≡ word_product width.bits (slice_index left k) (slice_index right k) }
 {
-    cut(low_half(left) * low_half(right), width)
+    masked_product(left, right, greatest(width))
 }
 
 // A product of any width.

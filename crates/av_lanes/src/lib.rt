@@ -3,6 +3,7 @@
 #![tactic(auto)]
 
 mod engine;
+mod forms;
 mod gates;
 mod kernel;
 mod lanes;

@@ -14,8 +14,10 @@ ghost use Rattle.av_clock.specs.Marked.{IsClear, AreHeld};
 ghost use Rattle.av_clock.specs.Marking.{IsSet, ReadTheSame, AreAhead, AreDue};
 ghost use Rattle.av_clock.specs.Named.{named, AllFit};
 ghost use Rattle.av_lanes.specs.Seen.{lane};
+ghost use Rattle.av_lanes.specs.inner.Forms.{AreFormed};
 ghost use Rattle.av_lanes.specs.inner.Order.{AreMoves};
 
+use crate::forms::{Formed, word_formed};
 use crate::gates::{word_given, word_read};
 use crate::kernel::{constant, differ};
 use crate::order::Moves;
@@ -23,17 +25,18 @@ use av_clock::{Circuit, FlipFlop, Marks};
 use std::simd::prelude::*;
 
 /// All drives in order, but those of the constant 0.
-pub(crate) fn settle(circuit: &Circuit<'_>, words: &mut [u64x8])
+pub(crate) fn settle(circuit: &Circuit<'_>, drives: &[Formed], words: &mut [u64x8])
     requires sound { IsSound circuit.now }
     requires size { length words.old ≡ length (all_names circuit.now) }
     requires fit { (k : ℕ) → k < 8 → AllFit circuit.now (lane k words.old) }
     requires zeros { (k : ℕ) → k < 8 → AreZero circuit.now (lane k words.old) }
+    requires formed { AreFormed circuit.now drives.now }
     ensures settled { (k : ℕ) → k < 8 → Settled circuit.now (named circuit.now (lane k words.new)) }
     ensures given { (k : ℕ) → k < 8 → Agree (given_names circuit.now) (named circuit.now (lane k words.old)) (named circuit.now (lane k words.new)) }
     ensures fit { (k : ℕ) → k < 8 → AllFit circuit.now (lane k words.new) }
 {
-    for assignment in circuit.computed() {
-        words[assignment.target] = word_given(&assignment.gate, words);
+    for drive in drives {
+        words[drive.target] = word_formed(&drive.form, words);
     }
 }
 
@@ -303,18 +306,18 @@ pub(crate) fn next_words(circuit: &Circuit<'_>, words: &[u64x8], next: &mut [u64
     }
 }
 
-/// How many registers these words change in some lane.
-pub(crate) fn changed(circuit: &Circuit<'_>, words: &[u64x8], next: &[u64x8]) -> usize
+/// How many registers an edge without reset changes in some lane.
+pub(crate) fn changing(circuit: &Circuit<'_>, words: &[u64x8]) -> usize
+    requires sound { IsSound circuit.now }
     requires size { length words.now ≡ length (all_names circuit.now) }
-    requires next { length next.now ≡ length circuit.now.steps }
 {
-    let mut changed = 0;
+    let mut changing = 0;
     for (i, flip_flop) in circuit.flip_flops().iter().enumerate() {
-        if differ(next[i], words[flip_flop.register]) {
-            changed += 1;
+        if differ(word_read(flip_flop.next, words), words[flip_flop.register]) {
+            changing += 1;
         }
     }
-    changed
+    changing
 }
 
 // Gives all registers these words.

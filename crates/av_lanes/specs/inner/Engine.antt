@@ -10,6 +10,7 @@ use Rattle.av_clock.specs.Merged.{merged, AreMerged}
 use Rattle.av_clock.specs.Named.{named, AllFit}
 use Rattle.av_lanes.specs.declared.engine.Engine.TheInside.{Inside}
 use Rattle.av_lanes.specs.Seen.{Seen, lane}
+use Rattle.av_lanes.specs.inner.Forms.{AreFormed}
 use Rattle.av_lanes.specs.inner.Order.{AreMoves}
 
 -- the words of all places, each read at its source
@@ -26,13 +27,14 @@ pub record IsLane (m : Module) (words : List ℕ) (stale due : List Bool) (dense
   pub zeros : AreZero m words
   pub held : dense ≡ false → AreHeld m words stale due
 
--- the circuit of the merged module, a word for each name in each of eight lanes, room for the next words and their steps, the
+-- the circuit of the merged module, the drives that compute in their forms, a word for each name in each of eight lanes, room for the next words and their steps, the
 -- flip-flops in order, where they say so, and a mark for each drive and each step
 pub record IsKept (c : Inside) : Type 0 where
   pub sound : IsSound c.of.now
   pub sources : AreMerged c.of.now c.sources.items
   pub circuit : c.circuit ≡ merged c.of.now c.sources.items
   pub safe : IsSound c.circuit
+  pub drives : AreFormed c.circuit c.drives.items
   pub size : length c.words.items ≡ length (all_names c.circuit)
   pub next : length c.next.items ≡ length c.circuit.steps
   pub taken : length c.taken.items ≡ length c.circuit.steps

@@ -28,6 +28,7 @@ invariant_of-result c =
       sources = subst (AreMerged c.args.of.now) same c.in_ok-merged.ensures.sources;
       circuit = c.in_ok-circuit.ensures ∙ ap (merged c.args.of.now) same;
       safe = subst IsSound (sym c.in_ok-circuit.ensures) c.in_ok-merged.ensures.safe;
+      drives = c.in_ok-drives.ensures;
       size = sym c.in_ok-words.words.ok.0 ∙ c.in_ok-words.ensures.len ∙ c.size.ensures;
       next = sym c.in_ok-next.next.ok.0 ∙ c.in_ok-next.ensures.len ∙ c.steps.ensures;
       taken = sym c.in_ok-taken.taken.ok.0 ∙ c.in_ok-taken.ensures.len ∙ c.steps-2.ensures;

@@ -34,6 +34,7 @@ invariant_of-self c = record {
   sources = c.self.invariant.sources;
   circuit = c.self.invariant.circuit;
   safe = c.self.invariant.safe;
+  drives = c.self.invariant.drives;
   size = size_after c.self.inside.words _ c.reset.new.words c.reset.auto.words c.deref_mut.ensures.value ∙ c.self.invariant.size;
   next = size_after c.self.inside.next _ c.reset.new.next c.reset.auto.next c.deref_mut-2.ensures.value ∙ c.self.invariant.next;
   taken = size_call c.self.inside.taken _ c.reset.new.taken c.reset.auto.taken c.deref_mut-3.ensures.value ∙ c.self.invariant.taken;

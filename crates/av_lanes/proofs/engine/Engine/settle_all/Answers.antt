@@ -34,6 +34,7 @@ invariant_of-self c = record {
   sources = c.self.invariant.sources;
   circuit = c.self.invariant.circuit;
   safe = c.self.invariant.safe;
+  drives = c.self.invariant.drives;
   size = size_after c.self.inside.words _ c.settle.new.words c.settle.auto.words c.deref_mut.ensures.value ∙ c.self.invariant.size;
   next = c.self.invariant.next;
   taken = c.self.invariant.taken;

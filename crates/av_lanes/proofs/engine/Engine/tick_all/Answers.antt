@@ -32,6 +32,7 @@ invariant_of-self c = record {
   sources = c.self.invariant.sources;
   circuit = c.self.invariant.circuit;
   safe = c.self.invariant.safe;
+  drives = c.self.invariant.drives;
   size = size_after c.self.inside.words _ c.tick.new.words c.tick.auto.words c.deref_mut.ensures.value ∙ c.self.invariant.size;
   next = size_after c.self.inside.next _ c.tick.new.next c.tick.auto.next c.deref_mut-2.ensures.value ∙ c.self.invariant.next;
   taken = c.self.invariant.taken;

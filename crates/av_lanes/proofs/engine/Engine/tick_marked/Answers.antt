@@ -46,6 +46,7 @@ invariant_of-self c = record {
   sources = c.self.invariant.sources;
   circuit = c.self.invariant.circuit;
   safe = c.self.invariant.safe;
+  drives = c.self.invariant.drives;
   size = size_after c.self.inside.words _ c.tick_marked.new.words c.tick_marked.auto.words c.deref_mut.ensures.value ∙ c.self.invariant.size;
   next = size_after c.self.inside.next _ c.tick_marked.new.next c.tick_marked.auto.next c.deref_mut-2.ensures.value ∙ c.self.invariant.next;
   taken = size_call c.self.inside.taken _ c.tick_marked.new.taken c.tick_marked.auto.taken c.deref_mut-3.ensures.value ∙ c.self.invariant.taken;
