@@ -21,6 +21,6 @@ returns c k lt =
           ∙ b.chosen.ensures k lt (takes_word k words 1 c.args.condition c.word_read-bits.result condition takes.0)
           ∙ of_three chosen (at c.word_read-bits.result) (at b.word_read.result) (at b.word_read-then-differ.result) (reading_word ws c.args.condition) (reading_word ws c.args.first) (reading_word ws c.args.second) condition first second
       | else-differ b ↦
-          let none : reading_word ws c.args.condition ≡ 0 = sym condition ∙ c.differ.ensures b.else-differ.false k lt ∙ c.constant.ensures k lt in
+          let none : reading_word ws c.args.condition ≡ 0 = sym condition ∙ c.differ.ensures b.if-differ.false k lt ∙ c.constant.ensures k lt in
           ap at b.result-is ∙ b.word_read-else-differ.ensures k lt ∙ ap (λ n. chosen n (reading_word ws c.args.first) (reading_word ws c.args.second)) (sym none)
     ]
