@@ -2,13 +2,13 @@
 
 ghost use Rattle.std.specs.Prelude.{◌≡◌, ◌<◌, ℕ, All, IfOk, slice_index};
 ghost use Rattle.av_net.specs.declared.operation.Symbol.TheVariants.{Mul};
-ghost use Rattle.av_clock.specs.declared.gate.Gate.TheVariants.{Operator};
+ghost use Rattle.av_clock.specs.declared.gate.Gate.TheVariants.{Operator, Multiplexer};
 ghost use Rattle.av_clock.specs.Gates.{gate_word, CanTake};
 ghost use Rattle.av_lanes.specs.Seen.{lane};
 ghost use Rattle.av_lanes.specs.inner.Forms.{gate_of, assignment_of, IsMasked, AreFormed};
 
 use crate::gates::{word_given, word_read};
-use crate::kernel::{chosen, greatest, masked_product, masked_sum};
+use crate::kernel::{chosen, constant, differ, greatest, masked_product, masked_sum};
 use av_base::{Memory, Width};
 use av_clock::{Assignment, Circuit, Gate, Reading};
 use av_net::Symbol;
@@ -145,12 +145,22 @@ pub(crate) fn word_formed(form: &Form, words: &[u64x8]) -> u64x8
             condition,
             first,
             second,
-        } => chosen(
-            word_read(*condition, words),
-            word_read(*first, words),
-            word_read(*second, words),
-        ),
+        } => word_chosen(*condition, *first, *second, words),
         Form::Any(gate) => word_given(gate, words),
+    }
+}
+
+// The first word where the condition is 1, else the second. The first is not read where the condition is 0 in all lanes.
+#[inline(always)]
+fn word_chosen(condition: Reading, first: Reading, second: Reading, words: &[u64x8]) -> u64x8
+    requires { (k : ℕ) → k < 8 → CanTake (lane k words.now) (Multiplexer condition first second) }
+    ensures { (k : ℕ) → k < 8 → slice_index result k ≡ gate_word (lane k words.now) (Multiplexer condition first second) }
+{
+    let bits = word_read(condition, words);
+    if differ(bits, constant(0)) {
+        chosen(bits, word_read(first, words), word_read(second, words))
+    } else {
+        word_read(second, words)
     }
 }
 

@@ -1,11 +1,10 @@
 use Rattle.std.proofs.Common.{◌≡◌, ◌∙◌, ℕ, List, ap, get_or, subst, sym}
 use Rattle.av_base.specs.Words.{sum, product}
-use Rattle.av_net.specs.Meaning.{chosen}
-use Rattle.av_clock.specs.Gates.{gate_word, reading_word, CanTake}
+use Rattle.av_clock.specs.Gates.{gate_word, reading_word}
 use Rattle.av_lanes.specs.declared.forms.Form.{Form}
 use Rattle.av_lanes.specs.Seen.{lane}
 use Rattle.av_lanes.specs.inner.Forms.{gate_of, IsMasked}
-use Rattle.av_lanes.proofs.GateLanes.{takes_word, of_two, of_three}
+use Rattle.av_lanes.proofs.GateLanes.{of_two}
 use Rattle.av_lanes.proofs.forms.word_formed.Goals.{in-Sum, in-Product, in-Choice, in-Any}
 use Rattle.av_lanes.proofs.forms.word_formed.Goals as goal
 
@@ -32,14 +31,6 @@ returns c k lt =
           (ap at w.result-is
           ∙ w.masked_product.ensures w.in-Product.width.bits is.1 is.0 k lt
           ∙ of_two (product w.in-Product.width.bits) (at w.word_read-in-Product.result) (at w.word_read-in-Product-2.result) (reading_word ws w.in-Product.left) (reading_word ws w.in-Product.right) left right)
-      | in-Choice w ↦
-          let takes = subst (λ form. CanTake ws (gate_of form)) w.in-Choice.is (c.requires.takes k lt) in
-          let condition = w.word_read-in-Choice.ensures k lt in
-          let first = w.word_read-in-Choice-2.ensures k lt in
-          let second = w.word_read-in-Choice-3.ensures k lt in
-          subst P (sym w.in-Choice.is)
-          (ap at w.result-is
-          ∙ w.chosen.ensures k lt (takes_word k words 1 w.in-Choice.condition w.word_read-in-Choice.result condition takes.0)
-          ∙ of_three chosen (at w.word_read-in-Choice.result) (at w.word_read-in-Choice-2.result) (at w.word_read-in-Choice-3.result) (reading_word ws w.in-Choice.condition) (reading_word ws w.in-Choice.first) (reading_word ws w.in-Choice.second) condition first second)
+      | in-Choice w ↦ subst P (sym w.in-Choice.is) (ap at w.result-is ∙ w.word_chosen.ensures k lt)
       | in-Any w ↦ subst P (sym w.in-Any.is) (ap at w.result-is ∙ w.word_given.ensures k lt)
     ]
