@@ -8,7 +8,7 @@ use Rattle.av_base.specs.Tokens.{IsDigits}
 use Rattle.av_names.specs.declared.size.Size.{Size}
 use Rattle.av_commands.specs.SizeWords.{IsSize, size_of, GiveSizes, no_more, given, passed}
 use Rattle.av_cli.specs.Commands.{Options, Say, nothing, width, box, size, sizes, IsOption, no_options, given_or, default_width, default_box, Asks, IsCheck}
-use Rattle.av_cli.proofs.OptionWords.{head, letter_first, no_size, dashes_head, one_said}
+use Rattle.av_cli.proofs.OptionWords.{head, letter_first, no_size, width_head, box_head, dashes_head, one_said}
 use Rattle.av_commands.proofs.SizeWords.{text_is, one_size}
 use Rattle.av_commands.proofs.GivenSizes.{Give, past}
 

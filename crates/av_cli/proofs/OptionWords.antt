@@ -9,7 +9,7 @@ use Rattle.std.proofs.lemmas.List.{append-nil, drop_all}
 use Rattle.std.proofs.Math.Seq.{drop-append_seam}
 use Rattle.av_base.specs.Tokens.{IsWord}
 use Rattle.av_commands.specs.SizeWords.{SpellsUpTo, IsSize}
-use Rattle.av_cli.specs.Commands.{Options, having_width, having_box, IsOption, Say, nothing, width, box, size, sizes}
+use Rattle.av_cli.specs.Commands.{Options, having_width, having_box, IsOption, Say, nothing, width, box, size, sizes, IsBare}
 use Rattle.av_commands.proofs.GivenSizes.{at_words}
 
 -- ---- the first word of an option

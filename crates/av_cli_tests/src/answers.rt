@@ -1,5 +1,7 @@
 //! What the program answers to words and an input in memory.
 
+ghost use Rattle.std.specs.Prelude.{◌<◌};
+
 use av_base::{List, MemSink, MemSource, Name};
 use av_cli::{Status, alphav};
 use std::alloc::Global;
@@ -139,7 +141,9 @@ fn unread(
     input: List<u8>,
     piece: usize,
     call: u64,
-) -> Result<Outcome, Fail> {
+) -> Result<Outcome, Fail>
+    requires { 0 < piece }
+{
     let mut source = MemSource::new(input, piece, calls(alloc, Some(call))?);
     let mut sink = MemSink::new(alloc, 4096, 4096, List::new(alloc))?;
     let status = answer(alloc, words, &mut source, &mut sink)?;
@@ -159,7 +163,9 @@ pub(crate) fn assert_read_fault(
     input: List<u8>,
     piece: usize,
     call: u64,
-) -> Result<(), Fail> {
+) -> Result<(), Fail>
+    requires { 0 < piece }
+{
     let found = unread(alloc, words, input, piece, call)?;
     assert_unread(rt, &found, call);
     Ok(())
