@@ -15,8 +15,8 @@ use std::alloc::Global;
 use std::process::Abort;
 use std::test::Fail;
 
-/// What a text compiles to, in words of 8 bits.
-pub(crate) fn compiled(alloc: Global, text: &str) -> Result<Compiled, Fail>
+// What a text compiles to, in words of 8 bits.
+fn compiled(alloc: Global, text: &str) -> Result<Compiled, Fail>
     ensures { IfOk result (λ found. IsSoundPlan found.plan) }
 {
     let width = Width::new(8).ok_or("a width")?;
@@ -73,6 +73,12 @@ fn plan_text(alloc: Global, plan: &Plan) -> Result<MemSink, Fail>
     let mut sink = MemSink::new(alloc, 8192, 8192, List::new(alloc))?;
     write_plan(plan, &mut sink)?;
     Ok(sink)
+}
+
+/// A sink that has the text of the plan that a text compiles to.
+pub(crate) fn compiled_text(alloc: Global, text: &str) -> Result<MemSink, Fail> {
+    let found = compiled(alloc, text)?;
+    plan_text(alloc, &found.plan)
 }
 
 /// The text of the plan is this one, and it is read back as this design.

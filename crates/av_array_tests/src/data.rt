@@ -1,5 +1,9 @@
 //! Words of inputs, as lines of data tell them.
 
+ghost use Rattle.std.specs.Prelude.{IfOk};
+ghost use Rattle.av_flat.specs.Trees.{view_system};
+ghost use Rattle.av_flat.specs.Chained.{IsChained};
+
 mod sets;
 mod written;
 
@@ -7,6 +11,7 @@ use crate::asserts::same;
 use crate::sched::serial_of;
 use av_base::{Name, Point};
 use av_data::{DataFault, Inputs, read_data};
+use av_flat::Flat;
 use av_testing::{push_number, push_point, push_words, system_at};
 use std::alloc::Global;
 use std::fmt::Write;
@@ -46,6 +51,26 @@ const TWO: Place = Place {
     point: &[0, -1],
 };
 
+fn text_of(alloc: Global, domain: &str) -> Result<String, Fail> {
+    Ok(format!(in alloc;
+        "system t (X : {{{domain}}} of integer) returns (Y : {{{domain}}} of integer); let Y = X; tel;"
+    )?)
+}
+
+fn chained_text(alloc: Global, text: &str, bits: u32) -> Result<Flat, Fail>
+    ensures { IfOk result (λ to. IsChained (view_system to)) }
+{
+    let flat = system_at(alloc, text, &[], bits)?;
+    serial_of(alloc, &flat)
+}
+
+fn system_of(alloc: Global, domain: &str, bits: u32) -> Result<Flat, Fail>
+    ensures { IfOk result (λ to. IsChained (view_system to)) }
+{
+    let text = text_of(alloc, domain)?;
+    chained_text(alloc, text.as_str(), bits)
+}
+
 /// What the lines say of the input X of a system with this domain, in words of so many bits.
 fn inputs(
     alloc: Global,
@@ -53,15 +78,10 @@ fn inputs(
     lines: &[u8],
     bits: u32,
 ) -> Result<Result<Inputs, DataFault>, Fail> {
-    let domain = place.domain;
-    let text = format!(in alloc;
-        "system t (X : {{{domain}}} of integer) returns (Y : {{{domain}}} of integer); let Y = X; tel;"
-    )?;
-    let flat = system_at(alloc, text.as_str(), &[], bits)?;
-    let chained = serial_of(alloc, &flat)?;
     if lines.len() > 100_000 {
         return Err(Fail::new("long"));
     }
+    let chained = system_of(alloc, place.domain, bits)?;
     Ok(read_data(alloc, lines, 1, &chained))
 }
 
@@ -79,13 +99,23 @@ fn push_word(out: &mut String, alloc: Global, inputs: &Inputs, point: &[i64]) ->
     }
 }
 
+fn push_found(
+    out: &mut String,
+    alloc: Global,
+    found: Result<Inputs, DataFault>,
+    point: &[i64],
+) -> Result<(), Fail> {
+    match &found {
+        Ok(inputs) => push_word(out, alloc, inputs, point),
+        Err(fault) => push_fault(out, fault),
+    }
+}
+
 /// The word of the domain's point, or the fault.
 fn answer(alloc: Global, place: Place, lines: &[u8], bits: u32) -> Result<String, Fail> {
+    let found = inputs(alloc, place, lines, bits)?;
     let mut out = String::new(alloc);
-    match inputs(alloc, place, lines, bits)? {
-        Ok(found) => push_word(&mut out, alloc, &found, place.point)?,
-        Err(fault) => push_fault(&mut out, &fault)?,
-    }
+    push_found(&mut out, alloc, found, place.point)?;
     Ok(out)
 }
 
@@ -191,11 +221,7 @@ fn wide_words(rt: HostRuntime) -> Result<(), Fail> {
     Ok(())
 }
 
-/// The word of a point of the input with this name, where (0,-1) has the word 9.
-fn word(alloc: Global, name: &str, point: &[i64]) -> Result<Option<u64>, Fail> {
-    let Ok(found) = inputs(alloc, TWO, b"X(0,-1)=9", 8)? else {
-        return Err(Fail::new("data"));
-    };
+fn word_of(alloc: Global, found: &Inputs, name: &str, point: &[i64]) -> Result<Option<u64>, Fail> {
     if point.len() > 4 {
         return Err(Fail::new("a point"));
     }
@@ -203,6 +229,15 @@ fn word(alloc: Global, name: &str, point: &[i64]) -> Result<Option<u64>, Fail> {
     match found.word(&name, &Point::from_slice(point)) {
         Some(word) => Ok(Some(word.bits)),
         None => Ok(None),
+    }
+}
+
+/// The word of a point of the input with this name, where (0,-1) has the word 9.
+fn word(alloc: Global, name: &str, point: &[i64]) -> Result<Option<u64>, Fail> {
+    let found = inputs(alloc, TWO, b"X(0,-1)=9", 8)?;
+    match &found {
+        Ok(found) => word_of(alloc, found, name, point),
+        Err(_) => Err(Fail::new("data")),
     }
 }
 

@@ -135,20 +135,27 @@ fn push_fault(out: &mut String, fault: &SchedFault) -> Result<(), Fail> {
     }
 }
 
+fn fault_text(alloc: Global, fault: &SchedFault) -> Result<String, Fail> {
+    let mut out = String::new(alloc);
+    push_fault(&mut out, fault)?;
+    Ok(out)
+}
+
+fn answer_text(alloc: Global, answer: Result<Timed, SchedFault>) -> Result<String, Fail> {
+    match &answer {
+        Ok(timed) => lines(alloc, timed),
+        Err(fault) => fault_text(alloc, fault),
+    }
+}
+
 /// What the search in a box says of a system.
 fn found(alloc: Global, flat: &Flat, reach: Reach) -> Result<String, Fail>
     requires chained { IsChained (view_system flat.now) }
     requires proper { IsProper (view_system flat.now) }
 {
     let edges = edges(alloc, flat)?;
-    match search(alloc, flat, edges.as_slice(), reach) {
-        Ok(timed) => lines(alloc, &timed),
-        Err(fault) => {
-            let mut out = String::new(alloc);
-            push_fault(&mut out, &fault)?;
-            Ok(out)
-        }
-    }
+    let answer = search(alloc, flat, edges.as_slice(), reach);
+    answer_text(alloc, answer)
 }
 
 /// What the search in a box says of a text.

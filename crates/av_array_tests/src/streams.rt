@@ -148,7 +148,24 @@ fn streamed(alloc: Global, text: &str, sizes: &[(&str, i64)]) -> Result<Streamed
     Ok(found)
 }
 
-// The text of the plan is this one, and it is read as the plan's flat design: the line of the period is a comment.
+// A sink that has the text of the plan.
+fn stream_text(alloc: Global, found: &Streamed) -> Result<MemSink, Fail>
+    requires { IsSoundPlan found.now.plan }
+{
+    let mut sink = MemSink::new(alloc, 8192, 8192, List::new(alloc))?;
+    write_stream(found, &mut sink)?;
+    Ok(sink)
+}
+
+// The bytes are read as the plan's flat design: the line of the period is a comment.
+fn assert_flat(rt: &impl Abort, alloc: Global, bytes: &[u8], found: &Streamed) -> Result<(), Fail>
+    requires { IsSoundPlan found.now.plan }
+{
+    let design = flatten(alloc, &found.plan)?;
+    assert_read_back(rt, alloc, bytes, &design)
+}
+
+// The text of the plan is this one, and it is read as the plan's flat design.
 fn assert_written(
     rt: &impl Abort,
     alloc: Global,
@@ -157,11 +174,9 @@ fn assert_written(
 ) -> Result<(), Fail>
     requires { IsSoundPlan found.now.plan }
 {
-    let mut sink = MemSink::new(alloc, 8192, 8192, List::new(alloc))?;
-    write_stream(found, &mut sink)?;
+    let sink = stream_text(alloc, found)?;
     same(rt, str::from_utf8(sink.held()).unwrap_or(""), wanted);
-    let design = flatten(alloc, &found.plan)?;
-    assert_read_back(rt, alloc, sink.held(), &design)
+    assert_flat(rt, alloc, sink.held(), found)
 }
 
 #[test]

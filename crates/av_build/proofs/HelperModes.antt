@@ -1,6 +1,6 @@
 -- The lane of a helper on a cell, from its place in the blueprint.
-use Rattle.std.proofs.Common.{◌≡◌, ℕ, suc, ◌<◌, List, [], ◌∷◌, length, get_or, arith, refl, sym, ap, ap₂, subst, ◌∙◌, Some, None}
-use Rattle.std.specs.Prelude.{slice_get}
+use Rattle.std.proofs.Common.{◌≡◌, ℕ, suc, ◌<◌, List, [], ◌∷◌, length, get_or, arith, refl, sym, ap, ap₂, subst, ◌∙◌, Some, None, Ok, Err, Result}
+use Rattle.std.specs.Prelude.{slice_get, IfOk}
 use Rattle.std.proofs.lemmas.List.{length-map}
 use Rattle.av_base.specs.declared.width.Width.{Width}
 use Rattle.av_base.proofs.Lists.{get_mapped, some_is}
@@ -15,15 +15,19 @@ use Rattle.av_kinds.specs.declared.program.Inlet.{Inlet}
 use Rattle.av_kinds.specs.declared.program.Inlet.TheVariants.{Taps}
 use Rattle.av_kinds.specs.declared.program.Site.{Site}
 use Rattle.av_kinds.specs.Counters.{count_in}
-use Rattle.av_kinds.specs.Programs.{Mode, Lane}
+use Rattle.av_kinds.specs.Programs.{Work, Mode, Lane}
+use Rattle.av_kinds.specs.declared.program.Interval.{Interval}
+use Rattle.av_kinds.specs.Written.{ModeMade, work_of, mode_of}
 use Rattle.av_history.specs.Performing.{helper_spot}
 use Rattle.av_history.specs.Widths.{read_width}
 use Rattle.av_build.specs.declared.blueprint.Blueprint.{Blueprint}
 use Rattle.av_build.specs.declared.blueprint.CellPlan.{CellPlan}
 use Rattle.av_build.specs.declared.blueprint.HelperPlan.{HelperPlan}
+use Rattle.av_build.specs.declared.intervals.Mark.{Mark}
 use Rattle.av_build.specs.declared.moments.HandMoments.{HandMoments}
 use Rattle.av_build.specs.declared.spots.SpotPlan.{SpotPlan}
 use Rattle.av_build.specs.inner.Blueprints.{seen, spot_of, spots_on, lanes_of, ArePieces, IsBlueprint, IsCounted}
+use Rattle.av_build.specs.inner.HandModes.{own_mode_by, AreHandModes}
 use Rattle.av_build.specs.inner.Intervals.{intervals_by}
 use Rattle.av_build.specs.inner.Lanes.{HasPlan, AreHelperModes, IsHelperOn, IsBuiltBy}
 use Rattle.av_build.specs.inner.Moments.{site_by}
@@ -36,6 +40,17 @@ use Rattle.av_build.proofs.HelperPlaces.{IsHelped, helped, spot_at, variable_is,
 use Rattle.av_build.proofs.HelpersOn.{IsFromPlace, place_of_helper}
 use Rattle.av_build.proofs.Pairwise.{element_of}
 use Rattle.av_build.proofs.SeenArray.{one_seen}
+
+-- ---- a mode by its marks
+
+abbrev pub by_marks : List Mark → Site → Tree → Mode
+by_marks marks site t = record { intervals = intervals_by marks; work = one_site site t }
+
+pub mode_made : {E : Type 0} (read marks : List Mark) (site : Site) (t : Tree) → read ≡ marks → (r : Result ModeMade E) → IfOk r (λ mode. mode.intervals ≡ intervals_by read)
+    → IfOk r (λ mode. work_of mode.work ≡ one_site site t) → IfOk r (λ mode. mode_of mode ≡ by_marks marks site t)
+mode_made read marks site t same (Ok mode) intervals work =
+    ap₂ (λ (i : List Interval) (w : Work). record { intervals = i; work = w }) (intervals ∙ ap (λ (l : List Mark). intervals_by l) same) work
+mode_made read marks site t same (Err e) intervals work = tt
 
 -- ---- a helper of a piece, as one of a place of its cell
 
@@ -105,6 +120,19 @@ module _ (b : Blueprint) (is : IsBlueprint b) (at : SpotMade) (h : HelperPlan) (
         found (moments_are w is.array at.cell pieces there h from_place at x helper v piece r it (count_in counter) (lanes_of b.cells) order found are)
         entries.width width (entry_bits ∙ ap (λ (t : Tree). read_width s (view_variable at.var.now).width None t) read) (own_bits ∙ wide)
         lane frame.home frame.rank (frame.width ∙ wide) (modes ∙ ap₂ (λ (m n : Mode). m ∷ n ∷ []) first second) frame.size
+
+  -- those that were made
+  pub modes_there : (counter : Counter) → IsCounted b.array counter → (order : List ℕ) → IsInOrder (count_in counter) at.slots order → (found : HandMoments)
+      → AreHandMomentsTo (seen b.array) (count_in counter) (lanes_of b.cells) (spot_of at) on.place.place.site on.handing (view on.place.place.tree) at.slots order (length order) found
+      → (width : Width) → width.bits ≡ (view_variable at.var.now).width → (modes : List Mode) → AreHandModes (system_of b.array) width (view on.place.place.tree) found modes → AreHelperModes b counter at h modes
+  modes_there counter counted order in_order found are width own_bits modes made =
+      let s = system_of b.array in
+      let t = view on.place.place.tree in
+      let entry = made.is_entry in
+      let bits : entry.site.width.bits ≡ read_width s (view_variable at.var.now).width None t = entry.width ∙ ap (λ (n : ℕ). read_width s n None t) own_bits in
+      let second : own_mode_by width t found ≡ record { intervals = intervals_by found.own_marks; work = one_site (site_by Taps width found.own) t } = refl in
+      subst (AreHelperModes b counter at h) (sym (made.are ∙ ap₂ (λ (m n : Mode). m ∷ n ∷ []) entry.is second))
+      (helper_modes counter counted order in_order found are entry.site entry.site_is bits width own_bits (site_by Taps width found.own) refl)
 
 -- ---- a helper that has a lane
 

@@ -1,4 +1,5 @@
 pub mod Intervals
+pub mod HandModes
 pub mod Moments
 pub mod Sources
 pub mod Orders

@@ -6,6 +6,7 @@ ghost use Rattle.av_space.specs.Spots.{helpers_of};
 ghost use Rattle.av_kinds.specs.Written.{work_of, mode_of, lane_of};
 ghost use Rattle.av_history.specs.Widths.{read_width};
 ghost use Rattle.av_build.specs.inner.Blueprints.{IsBlueprint, IsCounted};
+ghost use Rattle.av_build.specs.inner.HandModes.{IsEntryMode, own_mode_by, AreHandModes};
 ghost use Rattle.av_build.specs.inner.Intervals.{intervals_by};
 ghost use Rattle.av_build.specs.inner.Lanes.{HasVariable, HasPlan, IsHelperOn, AreHelperModes, IsBuiltBy};
 ghost use Rattle.av_build.specs.inner.Moments.{site_by};
@@ -13,7 +14,7 @@ ghost use Rattle.av_build.specs.inner.Programmed.{inlet_by, one_site};
 
 use crate::blueprint::{Blueprint, HelperPlan};
 use crate::intervals::{Mark, intervals};
-use crate::moments::{Moment, site};
+use crate::moments::{HandMoments, Moment, site};
 use crate::order::in_order;
 use crate::ports::{inlet_of, width_read};
 use crate::spots::planned_spot;
@@ -71,6 +72,60 @@ fn entry_site(
     )
 }
 
+// The mode of the entry points, where a helper reads its reference.
+fn entry_mode<'a>(
+    alloc: Global,
+    flat: &Flat,
+    own: Width,
+    tree: &'a Tree,
+    found: &HandMoments,
+) -> Result<Mode<'a>, Memory>
+    requires { HasVariable (view_system flat.now) (view tree.now) }
+    ensures { IfOk result (λ mode. IsEntryMode (view_system flat.now) own.bits (view tree.now) found.now (mode_of mode)) }
+{
+    let entries = entry_site(alloc, flat, own, tree, found.entries.as_slice())?;
+    hand_mode(alloc, found.entry_marks.as_slice(), tree, entries)
+}
+
+// The mode of the other points, where it reads its own word at the point before.
+fn own_mode<'a>(
+    alloc: Global,
+    own: Width,
+    tree: &'a Tree,
+    found: &HandMoments,
+) -> Result<Mode<'a>, Memory>
+    ensures { IfOk result (λ mode. mode_of mode ≡ own_mode_by own (view tree.now) found.now) }
+{
+    let word = site(alloc, Inlet::Taps, own, found.own.as_slice())?;
+    hand_mode(alloc, found.own_marks.as_slice(), tree, word)
+}
+
+// The list of two modes.
+fn two_modes<'a>(alloc: Global, first: Mode<'a>, second: Mode<'a>) -> Result<List<Mode<'a>>, Memory>
+    ensures { IfOk result (λ modes. modes ≡ first.entry ∷ second.entry ∷ []) }
+{
+    let mut modes = List::new(alloc);
+    modes.push(first)?;
+    modes.push(second)?;
+    Ok(modes)
+}
+
+// The modes of a helper's lane.
+fn helper_modes<'a>(
+    alloc: Global,
+    flat: &Flat,
+    own: Width,
+    tree: &'a Tree,
+    found: &HandMoments,
+) -> Result<List<Mode<'a>>, Memory>
+    requires { HasVariable (view_system flat.now) (view tree.now) }
+    ensures { IfOk result (λ modes. AreHandModes (view_system flat.now) own (view tree.now) found.now (map mode_of modes)) }
+{
+    let entries = entry_mode(alloc, flat, own, tree, found)?;
+    let others = own_mode(alloc, own, tree, found)?;
+    two_modes(alloc, entries, others)
+}
+
 impl<'a> Blueprint<'a> {
     // What a helper's lane works on: at entry points the reference, and else the helper's word at the point before.
     fn hand_modes(
@@ -95,14 +150,7 @@ impl<'a> Blueprint<'a> {
         let order = in_order(alloc, spot.slots.as_slice(), counter)?;
         let found = self.hand_moments(alloc, counter, order.as_slice(), spot, place, handing)?;
         let read = &place.place;
-        let tree = read.tree;
-        let width = spot.var.width;
-        let entries = entry_site(alloc, flat, width, tree, found.entries.as_slice())?;
-        let own = site(alloc, Inlet::Taps, width, found.own.as_slice())?;
-        let mut modes = List::new(alloc);
-        modes.push(hand_mode(alloc, found.entry_marks.as_slice(), tree, entries)?)?;
-        modes.push(hand_mode(alloc, found.own_marks.as_slice(), tree, own)?)?;
-        Ok(modes)
+        helper_modes(alloc, flat, spot.var.width, read.tree, &found)
     }
 
     /// The lane of the word of a helper on a cell.

@@ -8,7 +8,7 @@ use super::plans::INCREMENT;
 use super::streamed;
 use crate::asserts::same;
 use av_clock::Clock;
-use av_net::{Module, flatten};
+use av_net::{Design, Module, flatten};
 use av_testing::texts::MATRIX_VECTOR;
 use std::alloc::Global;
 use std::fmt::Write;
@@ -85,7 +85,34 @@ fn output_drive(of: &Module) -> Result<u32, Fail>
     Err(Fail::new("o0"))
 }
 
-// The words of `o0` in the cycles in which the listing has one, whatever is on the idle ports.
+// The words of `o0` in the cycles in which the listing has one.
+fn output_words(alloc: Global, of: &Module, cycles: &[Cycle]) -> Result<String, Fail>
+    requires { IsSound of.now }
+{
+    let drive = output_drive(of)?;
+    words(alloc, of, drive, cycles)
+}
+
+// The flat design of a text's plan.
+fn design_of(alloc: Global, text: &str, sizes: &[(&str, i64)]) -> Result<Design, Fail>
+    ensures { IfOk result (λ design. IsSound design.module) }
+{
+    let found = streamed(alloc, text, sizes)?;
+    let design = flatten(alloc, &found.plan)?;
+    Ok(design)
+}
+
+fn shown(
+    alloc: Global,
+    text: &str,
+    sizes: &[(&str, i64)],
+    cycles: &[Cycle],
+) -> Result<String, Fail> {
+    let design = design_of(alloc, text, sizes)?;
+    output_words(alloc, &design.module, cycles)
+}
+
+// The words of `o0` are these, whatever is on the idle ports.
 fn assert_shown(
     rt: &impl Abort,
     alloc: Global,
@@ -94,10 +121,7 @@ fn assert_shown(
     cycles: &[Cycle],
     wanted: &str,
 ) -> Result<(), Fail> {
-    let found = streamed(alloc, text, sizes)?;
-    let design = flatten(alloc, &found.plan)?;
-    let drive = output_drive(&design.module)?;
-    let shown = words(alloc, &design.module, drive, cycles)?;
+    let shown = shown(alloc, text, sizes, cycles)?;
     same(rt, shown.as_str(), wanted);
     Ok(())
 }
