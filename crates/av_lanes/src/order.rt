@@ -18,26 +18,49 @@ pub(crate) struct Moves {
 }
 
 impl Moves {
-    /// Those of a circuit.
+    /// Those of a circuit. From the last step to the first they are taken as they stand in memory, where no step reads the register of a
+    /// later one.
     pub(crate) fn new(alloc: Global, circuit: &Circuit<'_>) -> Result<Moves, Memory>
         requires { IsSound circuit.now }
         ensures { IfOk result (λ moves. IsTrue moves.are_ordered → AreMoves circuit.now moves.flip_flops.items) }
     {
+        let backward = backward(alloc, circuit.steps())?;
+        let moves = Moves::by(alloc, circuit, &backward)?;
+        if moves.are_ordered {
+            return Ok(moves);
+        }
         let reads = reads(alloc, circuit)?;
         let order = ordered(alloc, &reads)?;
+        Moves::by(alloc, circuit, &order)
+    }
+
+    // Those in this order, where each may take its word at once in it.
+    fn by(alloc: Global, circuit: &Circuit<'_>, order: &[usize]) -> Result<Moves, Memory>
+        requires { IsSound circuit.now }
+        ensures { IfOk result (λ moves. IsTrue moves.are_ordered → AreMoves circuit.now moves.flip_flops.items) }
+    {
         let mut stored = vec![in alloc; false; circuit.size()]?;
-        if !is_order(circuit, &order, &mut stored) {
+        if !is_order(circuit, order, &mut stored) {
             return Ok(Moves {
                 are_ordered: false,
                 flip_flops: Vec::new(alloc),
             });
         }
-        let flip_flops = in_order(alloc, circuit, &order)?;
+        let flip_flops = in_order(alloc, circuit, order)?;
         Ok(Moves {
             are_ordered: true,
             flip_flops,
         })
     }
+}
+
+// The steps from the last to the first.
+fn backward(alloc: Global, count: usize) -> Result<Vec<usize>, Memory> {
+    let mut steps = Vec::new(alloc);
+    for i in (0..count).rev() {
+        steps.push(i)?;
+    }
+    Ok(steps)
 }
 
 // Enters at the place of each register its step.
