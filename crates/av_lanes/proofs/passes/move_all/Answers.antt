@@ -1,4 +1,4 @@
-use Rattle.std.proofs.Common.{◌≡◌, ◌∙◌, length, ap, arith, subst, sym}
+use Rattle.std.proofs.Common.{◌∙◌, length, ap, arith, subst, sym}
 use Rattle.av_clock.proofs.Taking.{ports_same}
 use Rattle.av_clock.specs.Named.{named}
 use Rattle.av_lanes.specs.Seen.{lane}

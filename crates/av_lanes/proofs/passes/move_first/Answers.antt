@@ -1,4 +1,4 @@
-use Rattle.std.proofs.Common.{◌<◌, ◌∙◌, length, get_or, arith, subst, sym, ◌≡◌}
+use Rattle.std.proofs.Common.{◌<◌, ◌∙◌, length, get_or, arith, subst, ◌≡◌}
 use Rattle.av_lanes.specs.Seen.{lane}
 use Rattle.av_lanes.specs.inner.Order.{HaveMoved}
 use Rattle.av_lanes.proofs.Ordering.{source_within, target_within, no_transfer, moves_none}
