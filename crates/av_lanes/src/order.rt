@@ -178,22 +178,20 @@ fn unread(alloc: Global, readers: &[usize]) -> Result<Vec<usize>, Memory> {
     Ok(steps)
 }
 
-// The steps in an order in which each stands before the one whose register it reads, but those in circles and what these read.
+// The steps in an order in which each stands before the one whose register it reads, but those in circles and what these read. What a step
+// reads follows it where no other reads that too, so that a chain of registers stands together.
 fn ordered(alloc: Global, reads: &[usize]) -> Result<Vec<usize>, Memory> {
     let mut readers = readers(alloc, reads)?;
-    let mut order = unread(alloc, &readers)?;
-    for i in 0..reads.len() {
-        if i >= order.len() {
-            break;
-        }
-        let step = order[i];
-        if step < reads.len() {
+    let mut ready = unread(alloc, &readers)?;
+    let mut order = Vec::new(alloc);
+    for _ in 0..reads.len() {
+        let Some(step) = ready.pop() else { break };
+        order.push(step)?;
+        if step < reads.len() && reads[step] < readers.len() {
             let read = reads[step];
-            if read < readers.len() {
-                readers[read] = readers[read].wrapping_sub(1);
-                if readers[read] == 0 {
-                    order.push(read)?;
-                }
+            readers[read] = readers[read].wrapping_sub(1);
+            if readers[read] == 0 {
+                ready.push(read)?;
             }
         }
     }
