@@ -15,13 +15,14 @@ use Rattle.av_clock.specs.Marked.{IsClear, AreHeld}
 use Rattle.av_clock.specs.Marking.{IsSet, ReadTheSame}
 use Rattle.av_clock.specs.Named.{named, AllFit}
 use Rattle.av_clock.proofs.Computing.{IsOne, Computes, computes_more}
-use Rattle.av_clock.proofs.Edges.{IsFor, Stores, next_within, register_within, next_more, reset_more, stores_more}
+use Rattle.av_clock.proofs.Edges.{IsFor, Stores, next_within, register_within, next_more, reset_more, stores_more, no_flip_flop}
 use Rattle.av_clock.proofs.Held.{SettlesMarked, all_hold}
 use Rattle.av_clock.proofs.Taking.{Takes, HaveTaken, takes_more, Gives, gives_more}
 use Rattle.av_lanes.specs.Seen.{lane}
-use Rattle.av_lanes.specs.inner.Order.{IsOrder}
+use Rattle.av_lanes.specs.declared.order.Transfer.{Transfer}
+use Rattle.av_lanes.specs.inner.Order.{IsOrder, AreMoves, AreTransfers, HaveMoved}
 use Rattle.av_lanes.proofs.ByLane.{lane_set, lane_size, lane_in}
-use Rattle.av_lanes.proofs.Ordering.{Moves, moves_more}
+use Rattle.av_lanes.proofs.Ordering.{for_move, no_transfer, transfer_at, moves_more}
 
 -- there is a word for each name in each lane
 pub lane_long : (k : ℕ) (m : Module) (words : List (List ℕ)) → length words ≡ length (all_names m) → length (lane k words) ≡ length (all_names m)
@@ -137,8 +138,19 @@ stores_lane k m before words next n flip_flop d sound long room for fits so_far 
     (stores_more m (lane k before) (lane k words) (lane k next) n flip_flop (get_or (get_or next n d) k 0) sound (lane_long k m words long) for (sym (lane_in k next n d (omega arith))) fits so_far)
 
 -- one flip-flop more of those in order
-pub moves_lane : (k : ℕ) (m : Module) (order : List ℕ) (before words : List (List ℕ)) (n : ℕ) (flip_flop : FlipFlop) (word : List ℕ) → IsSound m → IsOrder m order → length words ≡ length (all_names m) → n < length order → IsFor m (get_or order n 0) flip_flop
-    → get_or word k 0 ≡ reading_word (lane k words) flip_flop.next → Moves m order (lane k before) (lane k words) n → Moves m order (lane k before) (lane k (set words flip_flop.register word)) (n + 1)
+pub moves_lane : (k : ℕ) (m : Module) (order before : List ℕ) (words : List (List ℕ)) (n : ℕ) (flip_flop : FlipFlop) (word : List ℕ) → IsSound m → IsOrder m order → length words ≡ length (all_names m) → n < length order → IsFor m (get_or order n 0) flip_flop
+    → get_or word k 0 ≡ reading_word (lane k words) flip_flop.next → HaveMoved m order before (lane k words) n → HaveMoved m order before (lane k (set words flip_flop.register word)) (n + 1)
 moves_lane k m order before words n flip_flop word sound ordered long lt for is so_far =
-    subst (λ ws. Moves m order (lane k before) ws (n + 1)) (sym (lane_set k words flip_flop.register word))
-    (moves_more m order (lane k before) (lane k words) n flip_flop (get_or word k 0) sound ordered (lane_long k m words long) lt for is so_far)
+    subst (λ ws. HaveMoved m order before ws (n + 1)) (sym (lane_set k words flip_flop.register word))
+    (moves_more m order before (lane k words) n flip_flop (get_or word k 0) sound ordered (lane_long k m words long) lt for is so_far)
+
+-- by its transfer
+pub transfers_lane : (k : ℕ) (m : Module) (moves : List FlipFlop) (transfers : List Transfer) (are : AreMoves m moves) (before : List ℕ) (words : List (List ℕ)) (n : ℕ) (word : List ℕ) → IsSound m → AreTransfers moves transfers → length words ≡ length (all_names m) → n < length transfers
+    → get_or word k 0 ≡ get_or (lane k words) (get_or transfers n no_transfer).source 0 → HaveMoved m are.order before (lane k words) n → HaveMoved m are.order before (lane k (set words (get_or transfers n no_transfer).register word)) (n + 1)
+transfers_lane k m moves transfers are before words n word sound first long lt is so_far =
+    let few = first.few in
+    let count = are.count in
+    let same = transfer_at moves transfers n no_transfer no_flip_flop first lt in
+    subst (λ place. HaveMoved m are.order before (lane k (set words place word)) (n + 1)) same.0
+    (moves_lane k m are.order before words n (get_or moves n no_flip_flop) word sound are.ordered long (omega (arith, lt, few, count)) (for_move m moves are n (omega (arith, lt, few)))
+    (is ∙ ap (reading_word (lane k words)) (sym same.1)) so_far)

@@ -3,7 +3,7 @@ use Rattle.std.proofs.Common.{◌≡◌, ◌≢◌, ℕ, zero, suc, ◌+◌, ◌
 use Rattle.std.specs.Prelude.{Contains}
 use Rattle.std.proofs.Math.ListN.{length-set}
 use Rattle.std.proofs.lemmas.Bool.{cases_lt}
-use Rattle.std.proofs.lemmas.List.{get_or_default, get_or-set_same, get_or-set_other, get_or-map, length-map, length-replicate, take_all}
+use Rattle.std.proofs.lemmas.List.{get_or_default, get_or-set_same, get_or-set_other, get_or-map, get_or-take, length-map, length-replicate, length-take-le, take_all}
 use Rattle.std.proofs.lemmas.Option.{slice_get_within}
 use Rattle.av_base.specs.Words.{IsWord}
 use Rattle.av_net.specs.declared.operation.Operand.{Operand}
@@ -30,7 +30,8 @@ use Rattle.av_clock.proofs.Edges.{IsFor, is_for, no_flip_flop, registers_apart}
 use Rattle.av_clock.proofs.Lookup.{look_set, same_or_not}
 use Rattle.av_clock.proofs.Readings.{one_place}
 use Rattle.av_clock.proofs.Settling.{read_word, reading_within, fit_with}
-use Rattle.av_lanes.specs.inner.Order.{step_at, IsOrder, AreMoves, IsUnread, AreMarked}
+use Rattle.av_lanes.specs.declared.order.Transfer.{Transfer}
+use Rattle.av_lanes.specs.inner.Order.{step_at, IsOrder, AreMoves, AreTransfers, HaveMoved, IsUnread, AreMarked}
 
 -- ---- flip-flops
 
@@ -230,14 +231,42 @@ are_moves m order flip_flops moves n are ordered past is =
       ordered = ordered;
     }
 
--- the registers of the first n steps of the order have their new words, and no other name has another word
-pub record Moves (m : Module) (order before words : List ℕ) (n : ℕ) : Type 0 where
-  pub moved : (j : ℕ) (d : Step) → j < n → named m words (step_at m order j d).register ≡ word_of (named m before) (step_at m order j d).next
-  pub others : (name : List ℕ) → ((j : ℕ) (d : Step) → j < n → (step_at m order j d).register ≢ name) → named m words name ≡ named m before name
-  pub fit : AllFit m words
+-- one of the first moves has the register and the place of its transfer
+pub transfer_at : (moves : List FlipFlop) (transfers : List Transfer) (n : ℕ) (d : Transfer) (e : FlipFlop) → AreTransfers moves transfers → n < length transfers
+    → ((get_or moves n e).register ≡ (get_or transfers n d).register) × ((get_or moves n e).next ≡ At (get_or transfers n d).source)
+transfer_at moves transfers n d e are lt =
+    let count = length transfers in
+    let few = are.few in
+    let inside : n < length moves = omega (arith, lt, few) in
+    let within : n < length (take count moves) = omega (arith, lt, length-take-le count moves few) in
+    let here : get_or (take count moves) n e ≡ get_or moves n e = get_or-take count moves n e lt in
+    let register : (get_or moves n e).register ≡ (get_or transfers n d).register =
+    ap (λ (f : FlipFlop). f.register) (sym here) ∙ sym (get_or-map (λ (f : FlipFlop). f.register) (take count moves) n e 0 within)
+    ∙ ap (λ xs. get_or xs n 0) (sym are.registers) ∙ get_or-map (λ (t : Transfer). t.register) transfers n d 0 lt in
+    let source : (get_or moves n e).next ≡ At (get_or transfers n d).source =
+    ap (λ (f : FlipFlop). f.next) (sym here) ∙ sym (get_or-map (λ (f : FlipFlop). f.next) (take count moves) n e (At 0) within)
+    ∙ ap (λ xs. get_or xs n (At 0)) (sym are.sources) ∙ get_or-map (λ (t : Transfer). At t.source) transfers n d (At 0) lt in
+    (register, source)
+
+abbrev pub no_transfer : Transfer
+no_transfer = record { register = 0; source = 0 }
+
+-- what a transfer reads is there
+pub source_within : (m : Module) (size : ℕ) (moves : List FlipFlop) (transfers : List Transfer) (n : ℕ) → AreMoves m moves → AreTransfers moves transfers → size ≡ length (all_names m) → n < length transfers → (get_or transfers n no_transfer).source < size
+source_within m size moves transfers n are first long lt =
+    let few = first.few in
+    subst (IsWithin size) (transfer_at moves transfers n no_transfer no_flip_flop first lt).1
+    (next_within m size (get_or are.order n 0) (get_or moves n no_flip_flop) long (for_move m moves are n (omega (arith, lt, few))))
+
+-- and so is its register
+pub target_within : (m : Module) (size : ℕ) (moves : List FlipFlop) (transfers : List Transfer) (n : ℕ) → AreMoves m moves → AreTransfers moves transfers → size ≡ length (all_names m) → n < length transfers → (get_or transfers n no_transfer).register < size
+target_within m size moves transfers n are first long lt =
+    let few = first.few in
+    subst (λ place. place < size) (transfer_at moves transfers n no_transfer no_flip_flop first lt).0
+    (register_within m size (get_or are.order n 0) (get_or moves n no_flip_flop) long (for_move m moves are n (omega (arith, lt, few))))
 
 -- before the first
-pub moves_none : (m : Module) (order words : List ℕ) → AllFit m words → Moves m order words words 0
+pub moves_none : (m : Module) (order words : List ℕ) → AllFit m words → HaveMoved m order words words 0
 moves_none m order words fit = record { moved = λ j d lt. absurd (omega arith); others = λ name none. refl; fit = fit }
 
 -- an operand that names none of the registers that have new words has its old word
@@ -250,7 +279,7 @@ other_name register name operand other is = λ same. (subst (IsOther register) i
 
 -- one more
 pub moves_more : (m : Module) (order before words : List ℕ) (n : ℕ) (flip_flop : FlipFlop) (word : ℕ) → IsSound m → IsOrder m order → length words ≡ length (all_names m) → n < length order → IsFor m (get_or order n 0) flip_flop
-    → word ≡ reading_word words flip_flop.next → Moves m order before words n → Moves m order before (set words flip_flop.register word) (n + 1)
+    → word ≡ reading_word words flip_flop.next → HaveMoved m order before words n → HaveMoved m order before (set words flip_flop.register word) (n + 1)
 moves_more m order before words n flip_flop word sound ordered long lt for is so_far =
     let step = for.step in
     let i = get_or order n 0 in
@@ -284,12 +313,12 @@ moves_more m order before words n flip_flop word sound ordered long lt for is so
     }
 
 -- after the last it is the edge
-pub moves_edge : (m : Module) (order before words : List ℕ) (n : ℕ) → IsOrder m order → length order ≤ n → Moves m order before words n → Edge m false (named m before) (named m words)
+pub moves_edge : (m : Module) (order before words : List ℕ) (n : ℕ) → IsOrder m order → length order ≤ n → HaveMoved m order before words n → Edge m false (named m before) (named m words)
 moves_edge m order before words n ordered past so_far i d lt =
     let (j, below, is) = ordered.whole i lt in
     subst (λ k. named m words (get_or m.steps k d).register ≡ word_of (named m before) (get_or m.steps k d).next) is (so_far.moved j d (omega (arith, below, past)))
 
 -- and no name but the registers has another word
-pub moves_others : (m : Module) (order before words : List ℕ) (n : ℕ) → IsOrder m order → n ≤ length order → Moves m order before words n → (name : List ℕ) → (Contains (registers_of m.steps) name → ⊥) → named m words name ≡ named m before name
+pub moves_others : (m : Module) (order before words : List ℕ) (n : ℕ) → IsOrder m order → n ≤ length order → HaveMoved m order before words n → (name : List ℕ) → (Contains (registers_of m.steps) name → ⊥) → named m words name ≡ named m before name
 moves_others m order before words n ordered most so_far name none =
     so_far.others name (λ j d below same. none (subst (Contains (registers_of m.steps)) same (register_contained m (get_or order j 0) d (ordered.within j (omega (arith, below, most))))))

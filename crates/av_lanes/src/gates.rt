@@ -8,8 +8,9 @@ use crate::kernel::{chosen, compared, constant, extended, operated, sliced};
 use av_clock::{Gate, Reading};
 use std::simd::prelude::*;
 
+/// The word at a place.
 #[inline(always)]
-fn word_at(words: &[u64x8], place: usize) -> u64x8
+pub(crate) fn word_at(words: &[u64x8], place: usize) -> u64x8
     requires { place < length words.now }
     ensures { (k : ℕ) → k < 8 → slice_index result k ≡ slice_index (lane k words.now) place }
 {

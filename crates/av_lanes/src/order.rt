@@ -4,40 +4,114 @@ ghost use Rattle.std.specs.Prelude.{◌≡◌, length, replicate, false, IfOk, I
 ghost use Rattle.av_net.specs.Names.{all_names};
 ghost use Rattle.av_net.specs.Sound.{IsSound};
 ghost use Rattle.av_clock.specs.Gates.{IsWithin};
-ghost use Rattle.av_lanes.specs.inner.Order.{AreMoves, IsOrder, IsUnread, AreMarked};
+ghost use Rattle.av_lanes.specs.inner.Order.{AreMoves, AreTransfers, AreOrdered, IsOrder, IsUnread, AreMarked};
 
 use av_base::Memory;
 use av_clock::{Circuit, FlipFlop, Reading};
 use std::alloc::Global;
 
-/// The flip-flops in such an order, where there is one. There is none where registers stand in a circle.
+/// A register, and the place whose word it takes.
+#[derive(Clone, Copy)]
+pub(crate) struct Transfer {
+    pub(crate) register: usize,
+    pub(crate) source: usize,
+}
+
+/// The flip-flops in such an order, where there is one, and the first of them as transfers, up to one that takes a constant. There is none
+/// where registers stand in a circle.
 #[derive(Drop)]
 pub(crate) struct Moves {
     pub(crate) are_ordered: bool,
     pub(crate) flip_flops: Vec<FlipFlop>,
+    pub(crate) transfers: Vec<Transfer>,
 }
 
 impl Moves {
-    /// Those of a circuit.
+    /// Those of a circuit. From the last step to the first they are taken as they stand in memory, where no step reads the register of a
+    /// later one.
     pub(crate) fn new(alloc: Global, circuit: &Circuit<'_>) -> Result<Moves, Memory>
         requires { IsSound circuit.now }
-        ensures { IfOk result (λ moves. IsTrue moves.are_ordered → AreMoves circuit.now moves.flip_flops.items) }
+        ensures { IfOk result (λ moves. IsTrue moves.are_ordered → AreOrdered circuit.now moves.flip_flops.items moves.transfers.items) }
     {
+        let backward = backward(alloc, circuit)?;
+        let moves = Moves::by(alloc, circuit, &backward)?;
+        if moves.are_ordered {
+            return Ok(moves);
+        }
         let reads = reads(alloc, circuit)?;
         let order = ordered(alloc, &reads)?;
+        Moves::by(alloc, circuit, &order)
+    }
+
+    // Those in this order, where each may take its word at once in it.
+    fn by(alloc: Global, circuit: &Circuit<'_>, order: &[usize]) -> Result<Moves, Memory>
+        requires { IsSound circuit.now }
+        ensures { IfOk result (λ moves. IsTrue moves.are_ordered → AreOrdered circuit.now moves.flip_flops.items moves.transfers.items) }
+    {
         let mut stored = vec![in alloc; false; circuit.size()]?;
-        if !is_order(circuit, &order, &mut stored) {
+        if !is_order(circuit, order, &mut stored) {
             return Ok(Moves {
                 are_ordered: false,
                 flip_flops: Vec::new(alloc),
+                transfers: Vec::new(alloc),
             });
         }
-        let flip_flops = in_order(alloc, circuit, &order)?;
+        let flip_flops = in_order(alloc, circuit, order)?;
+        let transfers = transfers(alloc, &flip_flops)?;
         Ok(Moves {
             are_ordered: true,
             flip_flops,
+            transfers,
         })
     }
+}
+
+// The first of these flip-flops, up to one that takes a constant.
+fn transfers(alloc: Global, moves: &[FlipFlop]) -> Result<Vec<Transfer>, Memory>
+    ensures { IfOk result (λ transfers. AreTransfers moves.now transfers.items) }
+{
+    let mut transfers = Vec::new(alloc);
+    for flip_flop in moves {
+        match flip_flop.next {
+            Reading::At(source) => transfers.push(Transfer {
+                register: flip_flop.register,
+                source,
+            })?,
+            Reading::Constant(_) => break,
+        }
+    }
+    Ok(transfers)
+}
+
+// Whether a reading is of a constant.
+fn is_constant(reading: Reading) -> bool {
+    match reading {
+        Reading::At(_) => false,
+        Reading::Constant(_) => true,
+    }
+}
+
+// Enters the steps that take constants, or the others, from the last to the first.
+fn enter_backward(
+    circuit: &Circuit<'_>,
+    of_constants: bool,
+    steps: &mut Vec<usize>,
+) -> Result<(), Memory> {
+    let flip_flops = circuit.flip_flops();
+    for i in (0..flip_flops.len()).rev() {
+        if is_constant(flip_flops[i].next) == of_constants {
+            steps.push(i)?;
+        }
+    }
+    Ok(())
+}
+
+// The steps from the last to the first, those that take constants behind the others.
+fn backward(alloc: Global, circuit: &Circuit<'_>) -> Result<Vec<usize>, Memory> {
+    let mut steps = Vec::new(alloc);
+    enter_backward(circuit, false, &mut steps)?;
+    enter_backward(circuit, true, &mut steps)?;
+    Ok(steps)
 }
 
 // Enters at the place of each register its step.
@@ -104,22 +178,20 @@ fn unread(alloc: Global, readers: &[usize]) -> Result<Vec<usize>, Memory> {
     Ok(steps)
 }
 
-// The steps in an order in which each stands before the one whose register it reads, but those in circles and what these read.
+// The steps in an order in which each stands before the one whose register it reads, but those in circles and what these read. What a step
+// reads follows it where no other reads that too, so that a chain of registers stands together.
 fn ordered(alloc: Global, reads: &[usize]) -> Result<Vec<usize>, Memory> {
     let mut readers = readers(alloc, reads)?;
-    let mut order = unread(alloc, &readers)?;
-    for i in 0..reads.len() {
-        if i >= order.len() {
-            break;
-        }
-        let step = order[i];
-        if step < reads.len() {
+    let mut ready = unread(alloc, &readers)?;
+    let mut order = Vec::new(alloc);
+    for _ in 0..reads.len() {
+        let Some(step) = ready.pop() else { break };
+        order.push(step)?;
+        if step < reads.len() && reads[step] < readers.len() {
             let read = reads[step];
-            if read < readers.len() {
-                readers[read] = readers[read].wrapping_sub(1);
-                if readers[read] == 0 {
-                    order.push(read)?;
-                }
+            readers[read] = readers[read].wrapping_sub(1);
+            if readers[read] == 0 {
+                ready.push(read)?;
             }
         }
     }

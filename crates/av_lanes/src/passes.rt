@@ -15,12 +15,12 @@ ghost use Rattle.av_clock.specs.Marking.{IsSet, ReadTheSame, AreAhead, AreDue};
 ghost use Rattle.av_clock.specs.Named.{named, AllFit};
 ghost use Rattle.av_lanes.specs.Seen.{lane};
 ghost use Rattle.av_lanes.specs.inner.Forms.{AreFormed};
-ghost use Rattle.av_lanes.specs.inner.Order.{AreMoves};
+ghost use Rattle.av_lanes.specs.inner.Order.{AreMoves, AreTransfers, AreOrdered, HaveMoved};
 
 use crate::forms::{Formed, word_formed};
-use crate::gates::{word_given, word_read};
+use crate::gates::{word_at, word_given, word_read};
 use crate::kernel::{constant, differ};
-use crate::order::Moves;
+use crate::order::{Moves, Transfer};
 use av_clock::{Circuit, FlipFlop, Marks};
 use std::simd::prelude::*;
 
@@ -339,21 +339,56 @@ fn store(circuit: &Circuit<'_>, next: &[u64x8], words: &mut [u64x8])
     }
 }
 
-// One edge without reset, by the flip-flops in an order in which none reads a register that an earlier one has stored.
-fn move_all(circuit: &Circuit<'_>, moves: &[FlipFlop], words: &mut [u64x8])
+// Moves the registers of the first moves, by their transfers.
+fn move_first(
+    circuit: &Circuit<'_>,
+    moves: &[FlipFlop],
+    transfers: &[Transfer],
+    words: &mut [u64x8],
+)
     requires sound { IsSound circuit.now }
     requires size { length words.old ≡ length (all_names circuit.now) }
     requires fit { (k : ℕ) → k < 8 → AllFit circuit.now (lane k words.old) }
     requires moves { AreMoves circuit.now moves.now }
+    requires transfers { AreTransfers moves.now transfers.now }
+    ensures { (are : AreMoves circuit.now moves.now) (k : ℕ) → k < 8
+        → HaveMoved circuit.now are.order (lane k words.old) (lane k words.new) (length transfers.now) }
+{
+    for transfer in transfers {
+        words[transfer.register] = word_at(words, transfer.source);
+    }
+}
+
+// Moves the registers of the others, from one on.
+fn move_others(circuit: &Circuit<'_>, moves: &[FlipFlop], from: usize, words: &mut [u64x8])
+    requires sound { IsSound circuit.now }
+    requires size { length words.old ≡ length (all_names circuit.now) }
+    requires moves { AreMoves circuit.now moves.now }
+    requires from { from ≤ length moves.now }
+    ensures { (are : AreMoves circuit.now moves.now) (k : ℕ) → k < 8 → (before : Items ℕ)
+        → HaveMoved circuit.now are.order before (lane k words.old) from → HaveMoved circuit.now are.order before (lane k words.new) (length moves.now) }
+{
+    for i in from..moves.len() {
+        let flip_flop = moves[i];
+        words[flip_flop.register] = word_read(flip_flop.next, words);
+    }
+}
+
+// One edge without reset, by the flip-flops in an order in which none reads a register that an earlier one has stored.
+fn move_all(circuit: &Circuit<'_>, moves: &Moves, words: &mut [u64x8])
+    requires sound { IsSound circuit.now }
+    requires size { length words.old ≡ length (all_names circuit.now) }
+    requires fit { (k : ℕ) → k < 8 → AllFit circuit.now (lane k words.old) }
+    requires moves { AreOrdered circuit.now moves.now.flip_flops.items moves.now.transfers.items }
     ensures edge { (k : ℕ) → k < 8 → Edge circuit.now false (named circuit.now (lane k words.old)) (named circuit.now (lane k words.new)) }
     ensures ports { (k : ℕ) → k < 8 → Agree (names_of circuit.now.inputs) (named circuit.now (lane k words.old)) (named circuit.now (lane k words.new)) }
     ensures fit { (k : ℕ) → k < 8 → AllFit circuit.now (lane k words.new) }
     ensures others { (k : ℕ) → k < 8 → (name : Items ℕ) → (Contains (registers_of circuit.now.steps) name → ⊥)
         → named circuit.now (lane k words.new) name ≡ named circuit.now (lane k words.old) name }
 {
-    for flip_flop in moves {
-        words[flip_flop.register] = word_read(flip_flop.next, words);
-    }
+    let flip_flops = moves.flip_flops.as_slice();
+    move_first(circuit, flip_flops, &moves.transfers, words);
+    move_others(circuit, flip_flops, moves.transfers.len(), words);
 }
 
 // One edge without reset in two passes: the words are stored when all are read.
@@ -378,7 +413,7 @@ pub(crate) fn tick(circuit: &Circuit<'_>, moves: &Moves, words: &mut [u64x8], ne
     requires size { length words.old ≡ length (all_names circuit.now) }
     requires next { length next.old ≡ length circuit.now.steps }
     requires fit { (k : ℕ) → k < 8 → AllFit circuit.now (lane k words.old) }
-    requires moves { IsTrue moves.now.are_ordered → AreMoves circuit.now moves.now.flip_flops.items }
+    requires moves { IsTrue moves.now.are_ordered → AreOrdered circuit.now moves.now.flip_flops.items moves.now.transfers.items }
     ensures edge { (k : ℕ) → k < 8 → Edge circuit.now false (named circuit.now (lane k words.old)) (named circuit.now (lane k words.new)) }
     ensures ports { (k : ℕ) → k < 8 → Agree (names_of circuit.now.inputs) (named circuit.now (lane k words.old)) (named circuit.now (lane k words.new)) }
     ensures fit { (k : ℕ) → k < 8 → AllFit circuit.now (lane k words.new) }
@@ -386,7 +421,7 @@ pub(crate) fn tick(circuit: &Circuit<'_>, moves: &Moves, words: &mut [u64x8], ne
         → named circuit.now (lane k words.new) name ≡ named circuit.now (lane k words.old) name }
 {
     if moves.are_ordered {
-        move_all(circuit, &moves.flip_flops, words);
+        move_all(circuit, moves, words);
     } else {
         tick_together(circuit, words, next);
     }

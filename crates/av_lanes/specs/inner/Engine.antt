@@ -11,7 +11,7 @@ use Rattle.av_clock.specs.Named.{named, AllFit}
 use Rattle.av_lanes.specs.declared.engine.Engine.TheInside.{Inside}
 use Rattle.av_lanes.specs.Seen.{Seen, lane}
 use Rattle.av_lanes.specs.inner.Forms.{AreFormed}
-use Rattle.av_lanes.specs.inner.Order.{AreMoves}
+use Rattle.av_lanes.specs.inner.Order.{AreOrdered}
 
 -- the words of all places, each read at its source
 abbrev pub at_sources : List ℕ → List (List ℕ) → List (List ℕ)
@@ -28,7 +28,7 @@ pub record IsLane (m : Module) (words : List ℕ) (stale due : List Bool) (dense
   pub held : dense ≡ false → AreHeld m words stale due
 
 -- the circuit of the merged module, the drives that compute in their forms, a word for each name in each of eight lanes, room for the next words and their steps, the
--- flip-flops in order, where they say so, and a mark for each drive and each step
+-- flip-flops in order and as transfers, where they say so, and a mark for each drive and each step
 pub record IsKept (c : Inside) : Type 0 where
   pub sound : IsSound c.of.now
   pub sources : AreMerged c.of.now c.sources.items
@@ -38,7 +38,7 @@ pub record IsKept (c : Inside) : Type 0 where
   pub size : length c.words.items ≡ length (all_names c.circuit)
   pub next : length c.next.items ≡ length c.circuit.steps
   pub taken : length c.taken.items ≡ length c.circuit.steps
-  pub moves : IsTrue c.moves.are_ordered → AreMoves c.circuit c.moves.flip_flops.items
+  pub moves : IsTrue c.moves.are_ordered → AreOrdered c.circuit c.moves.flip_flops.items c.moves.transfers.items
   pub stale : length c.stale ≡ length c.circuit.drives
   pub due : length c.due ≡ length c.circuit.steps
   pub lanes : (k : ℕ) → k < 8 → IsLane c.circuit (lane k c.words.items) c.stale c.due c.dense c.settled

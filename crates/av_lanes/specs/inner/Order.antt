@@ -1,7 +1,8 @@
 -- Orders of steps in which each register may take its word at once.
-use Rattle.std.specs.Prelude.{◌≡◌, ℕ, ◌<◌, List, length, slice_get, slice_index, slice_index_or, Some, Bool}
+use Rattle.std.specs.Prelude.{◌≡◌, ◌≢◌, ℕ, ◌<◌, ◌≤◌, List, length, map, take, slice_get, slice_index, slice_index_or, Some, Bool}
 use Rattle.av_net.specs.declared.netlist.Step.{Step}
 use Rattle.av_net.specs.declared.netlist.Module.{Module}
+use Rattle.av_net.specs.Meaning.{word_of}
 use Rattle.av_net.specs.Names.{all_names}
 use Rattle.av_clock.specs.declared.gate.Reading.{Reading}
 use Rattle.av_clock.specs.declared.gate.Reading.TheVariants.{At, Constant}
@@ -9,7 +10,9 @@ use Rattle.av_clock.specs.declared.gate.FlipFlop.{FlipFlop}
 use Rattle.av_clock.specs.Gates.{AreStepped}
 use Rattle.av_clock.specs.Marked.{IsClear}
 use Rattle.av_clock.specs.Marking.{IsSet}
+use Rattle.av_clock.specs.Named.{named, AllFit}
 use Rattle.av_clock.specs.Readers.{IsOther}
+use Rattle.av_lanes.specs.declared.order.Transfer.{Transfer}
 
 -- the step that stands at a place of the order
 abbrev pub step_at : Module → List ℕ → ℕ → Step → Step
@@ -29,6 +32,23 @@ pub record AreMoves (m : Module) (moves : List FlipFlop) : Type 0 where
   pub count : length moves ≡ length order
   pub each : (j : ℕ) (d e : FlipFlop) → j < length order → slice_index_or moves j d ≡ slice_index_or flip_flops (slice_index order j) e
   pub ordered : IsOrder m order
+
+-- the first of these moves, none of which takes a constant: their registers, and the places that these read
+pub record AreTransfers (moves : List FlipFlop) (transfers : List Transfer) : Type 0 where
+  pub few : length transfers ≤ length moves
+  pub registers : map (λ t. t.register) transfers ≡ map (λ f. f.register) (take (length transfers) moves)
+  pub sources : map (λ t. At t.source) transfers ≡ map (λ f. f.next) (take (length transfers) moves)
+
+-- moves in such an order, and transfers for the first of them
+pub record AreOrdered (m : Module) (flip_flops : List FlipFlop) (first : List Transfer) : Type 0 where
+  pub moves : AreMoves m flip_flops
+  pub transfers : AreTransfers flip_flops first
+
+-- the registers of the first n steps of the order have their new words, and no other name has another word
+pub record HaveMoved (m : Module) (order before words : List ℕ) (n : ℕ) : Type 0 where
+  pub moved : (j : ℕ) (d : Step) → j < n → named m words (step_at m order j d).register ≡ word_of (named m before) (step_at m order j d).next
+  pub others : (name : List ℕ) → ((j : ℕ) (d : Step) → j < n → (step_at m order j d).register ≢ name) → named m words name ≡ named m before name
+  pub fit : AllFit m words
 
 -- a reading is of no marked place
 abbrev pub IsUnread : List Bool → Reading → Type 0
