@@ -13,7 +13,7 @@ use Rattle.av_net.specs.declared.netlist.Module.{Module}
 use Rattle.av_net.specs.Meaning.{Words}
 use Rattle.av_net.specs.Names.{AreDistinct, clk, rst, names_of, given_names, wire_names, all_names, declarations, width_of}
 use Rattle.av_net.specs.Settled.{Settled, Agree}
-use Rattle.av_net.specs.Clocked.{Run, Edge, FitPorts}
+use Rattle.av_net.specs.Clocked.{Edge, FitPorts}
 use Rattle.av_net.specs.Designs.{HasSpelling}
 use Rattle.av_net.specs.Lexemes.{IsName}
 use Rattle.av_net.proofs.Declared.{declared_width, input_declared, output_declared}

@@ -9,7 +9,7 @@ use Rattle.av_net.specs.declared.netlist.Module.{Module}
 use Rattle.av_net.specs.Meaning.{Words}
 use Rattle.av_net.specs.Names.{names_of, registers_of, given_names, wire_names, all_names}
 use Rattle.av_net.specs.Settled.{Settled, Agree}
-use Rattle.av_net.specs.Clocked.{Stream, Run, IsRun, Edge}
+use Rattle.av_net.specs.Clocked.{Stream, Edge}
 use Rattle.av_net.specs.Sound.{IsSound}
 use Rattle.av_net.proofs.Distinct.{front_distinct}
 use Rattle.av_net.proofs.Once.{agree_within, same_word, one_settled}

@@ -1,4 +1,4 @@
-use Rattle.std.proofs.Common.{ap, ◌∙◌, sym, length, replicate, ℕ, true, false}
+use Rattle.std.proofs.Common.{ap, ◌∙◌, sym, length, replicate, ℕ, false}
 use Rattle.std.proofs.lemmas.List.{length-replicate}
 use Rattle.av_clock.proofs.engine.Buffers.new.Goals as goal
 
