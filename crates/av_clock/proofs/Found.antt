@@ -1,6 +1,6 @@
 -- Declarations found by name.
 use Rattle.std.proofs.Common.{◌≡◌, ℕ, ◌+◌, ◌<◌, ◌≤◌, List, [], ◌∷◌, ◌++◌, length, get_or, take, drop, slice_get, Option, Some, None, IsSome, cond, Bool, rules, refl, sym, ◌∙◌, ap, subst, arith, true, false, inl, inr, append_assoc, length-append, add-one, take-suc}
-use Rattle.std.specs.Prelude.{Contains, is_some, if◌then◌else◌}
+use Rattle.std.specs.Prelude.{Contains, is_some, if◌then◌else◌, Result, Ok, Err, OnOk}
 use Rattle.std.specs.Str.{bytes_eq}
 use Rattle.std.specs.Map.{lookup}
 use Rattle.std.proofs.Math.ListN.{get_or-append}
@@ -152,6 +152,10 @@ pub enters_all : (old new : Table) (first i : ℕ) (ports : List Port) → lengt
 enters_all old new first i ports past so_far front long distinct finds =
     let whole : take i ports ≡ ports = take_all i ports past in
     rw whole at (so_far front long distinct finds)
+
+pub on_done : {T E P Q : Type 0} (r : Result T E) → (P → Q) → OnOk r P → OnOk r Q
+on_done (Ok t) f h = f h
+on_done (Err e) f h = tt
 
 -- all declarations in four calls
 pub finds_all : (m : Module) (f0 f1 f2 f3 f4 : Table) (a b c d : List Port) (n2 n3 n4 : ℕ) → IsSound m → f0 ≡ [] → a ≡ m.inputs → b ≡ m.registers → c ≡ m.outputs → d ≡ m.wires

@@ -20,6 +20,39 @@ use std::marker::Model;
 // The ticks between two at which changed registers are counted.
 const UNCOUNTED_TICKS: u32 = 15;
 
+// The words and the marks of a circuit that was not clocked yet.
+#[derive(Drop)]
+struct Buffers {
+    words: Vec<u64>,
+    next: Vec<u64>,
+    taken: Vec<usize>,
+    stale: Marks,
+    due: Marks,
+}
+
+impl Buffers {
+    fn new(alloc: Global, circuit: &Circuit<'_>) -> Result<Buffers, Memory>
+        ensures words { IfOk result (λ buffers. buffers.words.items ≡ replicate (length (all_names circuit.now)) 0) }
+        ensures next { IfOk result (λ buffers. length buffers.next.items ≡ length circuit.now.steps) }
+        ensures taken { IfOk result (λ buffers. length buffers.taken.items ≡ length circuit.now.steps) }
+        ensures stale { IfOk result (λ buffers. length buffers.stale ≡ length circuit.now.drives) }
+        ensures due { IfOk result (λ buffers. length buffers.due ≡ length circuit.now.steps) }
+    {
+        let words = vec![in alloc; 0u64; circuit.size()]?;
+        let next = vec![in alloc; 0u64; circuit.steps()]?;
+        let taken = vec![in alloc; 0usize; circuit.steps()]?;
+        let stale = Marks::new(alloc, circuit.drives())?;
+        let due = Marks::new(alloc, circuit.steps())?;
+        Ok(Buffers {
+            words,
+            next,
+            taken,
+            stale,
+            due,
+        })
+    }
+}
+
 /// A module that is clocked as it stands: each of its drives is computed, but those of the constant 0.
 #[derive(Drop)]
 pub(crate) struct Engine<'a> {
@@ -66,18 +99,14 @@ impl<'a> Engine<'a> {
         ensures marked { IfOk result (λ engine. engine.marked ≡ replicate (length (merged_module of.now merged.sources.items).drives) true) }
     {
         let circuit = Circuit::new(alloc, of, merged)?;
-        let words = vec![in alloc; 0u64; circuit.size()]?;
-        let next = vec![in alloc; 0u64; circuit.steps()]?;
-        let taken = vec![in alloc; 0usize; circuit.steps()]?;
-        let stale = Marks::new(alloc, circuit.drives())?;
-        let due = Marks::new(alloc, circuit.steps())?;
+        let buffers = Buffers::new(alloc, &circuit)?;
         Ok(Engine {
             circuit,
-            words,
-            next,
-            taken,
-            stale,
-            due,
+            words: buffers.words,
+            next: buffers.next,
+            taken: buffers.taken,
+            stale: buffers.stale,
+            due: buffers.due,
             dense: true,
             busy: true,
             uncounted: 0,

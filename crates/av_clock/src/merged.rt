@@ -1,7 +1,7 @@
 ghost use Rattle.std.specs.Prelude.{◌≡◌, ◌<◌, ℕ, length, map, slice_index, All, IfOk, OnOk};
 ghost use Rattle.av_net.specs.Names.{all_names};
 ghost use Rattle.av_net.specs.Sound.{IsSound};
-ghost use Rattle.av_clock.specs.Gates.{AreAssigned, IsWithin};
+ghost use Rattle.av_clock.specs.Gates.{AreAssigned, AreStepped, IsWithin};
 ghost use Rattle.av_clock.specs.Merged.{merged as merged_module, AreMerged, IsMerging};
 ghost use Rattle.av_clock.specs.inner.Choices.{IsSource};
 ghost use Rattle.av_clock.specs.inner.Keys.{key_of};
@@ -31,12 +31,43 @@ impl Merged {
         requires { IsSound of.now }
         ensures { IfOk result (λ merged. IsMerging of.now merged) }
     {
+        let resolved = Resolved::new(alloc, of)?;
+        resolved.merged(alloc, of)
+    }
+}
+
+// The drives and the steps of a sound module, each at its own place.
+#[derive(Drop)]
+struct Resolved {
+    assignments: Vec<Assignment>,
+    flip_flops: Vec<FlipFlop>,
+}
+
+impl Resolved {
+    fn new(alloc: Global, of: &Module) -> Result<Resolved, Memory>
+        requires { IsSound of.now }
+        ensures assigned { IfOk result (λ resolved. AreAssigned of.now (length of.now.drives) resolved.assignments.items) }
+        ensures stepped { IfOk result (λ resolved. AreStepped of.now (length of.now.steps) resolved.flip_flops.items) }
+    {
         let resolver = Resolver::new(alloc, of)?;
-        let resolved = resolver.assignments(alloc)?;
+        let assignments = resolver.assignments(alloc)?;
         let flip_flops = resolver.flip_flops(alloc)?;
+        Ok(Resolved {
+            assignments,
+            flip_flops,
+        })
+    }
+
+    // Those in which what gives the same word is computed once.
+    fn merged(&self, alloc: Global, of: &Module) -> Result<Merged, Memory>
+        requires sound { IsSound of.now }
+        requires assigned { AreAssigned of.now (length of.now.drives) self.now.assignments.items }
+        requires stepped { AreStepped of.now (length of.now.steps) self.now.flip_flops.items }
+        ensures { IfOk result (λ merged. IsMerging of.now merged) }
+    {
         let mut sources = own_sources(alloc, size_of_module(of))?;
-        let assignments = merge(alloc, of, &resolved, &mut sources)?;
-        let flip_flops = at_sources(alloc, &sources, &flip_flops)?;
+        let assignments = merge(alloc, of, &self.assignments, &mut sources)?;
+        let flip_flops = at_sources(alloc, &sources, &self.flip_flops)?;
         Ok(Merged {
             sources,
             assignments,

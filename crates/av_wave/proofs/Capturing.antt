@@ -13,7 +13,7 @@ use Rattle.av_net.specs.declared.netlist.Module.{Module}
 use Rattle.av_net.specs.Meaning.{Words}
 use Rattle.av_net.specs.Names.{AreDistinct, clk, rst, names_of, given_names, wire_names, all_names, declarations, width_of}
 use Rattle.av_net.specs.Settled.{Settled, Agree}
-use Rattle.av_net.specs.Clocked.{Run, Edge, FitPorts}
+use Rattle.av_net.specs.Clocked.{Edge, FitPorts}
 use Rattle.av_net.specs.Designs.{HasSpelling}
 use Rattle.av_net.specs.Lexemes.{IsName}
 use Rattle.av_net.proofs.Declared.{declared_width, input_declared, output_declared}
@@ -29,29 +29,13 @@ use Rattle.av_wave.specs.Waves.{Recording, zeros, all_changed, changes_to, value
 use Rattle.av_wave.specs.Simulated.{header_ports, port_words}
 use Rattle.av_wave.specs.Recorded.{IsFor, IsRecorded, IsCaptured}
 use Rattle.av_wave.specs.Clocking.{AreLeft, ArePresented}
+use Rattle.av_wave.specs.inner.Capturing.{ForRuns, AreValues, IsCapturing}
 use Rattle.av_wave.specs.inner.Parts.{Part, IsPart, IsPast, Records, FitsPort, at_first, wave_of}
 use Rattle.av_wave.proofs.PartSteps.{part_wave}
 use Rattle.av_wave.proofs.Walking.{given_fits, all_left}
 use Rattle.av_wave.proofs.Presenting.{words_noted}
-use Rattle.av_wave.proofs.Cycling.{ForRuns, tick_registers, presented, settled_cycle, header_named, stream_of, is_stream}
+use Rattle.av_wave.proofs.Cycling.{tick_registers, presented, settled_cycle, header_named, stream_of, is_stream}
 use Rattle.av_wave.proofs.Values.{to_on}
-
--- the values in the first cycles are those of the run
-abbrev pub AreValues : Module → Part → ℕ → Run → Type 0
-AreValues m p c run = (d k : ℕ) (port : Port) → d < c → slice_get (header_ports m) k ≡ Some port → values_in p.changes d k ≡ run.in_cycle d port.name
-
--- c cycles were recorded, and the registers have the words of the next one
-pub record IsCapturing (m : Module) (s : Stimulus) (c : ℕ) (clock : Seen) (words : List ℕ) (p : Part) (next : ℕ) : Type 0 where
-  pub of : clock.of ≡ m
-  pub room : length words ≡ length (header_ports m)
-  pub name : p.name ≡ m.name
-  pub ports : p.ports ≡ header_ports m
-  pub cycle : p.cycle ≡ c
-  pub told : p.told ≡ 0
-  pub values : ForRuns m s (AreValues m p c)
-  pub registers : ForRuns m s (λ run. c < s.cycles → Agree (names_of m.registers) (carried clock) (run.in_cycle c))
-  pub left : AreLeft m.inputs s.values c 0 (drop next s.values)
-  pub within : next ≤ length s.values
 
 -- ---- changes by cycles
 

@@ -9,7 +9,7 @@ use Rattle.av_net.specs.declared.netlist.Module.{Module}
 use Rattle.av_net.specs.Meaning.{Words}
 use Rattle.av_net.specs.Names.{names_of, registers_of, given_names, wire_names, all_names}
 use Rattle.av_net.specs.Settled.{Settled, Agree}
-use Rattle.av_net.specs.Clocked.{Stream, Run, IsRun, Edge}
+use Rattle.av_net.specs.Clocked.{Stream, Edge}
 use Rattle.av_net.specs.Sound.{IsSound}
 use Rattle.av_net.proofs.Distinct.{front_distinct}
 use Rattle.av_net.proofs.Once.{agree_within, same_word, one_settled}
@@ -18,11 +18,8 @@ use Rattle.av_data.specs.declared.stimulus.Stimulus.{Stimulus}
 use Rattle.av_data.specs.Reading.{place_of}
 use Rattle.av_data.proofs.Lined.{name_there, place_at}
 use Rattle.av_wave.specs.Simulated.{given_word, IsStimulated, header_ports}
+use Rattle.av_wave.specs.inner.Capturing.{ForRuns}
 use Rattle.av_wave.proofs.Presenting.{given_distinct}
-
--- what holds of each run under the stimulus
-abbrev pub ForRuns : Module → Stimulus → (Run → Type 0) → Type 0
-ForRuns m s P = (stream : Stream) (run : Run) → IsStimulated m s stream → IsRun m s.cycles stream run → P run
 
 -- ---- registers
 

@@ -19,14 +19,14 @@ use Rattle.av_wave.specs.Simulated.{header_ports, port_words}
 use Rattle.av_wave.specs.Recorded.{IsFor}
 use Rattle.av_wave.specs.Clocking.{AreLeft, ArePresented, AreWires}
 use Rattle.av_wave.specs.Dumps.{time_line, head_lines, joined}
+use Rattle.av_wave.specs.inner.Capturing.{ForRuns, IsCapturing}
 use Rattle.av_wave.specs.inner.Heads.{IsHead}
 use Rattle.av_wave.specs.inner.Parts.{Part, HasWords, at_first, wave_of}
 use Rattle.av_wave.specs.inner.Running.{IsPrepared, PutsDump}
 use Rattle.av_wave.proofs.PartSteps.{words_first}
 use Rattle.av_wave.proofs.Written.{joined_one}
 use Rattle.av_wave.proofs.Reached.{Tells, start_tells, told_lines}
-use Rattle.av_wave.proofs.Cycling.{ForRuns}
-use Rattle.av_wave.proofs.Capturing.{IsCapturing, header_apart, header_spelled, starts_capturing, captures_on, captured, agrees_now, shown_here, shown_long, shown_fits}
+use Rattle.av_wave.proofs.Capturing.{header_apart, header_spelled, starts_capturing, captures_on, captured, agrees_now, shown_here, shown_long, shown_fits}
 use Rattle.av_wave.proofs.News.{MayTell, cycle_tells, news_lines, cycle_news, cycle_text}
 
 -- c cycles were put, by lines that tell of a part of a wave, and the registers have the words of the next one

@@ -2,6 +2,7 @@ pub mod Codes
 pub mod Heads
 pub mod Lines
 pub mod Parts
+pub mod Capturing
 pub mod Recorders
 pub mod Running
 pub mod Stages

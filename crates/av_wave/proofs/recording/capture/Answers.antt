@@ -1,77 +1,11 @@
-use Rattle.std.proofs.Common.{◌≡◌, ℕ, List, length, sym, ap, ◌∙◌, arith, subst, true, All}
-use Rattle.av_net.specs.declared.netlist.Port.{Port}
-use Rattle.av_net.specs.declared.netlist.Module.{Module}
-use Rattle.av_net.specs.Lexemes.{IsName}
-use Rattle.av_net.specs.Names.{names_of, AreDistinct}
-use Rattle.av_net.specs.Clocked.{Edge}
-use Rattle.av_clock.specs.Seen.{carried}
-use Rattle.av_wave.proofs.Cycling.{reset_registers}
-use Rattle.av_wave.proofs.Capturing.{header_apart, header_spelled, starts_capturing, inputs_noted, agrees_now, shown_here, shown_long, shown_fits, captures_on, captured}
+use Rattle.std.proofs.Common.{refl}
+use Rattle.av_wave.proofs.Capturing.{captured}
 use Rattle.av_wave.proofs.recording.capture.Goals as goal
 
-pub new-requires-2-clause-named : goal.new-requires-2-clause-named
-new-requires-2-clause-named c = subst (λ (name : List ℕ). IsName name) (sym (c.in_ok-name.ensures ∙ c.as_str.ensures)) c.requires.spelled.module_name
-
-pub new-requires-2-clause-ports_named : goal.new-requires-2-clause-ports_named
-new-requires-2-clause-ports_named c = subst (λ (ports : List Port). All IsName (names_of ports)) (sym c.in_ok-ports.ensures) (header_spelled c.args.of.now c.requires.spelled)
-
-pub new-requires-2-clause-apart : goal.new-requires-2-clause-apart
-new-requires-2-clause-apart c = subst (λ (ports : List Port). AreDistinct (names_of ports)) (sym c.in_ok-ports.ensures) (header_apart c.args.of.now c.requires.sound)
-
-pub loop-cycle-init : goal.loop-cycle-init
-loop-cycle-init c =
-    let m : Module = c.args.of.now in
-    let of : c.reset.new.self.of ≡ m = c.reset.ensures.of ∙ c.in_ok-clock.ensures.of in (
-      c.in_ok-recorder.ensures.part,
-      starts_capturing m c.args.stimulus.now c.reset.new.self c.in_ok-words.words c.in_ok-recorder.recorder c.in_ok-ports.ports c.in_ok-name.name c.requires.sound c.requires.stimulus of
-          (reset_registers m c.args.stimulus.now (carried c.in_ok-clock.clock) (carried c.reset.new.self) c.requires.sound (subst (λ x. Edge x true (carried c.in_ok-clock.clock) (carried c.reset.new.self)) of c.reset.ensures.edge))
-          (c.in_ok-words.ensures.count ∙ c.len.ensures.count) c.in_ok-recorder.ensures.first (c.in_ok-name.ensures ∙ c.as_str.ensures) c.in_ok-ports.ensures,
-    )
-
-pub show-requires-clause-inputs : goal.show-requires-clause-inputs
-show-requires-clause-inputs c =
-    let so_far = c.loop-cycle.invariant.1 in
-    inputs_noted c.args.of.now c.args.stimulus.now c.loop-cycle.cycle c.len-inputs.result c.present-next.new.clock c.settle.new.self c.present-next.new.words c.len-inputs.ensures.count
-    (c.present-next.ensures.room ∙ so_far.room) (c.present-next.ensures.of ∙ so_far.of) c.settle.ensures.of (rw c.as_slice-given.ensures at c.present-next.ensures.ports) c.settle.ensures.given
-
-pub record_cycle-requires-clause-cycle : goal.record_cycle-requires-clause-cycle
-record_cycle-requires-clause-cycle c = let so_far = c.loop-cycle.invariant.1 in omega (arith, so_far.cycle, c.loop-cycle-test.true, c.requires.stimulus.most)
-
-pub record_cycle-requires-clause-open : goal.record_cycle-requires-clause-open
-record_cycle-requires-clause-open c = c.loop-cycle.invariant.1.told
-
-pub record_cycle-requires-clause-count : goal.record_cycle-requires-clause-count
-record_cycle-requires-clause-count c =
-    let m : Module = c.args.of.now in
-    let so_far = c.loop-cycle.invariant.1 in
-    let shown = shown_here m c.settle.new.self c.show.new.words (c.settle.ensures.of ∙ c.present-next.ensures.of ∙ so_far.of) c.show.ensures in
-    ap (λ (ws : List ℕ). length ws) c.as_slice-in-loop-cycle.ensures ∙ shown_long m c.settle.new.self c.show.new.words shown ∙ ap (λ (ports : List Port). length ports) (sym so_far.ports)
-
-pub record_cycle-requires-clause-fits : goal.record_cycle-requires-clause-fits
-record_cycle-requires-clause-fits c =
-    let m : Module = c.args.of.now in
-    let s = c.args.stimulus.now in
-    let so_far = c.loop-cycle.invariant.1 in
-    let shown = shown_here m c.settle.new.self c.show.new.words (c.settle.ensures.of ∙ c.present-next.ensures.of ∙ so_far.of) c.show.ensures in
-    let agrees = agrees_now m s c.loop-cycle.cycle c.len-inputs.result c.loop-cycle.clock c.present-next.new.clock c.settle.new.self c.present-next.new.words c.requires.sound c.len-inputs.ensures.count so_far.of so_far.registers
-    c.present-next.ensures.of c.settle.ensures.of (rw c.as_slice-given.ensures at c.present-next.ensures.ports) c.present-next.ensures.registers c.settle.ensures.settled c.settle.ensures.given in
-    shown_fits m s c.loop-cycle.cycle (carried c.settle.new.self) c.as_slice-in-loop-cycle.result.now c.loop-cycle.recorder.ports c.requires.sound c.requires.stimulus c.loop-cycle-test.true agrees (c.as_slice-in-loop-cycle.ensures ∙ shown) so_far.ports
-
-pub loop-cycle-preserved : goal.loop-cycle-preserved
-loop-cycle-preserved c =
-    let so_far = c.loop-cycle.invariant in (
-      c.in_ok-record_cycle.ensures.part,
-      captures_on c.args.of.now c.args.stimulus.now c.loop-cycle.cycle c.len-inputs.result c.loop-cycle.next c.present-next.result c.loop-cycle.clock c.present-next.new.clock c.settle.new.self c.tick.new.self
-          c.loop-cycle.words c.present-next.new.words c.show.new.words c.loop-cycle.recorder c.record_cycle.new.self c.requires.sound so_far.0 c.len-inputs.ensures.count so_far.1 c.loop-cycle-test.true
-          c.present-next.ensures.of c.settle.ensures.of c.tick.ensures.of (rw c.as_slice-given.ensures at c.present-next.ensures.ports) c.present-next.ensures.registers c.settle.ensures.settled c.settle.ensures.given
-          c.show.ensures (rw c.as_slice-in-loop-cycle.ensures at c.in_ok-record_cycle.ensures.records) c.tick.ensures.edge
-          (rw c.as_slice-given.ensures at c.present-next.ensures.left) (rw c.as_slice-given.ensures at c.present-next.ensures.within),
-    )
-
 pub wave-requires : goal.wave-requires
-wave-requires c = c.loop-cycle.invariant.1.told
+wave-requires c = c.in_ok-run_recorded.ensures.so_far.told
 
 pub returns : goal.returns
 returns c =
-    let all : c.loop-cycle.cycle ≡ c.args.stimulus.now.cycles = omega (arith, c.loop-cycle-test.false, c.loop-cycle.auto.cycle-end) in
-    captured c.args.of.now c.args.stimulus.now c.loop-cycle.cycle c.loop-cycle.clock c.loop-cycle.words c.loop-cycle.recorder c.loop-cycle.next c.wave.result c.requires.sound c.loop-cycle.invariant.0 c.loop-cycle.invariant.1 all c.wave.ensures
+    let whole = c.in_ok-run_recorded.ensures in
+    captured c.args.of.now c.args.stimulus.now c.args.stimulus.now.cycles whole.clock whole.words c.run_recorded.new.recorder whole.next c.wave.result c.requires.sound whole.part whole.so_far refl c.wave.ensures
