@@ -6,7 +6,6 @@ mod fault;
 mod images;
 mod judge;
 mod least;
-mod opposed;
 mod order;
 mod outside;
 mod overlap;
