@@ -12,5 +12,5 @@ mod overlap;
 mod sets;
 mod verdict;
 
-pub use checking::check;
+pub use checking::{check, check_normal};
 pub use fault::CheckFault;
