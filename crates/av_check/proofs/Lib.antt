@@ -6,5 +6,4 @@ pub mod Founded
 pub mod Prepared
 pub mod Settled
 pub mod Looking
-pub mod Opposing
 pub mod Caused

@@ -12,11 +12,6 @@ ghost use Rattle.av_check.specs.Miscovered.{IsLeastMiscovered};
 ghost use Rattle.av_check.specs.CheckFaults.{IsFaultOf, IsFault};
 ghost use Rattle.av_check.specs.inner.Reachable.{IsReachableInside};
 ghost use Rattle.av_check.specs.inner.Premises.{HasPremises, HavePremises, HasNoneMiscovered};
-ghost use Rattle.av_tree.specs.Trees.{Text};
-ghost use Rattle.av_flat.specs.declared.quantity.Quantity.{Quantity};
-ghost use Rattle.av_flat.specs.Quantities.{HasWideSets, HasUnbounded};
-ghost use Rattle.av_flat.specs.Kept.{IsKept};
-ghost use Rattle.av_normal.specs.NormalForm.{IsNormalForm};
 ghost use Rattle.av_check.specs.declared.fault.CheckFault.{CheckFault as FaultSeen};
 ghost use Rattle.av_normal.specs.declared.fault.NormalFault.{NormalFault as Cause};
 ghost use Rattle.av_normal.specs.declared.fault.NormalFault.TheVariants as cause;
@@ -118,16 +113,17 @@ fn check_variables(alloc: Global, vars: &[Var], kept: &[Var]) -> Result<(), Chec
     Ok(())
 }
 
-/// Whether each declared point has just one word, where the normal form is at hand. Its pieces are compared as sets of rows,
-/// and no point is looked at but the one that is answered.
-pub(crate) fn check_normal(alloc: Global, flat: &Flat, normal: &Flat) -> Result<(), CheckFault>
+/// Whether each declared point has just one word, as `check` tells, where the system's normal form is at hand: no other is made.
+pub fn check_normal(alloc: Global, flat: &Flat, normal: &Flat) -> Result<(), CheckFault>
+    // The other system is the normal form.
     requires well_formed { IsWellFormed (view_system flat.now) }
-    requires ends { (name : Text) → HasUnbounded (view_system flat.now) name → ⊥ }
-    requires narrow { (kind : Quantity) (n : ℕ) → HasWideSets (view_system flat.now) kind n → ⊥ }
-    requires normal { IsNormalForm (view_system flat.now) (view_system normal.now) }
-    requires kept { IsKept (view_system normal.now) }
+    requires given { normalised.IsGiven (view_system flat.now) (view_system normal.now) }
+
+    // It is passed exactly where it is proper, unless memory runs out.
     ensures proper { OnOk result (IsProper (view_system flat.now)) }
     ensures complete { IsProper (view_system flat.now) → IfErr result (λ f. f ≡ fault.Memory) }
+
+    // Else the fault is that of the first variable with a miscovered point, at its least one.
     ensures fault { IfErr result (IsFault (view_system flat.now)) }
     ensures refused { (f : FaultSeen) → IsFault (view_system flat.now) f → f ≢ fault.Memory → (result ≡ Err f) ⊎ (result ≡ Err fault.Memory) }
 {

@@ -6,12 +6,11 @@ mod fault;
 mod images;
 mod judge;
 mod least;
-mod opposed;
 mod order;
 mod outside;
 mod overlap;
 mod sets;
 mod verdict;
 
-pub use checking::check;
+pub use checking::{check, check_normal};
 pub use fault::CheckFault;

@@ -6,8 +6,8 @@ ghost use Rattle.av_poly.specs.Points.{Has};
 ghost use Rattle.av_check.specs.inner.Least.{IsLeast};
 ghost use Rattle.av_elim.specs.Extents.{IsInside};
 
-use crate::opposed::are_contrary;
 use av_base::Point;
+use av_normal::are_contrary;
 use av_poly::{Bounds, Poly};
 
 /// The least point of a set that has none outside the box.

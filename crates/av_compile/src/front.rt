@@ -9,7 +9,7 @@ ghost use Rattle.av_compile.specs.declared.refusal.Refusal.TheVariants as refusa
 
 use crate::Refusal;
 use av_base::Width;
-use av_check::check;
+use av_check::check_normal;
 use av_flat::{Flat, Pass};
 use av_lex::lex;
 use av_names::{Size, resolve};
@@ -59,6 +59,6 @@ pub fn checked(alloc: Global, bytes: &[u8], sizes: &[Size], width: Width) -> Res
 {
     let flat = flattened(alloc, bytes, sizes, width)?;
     let normal = Normal.run(alloc, &flat)?;
-    check(alloc, &flat)?;
+    check_normal(alloc, &flat, &normal)?;
     Ok(normal)
 }

@@ -10,9 +10,9 @@ ghost use Rattle.av_compile.specs.declared.refusal.Refusal.TheVariants as refusa
 use crate::Refusal;
 use crate::front::flattened;
 use av_base::Width;
-use av_check::check;
+use av_check::check_normal;
 use av_depend::edges;
-use av_flat::{Flat, Pass, Reach, Then, ThenFault, Timed};
+use av_flat::{Flat, Pass, Reach, Timed};
 use av_names::Size;
 use av_normal::Normal;
 use av_sched::search;
@@ -26,21 +26,10 @@ fn chained(alloc: Global, flat: &Flat) -> Result<Flat, Refusal>
     ensures refused { (f : Refused) → result ≡ Err f → f ≢ refusal.Memory → IsUnchained (view_system flat.now) f }
     ensures complete { (s : FlatSystem) → IsChained (view_system flat.now) s → IfErr result (λ f. f ≡ refusal.Memory) }
 {
-    let passes = Then {
-        first: Normal,
-        second: Serial,
-    };
-    match passes.run(alloc, flat) {
-        Ok(serial) => {
-            check(alloc, flat)?;
-            Ok(serial)
-        }
-        Err(ThenFault::First(fault)) => Err(Refusal::from(fault)),
-        Err(ThenFault::Second(fault)) => {
-            check(alloc, flat)?;
-            Err(Refusal::from(fault))
-        }
-    }
+    let normal = Normal.run(alloc, flat)?;
+    check_normal(alloc, flat, &normal)?;
+    let serial = Serial.run(alloc, &normal)?;
+    Ok(serial)
 }
 
 /// The first schedule, in the box, of the system that a text spells, with its sizes, in words of this width.

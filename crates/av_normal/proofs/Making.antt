@@ -1,18 +1,20 @@
 -- Lists of pieces that are made one after the other.
-use Rattle.std.proofs.Common.{◌≡◌, ℕ, zero, suc, ◌+◌, ◌-◌, ◌^◌, ◌<◌, ◌≤◌, min, List, [], ◌∷◌, ◌++◌, map, drop, length, get_or, refl, sym, ap, subst, arith, ◌∙◌, append_assoc, add-one, All}
+use Rattle.std.proofs.Common.{◌≡◌, ℕ, zero, suc, ◌+◌, ◌-◌, ◌^◌, ◌<◌, ◌≤◌, min, ℤ, false, ◌||◌, List, [], ◌∷◌, ◌++◌, map, drop, length, get_or, refl, sym, ap, ap₂, subst, arith, ◌∙◌, append_assoc, add-one, All}
 use Rattle.std.proofs.lemmas.List.{append-nil, length-map}
 use Rattle.std.proofs.lemmas.List.Elements.{All-nil, All-cons, All-head, All-tail, All-append, All-map}
 use Rattle.av_affine.specs.declared.form.Form.{Form}
-use Rattle.av_flat.specs.Trees.{Tree, Piece, trees_of, restriction}
+use Rattle.av_poly.specs.Points.{Set, Has}
+use Rattle.av_flat.specs.Trees.{Tree, Piece, trees_of, reference, constant, binary, choice, restriction, cases, dependence, reduction, pick}
 use Rattle.av_flat.specs.Signatures.{Signature}
-use Rattle.av_flat.specs.Pieces.{Part, parts, parts_of_all, with_rows}
-use Rattle.av_flat.specs.Quantities.{piece_count}
+use Rattle.av_flat.specs.Pieces.{Part, parts, parts_of_all, with_rows, filled}
+use Rattle.av_flat.specs.Quantities.{piece_count, body_sets}
 use Rattle.av_flat.proofs.Parts.{length_parts}
 use Rattle.av_normal.specs.inner.Numbered.{part_at}
-use Rattle.av_normal.specs.inner.ReductionSets.{IsFillable}
-use Rattle.av_normal.specs.inner.Making.{held, held_parts, IsMade, AreMade, AreAdded, IsHolder, Continues}
+use Rattle.av_normal.specs.inner.ReductionSets.{IsFillable, has_reduction}
+use Rattle.av_normal.specs.inner.Making.{held, held_parts, StandsIn, IsMade, AreMade, AreAdded, IsHolder, Continues}
 use Rattle.av_normal.proofs.Limits.{all_sources}
 use Rattle.av_base.proofs.Lists.{nothing_left, all_parts}
+use Rattle.av_base.proofs.Truths.{neither}
 
 -- ---- lists that are gone through
 
@@ -92,7 +94,7 @@ holders dim (p ∷ ps) (q ∷ qs) h f =
     let P : Part → Type 0 = λ p. IsFillable dim p.tree in
     let m = h.0 in
     All-cons IsHolder q qs
-    (record { fillable = subst (λ t. IsFillable q.domain.dim t) (sym m.tree) (subst (λ (n : ℕ). IsFillable n p.tree) (sym m.domain.dim) (All-head P p ps f)); small = m.small })
+    (record { fillable = m.tree.fillable q.domain.dim (subst (λ (n : ℕ). IsFillable n p.tree) (sym m.domain.dim) (All-head P p ps f)); small = m.small })
     (holders dim ps qs h.1 (All-tail P p ps f))
 
 pub held_fillable : (vs : List Signature) (dim : ℕ) (rows : List Form) (es : List Piece) → All (λ p. IsFillable dim p.tree) (parts_of_all vs [] (trees_of (map (λ e. restriction e.domain e.tree) es)))
@@ -105,3 +107,32 @@ held_fillable vs dim rows (e ∷ es) h =
     All-append P (with_rows (rows ++ e.domain.rows) own) (held_parts vs rows es)
     (All-map P (held (rows ++ e.domain.rows)) own (all_sources P (held e.domain.rows) own both.0))
     (held_fillable vs dim rows es both.1)
+
+-- ---- trees of pieces without a point
+
+-- a tree without reductions has no bodies
+pub no_bodies : (t : Tree) → has_reduction t ≡ false → (rows : List Form) → body_sets (filled rows t) ≡ []
+no_bodies (reference place m) e rows = refl
+no_bodies (constant k) e rows = refl
+no_bodies (binary s l r) e rows =
+    let n = neither (has_reduction l) (has_reduction r) e in
+    ap₂ (λ a b. a ++ b) (no_bodies l n.0 rows) (no_bodies r n.1 rows)
+no_bodies (choice l c r x y) e rows =
+    let first = neither (has_reduction l) (has_reduction r || (has_reduction x || has_reduction y)) e in
+    let second = neither (has_reduction r) (has_reduction x || has_reduction y) first.1 in
+    let third = neither (has_reduction x) (has_reduction y) second.1 in
+    ap₂ (λ a b. a ++ b)
+    (ap₂ (λ a b. a ++ b) (ap₂ (λ a b. a ++ b) (no_bodies l first.0 rows) (no_bodies r second.0 rows)) (no_bodies x third.0 rows))
+    (no_bodies y third.1 rows)
+no_bodies (reduction o m t set) e rows = absurd cc
+no_bodies (restriction d t) e rows = refl
+no_bodies (cases ts) e rows = refl
+no_bodies (dependence m t) e rows = refl
+no_bodies (pick place choices k) e rows = refl
+
+-- each tree stands in for itself, and a constant for a tree without reductions over a set without a point
+pub itself : (d : Set) (t : Tree) → StandsIn d t t
+itself d t = record { same = λ z h. refl; bodies = λ rows. refl; fillable = λ n f. f }
+
+pub a_constant : (d : Set) (t : Tree) (k : ℕ) → ((z : List ℤ) → Has d z → ⊥) → has_reduction t ≡ false → StandsIn d t (constant k)
+a_constant d t k none e = record { same = λ z h. absurd (none z h); bodies = λ rows. sym (no_bodies t e rows); fillable = λ n f. tt }

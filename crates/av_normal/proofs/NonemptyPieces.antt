@@ -51,7 +51,7 @@ kept_of dim (p ∷ ps) s nothing = absurd s
 kept_of dim [] s (left_out e h) = absurd s
 kept_of dim (p ∷ ps) s (left_out e h) = dropped (λ z k. e z ((same_points s.0 z).1 k)) (kept_of dim ps s.1 h)
 kept_of dim [] s (stays z k h) = absurd s
-kept_of dim (p ∷ ps) s (stays z k h) = kept z ((same_points s.0 z).0 k) s.0.domain s.0.tree (kept_of dim ps s.1 h)
+kept_of dim (p ∷ ps) s (stays z k h) = kept z ((same_points s.0 z).0 k) s.0.domain (s.0.tree z k) (kept_of dim ps s.1 h)
 
 normal_variable : (vs : List Signature) (v y w : Variable) → HasAllPieces vs v y → HasNonemptyPieces y w → IsNormalVariable vs v w
 normal_variable vs v y w s a = record {

@@ -1,7 +1,8 @@
 //! The pieces of each variable before any is dropped, measured.
 
-ghost use Rattle.std.specs.Prelude.{List as Items, ℕ, ◌≡◌, ◌<◌, ◌≤◌, [], ◌∷◌, ◌++◌, All, IfOk, IfErr, OnOk, map};
+ghost use Rattle.std.specs.Prelude.{List as Items, ℕ, ℤ, false, IsTrue, ◌≡◌, ◌<◌, ◌≤◌, [], ◌∷◌, ◌++◌, All, IfOk, IfErr, OnOk, map};
 ghost use Rattle.av_affine.specs.Forms.{IsWithinLimits};
+ghost use Rattle.av_poly.specs.Points.{Has};
 ghost use Rattle.av_flat.specs.Trees.{view, view_piece, view_variable, view_system};
 ghost use Rattle.av_flat.specs.Signatures.{signatures};
 ghost use Rattle.av_flat.specs.WellFormed.{IsWellFormed, IsWellFormedVariable};
@@ -13,16 +14,18 @@ ghost use Rattle.av_normal.specs.NormalFaults.{HasNarrowSets};
 ghost use Rattle.av_normal.specs.inner.Numbered.{part_at, signatures_of};
 ghost use Rattle.av_normal.specs.Searches.{IsNarrow, AreNarrow, IsWide};
 ghost use Rattle.av_normal.specs.inner.UnderMaps.{IsReadable, StandsUnder};
-ghost use Rattle.av_normal.specs.inner.Making.{maps_measured, parts_measured, bodies_measured, held, held_parts, filled_part, IsMade, AreMade, AreAdded, IsParted, IsHolder};
+ghost use Rattle.av_normal.specs.inner.ReductionSets as inner;
+ghost use Rattle.av_normal.specs.inner.Making.{maps_measured, parts_measured, bodies_measured, held, held_parts, filled_part, StandsIn, IsMade, AreMade, AreAdded, IsParted, IsHolder};
 ghost use Rattle.av_normal.specs.inner.AllPieces.{IsPieceOfPart, ArePiecesOfParts, HasAllPieces, HaveAllPieces, IsWideIn};
 
 use crate::NormalFault;
 use crate::compose::maps_fit;
 use crate::count::piece_count;
 use crate::measure::narrowed;
+use crate::opposed::are_contrary;
 use crate::piece::piece_at;
-use crate::reduction_sets::filled;
-use av_base::{List, Memory};
+use crate::reduction_sets::{filled, has_reduction};
+use av_base::{List, Memory, Word};
 use av_flat::{Flat, Piece, Tree, Var};
 use av_poly::{Poly, copy_set};
 use std::alloc::Global;
@@ -49,6 +52,29 @@ fn equation_fits(alloc: Global, equation: &[Piece]) -> Result<(), NormalFault>
     Ok(())
 }
 
+// Whether a piece has no point and no reduction: two of its rows cannot hold at once.
+fn is_idle(domain: &Poly, tree: &Tree) -> bool
+    ensures none { IsTrue result → (z : Items ℤ) → Has domain.now z → ⊥ }
+    ensures plain { IsTrue result → inner.has_reduction (view tree.now) ≡ false }
+{
+    if are_contrary(domain.rows.as_slice()) {
+        !has_reduction(tree)
+    } else {
+        false
+    }
+}
+
+// The tree of a piece, or a constant in the place of a tree that is dropped with its piece.
+fn needed_tree(domain: &Poly, tree: Tree) -> Tree
+    ensures { StandsIn domain.now (view tree) (view result) }
+{
+    if is_idle(domain, &tree) {
+        Tree::Const(Word { bits: 0 })
+    } else {
+        tree
+    }
+}
+
 // The piece of a tree with this number, with normalised rows; those of the domain are among them.
 fn made_piece(
     alloc: Global,
@@ -67,10 +93,8 @@ fn made_piece(
 {
     let piece = piece_at(alloc, vars, domain, tree, number)?;
     let domain = narrowed(piece.domain)?;
-    Ok(Piece {
-        domain,
-        tree: piece.tree,
-    })
+    let tree = needed_tree(&domain, piece.tree);
+    Ok(Piece { domain, tree })
 }
 
 // Puts all pieces of a tree behind others.

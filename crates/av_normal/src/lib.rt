@@ -13,6 +13,7 @@ mod laws;
 mod measure;
 mod nonempty_pieces;
 mod normal;
+mod opposed;
 mod piece;
 mod reduction_sets;
 
@@ -24,3 +25,4 @@ pub use laws::{
     normal_forms_show_the_same, one_solution_of_normal_forms,
 };
 pub use normal::Normal;
+pub use opposed::are_contrary;

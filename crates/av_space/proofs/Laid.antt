@@ -23,7 +23,6 @@ use Rattle.av_space.specs.Layouts.{AreSlots}
 use Rattle.av_space.specs.inner.Laying.{HasFewCycles, HasCellCount, ranked_at, cell_of, AreRanked, IsRunEnd, AreCellsTo, AreCellsIn, IsFilled, AreFilled}
 use Rattle.av_space.specs.Layouts.{IsSlot, IsLayout, places_of, numbers_of}
 use Rattle.av_space.specs.declared.layout.Layout.{Layout}
-use Rattle.av_space.proofs.OneArray.{one_cells}
 use Rattle.av_flat.specs.Signatures.{signatures, is_computed}
 use Rattle.av_flat.specs.Chained.{IsChainedPiece}
 use Rattle.av_flat.proofs.Sets.{both_true}
@@ -234,15 +233,15 @@ placing_at t placings n p h are l e = slice_get-get_or placings n p l ∙ ap Som
 
 pub made_layout : (t : Timed) (l : Layout) → IsLegal t → ArePlacings t.times l.placements → l.places ≡ places_of (view_system t.flat) → l.numbers ≡ numbers_of (view_system t.flat) → IsCycles t l.cycles → l.cycles ≤ 4096
     → (n : ℕ) → length (nodes (view_system t.flat)) ≤ n → AreCellsIn (view_system t.flat) l.placements 0 n l.cells → AreFilled (view_system t.flat) l.placements l.cells l.slots
-    → (cells : List Cell) → AreCells (view_system t.flat) l.placements cells → length cells ≤ 2048 → IsLayout t l
-made_layout t l h placings places numbers cycles limit n whole are filled cells are' few =
+    → length l.cells ≤ 2048 → IsLayout t l
+made_layout t l h placings places numbers cycles limit n whole are filled few =
     let own = all_cells (view_system t.flat) l.placements n l.cells whole are in
     record {
       are_placings = placings;
       places = places;
       numbers = numbers;
       are_cells = own;
-      few_cells = subst (λ (cs : List Cell). length cs ≤ 2048) (one_cells (view_system t.flat) l.placements cells l.cells are' own) few;
+      few_cells = few;
       cycle_count = cycles;
       limit = limit;
       few_cycles = λ k c n z x. in_few_cycles t l.placements l.cells k c n z placings (few_cycles t l.cycles cycles limit) x;

@@ -2,11 +2,8 @@
 
 ghost use Rattle.std.specs.Prelude.{◌≡◌, [], ◌<◌, ◌≤◌, ◌^◌, ◌+◌, List as Items, length, map, Some, slice_get, IfOk, IfErr, OnOk};
 ghost use Rattle.av_flat.specs.Legal.{IsLegal};
-ghost use Rattle.av_flat.specs.Nodes.{nodes};
 ghost use Rattle.av_flat.specs.Trees.{view_system};
-ghost use Rattle.av_space.specs.declared.cells.Cell.{Cell as CellSeen};
 ghost use Rattle.av_space.specs.Coordinates.{Placing, IsPlacing, ArePlacings};
-ghost use Rattle.av_space.specs.Occupancy.{AreCells};
 ghost use Rattle.av_space.specs.SpaceFaults.{IsCycles, IsSpaceFault};
 ghost use Rattle.av_space.specs.Layouts.{IsLayout, places_of, numbers_of};
 ghost use Rattle.av_space.specs.inner.Laying.{HasFewCycles, HasCellCount, AreCellsIn, AreFilled};
@@ -150,24 +147,27 @@ fn add_nodes(
     Ok(())
 }
 
-// The layout of a system with few cycles and cells.
-fn laid(
+// The cells of all nodes, with the computations on each.
+#[derive(Drop)]
+struct Filled {
+    cells: List<Cell>,
+    slots: List<List<Slot>>,
+}
+
+// The cells of all nodes of a system with few cycles.
+fn cells_filled(
     alloc: Global,
     timed: &Timed,
-    placements: List<Placement>,
-    places: List<usize>,
-    numbers: List<usize>,
-    cycles: u32,
-) -> Result<Layout, Memory>
+    places: &List<usize>,
+    placements: &List<Placement>,
+) -> Result<Filled, Memory>
     requires legal { IsLegal timed.now }
-    requires placings { ArePlacings timed.now.times placements }
-    requires places { places ≡ places_of (view_system timed.now.flat) }
-    requires numbers { numbers ≡ numbers_of (view_system timed.now.flat) }
-    requires cycles { IsCycles timed.now cycles }
-    requires limit { cycles ≤ 4096 }
-    requires few { (cells : Items CellSeen) × AreCells (view_system timed.now.flat) placements cells × (length cells ≤ 2048) }
-    requires nodes { length places ≤ 2048 }
-    ensures { IfOk result (IsLayout timed.now) }
+    requires places { places.now ≡ places_of (view_system timed.now.flat) }
+    requires placings { ArePlacings timed.now.times placements.now }
+    requires ends { HasFewCycles timed.now }
+    requires few { length places.now ≤ 2048 }
+    ensures cells { IfOk result (λ f. AreCellsIn (view_system timed.now.flat) placements.now 0 (length places.now) f.cells) }
+    ensures slots { IfOk result (λ f. AreFilled (view_system timed.now.flat) placements.now f.cells f.slots) }
 {
     let mut cells = List::new(alloc);
     let mut slots = List::new(alloc);
@@ -175,18 +175,41 @@ fn laid(
         alloc,
         timed,
         places.as_slice(),
-        &placements,
+        placements,
         &mut cells,
         &mut slots,
     )?;
-    Ok(Layout {
+    Ok(Filled { cells, slots })
+}
+
+// The layout of a system with few cycles and cells.
+fn laid(
+    _timed: &Timed,
+    placements: List<Placement>,
+    places: List<usize>,
+    numbers: List<usize>,
+    filled: Filled,
+    cycles: u32,
+) -> Layout
+    requires legal { IsLegal _timed.now }
+    requires placings { ArePlacings _timed.now.times placements }
+    requires places { places ≡ places_of (view_system _timed.now.flat) }
+    requires numbers { numbers ≡ numbers_of (view_system _timed.now.flat) }
+    requires cycles { IsCycles _timed.now cycles }
+    requires limit { cycles ≤ 4096 }
+    requires cells { AreCellsIn (view_system _timed.now.flat) placements 0 (length places) filled.cells }
+    requires slots { AreFilled (view_system _timed.now.flat) placements filled.cells filled.slots }
+    requires few { length filled.cells ≤ 2048 }
+    ensures { IsLayout _timed.now result }
+{
+    Layout {
         placements,
         places,
         numbers,
-        cells,
-        slots,
+        cells: filled.cells,
+        slots: filled.slots,
         cycles,
-    })
+    }
 }
 
 // The number of cycles, if it is within its limit.
@@ -204,8 +227,8 @@ fn limited_cycles(alloc: Global, timed: &Timed, places: &[usize]) -> Result<u32,
     Ok(cycles as u32)
 }
 
-// Refuses a system with too many cells.
-fn limit_cells(
+// Refuses a system with more nodes than it may have cells. Its cells are counted and not made.
+fn limit_nodes(
     alloc: Global,
     timed: &Timed,
     places: &[usize],
@@ -217,27 +240,52 @@ fn limit_cells(
     requires placings { ArePlacings timed.now.times placements.now }
     requires cycles { IsCycles timed.now cycles }
     requires limit { cycles ≤ 4096 }
-    ensures few { OnOk result ((cells : Items CellSeen) × AreCells (view_system timed.now.flat) placements.now cells × (length cells ≤ 2048)) }
-    ensures nodes { OnOk result (length places.now ≤ 2048) }
+    ensures few { OnOk result (length places.now ≤ 2048) }
     ensures refused { IfErr result (IsSpaceFault timed.now) }
 {
-    let count = cell_count(alloc, timed, places, placements)?;
+    let nodes = places.len() as u128;
+    if nodes > MOST_CELLS {
+        let count = cell_count(alloc, timed, places, placements)?;
+        return Err(SpaceFault::Cells(count));
+    }
+    Ok(())
+}
+
+// Refuses a system with too many cells.
+fn limit_cells(
+    _timed: &Timed,
+    _places: &List<usize>,
+    _placements: &List<Placement>,
+    cells: &List<Cell>,
+    _cycles: u32,
+) -> Result<(), SpaceFault>
+    requires places { _places.now ≡ places_of (view_system _timed.now.flat) }
+    requires placings { ArePlacings _timed.now.times _placements.now }
+    requires cells { AreCellsIn (view_system _timed.now.flat) _placements.now 0 (length _places.now) cells.now }
+    requires cycles { IsCycles _timed.now _cycles }
+    requires limit { _cycles ≤ 4096 }
+    ensures few { OnOk result (length cells.now ≤ 2048) }
+    ensures refused { IfErr result (IsSpaceFault _timed.now) }
+{
+    let count = cells.len() as u128;
     if count > MOST_CELLS {
         return Err(SpaceFault::Cells(count));
     }
     Ok(())
 }
 
-/// The layout of a legal timed system.
+/// The layout of a legal timed system. The cells are counted once they stand, so that each node's points are ordered once.
 pub(crate) fn layout(alloc: Global, timed: &Timed) -> Result<Layout, SpaceFault>
     requires { IsLegal timed.now }
     ensures whole { IfOk result (IsLayout timed.now) }
     ensures refused { IfErr result (IsSpaceFault timed.now) }
 {
     let places = places(alloc, &timed.flat)?;
+    let numbers = numbers(alloc, &timed.flat)?;
     let cycles = limited_cycles(alloc, timed, places.as_slice())?;
     let placements = placements(alloc, timed)?;
-    limit_cells(alloc, timed, places.as_slice(), &placements, cycles)?;
-    let numbers = numbers(alloc, &timed.flat)?;
-    Ok(laid(alloc, timed, placements, places, numbers, cycles)?)
+    limit_nodes(alloc, timed, places.as_slice(), &placements, cycles)?;
+    let filled = cells_filled(alloc, timed, &places, &placements)?;
+    limit_cells(timed, &places, &placements, &filled.cells, cycles)?;
+    Ok(laid(timed, placements, places, numbers, filled, cycles))
 }

@@ -1,6 +1,7 @@
 -- Pieces before any is dropped, with normalised rows. Only private contracts cite this.
-use Rattle.std.specs.Prelude.{◌≡◌, ℕ, List, [], ◌∷◌, All}
+use Rattle.std.specs.Prelude.{◌≡◌, ℕ, ℤ, List, [], ◌∷◌, All}
 use Rattle.av_affine.specs.Forms.{IsWithinLimits}
+use Rattle.av_poly.specs.Points.{Has}
 use Rattle.av_flat.specs.Trees.{Piece, Variable, FlatSystem}
 use Rattle.av_flat.specs.Signatures.{Signature}
 use Rattle.av_flat.specs.Pieces.{Part, pieces_of}
@@ -9,10 +10,10 @@ use Rattle.av_normal.specs.declared.fault.NormalFault.{NormalFault}
 use Rattle.av_normal.specs.declared.fault.NormalFault.TheVariants as fault
 use Rattle.av_normal.specs.NormalForm.{IsNormalised, HasNormalSets, set_of}
 
--- the piece is this part, with normalised rows
+-- the piece is this part, with normalised rows; where it has no point, its tree may be another
 pub record IsPieceOfPart (dim : ℕ) (p : Part) (q : Piece) : Type 0 where
   pub domain : IsNormalised (set_of dim p) q.domain
-  pub tree : HasNormalSets p.tree q.tree
+  pub tree : (z : List ℤ) → Has q.domain z → HasNormalSets p.tree q.tree
   pub small : All IsWithinLimits q.domain.rows
 
 abbrev pub ArePiecesOfParts : ℕ → List Part → List Piece → Type 0

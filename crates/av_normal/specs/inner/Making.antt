@@ -1,8 +1,9 @@
 -- Variables made into pieces step by step, and what is tried on the way. Only private contracts cite this.
-use Rattle.std.specs.Prelude.{◌≡◌, ℕ, ◌≤◌, List, [], ◌∷◌, ◌++◌, map, All}
+use Rattle.std.specs.Prelude.{◌≡◌, ℕ, ℤ, ◌≤◌, List, [], ◌∷◌, ◌++◌, map, All}
 use Rattle.av_affine.specs.declared.form.Form.{Form}
 use Rattle.av_affine.specs.Forms.{IsWithinLimits}
-use Rattle.av_flat.specs.Trees.{Piece, Variable}
+use Rattle.av_poly.specs.Points.{Set, Has}
+use Rattle.av_flat.specs.Trees.{Tree, Piece, Variable}
 use Rattle.av_flat.specs.Signatures.{Signature}
 use Rattle.av_flat.specs.Pieces.{Part, part, parts, with_rows, filled}
 use Rattle.av_flat.specs.Quantities.{Measured, of_set, of_map, composed_maps, body_sets, measured, piece_count}
@@ -48,10 +49,16 @@ held_parts vs rows (e ∷ es) = with_rows (rows ++ e.domain.rows) (parts vs [] e
 abbrev pub filled_part : Part → Part
 filled_part p = part p.rows (filled p.rows p.tree)
 
--- the piece is this part, with normalised rows
+-- over a set, the one tree may stand where the other would: it is the same where the set has a point, and has the same bodies
+pub record StandsIn (d : Set) (t u : Tree) : Type 0 where
+  pub same : (z : List ℤ) → Has d z → u ≡ t
+  pub bodies : (rows : List Form) → body_sets (filled rows u) ≡ body_sets (filled rows t)
+  pub fillable : (n : ℕ) → IsFillable n t → IsFillable n u
+
+-- the piece is this part, with normalised rows; where it has no point, its tree may be another
 pub record IsMade (dim : ℕ) (p : Part) (q : Piece) : Type 0 where
   pub domain : IsNormalised (set_of dim p) q.domain
-  pub tree : q.tree ≡ p.tree
+  pub tree : StandsIn q.domain p.tree q.tree
   pub small : All IsWithinLimits q.domain.rows
 
 abbrev pub AreMade : ℕ → List Part → List Piece → Type 0

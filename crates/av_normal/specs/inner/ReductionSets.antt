@@ -1,5 +1,5 @@
 -- Trees of pieces whose reductions take the rows of what holds them. Only private contracts cite this.
-use Rattle.std.specs.Prelude.{◌≡◌, ◌≤◌, ℕ, ◌++◌, All, length, List}
+use Rattle.std.specs.Prelude.{◌≡◌, ◌≤◌, ℕ, Bool, true, false, ◌||◌, ◌++◌, All, length, List}
 use Rattle.av_affine.specs.declared.form.Form.{Form}
 use Rattle.av_affine.specs.declared.map.Map.{Map}
 use Rattle.av_affine.specs.Forms.{IsWithinLimits}
@@ -28,3 +28,10 @@ IsFillable n (binary s l r) = IsFillable n l × IsFillable n r
 IsFillable n (choice l c r x y) = IsFillable n l × IsFillable n r × IsFillable n x × IsFillable n y
 IsFillable n (reduction o m t set) = IsFoldable n m set × IsFillable m.from t
 IsFillable n _ = ⊥
+
+-- a reduction is in the tree of a piece
+abbrev pub has_reduction : Tree → Bool
+has_reduction (binary s l r) = has_reduction l || has_reduction r
+has_reduction (choice l c r x y) = has_reduction l || (has_reduction r || (has_reduction x || has_reduction y))
+has_reduction (reduction o m t set) = true
+has_reduction _ = false

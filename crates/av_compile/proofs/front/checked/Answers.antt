@@ -22,8 +22,8 @@ returns-clause-found c = record {
   flat = view_system c.in_ok-flat.flat;
   flattens = c.in_ok-flat.ensures.found;
   given = c.in_ok-normal.ensures.gives;
-  proper = c.in_ok-check.ensures.proper;
-  text_proper = text_is_proper c.args.bytes.now c.args.sizes.now c.args.width.bits (view_system c.in_ok-flat.flat) c.requires.short c.in_ok-flat.ensures.found c.in_ok-check.ensures.proper;
+  proper = c.in_ok-check_normal.ensures.proper;
+  text_proper = text_is_proper c.args.bytes.now c.args.sizes.now c.args.width.bits (view_system c.in_ok-flat.flat) c.requires.short c.in_ok-flat.ensures.found c.in_ok-check_normal.ensures.proper;
 }
 
 -- ---- the first fault
@@ -41,11 +41,11 @@ returns-in_err-normal-clause-refused c = λ f is not_memory.
     let e : f ≡ of_normal fault = told c.from_residual-in_err-normal.result (of_normal fault) f c.from_residual-in_err-normal.ensures.1 is in
     in_pieces fault e (view_system c.in_ok-flat.flat) c.in_ok-flat.ensures.found c.in_err-normal.ensures.refuses
 
-pub returns-in_err-check-clause-refused : goal.returns-in_err-check-clause-refused
-returns-in_err-check-clause-refused c = λ f is not_memory.
-    let fault = c.in_err-check.field-0.0 in
-    let e : f ≡ of_check fault = told c.from_residual-in_err-check.result (of_check fault) f c.from_residual-in_err-check.ensures.1 is in
-    in_points fault e (view_system c.in_ok-flat.flat) c.in_ok-flat.ensures.found c.in_ok-normal.ensures.gives.no_cause c.in_err-check.ensures.fault
+pub returns-in_err-check_normal-clause-refused : goal.returns-in_err-check_normal-clause-refused
+returns-in_err-check_normal-clause-refused c = λ f is not_memory.
+    let fault = c.in_err-check_normal.field-0.0 in
+    let e : f ≡ of_check fault = told c.from_residual-in_err-check_normal.result (of_check fault) f c.from_residual-in_err-check_normal.ensures.1 is in
+    in_points fault e (view_system c.in_ok-flat.flat) c.in_ok-flat.ensures.found c.in_ok-normal.ensures.gives.no_cause c.in_err-check_normal.ensures.fault
 
 -- ---- none where there is none
 
@@ -60,12 +60,12 @@ returns-in_err-normal-clause-complete c = λ s h has_form proper.
     memory_only c.from_residual-in_err-normal.result (of_normal fault) c.from_residual-in_err-normal.ensures.1
     (ap of_normal (subst HasNormalForm (sym flat) has_form fault c.in_err-normal.ensures.refuses))
 
-pub returns-in_err-check-clause-complete : goal.returns-in_err-check-clause-complete
-returns-in_err-check-clause-complete c = λ s h has_form proper.
-    let fault = c.in_err-check.field-0.0 in
+pub returns-in_err-check_normal-clause-complete : goal.returns-in_err-check_normal-clause-complete
+returns-in_err-check_normal-clause-complete c = λ s h has_form proper.
+    let fault = c.in_err-check_normal.field-0.0 in
     let flat = one_flat c.args.bytes.now c.args.sizes.now c.args.width.bits s (view_system c.in_ok-flat.flat) h c.in_ok-flat.ensures.found in
-    memory_only c.from_residual-in_err-check.result (of_check fault) c.from_residual-in_err-check.ensures.1
-    (ap of_check (c.in_err-check.ensures.complete (subst IsProper (sym flat) proper)))
+    memory_only c.from_residual-in_err-check_normal.result (of_check fault) c.from_residual-in_err-check_normal.ensures.1
+    (ap of_check (c.in_err-check_normal.ensures.complete (subst IsProper (sym flat) proper)))
 
 -- ---- each cause has its answer
 
@@ -84,9 +84,9 @@ pub returns-in_err-normal-clause-cause : goal.returns-in_err-normal-clause-cause
 returns-in_err-normal-clause-cause c =
     of_error c.args.bytes.now c.args.sizes.now c.args.width.bits c.from_residual-in_err-normal.result (of_normal c.in_err-normal.field-0.0) c.from_residual-in_err-normal.ensures.1 (returns-in_err-normal-clause-refused c)
 
-pub returns-in_err-check-clause-cause : goal.returns-in_err-check-clause-cause
-returns-in_err-check-clause-cause c =
-    of_error c.args.bytes.now c.args.sizes.now c.args.width.bits c.from_residual-in_err-check.result (of_check c.in_err-check.field-0.0) c.from_residual-in_err-check.ensures.1 (returns-in_err-check-clause-refused c)
+pub returns-in_err-check_normal-clause-cause : goal.returns-in_err-check_normal-clause-cause
+returns-in_err-check_normal-clause-cause c =
+    of_error c.args.bytes.now c.args.sizes.now c.args.width.bits c.from_residual-in_err-check_normal.result (of_check c.in_err-check_normal.field-0.0) c.from_residual-in_err-check_normal.ensures.1 (returns-in_err-check_normal-clause-refused c)
 
 pub returns-clause-cause : goal.returns-clause-cause
 returns-clause-cause c =

@@ -12,6 +12,7 @@ use Rattle.av_depend.specs.Sites.{Site, sites_in, sites_of}
 use Rattle.av_elim.specs.Extents.{IsInside}
 use Rattle.av_depend.specs.inner.Adding.{HasAdded}
 use Rattle.av_flat.proofs.Bounded.{small_point}
+use Rattle.av_flat.proofs.Sets.{has_is}
 use Rattle.av_depend.proofs.Adds.{added_nothing, added_none_of, added_both, flat_take_more, at_mapped}
 use Rattle.av_depend.proofs.Walked.{sites_of_piece, sites_of_pieces, no_pieces, no_sites, piece_inside, piece_fits}
 use Rattle.av_depend.proofs.edging.add_variable.Goals as goal
@@ -30,6 +31,51 @@ returns-in_default c =
 pub loop-piece-init : goal.loop-piece-init
 loop-piece-init c = added_nothing (view_system c.args.flat.now) c.args.edges.now
 
+pub own_box-requires-clause-dim : goal.own_box-requires-clause-dim
+own_box-requires-clause-dim c =
+    let s = view_system c.args.flat.now in
+    let v = view_variable c.args.var.now in
+    let x = c.piece-item.result in
+    let l : c.loop-piece.piece-index < length c.as_slice-piece-items.result.now = search rules in
+    let within : c.loop-piece.piece-index < length c.args.var.now.pieces = (let e = ap length c.as_slice-piece-items.ensures in omega (arith, e, l)) in
+    let is = subst (λ (xs : List PieceMade). x ≡ get_or xs c.loop-piece.piece-index x) c.as_slice-piece-items.ensures c.piece-item.is in
+    let piece = at_mapped (IsChainedPiece (signatures s) v) view_piece c.args.var.now.pieces c.loop-piece.piece-index x c.requires.pieces within is in
+    omega (arith, piece.dimension, c.requires.indices)
+
+pub own_box-requires-clause-rows : goal.own_box-requires-clause-rows
+own_box-requires-clause-rows c =
+    let s = view_system c.args.flat.now in
+    let v = view_variable c.args.var.now in
+    let x = c.piece-item.result in
+    let l : c.loop-piece.piece-index < length c.as_slice-piece-items.result.now = search rules in
+    let within : c.loop-piece.piece-index < length c.args.var.now.pieces = (let e = ap length c.as_slice-piece-items.ensures in omega (arith, e, l)) in
+    let is = subst (λ (xs : List PieceMade). x ≡ get_or xs c.loop-piece.piece-index x) c.as_slice-piece-items.ensures c.piece-item.is in
+    let piece = at_mapped (IsChainedPiece (signatures s) v) view_piece c.args.var.now.pieces c.loop-piece.piece-index x c.requires.pieces within is in
+    piece.rows
+
+pub own_box-requires-clause-small : goal.own_box-requires-clause-small
+own_box-requires-clause-small c = λ z h.
+    let s = view_system c.args.flat.now in
+    let v = view_variable c.args.var.now in
+    let x = c.piece-item.result in
+    let l : c.loop-piece.piece-index < length c.as_slice-piece-items.result.now = search rules in
+    let within : c.loop-piece.piece-index < length c.args.var.now.pieces = (let e = ap length c.as_slice-piece-items.ensures in omega (arith, e, l)) in
+    let is = subst (λ (xs : List PieceMade). x ≡ get_or xs c.loop-piece.piece-index x) c.as_slice-piece-items.ensures c.piece-item.is in
+    let piece = at_mapped (IsChainedPiece (signatures s) v) view_piece c.args.var.now.pieces c.loop-piece.piece-index x c.requires.pieces within is in
+    small_point v.domain c.requires.bounded z ((has_is v.domain z).0 (piece.within z ((has_is (view_piece x).domain z).1 h)))
+
+pub own_box-requires-clause-inside : goal.own_box-requires-clause-inside
+own_box-requires-clause-inside c =
+    let s = view_system c.args.flat.now in
+    let v = view_variable c.args.var.now in
+    let x = c.piece-item.result in
+    let l : c.loop-piece.piece-index < length c.as_slice-piece-items.result.now = search rules in
+    let within : c.loop-piece.piece-index < length c.args.var.now.pieces = (let e = ap length c.as_slice-piece-items.ensures in omega (arith, e, l)) in
+    let is = subst (λ (xs : List PieceMade). x ≡ get_or xs c.loop-piece.piece-index x) c.as_slice-piece-items.ensures c.piece-item.is in
+    let piece = at_mapped (IsChainedPiece (signatures s) v) view_piece c.args.var.now.pieces c.loop-piece.piece-index x c.requires.pieces within is in
+    let inside = subst (λ (o : Option Bounds). IfSome o (λ extent. IsInside v.domain.dim extent v.domain)) c.in-Some.is c.in_ok-extent.ensures.inside in
+    piece_inside s v (view_piece x) c.in-Some.extent piece inside
+
 pub reading_set-requires-clause-few : goal.reading_set-requires-clause-few
 reading_set-requires-clause-few c =
     let s = view_system c.args.flat.now in
@@ -40,18 +86,6 @@ reading_set-requires-clause-few c =
     let is = subst (λ (xs : List PieceMade). x ≡ get_or xs c.loop-piece.piece-index x) c.as_slice-piece-items.ensures c.piece-item.is in
     let piece = at_mapped (IsChainedPiece (signatures s) v) view_piece c.args.var.now.pieces c.loop-piece.piece-index x c.requires.pieces within is in
     omega (arith, piece.dimension, c.requires.indices)
-
-pub reading_set-requires-clause-inside : goal.reading_set-requires-clause-inside
-reading_set-requires-clause-inside c =
-    let s = view_system c.args.flat.now in
-    let v = view_variable c.args.var.now in
-    let x = c.piece-item.result in
-    let l : c.loop-piece.piece-index < length c.as_slice-piece-items.result.now = search rules in
-    let within : c.loop-piece.piece-index < length c.args.var.now.pieces = (let e = ap length c.as_slice-piece-items.ensures in omega (arith, e, l)) in
-    let is = subst (λ (xs : List PieceMade). x ≡ get_or xs c.loop-piece.piece-index x) c.as_slice-piece-items.ensures c.piece-item.is in
-    let piece = at_mapped (IsChainedPiece (signatures s) v) view_piece c.args.var.now.pieces c.loop-piece.piece-index x c.requires.pieces within is in
-    let inside = subst (λ (o : Option Bounds). IfSome o (λ extent. IsInside v.domain.dim extent v.domain)) c.in-Some.is c.in_ok-extent.ensures.inside in
-    piece_inside s v (view_piece x) c.in-Some.extent piece inside
 
 pub add_tree-requires-clause-fits : goal.add_tree-requires-clause-fits
 add_tree-requires-clause-fits c =

@@ -1,28 +1,15 @@
-use Rattle.std.proofs.Common.{◌≤◌, length, arith, sym}
+use Rattle.std.proofs.Common.{◌≤◌, length, arith, rules}
 use Rattle.av_flat.specs.Trees.{view_system}
 use Rattle.av_flat.specs.Nodes.{nodes}
 use Rattle.av_space.specs.Occupancy.{AreCells}
 use Rattle.av_space.proofs.Nodes.{places_number}
-use Rattle.av_space.proofs.Laid.{few_cycles, all_cells}
+use Rattle.av_space.proofs.Laid.{all_cells}
 use Rattle.av_space.proofs.laying.limit_cells.Goals as goal
-
-pub cell_count-requires-clause-ends : goal.cell_count-requires-clause-ends
-cell_count-requires-clause-ends c = few_cycles c.args.timed.now c.args.cycles c.requires.cycles c.requires.limit
 
 pub returns-then-count-gt-MOST_CELLS-clause-refused : goal.returns-then-count-gt-MOST_CELLS-clause-refused
 returns-then-count-gt-MOST_CELLS-clause-refused c =
-    let s = view_system c.args.timed.now.flat in
-    let k = c.in_ok-count.ensures.number in
-    let n = places_number s c.args.places.now c.requires.places in
-    let whole : length (nodes s) ≤ length c.args.places.now = omega (arith, n) in
-    let are : AreCells s c.args.placements.now k.cells = all_cells s c.args.placements.now (length c.args.places.now) k.cells whole k.are in
-    ((c.args.cycles, c.requires.cycles, c.requires.limit), (k.cells, record { placings = c.args.placements.now; are_placings = c.requires.placings; are_cells = are }, sym k.number), c.if-count-gt-MOST_CELLS.true)
-
-pub returns-clause-few : goal.returns-clause-few
-returns-clause-few c =
-    let s = view_system c.args.timed.now.flat in
-    let k = c.in_ok-count.ensures.number in
-    let n = places_number s c.args.places.now c.requires.places in
-    let whole : length (nodes s) ≤ length c.args.places.now = omega (arith, n) in
-    let number = k.number in
-    (k.cells, all_cells s c.args.placements.now (length c.args.places.now) k.cells whole k.are, omega (arith, number, c.if-count-gt-MOST_CELLS.false))
+    let s = view_system c.args._timed.now.flat in
+    let n = places_number s c.args._places.now c.requires.places in
+    let whole : length (nodes s) ≤ length c.args._places.now = omega (arith, n) in
+    let are : AreCells s c.args._placements.now c.args.cells.now = all_cells s c.args._placements.now (length c.args._places.now) c.args.cells.now whole c.requires.cells in
+    ((c.args._cycles, c.requires.cycles, c.requires.limit), (c.args.cells.now, record { placings = c.args._placements.now; are_placings = c.requires.placings; are_cells = are }, search rules), c.if-count-gt-MOST_CELLS.true)

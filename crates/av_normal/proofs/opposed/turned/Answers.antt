@@ -2,7 +2,7 @@ use Rattle.std.proofs.Common.{rules, ◌≡◌, ◌^◌, ◌∙◌, ℤ, pos, �
 use Rattle.std.proofs.lemmas.Int.{ints, fits_signed_from_abs}
 use Rattle.av_affine.proofs.Dots.{entry_most}
 use Rattle.av_poly.proofs.Parting.{five, negated}
-use Rattle.av_check.proofs.opposed.turned.Goals as goal
+use Rattle.av_normal.proofs.opposed.turned.Goals as goal
 
 pub returns : goal.returns
 returns c =

@@ -43,7 +43,7 @@ fn opposes_any(row: &Form, others: &[Form]) -> bool
 }
 
 /// Whether two of the rows cannot hold at once.
-pub(crate) fn are_contrary(rows: &[Form]) -> bool
+pub fn are_contrary(rows: &[Form]) -> bool
     requires { All IsSmall rows.now }
     ensures { IsTrue result → (z : Items ℤ) → Holds rows.now z → ⊥ }
 {

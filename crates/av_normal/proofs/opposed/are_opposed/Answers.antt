@@ -3,8 +3,8 @@ use Rattle.std.specs.Prelude.{int_lt}
 use Rattle.std.proofs.lemmas.Int.{ints, fits_signed_from_abs}
 use Rattle.std.proofs.lemmas.Slice.Eq.{slice_eq-Decides}
 use Rattle.std.proofs.lemmas.Bool.Decides.{Decides-int_eq}
-use Rattle.av_check.proofs.Opposing.{opposed}
-use Rattle.av_check.proofs.opposed.are_opposed.Goals as goal
+use Rattle.av_normal.proofs.Opposing.{opposed}
+use Rattle.av_normal.proofs.opposed.are_opposed.Goals as goal
 
 pub returns-then-eq : goal.returns-then-eq
 returns-then-eq c = λ t z h k.
