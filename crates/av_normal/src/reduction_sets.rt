@@ -112,10 +112,7 @@ pub(crate) fn has_reduction(tree: &Tree) -> bool
             no,
             ..
         } => {
-            has_reduction(left)
-                || has_reduction(right)
-                || has_reduction(yes)
-                || has_reduction(no)
+            has_reduction(left) || has_reduction(right) || has_reduction(yes) || has_reduction(no)
         }
         Tree::Reduce { .. } => true,
         Tree::Ref { .. }
