@@ -9,15 +9,11 @@ ghost use Rattle.av_flat.specs.Proper.{IsProper};
 ghost use Rattle.av_depend.specs.Edges.{AreEdgesOf};
 ghost use Rattle.av_depend.specs.Components.{ReadsNode, AreComponents};
 ghost use Rattle.av_sched.specs.Choices.{AreLinearParts, IsFeasible};
-ghost use Rattle.av_sched.specs.Parts.{AreAllParts};
-ghost use Rattle.av_sched.specs.Prices.{ArePricesTo, AreFloorsTo};
 ghost use Rattle.av_sched.specs.inner.FirstChoices.{IsBestChoice, IsSearchOutcome, HasNone};
 
-use crate::cost::{floors_of, prices_of};
-use crate::node::lists_of;
-use crate::pool::Room;
+use crate::choices::Choices;
 use crate::price::Price;
-use crate::walk::{Plan, walk};
+use crate::walk::Walk;
 use av_base::{List, Memory, Point};
 use av_depend::Edge;
 use av_flat::{Flat, Reach};
@@ -30,31 +26,6 @@ pub(crate) enum SearchOutcome {
     Found(Vec<Point>),
     // the number of the first component without a feasible choice
     Infeasible(usize),
-}
-
-/// What the walk through the choices of a component needs to know before.
-pub fn plan_of(alloc: Global, flat: &Flat, reach: Reach, component: &[u32]) -> Result<Plan, Memory>
-    requires chained { IsChained (view_system flat.now) }
-    requires within { All (λ n. n < length (nodes (view_system flat.now))) component.now }
-    ensures lists { IfOk result (λ plan. AreAllParts (view_system flat.now) reach.size component.now plan.lists) }
-    ensures prices { IfOk result (λ plan. ArePricesTo (view_system flat.now) component.now (length component.now) plan.lists plan.prices) }
-    ensures floors { IfOk result (λ plan. AreFloorsTo (view_system flat.now) reach.size component.now (length component.now) plan.floors.items) }
-{
-    let lists = lists_of(alloc, flat, reach, component)?;
-    let prices = prices_of(alloc, flat, reach, component, lists.as_slice())?;
-    let floors = floors_of(
-        alloc,
-        flat,
-        reach,
-        component,
-        lists.as_slice(),
-        prices.as_slice(),
-    )?;
-    Ok(Plan {
-        lists,
-        prices,
-        floors,
-    })
 }
 
 // The first feasible choice of a component, where it has one.
@@ -75,32 +46,10 @@ fn choose_one(
     ensures some { IfOk result (λ o. IfSome o (λ best. IsBestChoice (view_system flat.now) reach.size component.now linear.items best.items)) }
     ensures none { IfOk result (λ o. IfNone o (HasNone (view_system flat.now) reach.size component.now)) }
 {
-    let plan = plan_of(alloc, flat, reach, component)?;
-    let mut pool = Vec::new(alloc);
-    let mut room = Room {
-        arcs: Vec::new(alloc),
-        off: Vec::new(alloc),
-        old: Vec::new(alloc),
-    };
-    let mut linear = linear;
-    let found = walk(
-        alloc,
-        flat,
-        edges,
-        reach,
-        component,
-        &plan,
-        0,
-        Price { left: 0, size: 0 },
-        &mut linear,
-        &mut pool,
-        &mut room,
-        None,
-    )?;
-    match found {
-        None => Ok(None),
-        Some(best) => Ok(Some(best.parts)),
-    }
+    let choices = Choices::new(alloc, flat, edges, reach, component)?;
+    let mut walk = Walk::new(alloc, &choices, linear);
+    walk.cover(alloc, 0, Price { left: 0, size: 0 })?;
+    Ok(walk.into_best())
 }
 
 /// The first feasible choices of all components, from any linear parts on.

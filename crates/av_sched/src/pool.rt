@@ -1,22 +1,15 @@
 //! Witnesses: listed points of edges inside the component, by which most choices are seen not to be feasible.
 
-ghost use Rattle.std.specs.Prelude.{◌≡◌, ◌<◌, length, All, Contains, IfOk, IfSome, IsTrue, slice_index_or};
-ghost use Rattle.av_flat.specs.Trees.{view_system};
-ghost use Rattle.av_flat.specs.Chained.{IsChained};
-ghost use Rattle.av_flat.specs.Proper.{IsProper};
-ghost use Rattle.av_depend.specs.Edges.{AreEdgesOf};
+ghost use Rattle.std.specs.Prelude.{◌≡◌, ◌<◌, length, All, Contains, IfOk, IfSome, slice_index_or};
 ghost use Rattle.av_sched.specs.Leads.{IsUsable};
-ghost use Rattle.av_sched.specs.Choices.{AreLinearParts};
 ghost use Rattle.av_sched.specs.Places.{IsPlace, IsUsablePlace, IsArcAt, IsWitnessAt};
-ghost use Rattle.av_sched.specs.inner.Walk.{IsForbidden};
 
-use crate::arc::{Arc, settles};
+use crate::arc::Arc;
 use crate::lead::{lead_at, products};
 use crate::place::Place;
 use crate::placing::arcs_of;
 use av_base::{Memory, Point};
 use av_depend::Edge;
-use av_flat::{Flat, Reach};
 use std::alloc::Global;
 
 /// Memory that the tests use again and again.
@@ -67,29 +60,6 @@ pub fn witness_arcs(
         arcs.push(arc_at(component, linear, place))?;
     }
     Ok(())
-}
-
-/// Whether the witnesses forbid the parts of the first nodes.
-pub(crate) fn is_forbidden(
-    _flat: &Flat,
-    edges: &[Edge],
-    _reach: Reach,
-    component: &[u32],
-    level: usize,
-    linear: &[Point],
-    pool: &[Place],
-    room: &mut Room,
-) -> Result<bool, Memory>
-    requires chained { IsChained (view_system _flat.now) }
-    requires proper { IsProper (view_system _flat.now) }
-    requires edges { AreEdgesOf (view_system _flat.now) edges.now }
-    requires linear { AreLinearParts (view_system _flat.now) _reach.size linear.now }
-    requires pool { All (IsPlace edges.now component.now) pool.now }
-    ensures { IfOk result (λ b. IsTrue b → IsForbidden (view_system _flat.now) component.now level linear.now) }
-{
-    witness_arcs(edges, component, level, linear, pool, &mut room.arcs)?;
-    let settled = settles(&room.arcs, &mut room.off, &mut room.old, level)?;
-    Ok(!settled)
 }
 
 // The place of a node in the component.
@@ -193,7 +163,7 @@ pub(crate) fn learn(
 ) -> Result<(), Memory>
     requires usable { All (IsUsable linear.now) edges.now }
     requires pool { All (IsPlace edges.now component.now) pool.old.items }
-    ensures { IfOk result (λ done. All (IsPlace edges.now component.now) pool.new.items) }
+    ensures { All (IsPlace edges.now component.now) pool.new.items }
 {
     let arcs = arcs_of(alloc, edges, linear)?;
     for k in 0..edges.len() {

@@ -13,9 +13,9 @@ prices_at-requires-clause-directions c =
     let component = c.args.component.now in
     let k = c.loop-k.k in
     let l : k < length component = c.loop-k-test.true in
-    let are = parts_at s c.args._reach.size component c.args.lists.now k c.index-lists-k.result c.as_slice-in-loop-k.result.now c.requires.lists l c.index-lists-k.is c.as_slice-in-loop-k.ensures in
+    let are = parts_at s c.requires.lists.0 component c.args.lists.now k c.index-lists-k.result c.as_slice-in-loop-k.result.now c.requires.lists.2 l c.index-lists-k.is c.as_slice-in-loop-k.ensures in
     let within : get_or component k 0 < length (nodes s) = c.requires.within k 0 l in
-    directions_fit s c.args._reach.size (get_or component k 0) c.as_slice-in-loop-k.result.now c.as_slice.result.now c.requires.chained within are (c.as_slice.ensures ∙ c.in_ok-ways.ensures)
+    directions_fit s c.requires.lists.0 (get_or component k 0) c.as_slice-in-loop-k.result.now c.as_slice.result.now c.requires.chained within are (c.as_slice.ensures ∙ c.in_ok-ways.ensures)
 
 pub loop-k-preserved : goal.loop-k-preserved
 loop-k-preserved c =
@@ -23,6 +23,6 @@ loop-k-preserved c =
     let component = c.args.component.now in
     let k = c.loop-k.k in
     let l : k < length component = c.loop-k-test.true in
-    let own = subst (λ (xs : List Point). ArePricesAt s (get_or component k 0) xs c.in_ok-prices_at.field-0) c.as_slice-in-loop-k.ensures c.in_ok-prices_at.ensures in
+    let own = subst (λ (xs : List Point). ArePricesAt s (get_or component k 0) xs c.in_ok-prices_at.field-0) c.as_slice-in-loop-k.ensures (c.in_ok-prices_at.ensures s (get_or component k 0) (c.as_slice.ensures ∙ c.in_ok-ways.ensures)) in
     subst (ArePricesTo s component (k + 1) c.args.lists.now) (sym c.in_ok-push.ensures.ok)
-    (lists_priced s component k c.args.lists.now c.loop-k.prices c.index-lists-k.result c.in_ok-prices_at.field-0 l c.requires.lists.one_each c.index-lists-k.is own c.loop-k.invariant)
+    (lists_priced s component k c.args.lists.now c.loop-k.prices c.index-lists-k.result c.in_ok-prices_at.field-0 l c.requires.lists.2.one_each c.index-lists-k.is own c.loop-k.invariant)

@@ -1,0 +1,159 @@
+-- One level of a walk: the parts of one node are tried in turn, and the walk goes on behind each of them.
+use Rattle.std.proofs.Common.{◌≡◌, ℕ, suc, ◌+◌, ◌<◌, Some, None, Option, List, [], ◌∷◌, ◌++◌, length, refl, sym, ap, subst, ◌∙◌, arith, All, add-one, take}
+use Rattle.std.proofs.lemmas.List.{set-get_or}
+use Rattle.std.specs.Prelude.{Contains, slice_set}
+use Rattle.av_tree.specs.Points.{Point}
+use Rattle.av_flat.specs.Nodes.{nodes}
+use Rattle.av_sched.specs.Offsets.{part}
+use Rattle.av_sched.specs.Choices.{AreLinearParts}
+use Rattle.av_sched.specs.Prices.{IsSpent, IsPriceAt}
+use Rattle.av_sched.specs.declared.price.Price.{Price}
+use Rattle.av_sched.specs.Parts.{Agrees, AreParts}
+use Rattle.av_sched.specs.inner.Walk.{IsSound, IsBarred, HasWalked, HasTried, IsLike}
+use Rattle.av_sched.specs.inner.Walks.{Choices, Walk, system_of, node_at, with_part, IsInSystem, IsChoice, IsFeasibleChoice, IsForbiddenChoice, IsPartAt, IsBetter, HasSpent, HasCovered}
+use Rattle.av_sched.specs.inner.FirstChoices.{IsBestChoice, HasNone}
+use Rattle.av_sched.proofs.Choosing.{best_of_walk, none_of_walk}
+use Rattle.av_sched.proofs.Pricing.{spent_next}
+use Rattle.av_sched.proofs.Steps.{set_set, like_set, at_level, node_within, before_apart, set_valid}
+use Rattle.av_sched.proofs.Tries.{leaf_new, leaf_kept, leaf_barred, tried_none, tried_more, tried_all, leads_on}
+use Rattle.av_sched.proofs.Walking.{nothing_there}
+use Rattle.av_base.proofs.Lists.{there_is, take_whole}
+
+-- in the loop over the parts of the node at level k
+pub record IsCovering (start : Walk) (k : ℕ) (tried : List Point) (now : Walk) : Type 0 where
+  pub choices : now.choices ≡ start.choices
+  pub back : slice_set now.linear (node_at start.choices k) (part start.linear (node_at start.choices k)) ≡ start.linear
+  pub done : HasTried (system_of start.choices) start.choices.size start.choices.component k start.linear tried start.best now.best
+
+-- ---- whole walks
+
+-- nothing is to be found
+pub nothing_more : (w : Walk) (k : ℕ) → IsSound (system_of w.choices) w.choices.size w.choices.component w.best
+    → IsBarred (system_of w.choices) w.choices.size w.choices.component k w.linear w.best → HasCovered w k w
+nothing_more w k sound barred = record { choices = refl; linear = refl; best = nothing_there (system_of w.choices) w.choices.size w.choices.component k w.linear w.best sound barred }
+
+pub forbidden_there : (w : Walk) (k : ℕ) → IsSound (system_of w.choices) w.choices.size w.choices.component w.best → IsForbiddenChoice w.choices k w.linear → HasCovered w k w
+forbidden_there w k sound h = nothing_more w k sound (λ other are agrees f. absurd (h other agrees f))
+
+-- what the walk over the whole box gives
+pub best_of_cover : (start end : Walk) (best : List Point) → IsInSystem start.choices → HasCovered start 0 end → start.best ≡ None → end.best ≡ Some best
+    → IsLike end.choices.component end.linear end.best → IsBestChoice (system_of start.choices) start.choices.size start.choices.component start.linear best
+best_of_cover start end best known h none some like =
+    let d = start.choices in
+    let walked = subst (λ (o : Option (List Point)). HasWalked (system_of d) d.size d.component 0 start.linear o (Some best)) none (subst (λ (o : Option (List Point)). HasWalked (system_of d) d.size d.component 0 start.linear start.best o) some h.best) in
+    let own = subst (λ (o : Option (List Point)). IsLike end.choices.component end.linear o) some like in
+    let here = subst (λ (xs : List Point). IsLike end.choices.component xs (Some best)) h.linear own in
+    best_of_walk (system_of d) d.size d.component start.linear best known.within walked (subst (λ (e : Choices). IsLike e.component start.linear (Some best)) h.choices here)
+
+pub none_of_cover : (start end : Walk) → IsInSystem start.choices → HasCovered start 0 end → start.best ≡ None → end.best ≡ None
+    → HasNone (system_of start.choices) start.choices.size start.choices.component
+none_of_cover start end known h none still =
+    let d = start.choices in
+    let walked = subst (λ (o : Option (List Point)). HasWalked (system_of d) d.size d.component 0 start.linear o None) none (subst (λ (o : Option (List Point)). HasWalked (system_of d) d.size d.component 0 start.linear start.best o) still h.best) in
+    none_of_walk (system_of d) d.size d.component start.linear known.within walked
+
+-- ---- all parts chosen
+
+module _ (w : Walk) (known : IsInSystem w.choices) (sound : IsSound (system_of w.choices) w.choices.size w.choices.component w.best) where
+  pub leaf_behind : (IsBetter w → ⊥) → HasCovered w (length w.choices.component) w
+  leaf_behind behind = record { choices = refl; linear = refl; best = leaf_kept (system_of w.choices) w.choices.size w.choices.component known.within w.linear w.best sound behind }
+
+  pub leaf_infeasible : (IsFeasibleChoice w.choices w.linear → ⊥) → HasCovered w (length w.choices.component) w
+  leaf_infeasible barred = record { choices = refl; linear = refl; best = leaf_barred (system_of w.choices) w.choices.size w.choices.component known.within w.linear w.best sound barred }
+
+  pub leaf_best : (best : List Point) → IsChoice w.choices w.linear → IsBetter w → IsFeasibleChoice w.choices w.linear → best ≡ w.linear
+      → HasCovered w (length w.choices.component) (record { choices = w.choices; linear = w.linear; best = Some best })
+  leaf_best best are ahead feasible same = subst (λ (b : List Point). HasCovered w (length w.choices.component) (record { choices = w.choices; linear = w.linear; best = Some b })) (sym same) (record {
+    choices = refl;
+    linear = refl;
+    best = leaf_new (system_of w.choices) w.choices.size w.choices.component known.within w.linear w.best are sound ahead feasible;
+  })
+
+pub whole_spent : (w : Walk) (p : Price) → HasSpent w (length w.choices.component) p → IsSpent (system_of w.choices) w.linear w.choices.component p
+whole_spent w p h = subst (λ (ns : List ℕ). IsSpent (system_of w.choices) w.linear ns p) (take_whole w.choices.component (length w.choices.component) (omega arith)) h
+
+pub within_linear : (d : Choices) (linear : List Point) → IsInSystem d → IsChoice d linear → All (λ n. n < length linear) d.component
+within_linear d linear known are = subst (λ (m : ℕ). All (λ n. n < m) d.component) (sym are.one_each) known.within
+
+-- ---- a part put at a node
+
+module _ (d : Choices) (k n : ℕ) (v p : Point) (fits : k < length d.component) (known : IsInSystem d) (at : n ≡ node_at d k) (same : v ≡ p) where
+  pub put_valid : (linear : List Point) → IsPartAt d k p → IsChoice d linear → IsChoice d (slice_set linear n v)
+  put_valid linear own are = subst (λ (m : ℕ). IsChoice d (slice_set linear m v)) (sym at)
+      (subst (λ (a : Point). IsChoice d (slice_set linear (node_at d k) a)) (sym same) (set_valid (system_of d) d.size d.component known.within known.apart k fits linear p own are))
+
+  pub put_like : (linear : List Point) (best : Option (List Point)) → IsLike d.component linear best → IsLike d.component (slice_set linear n v) best
+  put_like linear best h = like_set d.component linear n v best (subst (Contains d.component) (sym at) (at_level d.component k fits)) h
+
+  pub put_is : (linear : List Point) (best : Option (List Point)) (old : Walk)
+      → ◌≡◌ {A = Walk} (record { choices = d; linear = linear; best = best }) old → ◌≡◌ {A = Walk} (record { choices = d; linear = slice_set linear n v; best = best }) (with_part old k p)
+  put_is linear best old is =
+      ap (λ (m : ℕ). record { choices = d; linear = slice_set linear m v; best = best }) at
+      ∙ ap (λ (a : Point). record { choices = d; linear = slice_set linear (node_at d k) a; best = best }) same
+      ∙ ap (λ (w : Walk). with_part w k p) is
+
+-- ---- one level
+
+module _ (start : Walk) (k : ℕ) (fits : k < length start.choices.component) (known : IsInSystem start.choices) where
+  pub covering_start : IsSound (system_of start.choices) start.choices.size start.choices.component start.best → IsCovering start k [] start
+  covering_start sound = record {
+    choices = refl;
+    back = set-get_or start.linear (node_at start.choices k) [];
+    done = tried_none (system_of start.choices) start.choices.size start.choices.component known.within k start.linear start.best sound;
+  }
+
+  -- another part put at the node stands as if it were put at the start
+  pub covering_put : (tried : List Point) (now : Walk) (v : Point) → IsCovering start k tried now
+      → slice_set start.linear (node_at start.choices k) v ≡ slice_set now.linear (node_at start.choices k) v
+  covering_put tried now v h =
+      let n = node_at start.choices k in
+      ap (λ xs. slice_set xs n v) (sym h.back) ∙ set_set now.linear n (part start.linear n) v
+
+  -- one part more
+  pub covering_more : (tried : List Point) (now mid new : Walk) (v : Point) → AreLinearParts (system_of start.choices) start.choices.size start.linear → IsCovering start k tried now → mid ≡ with_part now k v → HasCovered mid (k + 1) new
+      → IsCovering start k (tried ++ v ∷ []) new
+  covering_more tried now mid new v valid h is covered =
+      let d = start.choices in
+      let n = node_at d k in
+      let p = part start.linear n in
+      let next = slice_set now.linear n v in
+      let r : HasCovered (with_part now k v) (k + 1) new = subst (λ (w : Walk). HasCovered w (k + 1) new) is covered in
+      let walked : HasWalked (system_of d) d.size d.component (k + 1) next now.best new.best
+      = subst (λ (e : Choices). HasWalked (system_of e) e.size e.component (k + 1) (slice_set now.linear (node_at e k) v) now.best new.best) h.choices r.best in
+      let walked' = subst (λ (j : ℕ). HasWalked (system_of d) d.size d.component j next now.best new.best) (add-one k) walked in
+      let stands : new.linear ≡ next = r.linear ∙ ap (λ (e : Choices). slice_set now.linear (node_at e k) v) h.choices in
+      let l : n < length start.linear = (let a = valid.one_each in let b = node_within (system_of d) d.size d.component known.within known.apart k fits in omega (arith, a, b)) in
+      record {
+        choices = r.choices ∙ h.choices;
+        back = ap (λ xs. slice_set xs n p) stands ∙ set_set now.linear n v p ∙ h.back;
+        done = tried_more (system_of d) d.size d.component known.within k start.linear next tried v start.best now.best new.best
+            (λ other agrees e. subst (λ (xs : List Point). Agrees d.component (suc k) xs other) (covering_put tried now v h)
+            (leads_on (system_of d) d.size d.component known.within k start.linear other v l (before_apart (system_of d) d.size d.component known.within known.apart k fits) agrees e))
+            h.done walked';
+      }
+
+  -- after all parts, with the old one put back
+  pub covering_done : (parts : List Point) (now new : Walk) (v : Point) → AreParts (system_of start.choices) start.choices.size (node_at start.choices k) parts → IsCovering start k parts now
+      → v ≡ part start.linear (node_at start.choices k) → new ≡ with_part now k v → HasCovered start k new
+  covering_done parts now new v all h same is =
+      let d = start.choices in
+      let n = node_at d k in
+      let whole : HasWalked (system_of d) d.size d.component k start.linear start.best now.best
+      = tried_all (system_of d) d.size d.component known.within k start.linear parts start.best now.best
+          (λ other are agrees f. let e = there_is (nodes (system_of d)) n (node_within (system_of d) d.size d.component known.within known.apart k fits) in all.all e.0 e.1 (part other n) (are.each n e.0 e.1))
+          h.done in
+      subst (λ (w : Walk). HasCovered start k w) (sym is) (record {
+        choices = h.choices;
+        linear = ap (λ (e : Choices). slice_set now.linear (node_at e k) v) h.choices ∙ ap (λ (p : Point). slice_set now.linear n p) same ∙ h.back;
+        best = whole;
+      })
+
+  -- what was spent with that part
+  pub spent_put : (tried : List Point) (now : Walk) (v : Point) (spent own next : Price) → IsChoice start.choices start.linear → IsCovering start k tried now → HasSpent start k spent
+      → IsPriceAt (system_of start.choices) (node_at start.choices k) v own → next.left ≡ spent.left + own.left → next.size ≡ spent.size + own.size → HasSpent (with_part now k v) (k + 1) next
+  spent_put tried now v spent own next valid h before price left size =
+      let d = start.choices in
+      let n = node_at d k in
+      let l : n < length start.linear = (let a = valid.one_each in let b = node_within (system_of d) d.size d.component known.within known.apart k fits in omega (arith, a, b)) in
+      subst (λ (e : Choices). IsSpent (system_of e) (slice_set now.linear (node_at e k) v) (take (k + 1) e.component) next) (sym h.choices)
+      (spent_next (system_of d) d.component k start.linear (slice_set now.linear n v) v spent own next fits l (before_apart (system_of d) d.size d.component known.within known.apart k fits) (covering_put tried now v h) before price left size)

@@ -1,0 +1,38 @@
+use Rattle.std.proofs.Common.{rules, ◌∙◌, sym, subst, Some, length, List, All}
+use Rattle.std.proofs.lemmas.Result.{on_ok_weaker}
+use Rattle.av_tree.specs.Points.{Point}
+use Rattle.av_sched.specs.inner.Walk.{known}
+use Rattle.av_sched.specs.inner.Walks.{Walk, IsChoice, IsFeasibleChoice, IsBetter, HasCovered}
+use Rattle.av_sched.specs.inner.WalkInside.{walk_of}
+use Rattle.av_sched.proofs.Covering.{leaf_behind, leaf_infeasible, leaf_best}
+use Rattle.av_sched.proofs.walk.Walk.leaf.Goals as goal
+
+pub returns-then-not-branch : goal.returns-then-not-branch
+returns-then-not-branch c =
+    subst (λ (v : Walk). HasCovered v (length v.choices.component) v) c.self.view_is
+    (leaf_behind (walk_of c.self.inside) c.self.invariant.fits c.self.invariant.sound
+    (λ ahead. let t = c.in_ok-is_better.ensures.1 (subst IsBetter c.self.view_is ahead) in let f = c.if-not-branch.true in cc))
+
+pub is_feasible-requires : goal.is_feasible-requires
+is_feasible-requires c = subst (λ (xs : List Point). IsChoice c.self.inside.choices.now xs) (sym c.deref.ensures.value) c.self.invariant.valid
+
+pub returns-then-branch : goal.returns-then-branch
+returns-then-branch c =
+    let w = c.self.inside in
+    let d = w.choices.now in
+    let ahead = subst IsBetter (sym c.self.view_is) (c.in_ok-is_better.ensures.0 (search rules)) in
+    let feasible = subst (λ (xs : List Point). IsFeasibleChoice d xs) c.deref.ensures.value (c.in_ok-is_feasible.ensures.0 (search rules)) in
+    let best = c.in_ok-copy_points.field-0.items in
+    subst (λ (v : Walk). HasCovered v (length v.choices.component) (record { choices = d; linear = w.linear.items; best = Some best })) c.self.view_is
+    (leaf_best (walk_of w) c.self.invariant.fits c.self.invariant.sound best c.self.invariant.valid ahead feasible (c.in_ok-copy_points.ensures ∙ c.deref-then-branch.ensures.value))
+
+pub returns : goal.returns
+returns c =
+    let w = c.self.inside in
+    let covered = subst (λ (v : Walk). HasCovered v (length v.choices.component) (walk_of w)) c.self.view_is
+    (leaf_infeasible (walk_of w) c.self.invariant.fits c.self.invariant.sound
+    (λ feasible. let t = c.in_ok-is_feasible.ensures.1 (subst (λ (xs : List Point). IsFeasibleChoice w.choices.now xs) (sym c.deref.ensures.value) feasible) in let f = c.if-branch.false in cc)) in
+    search (rules, covered)
+
+pub learn-requires-clause-linear : goal.learn-requires-clause-linear
+learn-requires-clause-linear c = subst (λ (xs : List Point). IsChoice c.self.inside.choices.now xs) (sym c.deref-2.ensures.value) c.self.invariant.valid
