@@ -1,5 +1,5 @@
 -- One level of a walk: the parts of one node are tried in turn, and the walk goes on behind each of them.
-use Rattle.std.proofs.Common.{◌≡◌, ℕ, suc, ◌+◌, ◌<◌, Some, None, Option, List, [], ◌∷◌, ◌++◌, length, refl, sym, ap, subst, ◌∙◌, arith, All, add-one, take}
+use Rattle.std.proofs.Common.{◌≡◌, ℕ, suc, ◌+◌, ◌<◌, ◌≤◌, get_or, Some, None, Option, List, [], ◌∷◌, ◌++◌, length, refl, sym, ap, subst, ◌∙◌, arith, All, add-one, take}
 use Rattle.std.proofs.lemmas.List.{set-get_or}
 use Rattle.std.specs.Prelude.{Contains, slice_set}
 use Rattle.av_tree.specs.Points.{Point}
@@ -10,14 +10,14 @@ use Rattle.av_sched.specs.Prices.{IsSpent, IsPriceAt}
 use Rattle.av_sched.specs.declared.price.Price.{Price}
 use Rattle.av_sched.specs.Parts.{Agrees, AreParts}
 use Rattle.av_sched.specs.inner.Walk.{IsSound, IsBarred, HasWalked, HasTried, IsLike}
-use Rattle.av_sched.specs.inner.Walks.{Choices, Walk, system_of, node_at, with_part, IsInSystem, IsChoice, IsFeasibleChoice, IsForbiddenChoice, IsPartAt, IsBetter, HasSpent, HasCovered}
+use Rattle.av_sched.specs.inner.Walks.{Choices, Walk, walk_at, system_of, node_at, with_part, IsInSystem, IsChoice, IsFeasibleChoice, IsForbiddenChoice, IsPartAt, ArePricesOf, IsBetter, HasSpent, HasCovered}
 use Rattle.av_sched.specs.inner.FirstChoices.{IsBestChoice, HasNone}
 use Rattle.av_sched.proofs.Choosing.{best_of_walk, none_of_walk}
-use Rattle.av_sched.proofs.Pricing.{spent_next}
+use Rattle.av_sched.proofs.Pricing.{spent_next, price_there}
 use Rattle.av_sched.proofs.Steps.{set_set, like_set, at_level, node_within, before_apart, set_valid}
 use Rattle.av_sched.proofs.Tries.{leaf_new, leaf_kept, leaf_barred, tried_none, tried_more, tried_all, leads_on}
 use Rattle.av_sched.proofs.Walking.{nothing_there}
-use Rattle.av_base.proofs.Lists.{there_is, take_whole}
+use Rattle.av_base.proofs.Lists.{same_default, there_is, take_whole}
 
 -- in the loop over the parts of the node at level k
 pub record IsCovering (start : Walk) (k : ℕ) (tried : List Point) (now : Walk) : Type 0 where
@@ -62,8 +62,8 @@ module _ (w : Walk) (known : IsInSystem w.choices) (sound : IsSound (system_of w
   leaf_infeasible barred = record { choices = refl; linear = refl; best = leaf_barred (system_of w.choices) w.choices.size w.choices.component known.within w.linear w.best sound barred }
 
   pub leaf_best : (best : List Point) → IsChoice w.choices w.linear → IsBetter w → IsFeasibleChoice w.choices w.linear → best ≡ w.linear
-      → HasCovered w (length w.choices.component) (record { choices = w.choices; linear = w.linear; best = Some best })
-  leaf_best best are ahead feasible same = subst (λ (b : List Point). HasCovered w (length w.choices.component) (record { choices = w.choices; linear = w.linear; best = Some b })) (sym same) (record {
+      → HasCovered w (length w.choices.component) (walk_at w.choices w.linear (Some best))
+  leaf_best best are ahead feasible same = subst (λ (b : List Point). HasCovered w (length w.choices.component) (walk_at w.choices w.linear (Some b))) (sym same) (record {
     choices = refl;
     linear = refl;
     best = leaf_new (system_of w.choices) w.choices.size w.choices.component known.within w.linear w.best are sound ahead feasible;
@@ -74,6 +74,10 @@ whole_spent w p h = subst (λ (ns : List ℕ). IsSpent (system_of w.choices) w.l
 
 pub within_linear : (d : Choices) (linear : List Point) → IsInSystem d → IsChoice d linear → All (λ n. n < length linear) d.component
 within_linear d linear known are = subst (λ (m : ℕ). All (λ n. n < m) d.component) (sym are.one_each) known.within
+
+-- what a part that is tried costs
+pub price_of : (d : Choices) (k : ℕ) (parts : List Point) (prices : List Price) (i : ℕ) (a : Point) (p : Price) → ArePricesOf d k parts prices → i < length parts → a ≡ get_or parts i a → IsPriceAt (system_of d) (node_at d k) a (get_or prices i p)
+price_of d k parts prices i a p h l is = price_there (system_of d) (node_at d k) parts parts prices prices i a a h refl refl l is refl p
 
 -- ---- a part put at a node
 
@@ -86,11 +90,9 @@ module _ (d : Choices) (k n : ℕ) (v p : Point) (fits : k < length d.component)
   put_like linear best h = like_set d.component linear n v best (subst (Contains d.component) (sym at) (at_level d.component k fits)) h
 
   pub put_is : (linear : List Point) (best : Option (List Point)) (old : Walk)
-      → ◌≡◌ {A = Walk} (record { choices = d; linear = linear; best = best }) old → ◌≡◌ {A = Walk} (record { choices = d; linear = slice_set linear n v; best = best }) (with_part old k p)
+      → walk_at d linear best ≡ old → walk_at d (slice_set linear n v) best ≡ with_part old k p
   put_is linear best old is =
-      ap (λ (m : ℕ). record { choices = d; linear = slice_set linear m v; best = best }) at
-      ∙ ap (λ (a : Point). record { choices = d; linear = slice_set linear (node_at d k) a; best = best }) same
-      ∙ ap (λ (w : Walk). with_part w k p) is
+      ap (λ (m : ℕ). walk_at d (slice_set linear m v) best) at ∙ ap (λ (a : Point). walk_at d (slice_set linear (node_at d k) a) best) same ∙ ap (λ (w : Walk). with_part w k p) is
 
 -- ---- one level
 
@@ -101,6 +103,17 @@ module _ (start : Walk) (k : ℕ) (fits : k < length start.choices.component) (k
     back = set-get_or start.linear (node_at start.choices k) [];
     done = tried_none (system_of start.choices) start.choices.size start.choices.component known.within k start.linear start.best sound;
   }
+
+  -- the part that stands at the node can stand there
+  pub part_there : IsChoice start.choices start.linear → IsPartAt start.choices k (part start.linear (node_at start.choices k))
+  part_there valid x e = valid.each (node_at start.choices k) x e
+
+  -- and the copy of it, as the code takes it
+  pub part_before : IsChoice start.choices start.linear → (linear : List Point) (n : ℕ) (a v : Point) → linear ≡ start.linear → n ≡ node_at start.choices k → a ≡ get_or linear n a → v ≡ a → v ≡ part start.linear (node_at start.choices k)
+  part_before valid linear n a v is at here same =
+      let d = start.choices in
+      let l : node_at d k < length start.linear = (let b = valid.one_each in let e = node_within (system_of d) d.size d.component known.within known.apart k fits in omega (arith, b, e)) in
+      same ∙ here ∙ ap (λ (xs : List Point). get_or xs n a) is ∙ ap (λ (m : ℕ). get_or start.linear m a) at ∙ same_default start.linear (node_at d k) a [] l
 
   -- another part put at the node stands as if it were put at the start
   pub covering_put : (tried : List Point) (now : Walk) (v : Point) → IsCovering start k tried now
@@ -118,8 +131,8 @@ module _ (start : Walk) (k : ℕ) (fits : k < length start.choices.component) (k
       let p = part start.linear n in
       let next = slice_set now.linear n v in
       let r : HasCovered (with_part now k v) (k + 1) new = subst (λ (w : Walk). HasCovered w (k + 1) new) is covered in
-      let walked : HasWalked (system_of d) d.size d.component (k + 1) next now.best new.best
-      = subst (λ (e : Choices). HasWalked (system_of e) e.size e.component (k + 1) (slice_set now.linear (node_at e k) v) now.best new.best) h.choices r.best in
+      let walked : HasWalked (system_of d) d.size d.component (k + 1) next now.best new.best =
+      subst (λ (e : Choices). HasWalked (system_of e) e.size e.component (k + 1) (slice_set now.linear (node_at e k) v) now.best new.best) h.choices r.best in
       let walked' = subst (λ (j : ℕ). HasWalked (system_of d) d.size d.component j next now.best new.best) (add-one k) walked in
       let stands : new.linear ≡ next = r.linear ∙ ap (λ (e : Choices). slice_set now.linear (node_at e k) v) h.choices in
       let l : n < length start.linear = (let a = valid.one_each in let b = node_within (system_of d) d.size d.component known.within known.apart k fits in omega (arith, a, b)) in
@@ -138,10 +151,10 @@ module _ (start : Walk) (k : ℕ) (fits : k < length start.choices.component) (k
   covering_done parts now new v all h same is =
       let d = start.choices in
       let n = node_at d k in
-      let whole : HasWalked (system_of d) d.size d.component k start.linear start.best now.best
-      = tried_all (system_of d) d.size d.component known.within k start.linear parts start.best now.best
-          (λ other are agrees f. let e = there_is (nodes (system_of d)) n (node_within (system_of d) d.size d.component known.within known.apart k fits) in all.all e.0 e.1 (part other n) (are.each n e.0 e.1))
-          h.done in
+      let whole : HasWalked (system_of d) d.size d.component k start.linear start.best now.best =
+      tried_all (system_of d) d.size d.component known.within k start.linear parts start.best now.best
+      (λ other are agrees f. let e = there_is (nodes (system_of d)) n (node_within (system_of d) d.size d.component known.within known.apart k fits) in all.all e.0 e.1 (part other n) (are.each n e.0 e.1))
+      h.done in
       subst (λ (w : Walk). HasCovered start k w) (sym is) (record {
         choices = h.choices;
         linear = ap (λ (e : Choices). slice_set now.linear (node_at e k) v) h.choices ∙ ap (λ (p : Point). slice_set now.linear n p) same ∙ h.back;

@@ -135,7 +135,14 @@ impl<'a> Choices<'a> {
         requires pool { All (IsPlace self.now.edges self.now.component) pool.now }
         ensures { IfOk result (λ b. IsTrue b → IsForbiddenChoice self.now level linear.now) }
     {
-        witness_arcs(self.edges, self.component, level, linear, pool, &mut room.arcs)?;
+        witness_arcs(
+            self.edges,
+            self.component,
+            level,
+            linear,
+            pool,
+            &mut room.arcs,
+        )?;
         let settled = settles(&room.arcs, &mut room.off, &mut room.old, level)?;
         Ok(!settled)
     }

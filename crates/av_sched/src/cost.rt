@@ -11,10 +11,9 @@ ghost use Rattle.av_flat.specs.Chained.{IsChained};
 ghost use Rattle.av_flat.specs.Broadcasts.{references};
 ghost use Rattle.av_sched.specs.Offsets.{part};
 ghost use Rattle.av_sched.specs.Order.{entry_rank, references_of};
-ghost use Rattle.av_sched.specs.inner.Ways.{HasSmallReferences, IsSmallDirection, ways_of, still_among};
+ghost use Rattle.av_sched.specs.inner.Ways.{HasSmallReferences, ways_of, still_among};
 ghost use Rattle.av_sched.specs.Prices.{ArePricesAt, ArePricesTo, AreFloorsTo};
 ghost use Rattle.av_sched.specs.inner.Walk.{AreAllPriced};
-ghost use Rattle.av_sched.specs.Parts.{AreAllParts};
 
 use crate::direction::{along_of, moves_some};
 use crate::node::place_of;
@@ -141,7 +140,7 @@ fn ways_of_node(alloc: Global, flat: &Flat, node: usize) -> Result<List<List<Poi
 // How many of the broadcasts the linear part does not move.
 fn still_of(ways: &[List<Point>], part: &Point) -> u64
     requires part { AtMost 4 part.now }
-    requires ways { All (All (IsSmallDirection (length part.now))) ways.now }
+    requires ways { All (All (AtMost 1)) ways.now }
     ensures { result ≡ still_among ways.now part.now }
 {
     let mut count: u64 = 0;
@@ -156,7 +155,7 @@ fn still_of(ways: &[List<Point>], part: &Point) -> u64
 // What each of the linear parts costs at a node with these broadcasts.
 fn prices_at(alloc: Global, ways: &[List<Point>], parts: &[Point]) -> Result<List<Price>, Memory>
     requires small { All (AtMost 4) parts.now }
-    requires directions { All (λ part. All (All (IsSmallDirection (length part))) ways.now) parts.now }
+    requires ways { All (All (AtMost 1)) ways.now }
     ensures { IfOk result (λ prices. (s : FlatSystem) (node : ℕ) → ways.now ≡ ways_of (references_of (slice_get (nodes s) node))
         → ArePricesAt s node parts.now prices) }
 {
@@ -179,7 +178,8 @@ pub(crate) fn prices_of(
 ) -> Result<List<List<Price>>, Memory>
     requires chained { IsChained (view_system flat.now) }
     requires within { All (λ n. n < length (nodes (view_system flat.now))) component.now }
-    requires lists { (size : ℕ) × (size ≤ 4) × AreAllParts (view_system flat.now) size component.now lists.now }
+    requires lists { length lists.now ≡ length component.now }
+    requires small { All (All (AtMost 4)) lists.now }
     ensures { IfOk result (ArePricesTo (view_system flat.now) component.now (length component.now) lists.now) }
 {
     let mut prices = List::new(alloc);

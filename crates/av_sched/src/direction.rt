@@ -6,7 +6,6 @@ ghost use Rattle.std.specs.Ordering.{int_eq};
 ghost use Rattle.av_affine.specs.Forms.{IsWithinLimits};
 ghost use Rattle.av_affine.specs.Numbers.{AtMost, dot};
 ghost use Rattle.av_flat.specs.Broadcasts.{lists_of, directions, along, is_zero, stays, moves};
-ghost use Rattle.av_sched.specs.inner.Ways.{IsSmallDirection};
 
 use crate::vector::prepend_all;
 use av_affine::{Form, Map, dot};
@@ -102,7 +101,7 @@ pub(crate) fn along_of(alloc: Global, map: &Map) -> Result<List<Point>, Memory>
 // Whether the linear part goes up along the direction.
 fn moves(linear: &Point, way: &Point) -> bool
     requires linear { AtMost 4 linear.now }
-    requires way { IsSmallDirection (length linear.now) way.now }
+    requires way { AtMost 1 way.now }
     ensures { result ≡ moves linear.now way.now }
 {
     dot(linear.as_slice(), way.as_slice()) > 0
@@ -111,7 +110,7 @@ fn moves(linear: &Point, way: &Point) -> bool
 /// Whether the linear part goes up along some of the directions.
 pub(crate) fn moves_some(linear: &Point, ways: &[Point]) -> bool
     requires linear { AtMost 4 linear.now }
-    requires ways { All (IsSmallDirection (length linear.now)) ways.now }
+    requires ways { All (AtMost 1) ways.now }
     ensures { result ≡ list_any (moves linear.now) ways.now }
 {
     for way in ways {

@@ -7,7 +7,7 @@ ghost use Rattle.av_affine.specs.Numbers.{AtMost};
 ghost use Rattle.av_sched.specs.Offsets.{part};
 ghost use Rattle.av_sched.specs.Order.{entry_rank, IsLess};
 ghost use Rattle.av_sched.specs.inner.Walk.{IsLike};
-ghost use Rattle.av_sched.specs.inner.Walks.{at_first, with_part, IsInSystem, IsChoice, HasSpent, IsBetter, IsPartAt, HasCovered};
+ghost use Rattle.av_sched.specs.inner.Walks.{walk_at, with_part, IsInSystem, IsChoice, HasSpent, IsBetter, IsPartAt, HasCovered};
 
 use crate::choices::Choices;
 use crate::cost::ranks_of;
@@ -83,7 +83,7 @@ impl<'a> Walk<'a> {
     pub(crate) fn new(alloc: Global, choices: &'a Choices<'a>, linear: Vec<Point>) -> Walk<'a>
         requires fits { IsInSystem choices.now }
         requires linear { IsChoice choices.now linear.items }
-        ensures { result ≡ at_first choices.now linear.items }
+        ensures { result ≡ walk_at choices.now linear.items None }
     {
         Walk {
             choices,
@@ -171,31 +171,9 @@ impl<'a> Walk<'a> {
         choices.learn(alloc, &self.linear, &mut self.pool)
     }
 
-    /// Goes through all choices with the same parts for the first nodes.
+    /// Goes through all choices with the same parts for the first nodes, where these may not be left out.
     #[cycle(walk)]
     pub(crate) fn cover(&mut self, alloc: Global, level: usize, spent: Price) -> Result<(), Memory>
-        requires level { level ≤ length self.old.choices.component }
-        requires spent { HasSpent self.old level spent }
-        ensures { OnOk result (HasCovered self.old level self.new) }
-    {
-        let choices = self.choices;
-        if level == choices.component().len() {
-            return self.leaf(alloc, spent);
-        }
-        let before = copy_point(&self.linear[choices.node(level)]);
-        let (parts, prices) = choices.candidates(level);
-        for k in 0..parts.len() {
-            self.put(level, &parts[k]);
-            let own = with_more(spent, prices[k]);
-            self.cover_unless_barred(alloc, level + 1, own)?;
-        }
-        self.put(level, &before);
-        Ok(())
-    }
-
-    // The same, where those choices may be barred.
-    #[cycle(walk)]
-    fn cover_unless_barred(&mut self, alloc: Global, level: usize, spent: Price) -> Result<(), Memory>
         requires level { level ≤ length self.old.choices.component }
         requires spent { HasSpent self.old level spent }
         ensures { OnOk result (HasCovered self.old level self.new) }
@@ -203,6 +181,28 @@ impl<'a> Walk<'a> {
         if self.is_barred(level, spent)? {
             return Ok(());
         }
-        self.cover(alloc, level, spent)
+        if level == self.choices.component().len() {
+            return self.leaf(alloc, spent);
+        }
+        self.cover_parts(alloc, level, spent)
+    }
+
+    // The same, by the parts that the next node can have.
+    #[cycle(walk)]
+    fn cover_parts(&mut self, alloc: Global, level: usize, spent: Price) -> Result<(), Memory>
+        requires level { level < length self.old.choices.component }
+        requires spent { HasSpent self.old level spent }
+        ensures { OnOk result (HasCovered self.old level self.new) }
+    {
+        let choices = self.choices;
+        let before = copy_point(&self.linear[choices.node(level)]);
+        let (parts, prices) = choices.candidates(level);
+        for k in 0..parts.len() {
+            self.put(level, &parts[k]);
+            let own = with_more(spent, prices[k]);
+            self.cover(alloc, level + 1, own)?;
+        }
+        self.put(level, &before);
+        Ok(())
     }
 }

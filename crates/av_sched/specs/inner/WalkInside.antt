@@ -3,10 +3,10 @@ use Rattle.std.specs.Prelude.{All}
 use Rattle.av_sched.specs.declared.walk.Walk.TheInside.{Inside}
 use Rattle.av_sched.specs.Places.{IsPlace}
 use Rattle.av_sched.specs.inner.Walk.{known, IsSound, IsLike, IsRated}
-use Rattle.av_sched.specs.inner.Walks.{Walk, system_of, IsInSystem, IsChoice}
+use Rattle.av_sched.specs.inner.Walks.{Walk, walk_at, system_of, IsInSystem, IsChoice}
 
 abbrev pub walk_of : Inside → Walk
-walk_of w = record { choices = w.choices.now; linear = w.linear.items; best = known w.best }
+walk_of w = walk_at w.choices.now w.linear.items (known w.best)
 
 -- a linear part for each node, witnesses inside the component, and a best choice that is feasible, with what it costs, and that
 -- has these linear parts outside the component

@@ -1,5 +1,5 @@
 -- A walk through the choices of a component, as contracts see it. Only private contracts cite this.
-use Rattle.std.specs.Prelude.{◌≡◌, ℕ, ◌<◌, ◌≤◌, List, Option, Some, None, length, All, AllPairs, take, drop, slice_get, slice_set, slice_index_or}
+use Rattle.std.specs.Prelude.{◌≡◌, ℕ, ◌<◌, ◌≤◌, List, Option, Some, length, All, AllPairs, take, drop, slice_get, slice_set, slice_index_or}
 use Rattle.av_tree.specs.Points.{Point}
 use Rattle.av_flat.specs.declared.flat.Flat.{Flat}
 use Rattle.av_flat.specs.Trees.{FlatSystem, Variable, view_system}
@@ -64,9 +64,8 @@ pub record Walk : Type 0 where
   pub linear : List Point
   pub best : Option (List Point)
 
--- from linear parts on
-abbrev pub at_first : Choices → List Point → Walk
-at_first d linear = record { choices = d; linear = linear; best = None }
+abbrev pub walk_at : Choices → List Point → Option (List Point) → Walk
+walk_at d linear best = record { choices = d; linear = linear; best = best }
 
 -- what the parts of the first k nodes cost together
 abbrev pub HasSpent : Walk → ℕ → Price → Type 0
@@ -82,7 +81,7 @@ IsPartAt d k v = (x : Variable) → slice_get (nodes (system_of d)) (node_at d k
 
 -- with v as the linear part of the node at the level k
 abbrev pub with_part : Walk → ℕ → Point → Walk
-with_part w k v = record { choices = w.choices; linear = slice_set w.linear (node_at w.choices k) v; best = w.best }
+with_part w k v = walk_at w.choices (slice_set w.linear (node_at w.choices k) v) w.best
 
 -- the walk stands where it stood, and no feasible choice with the same parts for the first k nodes comes before the best one
 pub record HasCovered (old : Walk) (k : ℕ) (new : Walk) : Type 0 where

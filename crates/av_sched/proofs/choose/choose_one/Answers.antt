@@ -1,31 +1,30 @@
-use Rattle.std.proofs.Common.{◌≡◌, ◌∙◌, refl, ap, subst, Vec, Global, Option, Some, None, IfNone}
+use Rattle.std.proofs.Common.{◌≡◌, ◌∙◌, refl, ap, subst, Vec, Global, Some, None}
 use Rattle.std.proofs.lemmas.Option.{IfSome_then}
+use Rattle.av_poly.proofs.Searching.{none_weaker}
 use Rattle.av_tree.specs.Points.{Point}
-use Rattle.av_sched.specs.inner.Walks.{Choices, Walk, choices_in, at_first, IsInSystem, HasCovered}
+use Rattle.av_sched.specs.inner.Walks.{Choices, Walk, choices_in, walk_at, IsInSystem, HasCovered}
+use Rattle.av_flat.specs.Trees.{view_system}
+use Rattle.av_sched.specs.inner.FirstChoices.{HasNone}
 use Rattle.av_sched.proofs.Covering.{best_of_cover, none_of_cover}
 use Rattle.av_sched.proofs.choose.choose_one.Goals as goal
 
 pub returns-clause-some : goal.returns-clause-some
 returns-clause-some c =
     let d = choices_in c.args.flat.now c.args.edges.now c.args.reach.size c.args.component.now in
-    let start = at_first d c.args.linear.items in
+    let start = walk_at d c.args.linear.items None in
     let end = c.cover.new.walk in
-    let is : c.new-walk.result ≡ start = c.new-walk.ensures ∙ ap (λ (e : Choices). at_first e c.args.linear.items) c.in_ok-choices.ensures.choices in
+    let is : c.new-walk.result ≡ start = c.new-walk.ensures ∙ ap (λ (e : Choices). walk_at e c.args.linear.items None) c.in_ok-choices.ensures.choices in
     let fits = subst IsInSystem c.in_ok-choices.ensures.choices c.in_ok-choices.ensures.fits in
     let covered = subst (λ (w : Walk). HasCovered w 0 end) is c.in_ok-cover.ensures in
     IfSome_then {X = Vec Point Global} c.into_best.result c.into_best.ensures.some
     (λ best found. best_of_cover start end best.items fits covered refl found c.into_best.ensures.like)
 
-none_then : {X P Q : Type 0} (o : Option X) → IfNone o P → (P → Q) → IfNone o Q
-none_then None h f = f h
-none_then (Some x) h f = h
-
 pub returns-clause-none : goal.returns-clause-none
 returns-clause-none c =
     let d = choices_in c.args.flat.now c.args.edges.now c.args.reach.size c.args.component.now in
-    let start = at_first d c.args.linear.items in
+    let start = walk_at d c.args.linear.items None in
     let end = c.cover.new.walk in
-    let is : c.new-walk.result ≡ start = c.new-walk.ensures ∙ ap (λ (e : Choices). at_first e c.args.linear.items) c.in_ok-choices.ensures.choices in
+    let is : c.new-walk.result ≡ start = c.new-walk.ensures ∙ ap (λ (e : Choices). walk_at e c.args.linear.items None) c.in_ok-choices.ensures.choices in
     let fits = subst IsInSystem c.in_ok-choices.ensures.choices c.in_ok-choices.ensures.fits in
     let covered = subst (λ (w : Walk). HasCovered w 0 end) is c.in_ok-cover.ensures in
-    none_then c.into_best.result c.into_best.ensures.none (λ nothing. none_of_cover start end fits covered refl nothing)
+    none_weaker (end.best ≡ None) (HasNone (view_system c.args.flat.now) c.args.reach.size c.args.component.now) (λ nothing. none_of_cover start end fits covered refl nothing) c.into_best.result c.into_best.ensures.none

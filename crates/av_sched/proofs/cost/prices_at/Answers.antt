@@ -1,16 +1,8 @@
 use Rattle.std.proofs.Common.{rules, ◌<◌, ◌^◌, sym, subst, length, All, ◌+◌, take}
-use Rattle.av_tree.specs.Points.{Point}
 use Rattle.av_sched.specs.declared.price.Price.{Price}
-use Rattle.av_sched.specs.inner.Ways.{IsSmallDirection}
 use Rattle.av_sched.specs.Prices.{ArePricesAt}
 use Rattle.av_sched.proofs.Pricing.{price_at, prices_none, prices_more}
 use Rattle.av_sched.proofs.cost.prices_at.Goals as goal
-
-pub still_of-requires-clause-ways : goal.still_of-requires-clause-ways
-still_of-requires-clause-ways c =
-    let l : c.loop-part.part-index < length c.args.parts.now = search rules in
-    let p = c.part-item.result in
-    subst (λ (q : Point). All (All (IsSmallDirection (length q))) c.args.ways.now) (sym c.part-item.is) (c.requires.directions c.loop-part.part-index p l)
 
 pub loop-part-init : goal.loop-part-init
 loop-part-init c = λ s node is. prices_none s node

@@ -1,4 +1,4 @@
-use Rattle.std.proofs.Common.{◌∙◌, sym, subst, List, ℤ, length, Vec, Global}
+use Rattle.std.proofs.Common.{◌∙◌, sym, subst, List, ℤ, length, Vec, Global, Option, IfSome, IfNone}
 use Rattle.std.specs.List.{AllZip}
 use Rattle.av_flat.specs.Trees.{view_system}
 use Rattle.av_sched.specs.declared.arc.Arc.{Arc}
@@ -6,28 +6,18 @@ use Rattle.av_sched.specs.Leads.{IsArcOf}
 use Rattle.av_sched.proofs.Usable.{usable}
 use Rattle.av_sched.proofs.Bridge.{arcs_fit}
 use Rattle.av_sched.proofs.Settling.{settled_some, settled_none}
-use Rattle.av_sched.proofs.placing.offsets_from.Goals as goal
+use Rattle.av_sched.proofs.placing.offsets.Goals as goal
 
 pub arcs_of-requires : goal.arcs_of-requires
-arcs_of-requires c = usable (view_system c.args._flat.now) c.args.edges.now c.args.linear.now c.requires.chained c.requires.proper c.requires.edges c.requires.linear
+arcs_of-requires c = usable (view_system c.args.flat.now) c.args.edges.now c.args.linear.now c.requires.chained c.requires.proper c.requires.edges c.requires.linear
 
 pub least-requires : goal.least-requires
 least-requires c =
-    let s = view_system c.args._flat.now in
+    let s = view_system c.args.flat.now in
     let linear = c.args.linear.now in
     let u = usable s c.args.edges.now linear c.requires.chained c.requires.proper c.requires.edges c.requires.linear in
     let zip = subst (λ (xs : List Arc). AllZip (IsArcOf linear) c.args.edges.now xs) (sym c.deref.ensures.value) c.in_ok-arcs.ensures in
     record {
-      arcs = arcs_fit linear c.args.edges.now c.deref.result.now (length c.args.low.now) (c.requires.linear.one_each ∙ sym c.requires.low.one_each) u zip;
-      low = c.requires.small;
-    }
-
-pub returns : goal.returns
-returns c =
-    let s = view_system c.args._flat.now in
-    let linear = c.args.linear.now in
-    let zip = subst (λ (xs : List Arc). AllZip (IsArcOf linear) c.args.edges.now xs) (sym c.deref.ensures.value) c.in_ok-arcs.ensures in
-    record {
-      some = settled_some (λ (v : Vec ℤ Global). v.items) s c.args.edges.now c.deref.result.now linear c.args.low.now c.requires.chained c.requires.edges zip c.requires.low c.least.result c.least.ensures.some;
-      none = settled_none (λ (v : Vec ℤ Global). v.items) s c.args.edges.now c.deref.result.now linear c.args.low.now c.requires.chained c.requires.edges zip c.requires.low c.least.result c.least.ensures.none;
+      arcs = arcs_fit linear c.args.edges.now c.deref.result.now (length c.in_ok-low.low) (c.requires.linear.one_each ∙ sym c.in_ok-low.ensures.starts.one_each) u zip;
+      low = c.in_ok-low.ensures.small;
     }

@@ -2,7 +2,7 @@ use Rattle.std.proofs.Common.{rules, ◌∙◌, sym, subst, Some, length, List, 
 use Rattle.std.proofs.lemmas.Result.{on_ok_weaker}
 use Rattle.av_tree.specs.Points.{Point}
 use Rattle.av_sched.specs.inner.Walk.{known}
-use Rattle.av_sched.specs.inner.Walks.{Walk, IsChoice, IsFeasibleChoice, IsBetter, HasCovered}
+use Rattle.av_sched.specs.inner.Walks.{Walk, walk_at, IsChoice, IsFeasibleChoice, IsBetter, HasCovered}
 use Rattle.av_sched.specs.inner.WalkInside.{walk_of}
 use Rattle.av_sched.proofs.Covering.{leaf_behind, leaf_infeasible, leaf_best}
 use Rattle.av_sched.proofs.walk.Walk.leaf.Goals as goal
@@ -23,7 +23,7 @@ returns-then-branch c =
     let ahead = subst IsBetter (sym c.self.view_is) (c.in_ok-is_better.ensures.0 (search rules)) in
     let feasible = subst (λ (xs : List Point). IsFeasibleChoice d xs) c.deref.ensures.value (c.in_ok-is_feasible.ensures.0 (search rules)) in
     let best = c.in_ok-copy_points.field-0.items in
-    subst (λ (v : Walk). HasCovered v (length v.choices.component) (record { choices = d; linear = w.linear.items; best = Some best })) c.self.view_is
+    subst (λ (v : Walk). HasCovered v (length v.choices.component) (walk_at d w.linear.items (Some best))) c.self.view_is
     (leaf_best (walk_of w) c.self.invariant.fits c.self.invariant.sound best c.self.invariant.valid ahead feasible (c.in_ok-copy_points.ensures ∙ c.deref-then-branch.ensures.value))
 
 pub returns : goal.returns
