@@ -22,7 +22,7 @@ use std::alloc::Global;
 use std::marker::Model;
 
 /// The choices of linear parts for the nodes of a component, in a box.
-#[derive(Debug, Drop)]
+#[derive(Drop)]
 pub(crate) struct Choices<'a> {
     flat: &'a Flat,
     edges: &'a [Edge],

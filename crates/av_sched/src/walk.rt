@@ -50,7 +50,7 @@ pub fn is_earlier(
 }
 
 /// A walk through choices: the linear parts at which it stands, and what was found so far.
-#[derive(Debug, Drop)]
+#[derive(Drop)]
 pub(crate) struct Walk<'a> {
     choices: &'a Choices<'a>,
     // Of all nodes of the system.
