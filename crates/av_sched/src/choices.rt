@@ -6,12 +6,12 @@ ghost use Rattle.av_flat.specs.Nodes.{nodes};
 ghost use Rattle.av_flat.specs.Chained.{IsChained};
 ghost use Rattle.av_flat.specs.Proper.{IsProper};
 ghost use Rattle.av_depend.specs.Edges.{AreEdgesOf};
-ghost use Rattle.av_sched.specs.Places.{IsPlace};
+ghost use Rattle.av_sched.specs.Witnesses.{IsWitness};
 ghost use Rattle.av_sched.specs.inner.Walks.{choices_in, node_at, IsChoice, IsFeasibleChoice, IsForbiddenChoice, IsFloorFrom, IsInSystem, ArePartsAt, ArePricesOf};
 
 use crate::arc::{least, settles};
 use crate::leaf::{arcs_inside, no_offsets};
-use crate::place::Place;
+use crate::witness::Witness;
 use crate::plan::{Plan, plan_of};
 use crate::pool::{Room, learn, witness_arcs};
 use crate::price::Price;
@@ -128,11 +128,11 @@ impl<'a> Choices<'a> {
         &self,
         level: usize,
         linear: &[Point],
-        pool: &[Place],
+        pool: &[Witness],
         room: &mut Room,
     ) -> Result<bool, Memory>
         requires linear { IsChoice self.now linear.now }
-        requires pool { All (IsPlace self.now.edges self.now.component) pool.now }
+        requires pool { All (IsWitness self.now.edges self.now.component) pool.now }
         ensures { IfOk result (λ b. IsTrue b → IsForbiddenChoice self.now level linear.now) }
     {
         witness_arcs(
@@ -152,11 +152,11 @@ impl<'a> Choices<'a> {
         &self,
         alloc: Global,
         linear: &[Point],
-        pool: &mut Vec<Place>,
+        pool: &mut Vec<Witness>,
     ) -> Result<(), Memory>
         requires linear { IsChoice self.now linear.now }
-        requires pool { All (IsPlace self.now.edges self.now.component) pool.old.items }
-        ensures { All (IsPlace self.now.edges self.now.component) pool.new.items }
+        requires pool { All (IsWitness self.now.edges self.now.component) pool.old.items }
+        ensures { All (IsWitness self.now.edges self.now.component) pool.new.items }
     {
         learn(alloc, self.edges, self.component, linear, pool)
     }

@@ -12,7 +12,7 @@ ghost use Rattle.av_sched.specs.inner.Walks.{walk_at, with_part, IsInSystem, IsC
 use crate::choices::Choices;
 use crate::cost::ranks_of;
 use crate::part::is_less;
-use crate::place::Place;
+use crate::witness::Witness;
 use crate::pool::Room;
 use crate::price::{Best, Price, is_dear, with_more};
 use av_base::{Memory, Point};
@@ -56,7 +56,7 @@ pub(crate) struct Walk<'a> {
     // Of all nodes of the system.
     linear: Vec<Point>,
     // Witnesses by which most choices are seen not to be feasible.
-    pool: Vec<Place>,
+    pool: Vec<Witness>,
     room: Room,
     best: Option<Best>,
 }

@@ -1,8 +1,8 @@
 use Rattle.std.proofs.Common.{sym, subst, Bool, IsTrue, All, List}
 use Rattle.std.proofs.lemmas.Result.{IfOk-weaker}
 use Rattle.av_tree.specs.Points.{Point}
-use Rattle.av_sched.specs.declared.place.Place.{Place}
-use Rattle.av_sched.specs.Places.{IsPlace}
+use Rattle.av_sched.specs.declared.witness.Witness.{Witness}
+use Rattle.av_sched.specs.Witnesses.{IsWitness}
 use Rattle.av_sched.specs.inner.Walks.{Walk, system_of, IsChoice, IsForbiddenChoice, HasSpent, HasCovered}
 use Rattle.av_sched.proofs.Pricing.{above_barred}
 use Rattle.av_sched.proofs.Covering.{nothing_more, forbidden_there}
@@ -22,7 +22,7 @@ pub is_forbidden-requires-clause-linear : goal.is_forbidden-requires-clause-line
 is_forbidden-requires-clause-linear c = subst (λ (xs : List Point). IsChoice c.self.inside.choices.now xs) (sym c.deref.ensures.value) c.self.invariant.valid
 
 pub is_forbidden-requires-clause-pool : goal.is_forbidden-requires-clause-pool
-is_forbidden-requires-clause-pool c = subst (λ (ps : List Place). All (IsPlace c.self.inside.choices.now.edges c.self.inside.choices.now.component) ps) (sym c.deref-2.ensures.value) c.self.invariant.pool
+is_forbidden-requires-clause-pool c = subst (λ (ps : List Witness). All (IsWitness c.self.inside.choices.now.edges c.self.inside.choices.now.component) ps) (sym c.deref-2.ensures.value) c.self.invariant.pool
 
 pub returns-clause-barred : goal.returns-clause-barred
 returns-clause-barred c =
