@@ -16,7 +16,7 @@ use crate::span::Span;
 use av_base::{Memory, Point};
 use av_depend::Edge;
 use av_flat::{Flat, Reach};
-use av_sched::{Witness, Room, raise_to_least, witness_arcs};
+use av_sched::{Room, Witness, raise_to_least, witness_arcs};
 
 // The number of cycles up to the last one of a node.
 fn through(offset: i64, high: i64) -> u64

@@ -24,8 +24,8 @@ use av_base::{List, Memory, Point};
 use av_depend::{Edge, copy_point};
 use av_flat::{Flat, Reach};
 use av_sched::{
-    Witness, Plan, Price, Room, arcs_of, at_least, copy_points, is_above, is_earlier, raise_to_least,
-    with_more,
+    Plan, Price, Room, Witness, arcs_of, at_least, copy_points, is_above, is_earlier,
+    raise_to_least, with_more,
 };
 use std::alloc::Global;
 

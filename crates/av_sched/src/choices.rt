@@ -11,10 +11,10 @@ ghost use Rattle.av_sched.specs.inner.Walks.{choices_in, node_at, IsChoice, IsFe
 
 use crate::arc::{least, settles};
 use crate::leaf::{arcs_inside, no_offsets};
-use crate::witness::Witness;
 use crate::plan::{Plan, plan_of};
 use crate::pool::{Room, learn, witness_arcs};
 use crate::price::Price;
+use crate::witness::Witness;
 use av_base::{Memory, Point};
 use av_depend::Edge;
 use av_flat::{Flat, Reach};

@@ -7,9 +7,8 @@ ghost use Rattle.av_flat.specs.Nodes.{nodes};
 ghost use Rattle.av_flat.specs.Chained.{IsChained};
 ghost use Rattle.av_flat.specs.Proper.{IsProper};
 ghost use Rattle.av_depend.specs.Edges.{AreEdgesOf};
-ghost use Rattle.av_depend.specs.Components.{ReadsNode, AreComponents};
 ghost use Rattle.av_sched.specs.Choices.{AreLinearParts, IsFeasible};
-ghost use Rattle.av_sched.specs.inner.FirstChoices.{IsBestChoice, IsSearchOutcome, HasNone};
+ghost use Rattle.av_sched.specs.inner.FirstChoices.{IsBestChoice, IsSearchOutcome, HasNone, AreComponentsOf};
 
 use crate::choices::Choices;
 use crate::price::Price;
@@ -43,8 +42,10 @@ fn choose_one(
     requires within { All (λ n. n < length (nodes (view_system flat.now))) component.now }
     requires apart { AllPairs (λ m n. m < n) component.now }
     requires linear { AreLinearParts (view_system flat.now) reach.size linear.items }
-    ensures some { IfOk result (λ o. IfSome o (λ best. IsBestChoice (view_system flat.now) reach.size component.now linear.items best.items)) }
-    ensures none { IfOk result (λ o. IfNone o (HasNone (view_system flat.now) reach.size component.now)) }
+    ensures some { IfOk result (λ o. IfSome o (λ best.
+        IsBestChoice (view_system flat.now) reach.size component.now linear.items best.items)) }
+    ensures none { IfOk result (λ o. IfNone o
+        (HasNone (view_system flat.now) reach.size component.now)) }
 {
     let choices = Choices::new(alloc, flat, edges, reach, component)?;
     let mut walk = Walk::new(alloc, &choices, linear);
@@ -64,7 +65,7 @@ pub(crate) fn choose_all(
     requires chained { IsChained (view_system flat.now) }
     requires proper { IsProper (view_system flat.now) }
     requires edges { AreEdgesOf (view_system flat.now) edges.now }
-    requires components { AreComponents (length (nodes (view_system flat.now))) (ReadsNode (view_system flat.now)) components.now }
+    requires components { AreComponentsOf (view_system flat.now) components.now }
     requires start { AreLinearParts (view_system flat.now) reach.size start.items }
     ensures { IfOk result (IsSearchOutcome (view_system flat.now) reach.size components.now) }
 {

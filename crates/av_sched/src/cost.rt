@@ -51,7 +51,8 @@ pub(crate) fn ranks_of(
 ) -> Result<Vec<u64>, Memory>
     requires within { All (λ n. n < length linear.now) component.now }
     requires small { All (AtMost 4) linear.now }
-    ensures { IfOk result (λ ranks. ranks.items ≡ map entry_rank (flat_map (part linear.now) component.now)) }
+    ensures { IfOk result (λ ranks. ranks.items ≡
+        map entry_rank (flat_map (part linear.now) component.now)) }
 {
     let mut to = Vec::new(alloc);
     for node in component {
@@ -78,7 +79,8 @@ fn sum_of(point: &Point) -> u64
 fn add_way(alloc: Global, map: &Map, to: &mut List<List<Point>>) -> Result<(), Memory>
     requires from { map.now.from ≤ 4 }
     requires rows { All IsWithinLimits map.now.rows }
-    ensures { OnOk result ((place : ℕ) → to.new ≡ to.old ++ ways_of (record { place = place; map = map.now } ∷ [])) }
+    ensures { OnOk result ((place : ℕ)
+        → to.new ≡ to.old ++ ways_of (record { place = place; map = map.now } ∷ [])) }
 {
     let ways = along_of(alloc, map)?;
     if !ways.as_slice().is_empty() {
@@ -117,7 +119,8 @@ fn add_ways(alloc: Global, tree: &Tree, to: &mut List<List<Point>>) -> Result<()
 // For each broadcast of pieces the directions along which it reads one point.
 fn ways_of_pieces(alloc: Global, pieces: &[Piece]) -> Result<List<List<Point>>, Memory>
     requires { All (λ p. HasSmallReferences (view p.tree)) pieces.now }
-    ensures { IfOk result (λ ways. ways ≡ ways_of (flat_map (λ p. references (view p.tree)) pieces.now)) }
+    ensures { IfOk result (λ ways. ways ≡
+        ways_of (flat_map (λ p. references (view p.tree)) pieces.now)) }
 {
     let mut ways = List::new(alloc);
     for piece in pieces {
@@ -130,7 +133,8 @@ fn ways_of_pieces(alloc: Global, pieces: &[Piece]) -> Result<List<List<Point>>, 
 fn ways_of_node(alloc: Global, flat: &Flat, node: usize) -> Result<List<List<Point>>, Memory>
     requires chained { IsChained (view_system flat.now) }
     requires within { node < length (nodes (view_system flat.now)) }
-    ensures { IfOk result (λ ways. ways ≡ ways_of (references_of (slice_get (nodes (view_system flat.now)) node))) }
+    ensures { IfOk result (λ ways. ways ≡
+        ways_of (references_of (slice_get (nodes (view_system flat.now)) node))) }
 {
     let place = place_of(flat, node);
     let vars = flat.vars.as_slice();
@@ -156,7 +160,8 @@ fn still_of(ways: &[List<Point>], part: &Point) -> u64
 fn prices_at(alloc: Global, ways: &[List<Point>], parts: &[Point]) -> Result<List<Price>, Memory>
     requires small { All (AtMost 4) parts.now }
     requires ways { All (All (AtMost 1)) ways.now }
-    ensures { IfOk result (λ prices. (s : FlatSystem) (node : ℕ) → ways.now ≡ ways_of (references_of (slice_get (nodes s) node))
+    ensures { IfOk result (λ prices. (s : FlatSystem) (node : ℕ)
+        → ways.now ≡ ways_of (references_of (slice_get (nodes s) node))
         → ArePricesAt s node parts.now prices) }
 {
     let mut prices = List::new(alloc);
@@ -180,7 +185,8 @@ pub(crate) fn prices_of(
     requires within { All (λ n. n < length (nodes (view_system flat.now))) component.now }
     requires lists { length lists.now ≡ length component.now }
     requires small { All (All (AtMost 4)) lists.now }
-    ensures { IfOk result (ArePricesTo (view_system flat.now) component.now (length component.now) lists.now) }
+    ensures { IfOk result
+        (ArePricesTo (view_system flat.now) component.now (length component.now) lists.now) }
 {
     let mut prices = List::new(alloc);
     for k in 0..component.len() {
@@ -193,8 +199,10 @@ pub(crate) fn prices_of(
 
 /// The least that the last nodes of the component can cost, for each number of them.
 pub(crate) fn floors_of(alloc: Global, prices: &[List<Price>]) -> Result<Vec<Price>, Memory>
-    ensures { IfOk result (λ floors. (s : FlatSystem) (size : ℕ) (component : Items ℕ) (lists : Items (Items Vector))
-        → AreAllPriced s size component lists prices.now → AreFloorsTo s size component (length component) floors.items) }
+    ensures { IfOk result (λ floors.
+        (s : FlatSystem) (size : ℕ) (component : Items ℕ) (lists : Items (Items Vector))
+        → AreAllPriced s size component lists prices.now
+        → AreFloorsTo s size component (length component) floors.items) }
 {
     let mut floors = Vec::new(alloc);
     let mut floor = Price { left: 0, size: 0 };

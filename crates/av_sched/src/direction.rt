@@ -45,7 +45,8 @@ fn stays_at(map: &Map, direction: &Point) -> bool
 // All that have 0, 1 or -1 before one of the points.
 fn longer(alloc: Global, shorter: &[Point]) -> Result<Vec<Point>, Memory>
     requires { All (λ y. length y < 4) shorter.now }
-    ensures { IfOk result (λ to. to.items ≡ flat_map (λ x. map (λ w. x ∷ w) shorter.now) (pos 0 ∷ pos 1 ∷ negsuc 0 ∷ [])) }
+    ensures { IfOk result (λ to. to.items ≡
+        flat_map (λ x. map (λ w. x ∷ w) shorter.now) (pos 0 ∷ pos 1 ∷ negsuc 0 ∷ [])) }
 {
     let mut to = Vec::new(alloc);
     prepend_all(&mut to, 0, shorter)?;

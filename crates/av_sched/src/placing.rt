@@ -94,8 +94,10 @@ pub fn offsets(
     requires proper { IsProper (view_system flat.now) }
     requires edges { AreEdgesOf (view_system flat.now) edges.now }
     requires linear { AreVectors (view_system flat.now) 4 linear.now }
-    ensures least { IfOk result (λ o. IfSome o (AreLeastOffsets (view_system flat.now) linear.now)) }
-    ensures none { IfOk result (λ o. IfNone o ((x : Items ℤ) → AreOffsets (view_system flat.now) linear.now x → ⊥)) }
+    ensures least { IfOk result (λ o. IfSome o
+        (AreLeastOffsets (view_system flat.now) linear.now)) }
+    ensures none { IfOk result (λ o. IfNone o
+        ((x : Items ℤ) → AreOffsets (view_system flat.now) linear.now x → ⊥)) }
 {
     let low = starts_of(alloc, flat, linear)?;
     let arcs = arcs_of(alloc, edges, linear)?;

@@ -27,9 +27,14 @@ pub struct Plan {
 pub fn plan_of(alloc: Global, flat: &Flat, reach: Reach, component: &[u32]) -> Result<Plan, Memory>
     requires chained { IsChained (view_system flat.now) }
     requires within { All (λ n. n < length (nodes (view_system flat.now))) component.now }
-    ensures lists { IfOk result (λ plan. AreAllParts (view_system flat.now) reach.size component.now plan.lists) }
-    ensures prices { IfOk result (λ plan. ArePricesTo (view_system flat.now) component.now (length component.now) plan.lists plan.prices) }
-    ensures floors { IfOk result (λ plan. AreFloorsTo (view_system flat.now) reach.size component.now (length component.now) plan.floors.items) }
+    ensures lists { IfOk result (λ plan.
+        AreAllParts (view_system flat.now) reach.size component.now plan.lists) }
+    ensures prices { IfOk result (λ plan.
+        ArePricesTo (view_system flat.now) component.now (length component.now)
+        plan.lists plan.prices) }
+    ensures floors { IfOk result (λ plan.
+        AreFloorsTo (view_system flat.now) reach.size component.now (length component.now)
+        plan.floors.items) }
 {
     let lists = lists_of(alloc, flat, reach, component)?;
     let prices = prices_of(alloc, flat, component, lists.as_slice())?;

@@ -6,8 +6,8 @@ ghost use Rattle.av_sched.specs.Witnesses.{IsWitness, IsUsableWitness, IsArcAt, 
 
 use crate::arc::Arc;
 use crate::lead::{lead_at, products};
-use crate::witness::Witness;
 use crate::placing::arcs_of;
+use crate::witness::Witness;
 use av_base::{Memory, Point};
 use av_depend::Edge;
 use std::alloc::Global;
@@ -47,7 +47,8 @@ pub fn witness_arcs(
 ) -> Result<(), Memory>
     requires usable { All (IsUsableWitness component.now linear.now) pool.now }
     requires pool { All (IsWitness _edges.now component.now) pool.now }
-    ensures { IfOk result (λ done. All (IsWitnessArc _edges.now component.now level linear.now) arcs.new.items) }
+    ensures { IfOk result (λ done.
+        All (IsWitnessArc _edges.now component.now level linear.now) arcs.new.items) }
 {
     arcs.clear();
     for witness in pool {

@@ -12,9 +12,9 @@ ghost use Rattle.av_sched.specs.inner.Walks.{walk_at, with_part, IsInSystem, IsC
 use crate::choices::Choices;
 use crate::cost::ranks_of;
 use crate::part::is_less;
-use crate::witness::Witness;
 use crate::pool::Room;
 use crate::price::{Best, Price, is_dear, with_more};
+use crate::witness::Witness;
 use av_base::{Memory, Point};
 use av_depend::copy_point;
 use std::alloc::Global;
@@ -42,7 +42,9 @@ pub fn is_earlier(
     requires small { All (AtMost 4) linear.now }
     requires others { All (λ n. n < length parts.now) component.now }
     requires others_small { All (AtMost 4) parts.now }
-    ensures { IfOk result (λ b. IsTrue b ↔ IsLess (map entry_rank (flat_map (part linear.now) component.now)) (map entry_rank (flat_map (part parts.now) component.now))) }
+    ensures { IfOk result (λ b. IsTrue b ↔ IsLess
+        (map entry_rank (flat_map (part linear.now) component.now))
+        (map entry_rank (flat_map (part parts.now) component.now))) }
 {
     let own = ranks_of(alloc, component, linear)?;
     let least = ranks_of(alloc, component, parts)?;
