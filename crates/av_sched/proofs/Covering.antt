@@ -72,6 +72,16 @@ module _ (w : Walk) (known : IsInSystem w.choices) (sound : IsSound (system_of w
 pub whole_spent : (w : Walk) (p : Price) → HasSpent w (length w.choices.component) p → IsSpent (system_of w.choices) w.linear w.choices.component p
 whole_spent w p h = subst (λ (ns : List ℕ). IsSpent (system_of w.choices) w.linear ns p) (take_whole w.choices.component (length w.choices.component) (omega arith)) h
 
+-- the choice at which the walk stands as the best one
+pub best_sound : (d : Choices) (linear best : List Point) → IsChoice d linear → IsFeasibleChoice d linear → best ≡ linear → IsSound (system_of d) d.size d.component (Some best)
+best_sound d linear best are feasible same = subst (λ (b : List Point). IsSound (system_of d) d.size d.component (Some b)) (sym same) (are, feasible)
+
+pub best_spent : (d : Choices) (linear best : List Point) (p : Price) → IsSpent (system_of d) linear d.component p → best ≡ linear → IsSpent (system_of d) best d.component p
+best_spent d linear best p h same = subst (λ (b : List Point). IsSpent (system_of d) b d.component p) (sym same) h
+
+pub best_like : (component : List ℕ) (linear best : List Point) → best ≡ linear → IsLike component linear (Some best)
+best_like component linear best same = λ n out. ap (λ xs. part xs n) same
+
 pub within_linear : (d : Choices) (linear : List Point) → IsInSystem d → IsChoice d linear → All (λ n. n < length linear) d.component
 within_linear d linear known are = subst (λ (m : ℕ). All (λ n. n < m) d.component) (sym are.one_each) known.within
 

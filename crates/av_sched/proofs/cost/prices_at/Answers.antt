@@ -1,11 +1,11 @@
-use Rattle.std.proofs.Common.{rules, ◌<◌, ◌^◌, sym, subst, length, All, ◌+◌, take}
+use Rattle.std.proofs.Common.{rules, ◌<◌, ◌^◌, sym, subst, length, [], ◌+◌, take}
 use Rattle.av_sched.specs.declared.price.Price.{Price}
 use Rattle.av_sched.specs.Prices.{ArePricesAt}
 use Rattle.av_sched.proofs.Pricing.{price_at, prices_none, prices_more}
 use Rattle.av_sched.proofs.cost.prices_at.Goals as goal
 
 pub loop-part-init : goal.loop-part-init
-loop-part-init c = λ s node is. prices_none s node
+loop-part-init c = λ s node is. subst (ArePricesAt s node []) (sym c.new-prices.ensures) (prices_none s node)
 
 pub loop-part-preserved : goal.loop-part-preserved
 loop-part-preserved c = λ s node is.

@@ -1,4 +1,4 @@
-use Rattle.std.proofs.Common.{◌<◌, ◌∙◌, sym, subst, length, List, get_or, ◌+◌, All}
+use Rattle.std.proofs.Common.{◌<◌, ◌∙◌, sym, subst, length, List, get_or, ◌+◌, All, arith}
 use Rattle.std.specs.Prelude.{slice_get}
 use Rattle.av_affine.specs.Numbers.{AtMost}
 use Rattle.av_flat.specs.Trees.{view_system}
@@ -14,6 +14,11 @@ pub prices_at-requires-clause-ways : goal.prices_at-requires-clause-ways
 prices_at-requires-clause-ways c =
     let node = get_or c.args.component.now c.loop-k.k 0 in
     subst (All (All (AtMost 1))) (sym (c.as_slice.ensures ∙ c.in_ok-ways.ensures)) (small_ways (references_of (slice_get (nodes (view_system c.args.flat.now)) node)))
+
+pub prices_at-requires-clause-small : goal.prices_at-requires-clause-small
+prices_at-requires-clause-small c =
+    let l : c.loop-k.k < length c.args.lists.now = (let t = c.loop-k-test.true in let e = c.requires.lists in omega (arith, t, e)) in
+    subst (All (AtMost 4)) (sym (c.as_slice-in-loop-k.ensures ∙ c.index-lists-k.is)) (c.requires.small c.loop-k.k c.index-lists-k.result l)
 
 pub loop-k-preserved : goal.loop-k-preserved
 loop-k-preserved c =

@@ -54,9 +54,9 @@ pub cover_parts-put-requires : goal.cover_parts-put-requires
 cover_parts-put-requires t c =
     let w = c.args.self.now in
     let level = c.args.level in
-    let items = c.candidates.result.0.now in
+    let items = c.candidates-parts.result.0.now in
     let l : c.loop-k.k < length items = search rules in
-    let parts = subst (λ (v : Walk). ArePartsAt v.choices level items) c.self.view_is c.candidates.ensures.parts in
+    let parts = subst (λ (v : Walk). ArePartsAt v.choices level items) c.self.view_is c.candidates-parts.ensures.parts in
     let own = part_is_valid (system_of w.choices) w.choices.size (node_at w.choices level) items c.loop-k.k c.index-parts-k.result c.index-parts-k.result parts l c.index-parts-k.is refl in
     record {
       level = subst (λ (d : Choices). level < length d.component) (sym c.loop-k.invariant.choices) c.requires.level;
@@ -67,13 +67,13 @@ pub cover_parts-cover-requires : goal.cover_parts-cover-requires
 cover_parts-cover-requires t c =
     let w = c.args.self.now in
     let level = c.args.level in
-    let items = c.candidates.result.0.now in
-    let costs = c.candidates.result.1.now in
+    let items = c.candidates-parts.result.0.now in
+    let costs = c.candidates-parts.result.1.now in
     let fits = c.requires.level in
     let known = subst (λ (v : Walk). IsInSystem v.choices) c.self.view_is c.self.invariant.fits in
     let valid = subst (λ (v : Walk). IsChoice v.choices v.linear) c.self.view_is c.self.invariant.valid in
     let l : c.loop-k.k < length items = search rules in
-    let prices = subst (λ (v : Walk). ArePricesOf v.choices level items costs) c.self.view_is c.candidates.ensures.prices in
+    let prices = subst (λ (v : Walk). ArePricesOf v.choices level items costs) c.self.view_is c.candidates-parts.ensures.prices in
     let d : Price = record { left = 0; size = 0 } in
     let price = price_of w.choices level items costs c.loop-k.k c.index-parts-k.result d prices l c.index-parts-k.is in
     let spent = spent_put w level fits known (take c.loop-k.k items) c.loop-k.self c.index-parts-k.result c.args.spent (get_or costs c.loop-k.k d) c.with_more-own.result valid c.loop-k.invariant c.requires.spent price c.with_more-own.ensures.left c.with_more-own.ensures.size in
@@ -87,7 +87,7 @@ pub cover_parts-loop-k-preserved : goal.cover_parts-loop-k-preserved
 cover_parts-loop-k-preserved t c =
     let w = c.args.self.now in
     let level = c.args.level in
-    let items = c.candidates.result.0.now in
+    let items = c.candidates-parts.result.0.now in
     let known = subst (λ (v : Walk). IsInSystem v.choices) c.self.view_is c.self.invariant.fits in
     let valid = subst (λ (v : Walk). IsChoice v.choices v.linear) c.self.view_is c.self.invariant.valid in
     let l : c.loop-k.k < length items = search rules in
@@ -113,11 +113,11 @@ pub cover_parts-returns : goal.cover_parts-returns
 cover_parts-returns t c =
     let w = c.args.self.now in
     let level = c.args.level in
-    let items = c.candidates.result.0.now in
+    let items = c.candidates-parts.result.0.now in
     let known = subst (λ (v : Walk). IsInSystem v.choices) c.self.view_is c.self.invariant.fits in
     let valid = subst (λ (v : Walk). IsChoice v.choices v.linear) c.self.view_is c.self.invariant.valid in
     let over : length items ≤ c.loop-k.k = search rules in
-    let parts = subst (λ (v : Walk). ArePartsAt v.choices level items) c.self.view_is c.candidates.ensures.parts in
+    let parts = subst (λ (v : Walk). ArePartsAt v.choices level items) c.self.view_is c.candidates-parts.ensures.parts in
     let before = part_before w level c.requires.level known valid c.self.inside.linear.items c.node.result c.index-self-linear.result c.copy_point-before.result (ap (λ (v : Walk). v.linear) c.self.view_is)
     (c.node.ensures ∙ ap (λ (v : Walk). node_at v.choices level) c.self.view_is) c.index-self-linear.is c.copy_point-before.ensures in
     covering_done w level c.requires.level known items c.loop-k.self c.put-2.new.self c.copy_point-before.result parts (subst (λ (xs : List Point). IsCovering w level xs c.loop-k.self) (take_whole items c.loop-k.k over) c.loop-k.invariant) before c.put-2.ensures

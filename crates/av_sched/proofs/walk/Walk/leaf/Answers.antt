@@ -2,9 +2,9 @@ use Rattle.std.proofs.Common.{rules, ◌∙◌, sym, subst, Some, length, List, 
 use Rattle.std.proofs.lemmas.Result.{on_ok_weaker}
 use Rattle.av_tree.specs.Points.{Point}
 use Rattle.av_sched.specs.inner.Walk.{known}
-use Rattle.av_sched.specs.inner.Walks.{Walk, walk_at, IsChoice, IsFeasibleChoice, IsBetter, HasCovered}
+use Rattle.av_sched.specs.inner.Walks.{Walk, walk_at, IsChoice, IsFeasibleChoice, IsBetter, HasSpent, HasCovered}
 use Rattle.av_sched.specs.inner.WalkInside.{walk_of}
-use Rattle.av_sched.proofs.Covering.{leaf_behind, leaf_infeasible, leaf_best}
+use Rattle.av_sched.proofs.Covering.{leaf_behind, leaf_infeasible, leaf_best, best_sound, best_spent, best_like, whole_spent}
 use Rattle.av_sched.proofs.walk.Walk.leaf.Goals as goal
 
 pub returns-then-not-branch : goal.returns-then-not-branch
@@ -25,6 +25,23 @@ returns-then-branch c =
     let best = c.in_ok-copy_points.field-0.items in
     subst (λ (v : Walk). HasCovered v (length v.choices.component) (walk_at d w.linear.items (Some best))) c.self.view_is
     (leaf_best (walk_of w) c.self.invariant.fits c.self.invariant.sound best c.self.invariant.valid ahead feasible (c.in_ok-copy_points.ensures ∙ c.deref-then-branch.ensures.value))
+
+pub invariant_of-self : goal.invariant_of-self
+invariant_of-self c =
+    let w = c.self.inside in
+    let d = w.choices.now in
+    let best = c.in_ok-copy_points.field-0.items in
+    let same = c.in_ok-copy_points.ensures ∙ c.deref-then-branch.ensures.value in
+    let feasible = subst (λ (xs : List Point). IsFeasibleChoice d xs) c.deref.ensures.value (c.in_ok-is_feasible.ensures.0 (search rules)) in
+    let spent = whole_spent (walk_of w) c.args.spent (subst (λ (v : Walk). HasSpent v (length v.choices.component) c.args.spent) (sym c.self.view_is) c.requires) in
+    record {
+      fits = c.self.invariant.fits;
+      valid = c.self.invariant.valid;
+      pool = c.self.invariant.pool;
+      sound = best_sound d w.linear.items best c.self.invariant.valid feasible same;
+      rated = best_spent d w.linear.items best c.args.spent spent same;
+      like = best_like d.component w.linear.items best same;
+    }
 
 pub returns : goal.returns
 returns c =
