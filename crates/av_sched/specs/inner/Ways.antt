@@ -1,5 +1,5 @@
 -- The directions along which references read one point. Only private contracts cite this.
-use Rattle.std.specs.Prelude.{◌≡◌, ℕ, map, ◌≤◌, List, length, All, not, filter}
+use Rattle.std.specs.Prelude.{ℕ, map, ◌≤◌, List, length, All, not, filter}
 use Rattle.std.specs.List.{list_any}
 use Rattle.av_affine.specs.Forms.{IsWithinLimits}
 use Rattle.av_tree.specs.Points.{Point}

@@ -1,4 +1,4 @@
-use Rattle.std.proofs.Common.{◌≡◌, ◌∙◌, refl, ap, subst, Vec, Global, Some, None}
+use Rattle.std.proofs.Common.{◌≡◌, ◌∙◌, refl, ap, subst, Vec, Global, None}
 use Rattle.std.proofs.lemmas.Option.{IfSome_then}
 use Rattle.av_poly.proofs.Searching.{none_weaker}
 use Rattle.av_tree.specs.Points.{Point}

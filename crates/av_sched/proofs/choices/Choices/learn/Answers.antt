@@ -1,6 +1,5 @@
-use Rattle.std.proofs.Common.{sym, subst, All}
+use Rattle.std.proofs.Common.{sym, subst}
 use Rattle.av_flat.specs.Trees.{view_system}
-use Rattle.av_sched.specs.Witnesses.{IsWitness}
 use Rattle.av_sched.specs.inner.Walks.{Choices, IsChoice}
 use Rattle.av_sched.proofs.Usable.{usable}
 use Rattle.av_sched.proofs.Inside.{vectors_of}

@@ -1,4 +1,4 @@
-use Rattle.std.proofs.Common.{rules, ◌≡◌, ◌<◌, ◌≤◌, ◌∙◌, refl, sym, ap, subst, length, take, ◌+◌, ◌++◌, ◌∷◌, [], arith, get_or, ℕ, List, OnOk}
+use Rattle.std.proofs.Common.{rules, ◌≡◌, ◌<◌, ◌≤◌, ◌∙◌, refl, sym, ap, subst, length, take, ◌+◌, [], arith, get_or, ℕ, List, OnOk}
 use Rattle.av_tree.specs.Points.{Point}
 use Rattle.av_sched.specs.declared.price.Price.{Price}
 use Rattle.av_sched.specs.inner.Walk.{IsSound}

@@ -1,7 +1,5 @@
-use Rattle.std.proofs.Common.{rules, ◌∙◌, sym, subst, Some, length, List, All}
-use Rattle.std.proofs.lemmas.Result.{on_ok_weaker}
+use Rattle.std.proofs.Common.{rules, ◌∙◌, sym, subst, Some, length, List}
 use Rattle.av_tree.specs.Points.{Point}
-use Rattle.av_sched.specs.inner.Walk.{known}
 use Rattle.av_sched.specs.inner.Walks.{Walk, walk_at, IsChoice, IsFeasibleChoice, IsBetter, HasSpent, HasCovered}
 use Rattle.av_sched.specs.inner.WalkInside.{walk_of}
 use Rattle.av_sched.proofs.Covering.{leaf_behind, leaf_infeasible, leaf_best, best_sound, best_spent, best_like, whole_spent}
