@@ -183,7 +183,8 @@ impl<'a> Walk<'a> {
         if self.is_barred(level, spent)? {
             return Ok(());
         }
-        if level == self.choices.component().len() {
+        let component = self.choices.component();
+        if level == component.len() {
             return self.leaf(alloc, spent);
         }
         self.cover_parts(alloc, level, spent)

@@ -17,13 +17,13 @@ cover-returns-then-branch t c =
 pub cover-leaf-requires : goal.cover-leaf-requires
 cover-leaf-requires t c =
     let same = c.in_ok-is_barred.ensures.same in
-    let all = c.if-level.true ∙ ap length c.component.ensures ∙ ap (λ (v : Walk). length v.choices.component) c.self.view_is in
+    let all = c.if-level-component.true ∙ ap length c.component-component.ensures ∙ ap (λ (v : Walk). length v.choices.component) c.self.view_is in
     subst (λ (k : ℕ). HasSpent c.is_barred.new.self k c.args.spent) all (subst (λ (v : Walk). HasSpent v c.args.level c.args.spent) (sym same) c.requires.spent)
 
-pub cover-returns-then-level : goal.cover-returns-then-level
-cover-returns-then-level t c =
+pub cover-returns-then-level-component : goal.cover-returns-then-level-component
+cover-returns-then-level-component t c =
     let same = c.in_ok-is_barred.ensures.same in
-    let all = c.if-level.true ∙ ap length c.component.ensures ∙ ap (λ (v : Walk). length v.choices.component) c.self.view_is in
+    let all = c.if-level-component.true ∙ ap length c.component-component.ensures ∙ ap (λ (v : Walk). length v.choices.component) c.self.view_is in
     subst (λ (v : Walk). OnOk c.leaf.result (HasCovered v c.args.level c.leaf.new.self)) same
     (subst (λ (k : ℕ). OnOk c.leaf.result (HasCovered c.is_barred.new.self k c.leaf.new.self)) (sym all) c.leaf.ensures)
 
@@ -31,10 +31,10 @@ pub cover-cover_parts-requires : goal.cover-cover_parts-requires
 cover-cover_parts-requires t c =
     let same = c.in_ok-is_barred.ensures.same in
     let long : length c.is_barred.new.self.choices.component ≡ length c.args.self.now.choices.component = ap (λ (v : Walk). length v.choices.component) same in
-    let here = ap length c.component.ensures ∙ ap (λ (v : Walk). length v.choices.component) c.self.view_is in
+    let here = ap length c.component-component.ensures ∙ ap (λ (v : Walk). length v.choices.component) c.self.view_is in
     let decreases = c.decreases in
     let level = c.requires.level in
-    let other = c.if-level.false in (
+    let other = c.if-level-component.false in (
       omega (arith, decreases, long),
       (omega (arith, level, long, here, other), subst (λ (v : Walk). HasSpent v c.args.level c.args.spent) (sym same) c.requires.spent),
     )
