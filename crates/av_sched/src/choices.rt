@@ -88,7 +88,8 @@ impl<'a> Choices<'a> {
         requires { level < length self.now.component }
         ensures { result ≡ node_at self.now level }
     {
-        self.component[level] as usize
+        let component = self.component;
+        component[level] as usize
     }
 
     /// The linear parts that the node at a level can have, and what each of them costs.

@@ -48,10 +48,10 @@ pub record AreAllPartsTo (s : FlatSystem) (c : ℕ) (component : List ℕ) (k : 
   pub each : (j : ℕ) → j < k → AreParts s c (slice_index_or component j 0) (slice_index_or lists j [])
 
 -- the linear parts that each node of the component can have, and what they cost
-pub record AreAllPriced (s : FlatSystem) (c : ℕ) (component : List ℕ) (lists : List (List Point)) (prices : List (List Price)) : Type 0 where
+pub record AreAllPriced (s : FlatSystem) (c : ℕ) (component : List ℕ) (parts : List (List Point)) (costs : List (List Price)) : Type 0 where
   pub within : All (λ n. n < length (nodes s)) component
-  pub lists : AreAllParts s c component lists
-  pub prices : ArePricesTo s component (length component) lists prices
+  pub lists : AreAllParts s c component parts
+  pub prices : ArePricesTo s component (length component) parts costs
 
 -- no choice that agrees with the first k parts is feasible
 abbrev pub IsForbidden : FlatSystem → List ℕ → ℕ → List Point → Type 0

@@ -8,11 +8,11 @@ use Rattle.av_sched.specs.inner.Walk.{AreAllPriced}
 use Rattle.av_sched.proofs.Pricing.{small_lists}
 use Rattle.av_sched.proofs.plan.plan_of.Goals as goal
 
-pub prices_of-prices-requires-clause-lists : goal.prices_of-prices-requires-clause-lists
-prices_of-prices-requires-clause-lists c = ap (λ (xs : List (List Point)). length xs) c.as_slice.ensures ∙ c.in_ok-lists.ensures.one_each
+pub prices_of-requires-clause-lists : goal.prices_of-requires-clause-lists
+prices_of-requires-clause-lists c = ap (λ (xs : List (List Point)). length xs) c.as_slice.ensures ∙ c.in_ok-lists.ensures.one_each
 
-pub prices_of-prices-requires-clause-small : goal.prices_of-prices-requires-clause-small
-prices_of-prices-requires-clause-small c =
+pub prices_of-requires-clause-small : goal.prices_of-requires-clause-small
+prices_of-requires-clause-small c =
     subst (All (All (AtMost 4))) (sym c.as_slice.ensures)
     (small_lists (view_system c.args.flat.now) c.args.reach.size c.args.component.now c.in_ok-lists.lists c.args.reach.most c.requires.within c.in_ok-lists.ensures)
 

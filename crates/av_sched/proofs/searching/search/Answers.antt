@@ -26,13 +26,13 @@ returns-in-Some-clause-refused c = λ f is other.
     let e = wide_only s c.args.reach.size c.in-Some.number h f is other in
     inl cc
 
-pub components_of-components-requires-clause-linear : goal.components_of-components-requires-clause-linear
-components_of-components-requires-clause-linear c =
+pub components_of-requires-clause-linear : goal.components_of-requires-clause-linear
+components_of-requires-clause-linear c =
     let s = view_system c.args.flat.now in
     subst (AreVectors s 4) (sym c.deref.ensures.value) (vectors_of s c.args.reach.size c.in_ok-start.start.items c.args.reach.most c.in_ok-start.ensures)
 
-pub stuck_at-name-requires-clause-within : goal.stuck_at-name-requires-clause-within
-stuck_at-name-requires-clause-within c =
+pub stuck_at-requires-clause-within : goal.stuck_at-requires-clause-within
+stuck_at-requires-clause-within c =
     let cs = c.in_ok-components.components in
     let infeasible : IsFirstInfeasible (view_system c.args.flat.now) c.args.reach.size cs c.in-Infeasible.k = search rules in
     subst (λ (xs : List (List ℕ)). c.in-Infeasible.k < length xs) (sym c.as_slice-in-Infeasible.ensures) (slice_get_within cs c.in-Infeasible.k infeasible.component infeasible.is)
