@@ -102,9 +102,9 @@ impl<'a> Walk<'a> {
 
     /// The best choice. It differs from the linear parts at which the walk stands in the component's nodes alone.
     pub(crate) fn into_best(self) -> Option<Vec<Point>>
-        ensures some { IfSome result (λ best. self.best ≡ Some best.items) }
-        ensures none { IfNone result (self.best ≡ None) }
-        ensures like { IsLike self.choices.component self.linear self.best }
+        ensures some { IfSome result (λ best. self.entry.best ≡ Some best.items) }
+        ensures none { IfNone result (self.entry.best ≡ None) }
+        ensures like { IsLike self.entry.choices.component self.entry.linear self.entry.best }
     {
         match self.best {
             None => None,
