@@ -1,5 +1,5 @@
 -- One level of a walk: the parts of one node are tried in turn, and the walk goes on behind each of them.
-use Rattle.std.proofs.Common.{◌≡◌, ℕ, suc, ◌+◌, ◌<◌, get_or, Some, None, Option, List, [], ◌∷◌, ◌++◌, length, refl, sym, ap, subst, ◌∙◌, arith, All, add-one, take}
+use Rattle.std.proofs.Common.{◌≡◌, ℕ, suc, ◌+◌, ◌<◌, ◌≤◌, get_or, Some, None, Option, Ok, Err, Result, OnOk, List, [], ◌∷◌, ◌++◌, length, refl, sym, ap, subst, ◌∙◌, arith, All, add-one, take}
 use Rattle.std.proofs.lemmas.List.{set-get_or}
 use Rattle.std.specs.Prelude.{Contains, slice_set}
 use Rattle.av_tree.specs.Points.{Point}
@@ -10,7 +10,7 @@ use Rattle.av_sched.specs.Prices.{IsSpent, IsPriceAt}
 use Rattle.av_sched.specs.declared.price.Price.{Price}
 use Rattle.av_sched.specs.Parts.{Agrees, AreParts}
 use Rattle.av_sched.specs.inner.Walk.{IsSound, IsBarred, HasWalked, HasTried, IsLike}
-use Rattle.av_sched.specs.inner.Walks.{Choices, Walk, walk_at, system_of, node_at, with_part, IsInSystem, IsChoice, IsFeasibleChoice, IsForbiddenChoice, IsPartAt, ArePricesOf, IsBetter, HasSpent, HasCovered}
+use Rattle.av_sched.specs.inner.Walks.{Choices, Walk, walk_at, system_of, node_at, part_at, with_part, IsInSystem, IsChoice, IsFeasibleChoice, IsForbiddenChoice, IsPartAt, ArePricesOf, IsBetter, HasSpent, HasCovered}
 use Rattle.av_sched.specs.inner.FirstChoices.{IsBestChoice, HasNone}
 use Rattle.av_sched.proofs.Choosing.{best_of_walk, none_of_walk}
 use Rattle.av_sched.proofs.Pricing.{spent_next, price_there}
@@ -26,6 +26,10 @@ pub record IsCovering (start : Walk) (k : ℕ) (tried : List Point) (now : Walk)
   pub done : HasTried (system_of start.choices) start.choices.size start.choices.component k start.linear tried start.best now.best
 
 -- ---- whole walks
+
+pub on_ok_always : {T E : Type 0} (r : Result T E) (P : Type 0) → P → OnOk r P
+on_ok_always (Ok x) P p = p
+on_ok_always (Err e) P p = tt
 
 -- nothing is to be found
 pub nothing_more : (w : Walk) (k : ℕ) → IsSound (system_of w.choices) w.choices.size w.choices.component w.best
@@ -85,6 +89,21 @@ best_like component linear best same = λ n out. ap (λ xs. part xs n) same
 pub within_linear : (d : Choices) (linear : List Point) → IsInSystem d → IsChoice d linear → All (λ n. n < length linear) d.component
 within_linear d linear known are = subst (λ (m : ℕ). All (λ n. n < m) d.component) (sym are.one_each) known.within
 
+-- a level at which a node stands
+pub level_fits : (old w : Walk) (k n : ℕ) → k ≤ length old.choices.component → w ≡ old → n ≡ length w.choices.component → (k ≡ n → ⊥) → k < length w.choices.component
+level_fits old w k n l same all other = let long = ap (λ (v : Walk). length v.choices.component) same in omega (arith, l, long, all, other)
+
+-- the node at a level has a linear part, and the code reads it
+pub node_fits : (d : Choices) (k n : ℕ) (linear : List Point) → IsInSystem d → IsChoice d linear → k < length d.component → n ≡ node_at d k → n < length linear
+node_fits d k n linear known valid fits at =
+    let one = valid.one_each in
+    let within = node_within (system_of d) d.size d.component known.within known.apart k fits in
+    omega (arith, one, within, at)
+
+pub part_read : (w : Walk) (k n : ℕ) (a v : Point) → IsInSystem w.choices → IsChoice w.choices w.linear → k < length w.choices.component → n ≡ node_at w.choices k → a ≡ get_or w.linear n a → v ≡ a → v ≡ part_at w k
+part_read w k n a v known valid fits at is same =
+    same ∙ is ∙ ap (λ (m : ℕ). get_or w.linear m a) at ∙ same_default w.linear (node_at w.choices k) a [] (node_fits w.choices k (node_at w.choices k) w.linear known valid fits refl)
+
 -- what a part that is tried costs
 pub price_of : (d : Choices) (k : ℕ) (parts : List Point) (prices : List Price) (i : ℕ) (a : Point) (p : Price) → ArePricesOf d k parts prices → i < length parts → a ≡ get_or parts i a → IsPriceAt (system_of d) (node_at d k) a (get_or prices i p)
 price_of d k parts prices i a p h l is = price_there (system_of d) (node_at d k) parts parts prices prices i a a h refl refl l is refl p
@@ -117,13 +136,6 @@ module _ (start : Walk) (k : ℕ) (fits : k < length start.choices.component) (k
   -- the part that stands at the node can stand there
   pub part_there : IsChoice start.choices start.linear → IsPartAt start.choices k (part start.linear (node_at start.choices k))
   part_there valid x e = valid.each (node_at start.choices k) x e
-
-  -- and the copy of it, as the code takes it
-  pub part_before : IsChoice start.choices start.linear → (linear : List Point) (n : ℕ) (a v : Point) → linear ≡ start.linear → n ≡ node_at start.choices k → a ≡ get_or linear n a → v ≡ a → v ≡ part start.linear (node_at start.choices k)
-  part_before valid linear n a v is at here same =
-      let d = start.choices in
-      let l : node_at d k < length start.linear = (let b = valid.one_each in let e = node_within (system_of d) d.size d.component known.within known.apart k fits in omega (arith, b, e)) in
-      same ∙ here ∙ ap (λ (xs : List Point). get_or xs n a) is ∙ ap (λ (m : ℕ). get_or start.linear m a) at ∙ same_default start.linear (node_at d k) a [] l
 
   -- another part put at the node stands as if it were put at the start
   pub covering_put : (tried : List Point) (now : Walk) (v : Point) → IsCovering start k tried now

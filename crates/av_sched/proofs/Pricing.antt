@@ -124,7 +124,7 @@ module _ (s : FlatSystem) where
       }
 
   -- nothing overflows
-  pub spent_fits : (component : List ℕ) (k : ℕ) (linear : List Point) (spent own : Price) (n : ℕ) (v : Point) → k ≤ length component → k < 18446744073709551615 → IsSpent s linear (take k component) spent → IsPriceAt s n v own
+  pub spent_fits : (component : List ℕ) (k : ℕ) (linear : List Point) (spent own : Price) (n : ℕ) (v : Point) → k ≤ length component → k < 2 ^ 64 → IsSpent s linear (take k component) spent → IsPriceAt s n v own
       → (spent.left + own.left < 2 ^ 128) × (spent.size + own.size < 2 ^ 128)
   spent_fits component k linear spent own n v l small h price =
       let many = length_taken component k l in
@@ -334,6 +334,14 @@ module _ (s : FlatSystem) where
       subst (λ (ns : List ℕ). IsFloor s c ns new) (sym (dropped component j fits))
       (floor_more c n (drop (suc j) component) (slice_index_or lists j []) list least floor new node (all.each j fits)
       (subst (ArePricesAt s n (slice_index_or lists j [])) (sym own) (priced.each j fits)) lefts sizes before left size)
+
+  -- the floor that stands for the nodes from a level on
+  pub floor_at : (c : ℕ) (component : List ℕ) (floors : List Price) (level k : ℕ) (p : Price) → AreFloorsTo s c component (length component) floors → level ≤ length component → k ≡ length component - level → p ≡ get_or floors k p
+      → IsFloor s c (drop level component) p
+  floor_at c component floors level k p h l same is =
+      let within : k < length component + 1 = omega (arith, same) in
+      let back : length component - k ≡ level = omega (arith, same, l) in
+      subst (IsFloor s c (drop level component)) (sym is) (subst (λ (i : ℕ). IsFloor s c (drop i component) (get_or floors k p)) back (h.each k p within))
 
   -- the part that is tried next
   pub price_there : (n : ℕ) (list items : List Point) (prs priced : List Price) (i : ℕ) (p v : Point) → ArePricesAt s n list prs → items ≡ list → priced ≡ prs → i < length items → p ≡ get_or items i p → v ≡ p → (d : Price) → IsPriceAt s n v (get_or priced i d)

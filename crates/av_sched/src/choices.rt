@@ -108,7 +108,8 @@ impl<'a> Choices<'a> {
         requires { level ≤ length self.now.component }
         ensures { IsFloorFrom self.now level result }
     {
-        self.plan.floors[self.component.len() - level]
+        let remaining = self.component.len() - level;
+        self.plan.floors[remaining]
     }
 
     /// Whether the choice is feasible, by all listed points of the edges inside the component.

@@ -7,7 +7,7 @@ ghost use Rattle.av_affine.specs.Numbers.{AtMost};
 ghost use Rattle.av_sched.specs.Offsets.{part};
 ghost use Rattle.av_sched.specs.Order.{entry_rank, IsLess};
 ghost use Rattle.av_sched.specs.inner.Walk.{IsLike};
-ghost use Rattle.av_sched.specs.inner.Walks.{walk_at, with_part, IsInSystem, IsChoice, HasSpent, IsBetter, IsPartAt, HasCovered};
+ghost use Rattle.av_sched.specs.inner.Walks.{walk_at, part_at, with_part, IsInSystem, IsChoice, HasSpent, IsBetter, IsPartAt, HasCovered};
 
 use crate::choices::Choices;
 use crate::cost::ranks_of;
@@ -112,6 +112,15 @@ impl<'a> Walk<'a> {
         }
     }
 
+    // The linear part of the node at the level.
+    fn part_at(&self, level: usize) -> Point
+        requires { level < length self.now.choices.component }
+        ensures { result ≡ part_at self.now level }
+    {
+        let node = self.choices.node(level);
+        copy_point(&self.linear[node])
+    }
+
     // Gives the node at the level a linear part.
     fn put(&mut self, level: usize, part: &Point)
         requires level { level < length self.old.choices.component }
@@ -141,17 +150,19 @@ impl<'a> Walk<'a> {
         requires { HasSpent self.now (length self.now.choices.component) spent }
         ensures { IfOk result (λ b. IsTrue b ↔ IsBetter self.now) }
     {
-        let Some(found) = &self.best else {
-            return Ok(true);
-        };
-        if spent.left != found.price.left {
-            return Ok(spent.left < found.price.left);
+        match &self.best {
+            None => Ok(true),
+            Some(found) => {
+                if spent.left != found.price.left {
+                    return Ok(spent.left < found.price.left);
+                }
+                if spent.size != found.price.size {
+                    return Ok(spent.size < found.price.size);
+                }
+                let component = self.choices.component();
+                is_earlier(alloc, component, &self.linear, &found.parts)
+            }
         }
-        if spent.size != found.price.size {
-            return Ok(spent.size < found.price.size);
-        }
-        let component = self.choices.component();
-        is_earlier(alloc, component, &self.linear, &found.parts)
     }
 
     // Takes the choice as the best one where it is feasible and comes before that.
@@ -163,18 +174,19 @@ impl<'a> Walk<'a> {
         if !self.is_better(alloc, spent)? {
             return Ok(());
         }
-        if choices.is_feasible(alloc, &self.linear)? {
+        let linear = self.linear.as_slice();
+        if choices.is_feasible(alloc, linear)? {
+            let parts = copy_points(alloc, linear)?;
             self.best = Some(Best {
-                parts: copy_points(alloc, &self.linear)?,
+                parts,
                 price: spent,
             });
             return Ok(());
         }
-        choices.learn(alloc, &self.linear, &mut self.pool)
+        choices.learn(alloc, linear, &mut self.pool)
     }
 
     /// Goes through all choices with the same parts for the first nodes, where these may not be left out.
-    #[cycle(walk)]
     pub(crate) fn cover(&mut self, alloc: Global, level: usize, spent: Price) -> Result<(), Memory>
         requires level { level ≤ length self.old.choices.component }
         requires spent { HasSpent self.old level spent }
@@ -183,27 +195,18 @@ impl<'a> Walk<'a> {
         if self.is_barred(level, spent)? {
             return Ok(());
         }
-        let component = self.choices.component();
-        if level == component.len() {
+        let choices = self.choices;
+        let levels = choices.component().len();
+        if level == levels {
             return self.leaf(alloc, spent);
         }
-        self.cover_parts(alloc, level, spent)
-    }
-
-    // The same, by the parts that the next node can have.
-    #[cycle(walk)]
-    fn cover_parts(&mut self, alloc: Global, level: usize, spent: Price) -> Result<(), Memory>
-        requires level { level < length self.old.choices.component }
-        requires spent { HasSpent self.old level spent }
-        ensures { OnOk result (HasCovered self.old level self.new) }
-    {
-        let choices = self.choices;
-        let before = copy_point(&self.linear[choices.node(level)]);
+        let next = level + 1;
+        let before = self.part_at(level);
         let (parts, prices) = choices.candidates(level);
         for k in 0..parts.len() {
             self.put(level, &parts[k]);
             let own = with_more(spent, prices[k]);
-            self.cover(alloc, level + 1, own)?;
+            self.cover(alloc, next, own)?;
         }
         self.put(level, &before);
         Ok(())

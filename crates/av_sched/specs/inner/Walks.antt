@@ -7,6 +7,7 @@ use Rattle.av_flat.specs.Nodes.{nodes}
 use Rattle.av_flat.specs.Schedules.{IsLinearPart}
 use Rattle.av_depend.specs.declared.edge.Edge.{Edge}
 use Rattle.av_sched.specs.declared.price.Price.{Price}
+use Rattle.av_sched.specs.Offsets.{part}
 use Rattle.av_sched.specs.Parts.{AreParts}
 use Rattle.av_sched.specs.Prices.{IsSpent, IsFloor, ArePricesAt}
 use Rattle.av_sched.specs.Choices.{AreLinearParts, IsFeasible}
@@ -74,6 +75,10 @@ HasSpent w k p = IsSpent (system_of w.choices) w.linear (take k w.choices.compon
 -- the choice at which it stands comes before the best one, if one is known
 abbrev pub IsBetter : Walk → Type 0
 IsBetter w = IsAhead (system_of w.choices) w.choices.component w.linear w.best
+
+-- the linear part of the node at the level k
+abbrev pub part_at : Walk → ℕ → Point
+part_at w k = part w.linear (node_at w.choices k)
 
 -- v can be the linear part of the node at the level k
 abbrev pub IsPartAt : Choices → ℕ → Point → Type 0

@@ -23,3 +23,7 @@ loop-k-preserved c =
           let e : c.if-not-is_listed.pool.items ≡ c.loop-k.pool.items = ap (λ v. v.items) w.pool-is in
           subst (All P) (sym e) c.loop-k.invariant
     ]
+
+-- where memory runs out, the pool is as it was
+pub returns-in_err-push : goal.returns-in_err-push
+returns-in_err-push c = subst (All (IsWitness c.args.edges.now c.args.component.now)) (sym c.in_err-push.ensures.items) c.loop-k.invariant

@@ -1,19 +1,53 @@
 use Rattle.std.proofs.Common.{◌<◌, ◌∙◌, sym, ap, subst, length, List, get_or, arith, []}
+use Rattle.std.specs.Prelude.{slice_index_or}
+use Rattle.av_base.proofs.Lists.{same_default}
 use Rattle.av_tree.specs.Points.{Point}
 use Rattle.av_flat.specs.Trees.{view_system}
-use Rattle.std.specs.Prelude.{slice_index_or}
 use Rattle.av_sched.specs.declared.price.Price.{Price}
 use Rattle.av_sched.specs.Prices.{ArePricesAt}
 use Rattle.av_sched.specs.inner.Walks.{Choices, ArePartsAt, ArePricesOf}
 use Rattle.av_sched.proofs.Steps.{parts_at}
-use Rattle.av_base.proofs.Lists.{same_default}
 use Rattle.av_sched.proofs.choices.Choices.candidates.Goals as goal
+
+pub bounds-as_slice-level : goal.bounds-as_slice-level
+bounds-as_slice-level c =
+    let d = c.self.inside in
+    let fits : c.args.level < length d.component.now = subst (λ (x : Choices). c.args.level < length x.component) (sym c.self.view_is) c.requires in
+    let one = c.self.invariant.lists.one_each in
+    let all = ap length c.as_slice.ensures in
+    omega (arith, fits, one, all)
+
+pub offset_bounds-as_slice-level : goal.offset_bounds-as_slice-level
+offset_bounds-as_slice-level c =
+    let d = c.self.inside in
+    let fits : c.args.level < length d.component.now = subst (λ (x : Choices). c.args.level < length x.component) (sym c.self.view_is) c.requires in
+    let one = c.self.invariant.lists.one_each in
+    let all = ap length c.as_slice.ensures in
+    let within : c.args.level < length c.as_slice.result.now = omega (arith, fits, one, all) in
+    omega arith
+
+pub bounds-as_slice-level-2 : goal.bounds-as_slice-level-2
+bounds-as_slice-level-2 c =
+    let d = c.self.inside in
+    let fits : c.args.level < length d.component.now = subst (λ (x : Choices). c.args.level < length x.component) (sym c.self.view_is) c.requires in
+    let one = c.self.invariant.prices.one_each in
+    let all = ap length c.as_slice-2.ensures in
+    omega (arith, fits, one, all)
+
+pub offset_bounds-as_slice-level-2 : goal.offset_bounds-as_slice-level-2
+offset_bounds-as_slice-level-2 c =
+    let d = c.self.inside in
+    let fits : c.args.level < length d.component.now = subst (λ (x : Choices). c.args.level < length x.component) (sym c.self.view_is) c.requires in
+    let one = c.self.invariant.prices.one_each in
+    let all = ap length c.as_slice-2.ensures in
+    let within : c.args.level < length c.as_slice-2.result.now = omega (arith, fits, one, all) in
+    omega arith
 
 pub returns-clause-parts : goal.returns-clause-parts
 returns-clause-parts c =
     let d = c.self.inside in
     let level = c.args.level in
-    let fits : level < length d.component.now = subst (λ (x : Choices). level < length x.component) (sym c.self.view_is) c.requires in
+    let fits = subst (λ (x : Choices). level < length x.component) (sym c.self.view_is) c.requires in
     let at = c.index-as_slice-level.is ∙ ap (λ (xs : List (List Point)). get_or xs level c.index-as_slice-level.result) c.as_slice.ensures in
     subst (λ (x : Choices). ArePartsAt x level c.as_slice-parts.result.now) c.self.view_is
     (parts_at (view_system d.flat.now) d.reach.size d.component.now d.plan.lists level c.index-as_slice-level.result c.as_slice-parts.result.now c.self.invariant.lists fits at c.as_slice-parts.ensures)

@@ -18,6 +18,9 @@ witness_arcs-requires-clause-usable c =
     let pool = subst (λ (d : Choices). All (IsWitness d.edges d.component) c.args.pool.now) (sym c.self.view_is) c.requires.pool in
     usable_witnesses s c.self.inside.edges.now c.self.inside.component.now c.args.linear.now c.self.invariant.chained c.self.invariant.proper c.self.invariant.edges (vectors_of s c.self.inside.reach.size c.args.linear.now c.self.inside.reach.most parts) c.args.pool.now pool
 
+pub witness_arcs-requires-clause-pool : goal.witness_arcs-requires-clause-pool
+witness_arcs-requires-clause-pool c = subst (λ (d : Choices). All (IsWitness d.edges d.component) c.args.pool.now) (sym c.self.view_is) c.requires.pool
+
 pub settles-requires : goal.settles-requires
 settles-requires c =
     let s = view_system c.self.inside.flat.now in

@@ -1,4 +1,4 @@
-use Rattle.std.proofs.Common.{◌↔◌, ◌<◌, sym, subst, length, ℕ, List, Option, Some, IsTrue, Bool, IfOk, map, All}
+use Rattle.std.proofs.Common.{◌↔◌, ◌<◌, refl, sym, subst, length, ℕ, List, Option, Some, IsTrue, Bool, true, IfOk, map, All}
 use Rattle.std.specs.Prelude.{nat_lt}
 use Rattle.std.specs.List.{flat_map}
 use Rattle.std.proofs.lemmas.Result.{IfOk-weaker}
@@ -13,6 +13,12 @@ use Rattle.av_sched.specs.inner.WalkInside.{walk_of}
 use Rattle.av_sched.proofs.Covering.{whole_spent, within_linear}
 use Rattle.av_sched.proofs.Pricing.{by_left, by_size, by_ranks, less_test, small_parts}
 use Rattle.av_sched.proofs.walk.Walk.is_better.Goals as goal
+
+pub returns-in-None : goal.returns-in-None
+returns-in-None c =
+    let w = c.self.inside in
+    subst (λ (v : Walk). IsTrue true ↔ IsBetter v) c.self.view_is
+    (subst (λ (o : Option Best). IsTrue true ↔ IsAhead (system_of w.choices.now) w.choices.now.component w.linear.items (known o)) (sym c.in-None.is) ((λ t. tt), (λ u. refl)))
 
 pub returns-then-spent-found : goal.returns-then-spent-found
 returns-then-spent-found c =
@@ -40,8 +46,8 @@ returns-then-spent-found-2 c =
     subst (λ (v : Walk). IsTrue (nat_lt c.args.spent.size found.price.size) ↔ IsBetter v) c.self.view_is
     (subst (λ (o : Option Best). IsTrue (nat_lt c.args.spent.size found.price.size) ↔ IsAhead s component w.linear.items (known o)) (sym c.in-Some.is) ((λ a. h.0 (t.0 a)), (λ b. t.1 (h.1 b))))
 
-pub returns : goal.returns
-returns c =
+pub returns-else-spent-found-2 : goal.returns-else-spent-found-2
+returns-else-spent-found-2 c =
     let w = c.self.inside in
     let s = system_of w.choices.now in
     let component = w.choices.now.component in
