@@ -1,20 +1,19 @@
 -- One level of a walk: the parts of one node are tried in turn, and the walk goes on behind each of them.
-use Rattle.std.proofs.Common.{◌≡◌, ℕ, suc, ◌+◌, ◌<◌, ◌≤◌, get_or, Some, None, Option, Ok, Err, Result, OnOk, List, [], ◌∷◌, ◌++◌, length, refl, sym, ap, subst, ◌∙◌, arith, All, add-one, take}
+use Rattle.std.proofs.Common.{◌≡◌, ◌≢◌, ℕ, suc, ◌+◌, ◌-◌, ◌^◌, ◌<◌, ◌≤◌, get_or, Some, None, Option, Ok, Err, Result, OnOk, List, [], ◌∷◌, ◌++◌, length, refl, sym, ap, subst, ◌∙◌, arith, All, add-one, take}
 use Rattle.std.proofs.lemmas.List.{set-get_or}
 use Rattle.std.specs.Prelude.{Contains, slice_set}
 use Rattle.av_tree.specs.Points.{Point}
 use Rattle.av_flat.specs.Nodes.{nodes}
 use Rattle.av_sched.specs.Offsets.{part}
-use Rattle.av_sched.specs.Choices.{AreLinearParts}
 use Rattle.av_sched.specs.Prices.{IsSpent, IsPriceAt}
 use Rattle.av_sched.specs.declared.price.Price.{Price}
-use Rattle.av_sched.specs.Parts.{Agrees, AreParts}
+use Rattle.av_sched.specs.Parts.{Agrees}
 use Rattle.av_sched.specs.inner.Walk.{IsSound, IsBarred, HasWalked, HasTried, IsLike}
-use Rattle.av_sched.specs.inner.Walks.{Choices, Walk, walk_at, system_of, node_at, part_at, with_part, IsInSystem, IsChoice, IsFeasibleChoice, IsForbiddenChoice, IsPartAt, ArePricesOf, IsBetter, HasSpent, HasCovered}
+use Rattle.av_sched.specs.inner.Walks.{Choices, Walk, walk_at, system_of, node_at, part_at, with_part, IsInSystem, IsChoice, IsFeasibleChoice, IsForbiddenChoice, IsPartAt, ArePartsAt, ArePricesOf, IsBetter, HasSpent, HasCovered}
 use Rattle.av_sched.specs.inner.FirstChoices.{IsBestChoice, HasNone}
 use Rattle.av_sched.proofs.Choosing.{best_of_walk, none_of_walk}
-use Rattle.av_sched.proofs.Pricing.{spent_next, price_there}
-use Rattle.av_sched.proofs.Steps.{set_set, like_set, at_level, node_within, before_apart, set_valid}
+use Rattle.av_sched.proofs.Pricing.{spent_next, spent_fits, price_there}
+use Rattle.av_sched.proofs.Steps.{set_set, like_set, at_level, node_within, before_apart, set_valid, part_is_valid}
 use Rattle.av_sched.proofs.Tries.{leaf_new, leaf_kept, leaf_barred, tried_none, tried_more, tried_all, leads_on}
 use Rattle.av_sched.proofs.Walking.{nothing_there}
 use Rattle.av_base.proofs.Lists.{same_default, there_is, take_whole}
@@ -89,10 +88,6 @@ best_like component linear best same = λ n out. ap (λ xs. part xs n) same
 pub within_linear : (d : Choices) (linear : List Point) → IsInSystem d → IsChoice d linear → All (λ n. n < length linear) d.component
 within_linear d linear known are = subst (λ (m : ℕ). All (λ n. n < m) d.component) (sym are.one_each) known.within
 
--- a level at which a node stands
-pub level_fits : (old w : Walk) (k n : ℕ) → k ≤ length old.choices.component → w ≡ old → n ≡ length w.choices.component → (k ≡ n → ⊥) → k < length w.choices.component
-level_fits old w k n l same all other = let long = ap (λ (v : Walk). length v.choices.component) same in omega (arith, l, long, all, other)
-
 -- the node at a level has a linear part, and the code reads it
 pub node_fits : (d : Choices) (k n : ℕ) (linear : List Point) → IsInSystem d → IsChoice d linear → k < length d.component → n ≡ node_at d k → n < length linear
 node_fits d k n linear known valid fits at =
@@ -103,10 +98,6 @@ node_fits d k n linear known valid fits at =
 pub part_read : (w : Walk) (k n : ℕ) (a v : Point) → IsInSystem w.choices → IsChoice w.choices w.linear → k < length w.choices.component → n ≡ node_at w.choices k → a ≡ get_or w.linear n a → v ≡ a → v ≡ part_at w k
 part_read w k n a v known valid fits at is same =
     same ∙ is ∙ ap (λ (m : ℕ). get_or w.linear m a) at ∙ same_default w.linear (node_at w.choices k) a [] (node_fits w.choices k (node_at w.choices k) w.linear known valid fits refl)
-
--- what a part that is tried costs
-pub price_of : (d : Choices) (k : ℕ) (parts : List Point) (prices : List Price) (i : ℕ) (a : Point) (p : Price) → ArePricesOf d k parts prices → i < length parts → a ≡ get_or parts i a → IsPriceAt (system_of d) (node_at d k) a (get_or prices i p)
-price_of d k parts prices i a p h l is = price_there (system_of d) (node_at d k) parts parts prices prices i a a h refl refl l is refl p
 
 -- ---- a part put at a node
 
@@ -125,29 +116,65 @@ module _ (d : Choices) (k n : ℕ) (v p : Point) (fits : k < length d.component)
 
 -- ---- one level
 
-module _ (start : Walk) (k : ℕ) (fits : k < length start.choices.component) (known : IsInSystem start.choices) where
-  pub covering_start : IsSound (system_of start.choices) start.choices.size start.choices.component start.best → IsCovering start k [] start
-  covering_start sound = record {
+-- a node stands at the level, and what is kept holds
+pub record IsAt (w : Walk) (k : ℕ) : Type 0 where
+  pub fits : k < length w.choices.component
+  pub known : IsInSystem w.choices
+  pub valid : IsChoice w.choices w.linear
+  pub sound : IsSound (system_of w.choices) w.choices.size w.choices.component w.best
+
+-- that is so where the level is not the number of the component's nodes
+pub is_at : (old w inside : Walk) (k : ℕ) (component : List ℕ) → k ≤ length old.choices.component → w ≡ old → inside ≡ w → component ≡ inside.choices.component → (k ≡ length component → ⊥)
+    → IsInSystem inside.choices → IsChoice inside.choices inside.linear → IsSound (system_of inside.choices) inside.choices.size inside.choices.component inside.best → IsAt w k
+is_at old w inside k component l same is all other known valid sound =
+    let a = ap length all in
+    let b = ap (λ (v : Walk). length v.choices.component) is in
+    let c = ap (λ (v : Walk). length v.choices.component) same in
+    record {
+      fits = omega (arith, l, a, b, c, other);
+      known = subst (λ (v : Walk). IsInSystem v.choices) is known;
+      valid = subst (λ (v : Walk). IsChoice v.choices v.linear) is valid;
+      sound = subst (λ (v : Walk). IsSound (system_of v.choices) v.choices.size v.choices.component v.best) is sound;
+    }
+
+module _ (start : Walk) (k : ℕ) (at : IsAt start k) where
+  node_inside : node_at start.choices k < length start.linear
+  node_inside = node_fits start.choices k (node_at start.choices k) start.linear at.known at.valid at.fits refl
+
+  apart_before : (j : ℕ) → j < k → node_at start.choices j ≢ node_at start.choices k
+  apart_before = before_apart (system_of start.choices) start.choices.size start.choices.component at.known.within at.known.apart k at.fits
+
+  pub covering_start : IsCovering start k [] start
+  covering_start = record {
     choices = refl;
     back = set-get_or start.linear (node_at start.choices k) [];
-    done = tried_none (system_of start.choices) start.choices.size start.choices.component known.within k start.linear start.best sound;
+    done = tried_none (system_of start.choices) start.choices.size start.choices.component at.known.within k start.linear start.best at.sound;
   }
 
-  -- the part that stands at the node can stand there
-  pub part_there : IsChoice start.choices start.linear → IsPartAt start.choices k (part start.linear (node_at start.choices k))
-  part_there valid x e = valid.each (node_at start.choices k) x e
+  -- another part can be put at the node, also the one that stands there
+  pub put_fits : (tried : List Point) (now : Walk) → IsCovering start k tried now → k < length now.choices.component
+  put_fits tried now h = subst (λ (d : Choices). k < length d.component) (sym h.choices) at.fits
+
+  pub put_part : (tried : List Point) (now : Walk) (v : Point) → IsCovering start k tried now → IsPartAt start.choices k v → IsPartAt now.choices k v
+  put_part tried now v h own = subst (λ (d : Choices). IsPartAt d k v) (sym h.choices) own
+
+  pub tried_part : (parts : List Point) (i : ℕ) (v : Point) → ArePartsAt start.choices k parts → i < length parts → v ≡ get_or parts i v → IsPartAt start.choices k v
+  tried_part parts i v all l is = part_is_valid (system_of start.choices) start.choices.size (node_at start.choices k) parts i v v all l is refl
+
+  pub part_there : (v : Point) → v ≡ part_at start k → IsPartAt start.choices k v
+  part_there v is = subst (λ (p : Point). IsPartAt start.choices k p) (sym is) (λ x e. at.valid.each (node_at start.choices k) x e)
 
   -- another part put at the node stands as if it were put at the start
-  pub covering_put : (tried : List Point) (now : Walk) (v : Point) → IsCovering start k tried now
+  covering_put : (tried : List Point) (now : Walk) (v : Point) → IsCovering start k tried now
       → slice_set start.linear (node_at start.choices k) v ≡ slice_set now.linear (node_at start.choices k) v
   covering_put tried now v h =
       let n = node_at start.choices k in
       ap (λ xs. slice_set xs n v) (sym h.back) ∙ set_set now.linear n (part start.linear n) v
 
   -- one part more
-  pub covering_more : (tried : List Point) (now mid new : Walk) (v : Point) → AreLinearParts (system_of start.choices) start.choices.size start.linear → IsCovering start k tried now → mid ≡ with_part now k v → HasCovered mid (k + 1) new
+  pub covering_more : (tried : List Point) (now mid new : Walk) (v : Point) → IsCovering start k tried now → mid ≡ with_part now k v → HasCovered mid (k + 1) new
       → IsCovering start k (tried ++ v ∷ []) new
-  covering_more tried now mid new v valid h is covered =
+  covering_more tried now mid new v h is covered =
       let d = start.choices in
       let n = node_at d k in
       let p = part start.linear n in
@@ -157,25 +184,24 @@ module _ (start : Walk) (k : ℕ) (fits : k < length start.choices.component) (k
       subst (λ (e : Choices). HasWalked (system_of e) e.size e.component (k + 1) (slice_set now.linear (node_at e k) v) now.best new.best) h.choices r.best in
       let walked' = subst (λ (j : ℕ). HasWalked (system_of d) d.size d.component j next now.best new.best) (add-one k) walked in
       let stands : new.linear ≡ next = r.linear ∙ ap (λ (e : Choices). slice_set now.linear (node_at e k) v) h.choices in
-      let l : n < length start.linear = (let a = valid.one_each in let b = node_within (system_of d) d.size d.component known.within known.apart k fits in omega (arith, a, b)) in
       record {
         choices = r.choices ∙ h.choices;
         back = ap (λ xs. slice_set xs n p) stands ∙ set_set now.linear n v p ∙ h.back;
-        done = tried_more (system_of d) d.size d.component known.within k start.linear next tried v start.best now.best new.best
+        done = tried_more (system_of d) d.size d.component at.known.within k start.linear next tried v start.best now.best new.best
             (λ other agrees e. subst (λ (xs : List Point). Agrees d.component (suc k) xs other) (covering_put tried now v h)
-            (leads_on (system_of d) d.size d.component known.within k start.linear other v l (before_apart (system_of d) d.size d.component known.within known.apart k fits) agrees e))
+            (leads_on (system_of d) d.size d.component at.known.within k start.linear other v node_inside apart_before agrees e))
             h.done walked';
       }
 
   -- after all parts, with the old one put back
-  pub covering_done : (parts : List Point) (now new : Walk) (v : Point) → AreParts (system_of start.choices) start.choices.size (node_at start.choices k) parts → IsCovering start k parts now
-      → v ≡ part start.linear (node_at start.choices k) → new ≡ with_part now k v → HasCovered start k new
+  pub covering_done : (parts : List Point) (now new : Walk) (v : Point) → ArePartsAt start.choices k parts → IsCovering start k parts now
+      → v ≡ part_at start k → new ≡ with_part now k v → HasCovered start k new
   covering_done parts now new v all h same is =
       let d = start.choices in
       let n = node_at d k in
       let whole : HasWalked (system_of d) d.size d.component k start.linear start.best now.best =
-      tried_all (system_of d) d.size d.component known.within k start.linear parts start.best now.best
-      (λ other are agrees f. let e = there_is (nodes (system_of d)) n (node_within (system_of d) d.size d.component known.within known.apart k fits) in all.all e.0 e.1 (part other n) (are.each n e.0 e.1))
+      tried_all (system_of d) d.size d.component at.known.within k start.linear parts start.best now.best
+      (λ other are agrees f. let e = there_is (nodes (system_of d)) n (node_within (system_of d) d.size d.component at.known.within at.known.apart k at.fits) in all.all e.0 e.1 (part other n) (are.each n e.0 e.1))
       h.done in
       subst (λ (w : Walk). HasCovered start k w) (sym is) (record {
         choices = h.choices;
@@ -183,12 +209,33 @@ module _ (start : Walk) (k : ℕ) (fits : k < length start.choices.component) (k
         best = whole;
       })
 
-  -- what was spent with that part
-  pub spent_put : (tried : List Point) (now : Walk) (v : Point) (spent own next : Price) → IsChoice start.choices start.linear → IsCovering start k tried now → HasSpent start k spent
-      → IsPriceAt (system_of start.choices) (node_at start.choices k) v own → next.left ≡ spent.left + own.left → next.size ≡ spent.size + own.size → HasSpent (with_part now k v) (k + 1) next
-  spent_put tried now v spent own next valid h before price left size =
+  -- what a part that is tried costs
+  price_of : (parts : List Point) (prices : List Price) (i : ℕ) (v : Point) (p : Price) → ArePricesOf start.choices k parts prices → i < length parts → v ≡ get_or parts i v
+      → IsPriceAt (system_of start.choices) (node_at start.choices k) v (get_or prices i p)
+  price_of parts prices i v p h l is = price_there (system_of start.choices) (node_at start.choices k) parts parts prices prices i v v h refl refl l is refl p
+
+  -- with what was spent before it fits its type
+  pub spent_room : (parts : List Point) (prices : List Price) (i : ℕ) (v : Point) (spent p : Price) → k < 2 ^ 64 → HasSpent start k spent → ArePricesOf start.choices k parts prices → i < length parts → v ≡ get_or parts i v
+      → (spent.left + (get_or prices i p).left < 2 ^ 128) × (spent.size + (get_or prices i p).size < 2 ^ 128)
+  spent_room parts prices i v spent p small before costs l is =
       let d = start.choices in
-      let n = node_at d k in
-      let l : n < length start.linear = (let a = valid.one_each in let b = node_within (system_of d) d.size d.component known.within known.apart k fits in omega (arith, a, b)) in
-      subst (λ (e : Choices). IsSpent (system_of e) (slice_set now.linear (node_at e k) v) (take (k + 1) e.component) next) (sym h.choices)
-      (spent_next (system_of d) d.component k start.linear (slice_set now.linear n v) v spent own next fits l (before_apart (system_of d) d.size d.component known.within known.apart k fits) (covering_put tried now v h) before price left size)
+      let fits = at.fits in
+      spent_fits (system_of d) d.component k start.linear spent (get_or prices i p) (node_at d k) v (omega (arith, fits)) small before (price_of parts prices i v p costs l is)
+
+  pub spent_put : (tried parts : List Point) (prices : List Price) (i : ℕ) (now mid : Walk) (v : Point) (spent p next : Price) → IsCovering start k tried now → mid ≡ with_part now k v → HasSpent start k spent
+      → ArePricesOf start.choices k parts prices → i < length parts → v ≡ get_or parts i v → next.left ≡ spent.left + (get_or prices i p).left → next.size ≡ spent.size + (get_or prices i p).size → HasSpent mid (k + 1) next
+  spent_put tried parts prices i now mid v spent p next h is before costs l at_index left size =
+      let d = start.choices in
+      subst (λ (w : Walk). HasSpent w (k + 1) next) (sym is)
+      (subst (λ (e : Choices). IsSpent (system_of e) (slice_set now.linear (node_at e k) v) (take (k + 1) e.component) next) (sym h.choices)
+      (spent_next (system_of d) d.component k start.linear (slice_set now.linear (node_at d k) v) v spent (get_or prices i p) next at.fits node_inside apart_before (covering_put tried now v h) before (price_of parts prices i v p costs l at_index) left size))
+
+  -- and the levels that are left are fewer
+  pub fewer_left : (old : Walk) (tried : List Point) (now mid : Walk) (v : Point) → IsCovering start k tried now → mid ≡ with_part now k v → start ≡ old
+      → (k + 1 ≤ length mid.choices.component) × (length mid.choices.component - (k + 1) < length old.choices.component - k)
+  fewer_left old tried now mid v h is same =
+      let fits = at.fits in
+      let a = ap (λ (w : Walk). length w.choices.component) is in
+      let b = ap (λ (d : Choices). length d.component) h.choices in
+      let c = ap (λ (w : Walk). length w.choices.component) same in
+      (omega (arith, fits, a, b, c), omega (arith, fits, a, b, c))
