@@ -106,9 +106,10 @@ impl<'a> Walk<'a> {
         ensures none { IfNone result (self.entry.best ≡ None) }
         ensures like { IsLike self.entry.choices.component self.entry.linear self.entry.best }
     {
-        match self.best {
+        let Walk { best, .. } = self;
+        match best {
             None => None,
-            Some(best) => Some(best.parts),
+            Some(found) => Some(found.parts),
         }
     }
 
