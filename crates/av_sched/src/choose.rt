@@ -1,13 +1,12 @@
 //! The first feasible choice of each component in turn.
 
-ghost use Rattle.std.specs.Prelude.{◌≡◌, ◌≤◌, ◌<◌, length, All, AllPairs, Contains, IfOk, IfSome, IfNone, List as Items};
-ghost use Rattle.av_tree.specs.Points.{Point as Vector};
+ghost use Rattle.std.specs.Prelude.{◌<◌, length, All, AllPairs, IfOk, IfSome, IfNone};
 ghost use Rattle.av_flat.specs.Trees.{view_system};
 ghost use Rattle.av_flat.specs.Nodes.{nodes};
 ghost use Rattle.av_flat.specs.Chained.{IsChained};
 ghost use Rattle.av_flat.specs.Proper.{IsProper};
 ghost use Rattle.av_depend.specs.Edges.{AreEdgesOf};
-ghost use Rattle.av_sched.specs.Choices.{AreLinearParts, IsFeasible};
+ghost use Rattle.av_sched.specs.Choices.{AreLinearParts};
 ghost use Rattle.av_sched.specs.inner.FirstChoices.{IsBestChoice, IsSearchOutcome, HasNone, AreComponentsOf};
 
 use crate::choices::Choices;

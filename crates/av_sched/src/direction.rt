@@ -1,6 +1,6 @@
 //! Directions along which references read one point, and linear parts that go up along them.
 
-ghost use Rattle.std.specs.Prelude.{◌≡◌, ◌++◌, ◌∷◌, [], ◌≤◌, ◌<◌, pos, negsuc, map, length, All, IfOk};
+ghost use Rattle.std.specs.Prelude.{◌≡◌, ◌∷◌, [], ◌≤◌, ◌<◌, pos, negsuc, map, length, All, IfOk};
 ghost use Rattle.std.specs.List.{flat_map, list_any};
 ghost use Rattle.std.specs.Ordering.{int_eq};
 ghost use Rattle.av_affine.specs.Forms.{IsWithinLimits};

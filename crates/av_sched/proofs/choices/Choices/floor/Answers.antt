@@ -1,4 +1,4 @@
-use Rattle.std.proofs.Common.{◌≡◌, ◌≤◌, ◌+◌, length, refl, sym, subst, arith}
+use Rattle.std.proofs.Common.{◌≡◌, ◌≤◌, length, refl, sym, subst, arith}
 use Rattle.av_flat.specs.Trees.{view_system}
 use Rattle.av_sched.specs.inner.Walks.{Choices, IsFloorFrom}
 use Rattle.av_sched.proofs.Pricing.{floor_at}
