@@ -28,10 +28,10 @@ returns-in-Some c =
     let s = view_system c.args.flat.now in
     let linear = c.args.linear.now in
     let zip = subst (λ (xs : List Arc). AllZip (IsArcOf linear) c.args.edges.now xs) (sym c.deref.ensures.value) c.in_ok-arcs.ensures in
-    let found = subst (λ (o : Option (Vec ℤ Global)). IfSome o (λ off. IsLeastSolution c.deref.result.now c.in_ok-low.low off.items)) c.in-Some.is c.in_ok-least.ensures.some in
+    let found = subst (λ (o : Option (Vec ℤ Global)). IfSome o (λ off. IsLeastSolution c.deref.result.now c.in_ok-low.low off.items)) c.in-Some.is c.in_ok-found.ensures.some in
     let least = least_offsets s c.args.edges.now c.deref.result.now linear c.in_ok-low.low c.requires.chained c.requires.edges zip c.in_ok-low.ensures.starts c.in-Some.found.items found in
     record {
-      least = subst (λ (xs : List ℤ). AreLeastOffsets s linear xs) (sym (c.in_ok-list_of.ensures ∙ c.deref-in-Some.ensures.value)) least;
+      least = subst (λ (xs : List ℤ). AreLeastOffsets s linear xs) (sym (c.in_ok-list_of-in-Some.ensures ∙ c.deref-in-Some.ensures.value)) least;
       none = tt;
     }
 
@@ -40,7 +40,7 @@ returns c =
     let s = view_system c.args.flat.now in
     let linear = c.args.linear.now in
     let zip = subst (λ (xs : List Arc). AllZip (IsArcOf linear) c.args.edges.now xs) (sym c.deref.ensures.value) c.in_ok-arcs.ensures in
-    let nothing = subst (λ (o : Option (Vec ℤ Global)). IfNone o ((x : List ℤ) → Solves c.deref.result.now c.in_ok-low.low x → ⊥)) c.in-None.is c.in_ok-least.ensures.none in
+    let nothing = subst (λ (o : Option (Vec ℤ Global)). IfNone o ((x : List ℤ) → Solves c.deref.result.now c.in_ok-low.low x → ⊥)) c.in-None.is c.in_ok-found.ensures.none in
     record {
       least = tt;
       none = no_offsets s c.args.edges.now c.deref.result.now linear c.in_ok-low.low c.requires.chained c.requires.edges zip c.in_ok-low.ensures.starts nothing;

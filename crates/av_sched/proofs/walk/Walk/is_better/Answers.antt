@@ -57,9 +57,9 @@ returns-else-spent-found-2 c =
     let spent = whole_spent (walk_of w) c.args.spent (subst (λ (v : Walk). HasSpent v (length v.choices.component) c.args.spent) (sym c.self.view_is) c.requires) in
     let rated = subst (IsRated s component) c.in-Some.is c.self.invariant.rated in
     let h = by_ranks s component linear c.args.spent found.parts.items found.price spent rated c.if-spent-found.false c.if-spent-found-2.false in
-    let e1 = subst (λ (ns : List ℕ). IfOk c.is_earlier.result (λ (b : Bool). IsTrue b ↔ IsLess (map entry_rank (flat_map (part c.deref.result.now) ns)) (map entry_rank (flat_map (part c.deref-2.result.now) ns)))) c.component-component.ensures c.is_earlier.ensures in
-    let e2 = subst (λ (ps : List Point). IfOk c.is_earlier.result (λ (b : Bool). IsTrue b ↔ IsLess (map entry_rank (flat_map (part ps) component)) (map entry_rank (flat_map (part c.deref-2.result.now) component)))) c.deref.ensures.value e1 in
-    let e3 = subst (λ (ps : List Point). IfOk c.is_earlier.result (λ (b : Bool). IsTrue b ↔ IsLess own (map entry_rank (flat_map (part ps) component)))) c.deref-2.ensures.value e2 in
+    let e1 = subst (λ (ns : List ℕ). IfOk c.is_earlier.result (λ (b : Bool). IsTrue b ↔ IsLess (map entry_rank (flat_map (part c.deref.result.now) ns)) (map entry_rank (flat_map (part c.deref-in-Some.result.now) ns)))) c.component-component.ensures c.is_earlier.ensures in
+    let e2 = subst (λ (ps : List Point). IfOk c.is_earlier.result (λ (b : Bool). IsTrue b ↔ IsLess (map entry_rank (flat_map (part ps) component)) (map entry_rank (flat_map (part c.deref-in-Some.result.now) component)))) c.deref.ensures.value e1 in
+    let e3 = subst (λ (ps : List Point). IfOk c.is_earlier.result (λ (b : Bool). IsTrue b ↔ IsLess own (map entry_rank (flat_map (part ps) component)))) c.deref-in-Some.ensures.value e2 in
     subst (λ (v : Walk). IfOk c.is_earlier.result (λ (b : Bool). IsTrue b ↔ IsBetter v)) c.self.view_is
     (subst (λ (o : Option Best). IfOk c.is_earlier.result (λ (b : Bool). IsTrue b ↔ IsAhead s component linear (known o))) (sym c.in-Some.is)
     (IfOk-weaker c.is_earlier.result (λ (b : Bool). IsTrue b ↔ IsLess own (map entry_rank (flat_map (part found.parts.items) component))) (λ (b : Bool). IsTrue b ↔ IsAhead s component linear (known (Some found)))
@@ -75,8 +75,8 @@ pub is_earlier-requires-clause-others : goal.is_earlier-requires-clause-others
 is_earlier-requires-clause-others c =
     let w = c.self.inside in
     let sound = subst (λ (o : Option Best). IsSound (system_of w.choices.now) w.choices.now.size w.choices.now.component (known o)) c.in-Some.is c.self.invariant.sound in
-    subst (λ (ns : List ℕ). All (λ n. n < length c.deref-2.result.now) ns) (sym c.component-component.ensures)
-    (subst (λ (ps : List Point). All (λ n. n < length ps) w.choices.now.component) (sym c.deref-2.ensures.value) (within_linear w.choices.now c.in-Some.found.parts.items c.self.invariant.fits sound.0))
+    subst (λ (ns : List ℕ). All (λ n. n < length c.deref-in-Some.result.now) ns) (sym c.component-component.ensures)
+    (subst (λ (ps : List Point). All (λ n. n < length ps) w.choices.now.component) (sym c.deref-in-Some.ensures.value) (within_linear w.choices.now c.in-Some.found.parts.items c.self.invariant.fits sound.0))
 
 pub is_earlier-requires-clause-small : goal.is_earlier-requires-clause-small
 is_earlier-requires-clause-small c =
@@ -88,4 +88,4 @@ pub is_earlier-requires-clause-others_small : goal.is_earlier-requires-clause-ot
 is_earlier-requires-clause-others_small c =
     let d = c.self.inside.choices.now in
     let sound = subst (λ (o : Option Best). IsSound (system_of d) d.size d.component (known o)) c.in-Some.is c.self.invariant.sound in
-    subst (All (AtMost 4)) (sym c.deref-2.ensures.value) (small_parts (system_of d) d.size c.in-Some.found.parts.items c.self.invariant.fits.small sound.0)
+    subst (All (AtMost 4)) (sym c.deref-in-Some.ensures.value) (small_parts (system_of d) d.size c.in-Some.found.parts.items c.self.invariant.fits.small sound.0)
