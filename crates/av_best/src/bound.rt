@@ -7,7 +7,7 @@ ghost use Rattle.av_flat.specs.Chained.{IsChained};
 ghost use Rattle.av_flat.specs.Proper.{IsProper};
 ghost use Rattle.av_depend.specs.Edges.{AreEdgesOf};
 ghost use Rattle.av_sched.specs.Choices.{AreLinearParts};
-ghost use Rattle.av_sched.specs.Places.{IsPlace};
+ghost use Rattle.av_sched.specs.Witnesses.{IsWitness};
 ghost use Rattle.av_best.specs.Least.{all_nodes};
 ghost use Rattle.av_best.specs.inner.Spans.{AreSpanned, IsLeastAbove, AreLows, AreSmallSpans};
 ghost use Rattle.av_best.specs.inner.Joint.{IsBounded};
@@ -16,7 +16,7 @@ use crate::span::Span;
 use av_base::{Memory, Point};
 use av_depend::Edge;
 use av_flat::{Flat, Reach};
-use av_sched::{Place, Room, raise_to_least, witness_arcs};
+use av_sched::{Room, Witness, raise_to_least, witness_arcs};
 
 // The number of cycles up to the last one of a node.
 fn through(offset: i64, high: i64) -> u64
@@ -71,7 +71,7 @@ pub(crate) fn bound(
     level: usize,
     linear: &[Point],
     spans: &[Span],
-    pool: &[Place],
+    pool: &[Witness],
     room: &mut Room,
 ) -> Result<Option<u64>, Memory>
     requires chained { IsChained (view_system _flat.now) }
@@ -82,7 +82,7 @@ pub(crate) fn bound(
     requires level { level ≤ length nodes.now }
     requires linear { AreLinearParts (view_system _flat.now) _reach.size linear.now }
     requires spans { AreSpanned (view_system _flat.now) level linear.now spans.now }
-    requires pool { All (IsPlace edges.now nodes.now) pool.now }
+    requires pool { All (IsWitness edges.now nodes.now) pool.now }
     ensures { IfOk result (IsBounded (view_system _flat.now) _reach.size level linear.now) }
 {
     witness_arcs(edges, nodes, level, linear, pool, &mut room.arcs)?;

@@ -1,16 +1,16 @@
-//! What a choice teaches: of the edges between two nodes, the place that asks for most.
+//! What a choice teaches: of the edges between two nodes, the witness that asks for most.
 
 ghost use Rattle.std.specs.Prelude.{◌≡◌, ◌<◌, length, All, Contains, IfOk, IfSome};
 ghost use Rattle.std.specs.List.{AllZip};
 ghost use Rattle.av_flat.specs.Trees.{view_system};
 ghost use Rattle.av_sched.specs.Leads.{IsUsable, IsArcOf};
-ghost use Rattle.av_sched.specs.Places.{IsPlace};
+ghost use Rattle.av_sched.specs.Witnesses.{IsWitness};
 ghost use Rattle.av_best.specs.Least.{all_nodes};
 
 use av_base::{Memory, Point};
 use av_depend::Edge;
 use av_flat::Flat;
-use av_sched::{Arc, Place, is_listed, place_of_edge};
+use av_sched::{Arc, Witness, is_listed, witness_of_edge};
 use std::alloc::Global;
 
 // Where among the chosen arcs one between the same nodes is.
@@ -45,7 +45,7 @@ fn pressing(alloc: Global, arcs: &[Arc]) -> Result<Vec<usize>, Memory>
     Ok(chosen)
 }
 
-/// Adds the places at which these linear parts are pressed most.
+/// Adds the witnesses at which these linear parts are pressed most.
 pub(crate) fn learn(
     alloc: Global,
     _flat: &Flat,
@@ -53,23 +53,23 @@ pub(crate) fn learn(
     nodes: &[u32],
     linear: &[Point],
     arcs: &[Arc],
-    pool: &mut Vec<Place>,
+    pool: &mut Vec<Witness>,
 ) -> Result<(), Memory>
     requires nodes { nodes.now ≡ all_nodes (view_system _flat.now) }
     requires usable { All (IsUsable linear.now) edges.now }
     requires many { length linear.now ≡ length nodes.now }
     requires arcs { AllZip (IsArcOf linear.now) edges.now arcs.now }
-    requires pool { All (IsPlace edges.now nodes.now) pool.old.items }
-    ensures { IfOk result (λ done. All (IsPlace edges.now nodes.now) pool.new.items) }
+    requires pool { All (IsWitness edges.now nodes.now) pool.old.items }
+    ensures { IfOk result (λ done. All (IsWitness edges.now nodes.now) pool.new.items) }
 {
     let chosen = pressing(alloc, arcs)?;
     for k in &chosen {
         let edge = &edges[*k];
         let reader = edge.consumer as usize;
         let read = edge.producer as usize;
-        let place = place_of_edge(edges, edge, nodes, reader, read, linear);
-        if !is_listed(pool, &place) {
-            pool.push(place)?;
+        let witness = witness_of_edge(edges, edge, nodes, reader, read, linear);
+        if !is_listed(pool, &witness) {
+            pool.push(witness)?;
         }
     }
     Ok(())

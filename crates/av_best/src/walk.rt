@@ -10,7 +10,7 @@ ghost use Rattle.av_depend.specs.Edges.{AreEdgesOf};
 ghost use Rattle.av_sched.specs.Choices.{AreLinearParts};
 ghost use Rattle.av_sched.specs.Order.{cost, IsLess};
 ghost use Rattle.av_sched.specs.Parts.{AreAllParts};
-ghost use Rattle.av_sched.specs.Places.{IsPlace};
+ghost use Rattle.av_sched.specs.Witnesses.{IsWitness};
 ghost use Rattle.av_sched.specs.Prices.{IsSpent, IsFloor, ArePricesTo, AreFloorsTo};
 ghost use Rattle.av_best.specs.Least.{all_nodes};
 ghost use Rattle.av_best.specs.inner.Spans.{AreSpanned, AreSpansTo};
@@ -24,8 +24,8 @@ use av_base::{List, Memory, Point};
 use av_depend::{Edge, copy_point};
 use av_flat::{Flat, Reach};
 use av_sched::{
-    Place, Plan, Price, Room, arcs_of, at_least, copy_points, is_above, is_earlier, raise_to_least,
-    with_more,
+    Plan, Price, Room, Witness, arcs_of, at_least, copy_points, is_above, is_earlier,
+    raise_to_least, with_more,
 };
 use std::alloc::Global;
 
@@ -122,7 +122,7 @@ fn leaf(
     spans: &[Span],
     spent: Price,
     cycles: u64,
-    pool: &mut Vec<Place>,
+    pool: &mut Vec<Witness>,
     room: &mut Room,
     best: Option<Best>,
 ) -> Result<Option<Best>, Memory>
@@ -135,10 +135,10 @@ fn leaf(
     requires spans { AreSpanned (view_system flat.now) (length nodes.now) linear.now spans.now }
     requires spent { IsSpent (view_system flat.now) linear.now nodes.now spent }
     requires bound { IsBound (view_system flat.now) reach.size (length nodes.now) linear.now cycles }
-    requires pool { All (IsPlace edges.now nodes.now) pool.old.items }
+    requires pool { All (IsWitness edges.now nodes.now) pool.old.items }
     requires best { IsSound (view_system flat.now) reach.size best }
     ensures walked { IfOk result (HasWalked (view_system flat.now) reach.size (length nodes.now) linear.now best) }
-    ensures pool { IfOk result (λ new. All (IsPlace edges.now nodes.now) pool.new.items) }
+    ensures pool { IfOk result (λ new. All (IsWitness edges.now nodes.now) pool.new.items) }
 {
     if !is_better(alloc, flat, reach, nodes, linear, spent, cycles, &best)? {
         return Ok(best);
@@ -178,7 +178,7 @@ pub(crate) fn walk(
     cycles: u64,
     linear: &mut [Point],
     spans: &mut [Span],
-    pool: &mut Vec<Place>,
+    pool: &mut Vec<Witness>,
     room: &mut Room,
     best: Option<Best>,
 ) -> Result<Option<Best>, Memory>
@@ -197,12 +197,12 @@ pub(crate) fn walk(
     requires wide { length spans.old ≡ length nodes.now }
     requires spent { IsSpent (view_system flat.now) linear.old (take level nodes.now) spent }
     requires bound { IsBound (view_system flat.now) reach.size level linear.old cycles }
-    requires pool { All (IsPlace edges.now nodes.now) pool.old.items }
+    requires pool { All (IsWitness edges.now nodes.now) pool.old.items }
     requires best { IsSound (view_system flat.now) reach.size best }
     ensures walked { IfOk result (HasWalked (view_system flat.now) reach.size level linear.old best) }
     ensures linear { IfOk result (λ new. linear.new ≡ linear.old) }
     ensures spanned { IfOk result (λ new. AreSpanned (view_system flat.now) level linear.old spans.new) }
-    ensures pool { IfOk result (λ new. All (IsPlace edges.now nodes.now) pool.new.items) }
+    ensures pool { IfOk result (λ new. All (IsWitness edges.now nodes.now) pool.new.items) }
 {
     if level == nodes.len() {
         return leaf(
@@ -253,7 +253,7 @@ fn walk_unless_barred(
     spent: Price,
     linear: &mut [Point],
     spans: &mut [Span],
-    pool: &mut Vec<Place>,
+    pool: &mut Vec<Witness>,
     room: &mut Room,
     best: Option<Best>,
 ) -> Result<Option<Best>, Memory>
@@ -271,12 +271,12 @@ fn walk_unless_barred(
     requires spanned { AreSpanned (view_system flat.now) level linear.old spans.old }
     requires wide { length spans.old ≡ length nodes.now }
     requires spent { IsSpent (view_system flat.now) linear.old (take level nodes.now) spent }
-    requires pool { All (IsPlace edges.now nodes.now) pool.old.items }
+    requires pool { All (IsWitness edges.now nodes.now) pool.old.items }
     requires best { IsSound (view_system flat.now) reach.size best }
     ensures walked { IfOk result (HasWalked (view_system flat.now) reach.size level linear.old best) }
     ensures linear { IfOk result (λ new. linear.new ≡ linear.old) }
     ensures spanned { IfOk result (λ new. AreSpanned (view_system flat.now) level linear.old spans.new) }
-    ensures pool { IfOk result (λ new. All (IsPlace edges.now nodes.now) pool.new.items) }
+    ensures pool { IfOk result (λ new. All (IsWitness edges.now nodes.now) pool.new.items) }
 {
     let Some(cycles) = bound(flat, edges, reach, nodes, level, linear, spans, pool, room)? else {
         return Ok(best);

@@ -10,6 +10,7 @@ pub mod Started
 pub mod Starting
 pub mod Tries
 pub mod Steps
+pub mod Covering
 pub mod Inside
 pub mod Witnesses
 pub mod Choosing

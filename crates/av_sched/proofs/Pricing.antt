@@ -3,19 +3,18 @@ use Rattle.std.proofs.Common.{◌≡◌, ◌≢◌, ◌↔◌, ℕ, zero, suc, �
 use Rattle.std.proofs.Math.Seq.{drop-cons}
 use Rattle.av_sched.proofs.Listing.{get_push, get_last}
 use Rattle.av_sched.proofs.Steps.{take_more}
-use Rattle.av_sched.proofs.Ways.{small_node}
 use Rattle.av_sched.proofs.Inside.{vectors_of}
 use Rattle.av_affine.specs.Numbers.{AtMost}
-use Rattle.av_flat.specs.Chained.{IsChained}
 use Rattle.std.proofs.lemmas.Bool.Decides.{nat_tests}
 use Rattle.std.specs.Prelude.{Contains, filter, not, ◌&&◌, sum, sum_by, slice_get, slice_set, slice_index_or, nat_lt, IsTrue}
 use Rattle.std.specs.List.{flat_map}
 use Rattle.std.proofs.lemmas.Bool.{cases_eq}
 use Rattle.std.proofs.lemmas.List.Sums.{sum_by-cons, sum-map, sum_by_more}
-use Rattle.std.proofs.lemmas.List.Elements.{All-head, All-tail}
+use Rattle.std.proofs.lemmas.List.Elements.{All-head, All-tail, All-weaker}
 use Rattle.av_tree.specs.Points.{Point}
 use Rattle.av_flat.specs.Trees.{FlatSystem}
 use Rattle.av_flat.specs.Nodes.{nodes}
+use Rattle.av_flat.specs.Schedules.{IsLinearPart}
 use Rattle.av_flat.specs.Broadcasts.{Reference, along, is_broadcast, is_moved}
 use Rattle.av_sched.specs.declared.price.Price.{Price}
 use Rattle.av_sched.specs.declared.price.Best.{Best}
@@ -24,7 +23,7 @@ use Rattle.av_sched.specs.Choices.{AreLinearParts}
 use Rattle.av_sched.specs.Order.{references_of, left_still, size_of, cost, IsLess, entry_rank}
 use Rattle.av_sched.specs.Parts.{Agrees, AreParts, AreAllParts}
 use Rattle.av_sched.specs.inner.Walk.{IsBarred, known, IsRated, IsAbove}
-use Rattle.av_sched.specs.inner.Ways.{IsSmallDirection, ways_of, still_among}
+use Rattle.av_sched.specs.inner.Ways.{ways_of, still_among}
 use Rattle.av_sched.specs.Prices.{left_at, IsPriceAt, ArePricesAt, ArePricesTo, IsSpent, IsFloor, AreFloorsTo}
 use Rattle.av_sched.proofs.Tries.{SameIn}
 use Rattle.av_base.proofs.Lists.{same_default, there_is}
@@ -125,7 +124,7 @@ module _ (s : FlatSystem) where
       }
 
   -- nothing overflows
-  pub spent_fits : (component : List ℕ) (k : ℕ) (linear : List Point) (spent own : Price) (n : ℕ) (v : Point) → k ≤ length component → k < 18446744073709551615 → IsSpent s linear (take k component) spent → IsPriceAt s n v own
+  pub spent_fits : (component : List ℕ) (k : ℕ) (linear : List Point) (spent own : Price) (n : ℕ) (v : Point) → k ≤ length component → k < 2 ^ 64 → IsSpent s linear (take k component) spent → IsPriceAt s n v own
       → (spent.left + own.left < 2 ^ 128) × (spent.size + own.size < 2 ^ 128)
   spent_fits component k linear spent own n v l small h price =
       let many = length_taken component k l in
@@ -336,6 +335,14 @@ module _ (s : FlatSystem) where
       (floor_more c n (drop (suc j) component) (slice_index_or lists j []) list least floor new node (all.each j fits)
       (subst (ArePricesAt s n (slice_index_or lists j [])) (sym own) (priced.each j fits)) lefts sizes before left size)
 
+  -- the floor that stands for the nodes from a level on
+  pub floor_at : (c : ℕ) (component : List ℕ) (floors : List Price) (level k : ℕ) (p : Price) → AreFloorsTo s c component (length component) floors → level ≤ length component → k ≡ length component - level → p ≡ get_or floors k p
+      → IsFloor s c (drop level component) p
+  floor_at c component floors level k p h l same is =
+      let within : k < length component + 1 = omega (arith, same) in
+      let back : length component - k ≡ level = omega (arith, same, l) in
+      subst (IsFloor s c (drop level component)) (sym is) (subst (λ (i : ℕ). IsFloor s c (drop i component) (get_or floors k p)) back (h.each k p within))
+
   -- the part that is tried next
   pub price_there : (n : ℕ) (list items : List Point) (prs priced : List Price) (i : ℕ) (p v : Point) → ArePricesAt s n list prs → items ≡ list → priced ≡ prs → i < length items → p ≡ get_or items i p → v ≡ p → (d : Price) → IsPriceAt s n v (get_or priced i d)
   price_there n list items prs priced i p v h e f l is same d =
@@ -348,16 +355,18 @@ module _ (s : FlatSystem) where
       → slice_set start (slice_index_or component k 0) v ≡ next → IsSpent s start (take k component) spent → IsPriceAt s (slice_index_or component k 0) v own → new.left ≡ spent.left + own.left → new.size ≡ spent.size + own.size → IsSpent s next (take (k + 1) component) new
   spent_next component k start next v spent own new l fits apart e h price left size = subst (λ (xs : List Point). IsSpent s xs (take (k + 1) component) new) e (spent_more component k start v spent own new l fits apart h price left size)
 
-  pub directions_fit : (c n : ℕ) (items : List Point) (ways : List (List Point)) → IsChained s → n < length (nodes s) → AreParts s c n items → ways ≡ ways_of (references_of (slice_get (nodes s) n))
-      → All (λ part. All (All (IsSmallDirection (length part))) ways) items
-  directions_fit c n items ways chained l valid e =
-      let r = there_is (nodes s) n l in
-      let small = small_node s n r.0 chained r.1 in
-      λ i d m. subst (λ (k : ℕ). All (All (IsSmallDirection k)) ways) (sym (valid.valid r.0 r.1 i d m).size) (subst (All (All (IsSmallDirection r.0.domain.dim))) (sym e) small)
-
   pub small_parts : (c : ℕ) (linear : List Point) → c ≤ 4 → AreLinearParts s c linear → All (AtMost 4) linear
   small_parts c linear wide are = λ k d l.
       subst (AtMost 4) (same_default linear k [] d l) ((vectors_of s c linear wide are).entries k (let z = are.one_each in omega (arith, l, z)))
+
+  -- all entries of the parts of the component's nodes are small
+  pub small_lists : (c : ℕ) (component : List ℕ) (lists : List (List Point)) → c ≤ 4 → All (λ n. n < length (nodes s)) component → AreAllParts s c component lists → All (All (AtMost 4)) lists
+  small_lists c component lists wide within all = λ k d l.
+      let m : k < length component = (let z = all.one_each in omega (arith, l, z)) in
+      let v = there_is (nodes s) (get_or component k 0) (within k 0 m) in
+      subst (All (AtMost 4)) (same_default lists k [] d l)
+      (All-weaker (IsLinearPart c v.0.domain.dim) (AtMost 4) (λ a h. All-weaker (λ x. unsigned_abs x ≤ c) (λ x. unsigned_abs x ≤ 4) (λ x p. omega (arith, p, wide)) a h.entries) (slice_index_or lists k [])
+      ((all.each k m).valid v.0 v.1))
 
 -- ---- tests
 

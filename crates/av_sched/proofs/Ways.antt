@@ -1,11 +1,12 @@
 -- Directions: their sizes and entries, and those along which small references read one point.
 use Rattle.std.proofs.Common.{◌≡◌, ℕ, zero, suc, ◌<◌, ◌≤◌, ℤ, pos, List, [], ◌∷◌, ◌++◌, map, length, get_or, refl, sym, ap, subst, ◌∙◌, arith, All, unsigned_abs}
-use Rattle.std.specs.Prelude.{negsuc, not, filter, Contains, slice_get, Some, Option}
+use Rattle.std.specs.Prelude.{negsuc, not, filter, Contains, slice_get, Some}
 use Rattle.std.specs.List.{flat_map}
 use Rattle.std.proofs.lemmas.Int.{ints}
-use Rattle.std.proofs.lemmas.List.Elements.{All-nil, All-cons, All-append, All-map, All-weaker, All-filter, All-contains, All-head, All-tail, Contains-get_or, filter-append}
+use Rattle.std.proofs.lemmas.List.Elements.{All-nil, All-cons, All-append, All-map, All-weaker, All-filter, All-contains, Contains-get_or, filter-append}
 use Rattle.std.proofs.lemmas.List.{map-append}
 use Rattle.av_affine.specs.declared.map.Map.{Map}
+use Rattle.av_affine.specs.Numbers.{AtMost}
 use Rattle.av_tree.specs.Points.{Point}
 use Rattle.av_flat.specs.declared.flat.Piece.{Piece as PieceMade}
 use Rattle.av_flat.specs.declared.flat.Var.{Var}
@@ -13,12 +14,16 @@ use Rattle.av_base.proofs.Among.{among_map}
 use Rattle.av_flat.specs.Trees.{view, view_piece, view_variable, Tree, Piece, Variable, FlatSystem, reference, constant, binary, choice, restriction, cases, dependence, reduction, pick}
 use Rattle.av_flat.specs.Signatures.{Signature, signatures}
 use Rattle.av_flat.specs.WellFormed.{EachPart, Fits, HasSmallRows}
-use Rattle.av_sched.specs.Order.{references_of}
 use Rattle.av_flat.specs.Nodes.{is_node, nodes}
 use Rattle.av_flat.specs.Chained.{IsChained, IsChainedVariable, IsChainedPiece}
 use Rattle.av_flat.specs.Broadcasts.{Reference, references, lists_of, directions, is_zero, along, stays, is_broadcast}
-use Rattle.av_sched.specs.inner.Ways.{HasSmallReferences, IsSmallDirection, ways_of}
+use Rattle.av_sched.specs.inner.Ways.{HasSmallReferences, ways_of}
 use Rattle.av_base.proofs.Lists.{all_at}
+
+-- a direction of n entries
+pub record IsSmallDirection (n : ℕ) (w : Point) : Type 0 where
+  pub size : length w ≡ n
+  pub entries : AtMost 1 w
 
 abbrev pub three : List ℤ
 three = pos 0 ∷ pos 1 ∷ negsuc 0 ∷ []
@@ -42,6 +47,12 @@ small_directions n = All-filter (λ w. not (is_zero w)) (IsSmallDirection n) (li
 pub small_along : (m : Map) → All (IsSmallDirection m.from) (along m)
 small_along m = All-filter (stays m) (IsSmallDirection m.from) (directions m.from) (small_directions m.from)
 
+-- all entries of the directions of references
+pub small_ways : (refs : List Reference) → All (All (AtMost 1)) (ways_of refs)
+small_ways refs =
+    All-map (All (AtMost 1)) (λ r. along r.map) (filter (λ r. is_broadcast r.map) refs)
+    (λ k d l. let m = (get_or (filter (λ r. is_broadcast r.map) refs) k d).map in All-weaker (IsSmallDirection m.from) (AtMost 1) (λ w h. h.entries) (along m) (small_along m))
+
 pub shorter_lists : (n : ℕ) (xs : List Point) → n < 4 → xs ≡ lists_of three n → All (λ y. length y < 4) xs
 shorter_lists n xs l e = subst (All (λ y. length y < 4)) (sym e) (All-weaker (IsSmallDirection n) (λ y. length y < 4) (λ y h. let q = h.size in omega (arith, q, l)) (lists_of three n) (small_lists n))
 
@@ -61,50 +72,13 @@ small_tree vs n (dependence m t) few fits rows = tt
 small_tree vs n (reduction o m t set) few fits rows = tt
 small_tree vs n (pick place choices w) few fits rows = tt
 
-abbrev pub IsOver : ℕ → Reference → Type 0
-IsOver n r = r.map.from ≡ n
-
-over_tree : (vs : List Signature) (n : ℕ) (t : Tree) → Fits vs n t → All (IsOver n) (references t)
-over_tree vs n (reference place m) fits = All-cons (IsOver n) (record { place = place; map = m }) [] fits.from (All-nil (IsOver n))
-over_tree vs n (binary s l r) fits = All-append (IsOver n) (references l) (references r) (over_tree vs n l fits.0) (over_tree vs n r fits.1)
-over_tree vs n (choice l c r x y) fits =
-    let P = IsOver n in
-    All-append P (references l ++ references r ++ references x) (references y)
-    (All-append P (references l ++ references r) (references x) (All-append P (references l) (references r) (over_tree vs n l fits.0) (over_tree vs n r fits.1)) (over_tree vs n x fits.2))
-    (over_tree vs n y fits.3)
-over_tree vs n (constant w) fits = All-nil (IsOver n)
-over_tree vs n (restriction d t) fits = All-nil (IsOver n)
-over_tree vs n (cases ts) fits = All-nil (IsOver n)
-over_tree vs n (dependence m t) fits = All-nil (IsOver n)
-over_tree vs n (reduction o m t set) fits = All-nil (IsOver n)
-over_tree vs n (pick place choices w) fits = All-nil (IsOver n)
-
--- the directions of small references
-small_ways : (n : ℕ) (refs : List Reference) → All (IsOver n) refs → All (All (IsSmallDirection n)) (ways_of refs)
-small_ways n refs h =
-    All-map (All (IsSmallDirection n)) (λ r. along r.map) (filter (λ r. is_broadcast r.map) refs)
-    (All-weaker (IsOver n) (λ r. All (IsSmallDirection n) (along r.map)) (λ r k. subst (λ (m : ℕ). All (IsSmallDirection m) (along r.map)) k (small_along r.map))
-    (filter (λ r. is_broadcast r.map) refs) (All-filter (λ r. is_broadcast r.map) (IsOver n) refs h))
-
--- of a piece, a variable and a node
-pub small_piece : (s : FlatSystem) (v : Variable) (p : Piece) → IsChainedVariable s v → Contains v.pieces p → HasSmallReferences p.tree × All (IsOver v.domain.dim) (references p.tree)
+pub small_piece : (s : FlatSystem) (v : Variable) (p : Piece) → IsChainedVariable s v → Contains v.pieces p → HasSmallReferences p.tree
 small_piece s v p own among =
     let piece = All-contains (IsChainedPiece (signatures s) v) v.pieces p own.pieces among in
-    (small_tree (signatures s) v.domain.dim p.tree own.indices piece.tree.fits piece.tree.rows, over_tree (signatures s) v.domain.dim p.tree piece.tree.fits)
-
-over_pieces : (n : ℕ) (ps : List Piece) → All (λ p. All (IsOver n) (references p.tree)) ps → All (IsOver n) (flat_map (λ p. references p.tree) ps)
-over_pieces n [] h = All-nil (IsOver n)
-over_pieces n (p ∷ ps) h = All-append (IsOver n) (references p.tree) (flat_map (λ p. references p.tree) ps) (All-head (λ p. All (IsOver n) (references p.tree)) p ps h) (over_pieces n ps (All-tail (λ p. All (IsOver n) (references p.tree)) p ps h))
+    small_tree (signatures s) v.domain.dim p.tree own.indices piece.tree.fits piece.tree.rows
 
 pub chained_node : (s : FlatSystem) (n : ℕ) (v : Variable) → IsChained s → slice_get (nodes s) n ≡ Some v → IsChainedVariable s v
 chained_node s n v chained e = all_at (IsChainedVariable s) (nodes s) n v (All-filter is_node (IsChainedVariable s) s.variables chained.each) e
-
-pub small_node : (s : FlatSystem) (n : ℕ) (v : Variable) → IsChained s → slice_get (nodes s) n ≡ Some v → All (All (IsSmallDirection v.domain.dim)) (ways_of (references_of (slice_get (nodes s) n)))
-small_node s n v chained e =
-    let own = chained_node s n v chained e in
-    subst (λ (o : Option Variable). All (All (IsSmallDirection v.domain.dim)) (ways_of (references_of o))) (sym e)
-    (small_ways v.domain.dim (flat_map (λ p. references p.tree) v.pieces)
-    (over_pieces v.domain.dim v.pieces (λ k d l. (small_piece s v (get_or v.pieces k d) own (Contains-get_or v.pieces k d l)).1)))
 
 pub small_direction_at : (n : ℕ) (xs : List Point) (k : ℕ) (w : Point) → xs ≡ directions n → k < length xs → w ≡ get_or xs k w → IsSmallDirection n w
 small_direction_at n xs k w e l is = subst (IsSmallDirection n) (sym is) (subst (All (IsSmallDirection n)) (sym e) (small_directions n) k w l)
@@ -118,4 +92,4 @@ pieces_seen (p ∷ ps) = ap (λ xs. references (view p.tree) ++ xs) (pieces_seen
 pub small_seen : (s : FlatSystem) (var : Var) → IsChainedVariable s (view_variable var) → All (λ (p : PieceMade). HasSmallReferences (view p.tree)) var.pieces
 small_seen s var own = λ k d l.
     let p = get_or var.pieces k d in
-    (small_piece s (view_variable var) (view_piece p) own (among_map view_piece var.pieces p (Contains-get_or var.pieces k d l))).0
+    small_piece s (view_variable var) (view_piece p) own (among_map view_piece var.pieces p (Contains-get_or var.pieces k d l))

@@ -6,6 +6,6 @@ pub mod SchedFaults
 pub mod Arcs
 pub mod Leads
 pub mod Parts
-pub mod Places
+pub mod Witnesses
 pub mod Prices
 pub mod inner

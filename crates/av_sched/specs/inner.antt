@@ -2,5 +2,8 @@ pub mod Rounds
 pub mod Starts
 pub mod Vectors
 pub mod Walk
+pub mod Walks
+pub mod ChoicesInside
+pub mod WalkInside
 pub mod FirstChoices
 pub mod Ways

@@ -69,8 +69,10 @@ pub fn raise_to_least(arcs: &[Arc], off: &mut Vec<i64>, old: &mut Vec<i64>) -> R
     requires arcs { All (IsArc (length off.old.items)) arcs.now }
     requires low { AreSmall 1073741824 off.old.items }
     requires few { length off.old.items ≤ 1073741824 }
-    ensures some { IfOk result (λ settled. IsTrue settled → IsLeastSolution arcs.now off.old.items off.new.items) }
-    ensures none { IfOk result (λ settled. (IsTrue settled → ⊥) → (x : Items ℤ) → Solves arcs.now off.old.items x → ⊥) }
+    ensures some { IfOk result (λ settled. IsTrue settled
+        → IsLeastSolution arcs.now off.old.items off.new.items) }
+    ensures none { IfOk result (λ settled. (IsTrue settled → ⊥)
+        → (x : Items ℤ) → Solves arcs.now off.old.items x → ⊥) }
 {
     let many = off.len();
     old.clear();
@@ -127,7 +129,8 @@ pub(crate) fn settles(
     many: usize,
 ) -> Result<bool, Memory>
     requires { All (IsArc many) arcs.now }
-    ensures { IfOk result (λ settled. (IsTrue settled → ⊥) → (x : Items ℤ) → Solves arcs.now (zeros many) x → ⊥) }
+    ensures { IfOk result (λ settled. (IsTrue settled → ⊥)
+        → (x : Items ℤ) → Solves arcs.now (zeros many) x → ⊥) }
 {
     if many > MOST_NODES {
         return Ok(true);

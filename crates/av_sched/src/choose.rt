@@ -1,23 +1,17 @@
 //! The first feasible choice of each component in turn.
 
-ghost use Rattle.std.specs.Prelude.{◌≡◌, ◌≤◌, ◌<◌, length, All, AllPairs, Contains, IfOk, IfSome, IfNone, List as Items};
-ghost use Rattle.av_tree.specs.Points.{Point as Vector};
+ghost use Rattle.std.specs.Prelude.{◌<◌, length, All, AllPairs, IfOk, IfSome, IfNone};
 ghost use Rattle.av_flat.specs.Trees.{view_system};
 ghost use Rattle.av_flat.specs.Nodes.{nodes};
 ghost use Rattle.av_flat.specs.Chained.{IsChained};
 ghost use Rattle.av_flat.specs.Proper.{IsProper};
 ghost use Rattle.av_depend.specs.Edges.{AreEdgesOf};
-ghost use Rattle.av_depend.specs.Components.{ReadsNode, AreComponents};
-ghost use Rattle.av_sched.specs.Choices.{AreLinearParts, IsFeasible};
-ghost use Rattle.av_sched.specs.Parts.{AreAllParts};
-ghost use Rattle.av_sched.specs.Prices.{ArePricesTo, AreFloorsTo};
-ghost use Rattle.av_sched.specs.inner.FirstChoices.{IsBestChoice, IsSearchOutcome, HasNone};
+ghost use Rattle.av_sched.specs.Choices.{AreLinearParts};
+ghost use Rattle.av_sched.specs.inner.FirstChoices.{IsBestChoice, IsSearchOutcome, HasNone, AreComponentsOf};
 
-use crate::cost::{floors_of, prices_of};
-use crate::node::lists_of;
-use crate::pool::Room;
+use crate::choices::Choices;
 use crate::price::Price;
-use crate::walk::{Plan, walk};
+use crate::walk::Walk;
 use av_base::{List, Memory, Point};
 use av_depend::Edge;
 use av_flat::{Flat, Reach};
@@ -30,31 +24,6 @@ pub(crate) enum SearchOutcome {
     Found(Vec<Point>),
     // the number of the first component without a feasible choice
     Infeasible(usize),
-}
-
-/// What the walk through the choices of a component needs to know before.
-pub fn plan_of(alloc: Global, flat: &Flat, reach: Reach, component: &[u32]) -> Result<Plan, Memory>
-    requires chained { IsChained (view_system flat.now) }
-    requires within { All (λ n. n < length (nodes (view_system flat.now))) component.now }
-    ensures lists { IfOk result (λ plan. AreAllParts (view_system flat.now) reach.size component.now plan.lists) }
-    ensures prices { IfOk result (λ plan. ArePricesTo (view_system flat.now) component.now (length component.now) plan.lists plan.prices) }
-    ensures floors { IfOk result (λ plan. AreFloorsTo (view_system flat.now) reach.size component.now (length component.now) plan.floors.items) }
-{
-    let lists = lists_of(alloc, flat, reach, component)?;
-    let prices = prices_of(alloc, flat, reach, component, lists.as_slice())?;
-    let floors = floors_of(
-        alloc,
-        flat,
-        reach,
-        component,
-        lists.as_slice(),
-        prices.as_slice(),
-    )?;
-    Ok(Plan {
-        lists,
-        prices,
-        floors,
-    })
 }
 
 // The first feasible choice of a component, where it has one.
@@ -72,35 +41,15 @@ fn choose_one(
     requires within { All (λ n. n < length (nodes (view_system flat.now))) component.now }
     requires apart { AllPairs (λ m n. m < n) component.now }
     requires linear { AreLinearParts (view_system flat.now) reach.size linear.items }
-    ensures some { IfOk result (λ o. IfSome o (λ best. IsBestChoice (view_system flat.now) reach.size component.now linear.items best.items)) }
-    ensures none { IfOk result (λ o. IfNone o (HasNone (view_system flat.now) reach.size component.now)) }
+    ensures some { IfOk result (λ o. IfSome o (λ best.
+        IsBestChoice (view_system flat.now) reach.size component.now linear.items best.items)) }
+    ensures none { IfOk result (λ o. IfNone o
+        (HasNone (view_system flat.now) reach.size component.now)) }
 {
-    let plan = plan_of(alloc, flat, reach, component)?;
-    let mut pool = Vec::new(alloc);
-    let mut room = Room {
-        arcs: Vec::new(alloc),
-        off: Vec::new(alloc),
-        old: Vec::new(alloc),
-    };
-    let mut linear = linear;
-    let found = walk(
-        alloc,
-        flat,
-        edges,
-        reach,
-        component,
-        &plan,
-        0,
-        Price { left: 0, size: 0 },
-        &mut linear,
-        &mut pool,
-        &mut room,
-        None,
-    )?;
-    match found {
-        None => Ok(None),
-        Some(best) => Ok(Some(best.parts)),
-    }
+    let choices = Choices::new(alloc, flat, edges, reach, component)?;
+    let mut walk = Walk::new(alloc, &choices, linear);
+    walk.cover(alloc, 0, Price { left: 0, size: 0 })?;
+    Ok(walk.into_best())
 }
 
 /// The first feasible choices of all components, from any linear parts on.
@@ -115,7 +64,7 @@ pub(crate) fn choose_all(
     requires chained { IsChained (view_system flat.now) }
     requires proper { IsProper (view_system flat.now) }
     requires edges { AreEdgesOf (view_system flat.now) edges.now }
-    requires components { AreComponents (length (nodes (view_system flat.now))) (ReadsNode (view_system flat.now)) components.now }
+    requires components { AreComponentsOf (view_system flat.now) components.now }
     requires start { AreLinearParts (view_system flat.now) reach.size start.items }
     ensures { IfOk result (IsSearchOutcome (view_system flat.now) reach.size components.now) }
 {

@@ -1,25 +1,26 @@
 //! What linear parts cost at the nodes of a component, and the order of entries.
 
-ghost use Rattle.std.specs.Prelude.{◌≡◌, ◌+◌, ◌++◌, ◌≤◌, ◌<◌, ◌∷◌, map, length, sum_by, unsigned_abs, slice_get, All, IfOk, []};
+ghost use Rattle.std.specs.Prelude.{ℕ, List as Items, ◌≡◌, ◌+◌, ◌++◌, ◌≤◌, ◌<◌, ◌∷◌, map, length, sum_by, unsigned_abs, slice_get, All, IfOk, OnOk, []};
 ghost use Rattle.std.specs.List.{flat_map};
 ghost use Rattle.av_affine.specs.Forms.{IsWithinLimits};
 ghost use Rattle.av_affine.specs.Numbers.{AtMost};
-ghost use Rattle.av_flat.specs.Trees.{view, view_system};
+ghost use Rattle.av_tree.specs.Points.{Point as Vector};
+ghost use Rattle.av_flat.specs.Trees.{FlatSystem, view, view_system};
 ghost use Rattle.av_flat.specs.Nodes.{nodes};
 ghost use Rattle.av_flat.specs.Chained.{IsChained};
 ghost use Rattle.av_flat.specs.Broadcasts.{references};
 ghost use Rattle.av_sched.specs.Offsets.{part};
 ghost use Rattle.av_sched.specs.Order.{entry_rank, references_of};
-ghost use Rattle.av_sched.specs.inner.Ways.{HasSmallReferences, IsSmallDirection, ways_of, still_among};
+ghost use Rattle.av_sched.specs.inner.Ways.{HasSmallReferences, ways_of, still_among};
 ghost use Rattle.av_sched.specs.Prices.{ArePricesAt, ArePricesTo, AreFloorsTo};
-ghost use Rattle.av_sched.specs.Parts.{AreAllParts};
+ghost use Rattle.av_sched.specs.inner.Walk.{AreAllPriced};
 
 use crate::direction::{along_of, moves_some};
 use crate::node::place_of;
 use crate::price::{Price, at_least, least_of};
 use av_affine::Map;
 use av_base::{List, Memory, Point};
-use av_flat::{Flat, Piece, Reach, Tree};
+use av_flat::{Flat, Piece, Tree};
 use std::alloc::Global;
 
 // The place of an entry in the order.
@@ -50,7 +51,8 @@ pub(crate) fn ranks_of(
 ) -> Result<Vec<u64>, Memory>
     requires within { All (λ n. n < length linear.now) component.now }
     requires small { All (AtMost 4) linear.now }
-    ensures { IfOk result (λ ranks. ranks.items ≡ map entry_rank (flat_map (part linear.now) component.now)) }
+    ensures { IfOk result (λ ranks. ranks.items ≡
+        map entry_rank (flat_map (part linear.now) component.now)) }
 {
     let mut to = Vec::new(alloc);
     for node in component {
@@ -74,10 +76,11 @@ fn sum_of(point: &Point) -> u64
 }
 
 // Adds the directions along which a reference reads one point, where there are any.
-fn add_way(alloc: Global, map: &Map, to: &mut List<List<Point>>, _place: u32) -> Result<(), Memory>
+fn add_way(alloc: Global, map: &Map, to: &mut List<List<Point>>) -> Result<(), Memory>
     requires from { map.now.from ≤ 4 }
     requires rows { All IsWithinLimits map.now.rows }
-    ensures { IfOk result (λ done. to.new ≡ to.old ++ ways_of (record { place = _place; map = map.now } ∷ [])) }
+    ensures { OnOk result ((place : ℕ)
+        → to.new ≡ to.old ++ ways_of (record { place = place; map = map.now } ∷ [])) }
 {
     let ways = along_of(alloc, map)?;
     if !ways.as_slice().is_empty() {
@@ -92,7 +95,7 @@ fn add_ways(alloc: Global, tree: &Tree, to: &mut List<List<Point>>) -> Result<()
     ensures { IfOk result (λ done. to.new ≡ to.old ++ ways_of (references (view tree.now))) }
 {
     match tree {
-        Tree::Ref { var, map } => add_way(alloc, map, to, *var),
+        Tree::Ref { map, .. } => add_way(alloc, map, to),
         Tree::Binary { left, right, .. } => {
             add_ways(alloc, left, to)?;
             add_ways(alloc, right, to)
@@ -116,7 +119,8 @@ fn add_ways(alloc: Global, tree: &Tree, to: &mut List<List<Point>>) -> Result<()
 // For each broadcast of pieces the directions along which it reads one point.
 fn ways_of_pieces(alloc: Global, pieces: &[Piece]) -> Result<List<List<Point>>, Memory>
     requires { All (λ p. HasSmallReferences (view p.tree)) pieces.now }
-    ensures { IfOk result (λ ways. ways ≡ ways_of (flat_map (λ p. references (view p.tree)) pieces.now)) }
+    ensures { IfOk result (λ ways. ways ≡
+        ways_of (flat_map (λ p. references (view p.tree)) pieces.now)) }
 {
     let mut ways = List::new(alloc);
     for piece in pieces {
@@ -129,7 +133,8 @@ fn ways_of_pieces(alloc: Global, pieces: &[Piece]) -> Result<List<List<Point>>, 
 fn ways_of_node(alloc: Global, flat: &Flat, node: usize) -> Result<List<List<Point>>, Memory>
     requires chained { IsChained (view_system flat.now) }
     requires within { node < length (nodes (view_system flat.now)) }
-    ensures { IfOk result (λ ways. ways ≡ ways_of (references_of (slice_get (nodes (view_system flat.now)) node))) }
+    ensures { IfOk result (λ ways. ways ≡
+        ways_of (references_of (slice_get (nodes (view_system flat.now)) node))) }
 {
     let place = place_of(flat, node);
     let vars = flat.vars.as_slice();
@@ -139,7 +144,7 @@ fn ways_of_node(alloc: Global, flat: &Flat, node: usize) -> Result<List<List<Poi
 // How many of the broadcasts the linear part does not move.
 fn still_of(ways: &[List<Point>], part: &Point) -> u64
     requires part { AtMost 4 part.now }
-    requires ways { All (All (IsSmallDirection (length part.now))) ways.now }
+    requires ways { All (All (AtMost 1)) ways.now }
     ensures { result ≡ still_among ways.now part.now }
 {
     let mut count: u64 = 0;
@@ -152,17 +157,12 @@ fn still_of(ways: &[List<Point>], part: &Point) -> u64
 }
 
 // What each of the linear parts costs at a node with these broadcasts.
-fn prices_at(
-    alloc: Global,
-    _flat: &Flat,
-    _node: usize,
-    ways: &[List<Point>],
-    parts: &[Point],
-) -> Result<List<Price>, Memory>
-    requires ways { ways.now ≡ ways_of (references_of (slice_get (nodes (view_system _flat.now)) _node)) }
+fn prices_at(alloc: Global, ways: &[List<Point>], parts: &[Point]) -> Result<List<Price>, Memory>
     requires small { All (AtMost 4) parts.now }
-    requires directions { All (λ part. All (All (IsSmallDirection (length part))) ways.now) parts.now }
-    ensures { IfOk result (ArePricesAt (view_system _flat.now) _node parts.now) }
+    requires ways { All (All (AtMost 1)) ways.now }
+    ensures { IfOk result (λ prices. (s : FlatSystem) (node : ℕ)
+        → ways.now ≡ ways_of (references_of (slice_get (nodes s) node))
+        → ArePricesAt s node parts.now prices) }
 {
     let mut prices = List::new(alloc);
     for part in parts {
@@ -178,37 +178,31 @@ fn prices_at(
 pub(crate) fn prices_of(
     alloc: Global,
     flat: &Flat,
-    _reach: Reach,
     component: &[u32],
     lists: &[List<Point>],
 ) -> Result<List<List<Price>>, Memory>
     requires chained { IsChained (view_system flat.now) }
     requires within { All (λ n. n < length (nodes (view_system flat.now))) component.now }
-    requires lists { AreAllParts (view_system flat.now) _reach.size component.now lists.now }
-    ensures { IfOk result (ArePricesTo (view_system flat.now) component.now (length component.now) lists.now) }
+    requires lists { length lists.now ≡ length component.now }
+    requires small { All (All (AtMost 4)) lists.now }
+    ensures { IfOk result
+        (ArePricesTo (view_system flat.now) component.now (length component.now) lists.now) }
 {
     let mut prices = List::new(alloc);
     for k in 0..component.len() {
         let node = component[k] as usize;
         let ways = ways_of_node(alloc, flat, node)?;
-        prices.push(prices_at(alloc, flat, node, ways.as_slice(), lists[k].as_slice())?)?;
+        prices.push(prices_at(alloc, ways.as_slice(), lists[k].as_slice())?)?;
     }
     Ok(prices)
 }
 
 /// The least that the last nodes of the component can cost, for each number of them.
-pub(crate) fn floors_of(
-    alloc: Global,
-    _flat: &Flat,
-    _reach: Reach,
-    _component: &[u32],
-    _lists: &[List<Point>],
-    prices: &[List<Price>],
-) -> Result<Vec<Price>, Memory>
-    requires within { All (λ n. n < length (nodes (view_system _flat.now))) _component.now }
-    requires lists { AreAllParts (view_system _flat.now) _reach.size _component.now _lists.now }
-    requires prices { ArePricesTo (view_system _flat.now) _component.now (length _component.now) _lists.now prices.now }
-    ensures { IfOk result (λ floors. AreFloorsTo (view_system _flat.now) _reach.size _component.now (length _component.now) floors.items) }
+pub(crate) fn floors_of(alloc: Global, prices: &[List<Price>]) -> Result<Vec<Price>, Memory>
+    ensures { IfOk result (λ floors.
+        (s : FlatSystem) (size : ℕ) (component : Items ℕ) (lists : Items (Items Vector))
+        → AreAllPriced s size component lists prices.now
+        → AreFloorsTo s size component (length component) floors.items) }
 {
     let mut floors = Vec::new(alloc);
     let mut floor = Price { left: 0, size: 0 };

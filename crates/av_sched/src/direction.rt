@@ -1,33 +1,30 @@
 //! Directions along which references read one point, and linear parts that go up along them.
 
-ghost use Rattle.std.specs.Prelude.{◌≡◌, ◌++◌, ◌∷◌, [], ◌≤◌, ◌<◌, ◌&&◌, ◌||◌, pos, negsuc, map, length, All, IfOk};
+ghost use Rattle.std.specs.Prelude.{◌≡◌, ◌∷◌, [], ◌≤◌, ◌<◌, pos, negsuc, map, length, All, IfOk};
 ghost use Rattle.std.specs.List.{flat_map, list_any};
+ghost use Rattle.std.specs.Ordering.{int_eq};
 ghost use Rattle.av_affine.specs.Forms.{IsWithinLimits};
-ghost use Rattle.av_affine.specs.Numbers.{AtMost};
+ghost use Rattle.av_affine.specs.Numbers.{AtMost, dot};
 ghost use Rattle.av_flat.specs.Broadcasts.{lists_of, directions, along, is_zero, stays, moves};
-ghost use Rattle.av_sched.specs.inner.Ways.{IsSmallDirection};
 
 use crate::vector::prepend_all;
-use av_affine::{Map, dot};
+use av_affine::{Form, Map, dot};
 use av_base::{List, Memory, Point};
 use std::alloc::Global;
-
-fn both(a: bool, b: bool) -> bool
-    ensures { result ≡ (a && b) }
-{
-    a && b
-}
-
-fn either(a: bool, b: bool) -> bool
-    ensures { result ≡ (a || b) }
-{
-    a || b
-}
 
 fn is_zero_point(point: &Point) -> bool
     ensures { result ≡ is_zero point.now }
 {
     point.as_slice().iter().all(|x| *x == 0)
+}
+
+// Whether the coefficients of a form send the direction to 0.
+fn is_still(form: &Form, direction: &Point) -> bool
+    requires direction { AtMost 1 direction.now }
+    requires fits { length direction.now ≤ 4 }
+    ensures { result ≡ int_eq (dot form.now.coef direction.now) (pos 0) }
+{
+    dot(&form.coef, direction.as_slice()) == 0
 }
 
 // Whether the map sends the direction to 0.
@@ -37,18 +34,19 @@ fn stays_at(map: &Map, direction: &Point) -> bool
     requires fits { length direction.now ≤ 4 }
     ensures { result ≡ stays map.now direction.now }
 {
-    let mut all = true;
     for form in map.rows.as_slice() {
-        let value = dot(&form.coef, direction.as_slice());
-        all = both(all, value == 0);
+        if !is_still(form, direction) {
+            return false;
+        }
     }
-    all
+    true
 }
 
 // All that have 0, 1 or -1 before one of the points.
 fn longer(alloc: Global, shorter: &[Point]) -> Result<Vec<Point>, Memory>
     requires { All (λ y. length y < 4) shorter.now }
-    ensures { IfOk result (λ to. to.items ≡ flat_map (λ x. map (λ w. x ∷ w) shorter.now) (pos 0 ∷ pos 1 ∷ negsuc 0 ∷ [])) }
+    ensures { IfOk result (λ to. to.items ≡
+        flat_map (λ x. map (λ w. x ∷ w) shorter.now) (pos 0 ∷ pos 1 ∷ negsuc 0 ∷ [])) }
 {
     let mut to = Vec::new(alloc);
     prepend_all(&mut to, 0, shorter)?;
@@ -101,16 +99,25 @@ pub(crate) fn along_of(alloc: Global, map: &Map) -> Result<List<Point>, Memory>
     Ok(to)
 }
 
+// Whether the linear part goes up along the direction.
+fn moves(linear: &Point, way: &Point) -> bool
+    requires linear { AtMost 4 linear.now }
+    requires way { AtMost 1 way.now }
+    ensures { result ≡ moves linear.now way.now }
+{
+    dot(linear.as_slice(), way.as_slice()) > 0
+}
+
 /// Whether the linear part goes up along some of the directions.
 pub(crate) fn moves_some(linear: &Point, ways: &[Point]) -> bool
     requires linear { AtMost 4 linear.now }
-    requires ways { All (IsSmallDirection (length linear.now)) ways.now }
+    requires ways { All (AtMost 1) ways.now }
     ensures { result ≡ list_any (moves linear.now) ways.now }
 {
-    let mut some = false;
     for way in ways {
-        let value = dot(linear.as_slice(), way.as_slice());
-        some = either(some, value > 0);
+        if moves(linear, way) {
+            return true;
+        }
     }
-    some
+    false
 }

@@ -7,5 +7,6 @@ ghost use Rattle.av_sched.specs.First.{IsFirstSchedule};
 
 /// A law on first schedules: a system has at most one in a box.
 pub fn first_schedules_are_unique()
-    ensures { (s : FlatSystem) (c : ℕ) (times others : List Time) → IsFirstSchedule s c times → IsFirstSchedule s c others → times ≡ others }
+    ensures { (s : FlatSystem) (c : ℕ) (times others : List Time)
+        → IsFirstSchedule s c times → IsFirstSchedule s c others → times ≡ others }
 {}

@@ -1,11 +1,10 @@
 //! The limit on candidates.
 
-ghost use Rattle.std.specs.Prelude.{◌≤◌, length, All, IfOk, IfSome, IfNone};
+ghost use Rattle.std.specs.Prelude.{◌≤◌, All, IfOk, IfSome, IfNone};
 ghost use Rattle.av_flat.specs.Trees.{view_system};
-ghost use Rattle.av_flat.specs.Nodes.{nodes};
-ghost use Rattle.av_depend.specs.Components.{ReadsNode, AreComponents};
 ghost use Rattle.av_sched.specs.Choices.{candidates};
 ghost use Rattle.av_sched.specs.SchedFaults.{HasManyCandidates};
+ghost use Rattle.av_sched.specs.inner.FirstChoices.{AreComponentsOf};
 
 use crate::node::dimensions;
 use crate::part::candidates_of;
@@ -21,9 +20,11 @@ pub(crate) fn too_many(
     reach: Reach,
     components: &[List<u32>],
 ) -> Result<Option<u128>, Memory>
-    requires { AreComponents (length (nodes (view_system flat.now))) (ReadsNode (view_system flat.now)) components.now }
-    ensures some { IfOk result (λ o. IfSome o (HasManyCandidates (view_system flat.now) reach.size)) }
-    ensures none { IfOk result (λ o. IfNone o (All (λ d. candidates (view_system flat.now) reach.size d ≤ 4194304) components.now)) }
+    requires { AreComponentsOf (view_system flat.now) components.now }
+    ensures some { IfOk result (λ o. IfSome o
+        (HasManyCandidates (view_system flat.now) reach.size)) }
+    ensures none { IfOk result (λ o. IfNone o
+        (All (λ d. candidates (view_system flat.now) reach.size d ≤ 4194304) components.now)) }
 {
     let dims = dimensions(alloc, flat)?;
     let base = 2 * reach.size as u128 + 1;

@@ -13,7 +13,8 @@ use std::alloc::Global;
 
 /// How many indices each node has.
 pub fn dimensions(alloc: Global, flat: &Flat) -> Result<Vec<u8>, Memory>
-    ensures { IfOk result (λ dims. dims.items ≡ map (λ v. v.domain.dim) (nodes (view_system flat.now))) }
+    ensures { IfOk result (λ dims. dims.items ≡
+        map (λ v. v.domain.dim) (nodes (view_system flat.now))) }
 {
     let mut dims = Vec::new(alloc);
     for var in flat.vars.as_slice() {
@@ -49,7 +50,8 @@ pub(crate) fn lists_of(
 pub fn place_of(flat: &Flat, node: usize) -> usize
     requires { node < length (nodes (view_system flat.now)) }
     ensures fits { result < length flat.now.vars }
-    ensures is { slice_get (nodes (view_system flat.now)) node ≡ slice_get (view_system flat.now).variables result }
+    ensures is { slice_get (nodes (view_system flat.now)) node
+        ≡ slice_get (view_system flat.now).variables result }
 {
     let vars = flat.vars.as_slice();
     let mut count: usize = 0;

@@ -35,27 +35,6 @@ pub fn arcs_of(alloc: Global, edges: &[Edge], linear: &[Point]) -> Result<Vec<Ar
     Ok(arcs)
 }
 
-/// The least offsets, where for each node the offset is known with which its first cycle is 0.
-pub(crate) fn offsets_from(
-    alloc: Global,
-    _flat: &Flat,
-    edges: &[Edge],
-    linear: &[Point],
-    low: &List<i64>,
-) -> Result<Option<Vec<i64>>, Memory>
-    requires chained { IsChained (view_system _flat.now) }
-    requires proper { IsProper (view_system _flat.now) }
-    requires edges { AreEdgesOf (view_system _flat.now) edges.now }
-    requires linear { AreVectors (view_system _flat.now) 4 linear.now }
-    requires low { AreStarts (view_system _flat.now) linear.now low.now }
-    requires small { AreSmall 1073741824 low.now }
-    ensures some { IfOk result (λ o. IfSome o (λ off. AreLeastOffsets (view_system _flat.now) linear.now off.items)) }
-    ensures none { IfOk result (λ o. IfNone o ((x : Items ℤ) → AreOffsets (view_system _flat.now) linear.now x → ⊥)) }
-{
-    let arcs = arcs_of(alloc, edges, linear)?;
-    least(alloc, &arcs, low)
-}
-
 // The offset with which the first cycle of a node is 0.
 fn start_of(alloc: Global, var: &Var, linear: &Point) -> Result<i64, Memory>
     requires ordinary { IsOrdinary var.now.domain.dim var.now.domain }
@@ -115,11 +94,14 @@ pub fn offsets(
     requires proper { IsProper (view_system flat.now) }
     requires edges { AreEdgesOf (view_system flat.now) edges.now }
     requires linear { AreVectors (view_system flat.now) 4 linear.now }
-    ensures least { IfOk result (λ o. IfSome o (AreLeastOffsets (view_system flat.now) linear.now)) }
-    ensures none { IfOk result (λ o. IfNone o ((x : Items ℤ) → AreOffsets (view_system flat.now) linear.now x → ⊥)) }
+    ensures least { IfOk result (λ o. IfSome o
+        (AreLeastOffsets (view_system flat.now) linear.now)) }
+    ensures none { IfOk result (λ o. IfNone o
+        ((x : Items ℤ) → AreOffsets (view_system flat.now) linear.now x → ⊥)) }
 {
     let low = starts_of(alloc, flat, linear)?;
-    match offsets_from(alloc, flat, edges, linear, &low)? {
+    let arcs = arcs_of(alloc, edges, linear)?;
+    match least(alloc, &arcs, &low)? {
         Some(found) => Ok(Some(list_of(alloc, &found)?)),
         None => Ok(None),
     }

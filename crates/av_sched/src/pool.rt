@@ -1,22 +1,15 @@
 //! Witnesses: listed points of edges inside the component, by which most choices are seen not to be feasible.
 
-ghost use Rattle.std.specs.Prelude.{◌≡◌, ◌<◌, length, All, Contains, IfOk, IfSome, IsTrue, slice_index_or};
-ghost use Rattle.av_flat.specs.Trees.{view_system};
-ghost use Rattle.av_flat.specs.Chained.{IsChained};
-ghost use Rattle.av_flat.specs.Proper.{IsProper};
-ghost use Rattle.av_depend.specs.Edges.{AreEdgesOf};
+ghost use Rattle.std.specs.Prelude.{◌≡◌, ◌<◌, length, All, Contains, IfOk, IfSome, slice_index_or};
 ghost use Rattle.av_sched.specs.Leads.{IsUsable};
-ghost use Rattle.av_sched.specs.Choices.{AreLinearParts};
-ghost use Rattle.av_sched.specs.Places.{IsPlace, IsUsablePlace, IsArcAt, IsWitnessAt};
-ghost use Rattle.av_sched.specs.inner.Walk.{IsForbidden};
+ghost use Rattle.av_sched.specs.Witnesses.{IsWitness, IsUsableWitness, IsArcAt, IsWitnessArc};
 
-use crate::arc::{Arc, settles};
+use crate::arc::Arc;
 use crate::lead::{lead_at, products};
-use crate::place::Place;
 use crate::placing::arcs_of;
+use crate::witness::Witness;
 use av_base::{Memory, Point};
 use av_depend::Edge;
-use av_flat::{Flat, Reach};
 use std::alloc::Global;
 
 /// Memory that the tests use again and again.
@@ -28,17 +21,17 @@ pub struct Room {
 }
 
 // What one witness asks for.
-fn arc_at(component: &[u32], linear: &[Point], place: &Place) -> Arc
-    requires { IsUsablePlace component.now linear.now place.now }
-    ensures { IsArcAt component.now linear.now place.now result }
+fn arc_at(component: &[u32], linear: &[Point], witness: &Witness) -> Arc
+    requires { IsUsableWitness component.now linear.now witness.now }
+    ensures { IsArcAt component.now linear.now witness.now result }
 {
-    let reader = &linear[component[place.reader] as usize];
-    let read = &linear[component[place.read] as usize];
-    let ahead = products(reader.as_slice(), place.point.as_slice());
-    let behind = products(read.as_slice(), place.image.as_slice());
+    let reader = &linear[component[witness.reader] as usize];
+    let read = &linear[component[witness.read] as usize];
+    let ahead = products(reader.as_slice(), witness.point.as_slice());
+    let behind = products(read.as_slice(), witness.image.as_slice());
     Arc {
-        reader: place.reader,
-        read: place.read,
+        reader: witness.reader,
+        read: witness.read,
         weight: 1 - (ahead - behind),
     }
 }
@@ -49,47 +42,25 @@ pub fn witness_arcs(
     component: &[u32],
     level: usize,
     linear: &[Point],
-    pool: &[Place],
+    pool: &[Witness],
     arcs: &mut Vec<Arc>,
 ) -> Result<(), Memory>
-    requires usable { All (IsUsablePlace component.now linear.now) pool.now }
-    requires pool { All (IsPlace _edges.now component.now) pool.now }
-    ensures { IfOk result (λ done. All (IsWitnessAt _edges.now component.now level linear.now) arcs.new.items) }
+    requires usable { All (IsUsableWitness component.now linear.now) pool.now }
+    requires pool { All (IsWitness _edges.now component.now) pool.now }
+    ensures { IfOk result (λ done.
+        All (IsWitnessArc _edges.now component.now level linear.now) arcs.new.items) }
 {
     arcs.clear();
-    for place in pool {
-        if place.reader >= level {
+    for witness in pool {
+        if witness.reader >= level {
             continue;
         }
-        if place.read >= level {
+        if witness.read >= level {
             continue;
         }
-        arcs.push(arc_at(component, linear, place))?;
+        arcs.push(arc_at(component, linear, witness))?;
     }
     Ok(())
-}
-
-/// Whether the witnesses forbid the parts of the first nodes.
-pub(crate) fn is_forbidden(
-    _flat: &Flat,
-    edges: &[Edge],
-    _reach: Reach,
-    component: &[u32],
-    level: usize,
-    linear: &[Point],
-    pool: &[Place],
-    room: &mut Room,
-) -> Result<bool, Memory>
-    requires chained { IsChained (view_system _flat.now) }
-    requires proper { IsProper (view_system _flat.now) }
-    requires edges { AreEdgesOf (view_system _flat.now) edges.now }
-    requires linear { AreLinearParts (view_system _flat.now) _reach.size linear.now }
-    requires pool { All (IsPlace edges.now component.now) pool.now }
-    ensures { IfOk result (λ b. IsTrue b → IsForbidden (view_system _flat.now) component.now level linear.now) }
-{
-    witness_arcs(edges, component, level, linear, pool, &mut room.arcs)?;
-    let settled = settles(&room.arcs, &mut room.off, &mut room.old, level)?;
-    Ok(!settled)
 }
 
 // The place of a node in the component.
@@ -106,45 +77,45 @@ fn place_in(component: &[u32], node: u32) -> Option<usize>
 }
 
 // The number of a point at which the lead is least. Nothing is told of which.
-fn least_place(edge: &Edge, linear: &[Point]) -> usize
+fn least_point(edge: &Edge, linear: &[Point]) -> usize
     requires { IsUsable linear.now edge.now }
     ensures { result < length edge.now.points }
 {
     let consumer = edge.consumer as usize;
     let producer = edge.producer as usize;
     let points = edge.points.as_slice();
-    let mut place = 0;
+    let mut number = 0;
     let mut least = lead_at(&linear[consumer], &linear[producer], &edge.map, &points[0]);
     for k in 1..points.len() {
         let next = lead_at(&linear[consumer], &linear[producer], &edge.map, &points[k]);
         if next < least {
             least = next;
-            place = k;
+            number = k;
         }
     }
-    place
+    number
 }
 
-/// A place of the edge between these nodes of the component.
-pub fn place_of_edge(
+/// A witness of the edge between these nodes of the component.
+pub fn witness_of_edge(
     _edges: &[Edge],
     edge: &Edge,
     _component: &[u32],
     reader: usize,
     read: usize,
     linear: &[Point],
-) -> Place
+) -> Witness
     requires usable { IsUsable linear.now edge.now }
     requires among { Contains _edges.now edge.now }
     requires reader_within { reader < length _component.now }
     requires read_within { read < length _component.now }
     requires reader { slice_index_or _component.now reader 0 ≡ edge.now.consumer }
     requires read { slice_index_or _component.now read 0 ≡ edge.now.producer }
-    ensures { IsPlace _edges.now _component.now result }
+    ensures { IsWitness _edges.now _component.now result }
 {
-    let k = least_place(edge, linear);
+    let k = least_point(edge, linear);
     let point = &edge.points.as_slice()[k];
-    Place {
+    Witness {
         reader,
         read,
         point: Point::from_slice(point.as_slice()),
@@ -169,13 +140,13 @@ fn is_outdone(arcs: &[Arc], k: usize) -> bool
     false
 }
 
-/// Whether the place is among them. Nothing is told of it.
-pub fn is_listed(pool: &[Place], place: &Place) -> bool {
+/// Whether the witness is among them. Nothing is told of it.
+pub fn is_listed(pool: &[Witness], witness: &Witness) -> bool {
     for other in pool {
-        if other.reader == place.reader
-            && other.read == place.read
-            && other.point == place.point
-            && other.image == place.image
+        if other.reader == witness.reader
+            && other.read == witness.read
+            && other.point == witness.point
+            && other.image == witness.image
         {
             return true;
         }
@@ -183,17 +154,17 @@ pub fn is_listed(pool: &[Place], place: &Place) -> bool {
     false
 }
 
-/// Adds, where the choice is not feasible, places that show it: for two nodes one that asks for most. Nothing is told of which.
+/// Adds, where the choice is not feasible, witnesses of it: for two nodes one that asks for most. Nothing is told of which.
 pub(crate) fn learn(
     alloc: Global,
     edges: &[Edge],
     component: &[u32],
     linear: &[Point],
-    pool: &mut Vec<Place>,
+    pool: &mut Vec<Witness>,
 ) -> Result<(), Memory>
     requires usable { All (IsUsable linear.now) edges.now }
-    requires pool { All (IsPlace edges.now component.now) pool.old.items }
-    ensures { IfOk result (λ done. All (IsPlace edges.now component.now) pool.new.items) }
+    requires pool { All (IsWitness edges.now component.now) pool.old.items }
+    ensures { All (IsWitness edges.now component.now) pool.new.items }
 {
     let arcs = arcs_of(alloc, edges, linear)?;
     for k in 0..edges.len() {
@@ -207,9 +178,9 @@ pub(crate) fn learn(
         let Some(read) = place_in(component, edge.producer) else {
             continue;
         };
-        let place = place_of_edge(edges, edge, component, reader, read, linear);
-        if !is_listed(pool, &place) {
-            pool.push(place)?;
+        let witness = witness_of_edge(edges, edge, component, reader, read, linear);
+        if !is_listed(pool, &witness) {
+            pool.push(witness)?;
         }
     }
     Ok(())

@@ -12,7 +12,8 @@ use std::alloc::Global;
 /// Adds each of the points with one more entry before its own.
 pub(crate) fn prepend_all(to: &mut Vec<Point>, entry: i64, shorter: &[Point]) -> Result<(), Memory>
     requires { All (λ y. length y < 4) shorter.now }
-    ensures { IfOk result (λ done. to.new.items ≡ to.old.items ++ map (λ y. entry ∷ y) shorter.now) }
+    ensures { IfOk result (λ done. to.new.items ≡
+        to.old.items ++ map (λ y. entry ∷ y) shorter.now) }
 {
     for rest in shorter {
         to.push(with_first(entry, rest))?;

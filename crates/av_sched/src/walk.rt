@@ -1,41 +1,24 @@
 //! The walk through the choices of a component: depth first, one node after another. What is left out is known to have no
 //! feasible choice, or none that comes before the best one so far.
 
-ghost use Rattle.std.specs.Prelude.{◌≡◌, ◌≤◌, ◌<◌, length, map, take, drop, All, AllPairs, IfOk, IsTrue, ◌↔◌};
-ghost use Rattle.av_flat.specs.Trees.{view_system};
-ghost use Rattle.av_flat.specs.Nodes.{nodes};
-ghost use Rattle.av_flat.specs.Chained.{IsChained};
-ghost use Rattle.av_flat.specs.Proper.{IsProper};
-ghost use Rattle.av_depend.specs.Edges.{AreEdgesOf};
+ghost use Rattle.std.specs.Prelude.{◌≡◌, ◌≤◌, ◌<◌, ◌↔◌, length, map, All, IfOk, IfSome, IfNone, OnOk, IsTrue, Some, None};
 ghost use Rattle.std.specs.List.{flat_map};
 ghost use Rattle.av_affine.specs.Numbers.{AtMost};
 ghost use Rattle.av_sched.specs.Offsets.{part};
-ghost use Rattle.av_sched.specs.Choices.{AreLinearParts};
 ghost use Rattle.av_sched.specs.Order.{entry_rank, IsLess};
-ghost use Rattle.av_sched.specs.inner.Walk.{known, IsSound, HasWalked, IsBarred, IsAhead, IsLike, IsRated};
-ghost use Rattle.av_sched.specs.Parts.{AreAllParts};
-ghost use Rattle.av_sched.specs.Places.{IsPlace};
-ghost use Rattle.av_sched.specs.Prices.{IsSpent, IsFloor, ArePricesTo, AreFloorsTo};
+ghost use Rattle.av_sched.specs.inner.Walk.{IsLike};
+ghost use Rattle.av_sched.specs.inner.Walks.{walk_at, part_at, with_part, IsInSystem, IsChoice, HasSpent, IsBetter, IsPartAt, HasCovered};
 
+use crate::choices::Choices;
 use crate::cost::ranks_of;
-use crate::leaf::is_feasible;
 use crate::part::is_less;
-use crate::place::Place;
-use crate::pool::{Room, is_forbidden, learn};
+use crate::pool::Room;
 use crate::price::{Best, Price, is_dear, with_more};
-use av_base::{List, Memory, Point};
-use av_depend::{Edge, copy_point};
-use av_flat::{Flat, Reach};
+use crate::witness::Witness;
+use av_base::{Memory, Point};
+use av_depend::copy_point;
 use std::alloc::Global;
-
-/// What is known of a component before the walk: the linear parts that each node can have and what each costs, and the least
-/// that the last nodes can cost, for each number of them.
-#[derive(Debug, Drop)]
-pub struct Plan {
-    pub lists: List<List<Point>>,
-    pub prices: List<List<Price>>,
-    pub floors: Vec<Price>,
-}
+use std::marker::Model;
 
 /// The same points.
 pub fn copy_points(alloc: Global, points: &[Point]) -> Result<Vec<Point>, Memory>
@@ -46,37 +29,6 @@ pub fn copy_points(alloc: Global, points: &[Point]) -> Result<Vec<Point>, Memory
         to.push(copy_point(point))?;
     }
     Ok(to)
-}
-
-// Whether the choices that have these parts for the first nodes can be left out.
-fn is_barred(
-    flat: &Flat,
-    edges: &[Edge],
-    reach: Reach,
-    component: &[u32],
-    level: usize,
-    spent: Price,
-    rest: Price,
-    linear: &[Point],
-    pool: &[Place],
-    room: &mut Room,
-    best: &Option<Best>,
-) -> Result<bool, Memory>
-    requires chained { IsChained (view_system flat.now) }
-    requires proper { IsProper (view_system flat.now) }
-    requires edges { AreEdgesOf (view_system flat.now) edges.now }
-    requires level { level ≤ length component.now }
-    requires linear { AreLinearParts (view_system flat.now) reach.size linear.now }
-    requires pool { All (IsPlace edges.now component.now) pool.now }
-    requires spent { IsSpent (view_system flat.now) linear.now (take level component.now) spent }
-    requires rest { IsFloor (view_system flat.now) reach.size (drop level component.now) rest }
-    requires rated { IsRated (view_system flat.now) component.now best.now }
-    ensures { IfOk result (λ b. IsTrue b → IsBarred (view_system flat.now) reach.size component.now level linear.now (known best.now)) }
-{
-    if is_dear(spent, rest, best) {
-        return Ok(true);
-    }
-    is_forbidden(flat, edges, reach, component, level, linear, pool, room)
 }
 
 /// Whether the entries of the component's linear parts come before those of the others.
@@ -90,197 +42,174 @@ pub fn is_earlier(
     requires small { All (AtMost 4) linear.now }
     requires others { All (λ n. n < length parts.now) component.now }
     requires others_small { All (AtMost 4) parts.now }
-    ensures { IfOk result (λ b. IsTrue b ↔ IsLess (map entry_rank (flat_map (part linear.now) component.now)) (map entry_rank (flat_map (part parts.now) component.now))) }
+    ensures { IfOk result (λ b. IsTrue b ↔ IsLess
+        (map entry_rank (flat_map (part linear.now) component.now))
+        (map entry_rank (flat_map (part parts.now) component.now))) }
 {
     let own = ranks_of(alloc, component, linear)?;
     let least = ranks_of(alloc, component, parts)?;
     Ok(is_less(&own, &least))
 }
 
-// Whether the choice comes before the best one so far.
-fn is_better(
-    alloc: Global,
-    _flat: &Flat,
-    _reach: Reach,
-    component: &[u32],
-    linear: &[Point],
-    spent: Price,
-    best: &Option<Best>,
-) -> Result<bool, Memory>
-    requires within { All (λ n. n < length (nodes (view_system _flat.now))) component.now }
-    requires linear { AreLinearParts (view_system _flat.now) _reach.size linear.now }
-    requires spent { IsSpent (view_system _flat.now) linear.now component.now spent }
-    requires best { IsSound (view_system _flat.now) _reach.size component.now (known best.now) }
-    requires rated { IsRated (view_system _flat.now) component.now best.now }
-    ensures { IfOk result (λ b. IsTrue b ↔ IsAhead (view_system _flat.now) component.now linear.now (known best.now)) }
-{
-    match best {
-        None => Ok(true),
-        Some(found) => {
-            if spent.left != found.price.left {
-                return Ok(spent.left < found.price.left);
-            }
-            if spent.size != found.price.size {
-                return Ok(spent.size < found.price.size);
-            }
-            is_earlier(alloc, component, linear, &found.parts)
+/// A walk through choices: the linear parts at which it stands, and what was found so far.
+#[derive(Drop)]
+pub(crate) struct Walk<'a> {
+    choices: &'a Choices<'a>,
+    // Of all nodes of the system.
+    linear: Vec<Point>,
+    // Witnesses by which most choices are seen not to be feasible.
+    pool: Vec<Witness>,
+    room: Room,
+    best: Option<Best>,
+}
+
+impl<'a> Model for Walk<'a> {
+    ghost use Rattle.std.specs.Coded.{codes};
+    ghost use Rattle.av_flat.specs.contracts.flat.Flat as flat_made;
+    ghost use Rattle.av_depend.specs.contracts.edge.Edge as edge_made;
+    ghost use Rattle.av_sched.specs.inner.Walks.{Walk as WalkSeen};
+
+    ghost Value = { WalkSeen };
+
+    ghost coded = { Prim.hlevel (codes, flat_made.the_row.coded, edge_made.the_row.coded) };
+
+    ghost use Rattle.av_sched.specs.inner.WalkInside.{walk_of, IsKept};
+
+    ghost view = { walk_of };
+
+    ghost invariant = { IsKept };
+}
+
+impl<'a> Walk<'a> {
+    /// From these linear parts on.
+    pub(crate) fn new(alloc: Global, choices: &'a Choices<'a>, linear: Vec<Point>) -> Walk<'a>
+        requires fits { IsInSystem choices.now }
+        requires linear { IsChoice choices.now linear.items }
+        ensures { result ≡ walk_at choices.now linear.items None }
+    {
+        Walk {
+            choices,
+            linear,
+            pool: Vec::new(alloc),
+            room: Room {
+                arcs: Vec::new(alloc),
+                off: Vec::new(alloc),
+                old: Vec::new(alloc),
+            },
+            best: None,
         }
     }
-}
 
-// The best choice after one that has all parts.
-fn leaf(
-    alloc: Global,
-    flat: &Flat,
-    edges: &[Edge],
-    reach: Reach,
-    component: &[u32],
-    linear: &[Point],
-    spent: Price,
-    pool: &mut Vec<Place>,
-    best: Option<Best>,
-) -> Result<Option<Best>, Memory>
-    requires chained { IsChained (view_system flat.now) }
-    requires proper { IsProper (view_system flat.now) }
-    requires edges { AreEdgesOf (view_system flat.now) edges.now }
-    requires within { All (λ n. n < length (nodes (view_system flat.now))) component.now }
-    requires linear { AreLinearParts (view_system flat.now) reach.size linear.now }
-    requires pool { All (IsPlace edges.now component.now) pool.old.items }
-    requires spent { IsSpent (view_system flat.now) linear.now component.now spent }
-    requires best { IsSound (view_system flat.now) reach.size component.now (known best) }
-    requires rated { IsRated (view_system flat.now) component.now best }
-    requires like { IsLike component.now linear.now (known best) }
-    ensures walked { IfOk result (λ new. HasWalked (view_system flat.now) reach.size component.now (length component.now) linear.now (known best) (known new)) }
-    ensures rated { IfOk result (λ new. IsRated (view_system flat.now) component.now new) }
-    ensures like { IfOk result (λ new. IsLike component.now linear.now (known new)) }
-    ensures pool { IfOk result (λ new. All (IsPlace edges.now component.now) pool.new.items) }
-{
-    if !is_better(alloc, flat, reach, component, linear, spent, &best)? {
-        return Ok(best);
+    /// The best choice. It differs from the linear parts at which the walk stands in the component's nodes alone.
+    pub(crate) fn into_best(self) -> Option<Vec<Point>>
+        ensures some { IfSome result (λ best. self.entry.best ≡ Some best.items) }
+        ensures none { IfNone result (self.entry.best ≡ None) }
+        ensures like { IsLike self.entry.choices.component self.entry.linear self.entry.best }
+    {
+        let Walk { best, .. } = self;
+        match best {
+            None => None,
+            Some(found) => Some(found.parts),
+        }
     }
-    if is_feasible(alloc, flat, edges, reach, component, linear)? {
-        return Ok(Some(Best {
-            parts: copy_points(alloc, linear)?,
-            price: spent,
-        }));
-    }
-    learn(alloc, edges, component, linear, pool)?;
-    Ok(best)
-}
 
-/// The best choice after all that have these parts for the first nodes.
-#[cycle(walk)]
-pub(crate) fn walk(
-    alloc: Global,
-    flat: &Flat,
-    edges: &[Edge],
-    reach: Reach,
-    component: &[u32],
-    plan: &Plan,
-    level: usize,
-    spent: Price,
-    linear: &mut [Point],
-    pool: &mut Vec<Place>,
-    room: &mut Room,
-    best: Option<Best>,
-) -> Result<Option<Best>, Memory>
-    requires chained { IsChained (view_system flat.now) }
-    requires proper { IsProper (view_system flat.now) }
-    requires edges { AreEdgesOf (view_system flat.now) edges.now }
-    requires within { All (λ n. n < length (nodes (view_system flat.now))) component.now }
-    requires apart { AllPairs (λ m n. m < n) component.now }
-    requires lists { AreAllParts (view_system flat.now) reach.size component.now plan.now.lists }
-    requires prices { ArePricesTo (view_system flat.now) component.now (length component.now) plan.now.lists plan.now.prices }
-    requires floors { AreFloorsTo (view_system flat.now) reach.size component.now (length component.now) plan.now.floors.items }
-    requires level { level ≤ length component.now }
-    requires linear { AreLinearParts (view_system flat.now) reach.size linear.old }
-    requires spent { IsSpent (view_system flat.now) linear.old (take level component.now) spent }
-    requires pool { All (IsPlace edges.now component.now) pool.old.items }
-    requires best { IsSound (view_system flat.now) reach.size component.now (known best) }
-    requires rated { IsRated (view_system flat.now) component.now best }
-    requires like { IsLike component.now linear.old (known best) }
-    ensures walked { IfOk result (λ new. HasWalked (view_system flat.now) reach.size component.now level linear.old (known best) (known new)) }
-    ensures rated { IfOk result (λ new. IsRated (view_system flat.now) component.now new) }
-    ensures like { IfOk result (λ new. IsLike component.now linear.old (known new)) }
-    ensures linear { IfOk result (λ new. linear.new ≡ linear.old) }
-    ensures pool { IfOk result (λ new. All (IsPlace edges.now component.now) pool.new.items) }
-{
-    if level == component.len() {
-        return leaf(
-            alloc, flat, edges, reach, component, linear, spent, pool, best,
-        );
+    // The linear part of the node at the level.
+    fn part_at(&self, level: usize) -> Point
+        requires { level < length self.now.choices.component }
+        ensures { result ≡ part_at self.now level }
+    {
+        let node = self.choices.node(level);
+        copy_point(&self.linear[node])
     }
-    let node = component[level] as usize;
-    let before = copy_point(&linear[node]);
-    let parts = plan.lists.as_slice()[level].as_slice();
-    let prices = plan.prices.as_slice()[level].as_slice();
-    let mut best = best;
-    for k in 0..parts.len() {
-        linear[node] = copy_point(&parts[k]);
-        let own = with_more(spent, prices[k]);
-        best = walk_unless_barred(
-            alloc,
-            flat,
-            edges,
-            reach,
-            component,
-            plan,
-            level + 1,
-            own,
-            linear,
-            pool,
-            room,
-            best,
-        )?;
-    }
-    linear[node] = before;
-    Ok(best)
-}
 
-// The same, where those choices may be barred.
-#[cycle(walk)]
-fn walk_unless_barred(
-    alloc: Global,
-    flat: &Flat,
-    edges: &[Edge],
-    reach: Reach,
-    component: &[u32],
-    plan: &Plan,
-    level: usize,
-    spent: Price,
-    linear: &mut [Point],
-    pool: &mut Vec<Place>,
-    room: &mut Room,
-    best: Option<Best>,
-) -> Result<Option<Best>, Memory>
-    requires chained { IsChained (view_system flat.now) }
-    requires proper { IsProper (view_system flat.now) }
-    requires edges { AreEdgesOf (view_system flat.now) edges.now }
-    requires within { All (λ n. n < length (nodes (view_system flat.now))) component.now }
-    requires apart { AllPairs (λ m n. m < n) component.now }
-    requires lists { AreAllParts (view_system flat.now) reach.size component.now plan.now.lists }
-    requires prices { ArePricesTo (view_system flat.now) component.now (length component.now) plan.now.lists plan.now.prices }
-    requires floors { AreFloorsTo (view_system flat.now) reach.size component.now (length component.now) plan.now.floors.items }
-    requires level { level ≤ length component.now }
-    requires linear { AreLinearParts (view_system flat.now) reach.size linear.old }
-    requires spent { IsSpent (view_system flat.now) linear.old (take level component.now) spent }
-    requires pool { All (IsPlace edges.now component.now) pool.old.items }
-    requires best { IsSound (view_system flat.now) reach.size component.now (known best) }
-    requires rated { IsRated (view_system flat.now) component.now best }
-    requires like { IsLike component.now linear.old (known best) }
-    ensures walked { IfOk result (λ new. HasWalked (view_system flat.now) reach.size component.now level linear.old (known best) (known new)) }
-    ensures rated { IfOk result (λ new. IsRated (view_system flat.now) component.now new) }
-    ensures like { IfOk result (λ new. IsLike component.now linear.old (known new)) }
-    ensures linear { IfOk result (λ new. linear.new ≡ linear.old) }
-    ensures pool { IfOk result (λ new. All (IsPlace edges.now component.now) pool.new.items) }
-{
-    let rest = plan.floors[component.len() - level];
-    if is_barred(
-        flat, edges, reach, component, level, spent, rest, linear, pool, room, &best,
-    )? {
-        return Ok(best);
+    // Gives the node at the level a linear part.
+    fn put(&mut self, level: usize, part: &Point)
+        requires level { level < length self.old.choices.component }
+        requires part { IsPartAt self.old.choices level part.now }
+        ensures { self.new ≡ with_part self.old level part.now }
+    {
+        let node = self.choices.node(level);
+        self.linear[node] = copy_point(part);
     }
-    walk(
-        alloc, flat, edges, reach, component, plan, level, spent, linear, pool, room, best,
-    )
+
+    // Whether the choices with the same parts for the first nodes can be left out.
+    fn is_barred(&mut self, level: usize, spent: Price) -> Result<bool, Memory>
+        requires level { level ≤ length self.old.choices.component }
+        requires spent { HasSpent self.old level spent }
+        ensures same { OnOk result (self.new ≡ self.old) }
+        ensures barred { IfOk result (λ b. IsTrue b → HasCovered self.old level self.old) }
+    {
+        if is_dear(spent, self.choices.floor(level), &self.best) {
+            return Ok(true);
+        }
+        self.choices
+            .is_forbidden(level, &self.linear, &self.pool, &mut self.room)
+    }
+
+    // Whether the choice comes before the best one so far.
+    fn is_better(&self, alloc: Global, spent: Price) -> Result<bool, Memory>
+        requires { HasSpent self.now (length self.now.choices.component) spent }
+        ensures { IfOk result (λ b. IsTrue b ↔ IsBetter self.now) }
+    {
+        match &self.best {
+            None => Ok(true),
+            Some(found) => {
+                if spent.left != found.price.left {
+                    return Ok(spent.left < found.price.left);
+                }
+                if spent.size != found.price.size {
+                    return Ok(spent.size < found.price.size);
+                }
+                let component = self.choices.component();
+                is_earlier(alloc, component, &self.linear, &found.parts)
+            }
+        }
+    }
+
+    // Takes the choice as the best one where it is feasible and comes before that.
+    fn leaf(&mut self, alloc: Global, spent: Price) -> Result<(), Memory>
+        requires { HasSpent self.old (length self.old.choices.component) spent }
+        ensures { OnOk result (HasCovered self.old (length self.old.choices.component) self.new) }
+    {
+        let choices = self.choices;
+        if !self.is_better(alloc, spent)? {
+            return Ok(());
+        }
+        let linear = self.linear.as_slice();
+        if choices.is_feasible(alloc, linear)? {
+            let parts = copy_points(alloc, linear)?;
+            self.best = Some(Best {
+                parts,
+                price: spent,
+            });
+            return Ok(());
+        }
+        choices.learn(alloc, linear, &mut self.pool)
+    }
+
+    /// Goes through all choices with the same parts for the first nodes, where these may not be left out.
+    pub(crate) fn cover(&mut self, alloc: Global, level: usize, spent: Price) -> Result<(), Memory>
+        requires level { level ≤ length self.old.choices.component }
+        requires spent { HasSpent self.old level spent }
+        ensures { OnOk result (HasCovered self.old level self.new) }
+    {
+        if self.is_barred(level, spent)? {
+            return Ok(());
+        }
+        let choices = self.choices;
+        let levels = choices.component().len();
+        if level == levels {
+            return self.leaf(alloc, spent);
+        }
+        let next = level + 1;
+        let before = self.part_at(level);
+        let (parts, prices) = choices.candidates(level);
+        for k in 0..parts.len() {
+            self.put(level, &parts[k]);
+            let own = with_more(spent, prices[k]);
+            self.cover(alloc, next, own)?;
+        }
+        self.put(level, &before);
+        Ok(())
+    }
 }

@@ -1,18 +1,19 @@
 -- What a walk through the choices of a component knows. Only private contracts cite this.
-use Rattle.std.specs.Prelude.{◌≡◌, ℕ, ◌<◌, ◌≤◌, List, [], length, slice_index_or, Contains, Option, Some, None, ◌+◌, ◌⊎◌}
+use Rattle.std.specs.Prelude.{◌≡◌, ℕ, ◌<◌, ◌≤◌, List, [], length, All, slice_index_or, Contains, Option, Some, None, ◌+◌, ◌⊎◌}
 use Rattle.std.specs.List.{AllZip}
 use Rattle.av_sched.specs.declared.arc.Arc.{Arc}
 use Rattle.av_tree.specs.Points.{Point}
 use Rattle.av_depend.specs.declared.edge.Edge.{Edge}
 use Rattle.av_flat.specs.Trees.{FlatSystem}
+use Rattle.av_flat.specs.Nodes.{nodes}
 use Rattle.av_sched.specs.Offsets.{part}
 use Rattle.av_sched.specs.declared.price.Best.{Best}
 use Rattle.av_sched.specs.Choices.{AreLinearParts, IsFeasible}
 use Rattle.av_sched.specs.Order.{cost, IsLess}
 use Rattle.av_sched.specs.declared.price.Price.{Price}
 use Rattle.av_sched.specs.Leads.{IsArcOf}
-use Rattle.av_sched.specs.Parts.{Agrees, AreParts}
-use Rattle.av_sched.specs.Prices.{IsSpent}
+use Rattle.av_sched.specs.Parts.{Agrees, AreParts, AreAllParts}
+use Rattle.av_sched.specs.Prices.{IsSpent, ArePricesTo}
 
 -- a best choice is known, and the other one does not come before it
 abbrev pub IsMet : FlatSystem → List ℕ → Option (List Point) → List Point → Type 0
@@ -45,6 +46,12 @@ known (Some best) = Some best.parts.items
 pub record AreAllPartsTo (s : FlatSystem) (c : ℕ) (component : List ℕ) (k : ℕ) (lists : List (List Point)) : Type 0 where
   pub one_each : length lists ≡ k
   pub each : (j : ℕ) → j < k → AreParts s c (slice_index_or component j 0) (slice_index_or lists j [])
+
+-- the linear parts that each node of the component can have, and what they cost
+pub record AreAllPriced (s : FlatSystem) (c : ℕ) (component : List ℕ) (parts : List (List Point)) (costs : List (List Price)) : Type 0 where
+  pub within : All (λ n. n < length (nodes s)) component
+  pub lists : AreAllParts s c component parts
+  pub prices : ArePricesTo s component (length component) parts costs
 
 -- no choice that agrees with the first k parts is feasible
 abbrev pub IsForbidden : FlatSystem → List ℕ → ℕ → List Point → Type 0

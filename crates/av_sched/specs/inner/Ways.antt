@@ -1,7 +1,6 @@
 -- The directions along which references read one point. Only private contracts cite this.
-use Rattle.std.specs.Prelude.{◌≡◌, ℕ, map, ◌≤◌, List, length, All, not, filter}
+use Rattle.std.specs.Prelude.{ℕ, map, ◌≤◌, List, length, All, not, filter}
 use Rattle.std.specs.List.{list_any}
-use Rattle.av_affine.specs.Numbers.{AtMost}
 use Rattle.av_affine.specs.Forms.{IsWithinLimits}
 use Rattle.av_tree.specs.Points.{Point}
 use Rattle.av_flat.specs.Trees.{Tree, reference, binary, choice}
@@ -26,8 +25,3 @@ HasSmallReferences (reference place m) = IsSmallReference (record { place = plac
 HasSmallReferences (binary s l r) = HasSmallReferences l × HasSmallReferences r
 HasSmallReferences (choice l c r x y) = HasSmallReferences l × HasSmallReferences r × HasSmallReferences x × HasSmallReferences y
 HasSmallReferences _ = Unit {0}
-
--- a direction of n entries
-pub record IsSmallDirection (n : ℕ) (w : Point) : Type 0 where
-  pub size : length w ≡ n
-  pub entries : AtMost 1 w

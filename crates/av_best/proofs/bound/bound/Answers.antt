@@ -3,9 +3,9 @@ use Rattle.av_flat.specs.Trees.{view_system}
 use Rattle.av_flat.specs.Nodes.{nodes}
 use Rattle.av_sched.specs.declared.arc.Arc.{Arc}
 use Rattle.av_sched.specs.Arcs.{Solves, IsLeastSolution}
-use Rattle.av_sched.specs.Places.{IsWitnessAt}
+use Rattle.av_sched.specs.Witnesses.{IsWitnessArc}
 use Rattle.av_sched.proofs.Inside.{vectors_of}
-use Rattle.av_sched.proofs.Witnesses.{usable_places}
+use Rattle.av_sched.proofs.Witnesses.{usable_witnesses}
 use Rattle.av_best.specs.declared.span.Span.{Span}
 use Rattle.av_best.specs.inner.Spans.{IsLeastAbove}
 use Rattle.av_best.proofs.Every.{as_many}
@@ -17,7 +17,7 @@ use Rattle.av_best.proofs.bound.bound.Goals as goal
 pub witness_arcs-requires-clause-usable : goal.witness_arcs-requires-clause-usable
 witness_arcs-requires-clause-usable c =
     let s = view_system c.args._flat.now in
-    usable_places s c.args.edges.now c.args.nodes.now c.args.linear.now c.requires.chained c.requires.proper c.requires.edges (vectors_of s c.args._reach.size c.args.linear.now c.args._reach.most c.requires.linear) c.args.pool.now c.requires.pool
+    usable_witnesses s c.args.edges.now c.args.nodes.now c.args.linear.now c.requires.chained c.requires.proper c.requires.edges (vectors_of s c.args._reach.size c.args.linear.now c.args._reach.most c.requires.linear) c.args.pool.now c.requires.pool
 
 pub raise_to_least-requires-clause-low : goal.raise_to_least-requires-clause-low
 raise_to_least-requires-clause-low c =
@@ -34,7 +34,7 @@ returns-then-not-branch c =
     let low = c.set_starts.new.offsets.items in
     let d : Span = record { low = pos 0; high = pos 0 } in
     let few : level ≤ length (nodes s) = (let l = subst (λ (ns : List ℕ). level ≤ length ns) c.requires.nodes c.requires.level in let e = as_many s in omega (arith, l, e)) in
-    let witnesses = subst (λ (ns : List ℕ). All (IsWitnessAt c.args.edges.now ns level linear) arcs) c.requires.nodes c.in_ok-witness_arcs.ensures in
+    let witnesses = subst (λ (ns : List ℕ). All (IsWitnessArc c.args.edges.now ns level linear) arcs) c.requires.nodes c.in_ok-witness_arcs.ensures in
     forbidden_there s c.args.edges.now level linear c.requires.chained c.requires.edges few arcs witnesses c.args.spans.now c.requires.spans low c.in_ok-set_starts.ensures d
     (λ x g. c.in_ok-raise_to_least.ensures.none (λ t. let f = c.if-not-branch.true in cc) x (subst (λ (xs : List Arc). Solves xs low x) (sym c.deref.ensures.value) g))
 
@@ -48,7 +48,7 @@ returns c =
     let off = c.raise_to_least.new.off.items in
     let d : Span = record { low = pos 0; high = pos 0 } in
     let few : level ≤ length (nodes s) = (let l = subst (λ (ns : List ℕ). level ≤ length ns) c.requires.nodes c.requires.level in let e = as_many s in omega (arith, l, e)) in
-    let witnesses = subst (λ (ns : List ℕ). All (IsWitnessAt c.args.edges.now ns level linear) arcs) c.requires.nodes c.in_ok-witness_arcs.ensures in
+    let witnesses = subst (λ (ns : List ℕ). All (IsWitnessArc c.args.edges.now ns level linear) arcs) c.requires.nodes c.in_ok-witness_arcs.ensures in
     let least = subst (λ (xs : List Arc). IsLeastSolution xs low off) c.deref.ensures.value (c.in_ok-raise_to_least.ensures.some (search rules)) in
     let above = subst (λ (xs : List ℤ). IsLeastAbove xs c.args.spans.now level c.least_above.result) c.deref-2.ensures.value c.least_above.ensures in
     bound_there s c.args.edges.now level linear c.requires.chained c.requires.edges few arcs witnesses c.args.spans.now c.requires.spans low c.in_ok-set_starts.ensures d c.args._reach.size off c.least_above.result least above

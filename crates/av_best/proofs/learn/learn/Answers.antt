@@ -4,7 +4,7 @@ use Rattle.std.proofs.lemmas.List.Elements.{All-push}
 use Rattle.av_flat.specs.Trees.{view_system}
 use Rattle.av_flat.specs.Nodes.{nodes}
 use Rattle.av_sched.specs.Leads.{IsUsable}
-use Rattle.av_sched.specs.Places.{IsPlace}
+use Rattle.av_sched.specs.Witnesses.{IsWitness}
 use Rattle.av_sched.proofs.Bridge.{arcs_length}
 use Rattle.av_best.proofs.Every.{as_many, node_there}
 use Rattle.av_best.proofs.learn.learn.Goals.{then-not-is_listed+in_ok-push, else-not-is_listed}
@@ -29,8 +29,8 @@ offset_bounds-edges-k c =
     let within : get_or items c.loop-k.k-index 0 < length c.args.edges.now = omega (arith, own, same) in
     omega arith
 
-pub place_of_edge-place-requires-clause-usable : goal.place_of_edge-place-requires-clause-usable
-place_of_edge-place-requires-clause-usable c =
+pub witness_of_edge-witness-requires-clause-usable : goal.witness_of_edge-witness-requires-clause-usable
+witness_of_edge-witness-requires-clause-usable c =
     let items = c.deref-k-items.result.now in
     let l : c.loop-k.k-index < length items = search rules in
     let each = subst (All (λ (j : ℕ). j < length c.args.arcs.now)) (sym c.deref-k-items.ensures.value) c.in_ok-chosen.ensures in
@@ -39,8 +39,8 @@ place_of_edge-place-requires-clause-usable c =
     let within : get_or items c.loop-k.k-index 0 < length c.args.edges.now = omega (arith, own, same) in
     subst (IsUsable c.args.linear.now) (sym c.index-edges-k.is) (c.requires.usable (get_or items c.loop-k.k-index 0) c.index-edges-k.result within)
 
-pub place_of_edge-place-requires-clause-among : goal.place_of_edge-place-requires-clause-among
-place_of_edge-place-requires-clause-among c =
+pub witness_of_edge-witness-requires-clause-among : goal.witness_of_edge-witness-requires-clause-among
+witness_of_edge-witness-requires-clause-among c =
     let items = c.deref-k-items.result.now in
     let l : c.loop-k.k-index < length items = search rules in
     let each = subst (All (λ (j : ℕ). j < length c.args.arcs.now)) (sym c.deref-k-items.ensures.value) c.in_ok-chosen.ensures in
@@ -49,27 +49,27 @@ place_of_edge-place-requires-clause-among c =
     let within : get_or items c.loop-k.k-index 0 < length c.args.edges.now = omega (arith, own, same) in
     (get_or items c.loop-k.k-index 0, within, sym c.index-edges-k.is)
 
-pub place_of_edge-place-requires-clause-reader_within : goal.place_of_edge-place-requires-clause-reader_within
-place_of_edge-place-requires-clause-reader_within c = let u = (place_of_edge-place-requires-clause-usable c).consumer_within in let m = c.requires.many in omega (arith, u, m)
+pub witness_of_edge-witness-requires-clause-reader_within : goal.witness_of_edge-witness-requires-clause-reader_within
+witness_of_edge-witness-requires-clause-reader_within c = let u = (witness_of_edge-witness-requires-clause-usable c).consumer_within in let m = c.requires.many in omega (arith, u, m)
 
-pub place_of_edge-place-requires-clause-read_within : goal.place_of_edge-place-requires-clause-read_within
-place_of_edge-place-requires-clause-read_within c = let u = (place_of_edge-place-requires-clause-usable c).producer_within in let m = c.requires.many in omega (arith, u, m)
+pub witness_of_edge-witness-requires-clause-read_within : goal.witness_of_edge-witness-requires-clause-read_within
+witness_of_edge-witness-requires-clause-read_within c = let u = (witness_of_edge-witness-requires-clause-usable c).producer_within in let m = c.requires.many in omega (arith, u, m)
 
-pub place_of_edge-place-requires-clause-reader : goal.place_of_edge-place-requires-clause-reader
-place_of_edge-place-requires-clause-reader c =
+pub witness_of_edge-witness-requires-clause-reader : goal.witness_of_edge-witness-requires-clause-reader
+witness_of_edge-witness-requires-clause-reader c =
     let s = view_system c.args._flat.now in
     let n = c.index-edges-k.result.consumer in
-    let u = (place_of_edge-place-requires-clause-usable c).consumer_within in
+    let u = (witness_of_edge-witness-requires-clause-usable c).consumer_within in
     let m = c.requires.many in
     let e = ap length c.requires.nodes ∙ as_many s in
     let l : n < length (nodes s) = omega (arith, u, m, e) in
     ap (λ (xs : List ℕ). slice_index_or xs n 0) c.requires.nodes ∙ node_there s n 0 l
 
-pub place_of_edge-place-requires-clause-read : goal.place_of_edge-place-requires-clause-read
-place_of_edge-place-requires-clause-read c =
+pub witness_of_edge-witness-requires-clause-read : goal.witness_of_edge-witness-requires-clause-read
+witness_of_edge-witness-requires-clause-read c =
     let s = view_system c.args._flat.now in
     let n = c.index-edges-k.result.producer in
-    let u = (place_of_edge-place-requires-clause-usable c).producer_within in
+    let u = (witness_of_edge-witness-requires-clause-usable c).producer_within in
     let m = c.requires.many in
     let e = ap length c.requires.nodes ∙ as_many s in
     let l : n < length (nodes s) = omega (arith, u, m, e) in
@@ -77,11 +77,11 @@ place_of_edge-place-requires-clause-read c =
 
 pub loop-k-preserved : goal.loop-k-preserved
 loop-k-preserved c =
-    let P = IsPlace c.args.edges.now c.args.nodes.now in
+    let P = IsWitness c.args.edges.now c.args.nodes.now in
     elim c.if-not-is_listed.branch [
       | then-not-is_listed+in_ok-push w ↦
-          let e : c.if-not-is_listed.pool.items ≡ c.loop-k.pool.items ++ c.place_of_edge-place.result ∷ [] = ap (λ v. v.items) w.pool-is ∙ w.in_ok-push.ensures.items in
-          subst (All P) (sym e) (All-push P c.loop-k.pool.items c.place_of_edge-place.result c.loop-k.invariant c.place_of_edge-place.ensures)
+          let e : c.if-not-is_listed.pool.items ≡ c.loop-k.pool.items ++ c.witness_of_edge-witness.result ∷ [] = ap (λ v. v.items) w.pool-is ∙ w.in_ok-push.ensures.items in
+          subst (All P) (sym e) (All-push P c.loop-k.pool.items c.witness_of_edge-witness.result c.loop-k.invariant c.witness_of_edge-witness.ensures)
       | else-not-is_listed w ↦
           let e : c.if-not-is_listed.pool.items ≡ c.loop-k.pool.items = ap (λ v. v.items) w.pool-is in
           subst (All P) (sym e) c.loop-k.invariant

@@ -1,6 +1,6 @@
 use Rattle.std.proofs.Common.{◌≡◌, take, length, ◌-◌, ◌+◌, All}
 use Rattle.av_flat.specs.Trees.{view_system}
-use Rattle.av_sched.specs.Places.{IsPlace}
+use Rattle.av_sched.specs.Witnesses.{IsWitness}
 use Rattle.av_best.specs.inner.Spans.{AreSpanned}
 use Rattle.av_best.proofs.Trying.{IsWalking}
 use Rattle.av_best.proofs.walk.+walk.Given as goal
@@ -16,5 +16,5 @@ invariant-walk-loop-k l = record {
   walking : IsWalking (view_system l.flat) l.reach.size l.level l.fn.linear l.linear (take l.k l.parts) l.fn.best l.best;
   spanned : AreSpanned (view_system l.flat) l.level l.fn.linear l.spans;
   wide : length l.spans ≡ length l.nodes;
-  places : All (IsPlace l.edges l.nodes) l.pool.items;
+  places : All (IsWitness l.edges l.nodes) l.pool.items;
 }

@@ -1,26 +1,19 @@
-use Rattle.std.proofs.Common.{rules, ◌<◌, ◌^◌, sym, subst, length, All, ◌+◌, take}
-use Rattle.av_flat.specs.Trees.{view_system}
-use Rattle.av_tree.specs.Points.{Point}
+use Rattle.std.proofs.Common.{rules, ◌<◌, ◌^◌, sym, subst, length, [], ◌+◌, take}
 use Rattle.av_sched.specs.declared.price.Price.{Price}
-use Rattle.av_sched.specs.inner.Ways.{IsSmallDirection}
 use Rattle.av_sched.specs.Prices.{ArePricesAt}
-use Rattle.av_sched.proofs.Pricing.{price_at, prices_more}
+use Rattle.av_sched.proofs.Pricing.{price_at, prices_none, prices_more}
 use Rattle.av_sched.proofs.cost.prices_at.Goals as goal
 
-pub still_of-requires-clause-ways : goal.still_of-requires-clause-ways
-still_of-requires-clause-ways c =
-    let l : c.loop-part.part-index < length c.args.parts.now = search rules in
-    let p = c.part-item.result in
-    subst (λ (q : Point). All (All (IsSmallDirection (length q))) c.args.ways.now) (sym c.part-item.is) (c.requires.directions c.loop-part.part-index p l)
+pub loop-part-init : goal.loop-part-init
+loop-part-init c = λ s node is. subst (ArePricesAt s node []) (sym c.new-prices.ensures) (prices_none s node)
 
 pub loop-part-preserved : goal.loop-part-preserved
-loop-part-preserved c =
-    let s = view_system c.args._flat.now in
+loop-part-preserved c = λ s node is.
     let l : c.loop-part.part-index < length c.args.parts.now = search rules in
     let a = c.part-item.result in
     let p : Price = record { left = c.still_of.result; size = c.sum_of.result } in
     let small : c.sum_of.result < 2 ^ 64 = search rules in
     let few : c.still_of.result < 2 ^ 64 = search rules in
-    let own = price_at s c.args._node c.args.ways.now a p c.requires.ways c.still_of.ensures c.sum_of.ensures.value few small in
-    subst (ArePricesAt s c.args._node (take (c.loop-part.part-index + 1) c.args.parts.now)) (sym c.in_ok-push.ensures.ok)
-    (prices_more s c.args._node c.loop-part.part-index c.args.parts.now c.loop-part.prices a p l c.part-item.is own c.loop-part.invariant)
+    let own = price_at s node c.args.ways.now a p is c.still_of.ensures c.sum_of.ensures.value few small in
+    subst (ArePricesAt s node (take (c.loop-part.part-index + 1) c.args.parts.now)) (sym c.in_ok-push.ensures.ok)
+    (prices_more s node c.loop-part.part-index c.args.parts.now c.loop-part.prices a p l c.part-item.is own (c.loop-part.invariant s node is))

@@ -1,6 +1,6 @@
 use Rattle.std.proofs.Common.{◌<◌, ◌≡◌, ◌∙◌, ◌++◌, ◌∷◌, [], sym, ap, subst, length, arith, All}
 use Rattle.std.proofs.lemmas.List.Elements.{All-push}
-use Rattle.av_sched.specs.Places.{IsPlace}
+use Rattle.av_sched.specs.Witnesses.{IsWitness}
 use Rattle.av_sched.proofs.Bridge.{arcs_length}
 use Rattle.av_sched.proofs.pool.learn.Goals.{then-not-is_listed+in_ok-push, else-not-is_listed}
 use Rattle.av_sched.proofs.pool.learn.Goals as goal
@@ -14,12 +14,16 @@ is_outdone-requires c =
 
 pub loop-k-preserved : goal.loop-k-preserved
 loop-k-preserved c =
-    let P = IsPlace c.args.edges.now c.args.component.now in
+    let P = IsWitness c.args.edges.now c.args.component.now in
     elim c.if-not-is_listed.branch [
       | then-not-is_listed+in_ok-push w ↦
-          let e : c.if-not-is_listed.pool.items ≡ c.loop-k.pool.items ++ c.place_of_edge-place.result ∷ [] = ap (λ v. v.items) w.pool-is ∙ w.in_ok-push.ensures.items in
-          subst (All P) (sym e) (All-push P c.loop-k.pool.items c.place_of_edge-place.result c.loop-k.invariant c.place_of_edge-place.ensures)
+          let e : c.if-not-is_listed.pool.items ≡ c.loop-k.pool.items ++ c.witness_of_edge-witness.result ∷ [] = ap (λ v. v.items) w.pool-is ∙ w.in_ok-push.ensures.items in
+          subst (All P) (sym e) (All-push P c.loop-k.pool.items c.witness_of_edge-witness.result c.loop-k.invariant c.witness_of_edge-witness.ensures)
       | else-not-is_listed w ↦
           let e : c.if-not-is_listed.pool.items ≡ c.loop-k.pool.items = ap (λ v. v.items) w.pool-is in
           subst (All P) (sym e) c.loop-k.invariant
     ]
+
+-- where memory runs out, the pool is as it was
+pub returns-in_err-push : goal.returns-in_err-push
+returns-in_err-push c = subst (All (IsWitness c.args.edges.now c.args.component.now)) (sym c.in_err-push.ensures.items) c.loop-k.invariant

@@ -1,4 +1,4 @@
-use Rattle.std.proofs.Common.{◌≡◌, ◌<◌, ◌≤◌, refl, subst, ℕ, length, map, not, IfOk, arith, rules}
+use Rattle.std.proofs.Common.{◌≡◌, ◌<◌, ◌≤◌, refl, subst, ℕ, length, not, IfOk, arith, rules}
 use Rattle.std.proofs.lemmas.List.{length-map}
 use Rattle.std.proofs.lemmas.List.Filters.{length-filter_both}
 use Rattle.std.proofs.lemmas.Result.{IfOk-weaker}
@@ -10,7 +10,6 @@ use Rattle.av_depend.specs.Components.{ReadsNode, IsJoined, AreComponents}
 use Rattle.av_depend.proofs.Unique.{components_so}
 use Rattle.av_sched.specs.Leads.{IsUsable}
 use Rattle.av_sched.proofs.Usable.{usable}
-use Rattle.av_sched.proofs.Inside.{vectors_of}
 use Rattle.av_sched.proofs.searching.components_of.Goals as goal
 
 -- nodes are variables, and these stand in a list
@@ -29,13 +28,13 @@ pub components-requires-clause-consumers : goal.components-requires-clause-consu
 components-requires-clause-consumers c =
     let s = view_system c.args.flat.now in
     All-weaker (IsUsable c.args.linear.now) (λ (e : Edge). e.consumer < length c.args.linear.now) (λ e u. u.consumer_within) c.args.edges.now
-    (usable s c.args.edges.now c.args.linear.now c.requires.chained c.requires.proper c.requires.edges (vectors_of s c.args._reach.size c.args.linear.now c.args._reach.most c.requires.linear))
+    (usable s c.args.edges.now c.args.linear.now c.requires.chained c.requires.proper c.requires.edges c.requires.linear)
 
 pub components-requires-clause-producers : goal.components-requires-clause-producers
 components-requires-clause-producers c =
     let s = view_system c.args.flat.now in
     All-weaker (IsUsable c.args.linear.now) (λ (e : Edge). e.producer < length c.args.linear.now) (λ e u. u.producer_within) c.args.edges.now
-    (usable s c.args.edges.now c.args.linear.now c.requires.chained c.requires.proper c.requires.edges (vectors_of s c.args._reach.size c.args.linear.now c.args._reach.most c.requires.linear))
+    (usable s c.args.edges.now c.args.linear.now c.requires.chained c.requires.proper c.requires.edges c.requires.linear)
 
 pub returns : goal.returns
 returns c =

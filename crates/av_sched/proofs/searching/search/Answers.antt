@@ -1,4 +1,4 @@
-use Rattle.std.proofs.Common.{rules, ◌≡◌, ◌≤◌, sym, ap, subst, ℤ, List, map, length, All, arith, inl, Option, IfNone}
+use Rattle.std.proofs.Common.{rules, ◌≡◌, ◌<◌, ◌≤◌, sym, ap, subst, ℕ, ℤ, List, map, length, All, arith, inl, Option, IfNone}
 use Rattle.av_flat.specs.Trees.{FlatSystem, view_system}
 use Rattle.av_flat.specs.Nodes.{nodes}
 use Rattle.av_flat.specs.Chained.{IsChained}
@@ -11,8 +11,9 @@ use Rattle.av_sched.specs.First.{IsFirstChoice}
 use Rattle.av_tree.specs.Points.{Point}
 use Rattle.std.proofs.lemmas.List.Elements.{All-weaker}
 use Rattle.av_sched.proofs.Whole.{not_none}
-use Rattle.av_sched.specs.inner.FirstChoices.{AreFirstChoices}
-use Rattle.av_sched.specs.SchedFaults.{HasManyCandidates, HasNoSchedule}
+use Rattle.std.proofs.lemmas.Option.{slice_get_within}
+use Rattle.av_sched.specs.inner.FirstChoices.{AreFirstChoices, IsFirstInfeasible, IsStuck}
+use Rattle.av_sched.specs.SchedFaults.{HasManyCandidates}
 use Rattle.av_sched.proofs.Inside.{vectors_of}
 use Rattle.av_sched.proofs.Schedule.{is_schedule}
 use Rattle.av_sched.proofs.Faulting.{first_schedule, no_fault, stuck_only, wide_only}
@@ -25,13 +26,35 @@ returns-in-Some-clause-refused c = λ f is other.
     let e = wide_only s c.args.reach.size c.in-Some.number h f is other in
     inl cc
 
+pub components_of-requires-clause-linear : goal.components_of-requires-clause-linear
+components_of-requires-clause-linear c =
+    let s = view_system c.args.flat.now in
+    subst (AreVectors s 4) (sym c.deref.ensures.value) (vectors_of s c.args.reach.size c.in_ok-start.start.items c.args.reach.most c.in_ok-start.ensures)
+
+pub stuck_at-requires-clause-within : goal.stuck_at-requires-clause-within
+stuck_at-requires-clause-within c =
+    let cs = c.in_ok-components.components in
+    let infeasible : IsFirstInfeasible (view_system c.args.flat.now) c.args.reach.size cs c.in-Infeasible.k = search rules in
+    subst (λ (xs : List (List ℕ)). c.in-Infeasible.k < length xs) (sym c.as_slice-in-Infeasible.ensures) (slice_get_within cs c.in-Infeasible.k infeasible.component infeasible.is)
+
+pub returns-in-Infeasible-clause-fault : goal.returns-in-Infeasible-clause-fault
+returns-in-Infeasible-clause-fault c =
+    let s = view_system c.args.flat.now in
+    let cs = c.in_ok-components.components in
+    let few : All (λ d. candidates s c.args.reach.size d ≤ 4194304) cs = search rules in
+    let infeasible : IsFirstInfeasible s c.args.reach.size cs c.in-Infeasible.k = search rules in
+    let stuck : IsStuck s c.args.reach.size cs c.in-Infeasible.k = record { small = c.args.reach.most; few = few; infeasible = infeasible } in
+    c.in_ok-name-in-Infeasible.ensures c.args.reach.size (subst (λ (xs : List (List ℕ)). IsStuck s c.args.reach.size xs c.in-Infeasible.k) (sym c.as_slice-in-Infeasible.ensures) stuck)
+
 pub returns-in-Infeasible-clause-refused : goal.returns-in-Infeasible-clause-refused
 returns-in-Infeasible-clause-refused c = λ f is other.
     let s = view_system c.args.flat.now in
     let cs = c.in_ok-components.components in
     let are : AreComponents (length (nodes s)) (ReadsNode s) cs = search rules in
     let few : All (λ d. candidates s c.args.reach.size d ≤ 4194304) cs = search rules in
-    let h : HasNoSchedule s c.args.reach.size c.in_ok-name-in-Infeasible.name = search rules in
+    let infeasible : IsFirstInfeasible s c.args.reach.size cs c.in-Infeasible.k = search rules in
+    let stuck : IsStuck s c.args.reach.size cs c.in-Infeasible.k = record { small = c.args.reach.most; few = few; infeasible = infeasible } in
+    let h = c.in_ok-name-in-Infeasible.ensures c.args.reach.size (subst (λ (xs : List (List ℕ)). IsStuck s c.args.reach.size xs c.in-Infeasible.k) (sym c.as_slice-in-Infeasible.ensures) stuck) in
     let e = stuck_only s c.args.reach.size cs c.in_ok-name-in-Infeasible.name are few h f is other in
     inl cc
 
