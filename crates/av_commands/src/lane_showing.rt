@@ -82,8 +82,8 @@ fn watch_lanes(
 {
     let inputs = of.inputs.len() as u32;
     let taps = taps(alloc, of, lines)?;
-    let mut lanes = Lanes::new(alloc, of)?;
     let mut rows = zero_rows(alloc, lines.len())?;
+    let mut lanes = Lanes::new(alloc, of)?;
     clock_lanes_and_note(
         &mut lanes,
         inputs,

@@ -208,9 +208,9 @@ fn watch(
 {
     let inputs = of.inputs.len() as u32;
     let taps = taps(alloc, of, lines)?;
-    let mut clock = Clock::new(alloc, of)?;
     let mut ports = zeros(alloc, of.inputs.as_slice().len())?;
     let mut words = zero_words(alloc, lines.len())?;
+    let mut clock = Clock::new(alloc, of)?;
     clock_and_note(
         &mut clock,
         inputs,

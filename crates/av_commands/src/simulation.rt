@@ -34,10 +34,11 @@ pub(crate) fn make_ready<'a>(alloc: Global, of: &'a Module) -> Result<Prepared<'
 {
     let ports = header_ports(alloc, of)?;
     let words = zeros(alloc, ports.as_slice().len())?;
+    let wires = wires(alloc, of)?;
     Ok(Prepared {
         clock: Clock::new(alloc, of)?,
         ports,
-        wires: wires(alloc, of)?,
+        wires,
         words,
         inputs: of.inputs.len() as u32,
     })

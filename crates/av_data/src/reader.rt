@@ -92,6 +92,38 @@ fn value_at(
     }
 }
 
+// Reads a stimulus for these input ports line by line, whose first line has this number.
+fn read_lines(
+    alloc: Global,
+    bytes: &[u8],
+    first: u32,
+    inputs: &InputPorts,
+) -> Result<Stimulus, DataFault>
+    requires { first + length bytes.now < 4294967295 }
+    ensures { Answers result (stimulus_of inputs.now first bytes.now) }
+{
+    let mut values = Timeline::new(alloc);
+    let mut cycles = None;
+    let mut line = first;
+    let mut at = 0;
+    while at < bytes.len() {
+        let (text, size) = first_line(from(bytes, at));
+        match cycles {
+            None => cycles = cycles_at(line, text)?,
+            Some(cycles) => value_at(inputs, cycles, &mut values, line, text)?,
+        }
+        at += size;
+        line += 1;
+    }
+    match cycles {
+        None => Err(DataFault::DataSyntax(line)),
+        Some(cycles) => Ok(Stimulus {
+            cycles,
+            values: values.list(alloc)?,
+        }),
+    }
+}
+
 /// Reads a stimulus line by line, whose first line has this number.
 pub(crate) fn read(
     alloc: Global,
@@ -105,24 +137,5 @@ pub(crate) fn read(
     ensures { Answers result (stimulus_of ports.now first bytes.now) }
 {
     let inputs = InputPorts::new(alloc, ports)?;
-    let mut values = Timeline::new(alloc);
-    let mut cycles = None;
-    let mut line = first;
-    let mut at = 0;
-    while at < bytes.len() {
-        let (text, size) = first_line(from(bytes, at));
-        match cycles {
-            None => cycles = cycles_at(line, text)?,
-            Some(cycles) => value_at(&inputs, cycles, &mut values, line, text)?,
-        }
-        at += size;
-        line += 1;
-    }
-    match cycles {
-        None => Err(DataFault::DataSyntax(line)),
-        Some(cycles) => Ok(Stimulus {
-            cycles,
-            values: values.list(alloc)?,
-        }),
-    }
+    read_lines(alloc, bytes, first, &inputs)
 }

@@ -1,5 +1,5 @@
 -- Steps of building, put together.
-use Rattle.std.proofs.Common.{◌≡◌, ℕ, ◌+◌, List, [], ◌∷◌, ◌++◌, length, refl, arith, ◌∙◌, ap, append_assoc, Ok, Err, Result}
+use Rattle.std.proofs.Common.{◌≡◌, ℕ, ◌+◌, List, [], ◌∷◌, ◌++◌, length, refl, sym, arith, ◌∙◌, ap, append_assoc, zero-add, Ok, Err, Result}
 use Rattle.std.specs.Prelude.{IfOk, OnOk}
 use Rattle.std.proofs.lemmas.List.{length-append}
 use Rattle.av_base.specs.declared.width.Width.{Width}
@@ -10,15 +10,15 @@ use Rattle.av_net.specs.declared.operation.Symbol.TheVariants.{Less}
 use Rattle.av_net.specs.declared.operation.Operand.{Operand}
 use Rattle.av_net.specs.declared.operation.Operand.TheVariants.{Name}
 use Rattle.av_net.specs.declared.operation.Operation.{Operation}
-use Rattle.av_net.specs.declared.operation.Operation.TheVariants.{Signed, Choose}
+use Rattle.av_net.specs.declared.operation.Operation.TheVariants.{Plain, Binary, Signed, Choose, Part, Widen}
 use Rattle.av_flat.specs.Trees.{Tree, binary, choice}
 use Rattle.av_kinds.specs.declared.gates.Gate.{Gate}
 use Rattle.av_kinds.specs.Names.{Naming}
-use Rattle.av_kinds.specs.inner.Gates.{gate, Built, Named, named}
+use Rattle.av_kinds.specs.inner.Gates.{gate, Built, Named, named, named_by}
 use Rattle.av_kinds.specs.Programs.{site_count}
 use Rattle.av_kinds.specs.Tops.{one_bit}
 use Rattle.av_kinds.specs.inner.Trees.{chosen_by, joined, comparison, tree_built}
-use Rattle.av_kinds.specs.inner.Added.{Adds, AddsBuilt, AddsOperand}
+use Rattle.av_kinds.specs.inner.Added.{Adds, AddsNamed, AddsBuilt, AddsOperand}
 
 pub if_ok_map : {X E : Type 0} (P Q : X → Type 0) → ((x : X) → P x → Q x) → (r : Result X E) → IfOk r P → IfOk r Q
 if_ok_map P Q f (Ok x) h = f x h
@@ -28,6 +28,23 @@ if_ok_map P Q f (Err e) h = tt
 pub on_ok_both : {X E P Q R : Type 0} (r : Result X E) → (P → Q → R) → OnOk r P → OnOk r Q → OnOk r R
 on_ok_both (Ok x) f p q = f p q
 on_ok_both (Err e) f p q = tt
+
+-- a wire for an operation that is no operand
+pub wire_named : {E : Type 0} (name : Naming) (w : Width) (old new : List Gate) (root : Operation) (r : Result Operand E) → ((x : Operand) → root ≡ Plain x → ⊥)
+    → OnOk r (new ≡ old ++ gate w root ∷ []) → IfOk r (λ a. a ≡ Name (name (length old))) → IfOk r (AddsNamed new (named_by name 0 w old root))
+wire_named name w old new root (Err e) none gates is = tt
+wire_named name w old new root (Ok a) none gates is = by root none gates
+  where
+    numbered : a ≡ Name (name (0 + length old))
+    numbered = is ∙ ap (λ k. Name (name k)) (sym (zero-add (length old)))
+
+    by : (o : Operation) → ((x : Operand) → o ≡ Plain x → ⊥) → new ≡ old ++ gate w o ∷ [] → AddsNamed new (named_by name 0 w old o) a
+    by (Plain x) never put = absurd (never x refl)
+    by (Binary x s y) never put = record { gates_are = put; operand_is = numbered }
+    by (Signed x s y) never put = record { gates_are = put; operand_is = numbered }
+    by (Choose c x y) never put = record { gates_are = put; operand_is = numbered }
+    by (Part x high low) never put = record { gates_are = put; operand_is = numbered }
+    by (Widen x more) never put = record { gates_are = put; operand_is = numbered }
 
 -- a test after more wires
 chosen_gates : (name : Naming) (old gates : List Gate) (t : Operation) (a b : Operand) → (chosen_by name 0 (old ++ gates) t a b).gates ≡ old ++ (chosen_by name (length old) gates t a b).gates

@@ -1,6 +1,6 @@
 //! The counter by which cells choose: of cycles, or of cycles modulo a period.
 
-ghost use Rattle.std.specs.Prelude.{◌≡◌, ◌<◌, ◌++◌, ◌∷◌, [], IfOk, OnOk};
+ghost use Rattle.std.specs.Prelude.{◌≡◌, ◌<◌, ◌++◌, ◌∷◌, [], codes, IfOk, OnOk};
 ghost use Rattle.av_kinds.specs.Counters.{counter_width};
 ghost use Rattle.av_kinds.specs.Tops.{port};
 ghost use Rattle.av_kinds.specs.inner.Counts.{bound, begun_again};
@@ -83,6 +83,25 @@ impl Counter {
         })
     }
 
+    // A wire for the counter with a number under an operator, and its drive.
+    fn add_combined(
+        self,
+        alloc: Global,
+        name: &str,
+        width: Width,
+        symbol: Symbol,
+        number: u32,
+        wires: &mut List<Port>,
+        drives: &mut List<Drive>,
+    ) -> Result<(), Memory>
+        ensures wires { OnOk result (wires.new ≡ wires.old ++ port width name.now ∷ []) }
+        ensures drives { OnOk result (drives.new ≡ drives.old ++ record { target = name.now; operation = Operation.Binary (Operand.Name (counter_name self)) symbol (bound number) } ∷ []) }
+    {
+        let target = add_wire(alloc, name, width, wires)?;
+        let operation = self.combined(alloc, symbol, number)?;
+        drives.push(Drive { target, operation })
+    }
+
     /// Puts the wires of the counter and their drives behind others.
     pub(crate) fn add_parts(
         self,
@@ -94,15 +113,24 @@ impl Counter {
         ensures wires { OnOk result (wires.new ≡ wires.old ++ counter_wires self) }
         ensures drives { OnOk result (drives.new ≡ drives.old ++ counter_drives self) }
     {
-        let raised = self.combined(alloc, Symbol::Add, 1)?;
+        let width = counter_width();
         match self {
-            Counter::Cycles => add_part(alloc, "cyc_next", counter_width(), raised, wires, drives),
+            Counter::Cycles => {
+                self.add_combined(alloc, "cyc_next", width, Symbol::Add, 1, wires, drives)
+            }
             Counter::Phases { period } => {
-                let last = self.combined(alloc, Symbol::Equal, period - 1)?;
-                add_part(alloc, "phase_last", bit(), last, wires, drives)?;
-                add_part(alloc, "phase_sum", counter_width(), raised, wires, drives)?;
-                let next = begun_again(alloc)?;
-                add_part(alloc, "phase_next", counter_width(), next, wires, drives)
+                let last = period - 1;
+                self.add_combined(
+                    alloc,
+                    "phase_last",
+                    bit(),
+                    Symbol::Equal,
+                    last,
+                    wires,
+                    drives,
+                )?;
+                self.add_combined(alloc, "phase_sum", width, Symbol::Add, 1, wires, drives)?;
+                add_begun_again(alloc, wires, drives)
             }
         }
     }
@@ -130,24 +158,28 @@ fn begun_again(alloc: Global) -> Result<Operation, Memory>
     })
 }
 
-// A wire and its drive.
-fn add_part(
-    alloc: Global,
-    name: &str,
-    width: Width,
-    operation: Operation,
-    wires: &mut List<Port>,
-    drives: &mut List<Drive>,
-) -> Result<(), Memory>
+// A wire, and its name once more.
+fn add_wire(alloc: Global, name: &str, width: Width, wires: &mut List<Port>) -> Result<Name, Memory>
+    ensures name { IfOk result (λ target. target ≡ name.now) }
     ensures wires { OnOk result (wires.new ≡ wires.old ++ port width name.now ∷ []) }
-    ensures drives { OnOk result (drives.new ≡ drives.old ++ record { target = name.now; operation = operation } ∷ []) }
 {
     wires.push(Port {
         name: Name::new(alloc, name)?,
         width,
     })?;
-    drives.push(Drive {
-        target: Name::new(alloc, name)?,
-        operation,
-    })
+    Name::new(alloc, name)
+}
+
+// The wire with the number that follows in a period, and its drive.
+fn add_begun_again(
+    alloc: Global,
+    wires: &mut List<Port>,
+    drives: &mut List<Drive>,
+) -> Result<(), Memory>
+    ensures wires { OnOk result (wires.new ≡ wires.old ++ port counter_width (codes "phase_next") ∷ []) }
+    ensures drives { OnOk result (drives.new ≡ drives.old ++ record { target = codes "phase_next"; operation = begun_again } ∷ []) }
+{
+    let target = add_wire(alloc, "phase_next", counter_width(), wires)?;
+    let operation = begun_again(alloc)?;
+    drives.push(Drive { target, operation })
 }

@@ -10,7 +10,7 @@ ghost use Rattle.av_kinds.specs.inner.Added.{AddsBuilt, as_datapath, as_guarded,
 use crate::choice::{Datapath, GuardedDatapath, LaneDatapaths};
 use crate::gates::{Gate, named};
 use crate::naming::WireNames;
-use crate::selection::{either, fitted, selections};
+use crate::selection::{fitted, in_guard, selections};
 use crate::tree::tree;
 use av_base::{Memory, Width};
 use av_flat::Tree;
@@ -66,9 +66,9 @@ fn in_mode(
     let guards = mode.guards.as_slice();
     let mut root = Operation::Plain(second);
     for k in (0..guards.len()).rev() {
-        let no = named(alloc, names, gates, width, root)?;
-        let yes = first.copied(alloc)?;
-        root = either(alloc, counter, names, gates, &guards[k], yes, no)?;
+        root = in_guard(
+            alloc, counter, width, names, gates, &guards[k], &first, root,
+        )?;
     }
     Ok(root)
 }

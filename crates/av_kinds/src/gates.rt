@@ -1,4 +1,4 @@
-ghost use Rattle.std.specs.Prelude.{◌≡◌, IfOk};
+ghost use Rattle.std.specs.Prelude.{◌≡◌, ◌++◌, ◌∷◌, [], length, IfOk, OnOk};
 ghost use Rattle.av_kinds.specs.inner.Gates.{named_by};
 ghost use Rattle.av_kinds.specs.Tops.{one_bit};
 ghost use Rattle.av_kinds.specs.inner.Trees.{chosen_by};
@@ -17,6 +17,22 @@ pub(crate) struct Gate {
     pub(crate) operation: Operation,
 }
 
+// A wire for the operation.
+fn on_wire(
+    alloc: Global,
+    names: WireNames,
+    gates: &mut Vec<Gate>,
+    width: Width,
+    operation: Operation,
+) -> Result<Operand, Memory>
+    ensures gates { OnOk result (gates.new.items ≡ gates.old.items ++ record { width = width; operation = operation } ∷ []) }
+    ensures operand { IfOk result (λ operand. operand ≡ Operand.Name (wire_in names (length gates.old.items))) }
+{
+    let number = gates.len();
+    gates.push(Gate { width, operation })?;
+    Ok(Operand::Name(names.wire(alloc, number)?))
+}
+
 /// A wire for the operation, but for an operand.
 pub(crate) fn named(
     alloc: Global,
@@ -29,11 +45,7 @@ pub(crate) fn named(
 {
     match root {
         Operation::Plain(operand) => Ok(operand),
-        operation => {
-            let name = names.wire(alloc, gates.len())?;
-            gates.push(Gate { width, operation })?;
-            Ok(Operand::Name(name))
-        }
+        operation => on_wire(alloc, names, gates, width, operation),
     }
 }
 
@@ -55,13 +67,9 @@ pub(crate) fn chosen(
 ) -> Result<Operation, Memory>
     ensures { IfOk result (Adds gates.new.items (chosen_by (wire_in names) 0 gates.old.items test first second)) }
 {
-    let name = names.wire(alloc, gates.len())?;
-    gates.push(Gate {
-        width: bit(),
-        operation: test,
-    })?;
+    let condition = on_wire(alloc, names, gates, bit(), test)?;
     Ok(Operation::Choose {
-        condition: Operand::Name(name),
+        condition,
         yes: first,
         no: second,
     })

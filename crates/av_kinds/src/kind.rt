@@ -45,10 +45,10 @@ fn add_gate(
     ensures drives { OnOk result (drives.new ≡ drives.old ++ record { target = wire_in names number; operation = gate.operation } ∷ []) }
 {
     let Gate { width, operation } = gate;
-    let name = names.wire(alloc, number)?;
     let target = names.wire(alloc, number)?;
-    wires.push(Port { name, width })?;
-    drives.push(Drive { target, operation })
+    drives.push(Drive { target, operation })?;
+    let name = names.wire(alloc, number)?;
+    wires.push(Port { name, width })
 }
 
 // The wires of a lane but for its output: declarations and drives.
@@ -80,14 +80,12 @@ fn add_output(
     ensures outputs { OnOk result (outputs.new ≡ outputs.old ++ port width name ∷ []) }
     ensures drives { OnOk result (drives.new ≡ drives.old ++ record { target = name; operation = root } ∷ []) }
 {
-    outputs.push(Port {
-        name: Name::new(alloc, name.as_str())?,
-        width,
-    })?;
+    let target = Name::new(alloc, name.as_str())?;
     drives.push(Drive {
-        target: name,
+        target,
         operation: root,
-    })
+    })?;
+    outputs.push(Port { name, width })
 }
 
 // A lane of a kind, whose output has this name.

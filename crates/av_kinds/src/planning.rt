@@ -100,6 +100,30 @@ fn instances(
     Ok(instances)
 }
 
+// The modules of a program whose kinds have these shapes.
+fn modules_over(
+    alloc: Global,
+    counter: Counter,
+    program: &Program<'_>,
+    shapes: &List<List<LaneShape<'_>>>,
+) -> Result<Modules, Memory>
+    requires counter { IsCounter counter }
+    requires program { IsProgram (program_of program.now) }
+    requires shapes { AreShapesOf (program_of program.now) (map (map lane_shape_of) shapes.now) }
+    ensures netlists { IfOk result (AreNetlistsOf counter (program_of program.now)) }
+    ensures form { IfOk result (AreFormedBy counter (program_of program.now)) }
+{
+    let kinds = kinds(alloc, shapes.as_slice())?;
+    let instances = instances(alloc, counter, program, shapes)?;
+    let counting = some_counts(shapes.as_slice());
+    let top = top(alloc, counter, program, counting)?;
+    Ok(Modules {
+        kinds,
+        top,
+        instances,
+    })
+}
+
 /// The modules of a program whose cells choose by the counter.
 pub fn modules_of(alloc: Global, counter: Counter, program: &Program<'_>) -> Result<Modules, Memory>
     requires counter { IsCounter counter }
@@ -108,10 +132,5 @@ pub fn modules_of(alloc: Global, counter: Counter, program: &Program<'_>) -> Res
     ensures form { IfOk result (AreFormedBy counter (program_of program.now)) }
 {
     let shapes = shapes(alloc, program)?;
-    let counting = some_counts(shapes.as_slice());
-    Ok(Modules {
-        kinds: kinds(alloc, shapes.as_slice())?,
-        top: top(alloc, counter, program, counting)?,
-        instances: instances(alloc, counter, program, &shapes)?,
-    })
+    modules_over(alloc, counter, program, &shapes)
 }

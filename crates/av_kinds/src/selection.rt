@@ -4,7 +4,7 @@ ghost use Rattle.std.specs.Prelude.{◌≡◌, length, IfOk};
 ghost use Rattle.av_kinds.specs.inner.Choices.{guard_built, tap_built, fitting, fit_built};
 ghost use Rattle.av_kinds.specs.inner.Cells.{taps_built};
 ghost use Rattle.av_kinds.specs.inner.Numbered.{wire_in};
-ghost use Rattle.av_kinds.specs.inner.Added.{AddsBuilt, AddsTaken, choice_built};
+ghost use Rattle.av_kinds.specs.inner.Added.{AddsBuilt, AddsTaken, AddsGuarded, choice_built};
 
 use crate::choice::{Arm, Guard, Tap};
 use crate::gates::{Gate, bit, named};
@@ -55,8 +55,8 @@ fn guard_test(
     }
 }
 
-/// The first operand where the guard has the number, else the second.
-pub(crate) fn either(
+// The first operand where the guard has the number, else the second.
+fn either(
     alloc: Global,
     counter: &Operand,
     names: WireNames,
@@ -76,6 +76,24 @@ pub(crate) fn either(
     })
 }
 
+/// The operand where the guard has the number, else what the root gives, on a wire of this width.
+pub(crate) fn in_guard(
+    alloc: Global,
+    counter: &Operand,
+    width: Width,
+    names: WireNames,
+    gates: &mut Vec<Gate>,
+    guard: &Guard,
+    operand: &Operand,
+    root: Operation,
+) -> Result<Operation, Memory>
+    ensures { IfOk result (AddsGuarded (wire_in names) width counter.now guard.now operand.now gates.old.items root gates.new.items) }
+{
+    let second = named(alloc, names, gates, width, root)?;
+    let first = operand.copied(alloc)?;
+    either(alloc, counter, names, gates, guard, first, second)
+}
+
 // The choice of a tap: tests from the last arm to the first.
 fn selection(
     alloc: Global,
@@ -90,9 +108,16 @@ fn selection(
     let mut root = Operation::Plain(tap.otherwise.copied(alloc)?);
     for k in (0..arms.len()).rev() {
         let arm: &Arm = &arms[k];
-        let second = named(alloc, names, gates, tap.width, root)?;
-        let first = arm.operand.copied(alloc)?;
-        root = either(alloc, counter, names, gates, &arm.guard, first, second)?;
+        root = in_guard(
+            alloc,
+            counter,
+            tap.width,
+            names,
+            gates,
+            &arm.guard,
+            &arm.operand,
+            root,
+        )?;
     }
     Ok(root)
 }

@@ -3,12 +3,12 @@
 ghost use Rattle.std.specs.Prelude.{◌≡◌, ◌<◌, ◌∷◌, ◌++◌, [], length, IfOk, OnOk};
 ghost use Rattle.std.specs.List.{AllByRecursion};
 ghost use Rattle.av_kinds.specs.Written.{program_of};
-ghost use Rattle.av_kinds.specs.Names.{labels, numbered};
+ghost use Rattle.av_kinds.specs.Names.{labels, numbered, output_name};
 ghost use Rattle.av_kinds.specs.Counters.{IsCounter};
 ghost use Rattle.av_kinds.specs.Tops.{port, numbered_ports, output_widths, output_drives};
 ghost use Rattle.av_kinds.specs.inner.Numbered.{value_in};
 ghost use Rattle.av_kinds.specs.inner.Modules.{top_by};
-ghost use Rattle.av_kinds.specs.inner.TopParts.{AddsLaneAt, AddsCounter, ArePartsOf};
+ghost use Rattle.av_kinds.specs.inner.TopParts.{AddsLaneAt, AddsCounter, ArePartsOf, AreAllParts};
 
 use crate::counter::{Counter, counter_width};
 use crate::delay_line::{add_registers, add_steps};
@@ -53,6 +53,15 @@ fn output_widths(alloc: Global, program: &Program<'_>) -> Result<List<Width>, Me
         widths.push(lane.width)?;
     }
     Ok(widths)
+}
+
+// The output ports, each as wide as its lane.
+fn output_ports(alloc: Global, program: &Program<'_>) -> Result<List<Port>, Memory>
+    requires { AllByRecursion (λ q. q < length program.now.lanes) program.now.outputs }
+    ensures { IfOk result (λ ports. ports ≡ numbered_ports output_name 0 (output_widths (program_of program.now))) }
+{
+    let widths = output_widths(alloc, program)?;
+    ports(alloc, "o", widths.as_slice())
 }
 
 // The wire with the word of a lane.
@@ -137,6 +146,23 @@ fn add_counter(
     parts.steps.push(counter.step(alloc)?)
 }
 
+// What the lanes, the outputs and the counter bring.
+fn all_parts(
+    alloc: Global,
+    counter: Counter,
+    program: &Program<'_>,
+    counts: bool,
+) -> Result<TopParts, Memory>
+    requires counter { IsCounter counter }
+    requires outputs { AllByRecursion (λ q. q < length program.now.lanes) program.now.outputs }
+    ensures { IfOk result (AreAllParts counter counts (program_of program.now)) }
+{
+    let mut parts = parts_of(alloc, program)?;
+    add_outputs(alloc, program, &mut parts.drives)?;
+    add_counter(alloc, counter, counts, &mut parts)?;
+    Ok(parts)
+}
+
 /// The top module of a program, which counts where `counts` says so.
 pub(crate) fn top(
     alloc: Global,
@@ -148,14 +174,14 @@ pub(crate) fn top(
     requires outputs { AllByRecursion (λ q. q < length program.now.lanes) program.now.outputs }
     ensures { IfOk result (λ top. top ≡ top_by counter counts (program_of program.now)) }
 {
-    let mut parts = parts_of(alloc, program)?;
-    add_outputs(alloc, program, &mut parts.drives)?;
-    add_counter(alloc, counter, counts, &mut parts)?;
-    let widths = output_widths(alloc, program)?;
+    let inputs = ports(alloc, "i", program.inputs.as_slice())?;
+    let outputs = output_ports(alloc, program)?;
+    let name = Name::new(alloc, "array")?;
+    let parts = all_parts(alloc, counter, program, counts)?;
     Ok(Module {
-        name: Name::new(alloc, "array")?,
-        inputs: ports(alloc, "i", program.inputs.as_slice())?,
-        outputs: ports(alloc, "o", widths.as_slice())?,
+        name,
+        inputs,
+        outputs,
         wires: parts.wires,
         registers: parts.registers,
         drives: parts.drives,

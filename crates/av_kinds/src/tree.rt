@@ -48,6 +48,15 @@ fn binary(left: Operand, symbol: Symbol, right: Operand) -> Operation
     }
 }
 
+// Whether the first is less, as signed numbers.
+fn less(alloc: Global, left: &Operand, right: &Operand) -> Result<Operation, Memory>
+    ensures { IfOk result (λ test. test ≡ Operation.Signed left.now Symbol.Less right.now) }
+{
+    let left = left.copied(alloc)?;
+    let right = right.copied(alloc)?;
+    Ok(signed(left, Symbol::Less, right))
+}
+
 // An operator on two operands.
 fn operator(
     alloc: Global,
@@ -64,11 +73,11 @@ fn operator(
         Sign::Sub => Ok(binary(left, Symbol::Sub, right)),
         Sign::Mul => Ok(binary(left, Symbol::Mul, right)),
         Sign::Min => {
-            let test = signed(right.copied(alloc)?, Symbol::Less, left.copied(alloc)?);
+            let test = less(alloc, &right, &left)?;
             chosen(alloc, names, gates, test, right, left)
         }
         Sign::Max => {
-            let test = signed(left.copied(alloc)?, Symbol::Less, right.copied(alloc)?);
+            let test = less(alloc, &left, &right)?;
             chosen(alloc, names, gates, test, right, left)
         }
     }

@@ -36,6 +36,7 @@ pub mod Limited
 pub mod Resolved
 pub mod Fitted
 pub mod Summed
+pub mod TermSums
 pub mod Branches
 pub mod Entered
 pub mod Built

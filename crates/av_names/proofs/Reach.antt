@@ -1,5 +1,5 @@
 -- Names in reach: by sets of names, and part by part.
-use Rattle.std.proofs.Common.{◌≡◌, ℕ, ◌+◌, ◌<◌, List, [], ◌∷◌, ◌++◌, length, get_or, take, take-suc, add-one, append-nil, Option, Some, None, Bool, true, not, ◌&&◌, refl, ap, sym, ◌∙◌}
+use Rattle.std.proofs.Common.{◌≡◌, ℕ, ◌+◌, ◌<◌, List, [], ◌∷◌, ◌++◌, length, get_or, take, drop, take-suc, add-one, append-nil, Option, Some, None, Bool, true, not, ◌&&◌, refl, ap, sym, ◌∙◌}
 use Rattle.std.specs.List.{flat_map}
 use Rattle.std.proofs.Math.Path.{fun_ext}
 use Rattle.av_base.specs.declared.place.Place.{Place}
@@ -96,46 +96,57 @@ or_same a b (n ∷ names) same = λ name. refl
 abbrev pub part_of : Bool → Context → Expression → Part
 part_of reduced c e = record { context = c; reduced = reduced; expression = e }
 
-module _ (P : Part → Option Found) (reduced : Bool) (c : Context) (e : Expression) (h m : Option Found) (eh : h ≡ P (part_of reduced c e)) where
-  in_leaf : (is : parts_of reduced c e ≡ part_of reduced c e ∷ []) → h ≡ first_found P (parts_of reduced c e)
-  in_leaf is = eh ∙ sym (sooner_nothing (λ f. f.place) (P (part_of reduced c e))) ∙ ap (first_found P) (sym is)
+-- a part is followed by those that stand in it
+parts_headed : (reduced : Bool) (c : Context) (e : Expression) → parts_of reduced c e ≡ part_of reduced c e ∷ drop 1 (parts_of reduced c e)
+parts_headed reduced c (reference name at place) = refl
+parts_headed reduced c (constant n at place) = refl
+parts_headed reduced c (binary g l r place) = refl
+parts_headed reduced c (choice l compare r x y place) = refl
+parts_headed reduced c (restriction d body place) = refl
+parts_headed reduced c (cases es place) = refl
+parts_headed reduced c (dependence t body place) = refl
+parts_headed reduced c (reduction o t body place) = refl
 
-  in_more : (xs : List Part) (i : Option Found) → parts_of reduced c e ≡ part_of reduced c e ∷ xs → i ≡ first_found P xs → m ≡ sooner (λ f. f.place) h i → m ≡ first_found P (parts_of reduced c e)
-  in_more xs i is ei em = headed P (part_of reduced c e) xs h i m eh ei em ∙ ap (first_found P) (sym is)
+pub headed_below : (P : Part → Option Found) (reduced : Bool) (c : Context) (e : Expression) (h i m : Option Found) → h ≡ P (part_of reduced c e) → i ≡ first_found P (drop 1 (parts_of reduced c e))
+    → m ≡ sooner (λ f. f.place) h i → m ≡ first_found P (parts_of reduced c e)
+headed_below P reduced c e h i m eh ei em =
+    headed P (part_of reduced c e) (drop 1 (parts_of reduced c e)) h i m eh ei em ∙ ap (first_found P) (sym (parts_headed reduced c e))
 
-  pub in_reference : (name : Text) (at : Access) (place : Place) → e ≡ reference name at place → h ≡ first_found P (parts_of reduced c e)
-  in_reference name at place is = in_leaf (rw is refl)
+module _ (P : Part → Option Found) (reduced : Bool) (c : Context) (e : Expression) (m : Option Found) where
+  below : (xs : List Part) → parts_of reduced c e ≡ part_of reduced c e ∷ xs → m ≡ first_found P xs → m ≡ first_found P (drop 1 (parts_of reduced c e))
+  below xs is em = em ∙ ap (λ (ps : List Part). first_found P (drop 1 ps)) (sym is)
 
-  pub in_constant : (n : ℕ) (at : Access) (place : Place) → e ≡ constant n at place → h ≡ first_found P (parts_of reduced c e)
-  in_constant n at place is = in_leaf (rw is refl)
+  pub in_reference : (name : Text) (at : Access) (place : Place) → e ≡ reference name at place → m ≡ None → m ≡ first_found P (drop 1 (parts_of reduced c e))
+  in_reference name at place is em = below [] (rw is refl) em
 
-  pub in_binary : (g : Sign) (l r : Expression) (place : Place) (a b i : Option Found) → e ≡ binary g l r place → a ≡ first_found P (parts_of reduced c l) → b ≡ first_found P (parts_of reduced c r)
-      → i ≡ sooner (λ f. f.place) a b → m ≡ sooner (λ f. f.place) h i → m ≡ first_found P (parts_of reduced c e)
-  in_binary g l r place a b i is ea eb ei em =
-      in_more (parts_of reduced c l ++ parts_of reduced c r) i (rw is refl) (both P (parts_of reduced c l) (parts_of reduced c r) a b i ea eb ei) em
+  pub in_constant : (n : ℕ) (at : Access) (place : Place) → e ≡ constant n at place → m ≡ None → m ≡ first_found P (drop 1 (parts_of reduced c e))
+  in_constant n at place is em = below [] (rw is refl) em
 
-  pub in_choice : (l : Expression) (compare : Relation) (r x y : Expression) (place : Place) (a b d f i j k : Option Found) → e ≡ choice l compare r x y place → a ≡ first_found P (parts_of reduced c l)
+  pub in_binary : (g : Sign) (l r : Expression) (place : Place) (a b : Option Found) → e ≡ binary g l r place → a ≡ first_found P (parts_of reduced c l) → b ≡ first_found P (parts_of reduced c r)
+      → m ≡ sooner (λ f. f.place) a b → m ≡ first_found P (drop 1 (parts_of reduced c e))
+  in_binary g l r place a b is ea eb em =
+      below (parts_of reduced c l ++ parts_of reduced c r) (rw is refl) (both P (parts_of reduced c l) (parts_of reduced c r) a b m ea eb em)
+
+  pub in_choice : (l : Expression) (compare : Relation) (r x y : Expression) (place : Place) (a b d f i j : Option Found) → e ≡ choice l compare r x y place → a ≡ first_found P (parts_of reduced c l)
       → b ≡ first_found P (parts_of reduced c r) → d ≡ first_found P (parts_of reduced c x) → f ≡ first_found P (parts_of reduced c y) → i ≡ sooner (λ f. f.place) d f → j ≡ sooner (λ f. f.place) b i
-      → k ≡ sooner (λ f. f.place) a j → m ≡ sooner (λ f. f.place) h k → m ≡ first_found P (parts_of reduced c e)
-  in_choice l compare r x y place a b d f i j k is ea eb ed ef ei ej ek em =
+      → m ≡ sooner (λ f. f.place) a j → m ≡ first_found P (drop 1 (parts_of reduced c e))
+  in_choice l compare r x y place a b d f i j is ea eb ed ef ei ej em =
       let pl = parts_of reduced c l in
       let pr = parts_of reduced c r in
       let px = parts_of reduced c x in
       let py = parts_of reduced c y in
-      in_more (pl ++ (pr ++ (px ++ py))) k (rw is refl) (both P pl (pr ++ (px ++ py)) a j k ea (both P pr (px ++ py) b i j eb (both P px py d f i ed ef ei) ej) ek) em
+      below (pl ++ (pr ++ (px ++ py))) (rw is refl) (both P pl (pr ++ (px ++ py)) a j m ea (both P pr (px ++ py) b i j eb (both P px py d f i ed ef ei) ej) em)
 
-  pub in_restriction : (d : DomainText) (body : Expression) (place : Place) (i : Option Found) → e ≡ restriction d body place → i ≡ first_found P (parts_of reduced c body)
-      → m ≡ sooner (λ f. f.place) h i → m ≡ first_found P (parts_of reduced c e)
-  in_restriction d body place i is ei em = in_more (parts_of reduced c body) i (rw is refl) ei em
+  pub in_restriction : (d : DomainText) (body : Expression) (place : Place) → e ≡ restriction d body place → m ≡ first_found P (parts_of reduced c body) → m ≡ first_found P (drop 1 (parts_of reduced c e))
+  in_restriction d body place is em = below (parts_of reduced c body) (rw is refl) em
 
-  pub in_cases : (es : Expressions) (place : Place) (i : Option Found) → e ≡ cases es place → i ≡ first_found P (parts_of_all reduced c es)
-      → m ≡ sooner (λ f. f.place) h i → m ≡ first_found P (parts_of reduced c e)
-  in_cases es place i is ei em = in_more (parts_of_all reduced c es) i (rw is refl) ei em
+  pub in_cases : (es : Expressions) (place : Place) → e ≡ cases es place → m ≡ first_found P (parts_of_all reduced c es) → m ≡ first_found P (drop 1 (parts_of reduced c e))
+  in_cases es place is em = below (parts_of_all reduced c es) (rw is refl) em
 
-  pub in_dependence : (t : MapText) (body : Expression) (place : Place) (i : Option Found) → e ≡ dependence t body place → i ≡ first_found P (parts_of reduced (nameless (length t.results)) body)
-      → m ≡ sooner (λ f. f.place) h i → m ≡ first_found P (parts_of reduced c e)
-  in_dependence t body place i is ei em = in_more (parts_of reduced (nameless (length t.results)) body) i (rw is refl) ei em
+  pub in_dependence : (t : MapText) (body : Expression) (place : Place) → e ≡ dependence t body place → m ≡ first_found P (parts_of reduced (nameless (length t.results)) body)
+      → m ≡ first_found P (drop 1 (parts_of reduced c e))
+  in_dependence t body place is em = below (parts_of reduced (nameless (length t.results)) body) (rw is refl) em
 
-  pub in_reduction : (o : Op) (t : MapText) (body : Expression) (place : Place) (i : Option Found) → e ≡ reduction o t body place → i ≡ first_found P (parts_of true (over t.names) body)
-      → m ≡ sooner (λ f. f.place) h i → m ≡ first_found P (parts_of reduced c e)
-  in_reduction o t body place i is ei em = in_more (parts_of true (over t.names) body) i (rw is refl) ei em
+  pub in_reduction : (o : Op) (t : MapText) (body : Expression) (place : Place) → e ≡ reduction o t body place → m ≡ first_found P (parts_of true (over t.names) body)
+      → m ≡ first_found P (drop 1 (parts_of reduced c e))
+  in_reduction o t body place is em = below (parts_of true (over t.names) body) (rw is refl) em

@@ -1,6 +1,6 @@
 //! Index names that are neither in reach nor sizes.
 
-ghost use Rattle.std.specs.Prelude.{◌≡◌, Bool, [], option_map, IfOk};
+ghost use Rattle.std.specs.Prelude.{◌≡◌, Bool, [], drop, option_map, IfOk};
 ghost use Rattle.av_tree.specs.Trees.{view, view_all};
 ghost use Rattle.av_names.specs.Forms.{Context, names_or};
 ghost use Rattle.av_names.specs.Found as finds;
@@ -186,13 +186,27 @@ pub(crate) fn unknown_inside<'a>(
     ensures { IfOk result (λ first. (c : Context) (reduced : Bool) → SameNames context.now c.names → option_map found first ≡ first_found (λ p. rules.unknown_written sizes.now (written_at p)) (list.parts_of reduced c (view expr.now))) }
 {
     let head = unknown_at_head(alloc, sizes, context, expr)?;
+    let below = unknown_below(alloc, sizes, context, expr)?;
+    Ok(sooner(head, below))
+}
+
+/// In what stands in an expression, behind its head.
+#[cycle(inside)]
+fn unknown_below<'a>(
+    alloc: Global,
+    sizes: &NameSet<'_>,
+    context: &NameSet<'_>,
+    expr: &'a Expr,
+) -> Result<Option<Found<'a>>, Memory>
+    ensures { IfOk result (λ first. (c : Context) (reduced : Bool) → SameNames context.now c.names → option_map found first ≡ first_found (λ p. rules.unknown_written sizes.now (written_at p)) (drop 1 (list.parts_of reduced c (view expr.now)))) }
+{
     match expr {
-        Expr::Ref { .. } => Ok(head),
-        Expr::Const { .. } => Ok(head),
+        Expr::Ref { .. } => Ok(None),
+        Expr::Const { .. } => Ok(None),
         Expr::Binary { left, right, .. } => {
             let left = unknown_inside(alloc, sizes, context, left)?;
             let right = unknown_inside(alloc, sizes, context, right)?;
-            Ok(sooner(head, sooner(left, right)))
+            Ok(sooner(left, right))
         }
         Expr::Choose {
             left,
@@ -206,24 +220,14 @@ pub(crate) fn unknown_inside<'a>(
             let yes = unknown_inside(alloc, sizes, context, yes)?;
             let no = unknown_inside(alloc, sizes, context, no)?;
             let choices = sooner(yes, no);
-            Ok(sooner(head, sooner(left, sooner(right, choices))))
+            Ok(sooner(left, sooner(right, choices)))
         }
-        Expr::Restrict { body, .. } => {
-            let body = unknown_inside(alloc, sizes, context, body)?;
-            Ok(sooner(head, body))
-        }
+        Expr::Restrict { body, .. } => unknown_inside(alloc, sizes, context, body),
         Expr::Case { branches, .. } => {
-            let branches = unknown_inside_all(alloc, sizes, context, branches.as_slice())?;
-            Ok(sooner(head, branches))
+            unknown_inside_all(alloc, sizes, context, branches.as_slice())
         }
-        Expr::Depend { body, .. } => {
-            let body = unknown_over(alloc, sizes, &[], body)?;
-            Ok(sooner(head, body))
-        }
-        Expr::Reduce { map, body, .. } => {
-            let body = unknown_over(alloc, sizes, map.names.as_slice(), body)?;
-            Ok(sooner(head, body))
-        }
+        Expr::Depend { body, .. } => unknown_over(alloc, sizes, &[], body),
+        Expr::Reduce { map, body, .. } => unknown_over(alloc, sizes, map.names.as_slice(), body),
     }
 }
 

@@ -219,6 +219,26 @@ fn repeated_size<'a>(alloc: Global, sizes: &'a DomainText) -> Result<Option<Foun
     }
 }
 
+/// The first name that is declared a second time, where these are the sizes.
+fn repeated_among<'a>(
+    alloc: Global,
+    sizes: &NameSet<'_>,
+    system: &'a System,
+    variables: &[&'a Declaration],
+    parts: &[Part<'a>],
+) -> Result<Option<Found<'a>>, Memory>
+    requires sizes { SameNames sizes.now system.now.sizes.names }
+    requires variables { map (λ d. d.now) variables.now ≡ domains.variables (view_system system.now) }
+    requires parts { map part parts.now ≡ list.parts (view_system system.now) }
+    ensures { IfOk result (λ first. option_map found first ≡ repeats.repeated (view_system system.now)) }
+{
+    let names = system.sizes.names.as_slice();
+    let size = repeated_size(alloc, &system.sizes)?;
+    let variable = repeated_variable(alloc, names, variables)?;
+    let index = in_lists(alloc, sizes, system.equations.as_slice(), variables, parts)?;
+    Ok(sooner(size, sooner(variable, index)))
+}
+
 /// The first name that is declared a second time.
 pub(crate) fn repeated<'a>(
     alloc: Global,
@@ -230,10 +250,6 @@ pub(crate) fn repeated<'a>(
     requires parts { map part parts.now ≡ list.parts (view_system system.now) }
     ensures { IfOk result (λ first. option_map found first ≡ repeats.repeated (view_system system.now)) }
 {
-    let names = system.sizes.names.as_slice();
-    let size = repeated_size(alloc, &system.sizes)?;
-    let variable = repeated_variable(alloc, names, variables)?;
-    let sizes = set_of(alloc, names)?;
-    let index = in_lists(alloc, &sizes, system.equations.as_slice(), variables, parts)?;
-    Ok(sooner(size, sooner(variable, index)))
+    let sizes = set_of(alloc, system.sizes.names.as_slice())?;
+    repeated_among(alloc, &sizes, system, variables, parts)
 }

@@ -140,6 +140,23 @@ fn unknown_in_parts<'a>(
     unknown_in_rights(alloc, sizes, &table, system.equations.as_slice())
 }
 
+/// The first name in index expressions that is neither an index in reach nor among these sizes.
+fn unknown_index_among<'a>(
+    alloc: Global,
+    sizes: &NameSet<'_>,
+    system: &'a System,
+    variables: &[&'a Declaration],
+) -> Result<Option<Found<'a>>, Memory>
+    requires sizes { SameNames sizes.now system.now.sizes.names }
+    requires variables { map (λ d. d.now) variables.now ≡ domains.variables (view_system system.now) }
+    ensures { IfOk result (λ first. option_map found first ≡ first_found (rules.unknown_written system.now.sizes.names) (all_written (view_system system.now))) }
+{
+    let outer = unknown_in_sizes(alloc, sizes, &system.sizes);
+    let domain = unknown_in_declarations(alloc, sizes, variables)?;
+    let right = unknown_in_parts(alloc, sizes, system, variables)?;
+    Ok(sooner(outer, sooner(domain, right)))
+}
+
 /// The first name in index expressions that is neither an index in reach nor a size.
 fn unknown_index<'a>(
     alloc: Global,
@@ -150,10 +167,7 @@ fn unknown_index<'a>(
     ensures { IfOk result (λ first. option_map found first ≡ first_found (rules.unknown_written system.now.sizes.names) (all_written (view_system system.now))) }
 {
     let sizes = set_of(alloc, system.sizes.names.as_slice())?;
-    let outer = unknown_in_sizes(alloc, &sizes, &system.sizes);
-    let domain = unknown_in_declarations(alloc, &sizes, variables)?;
-    let right = unknown_in_parts(alloc, &sizes, system, variables)?;
-    Ok(sooner(outer, sooner(domain, right)))
+    unknown_index_among(alloc, &sizes, system, variables)
 }
 
 /// The first name that nothing declares.

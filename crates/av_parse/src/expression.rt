@@ -292,8 +292,7 @@ impl<'t, 'a> Cursor<'t, 'a> {
     ) -> Result<Expr, Stop>
         ensures { Gives (λ e. (view e, views self.new.rest.now)) result (last_operand_of (readers levels) sign place (view left) (views self.old.rest.now)) }
     {
-        let right = self.deeper_expr(levels)?;
-        self.symbol(b")")?;
+        let right = self.parenthesis(levels)?;
         Ok(joined(self.alloc, sign, left, right, place)?)
     }
 
@@ -352,8 +351,7 @@ impl<'t, 'a> Cursor<'t, 'a> {
     fn reduced(&mut self, levels: u32, op: Op, map: MapText, place: Place) -> Result<Expr, Stop>
         ensures { Gives (λ e. (view e, views self.new.rest.now)) result (reduced_of (readers levels) op map place (views self.old.rest.now)) }
     {
-        let reduced = self.deeper_expr(levels)?;
-        self.symbol(b")")?;
+        let reduced = self.parenthesis(levels)?;
         Ok(Expr::Reduce {
             op,
             map,

@@ -2,10 +2,10 @@
 
 ghost use Rattle.std.specs.Prelude.{◌≡◌, ◌++◌, length, IfOk};
 ghost use Rattle.av_lex.specs.Lexing.{view as token_view, views};
-ghost use Rattle.av_tree.specs.Trees.{view_equation, view_equations, view_system};
+ghost use Rattle.av_tree.specs.Trees.{System as Spelled, view, view_equation, view_equations, view_system};
 ghost use Rattle.av_tree.specs.Grammar.{declared};
 ghost use Rattle.av_parse.specs.inner.Reader.{Gives, with_front};
-ghost use Rattle.av_parse.specs.inner.ProgramReader.{bits_of, width_of, declaration_of, declarations_of, inputs_of, variables_of, locals_of, sizes_of, index_names_of, equation_of, right_side_of, equations_of, semicolon_of, header_of, system_of, program_of};
+ghost use Rattle.av_parse.specs.inner.ProgramReader.{bits_of, width_of, typing_of, declaration_rest_of, declaration_of, declarations_of, inputs_of, input_list_of, output_list_of, variables_of, locals_of, sizes_of, index_names_of, equation_of, right_side_of, equations_of, definitions_of, semicolon_of, header_of, system_of, end_of, program_of};
 ghost use Rattle.av_parse.specs.inner.Views.{view_header};
 
 use crate::copy;
@@ -14,7 +14,7 @@ use crate::fault::Stop;
 use crate::text::value_of;
 use av_base::{List, Memory, Name, Place, TokenKind};
 use av_lex::Token;
-use av_tree::{Declaration, DomainText, Equation, System};
+use av_tree::{Declaration, DomainText, Equation, Expr, System};
 use std::alloc::Global;
 
 /// The name, the sizes, the inputs and the outputs of a system.
@@ -47,6 +47,24 @@ fn declare(
     Ok(())
 }
 
+// A header of its parts.
+fn headed(
+    alloc: Global,
+    name: Token<'_>,
+    sizes: DomainText,
+    inputs: List<Declaration>,
+    outputs: List<Declaration>,
+) -> Result<Header, Memory>
+    ensures { IfOk result (λ h. view_header h ≡ record { name = (token_view name.entry).text; sizes = sizes; inputs = inputs; outputs = outputs }) }
+{
+    Ok(Header {
+        name: Name::from_ascii(alloc, name.text)?,
+        sizes,
+        inputs,
+        outputs,
+    })
+}
+
 impl<'t, 'a> Cursor<'t, 'a> {
     // `"[" number "]"`, behind the word `word`.
     #[tactic(auto, unfolding(crate::specs::inner::ProgramReader::bits_of))]
@@ -72,18 +90,36 @@ impl<'t, 'a> Cursor<'t, 'a> {
         Ok(None)
     }
 
+    // `"of" width`.
+    #[tactic(auto, unfolding(crate::specs::inner::ProgramReader::typing_of))]
+    fn typing(&mut self) -> Result<Option<u64>, Stop>
+        ensures { Gives (λ w. (w, views self.new.rest.now)) result (typing_of (views self.old.rest.now)) }
+    {
+        self.word(b"of")?;
+        self.width()
+    }
+
+    // `domain "of" width`, behind these names and the `:`, put behind these declarations.
+    fn declaration_rest(
+        &mut self,
+        names: &[Token<'a>],
+        found: &mut List<Declaration>,
+    ) -> Result<(), Stop>
+        ensures { Gives (λ _. (found.new, views self.new.rest.now)) result (with_front found.old (declaration_rest_of (views names.now) (views self.old.rest.now))) }
+    {
+        let domain = self.domain()?;
+        let width = self.typing()?;
+        declare(self.alloc, found, &domain, width, names)?;
+        Ok(())
+    }
+
     // `names ":" domain "of" width`, put behind these declarations.
-    #[tactic(auto, using(crate::proofs::Lists::stops_then), unfolding(crate::specs::inner::ProgramReader::declaration_of))]
     fn declaration(&mut self, found: &mut List<Declaration>) -> Result<(), Stop>
         ensures { Gives (λ _. (found.new, views self.new.rest.now)) result (with_front found.old (declaration_of (views self.old.rest.now))) }
     {
         let names = self.names()?;
         self.symbol(b":")?;
-        let domain = self.domain()?;
-        self.word(b"of")?;
-        let width = self.width()?;
-        declare(self.alloc, found, &domain, width, names.as_slice())?;
-        Ok(())
+        self.declaration_rest(names.as_slice(), found)
     }
 
     // `declaration { ";" declaration } [ ";" ]`.
@@ -114,6 +150,30 @@ impl<'t, 'a> Cursor<'t, 'a> {
             return Ok(List::new(self.alloc));
         }
         self.declarations()
+    }
+
+    // `"(" [ declarations ] ")"`.
+    #[tactic(auto, unfolding(crate::specs::inner::ProgramReader::input_list_of))]
+    fn input_list(&mut self) -> Result<List<Declaration>, Stop>
+        ensures { Gives (λ ds. (ds, views self.new.rest.now)) result (input_list_of (views self.old.rest.now)) }
+    {
+        self.symbol(b"(")?;
+        let inputs = self.inputs()?;
+        self.symbol(b")")?;
+        Ok(inputs)
+    }
+
+    // `"returns" "(" declarations ")" ";"`.
+    #[tactic(auto, unfolding(crate::specs::inner::ProgramReader::output_list_of))]
+    fn output_list(&mut self) -> Result<List<Declaration>, Stop>
+        ensures { Gives (λ ds. (ds, views self.new.rest.now)) result (output_list_of (views self.old.rest.now)) }
+    {
+        self.word(b"returns")?;
+        self.symbol(b"(")?;
+        let outputs = self.declarations()?;
+        self.symbol(b")")?;
+        self.symbol(b";")?;
+        Ok(outputs)
     }
 
     // `declaration ";" { declaration ";" }`.
@@ -175,33 +235,30 @@ impl<'t, 'a> Cursor<'t, 'a> {
     }
 
     // `name [ "[" [ names ] "]" ] "=" expr ";"`.
-    #[tactic(auto, unfolding(crate::specs::inner::ProgramReader::equation_of))]
     fn equation(&mut self, levels: u32) -> Result<Equation, Stop>
         ensures { Gives (λ e. (view_equation e, views self.new.rest.now)) result (equation_of levels (views self.old.rest.now)) }
     {
-        let name = self.expect(TokenKind::Name)?;
+        let token = self.expect(TokenKind::Name)?;
         let indices = self.index_names()?;
         self.symbol(b"=")?;
-        self.right_side(levels, name, indices)
+        let name = Name::from_ascii(self.alloc, token.text)?;
+        let right = self.right_side(levels)?;
+        Ok(Equation {
+            name,
+            indices,
+            right,
+            place: token.place,
+        })
     }
 
-    // `expr ";"`, behind the name, the index names and the `=`.
-    fn right_side(
-        &mut self,
-        levels: u32,
-        name: Token<'a>,
-        indices: Option<List<Name>>,
-    ) -> Result<Equation, Stop>
-        ensures { Gives (λ e. (view_equation e, views self.new.rest.now)) result (right_side_of levels (token_view name.entry) indices (views self.old.rest.now)) }
+    // `expr ";"`, behind the `=`.
+    #[tactic(auto, unfolding(crate::specs::inner::ProgramReader::right_side_of))]
+    fn right_side(&mut self, levels: u32) -> Result<Expr, Stop>
+        ensures { Gives (λ e. (view e, views self.new.rest.now)) result (right_side_of levels (views self.old.rest.now)) }
     {
         let right = self.deeper_expr(levels)?;
         self.symbol(b";")?;
-        Ok(Equation {
-            name: Name::from_ascii(self.alloc, name.text)?,
-            indices,
-            right,
-            place: name.place,
-        })
+        Ok(right)
     }
 
     // `{ equation }`.
@@ -221,6 +278,17 @@ impl<'t, 'a> Cursor<'t, 'a> {
         Ok(found)
     }
 
+    // `"let" { equation } "tel"`.
+    #[tactic(auto, unfolding(crate::specs::inner::ProgramReader::definitions_of))]
+    fn definitions(&mut self, levels: u32) -> Result<List<Equation>, Stop>
+        ensures { Gives (λ es. (view_equations es, views self.new.rest.now)) result (definitions_of levels (views self.old.rest.now)) }
+    {
+        self.word(b"let")?;
+        let equations = self.equations(levels)?;
+        self.word(b"tel")?;
+        Ok(equations)
+    }
+
     // `[ ";" ]`.
     fn semicolon(&mut self)
         ensures { views self.new.rest.now ≡ semicolon_of (views self.old.rest.now) }
@@ -231,38 +299,23 @@ impl<'t, 'a> Cursor<'t, 'a> {
     }
 
     // What stands before the locals.
-    #[tactic(auto, unfolding(crate::specs::inner::ProgramReader::header_of))]
     fn header(&mut self) -> Result<Header, Stop>
         ensures { Gives (λ h. (view_header h, views self.new.rest.now)) result (header_of (views self.old.rest.now)) }
     {
         self.word(b"system")?;
         let name = self.expect(TokenKind::Name)?;
         let sizes = self.sizes(name.place)?;
-        self.symbol(b"(")?;
-        let inputs = self.inputs()?;
-        self.symbol(b")")?;
-        self.word(b"returns")?;
-        self.symbol(b"(")?;
-        let outputs = self.declarations()?;
-        self.symbol(b")")?;
-        self.symbol(b";")?;
-        Ok(Header {
-            name: Name::from_ascii(self.alloc, name.text)?,
-            sizes,
-            inputs,
-            outputs,
-        })
+        let inputs = self.input_list()?;
+        let outputs = self.output_list()?;
+        Ok(headed(self.alloc, name, sizes, inputs, outputs)?)
     }
 
-    #[tactic(auto, unfolding(crate::specs::inner::ProgramReader::system_of))]
     fn system(&mut self, levels: u32) -> Result<System, Stop>
         ensures { Gives (λ s. (view_system s, views self.new.rest.now)) result (system_of levels (views self.old.rest.now)) }
     {
         let header = self.header()?;
         let locals = self.locals()?;
-        self.word(b"let")?;
-        let equations = self.equations(levels)?;
-        self.word(b"tel")?;
+        let equations = self.definitions(levels)?;
         self.semicolon();
         Ok(System {
             name: header.name,
@@ -274,16 +327,24 @@ impl<'t, 'a> Cursor<'t, 'a> {
         })
     }
 
-    /// The program that all these tokens spell.
-    #[tactic(auto, unfolding(crate::specs::inner::ProgramReader::program_of, crate::specs::inner::ProgramReader::ended))]
-    pub(crate) fn program(&mut self, levels: u32) -> Result<System, Stop>
-        ensures { Gives view_system result (program_of levels (views self.old.rest.now)) }
+    // `End`, and no more tokens.
+    #[tactic(auto, unfolding(crate::specs::inner::ProgramReader::ended))]
+    fn end(&mut self) -> Result<(), Stop>
+        ensures { (system : Spelled) → Gives (λ _. system) result (end_of system (views self.old.rest.now)) }
     {
-        let system = self.system(levels)?;
         self.expect(TokenKind::End)?;
         if !self.rest.is_empty() {
             return Err(self.syntax());
         }
+        Ok(())
+    }
+
+    /// The program that all these tokens spell.
+    pub(crate) fn program(&mut self, levels: u32) -> Result<System, Stop>
+        ensures { Gives view_system result (program_of levels (views self.old.rest.now)) }
+    {
+        let system = self.system(levels)?;
+        self.end()?;
         Ok(system)
     }
 }

@@ -51,7 +51,7 @@ pub fn write_run<K: Sink>(
 {
     match make_ready(alloc, of) {
         Err(Memory) => Err(RunFault::Memory),
-        Ok(mut parts) => match write_dump(of, stimulus, &mut parts, sink) {
+        Ok(parts) => match write_dump(of, stimulus, parts, sink) {
             Err(WriteFault) => Err(RunFault::Write),
             Ok(()) => Ok(()),
         },
@@ -67,10 +67,11 @@ fn make_ready<'a>(alloc: Global, of: &'a Module) -> Result<Prepared<'a>, Memory>
     let ports = header_ports(alloc, of)?;
     let words = zeros(alloc, ports.len())?;
     let before = zeros(alloc, ports.len())?;
+    let wires = wires(alloc, of)?;
     Ok(Prepared {
         clock: Clock::new(alloc, of)?,
         ports,
-        wires: wires(alloc, of)?,
+        wires,
         words,
         before,
         inputs: of.inputs.len() as u32,
@@ -81,20 +82,20 @@ fn make_ready<'a>(alloc: Global, of: &'a Module) -> Result<Prepared<'a>, Memory>
 fn write_dump<K: Sink>(
     of: &Module,
     stimulus: &Stimulus,
-    parts: &mut Prepared<'_>,
+    mut parts: Prepared<'_>,
     sink: &mut K,
 ) -> Result<(), WriteFault>
     requires spelled { HasSpelling of.now }
     requires stimulus { IsFor of.now.inputs stimulus.now }
-    requires parts { IsPrepared of.now parts.old }
-    requires before { parts.old.before ≡ replicate (length (header_ports of.now)) 0 }
+    requires parts { IsPrepared of.now parts }
+    requires before { parts.before ≡ replicate (length (header_ports of.now)) 0 }
     ensures added { OnOk result (AddsDump of.now stimulus.now (K.state sink.old).held (K.state sink.new).held) }
     ensures fault { IsErr result → HasRisen (K.state sink.old).faults (K.state sink.new).faults }
     ensures front { OnErr result (AddsDumpPrefix of.now stimulus.now (K.state sink.old).held (K.state sink.new).held) }
     ensures later { (K.state sink.old).faults ≤ (K.state sink.new).faults }
 {
     let mut page = Page::new();
-    put_run(&mut page, sink, of, stimulus, parts);
+    put_run(&mut page, sink, of, stimulus, &mut parts);
     page.finish(sink)
 }
 

@@ -10,7 +10,7 @@ use Rattle.av_kinds.specs.declared.choice.Guard.{Guard}
 use Rattle.av_kinds.specs.declared.choice.Tap.{Tap}
 use Rattle.av_kinds.specs.declared.gates.Gate.{Gate}
 use Rattle.av_kinds.specs.Names.{Naming}
-use Rattle.av_kinds.specs.inner.Gates.{Built, built, Named, named}
+use Rattle.av_kinds.specs.inner.Gates.{Built, built, Named, named, named_by}
 use Rattle.av_kinds.specs.Programs.{site_count}
 use Rattle.av_kinds.specs.Tops.{one_bit}
 use Rattle.av_kinds.specs.inner.Choices.{guard_built}
@@ -45,6 +45,13 @@ abbrev pub choice_built : Naming → ℕ → Operand → Guard → Operand → O
 choice_built name n counter guard first second =
     let t = named name n one_bit (guard_built name n counter guard) in
     built t.gates (Choose t.operand first second)
+
+-- the root on a wire, and then the choice by a guard between an operand and it
+pub record AddsGuarded (name : Naming) (w : Width) (counter : Operand) (guard : Guard) (first : Operand) (old : List Gate) (root : Operation) (gates : List Gate) (choice : Operation) : Type 0 where
+  pub between : List Gate
+  pub second : Operand
+  pub on_wire : AddsNamed between (named_by name 0 w old root) second
+  pub chosen : AddsBuilt between gates (choice_built name (length between) counter guard first second) choice
 
 -- ---- datapaths as the code keeps them: with trees as they lie in memory
 

@@ -3,9 +3,7 @@ use Rattle.std.proofs.lemmas.Result.{on_ok_weaker}
 use Rattle.av_base.specs.declared.width.Width.{Width}
 use Rattle.av_net.specs.declared.operation.Symbol.TheVariants.{Add, Equal}
 use Rattle.av_net.specs.declared.operation.Operand.TheVariants.{Name}
-use Rattle.av_net.specs.declared.operation.Operation.{Operation}
 use Rattle.av_net.specs.declared.operation.Operation.TheVariants.{Binary}
-use Rattle.av_kinds.specs.declared.counter.Counter.{Counter}
 use Rattle.av_kinds.specs.declared.counter.Counter.TheVariants.{Phases}
 use Rattle.av_kinds.specs.Counters.{counter_width, counter_name, next_name, last_name, sum_name}
 use Rattle.av_kinds.specs.Tops.{port, one_bit}
@@ -14,31 +12,28 @@ use Rattle.av_kinds.proofs.Placing.{drive_of}
 use Rattle.av_kinds.proofs.TopSteps.{three_put}
 use Rattle.av_kinds.proofs.counter.Counter.add_parts.Goals as goal
 
-pub returns-in_ok-next-in-Phases-clause-wires : goal.returns-in_ok-next-in-Phases-clause-wires
-returns-in_ok-next-in-Phases-clause-wires c =
+pub returns-in_ok-add_combined-in-Phases-2-clause-wires : goal.returns-in_ok-add_combined-in-Phases-2-clause-wires
+returns-in_ok-add_combined-in-Phases-2-clause-wires c =
     let next = next_name (Phases c.in-Phases.period) in
     let w0 = c.args.wires.now in
-    let w1 = c.add_part-in-Phases.new.wires in
-    let w2 = c.add_part-in-Phases-2.new.wires in
+    let w1 = c.add_combined-in-Phases.new.wires in
+    let w2 = c.add_combined-in-Phases-2.new.wires in
     rw c.in-Phases.is
-    (on_ok_weaker c.add_part-in-Phases-3.result
-    (λ h. three_put w0 w1 w2 c.add_part-in-Phases-3.new.wires (port one_bit last_name) (port counter_width sum_name) (port counter_width next)
-    (c.in_ok-add_part-in-Phases.ensures.wires ∙ ap (λ (w : Width). w0 ++ port w last_name ∷ []) c.bit.ensures)
-    (c.in_ok-add_part-in-Phases-2.ensures.wires ∙ ap (λ (w : Width). w1 ++ port w sum_name ∷ []) c.counter_width-in-Phases.ensures)
-    (h ∙ ap (λ (w : Width). w2 ++ port w next ∷ []) c.counter_width-in-Phases-2.ensures))
-    c.add_part-in-Phases-3.ensures.wires)
+    (on_ok_weaker c.add_begun_again.result
+    (three_put w0 w1 w2 c.add_begun_again.new.wires (port one_bit last_name) (port counter_width sum_name) (port counter_width next)
+    (c.in_ok-add_combined-in-Phases.ensures.wires ∙ ap (λ (w : Width). w0 ++ port w last_name ∷ []) c.bit.ensures)
+    (c.in_ok-add_combined-in-Phases-2.ensures.wires ∙ ap (λ (w : Width). w1 ++ port w sum_name ∷ []) c.counter_width-width.ensures))
+    c.add_begun_again.ensures.wires)
 
-pub returns-in_ok-next-in-Phases-clause-drives : goal.returns-in_ok-next-in-Phases-clause-drives
-returns-in_ok-next-in-Phases-clause-drives c =
+pub returns-in_ok-add_combined-in-Phases-2-clause-drives : goal.returns-in_ok-add_combined-in-Phases-2-clause-drives
+returns-in_ok-add_combined-in-Phases-2-clause-drives c =
     let period = c.in-Phases.period in
-    let own = counter_name (Phases period) in
     let d0 = c.args.drives.now in
-    let d1 = c.add_part-in-Phases.new.drives in
-    let d2 = c.add_part-in-Phases-2.new.drives in
+    let d1 = c.add_combined-in-Phases.new.drives in
+    let d2 = c.add_combined-in-Phases-2.new.drives in
     rw c.in-Phases.is
-    (on_ok_weaker c.add_part-in-Phases-3.result
-    (λ h. three_put d0 d1 d2 c.add_part-in-Phases-3.new.drives (drive_of last_name (Binary (Name own) Equal (bound (period - 1)))) (drive_of sum_name (Binary (Name own) Add (bound 1))) (drive_of (next_name (Phases period)) begun_again)
-    (c.in_ok-add_part-in-Phases.ensures.drives ∙ ap (λ (o : Operation). d0 ++ drive_of last_name o ∷ []) c.in_ok-last-in-Phases.ensures)
-    (c.in_ok-add_part-in-Phases-2.ensures.drives ∙ ap (λ (o : Operation). d1 ++ drive_of sum_name o ∷ []) (c.in_ok-raised.ensures ∙ ap (λ (s : Counter). Binary (Name (counter_name s)) Add (bound 1)) c.in-Phases.is))
-    (h ∙ ap (λ (o : Operation). d2 ++ drive_of (next_name (Phases period)) o ∷ []) c.in_ok-next-in-Phases.ensures))
-    c.add_part-in-Phases-3.ensures.drives)
+    (on_ok_weaker c.add_begun_again.result
+    (three_put d0 d1 d2 c.add_begun_again.new.drives (drive_of last_name (Binary (Name (counter_name (Phases period))) Equal (bound (period - 1)))) (drive_of sum_name (Binary (Name (counter_name (Phases period))) Add (bound 1))) (drive_of (next_name (Phases period)) begun_again)
+    c.in_ok-add_combined-in-Phases.ensures.drives
+    c.in_ok-add_combined-in-Phases-2.ensures.drives)
+    c.add_begun_again.ensures.drives)

@@ -6,6 +6,7 @@ use Rattle.av_tree.specs.Trees.{view, view_all}
 use Rattle.av_parse.specs.inner.Reader.{begins_symbol, begins_word}
 use Rattle.av_parse.specs.inner.ExpressionReader.{readers}
 use Rattle.av_parse.proofs.Expressions.{expr_at, sum_at, product_at, unary_at, expr_at_zero, sum_at_zero, product_at_zero, unary_at_zero, sum_stop, sum_first, sum_end, sum_operand_stop, sum_goes, product_stop, product_first, product_end, product_operand_stop, product_goes, view_all_push, branches_full, branches_stop, branches_semicolon_stop, branches_end, branches_goes, cases_done}
+use Rattle.av_parse.proofs.InParts.{operand_stop, operand_done, reduced_stop, reduced_done}
 use Rattle.av_parse.proofs.cursor.Cursor.+expression.Goals as goal
 
 pub deeper_expr-returns-then-levels-eq0 : goal.deeper_expr-returns-then-levels-eq0
@@ -110,3 +111,21 @@ sum-loop-sign-preserved t c =
 
 pub sum-returns : goal.sum-returns
 sum-returns t c = sum_end c.loop-sign.room c.args.levels (view c.loop-sign.tree) (views c.loop-sign.self.rest.now) _ c.loop-sign.invariant (sym c.sign.ensures ∙ c.in_default.is)
+
+pub last_operand-returns-in_err-right : goal.last_operand-returns-in_err-right
+last_operand-returns-in_err-right t c =
+    let p = err_from_is_err_and c.from_residual.result c.from_residual.ensures.1 in
+    rw (p.1, p.2) (operand_stop c.in_err-right.field-0.0 (readers c.args.levels) c.args.sign c.args.place (view c.args.left) (views c.args.self.now.rest.now) c.in_err-right.ensures)
+
+pub last_operand-returns : goal.last_operand-returns
+last_operand-returns t c =
+    rw c.in_ok-joined.ensures (operand_done (readers c.args.levels) c.args.sign c.args.place (view c.args.left) (views c.args.self.now.rest.now) (view c.in_ok-right.right) (views c.parenthesis.new.self.rest.now) c.in_ok-right.ensures)
+
+pub reduced-returns-in_err-reduced : goal.reduced-returns-in_err-reduced
+reduced-returns-in_err-reduced t c =
+    let p = err_from_is_err_and c.from_residual.result c.from_residual.ensures.1 in
+    rw (p.1, p.2) (reduced_stop c.in_err-reduced.field-0.0 (readers c.args.levels) c.args.op c.args.map c.args.place (views c.args.self.now.rest.now) c.in_err-reduced.ensures)
+
+pub reduced-returns : goal.reduced-returns
+reduced-returns t c =
+    rw c.in_ok-new.ensures.ok (reduced_done (readers c.args.levels) c.args.op c.args.map c.args.place (views c.args.self.now.rest.now) (view c.in_ok-reduced.reduced) (views c.parenthesis.new.self.rest.now) c.in_ok-reduced.ensures)

@@ -6,61 +6,61 @@ use Rattle.av_parse.proofs.Expressions.{GoesSum, GoesProduct, with_branches}
 use Rattle.av_parse.proofs.cursor.Cursor.+expression.Given as goal
 
 abbrev pub decreases-expr : goal.decreases-expr
-decreases-expr l = 10 * l.levels + 9
+decreases-expr l = 12 * l.levels + 10
 
 abbrev pub decreases-choice : goal.decreases-choice
-decreases-choice l = 10 * l.levels + 8
+decreases-choice l = 12 * l.levels + 9
 
 abbrev pub decreases-restriction : goal.decreases-restriction
-decreases-restriction l = 10 * l.levels + 8
+decreases-restriction l = 12 * l.levels + 9
 
 abbrev pub decreases-sum : goal.decreases-sum
-decreases-sum l = 10 * l.levels + 7
+decreases-sum l = 12 * l.levels + 8
 
 abbrev pub decreases-product : goal.decreases-product
-decreases-product l = 10 * l.levels + 6
+decreases-product l = 12 * l.levels + 7
 
 abbrev pub decreases-unary : goal.decreases-unary
-decreases-unary l = 10 * l.levels + 5
+decreases-unary l = 12 * l.levels + 6
 
 abbrev pub decreases-postfix : goal.decreases-postfix
-decreases-postfix l = 10 * l.levels + 4
+decreases-postfix l = 12 * l.levels + 5
 
 abbrev pub decreases-primary : goal.decreases-primary
-decreases-primary l = 10 * l.levels + 3
+decreases-primary l = 12 * l.levels + 4
 
 abbrev pub decreases-parenthesis : goal.decreases-parenthesis
-decreases-parenthesis l = 10 * l.levels + 2
+decreases-parenthesis l = 12 * l.levels + 1
 
 abbrev pub decreases-extreme : goal.decreases-extreme
-decreases-extreme l = 10 * l.levels + 2
+decreases-extreme l = 12 * l.levels + 3
 
 abbrev pub decreases-last_operand : goal.decreases-last_operand
-decreases-last_operand l = 10 * l.levels + 1
+decreases-last_operand l = 12 * l.levels + 2
 
 abbrev pub decreases-reduced : goal.decreases-reduced
-decreases-reduced l = 10 * l.levels + 1
+decreases-reduced l = 12 * l.levels + 2
 
 abbrev pub decreases-cases : goal.decreases-cases
-decreases-cases l = 10 * l.levels + 2
+decreases-cases l = 12 * l.levels + 2
 
 abbrev pub decreases-reduction : goal.decreases-reduction
-decreases-reduction l = 10 * l.levels + 2
+decreases-reduction l = 12 * l.levels + 3
 
 abbrev pub decreases-branches : goal.decreases-branches
-decreases-branches l = 10 * l.levels + 1
+decreases-branches l = 12 * l.levels + 1
 
 abbrev pub decreases-deeper_expr : goal.decreases-deeper_expr
-decreases-deeper_expr l = 10 * l.levels
+decreases-deeper_expr l = 12 * l.levels
 
 abbrev pub decreases-deeper_sum : goal.decreases-deeper_sum
-decreases-deeper_sum l = 10 * l.levels
+decreases-deeper_sum l = 12 * l.levels
 
 abbrev pub decreases-deeper_product : goal.decreases-deeper_product
-decreases-deeper_product l = 10 * l.levels
+decreases-deeper_product l = 12 * l.levels
 
 abbrev pub decreases-deeper_unary : goal.decreases-deeper_unary
-decreases-deeper_unary l = 10 * l.levels
+decreases-deeper_unary l = 12 * l.levels
 
 abbrev pub invariant-sum-loop-sign : goal.invariant-sum-loop-sign
 invariant-sum-loop-sign l = GoesSum l.room l.fn.levels (view l.tree) (views l.self.rest.now) (sum_of (readers l.fn.levels) (views l.fn.self.rest.now))
