@@ -5,7 +5,7 @@ use Rattle.av_flat.specs.Trees.{view}
 use Rattle.av_flat.specs.Broadcasts.{references}
 use Rattle.av_flat.specs.declared.timed.Helper.{Helper}
 use Rattle.av_pipe.specs.inner.Helping.{maps_of, of_maps, IsFineMap}
-use Rattle.av_pipe.proofs.Searching.{by_maps, all_fine, on_ok}
+use Rattle.av_pipe.proofs.References.{by_maps, all_fine, on_ok}
 use Rattle.av_pipe.proofs.site.tree_helpers.Goals as goal
 
 pub map_helpers-requires-clause-fine : goal.map_helpers-requires-clause-fine
