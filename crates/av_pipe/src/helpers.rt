@@ -1,14 +1,14 @@
 //! The helpers of a scheduled system.
 
-ghost use Rattle.std.specs.Prelude.{ℕ, ◌≡◌, ◌≤◌, ◌<◌, ◌+◌, ◌++◌, All, IfOk, OnOk, if◌then◌else◌, map, slice_get, []};
+ghost use Rattle.std.specs.Prelude.{◌≡◌, ◌<◌, ◌+◌, ◌++◌, All, IfOk, OnOk, if◌then◌else◌, map, slice_get, []};
 ghost use Rattle.std.specs.List.{AllByRecursion};
 ghost use Rattle.av_affine.specs.Numbers.{AtMost};
-ghost use Rattle.av_flat.specs.Trees.{view_piece, view_variable, view_system};
+ghost use Rattle.av_flat.specs.Trees.{view_variable, view_system};
 ghost use Rattle.av_flat.specs.Nodes.{is_node};
 ghost use Rattle.av_flat.specs.Legal.{IsLegal};
 ghost use Rattle.av_pipe.specs.Pipelines.{of_variable, pipelines};
 ghost use Rattle.av_pipe.specs.Piped.{IsPiped};
-ghost use Rattle.av_pipe.specs.inner.Helping.{HasFineMaps, HasFinePieces};
+ghost use Rattle.av_pipe.specs.inner.Helping.{HasFinePieces};
 
 use crate::site::piece_helpers;
 use av_base::{List, Memory, Point};

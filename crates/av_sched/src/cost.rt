@@ -1,6 +1,6 @@
 //! What linear parts cost at the nodes of a component, and the order of entries.
 
-ghost use Rattle.std.specs.Prelude.{ℕ, List as Items, ◌≡◌, ◌+◌, ◌++◌, ◌≤◌, ◌<◌, ◌∷◌, map, length, sum_by, unsigned_abs, slice_get, All, IfOk, OnOk, []};
+ghost use Rattle.std.specs.Prelude.{ℕ, List as Items, ◌≡◌, ◌++◌, ◌≤◌, ◌<◌, ◌∷◌, map, length, sum_by, unsigned_abs, slice_get, All, IfOk, OnOk, []};
 ghost use Rattle.std.specs.List.{flat_map, list_any};
 ghost use Rattle.av_affine.specs.Numbers.{AtMost};
 ghost use Rattle.av_tree.specs.Points.{Point as Vector};
