@@ -14,3 +14,4 @@ pub mod Unhelped
 pub mod Bounded
 pub mod Falling
 pub mod DeclaredPoints
+pub mod SignVectors

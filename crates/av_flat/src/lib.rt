@@ -3,6 +3,7 @@
 #![tactic(auto)]
 
 mod copy;
+mod direction;
 mod flat;
 mod laws;
 mod pass;
@@ -12,6 +13,7 @@ mod timed;
 mod tree;
 
 pub use copy::{copy_flat, copy_map, copy_pieces, copy_tree, copy_variable};
+pub use direction::{along_of, first_moving, moves, prepend_all, sign_vectors};
 pub use flat::{Flat, Kind, Piece, Var};
 pub use laws::{
     counted_pieces, counted_word, nodes_have_points, number_of_pieces, one_solution, one_word,

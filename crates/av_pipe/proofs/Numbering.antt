@@ -7,7 +7,7 @@ use Rattle.av_tree.specs.Points.{Point}
 use Rattle.av_flat.specs.Broadcasts.{lists_of}
 use Rattle.av_flat.specs.Trees.{Tree, Piece, Variable, FlatSystem, view_variable, reference, constant, binary, choice, restriction, cases, dependence, reduction, pick}
 use Rattle.av_flat.specs.Signatures.{Signature, signatures}
-use Rattle.av_flat.specs.WellFormed.{EachPart, Fits, HasSmallRows}
+use Rattle.av_flat.specs.WellFormed.{Fits}
 use Rattle.av_flat.specs.declared.timed.Time.{Time}
 use Rattle.av_flat.specs.declared.flat.Var.{Var}
 use Rattle.av_flat.specs.declared.timed.Helper.{Helper}
@@ -40,20 +40,20 @@ counted (x ∷ vs) (suc k) v e = if_more (is_node x) x (filter is_node (take (su
 abbrev points_of : ℕ → List Point
 points_of n = lists_of (pos 0 ∷ pos 1 ∷ negsuc 0 ∷ []) n
 
-fine_maps : (vs : List Signature) (n : ℕ) (t : Tree) → Fits vs n t → EachPart HasSmallRows t → HasFineMaps (points_of n) t
-fine_maps vs n (reference p m) f r = (ap (λ (k : ℕ). points_of k) (sym f.from), r)
-fine_maps vs n (constant w) f r = tt
-fine_maps vs n (binary s a b) f r = (fine_maps vs n a f.0 r.1, fine_maps vs n b f.1 r.2)
-fine_maps vs n (choice a c b x y) f r = (fine_maps vs n a f.0 r.1, fine_maps vs n b f.1 r.2, fine_maps vs n x f.2 r.3, fine_maps vs n y f.3 r.4)
-fine_maps vs n (restriction d t) f r = tt
-fine_maps vs n (cases ts) f r = tt
-fine_maps vs n (dependence m t) f r = tt
-fine_maps vs n (reduction o m t set) f r = tt
-fine_maps vs n (pick place cs w) f r = tt
+fine_maps : (vs : List Signature) (n : ℕ) (t : Tree) → Fits vs n t → HasFineMaps (points_of n) t
+fine_maps vs n (reference p m) f = ap (λ (k : ℕ). points_of k) (sym f.from)
+fine_maps vs n (constant w) f = tt
+fine_maps vs n (binary s a b) f = (fine_maps vs n a f.0, fine_maps vs n b f.1)
+fine_maps vs n (choice a c b x y) f = (fine_maps vs n a f.0, fine_maps vs n b f.1, fine_maps vs n x f.2, fine_maps vs n y f.3)
+fine_maps vs n (restriction d t) f = tt
+fine_maps vs n (cases ts) f = tt
+fine_maps vs n (dependence m t) f = tt
+fine_maps vs n (reduction o m t set) f = tt
+fine_maps vs n (pick place cs w) f = tt
 
 fine_pieces : (vs : List Signature) (v : Variable) (ps : List Piece) → AllByRecursion (IsChainedPiece vs v) ps → AllByRecursion (λ (p : Piece). HasFineMaps (points_of v.domain.dim) p.tree) ps
 fine_pieces vs v [] h = tt
-fine_pieces vs v (p ∷ ps) h = (fine_maps vs v.domain.dim p.tree h.0.tree.fits h.0.tree.rows, fine_pieces vs v ps h.1)
+fine_pieces vs v (p ∷ ps) h = (fine_maps vs v.domain.dim p.tree h.0.tree.fits, fine_pieces vs v ps h.1)
 
 fine_all : (s : FlatSystem) (vs : List Variable) → AllByRecursion (IsChainedVariable s) vs → AllByRecursion HasFinePieces vs
 fine_all s [] h = tt

@@ -1,19 +1,18 @@
 //! The helpers of a scheduled system.
 
-ghost use Rattle.std.specs.Prelude.{ℕ, ◌≡◌, ◌≤◌, ◌<◌, ◌+◌, ◌++◌, All, IfOk, OnOk, if◌then◌else◌, map, slice_get, []};
+ghost use Rattle.std.specs.Prelude.{◌≡◌, ◌<◌, ◌+◌, ◌++◌, All, IfOk, OnOk, if◌then◌else◌, map, slice_get, []};
 ghost use Rattle.std.specs.List.{AllByRecursion};
 ghost use Rattle.av_affine.specs.Numbers.{AtMost};
-ghost use Rattle.av_flat.specs.Trees.{view_piece, view_variable, view_system};
+ghost use Rattle.av_flat.specs.Trees.{view_variable, view_system};
 ghost use Rattle.av_flat.specs.Nodes.{is_node};
 ghost use Rattle.av_flat.specs.Legal.{IsLegal};
 ghost use Rattle.av_pipe.specs.Pipelines.{of_variable, pipelines};
 ghost use Rattle.av_pipe.specs.Piped.{IsPiped};
-ghost use Rattle.av_pipe.specs.inner.Helping.{HasFineMaps, HasFinePieces};
+ghost use Rattle.av_pipe.specs.inner.Helping.{HasFinePieces};
 
-use crate::direction::lists_of;
 use crate::site::piece_helpers;
 use av_base::{List, Memory, Point};
-use av_flat::{Flat, Helper, Time, Timed, Var, copy_flat};
+use av_flat::{Flat, Helper, Time, Timed, Var, copy_flat, sign_vectors};
 use std::alloc::Global;
 
 // The number of the next node, behind a variable.
@@ -39,18 +38,11 @@ fn variable_helpers(
 {
     match times.get(number) {
         Some(time) => {
-            let points = lists_of(alloc, var.domain.dim as usize)?;
+            let points = sign_vectors(alloc, var.domain.dim)?;
             // So few pieces that 32 bits number them.
             let _most = var.pieces.len();
             let pieces = var.pieces.as_slice();
-            piece_helpers(
-                alloc,
-                place,
-                &time.linear,
-                points.as_slice(),
-                pieces,
-                helpers,
-            )
+            piece_helpers(alloc, place, &time.linear, &points, pieces, helpers)
         }
         None => Ok(()),
     }

@@ -2,7 +2,6 @@
 //! point to point.
 #![tactic(auto)]
 
-mod direction;
 mod helpers;
 mod laws;
 mod pipe;

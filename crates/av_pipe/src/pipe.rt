@@ -12,10 +12,8 @@ pub struct Pipe;
 
 impl Pass for Pipe {
     ghost use Rattle.std.specs.Prelude.{◌≡◌, ⊤, []};
-    ghost use Rattle.av_flat.specs.Trees.{view_system};
     ghost use Rattle.av_flat.specs.Legal.{IsLegal};
     ghost use Rattle.av_pipe.specs.Piped.{IsPiped};
-    ghost use Rattle.av_flat.specs.declared.timed.Timed.{Timed};
 
     type In = Timed;
 

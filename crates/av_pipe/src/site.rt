@@ -8,10 +8,9 @@ ghost use Rattle.av_flat.specs.Broadcasts.{references, first_moving};
 ghost use Rattle.av_pipe.specs.Pipelines.{helper_of, of_references, of_pieces};
 ghost use Rattle.av_pipe.specs.inner.Helping.{maps_of, of_maps, IsFineMap, HasFineMaps};
 
-use crate::direction::first_moving;
 use av_affine::Map;
 use av_base::{List, Memory, Point};
-use av_flat::{Helper, Piece, Tree, copy_map};
+use av_flat::{Helper, Piece, Tree, copy_map, first_moving};
 use std::alloc::Global;
 
 // Puts the maps of the references in a tree behind others, in order.

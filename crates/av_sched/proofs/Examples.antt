@@ -1,6 +1,6 @@
 -- The definitions at small systems: a matrix times a vector of size 4, a skewed square, a circle, ten outputs.
 use Rattle.std.proofs.Common.{◌≡◌, ℕ, zero, suc, ℤ, pos, negsuc, false, List, [], ◌∷◌, ◌++◌, ◌<◌, ◌*ℤ◌, length, Some, None, inl, inr, refl, arith}
-use Rattle.std.specs.Prelude.{codes, slice_get, slice_index_or, Contains}
+use Rattle.std.specs.Prelude.{codes, slice_index_or, Contains}
 use Rattle.av_affine.specs.Numbers.{dot}
 use Rattle.std.proofs.lemmas.Int.{ints}
 use Rattle.av_affine.specs.declared.form.Form.{Form}

@@ -1,6 +1,6 @@
 //! Least offsets under lower bounds and differences.
 
-ghost use Rattle.std.specs.Prelude.{◌≡◌, ◌≤◌, ◌<◌, ◌*◌, ◌+◌, ◌^◌, ℤ, List as Items, length, unsigned_abs, IsTrue, ◌↔◌, All, IfOk, IfSome, IfNone};
+ghost use Rattle.std.specs.Prelude.{◌≡◌, ◌≤◌, ◌^◌, ℤ, List as Items, length, IsTrue, ◌↔◌, All, IfOk, IfSome, IfNone};
 ghost use Rattle.av_sched.specs.Arcs.{IsLate, Solves, IsLeastSolution, IsArc, AreSmall};
 ghost use Rattle.av_sched.specs.inner.Rounds.{raised, raised_all, zeros};
 

@@ -1,26 +1,24 @@
 //! What linear parts cost at the nodes of a component, and the order of entries.
 
-ghost use Rattle.std.specs.Prelude.{ℕ, List as Items, ◌≡◌, ◌+◌, ◌++◌, ◌≤◌, ◌<◌, ◌∷◌, map, length, sum_by, unsigned_abs, slice_get, All, IfOk, OnOk, []};
-ghost use Rattle.std.specs.List.{flat_map};
-ghost use Rattle.av_affine.specs.Forms.{IsWithinLimits};
+ghost use Rattle.std.specs.Prelude.{ℕ, List as Items, ◌≡◌, ◌++◌, ◌≤◌, ◌<◌, ◌∷◌, map, length, sum_by, unsigned_abs, slice_get, All, IfOk, OnOk, []};
+ghost use Rattle.std.specs.List.{flat_map, list_any};
 ghost use Rattle.av_affine.specs.Numbers.{AtMost};
 ghost use Rattle.av_tree.specs.Points.{Point as Vector};
 ghost use Rattle.av_flat.specs.Trees.{FlatSystem, view, view_system};
 ghost use Rattle.av_flat.specs.Nodes.{nodes};
 ghost use Rattle.av_flat.specs.Chained.{IsChained};
-ghost use Rattle.av_flat.specs.Broadcasts.{references};
+ghost use Rattle.av_flat.specs.Broadcasts.{references, moves};
 ghost use Rattle.av_sched.specs.Offsets.{part};
 ghost use Rattle.av_sched.specs.Order.{entry_rank, references_of};
 ghost use Rattle.av_sched.specs.inner.Ways.{HasSmallReferences, ways_of, still_among};
 ghost use Rattle.av_sched.specs.Prices.{ArePricesAt, ArePricesTo, AreFloorsTo};
 ghost use Rattle.av_sched.specs.inner.Walk.{AreAllPriced};
 
-use crate::direction::{along_of, moves_some};
 use crate::node::place_of;
 use crate::price::{Price, at_least, least_of};
 use av_affine::Map;
 use av_base::{List, Memory, Point};
-use av_flat::{Flat, Piece, Tree};
+use av_flat::{Flat, Piece, Tree, along_of, moves};
 use std::alloc::Global;
 
 // The place of an entry in the order.
@@ -77,8 +75,7 @@ fn sum_of(point: &Point) -> u64
 
 // Adds the directions along which a reference reads one point, where there are any.
 fn add_way(alloc: Global, map: &Map, to: &mut List<List<Point>>) -> Result<(), Memory>
-    requires from { map.now.from ≤ 4 }
-    requires rows { All IsWithinLimits map.now.rows }
+    requires { map.now.from ≤ 4 }
     ensures { OnOk result ((place : ℕ)
         → to.new ≡ to.old ++ ways_of (record { place = place; map = map.now } ∷ [])) }
 {
@@ -139,6 +136,20 @@ fn ways_of_node(alloc: Global, flat: &Flat, node: usize) -> Result<List<List<Poi
     let place = place_of(flat, node);
     let vars = flat.vars.as_slice();
     ways_of_pieces(alloc, vars[place].pieces.as_slice())
+}
+
+// Whether the linear part goes up along some of the directions.
+fn moves_some(linear: &Point, ways: &[Point]) -> bool
+    requires linear { AtMost 4 linear.now }
+    requires ways { All (AtMost 1) ways.now }
+    ensures { result ≡ list_any (moves linear.now) ways.now }
+{
+    for way in ways {
+        if moves(linear, way) {
+            return true;
+        }
+    }
+    false
 }
 
 // How many of the broadcasts the linear part does not move.

@@ -1,8 +1,7 @@
 //! How far readers are ahead of what they read.
 
-ghost use Rattle.std.specs.Prelude.{◌≡◌, ◌≤◌, ◌<◌, ◌*◌, ◌^◌, pos, ◌*ℤ◌, ◌-ℤ◌, length, unsigned_abs, All};
+ghost use Rattle.std.specs.Prelude.{◌≡◌, ◌≤◌, ◌<◌, ◌^◌, ◌*ℤ◌, length, unsigned_abs, All};
 ghost use Rattle.av_affine.specs.Numbers.{dot, AtMost};
-ghost use Rattle.av_sched.specs.Offsets.{part};
 ghost use Rattle.av_sched.specs.Leads.{lead, IsLeastLead, IsSmallPoint, IsSmallPart, IsSmallMap, IsUsable, IsArcOf};
 
 use crate::arc::Arc;

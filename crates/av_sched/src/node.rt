@@ -1,6 +1,6 @@
 //! The dimensions of the nodes.
 
-ghost use Rattle.std.specs.Prelude.{◌≡◌, ◌≤◌, ◌<◌, length, map, All, IfOk, slice_get};
+ghost use Rattle.std.specs.Prelude.{◌≡◌, ◌<◌, length, map, All, IfOk, slice_get};
 ghost use Rattle.av_flat.specs.Trees.{view_system};
 ghost use Rattle.av_flat.specs.Nodes.{nodes};
 ghost use Rattle.av_flat.specs.Chained.{IsChained};

@@ -1,11 +1,10 @@
 //! Linear parts to begin with, how many candidates a component has, and the order of costs.
 
-ghost use Rattle.std.specs.Prelude.{ℕ, ◌≡◌, ◌≤◌, ◌<◌, ◌+◌, ◌*◌, ◌-◌, ◌^◌, min, length, All, IfOk, IsTrue, ◌↔◌};
+ghost use Rattle.std.specs.Prelude.{ℕ, ◌≡◌, ◌≤◌, ◌<◌, ◌-◌, ◌^◌, min, length, All, IfOk, IsTrue, ◌↔◌};
 ghost use Rattle.av_flat.specs.Trees.{view_system};
-ghost use Rattle.av_flat.specs.Nodes.{nodes};
 ghost use Rattle.av_flat.specs.Schedules.{IsLinearPart};
 ghost use Rattle.av_flat.specs.Chained.{IsChained};
-ghost use Rattle.av_sched.specs.Choices.{AreLinearParts, candidates};
+ghost use Rattle.av_sched.specs.Choices.{AreLinearParts};
 ghost use Rattle.av_sched.specs.Order.{IsLess};
 ghost use Rattle.av_sched.specs.Parts.{indices_of};
 

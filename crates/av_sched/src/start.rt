@@ -1,8 +1,8 @@
 //! The least value of a linear part over a set, by halving.
 
-ghost use Rattle.std.specs.Prelude.{ℤ, List as Items, ◌≡◌, ◌≤◌, ◌<◌, ◌^◌, pos, ◌-ℤ◌, ◌≤ℤ◌, ◌<ℤ◌, ◌↔◌, [], ◌∷◌, length, unsigned_abs, All, IfOk, IfSome, IfNone, slice_index_or};
+ghost use Rattle.std.specs.Prelude.{ℤ, List as Items, ◌≡◌, ◌≤◌, ◌<◌, pos, ◌-ℤ◌, ◌≤ℤ◌, ◌<ℤ◌, [], ◌∷◌, length, unsigned_abs, IfOk, slice_index_or};
 ghost use Rattle.std.proofs.Math.IntN.{neg_ℤ};
-ghost use Rattle.av_affine.specs.Numbers.{dot, AtMost};
+ghost use Rattle.av_affine.specs.Numbers.{AtMost};
 ghost use Rattle.av_poly.specs.Points.{Has};
 ghost use Rattle.av_elim.specs.Extents.{IsOrdinary, IsInside};
 ghost use Rattle.av_sched.specs.inner.Starts.{row_at_most, IsSpanned, IsLeastValue};

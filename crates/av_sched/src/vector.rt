@@ -1,25 +1,12 @@
 //! The vectors that can be linear parts.
 
-ghost use Rattle.std.specs.Prelude.{◌≡◌, ◌≢◌, ◌≤◌, ◌<◌, ◌+◌, ◌++◌, ◌∷◌, [], pos, length, map, All, Any, IfOk, IsTrue, unsigned_abs};
+ghost use Rattle.std.specs.Prelude.{◌≡◌, ◌≢◌, ◌≤◌, ◌<◌, ◌+◌, pos, length, All, Any, IfOk, IsTrue, unsigned_abs};
 ghost use Rattle.std.proofs.Math.IntN.{neg_ℤ};
 ghost use Rattle.av_sched.specs.inner.Vectors.{ArePrepended, AreVectorsOf, AreLinearPartsOf};
 
 use av_base::{List, Memory, Point};
-use av_flat::Reach;
-use av_poly::with_first;
+use av_flat::{Reach, prepend_all};
 use std::alloc::Global;
-
-/// Adds each of the points with one more entry before its own.
-pub(crate) fn prepend_all(to: &mut Vec<Point>, entry: i64, shorter: &[Point]) -> Result<(), Memory>
-    requires { All (λ y. length y < 4) shorter.now }
-    ensures { IfOk result (λ done. to.new.items ≡
-        to.old.items ++ map (λ y. entry ∷ y) shorter.now) }
-{
-    for rest in shorter {
-        to.push(with_first(entry, rest))?;
-    }
-    Ok(())
-}
 
 // The next number.
 fn entry_after(size: u32) -> i64

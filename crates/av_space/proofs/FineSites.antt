@@ -1,23 +1,21 @@
 -- What is granted of the tap sites of a legal system: a piece, maps and sets within the limits, and small directions.
-use Rattle.std.proofs.Common.{◌≡◌, ℕ, zero, suc, ◌+◌, ◌<◌, List, [], ◌∷◌, ◌++◌, length, refl, sym, ap, subst, ◌∙◌, arith, Bool, true, false, not, Option, Some, None, pos, negsuc}
+use Rattle.std.proofs.Common.{◌≡◌, ℕ, zero, suc, ◌+◌, ◌<◌, List, [], ◌∷◌, ◌++◌, length, refl, sym, ap, subst, ◌∙◌, arith, Bool, true, false, not, Option, Some, None}
 use Rattle.std.specs.Prelude.{slice_get, filter}
 use Rattle.std.specs.List.{AllByRecursion}
 use Rattle.std.proofs.lemmas.List.{length-map}
-use Rattle.std.proofs.lemmas.List.Elements.{All-filter, recursion_from_All}
+use Rattle.std.proofs.lemmas.List.Elements.{recursion_from_All}
 use Rattle.av_affine.specs.Numbers.{AtMost}
-use Rattle.av_affine.specs.declared.map.Map.{Map}
-use Rattle.av_tree.specs.Points.{Point}
 use Rattle.av_flat.specs.declared.timed.Timed.{Timed}
 use Rattle.av_flat.specs.Trees.{Tree, Piece, Variable, FlatSystem, view_system, reference, constant, binary, choice, restriction, cases, dependence, reduction, pick}
 use Rattle.av_flat.specs.Signatures.{Signature, signature, signatures}
 use Rattle.av_flat.specs.WellFormed.{EachPart, Fits, HasSmallRows, dimension_of}
-use Rattle.av_flat.specs.Broadcasts.{references, lists_of, is_zero, stays, along, moves, first_moving}
+use Rattle.av_flat.specs.Broadcasts.{references}
 use Rattle.av_flat.specs.Chained.{IsOfPartial, IsChainedPiece, IsChainedVariable}
 use Rattle.av_flat.specs.Legal.{IsMoving, IsLegal}
-use Rattle.av_pipe.proofs.Searching.{small_directions}
 use Rattle.av_space.specs.Taps.{Handing, helper_at, Place, places_in, places_from, Way, each, entries, handed, Tap, taps_by, taps_at, is_own, all_taps, taps}
 use Rattle.av_depend.specs.ComputedPlaces.{computed_at}
 use Rattle.av_space.specs.inner.Readings.{IsReadable, IsFineTap}
+use Rattle.av_space.proofs.Directions.{first_step}
 use Rattle.av_space.proofs.Elements.{each_at, at_index, in_range}
 use Rattle.av_space.proofs.Helpers.{found_helper}
 use Rattle.av_space.proofs.Timely.{all_flat}
@@ -74,15 +72,6 @@ places_are vs v k (q ∷ pieces) h =
     (each_weaker (IsOfPieces (suc k) pieces n (length vs)) (IsOfPieces k (q ∷ pieces) n (length vs))
     (λ p x. record { number = suc x.number; number_is = x.number_is ∙ omega arith; piece = x.piece; is_piece = x.is_piece; fine = x.fine }) (places_from (suc k) pieces) (places_are vs v (suc k) pieces h.1))
 
--- ---- directions
-
-small_moving : (linear : Point) (m : Map) (w : Point) → first_moving linear m ≡ Some w → AtMost 4095 w
-small_moving linear m w e =
-    let lists = lists_of (pos 0 ∷ pos 1 ∷ negsuc 0 ∷ []) m.from in
-    let some = filter (λ (x : Point). not (is_zero x)) lists in
-    at_index (AtMost 4095) (filter (moves linear) (along m))
-    (All-filter (moves linear) (AtMost 4095) (along m) (All-filter (stays m) (AtMost 4095) some (All-filter (λ (x : Point). not (is_zero x)) (AtMost 4095) lists (small_directions lists m.from refl)))) 0 w e
-
 -- ---- taps
 
 module _ (t : Timed) (legal : IsLegal t) where
@@ -95,7 +84,7 @@ module _ (t : Timed) (legal : IsLegal t) where
       let m = at_index (IsMoving own t.times) t.helpers legal.helpers f.at f.helper f.is_helper in
       let low = in_range t.helpers f.at f.helper f.is_helper in
       let e = f.number_is in
-      (subst (AtMost 4095) f.direction_is (small_moving m.time.linear m.reference.map f.helper.direction m.direction), omega (arith, low, e))
+      (subst (AtMost 4095) f.direction_is (first_step m.time.linear f.helper.direction m.reference.map m.direction).small, omega (arith, low, e))
 
   -- a helper whose word is read is one of the helpers
   abbrev pub IsKnown : Way → Type 0

@@ -1,7 +1,6 @@
 -- Helpers put behind those of before, in the terms of the code. Only private contracts cite this.
-use Rattle.std.specs.Prelude.{◌≡◌, pos, negsuc, [], ◌∷◌, ℕ, suc, ◌≤◌, All, List, ◌++◌, map}
+use Rattle.std.specs.Prelude.{◌≡◌, pos, negsuc, [], ◌∷◌, ℕ, suc, ◌≤◌, List, ◌++◌, map}
 use Rattle.av_affine.specs.declared.map.Map.{Map}
-use Rattle.av_affine.specs.Forms.{IsWithinLimits}
 use Rattle.av_tree.specs.Points.{Point}
 use Rattle.std.specs.List.{AllByRecursion}
 use Rattle.av_flat.specs.Trees.{Tree, Variable, reference, binary, choice}
@@ -18,9 +17,9 @@ abbrev pub of_maps : ℕ → ℕ → Point → ℕ → List Map → List Helper
 of_maps place piece linear site [] = []
 of_maps place piece linear site (m ∷ ms) = helper_of place piece site (first_moving linear m) ++ of_maps place piece linear (suc site) ms
 
--- the map is within its limits, and these are all points of so many entries 0, 1 and -1 as it has indices
+-- these are all points of so many entries 0, 1 and -1 as the map has indices
 abbrev pub IsFineMap : List Point → Map → Type 0
-IsFineMap ws m = (ws ≡ lists_of (pos 0 ∷ pos 1 ∷ negsuc 0 ∷ []) m.from) × All IsWithinLimits m.rows
+IsFineMap ws m = ws ≡ lists_of (pos 0 ∷ pos 1 ∷ negsuc 0 ∷ []) m.from
 
 -- the maps of all references are so
 abbrev pub HasFineMaps : List Point → Tree → Type 0

@@ -1,7 +1,7 @@
 use Rattle.std.proofs.Common.{◌++◌}
 use Rattle.av_flat.specs.Trees.{view}
 use Rattle.av_flat.specs.Broadcasts.{references}
-use Rattle.av_pipe.proofs.Searching.{both_maps, on_ok}
+use Rattle.av_pipe.proofs.References.{both_maps, on_ok}
 use Rattle.av_pipe.proofs.site.+append_maps.Goals as goal
 
 pub returns-in_ok-append_maps-in-Binary : goal.returns-in_ok-append_maps-in-Binary

@@ -1,11 +1,10 @@
-use Rattle.std.proofs.Common.{◌≡◌, ◌++◌, ◌∙◌, List, ap, subst}
-use Rattle.std.specs.List.{AllByRecursion}
+use Rattle.std.proofs.Common.{◌≡◌, ◌++◌, ◌∙◌, List, ap}
 use Rattle.av_affine.specs.declared.map.Map.{Map}
 use Rattle.av_flat.specs.Trees.{view}
 use Rattle.av_flat.specs.Broadcasts.{references}
 use Rattle.av_flat.specs.declared.timed.Helper.{Helper}
-use Rattle.av_pipe.specs.inner.Helping.{maps_of, of_maps, IsFineMap}
-use Rattle.av_pipe.proofs.Searching.{by_maps, all_fine, on_ok}
+use Rattle.av_pipe.specs.inner.Helping.{maps_of, of_maps}
+use Rattle.av_pipe.proofs.References.{by_maps, all_fine, on_ok}
 use Rattle.av_pipe.proofs.site.tree_helpers.Goals as goal
 
 pub map_helpers-requires-clause-fine : goal.map_helpers-requires-clause-fine

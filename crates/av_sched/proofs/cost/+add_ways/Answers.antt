@@ -5,11 +5,8 @@ use Rattle.av_sched.specs.inner.Ways.{HasSmallReferences}
 use Rattle.av_flat.proofs.Falling.{left_falls, right_falls, first_falls, second_falls, third_falls, fourth_falls}
 use Rattle.av_sched.proofs.cost.+add_ways.Goals as goal
 
-pub add_way-requires-clause-from : goal.add_way-requires-clause-from
-add_way-requires-clause-from t c = (subst (λ (u : TreeMade). HasSmallReferences (view u)) c.in-Ref.is c.requires).few
-
-pub add_way-requires-clause-rows : goal.add_way-requires-clause-rows
-add_way-requires-clause-rows t c = (subst (λ (u : TreeMade). HasSmallReferences (view u)) c.in-Ref.is c.requires).rows
+pub add_way-requires : goal.add_way-requires
+add_way-requires t c = subst (λ (u : TreeMade). HasSmallReferences (view u)) c.in-Ref.is c.requires
 
 pub add_ways-requires : goal.add_ways-requires
 add_ways-requires t c = (

@@ -1,7 +1,0 @@
-use Rattle.std.proofs.Common.{◌≡◌, take}
-use Rattle.std.specs.Prelude.{filter}
-use Rattle.av_flat.specs.Broadcasts.{stays}
-use Rattle.av_sched.proofs.direction.along_of.Given as goal
-
-abbrev pub invariant-loop-point : goal.invariant-loop-point
-invariant-loop-point l = l.to ≡ filter (stays l.fn.map) (take l.point-index l.point-items)

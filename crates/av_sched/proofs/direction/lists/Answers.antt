@@ -1,9 +1,0 @@
-use Rattle.std.proofs.Common.{◌<◌, ◌≤◌, ◌∙◌, arith}
-use Rattle.av_sched.proofs.Ways.{shorter_lists}
-use Rattle.av_sched.proofs.direction.lists.Goals as goal
-
-pub longer-requires : goal.longer-requires
-longer-requires c =
-    let few : c.args.size ≤ 4 = c.requires in
-    let l : c.loop-k._k < 4 = (let t = c.loop-k-test.true in omega (arith, few, t)) in
-    shorter_lists c.loop-k._k c.deref.result.now l (c.deref.ensures.value ∙ c.loop-k.invariant)
