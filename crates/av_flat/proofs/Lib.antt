@@ -14,3 +14,5 @@ pub mod Unhelped
 pub mod Bounded
 pub mod Falling
 pub mod DeclaredPoints
+pub mod NodeNumbers
+pub mod Reading
