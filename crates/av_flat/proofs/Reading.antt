@@ -58,16 +58,16 @@ numbered f n (r ∷ rs) = f n (reference r.place r.map) ++ numbered f (suc n) rs
 
 numbered_append : {X : Type 0} (f : ℕ → Tree → List X) (n : ℕ) (rs qs : List Reference) → numbered f n (rs ++ qs) ≡ numbered f n rs ++ numbered f (n + length rs) qs
 numbered_append f n [] qs = let e : n ≡ n + 0 = omega arith in ap (λ (j : ℕ). numbered f j qs) e
-numbered_append f n (r ∷ rs) qs =
+numbered_append {X} f n (r ∷ rs) qs =
     let own = f n (reference r.place r.map) in
     let e : suc n + length rs ≡ n + suc (length rs) = omega arith in
-    ap (λ (xs : List _). own ++ xs) (numbered_append f (suc n) rs qs ∙ ap (λ (j : ℕ). numbered f (suc n) rs ++ numbered f j qs) e)
+    ap (λ (xs : List X). own ++ xs) (numbered_append f (suc n) rs qs ∙ ap (λ (j : ℕ). numbered f (suc n) rs ++ numbered f j qs) e)
     ∙ sym (append_assoc own (numbered f (suc n) rs) (numbered f (n + suc (length rs)) qs))
 
 both_gathered : {X : Type 0} (f : ℕ → Tree → List X) (n j : ℕ) (rs qs : List Reference) (ps os : List Place) → j ≡ n + length rs → gathered f ps ≡ numbered f n rs → gathered f os ≡ numbered f j qs
     → gathered f (ps ++ os) ≡ numbered f n (rs ++ qs)
-both_gathered f n j rs qs ps os e a b =
-    flat_map-append (λ (p : Place). f p.site p.tree) ps os ∙ ap₂ (λ (xs ys : List _). xs ++ ys) a (b ∙ ap (λ (i : ℕ). numbered f i qs) e) ∙ sym (numbered_append f n rs qs)
+both_gathered {X} f n j rs qs ps os e a b =
+    flat_map-append (λ (p : Place). f p.site p.tree) ps os ∙ ap₂ (λ (xs ys : List X). xs ++ ys) a (b ∙ ap (λ (i : ℕ). numbered f i qs) e) ∙ sym (numbered_append f n rs qs)
 
 -- a pick gives nothing
 pub gathered_references : {X : Type 0} (f : ℕ → Tree → List X) → ((n place : ℕ) (choices : List Choice) (w : ℕ) → f n (pick place choices w) ≡ [])
@@ -97,7 +97,7 @@ gathered_references f none k n (restriction d t) = refl
 gathered_references f none k n (cases ts) = refl
 gathered_references f none k n (dependence m t) = refl
 gathered_references f none k n (reduction o m t set) = refl
-gathered_references f none k n (pick place choices w) = ap (λ (xs : List _). xs ++ []) (none n place choices w)
+gathered_references {X} f none k n (pick place choices w) = ap (λ (xs : List X). xs ++ []) (none n place choices w)
 
 -- the references themselves
 numbered_self : (n : ℕ) (rs : List Reference) → numbered (λ j t. references t) n rs ≡ rs

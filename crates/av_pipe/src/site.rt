@@ -5,40 +5,15 @@ ghost use Rattle.std.specs.List.{AllByRecursion};
 ghost use Rattle.av_affine.specs.Numbers.{AtMost};
 ghost use Rattle.av_flat.specs.Trees.{view, view_piece};
 ghost use Rattle.av_flat.specs.Broadcasts.{references, first_moving};
+ghost use Rattle.av_flat.specs.Sites.{place_of};
 ghost use Rattle.av_pipe.specs.Pipelines.{helper_of, of_references, of_pieces};
-ghost use Rattle.av_pipe.specs.inner.Helping.{maps_of, of_maps, IsFineMap, HasFineMaps};
+ghost use Rattle.av_pipe.specs.inner.Helping.{of_site, of_places, IsFineMap, HasFineMaps};
 
 use crate::direction::first_moving;
 use av_affine::Map;
 use av_base::{List, Memory, Point};
-use av_flat::{Helper, Piece, Tree, copy_map};
+use av_flat::{Helper, Piece, ReadingPlace, Tree, tree_places};
 use std::alloc::Global;
-
-// Puts the maps of the references in a tree behind others, in order.
-fn append_maps(tree: &Tree, maps: &mut List<Map>) -> Result<(), Memory>
-    ensures { OnOk result (maps.new ≡ maps.old ++ maps_of (view tree.now)) }
-{
-    match tree {
-        Tree::Ref { map, .. } => maps.push(copy_map(map)),
-        Tree::Binary { left, right, .. } => {
-            append_maps(left, maps)?;
-            append_maps(right, maps)
-        }
-        Tree::Choose {
-            left,
-            right,
-            yes,
-            no,
-            ..
-        } => {
-            append_maps(left, maps)?;
-            append_maps(right, maps)?;
-            append_maps(yes, maps)?;
-            append_maps(no, maps)
-        }
-        _ => Ok(()),
-    }
-}
 
 // Puts the helper of a reference with this map behind others, where it is moved.
 fn reference_helper(
@@ -65,22 +40,42 @@ fn reference_helper(
     Ok(())
 }
 
-// Puts the helpers of references with these maps behind others.
-fn map_helpers(
-    place: u32,
+// Puts the helper of a place that reads behind others, where it is a reference that is moved.
+fn place_helper(
+    own: u32,
     piece: u32,
     linear: &Point,
     points: &[Point],
-    maps: &[Map],
+    place: &ReadingPlace<'_>,
     helpers: &mut List<Helper>,
 ) -> Result<(), Memory>
     requires linear { AtMost 4 linear.now }
-    requires few { length maps.now ≤ 1073741824 }
-    requires fine { AllByRecursion (IsFineMap points.now) maps.now }
-    ensures { OnOk result (helpers.new ≡ helpers.old ++ of_maps place piece linear.now 0 maps.now) }
+    requires maps { HasFineMaps points.now (view place.now.tree) }
+    ensures { OnOk result (helpers.new ≡ helpers.old ++ of_site own piece linear.now place.now.site (view place.now.tree)) }
 {
-    for (site, map) in maps.iter().enumerate() {
-        reference_helper(place, piece, linear, points, site as u32, map, helpers)?;
+    match place.tree {
+        Tree::Ref { map, .. } => {
+            reference_helper(own, piece, linear, points, place.site, map, helpers)
+        }
+        _ => Ok(()),
+    }
+}
+
+// Puts the helpers of places that read behind others.
+fn place_helpers(
+    own: u32,
+    piece: u32,
+    linear: &Point,
+    points: &[Point],
+    places: &[ReadingPlace<'_>],
+    helpers: &mut List<Helper>,
+) -> Result<(), Memory>
+    requires linear { AtMost 4 linear.now }
+    requires maps { AllByRecursion (λ p. HasFineMaps points.now p.tree) (map place_of places.now) }
+    ensures { OnOk result (helpers.new ≡ helpers.old ++ of_places own piece linear.now (map place_of places.now)) }
+{
+    for place in places {
+        place_helper(own, piece, linear, points, place, helpers)?;
     }
     Ok(())
 }
@@ -99,11 +94,8 @@ fn tree_helpers(
     requires maps { HasFineMaps points.now (view tree.now) }
     ensures { OnOk result (helpers.new ≡ helpers.old ++ of_references place piece linear.now 0 (references (view tree.now))) }
 {
-    let mut maps = List::new(alloc);
-    append_maps(tree, &mut maps)?;
-    // So few that 32 bits number them.
-    let _most = maps.len();
-    map_helpers(place, piece, linear, points, maps.as_slice(), helpers)
+    let places = tree_places(alloc, piece as usize, tree)?;
+    place_helpers(place, piece, linear, points, places.as_slice(), helpers)
 }
 
 /// Puts the helpers of the references of a variable's pieces behind others.

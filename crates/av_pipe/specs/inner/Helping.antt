@@ -1,22 +1,22 @@
 -- Helpers put behind those of before, in the terms of the code. Only private contracts cite this.
-use Rattle.std.specs.Prelude.{◌≡◌, pos, negsuc, [], ◌∷◌, ℕ, suc, ◌≤◌, All, List, ◌++◌, map}
+use Rattle.std.specs.Prelude.{◌≡◌, pos, negsuc, [], ◌∷◌, ℕ, ◌≤◌, All, List}
 use Rattle.av_affine.specs.declared.map.Map.{Map}
 use Rattle.av_affine.specs.Forms.{IsWithinLimits}
 use Rattle.av_tree.specs.Points.{Point}
-use Rattle.std.specs.List.{AllByRecursion}
+use Rattle.std.specs.List.{flat_map, AllByRecursion}
 use Rattle.av_flat.specs.Trees.{Tree, Variable, reference, binary, choice}
 use Rattle.av_flat.specs.declared.timed.Helper.{Helper}
-use Rattle.av_flat.specs.Broadcasts.{references, first_moving, lists_of}
+use Rattle.av_flat.specs.Broadcasts.{first_moving, lists_of}
+use Rattle.av_flat.specs.Sites.{Place}
 use Rattle.av_pipe.specs.Pipelines.{helper_of}
 
--- the maps of a piece's references, in order
-abbrev pub maps_of : Tree → List Map
-maps_of t = map (λ r. r.map) (references t)
+-- the helper of a place that reads, with this number, if it is a reference
+abbrev pub of_site : ℕ → ℕ → Point → ℕ → Tree → List Helper
+of_site own piece linear site (reference place m) = helper_of own piece site (first_moving linear m)
+of_site own piece linear site _ = []
 
--- the helpers of references with these maps, which have the numbers from site on
-abbrev pub of_maps : ℕ → ℕ → Point → ℕ → List Map → List Helper
-of_maps place piece linear site [] = []
-of_maps place piece linear site (m ∷ ms) = helper_of place piece site (first_moving linear m) ++ of_maps place piece linear (suc site) ms
+abbrev pub of_places : ℕ → ℕ → Point → List Place → List Helper
+of_places own piece linear ps = flat_map (λ p. of_site own piece linear p.site p.tree) ps
 
 -- the map is within its limits, and these are all points of so many entries 0, 1 and -1 as it has indices
 abbrev pub IsFineMap : List Point → Map → Type 0

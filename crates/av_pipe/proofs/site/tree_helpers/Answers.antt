@@ -1,20 +1,22 @@
-use Rattle.std.proofs.Common.{◌≡◌, ◌++◌, ◌∙◌, List, ap, subst}
+use Rattle.std.proofs.Common.{◌≡◌, ◌++◌, ◌∙◌, List, map, ap, sym, subst}
 use Rattle.std.specs.List.{AllByRecursion}
-use Rattle.av_affine.specs.declared.map.Map.{Map}
 use Rattle.av_flat.specs.Trees.{view}
-use Rattle.av_flat.specs.Broadcasts.{references}
+use Rattle.av_flat.specs.Sites.{Place, PlaceMade, place_of, places_in}
 use Rattle.av_flat.specs.declared.timed.Helper.{Helper}
-use Rattle.av_pipe.specs.inner.Helping.{maps_of, of_maps, IsFineMap}
-use Rattle.av_pipe.proofs.Searching.{by_maps, all_fine, on_ok}
+use Rattle.av_flat.proofs.Reading.{each_place}
+use Rattle.av_pipe.specs.inner.Helping.{HasFineMaps, of_places}
+use Rattle.av_pipe.proofs.Searching.{by_places, on_ok}
 use Rattle.av_pipe.proofs.site.tree_helpers.Goals as goal
 
-pub map_helpers-requires-clause-fine : goal.map_helpers-requires-clause-fine
-map_helpers-requires-clause-fine c =
-    rw (c.as_slice.ensures, c.in_ok-append_maps.ensures, c.new-maps.ensures) (all_fine c.args.points.now (view c.args.tree.now) c.requires.maps)
+pub place_helpers-requires-clause-maps : goal.place_helpers-requires-clause-maps
+place_helpers-requires-clause-maps c =
+    let are : map place_of c.as_slice.result.now ≡ places_in c.args.piece 0 (view c.args.tree.now) = ap (λ (ps : List PlaceMade). map place_of ps) c.as_slice.ensures ∙ c.in_ok-places.ensures in
+    subst (AllByRecursion (λ (p : Place). HasFineMaps c.args.points.now p.tree)) (sym are)
+    (each_place (HasFineMaps c.args.points.now) (λ g l r h. h) (λ l o r x y h. h) c.args.piece 0 (view c.args.tree.now) c.requires.maps)
 
 pub returns : goal.returns
 returns c =
-    let rs = references (view c.args.tree.now) in
-    let are : c.as_slice.result.now ≡ maps_of (view c.args.tree.now) = c.as_slice.ensures ∙ c.in_ok-append_maps.ensures ∙ ap (λ (ms : List Map). ms ++ maps_of (view c.args.tree.now)) c.new-maps.ensures in
-    on_ok c.map_helpers.result c.map_helpers.ensures
-    (λ e. e ∙ ap (λ (ms : List Map). c.args.helpers.now ++ of_maps c.args.place c.args.piece c.args.linear.now 0 ms) are ∙ ap (λ (hs : List Helper). c.args.helpers.now ++ hs) (by_maps c.args.place c.args.piece c.args.linear.now 0 rs))
+    let are : map place_of c.as_slice.result.now ≡ places_in c.args.piece 0 (view c.args.tree.now) = ap (λ (ps : List PlaceMade). map place_of ps) c.as_slice.ensures ∙ c.in_ok-places.ensures in
+    on_ok c.place_helpers.result c.place_helpers.ensures
+    (λ e. e ∙ ap (λ (ps : List Place). c.args.helpers.now ++ of_places c.args.place c.args.piece c.args.linear.now ps) are
+    ∙ ap (λ (hs : List Helper). c.args.helpers.now ++ hs) (by_places c.args.place c.args.piece c.args.linear.now c.args.piece 0 (view c.args.tree.now)))
