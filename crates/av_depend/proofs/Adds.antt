@@ -3,8 +3,8 @@ use Rattle.std.proofs.Common.{◌≡◌, ℕ, zero, suc, ◌+◌, ◌<◌, ◌�
 use Rattle.std.specs.Prelude.{Contains, filter, slice_get}
 use Rattle.std.specs.List.{flat_map}
 use Rattle.std.proofs.lemmas.List.{append-nil, length-map}
-use Rattle.std.proofs.lemmas.Option.{slice_get-map, slice_get-get_or, slice_get_within}
-use Rattle.std.specs.Option.{option_map}
+use Rattle.std.proofs.lemmas.List.Concat.{flat_map-append}
+use Rattle.std.proofs.lemmas.Option.{slice_get_within}
 use Rattle.std.proofs.lemmas.List.Elements.{All-filter, filter_passes}
 use Rattle.std.proofs.lemmas.List.Kept.{AllPairs-filter}
 use Rattle.av_affine.specs.declared.form.Form.{Form}
@@ -14,18 +14,23 @@ use Rattle.av_poly.specs.declared.poly.Bounds.{Bounds}
 use Rattle.av_poly.specs.Points.{Set}
 use Rattle.av_tree.specs.Points.{Point}
 use Rattle.av_flat.specs.declared.flat.Var.{Var}
-use Rattle.av_flat.specs.Trees.{Variable, FlatSystem, view_variable}
+use Rattle.av_flat.specs.declared.tree.Choice.{Choice}
+use Rattle.av_flat.specs.declared.tree.Tree.{Tree as TreeMade}
+use Rattle.av_flat.specs.declared.tree.Tree.TheVariants as made
+use Rattle.av_flat.specs.Trees.{Tree, Variable, FlatSystem, view, view_variable, reference, constant, binary, choice, restriction, cases, dependence, reduction, pick}
+use Rattle.av_flat.specs.Broadcasts.{references}
+use Rattle.av_flat.specs.Sites.{Place, places_in}
 use Rattle.av_flat.proofs.Sets.{has_is}
 use Rattle.av_flat.specs.Points.{has}
 use Rattle.av_depend.specs.declared.edge.Edge.{Edge}
 use Rattle.av_depend.specs.ComputedPlaces.{computed_at}
-use Rattle.av_depend.specs.Sites.{Site, both, HasPair, sites_of, sites_from}
+use Rattle.av_depend.specs.Sites.{Site, both, HasPair, sites_in, sites_of, sites_from}
 use Rattle.av_flat.specs.Order.{IsBefore}
 use Rattle.av_depend.specs.Edges.{IsEdge, AreEdges, ended, without, with_pair}
 use Rattle.av_elim.specs.Extents.{IsInside}
 use Rattle.av_depend.specs.AllPoints.{AreAllPoints}
 use Rattle.av_depend.specs.SetPoints.{IsPointOf}
-use Rattle.av_depend.specs.inner.Adding.{IsComputedAt, HasAdded, site_at}
+use Rattle.av_depend.specs.inner.Adding.{IsComputedAt, HasAdded, site_at, site_of, sites_at}
 use Rattle.av_base.proofs.Among.{first_among, more_among, among_cases, none_among}
 use Rattle.av_depend.proofs.Covering.{has_both, both_have}
 use Rattle.av_elim.proofs.Boxes.{small_between}
@@ -127,9 +132,6 @@ small_points set extent points few low high inside all = λ k d l.
 
 -- ---- variables at their places
 
-pub variable_at : (vars : List Var) (place : ℕ) (x : Var) → place < length vars → x ≡ get_or vars place x → slice_get (map view_variable vars) place ≡ Some (view_variable x)
-variable_at vars place x l e = slice_get-map view_variable vars place ∙ ap (option_map view_variable) (slice_get-get_or vars place x l ∙ ap Some (sym e))
-
 pub computed_here : (s : FlatSystem) (place : ℕ) → computed_at (slice_get s.variables place) ≡ true → IsComputedAt s place
 computed_here s place t = by_variable (slice_get s.variables place) refl t
   where
@@ -178,3 +180,37 @@ pub at_mapped : {X Y : Type 0} (P : Y → Type 0) (f : X → Y) (xs : List X) (k
 at_mapped P f [] k x h l e = absurd (omega (arith, l))
 at_mapped P f (y ∷ xs) zero x h l e = subst P (ap f (sym e)) (h 0 (f x) (omega arith))
 at_mapped P f (y ∷ xs) (suc k) x h l e = at_mapped P f xs k x (λ j d m. h (suc j) d (omega (arith, m))) (omega (arith, l)) e
+
+-- ---- the sites of places
+
+-- where a tree is no reference and no pick
+pub no_sites_at : (node : ℕ) (set : Set) (t : TreeMade) → ((place : ℕ) (m : Map) → t ≡ made.Ref place m → ⊥) → ((place : ℕ) (choices : List Choice) (w : _) → t ≡ made.Pick place choices w → ⊥)
+    → sites_at node set (view t) ≡ []
+no_sites_at node set (made.Ref place m) a b = absurd (a place m refl)
+no_sites_at node set (made.Pick place choices w) a b = absurd (b place choices w refl)
+no_sites_at node set _ a b = refl
+
+both_gathered : (node : ℕ) (set : Set) (ps os : List Place) (xs ys : List Site) → flat_map (λ (p : Place). sites_at node set p.tree) ps ≡ xs → flat_map (λ (p : Place). sites_at node set p.tree) os ≡ ys
+    → flat_map (λ (p : Place). sites_at node set p.tree) (ps ++ os) ≡ xs ++ ys
+both_gathered node set ps os xs ys a b = flat_map-append (λ (p : Place). sites_at node set p.tree) ps os ∙ ap₂ (λ (ss us : List Site). ss ++ us) a b
+
+pub sites_gathered : (node : ℕ) (set : Set) (k n : ℕ) (t : Tree) → flat_map (λ (p : Place). sites_at node set p.tree) (places_in k n t) ≡ sites_in node set t
+sites_gathered node set k n (reference place m) = refl
+sites_gathered node set k n (constant w) = refl
+sites_gathered node set k n (binary g l r) =
+    both_gathered node set (places_in k n l) (places_in k (n + length (references l)) r) (sites_in node set l) (sites_in node set r) (sites_gathered node set k n l) (sites_gathered node set k (n + length (references l)) r)
+sites_gathered node set k n (choice l c r x y) =
+    let i = n + length (references l) in
+    let j = i + length (references r) in
+    let m = j + length (references x) in
+    let ls = sites_in node set l in
+    let rs = sites_in node set r in
+    let xs = sites_in node set x in
+    let two = both_gathered node set (places_in k n l) (places_in k i r) ls rs (sites_gathered node set k n l) (sites_gathered node set k i r) in
+    let three = both_gathered node set (places_in k n l ++ places_in k i r) (places_in k j x) (ls ++ rs) xs two (sites_gathered node set k j x) in
+    both_gathered node set (places_in k n l ++ places_in k i r ++ places_in k j x) (places_in k m y) (ls ++ rs ++ xs) (sites_in node set y) three (sites_gathered node set k m y)
+sites_gathered node set k n (restriction d t) = refl
+sites_gathered node set k n (cases ts) = refl
+sites_gathered node set k n (dependence m t) = refl
+sites_gathered node set k n (reduction o m t inner) = refl
+sites_gathered node set k n (pick place choices w) = append-nil (map (site_of node place set) choices)

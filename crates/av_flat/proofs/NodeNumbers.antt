@@ -5,11 +5,13 @@ use Rattle.std.specs.Option.{option_map}
 use Rattle.std.proofs.lemmas.Option.{slice_get-map, slice_get-get_or, slice_get_within, get_or_from_slice_get}
 use Rattle.std.proofs.lemmas.List.{take_all, length-map}
 use Rattle.std.proofs.lemmas.List.FromFn.{length-map-range_with_len, get_or-map-range_with_len}
-use Rattle.std.proofs.lemmas.List.Elements.{filter_more}
+use Rattle.std.proofs.lemmas.List.Elements.{filter_more, All-filter}
 use Rattle.av_flat.specs.declared.flat.Flat.{Flat}
 use Rattle.av_flat.specs.declared.flat.Var.{Var}
 use Rattle.av_flat.specs.Trees.{Variable, FlatSystem, view_variable, view_system}
 use Rattle.av_flat.specs.Nodes.{is_node, nodes, number_at, place_from, node_place, places_of, numbers_of}
+use Rattle.av_flat.specs.Chained.{IsChained, IsChainedVariable}
+use Rattle.av_base.proofs.Lists.{all_at}
 
 -- ---- places
 
@@ -137,6 +139,9 @@ places_number s places e = ap (λ (xs : List ℕ). length xs) e ∙ length-map-r
 
 pub node_passes : (s : FlatSystem) (n : ℕ) (v : Variable) → slice_get (nodes s) n ≡ Some v → is_node v ≡ true
 node_passes s n v e = (passing is_node s.variables n v e).passes
+
+pub chained_node : (s : FlatSystem) (n : ℕ) (v : Variable) → IsChained s → slice_get (nodes s) n ≡ Some v → IsChainedVariable s v
+chained_node s n v chained e = all_at (IsChainedVariable s) (nodes s) n v (All-filter is_node (IsChainedVariable s) s.variables chained.each) e
 
 -- ---- variables as they lie in memory
 

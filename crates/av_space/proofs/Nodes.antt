@@ -19,7 +19,7 @@ use Rattle.av_flat.specs.Nodes.{is_node, nodes, number_at, IsComputation}
 use Rattle.av_flat.specs.Chained.{IsChained, IsChainedVariable}
 use Rattle.av_flat.proofs.Sets.{has_is}
 use Rattle.av_depend.specs.AllPoints.{AreAllPoints}
-use Rattle.av_depend.proofs.Adds.{variable_at}
+use Rattle.av_flat.proofs.NodeNumbers.{variable_at}
 use Rattle.av_flat.proofs.Bounded.{small_point}
 use Rattle.av_space.specs.Taps.{place_from, node_place}
 use Rattle.av_space.specs.inner.Laying.{AreNodePoints}

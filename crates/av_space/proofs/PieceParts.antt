@@ -19,7 +19,7 @@ use Rattle.av_flat.specs.Signatures.{Signature, signatures, signature, is_input,
 use Rattle.av_flat.specs.WellFormed.{EachPart, Fits, HasSmallRows, dimension_of}
 use Rattle.av_poly.specs.Points.{Set}
 use Rattle.av_depend.specs.SetPoints.{IsPointOf}
-use Rattle.av_depend.proofs.Adds.{variable_at}
+use Rattle.av_flat.proofs.NodeNumbers.{variable_at}
 use Rattle.av_space.specs.declared.cells.InPort.{InPort}
 use Rattle.av_space.specs.declared.layout.Slot.{Slot}
 use Rattle.av_space.specs.declared.input_site.InputSite.{InputSite}
