@@ -98,14 +98,3 @@ gathered_references f none k n (cases ts) = refl
 gathered_references f none k n (dependence m t) = refl
 gathered_references f none k n (reduction o m t set) = refl
 gathered_references {X} f none k n (pick place choices w) = ap (λ (xs : List X). xs ++ []) (none n place choices w)
-
--- the references themselves
-numbered_self : (n : ℕ) (rs : List Reference) → numbered (λ j t. references t) n rs ≡ rs
-numbered_self n [] = refl
-numbered_self n (r ∷ rs) = ap (λ (xs : List Reference). r ∷ xs) (numbered_self (suc n) rs)
-
-pub references_from : (k : ℕ) (pieces : List Piece) → flat_map (λ (p : Place). references p.tree) (places_from k pieces) ≡ flat_map (λ (p : Piece). references p.tree) pieces
-references_from k [] = refl
-references_from k (p ∷ pieces) =
-    flat_map-append (λ (q : Place). references q.tree) (places_in k 0 p.tree) (places_from (suc k) pieces)
-    ∙ ap₂ (λ (xs ys : List Reference). xs ++ ys) (gathered_references (λ j t. references t) (λ j place choices w. refl) k 0 p.tree ∙ numbered_self 0 (references p.tree)) (references_from (suc k) pieces)
