@@ -13,20 +13,20 @@ use Rattle.av_flat.specs.declared.flat.Var.{Var}
 use Rattle.av_flat.specs.declared.tree.Tree.{Tree as TreeMade}
 use Rattle.av_flat.specs.Trees.{Tree, Piece, Variable, view, view_piece, view_variable, view_system, reference, binary, choice}
 use Rattle.av_flat.specs.Broadcasts.{Reference, references}
-use Rattle.av_flat.specs.Nodes.{nodes}
+use Rattle.av_flat.specs.Nodes.{nodes, node_place}
 use Rattle.av_flat.specs.Legal.{IsMoving}
 use Rattle.av_flat.specs.Signatures.{Signature, signatures, signature, is_input, is_computed}
 use Rattle.av_flat.specs.WellFormed.{EachPart, Fits, HasSmallRows, dimension_of}
 use Rattle.av_poly.specs.Points.{Set}
 use Rattle.av_depend.specs.SetPoints.{IsPointOf}
-use Rattle.av_flat.proofs.NodeNumbers.{variable_at}
+use Rattle.av_flat.proofs.NodeNumbers.{variable_at, node_variable, place_of_node, node_in_places}
 use Rattle.av_space.specs.declared.cells.InPort.{InPort}
 use Rattle.av_space.specs.declared.layout.Slot.{Slot}
 use Rattle.av_space.specs.declared.input_site.InputSite.{InputSite}
 use Rattle.av_space.specs.declared.ports.NodePiece.{NodePiece}
 use Rattle.av_space.specs.declared.ports.Ports.{Ports as Found}
 use Rattle.av_space.specs.Ports.{IsPort}
-use Rattle.av_space.specs.Taps.{node_of, node_place, helper_at, Handing}
+use Rattle.av_space.specs.Taps.{node_of, helper_at, Handing}
 use Rattle.av_space.specs.inner.Feeding.{direction_of, is_entered, with_port, StandAt}
 use Rattle.av_space.specs.inner.NodePieces.{IsNodePiece, IsPart, IsInputSite, ArePortsAt}
 use Rattle.av_space.proofs.ByPlace.{read_at}
@@ -34,8 +34,7 @@ use Rattle.av_space.proofs.Directions.{first_step}
 use Rattle.av_space.proofs.Fed.{IsSiteOn, next_cell, node_of_port, same_reference}
 use Rattle.av_space.proofs.FirstCells.{node_between}
 use Rattle.av_space.proofs.Helpers.{found_helper}
-use Rattle.av_space.proofs.Nodes.{node_variable}
-use Rattle.av_space.proofs.OnCells.{IsCellOf, place_of_node, node_in_places, slot_points}
+use Rattle.av_space.proofs.OnCells.{IsCellOf, slot_points}
 use Rattle.av_base.proofs.Lists.{all_at, some_is, there_is}
 
 -- ---- parts

@@ -6,7 +6,7 @@ use Rattle.av_flat.specs.Nodes.{nodes}
 use Rattle.av_flat.specs.Trees.{view_piece, view_variable, view_system}
 use Rattle.av_space.specs.declared.ports.NodePiece.{NodePiece}
 use Rattle.av_space.proofs.Fed.{next_node}
-use Rattle.av_space.proofs.OnCells.{node_in_places}
+use Rattle.av_flat.proofs.NodeNumbers.{node_in_places}
 use Rattle.av_space.proofs.NodeParts.{piece_below, node_piece_is, piece_part, piece_passed}
 use Rattle.av_space.proofs.ports.add_node.Goals as goal
 
