@@ -12,39 +12,37 @@ use Rattle.av_base.proofs.Lists.{each_append}
 
 -- ---- what holds of each place
 
--- what a tree hands down to its parts
-pub each_place : (P : Tree → Type 0) → ((g : Sign) (l r : Tree) → P (binary g l r) → P l × P r) → ((l : Tree) (c : Relation) (r x y : Tree) → P (choice l c r x y) → P l × P r × P x × P y)
-    → (k n : ℕ) (t : Tree) → P t → AllByRecursion (λ (p : Place). P p.tree) (places_in k n t)
-each_place P two four k n (reference place m) h = (h, tt)
-each_place P two four k n (constant w) h = tt
-each_place P two four k n (binary g l r) h =
-    let parts = two g l r h in
-    let a = length (references l) in
-    each_append (λ (p : Place). P p.tree) (places_in k n l) (places_in k (n + a) r) (each_place P two four k n l parts.0) (each_place P two four k (n + a) r parts.1)
-each_place P two four k n (choice l c r x y) h =
-    let parts = four l c r x y h in
-    let Q = λ (p : Place). P p.tree in
-    let a = length (references l) in
-    let b = length (references r) in
-    let d = length (references x) in
-    let ls = places_in k n l in
-    let rs = places_in k (n + a) r in
-    let xs = places_in k (n + a + b) x in
-    let ys = places_in k (n + a + b + d) y in
-    each_append Q (ls ++ rs ++ xs) ys
-    (each_append Q (ls ++ rs) xs (each_append Q ls rs (each_place P two four k n l parts.0) (each_place P two four k (n + a) r parts.1)) (each_place P two four k (n + a + b) x parts.2))
-    (each_place P two four k (n + a + b + d) y parts.3)
-each_place P two four k n (restriction d t) h = tt
-each_place P two four k n (cases ts) h = tt
-each_place P two four k n (dependence m t) h = tt
-each_place P two four k n (reduction o m t set) h = tt
-each_place P two four k n (pick place choices w) h = (h, tt)
+module _ (P : ℕ → Tree → Type 0) (two : (n : ℕ) (g : Sign) (l r : Tree) → P n (binary g l r) → P n l × P (n + length (references l)) r) (four : (n : ℕ) (l : Tree) (c : Relation) (r x y : Tree) → P n (choice l c r x y) → P n l × P (n + length (references l)) r × P (n + length (references l) + length (references r)) x × P (n + length (references l) + length (references r) + length (references x)) y) where
+  abbrev Q : Place → Type 0
+  Q p = P p.site p.tree
 
-pub each_place_from : (P : Tree → Type 0) → ((g : Sign) (l r : Tree) → P (binary g l r) → P l × P r) → ((l : Tree) (c : Relation) (r x y : Tree) → P (choice l c r x y) → P l × P r × P x × P y)
-    → (k : ℕ) (pieces : List Piece) → AllByRecursion (λ (p : Piece). P p.tree) pieces → AllByRecursion (λ (p : Place). P p.tree) (places_from k pieces)
-each_place_from P two four k [] h = tt
-each_place_from P two four k (p ∷ pieces) h =
-    each_append (λ (q : Place). P q.tree) (places_in k 0 p.tree) (places_from (suc k) pieces) (each_place P two four k 0 p.tree h.0) (each_place_from P two four (suc k) pieces h.1)
+  -- what a tree hands down to its parts
+  pub each_place : (k n : ℕ) (t : Tree) → P n t → AllByRecursion (λ (p : Place). P p.site p.tree) (places_in k n t)
+  each_place k n (reference place m) h = (h, tt)
+  each_place k n (constant w) h = tt
+  each_place k n (binary g l r) h =
+      let parts = two n g l r h in
+      let i = n + length (references l) in
+      each_append Q (places_in k n l) (places_in k i r) (each_place k n l parts.0) (each_place k i r parts.1)
+  each_place k n (choice l c r x y) h =
+      let parts = four n l c r x y h in
+      let i = n + length (references l) in
+      let j = i + length (references r) in
+      let m = j + length (references x) in
+      let ls = places_in k n l in
+      let rs = places_in k i r in
+      let xs = places_in k j x in
+      let both = each_append Q ls rs (each_place k n l parts.0) (each_place k i r parts.1) in
+      each_append Q (ls ++ rs ++ xs) (places_in k m y) (each_append Q (ls ++ rs) xs both (each_place k j x parts.2)) (each_place k m y parts.3)
+  each_place k n (restriction d t) h = tt
+  each_place k n (cases ts) h = tt
+  each_place k n (dependence m t) h = tt
+  each_place k n (reduction o m t set) h = tt
+  each_place k n (pick place choices w) h = (h, tt)
+
+  pub each_place_from : (k : ℕ) (pieces : List Piece) → AllByRecursion (λ (p : Piece). P 0 p.tree) pieces → AllByRecursion (λ (p : Place). P p.site p.tree) (places_from k pieces)
+  each_place_from k [] h = tt
+  each_place_from k (p ∷ pieces) h = each_append Q (places_in k 0 p.tree) (places_from (suc k) pieces) (each_place k 0 p.tree h.0) (each_place_from (suc k) pieces h.1)
 
 -- ---- what is gathered from references with their numbers
 

@@ -1,6 +1,7 @@
 -- Pieces of nodes, their parts and their references to inputs.
 use Rattle.std.proofs.Common.{◌≡◌, ℕ, zero, suc, ◌+◌, ◌^◌, ◌<◌, ◌≤◌, Bool, true, false, not, IsTrue, Some, None, List, [], ◌∷◌, ◌++◌, length, get_or, refl, sym, ap, subst, ◌∙◌, arith}
 use Rattle.std.specs.Prelude.{slice_get, filter, All, Option, IfSome}
+use Rattle.std.specs.List.{AllByRecursion}
 use Rattle.std.proofs.lemmas.List.{length-append, length-map}
 use Rattle.std.proofs.lemmas.Option.{slice_get_within, get_or_from_slice_get}
 use Rattle.av_affine.specs.declared.map.Map.{Map}
@@ -11,7 +12,10 @@ use Rattle.av_tree.specs.declared.sign.Sign.{Sign}
 use Rattle.av_tree.specs.declared.relation.Relation.{Relation}
 use Rattle.av_flat.specs.declared.flat.Var.{Var}
 use Rattle.av_flat.specs.declared.tree.Tree.{Tree as TreeMade}
-use Rattle.av_flat.specs.Trees.{Tree, Piece, Variable, view, view_piece, view_variable, view_system, reference, binary, choice}
+use Rattle.av_flat.specs.declared.tree.Tree.TheVariants as made
+use Rattle.av_flat.specs.Sites.{Place, places_in}
+use Rattle.av_flat.proofs.Reading.{each_place}
+use Rattle.av_flat.specs.Trees.{Tree, Piece, Variable, view, view_piece, view_variable, view_system, reference, constant, binary, choice, restriction, cases, dependence, reduction, pick}
 use Rattle.av_flat.specs.Broadcasts.{Reference, references}
 use Rattle.av_flat.specs.Nodes.{nodes, node_place}
 use Rattle.av_flat.specs.Legal.{IsMoving}
@@ -28,7 +32,7 @@ use Rattle.av_space.specs.declared.ports.Ports.{Ports as Found}
 use Rattle.av_space.specs.Ports.{IsPort}
 use Rattle.av_space.specs.Taps.{node_of, helper_at, Handing}
 use Rattle.av_space.specs.inner.Feeding.{direction_of, is_entered, with_port, StandAt}
-use Rattle.av_space.specs.inner.NodePieces.{IsNodePiece, IsPart, IsInputSite, ArePortsAt}
+use Rattle.av_space.specs.inner.NodePieces.{IsNodePiece, IsPart, IsInputSite, number_behind, ArePortsAt}
 use Rattle.av_space.proofs.ByPlace.{read_at}
 use Rattle.av_space.proofs.Directions.{first_step}
 use Rattle.av_space.proofs.Fed.{IsSiteOn, next_cell, node_of_port, same_reference}
@@ -101,9 +105,55 @@ parts_of_choice at j l c r x y h =
       second = record { stand = subst (λ (n : ℕ). StandAt n ys whole) n3 (stand_right j (ls ++ rs ++ xs) ys whole h.stand); fits = h.fits.3; rows = h.rows.4; few = omega (arith, a, e, f, g) };
     }
 
--- a part with another number, and the tree that the code has
-pub part_is : (at : NodePiece) (j k : ℕ) (t : Tree) (u v : TreeMade) → k ≡ j → u ≡ v → view v ≡ t → IsPart at j t → IsPart at k (view u)
-part_is at j k t u v e f g h = subst (λ (n : ℕ). IsPart at n (view u)) (sym e) (subst (IsPart at j) (sym g ∙ ap view (sym f)) h)
+-- each place that reads is a part
+pub each_part : (at : NodePiece) (k j : ℕ) (t : Tree) → IsPart at j t → AllByRecursion (λ (p : Place). IsPart at p.site p.tree) (places_in k j t)
+each_part at k j t h =
+    each_place (IsPart at) (λ n g l r h. (part_left at n g l r h, part_right at n g l r h)) (λ n l c r x y h. let p = parts_of_choice at n l c r x y h in (p.left, p.right, p.first, p.second)) k j t h
+
+-- ---- numbers of places
+
+-- places that read one after the other, from one number on up to another
+abbrev pub AreConsecutive : ℕ → List Place → ℕ → Type 0
+AreConsecutive j [] next = j ≡ next
+AreConsecutive j (p ∷ ps) next = (p.site ≡ j) × AreConsecutive (number_behind p.site p.tree) ps next
+
+both_consecutive : (j m next : ℕ) (ps qs : List Place) → AreConsecutive j ps m → AreConsecutive m qs next → AreConsecutive j (ps ++ qs) next
+both_consecutive j m next [] qs e h = subst (λ (n : ℕ). AreConsecutive n qs next) (sym e) h
+both_consecutive j m next (p ∷ ps) qs g h = (g.0, both_consecutive (number_behind p.site p.tree) m next ps qs g.1 h)
+
+pub consecutive : (k j next : ℕ) (t : Tree) → next ≡ j + length (references t) → AreConsecutive j (places_in k j t) next
+consecutive k j next (reference place m) e = (refl, sym e)
+consecutive k j next (constant w) e = omega (arith, e)
+consecutive k j next (binary g l r) e =
+    let m = j + length (references l) in
+    let p = length-append (references l) (references r) in
+    both_consecutive j m next (places_in k j l) (places_in k m r) (consecutive k j m l refl) (consecutive k m next r (omega (arith, e, p)))
+consecutive k j next (choice l c r x y) e =
+    let a = references l in
+    let b = references r in
+    let d = references x in
+    let m = j + length a in
+    let n = m + length b in
+    let o = n + length d in
+    let ls = places_in k j l in
+    let rs = places_in k m r in
+    let xs = places_in k n x in
+    let p = length-append a b in
+    let q = length-append (a ++ b) d in
+    let u = length-append (a ++ b ++ d) (references y) in
+    both_consecutive j o next (ls ++ rs ++ xs) (places_in k o y)
+    (both_consecutive j n o (ls ++ rs) xs (both_consecutive j m n ls rs (consecutive k j m l refl) (consecutive k m n r refl)) (consecutive k n o x refl))
+    (consecutive k o next y (omega (arith, e, p, q, u)))
+consecutive k j next (restriction d t) e = omega (arith, e)
+consecutive k j next (cases ts) e = omega (arith, e)
+consecutive k j next (dependence m t) e = omega (arith, e)
+consecutive k j next (reduction o m t set) e = omega (arith, e)
+consecutive k j next (pick place choices w) e = (refl, omega (arith, e))
+
+-- of no reference it is the same
+pub same_behind : (n : ℕ) (t : TreeMade) → ((place : ℕ) (m : Map) → t ≡ made.Ref place m → ⊥) → number_behind n (view t) ≡ n
+same_behind n (made.Ref place m) none = absurd (none place m refl)
+same_behind n _ none = refl
 
 -- the whole piece
 pub whole_part : (at : NodePiece) → Fits (signatures (view_system at.timed.now.flat)) at.piece.now.domain.dim (view_piece at.piece.now).tree → EachPart HasSmallRows (view_piece at.piece.now).tree

@@ -11,7 +11,7 @@ ghost use Rattle.av_space.specs.Ports.{ArePorts};
 ghost use Rattle.av_space.specs.Quantities.{IsOperatorCount};
 ghost use Rattle.av_space.specs.Occupancy.{IsCellBefore};
 ghost use Rattle.av_space.specs.inner.Feeding.{is_entered, with_port, IsReadable, IsFirstOf};
-ghost use Rattle.av_space.specs.inner.NodePieces.{IsNodePiece, IsPart, IsInputSite, ArePortsAt, ArePortsOf, IsSmallNode};
+ghost use Rattle.av_space.specs.inner.NodePieces.{IsNodePiece, IsPart, IsInputSite, number_behind, ArePortsAt, ArePortsOf, IsSmallNode};
 ghost use Rattle.av_space.specs.Layouts.{IsLayout};
 
 use crate::cells::{Cell, InPort};
@@ -20,7 +20,7 @@ use crate::layout::{Layout, Slot};
 use crate::node_places::variable_of;
 use av_affine::Map;
 use av_base::{List, Memory};
-use av_flat::{Piece, Timed, Tree};
+use av_flat::{Piece, ReadingPlace, Timed, Tree, tree_places};
 use av_net::Entry;
 use std::alloc::Global;
 
@@ -125,47 +125,39 @@ fn add_reference(
     add_site(alloc, at, number, &site, ports)
 }
 
-// The ports of the references in a tree, whose first one has this number; the number after its last one.
-fn add_tree(
+// The ports of a place that reads, if it is a reference to an input.
+fn add_place(
     alloc: Global,
     at: &NodePiece,
-    tree: &Tree,
-    number: usize,
+    place: &ReadingPlace<'_>,
     ports: &mut Ports,
-) -> Result<usize, Memory>
+) -> Result<(), Memory>
     requires at { IsNodePiece at.now }
-    requires part { IsPart at.now number (view tree.now) }
-    requires old { ArePortsAt at.now number at.now.first ports.old }
-    ensures { IfOk result (λ next. (next ≡ number + length (references (view tree.now))) × ArePortsAt at.now next at.now.first ports.new) }
+    requires part { IsPart at.now place.now.site (view place.now.tree) }
+    requires old { ArePortsAt at.now place.now.site at.now.first ports.old }
+    ensures { OnOk result (ArePortsAt at.now (number_behind place.now.site (view place.now.tree)) at.now.first ports.new) }
 {
-    match tree {
+    match place.tree {
         Tree::Ref { var, map } => {
-            add_reference(alloc, at, number, *var, map, ports)?;
-            Ok(number + 1)
+            add_reference(alloc, at, place.site as usize, *var, map, ports)
         }
-        Tree::Binary { left, right, .. } => {
-            let number = add_tree(alloc, at, left, number, ports)?;
-            add_tree(alloc, at, right, number, ports)
-        }
-        Tree::Choose {
-            left,
-            right,
-            yes,
-            no,
-            ..
-        } => {
-            let number = add_tree(alloc, at, left, number, ports)?;
-            let number = add_tree(alloc, at, right, number, ports)?;
-            let number = add_tree(alloc, at, yes, number, ports)?;
-            add_tree(alloc, at, no, number, ports)
-        }
-        Tree::Const(_) => Ok(number),
-        Tree::Restrict { .. } => Ok(number),
-        Tree::Case { .. } => Ok(number),
-        Tree::Depend { .. } => Ok(number),
-        Tree::Reduce { .. } => Ok(number),
-        Tree::Pick { .. } => Ok(number),
+        _ => Ok(()),
     }
+}
+
+// The ports of the references in the piece.
+fn add_piece(alloc: Global, at: &NodePiece, ports: &mut Ports) -> Result<(), Memory>
+    requires at { IsNodePiece at.now }
+    requires part { IsPart at.now 0 (view at.now.piece.now.tree) }
+    requires old { ArePortsAt at.now 0 at.now.first ports.old }
+    ensures { OnOk result (ArePortsAt at.now (length (references (view at.now.piece.now.tree))) at.now.first ports.new) }
+{
+    let piece = at.piece;
+    let places = tree_places(alloc, at.number, &piece.tree)?;
+    for place in places.as_slice() {
+        add_place(alloc, at, place, ports)?;
+    }
+    Ok(())
 }
 
 // The ports of a node with these cells.
@@ -199,7 +191,7 @@ fn add_node(
             first,
             last,
         };
-        add_tree(alloc, &at, &piece.tree, 0, ports)?;
+        add_piece(alloc, &at, ports)?;
     }
     Ok(())
 }

@@ -23,7 +23,7 @@ add_place-requires-clause-fits c =
     let items = c.as_slice-place-items.result.now in
     let l : c.loop-place.place-index < length items = search rules in
     let are : map place_of items ≡ places_in 0 0 (view c.args.tree.now) = ap (λ (ps : List PlaceMade). map place_of ps) c.as_slice-place-items.ensures ∙ c.in_ok-places.ensures in
-    let each = subst (AllByRecursion P) (sym are) (each_place (Fits vs dim) (λ g l r h. h) (λ l o r x y h. h) 0 0 (view c.args.tree.now) c.requires.fits) in
+    let each = subst (AllByRecursion P) (sym are) (each_place (λ n t. Fits vs dim t) (λ n g l r h. h) (λ n l o r x y h. h) 0 0 (view c.args.tree.now) c.requires.fits) in
     at_mapped P place_of items c.loop-place.place-index c.place-item.result (All-from_recursion P (map place_of items) each) l c.place-item.is
 
 pub loop-place-preserved : goal.loop-place-preserved

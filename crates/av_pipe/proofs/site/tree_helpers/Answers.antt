@@ -12,7 +12,7 @@ pub place_helpers-requires-clause-maps : goal.place_helpers-requires-clause-maps
 place_helpers-requires-clause-maps c =
     let are : map place_of c.as_slice.result.now ≡ places_in c.args.piece 0 (view c.args.tree.now) = ap (λ (ps : List PlaceMade). map place_of ps) c.as_slice.ensures ∙ c.in_ok-places.ensures in
     subst (AllByRecursion (λ (p : Place). HasFineMaps c.args.points.now p.tree)) (sym are)
-    (each_place (HasFineMaps c.args.points.now) (λ g l r h. h) (λ l o r x y h. h) c.args.piece 0 (view c.args.tree.now) c.requires.maps)
+    (each_place (λ n t. HasFineMaps c.args.points.now t) (λ n g l r h. h) (λ n l o r x y h. h) c.args.piece 0 (view c.args.tree.now) c.requires.maps)
 
 pub returns : goal.returns
 returns c =

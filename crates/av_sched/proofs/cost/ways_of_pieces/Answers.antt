@@ -18,7 +18,7 @@ add_ways-requires c =
     let items = c.as_slice-place-items.result.now in
     let l : c.loop-place.place-index < length items = search rules in
     let are : map place_of items ≡ places_from 0 pieces = ap (λ (ps : List PlaceMade). map place_of ps) c.as_slice-place-items.ensures ∙ c.in_ok-places.ensures in
-    let small = each_place_from HasSmallReferences (λ g l r h. h) (λ l o r x y h. h) 0 pieces (recursion_from_All Q pieces (All-map Q view_piece c.args.pieces.now c.requires)) in
+    let small = each_place_from (λ n t. HasSmallReferences t) (λ n g l r h. h) (λ n l o r x y h. h) 0 pieces (recursion_from_All Q pieces (All-map Q view_piece c.args.pieces.now c.requires)) in
     at_mapped P place_of items c.loop-place.place-index c.place-item.result (All-from_recursion P (map place_of items) (subst (AllByRecursion P) (sym are) small)) l c.place-item.is
 
 pub returns : goal.returns
