@@ -3,7 +3,6 @@ use Rattle.std.proofs.Common.{◌≡◌, ℕ, zero, suc, ◌+◌, ◌<◌, ◌�
 use Rattle.std.specs.Prelude.{Contains, filter, slice_get}
 use Rattle.std.specs.List.{flat_map}
 use Rattle.std.proofs.lemmas.List.{append-nil, length-map}
-use Rattle.std.proofs.lemmas.List.Concat.{flat_map-append}
 use Rattle.std.proofs.lemmas.Option.{slice_get_within}
 use Rattle.std.proofs.lemmas.List.Elements.{All-filter, filter_passes}
 use Rattle.std.proofs.lemmas.List.Kept.{AllPairs-filter}
@@ -17,9 +16,9 @@ use Rattle.av_flat.specs.declared.flat.Var.{Var}
 use Rattle.av_flat.specs.declared.tree.Choice.{Choice}
 use Rattle.av_flat.specs.declared.tree.Tree.{Tree as TreeMade}
 use Rattle.av_flat.specs.declared.tree.Tree.TheVariants as made
-use Rattle.av_flat.specs.Trees.{Tree, Variable, FlatSystem, view, view_variable, reference, constant, binary, choice, restriction, cases, dependence, reduction, pick}
-use Rattle.av_flat.specs.Broadcasts.{references}
+use Rattle.av_flat.specs.Trees.{Tree, Variable, FlatSystem, view, view_variable}
 use Rattle.av_flat.specs.Sites.{Place, places_in}
+use Rattle.av_flat.proofs.Reading.{IsByParts, gathered}
 use Rattle.av_flat.proofs.Sets.{has_is}
 use Rattle.av_flat.specs.Points.{has}
 use Rattle.av_depend.specs.declared.edge.Edge.{Edge}
@@ -30,7 +29,7 @@ use Rattle.av_depend.specs.Edges.{IsEdge, AreEdges, ended, without, with_pair}
 use Rattle.av_elim.specs.Extents.{IsInside}
 use Rattle.av_depend.specs.AllPoints.{AreAllPoints}
 use Rattle.av_depend.specs.SetPoints.{IsPointOf}
-use Rattle.av_depend.specs.inner.Adding.{IsComputedAt, HasAdded, site_at, site_of, sites_at}
+use Rattle.av_depend.specs.inner.Adding.{IsComputedAt, HasAdded, site_at, sites_at}
 use Rattle.av_base.proofs.Among.{first_among, more_among, among_cases, none_among}
 use Rattle.av_depend.proofs.Covering.{has_both, both_have}
 use Rattle.av_elim.proofs.Boxes.{small_between}
@@ -166,10 +165,6 @@ flat_take_more f xs k x l e = rw add-one (go f xs k x l e)
     go f (y ∷ xs) zero x l e = append-nil (f y) ∙ ap f (sym e)
     go f (y ∷ xs) (suc k) x l e = ap (λ zs. f y ++ zs) (go f xs k x (omega (arith, l)) e) ∙ sym (append_assoc (f y) (flat_map f (take k xs)) (f x))
 
-pub flat_map_map : {X Y Z : Type 0} (f : Y → List Z) (g : X → Y) (xs : List X) → flat_map f (map g xs) ≡ flat_map (λ x. f (g x)) xs
-flat_map_map f g [] = refl
-flat_map_map f g (x ∷ xs) = ap (λ zs. f (g x) ++ zs) (flat_map_map f g xs)
-
 pub sites_from_more : (start : ℕ) (vs : List Variable) (v : Variable) → sites_from start (vs ++ v ∷ []) ≡ sites_from start vs ++ sites_of (start + length vs) v
 sites_from_more start [] v = append-nil (sites_of start v) ∙ ap (λ (n : ℕ). sites_of n v) (omega arith)
 sites_from_more start (w ∷ vs) v =
@@ -190,27 +185,17 @@ no_sites_at node set (made.Ref place m) a b = absurd (a place m refl)
 no_sites_at node set (made.Pick place choices w) a b = absurd (b place choices w refl)
 no_sites_at node set _ a b = refl
 
-both_gathered : (node : ℕ) (set : Set) (ps os : List Place) (xs ys : List Site) → flat_map (λ (p : Place). sites_at node set p.tree) ps ≡ xs → flat_map (λ (p : Place). sites_at node set p.tree) os ≡ ys
-    → flat_map (λ (p : Place). sites_at node set p.tree) (ps ++ os) ≡ xs ++ ys
-both_gathered node set ps os xs ys a b = flat_map-append (λ (p : Place). sites_at node set p.tree) ps os ∙ ap₂ (λ (ss us : List Site). ss ++ us) a b
-
 pub sites_gathered : (node : ℕ) (set : Set) (k n : ℕ) (t : Tree) → flat_map (λ (p : Place). sites_at node set p.tree) (places_in k n t) ≡ sites_in node set t
-sites_gathered node set k n (reference place m) = refl
-sites_gathered node set k n (constant w) = refl
-sites_gathered node set k n (binary g l r) =
-    both_gathered node set (places_in k n l) (places_in k (n + length (references l)) r) (sites_in node set l) (sites_in node set r) (sites_gathered node set k n l) (sites_gathered node set k (n + length (references l)) r)
-sites_gathered node set k n (choice l c r x y) =
-    let i = n + length (references l) in
-    let j = i + length (references r) in
-    let m = j + length (references x) in
-    let ls = sites_in node set l in
-    let rs = sites_in node set r in
-    let xs = sites_in node set x in
-    let two = both_gathered node set (places_in k n l) (places_in k i r) ls rs (sites_gathered node set k n l) (sites_gathered node set k i r) in
-    let three = both_gathered node set (places_in k n l ++ places_in k i r) (places_in k j x) (ls ++ rs) xs two (sites_gathered node set k j x) in
-    both_gathered node set (places_in k n l ++ places_in k i r ++ places_in k j x) (places_in k m y) (ls ++ rs ++ xs) (sites_in node set y) three (sites_gathered node set k m y)
-sites_gathered node set k n (restriction d t) = refl
-sites_gathered node set k n (cases ts) = refl
-sites_gathered node set k n (dependence m t) = refl
-sites_gathered node set k n (reduction o m t inner) = refl
-sites_gathered node set k n (pick place choices w) = append-nil (map (site_of node place set) choices)
+sites_gathered node set k n t =
+    let by_parts : IsByParts (sites_at node set) (sites_in node set) = record {
+      of_reference = λ place m. refl;
+      of_pick = λ place choices w. refl;
+      of_binary = λ s l r. refl;
+      of_choice = λ l c r x y. refl;
+      of_constant = λ w. refl;
+      of_restriction = λ d u. refl;
+      of_cases = λ ts. refl;
+      of_dependence = λ m u. refl;
+      of_reduction = λ o m u inner. refl;
+    } in
+    gathered (sites_at node set) (sites_in node set) by_parts k n t

@@ -1,6 +1,7 @@
 -- The nodes of a system and their pieces, one after the other.
 use Rattle.std.proofs.Common.{◌≡◌, ℕ, ◌+◌, ◌≤◌, Some, List, [], ◌∷◌, ◌++◌, length, take, refl, sym, ap, subst, ◌∙◌, arith, zero-add, All}
 use Rattle.std.specs.Prelude.{slice_get}
+use Rattle.std.proofs.lemmas.List.Folds.{flat_map-map}
 use Rattle.std.specs.List.{flat_map}
 use Rattle.std.proofs.lemmas.List.{length-take-le}
 use Rattle.std.proofs.lemmas.Option.{slice_get_within, get_or_from_slice_get}
@@ -20,7 +21,7 @@ use Rattle.av_depend.specs.Sites.{Site, sites_in, sites_of, sites_from, sites}
 use Rattle.av_depend.specs.Edges.{AreEdgesOf}
 use Rattle.av_elim.specs.Extents.{IsInside}
 use Rattle.av_depend.specs.inner.Adding.{HasAdded}
-use Rattle.av_depend.proofs.Adds.{added_both, added_are, sites_from_more, flat_map_map}
+use Rattle.av_depend.proofs.Adds.{added_both, added_are, sites_from_more}
 use Rattle.av_base.proofs.Lists.{next_taken, take_whole}
 
 -- ---- pieces
@@ -30,7 +31,7 @@ abbrev pub sites_of_piece : ℕ → PieceMade → List Site
 sites_of_piece n p = sites_in n p.domain (view p.tree)
 
 pub sites_of_pieces : (n : ℕ) (x : Var) → sites_of n (view_variable x) ≡ flat_map (sites_of_piece n) x.pieces
-sites_of_pieces n x = flat_map_map (λ (p : Piece). sites_in n p.domain p.tree) view_piece x.pieces
+sites_of_pieces n x = flat_map-map (λ (p : Piece). sites_in n p.domain p.tree) view_piece x.pieces
 
 -- a variable without points has no piece
 pub no_pieces : (s : FlatSystem) (v : Variable) → IsChainedVariable s v → ((z : Point) → Has v.domain z → ⊥) → v.pieces ≡ []

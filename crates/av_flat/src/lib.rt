@@ -22,7 +22,7 @@ pub use laws::{
 pub use nodes::{Nodes, numbers, place_of, places};
 pub use pass::{Feeds, Meant, Pass};
 pub use quantity::Quantity;
-pub use sites::{ReadingPlace, piece_places, tree_places};
+pub use sites::{ReadingPlace, Reference, piece_places, tree_places, tree_references};
 pub use then::{Then, ThenFault};
 pub use timed::{Helper, Reach, Time, Timed};
 pub use tree::{Choice, Tree};

@@ -1,12 +1,14 @@
 //! The places of pieces that read: references and picks, in the order of the text.
 
-ghost use Rattle.std.specs.Prelude.{◌≡◌, ◌+◌, ◌<◌, ◌≤◌, length, map, IfOk};
+ghost use Rattle.std.specs.Prelude.{◌≡◌, ◌+◌, ◌<◌, ◌≤◌, ◌++◌, length, map, IfOk, OnOk};
 ghost use Rattle.av_flat.specs.Trees.{view, view_piece};
+ghost use Rattle.av_flat.specs.Broadcasts.{references};
 ghost use Rattle.av_flat.specs.Sites.{place_of, places_in, places_from};
-ghost use Rattle.av_flat.specs.inner.Walked.{HasPlaces};
+ghost use Rattle.av_flat.specs.inner.Walked.{HasPlaces, reference_at};
 
 use crate::flat::Piece;
 use crate::tree::Tree;
+use av_affine::Map;
 use av_base::{List, Memory};
 use std::alloc::Global;
 use std::marker::Model;
@@ -30,6 +32,25 @@ impl<'a> Model for ReadingPlace<'a> {
     ghost coded = { Prim.hlevel (codes, made.the_row.coded) };
 
     ghost view = { λ p. record { piece = p.piece; site = p.site; tree = p.tree.now } };
+}
+
+/// A reference: its variable, by the place among all variables, and its map.
+#[derive(Debug, Drop)]
+pub struct Reference<'a> {
+    pub var: u32,
+    pub map: &'a Map,
+}
+
+impl<'a> Model for Reference<'a> {
+    ghost use Rattle.std.specs.Coded.{codes};
+    ghost use Rattle.av_affine.specs.contracts.map.Map as made;
+    ghost use Rattle.av_flat.specs.Broadcasts.{Reference as ReferenceSeen};
+
+    ghost Value = { ReferenceSeen };
+
+    ghost coded = { Prim.hlevel (codes, made.the_row.coded) };
+
+    ghost view = { λ r. record { place = r.var; map = r.map.now } };
 }
 
 // The number after that of a reference, which is one of so many places.
@@ -105,4 +126,30 @@ pub fn piece_places<'a>(
         add_places(number, 0, &piece.tree, &mut places)?;
     }
     Ok(places)
+}
+
+// Puts a place behind the references, if it is one.
+fn add_reference<'a>(
+    place: &ReadingPlace<'a>,
+    found: &mut List<Reference<'a>>,
+) -> Result<(), Memory>
+    ensures { OnOk result (found.new ≡ found.old ++ reference_at (view place.now.tree)) }
+{
+    let tree = place.tree;
+    match tree {
+        Tree::Ref { var, map } => found.push(Reference { var: *var, map }),
+        _ => Ok(()),
+    }
+}
+
+/// The references in a tree, in the order of the text; picks are left out.
+pub fn tree_references<'a>(alloc: Global, tree: &'a Tree) -> Result<List<Reference<'a>>, Memory>
+    ensures { IfOk result (λ to. to ≡ references (view tree.now)) }
+{
+    let places = tree_places(alloc, 0, tree)?;
+    let mut found = List::new(alloc);
+    for place in places.as_slice() {
+        add_reference(place, &mut found)?;
+    }
+    Ok(found)
 }

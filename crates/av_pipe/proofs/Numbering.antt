@@ -1,18 +1,17 @@
 -- Helpers variable after variable, and what legal systems grant the code.
-use Rattle.std.proofs.Common.{◌≡◌, ℕ, zero, suc, pos, negsuc, ◌+◌, ◌≤◌, Bool, true, false, if◌then◌else◌, Some, List, [], ◌∷◌, ◌++◌, length, filter, map, take, drop, slice_get, refl, sym, ap, subst, ◌∙◌, arith, add-one, append_assoc, All}
+use Rattle.std.proofs.Common.{◌≡◌, ℕ, suc, pos, negsuc, ◌+◌, Some, List, [], ◌∷◌, ◌++◌, length, slice_get, refl, sym, ap, ◌∙◌, arith, add-one, append_assoc, All}
 use Rattle.std.specs.List.{AllByRecursion}
 use Rattle.std.proofs.lemmas.List.Elements.{All-from_recursion, recursion_from_All}
 use Rattle.av_affine.specs.Numbers.{AtMost}
 use Rattle.av_tree.specs.Points.{Point}
 use Rattle.av_flat.specs.Broadcasts.{lists_of}
-use Rattle.av_flat.specs.Trees.{Tree, Piece, Variable, FlatSystem, view_variable, reference, constant, binary, choice, restriction, cases, dependence, reduction, pick}
+use Rattle.av_flat.specs.Trees.{Tree, Piece, Variable, FlatSystem, reference, constant, binary, choice, restriction, cases, dependence, reduction, pick}
 use Rattle.av_flat.specs.Signatures.{Signature, signatures}
 use Rattle.av_flat.specs.WellFormed.{EachPart, Fits, HasSmallRows}
 use Rattle.av_flat.specs.declared.timed.Time.{Time}
-use Rattle.av_flat.specs.declared.flat.Var.{Var}
 use Rattle.av_flat.specs.declared.timed.Helper.{Helper}
 use Rattle.av_pipe.specs.Pipelines.{of_variable, of_variables}
-use Rattle.av_flat.specs.Nodes.{is_node, nodes, number_at}
+use Rattle.av_flat.specs.Nodes.{nodes, number_at}
 use Rattle.av_flat.specs.Chained.{IsChained, IsChainedVariable, IsChainedPiece}
 use Rattle.av_flat.specs.Schedules.{IsSchedule, IsLinearPart}
 use Rattle.av_pipe.specs.inner.Helping.{HasFineMaps, HasFinePieces}

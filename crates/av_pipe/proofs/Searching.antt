@@ -6,13 +6,7 @@ use Rattle.std.proofs.lemmas.Int.{ints}
 use Rattle.av_affine.specs.declared.map.Map.{Map}
 use Rattle.av_affine.specs.Numbers.{dot, AtMost}
 use Rattle.av_tree.specs.Points.{Point}
-use Rattle.av_flat.specs.Trees.{Tree}
-use Rattle.av_flat.specs.Broadcasts.{Reference, references, lists_of, is_zero, stays, moves, first_moving}
-use Rattle.av_flat.specs.declared.timed.Helper.{Helper}
-use Rattle.av_pipe.specs.Pipelines.{helper_of, of_references}
-use Rattle.av_flat.specs.Sites.{places_in}
-use Rattle.av_flat.proofs.Reading.{numbered, gathered_references}
-use Rattle.av_pipe.specs.inner.Helping.{of_site, of_places}
+use Rattle.av_flat.specs.Broadcasts.{lists_of, is_zero, stays, moves}
 use Rattle.av_pipe.proofs.Directions.{lists_sized}
 
 -- ---- sums of products with zeros behind
@@ -108,16 +102,6 @@ small_directions ws n e =
     go : (xs : List Point) → AllByRecursion Small xs → AllByRecursion (AtMost 4095) xs
     go [] h = tt
     go (w ∷ xs) h = (All-from_recursion (λ x. unsigned_abs x ≤ 4095) w h.0, go xs h.1)
-
--- ---- places that read
-
-numbered_are : (own piece : ℕ) (linear : Point) (site : ℕ) (rs : List Reference) → numbered (of_site own piece linear) site rs ≡ of_references own piece linear site rs
-numbered_are own piece linear site [] = refl
-numbered_are own piece linear site (r ∷ rs) = ap (λ (hs : List Helper). helper_of own piece site (first_moving linear r.map) ++ hs) (numbered_are own piece linear (suc site) rs)
-
--- the helpers of places are those of the references among them
-pub by_places : (own piece : ℕ) (linear : Point) (k n : ℕ) (t : Tree) → of_places own piece linear (places_in k n t) ≡ of_references own piece linear n (references t)
-by_places own piece linear k n t = gathered_references (of_site own piece linear) (λ j place choices w. refl) k n t ∙ numbered_are own piece linear n (references t)
 
 pub on_ok : {T E : Type 0} {P Q : Type 0} (r : Result T E) → OnOk r P → (P → Q) → OnOk r Q
 on_ok (Ok x) h f = f h

@@ -7,7 +7,7 @@ ghost use Rattle.av_flat.specs.Trees.{view_variable, view_system};
 ghost use Rattle.av_flat.specs.Legal.{IsLegal};
 ghost use Rattle.av_pipe.specs.Pipelines.{of_variable, pipelines};
 ghost use Rattle.av_pipe.specs.Piped.{IsPiped};
-ghost use Rattle.av_pipe.specs.inner.Helping.{HasFineMaps, HasFinePieces};
+ghost use Rattle.av_pipe.specs.inner.Helping.{HasFinePieces};
 
 use crate::direction::lists_of;
 use crate::site::piece_helpers;

@@ -5,14 +5,13 @@ ghost use Rattle.std.specs.List.{AllByRecursion};
 ghost use Rattle.av_affine.specs.Numbers.{AtMost};
 ghost use Rattle.av_flat.specs.Trees.{view, view_piece};
 ghost use Rattle.av_flat.specs.Broadcasts.{references, first_moving};
-ghost use Rattle.av_flat.specs.Sites.{place_of};
 ghost use Rattle.av_pipe.specs.Pipelines.{helper_of, of_references, of_pieces};
-ghost use Rattle.av_pipe.specs.inner.Helping.{of_site, of_places, IsFineMap, HasFineMaps};
+ghost use Rattle.av_pipe.specs.inner.Helping.{IsFineMap, HasFineMaps};
 
 use crate::direction::first_moving;
 use av_affine::Map;
 use av_base::{List, Memory, Point};
-use av_flat::{Helper, Piece, ReadingPlace, Tree, tree_places};
+use av_flat::{Helper, Piece, Reference, Tree, tree_references};
 use std::alloc::Global;
 
 // Puts the helper of a reference with this map behind others, where it is moved.
@@ -40,42 +39,30 @@ fn reference_helper(
     Ok(())
 }
 
-// Puts the helper of a place that reads behind others, where it is a reference that is moved.
-fn place_helper(
-    own: u32,
+// Puts the helpers of references behind others.
+fn reference_helpers(
+    place: u32,
     piece: u32,
     linear: &Point,
     points: &[Point],
-    place: &ReadingPlace<'_>,
+    found: &[Reference<'_>],
     helpers: &mut List<Helper>,
 ) -> Result<(), Memory>
     requires linear { AtMost 4 linear.now }
-    requires maps { HasFineMaps points.now (view place.now.tree) }
-    ensures { OnOk result (helpers.new ≡ helpers.old ++ of_site own piece linear.now place.now.site (view place.now.tree)) }
+    requires few { length found.now ≤ 1073741824 }
+    requires fine { AllByRecursion (λ r. IsFineMap points.now r.map) found.now }
+    ensures { OnOk result (helpers.new ≡ helpers.old ++ of_references place piece linear.now 0 found.now) }
 {
-    match place.tree {
-        Tree::Ref { map, .. } => {
-            reference_helper(own, piece, linear, points, place.site, map, helpers)
-        }
-        _ => Ok(()),
-    }
-}
-
-// Puts the helpers of places that read behind others.
-fn place_helpers(
-    own: u32,
-    piece: u32,
-    linear: &Point,
-    points: &[Point],
-    places: &[ReadingPlace<'_>],
-    helpers: &mut List<Helper>,
-) -> Result<(), Memory>
-    requires linear { AtMost 4 linear.now }
-    requires maps { AllByRecursion (λ p. HasFineMaps points.now p.tree) (map place_of places.now) }
-    ensures { OnOk result (helpers.new ≡ helpers.old ++ of_places own piece linear.now (map place_of places.now)) }
-{
-    for place in places {
-        place_helper(own, piece, linear, points, place, helpers)?;
+    for (site, reference) in found.iter().enumerate() {
+        reference_helper(
+            place,
+            piece,
+            linear,
+            points,
+            site as u32,
+            reference.map,
+            helpers,
+        )?;
     }
     Ok(())
 }
@@ -94,8 +81,10 @@ fn tree_helpers(
     requires maps { HasFineMaps points.now (view tree.now) }
     ensures { OnOk result (helpers.new ≡ helpers.old ++ of_references place piece linear.now 0 (references (view tree.now))) }
 {
-    let places = tree_places(alloc, piece as usize, tree)?;
-    place_helpers(place, piece, linear, points, places.as_slice(), helpers)
+    let found = tree_references(alloc, tree)?;
+    // So few that 32 bits number them.
+    let _most = found.len();
+    reference_helpers(place, piece, linear, points, found.as_slice(), helpers)
 }
 
 /// Puts the helpers of the references of a variable's pieces behind others.

@@ -1,11 +1,10 @@
 -- Directions: their sizes and entries, and those along which small references read one point.
-use Rattle.std.proofs.Common.{◌≡◌, ℕ, zero, suc, ◌<◌, ◌≤◌, ℤ, pos, List, [], ◌∷◌, ◌++◌, map, length, get_or, refl, sym, ap, ap₂, subst, ◌∙◌, arith, All, unsigned_abs}
-use Rattle.std.specs.Prelude.{negsuc, not, filter, Contains, slice_get, Some}
+use Rattle.std.proofs.Common.{◌≡◌, ℕ, zero, suc, ◌<◌, ◌≤◌, ℤ, pos, List, [], ◌∷◌, ◌++◌, map, length, get_or, refl, sym, ap, subst, ◌∙◌, arith, All, unsigned_abs}
+use Rattle.std.specs.Prelude.{negsuc, not, filter, Contains}
 use Rattle.std.specs.List.{flat_map}
 use Rattle.std.proofs.lemmas.Int.{ints}
 use Rattle.std.proofs.lemmas.List.Elements.{All-nil, All-cons, All-append, All-map, All-weaker, All-filter, All-contains, Contains-get_or, filter-append}
 use Rattle.std.proofs.lemmas.List.{map-append}
-use Rattle.std.proofs.lemmas.List.Concat.{flat_map-append}
 use Rattle.av_affine.specs.declared.map.Map.{Map}
 use Rattle.av_affine.specs.Numbers.{AtMost}
 use Rattle.av_tree.specs.Points.{Point}
@@ -17,9 +16,7 @@ use Rattle.av_flat.specs.Signatures.{Signature, signatures}
 use Rattle.av_flat.specs.WellFormed.{EachPart, Fits, HasSmallRows}
 use Rattle.av_flat.specs.Chained.{IsChainedVariable, IsChainedPiece}
 use Rattle.av_flat.specs.Broadcasts.{Reference, references, lists_of, directions, is_zero, along, stays, is_broadcast}
-use Rattle.av_flat.specs.Sites.{Place, places_in, places_from}
-use Rattle.av_flat.proofs.Reading.{numbered, gathered_references}
-use Rattle.av_sched.specs.inner.Ways.{HasSmallReferences, reference_at, ways_of}
+use Rattle.av_sched.specs.inner.Ways.{HasSmallReferences, ways_of}
 
 -- a direction of n entries
 pub record IsSmallDirection (n : ℕ) (w : Point) : Type 0 where
@@ -80,17 +77,6 @@ small_piece s v p own among =
 
 pub small_direction_at : (n : ℕ) (xs : List Point) (k : ℕ) (w : Point) → xs ≡ directions n → k < length xs → w ≡ get_or xs k w → IsSmallDirection n w
 small_direction_at n xs k w e l is = subst (IsSmallDirection n) (sym is) (subst (All (IsSmallDirection n)) (sym e) (small_directions n) k w l)
-
-numbered_self : (n : ℕ) (rs : List Reference) → numbered (λ j t. reference_at t) n rs ≡ rs
-numbered_self n [] = refl
-numbered_self n (r ∷ rs) = ap (λ xs. r ∷ xs) (numbered_self (suc n) rs)
-
--- the references of pieces, place by place
-pub own_references : (k : ℕ) (pieces : List Piece) → flat_map (λ (p : Place). reference_at p.tree) (places_from k pieces) ≡ flat_map (λ (p : Piece). references p.tree) pieces
-own_references k [] = refl
-own_references k (p ∷ pieces) =
-    flat_map-append (λ (q : Place). reference_at q.tree) (places_in k 0 p.tree) (places_from (suc k) pieces)
-    ∙ ap₂ (λ (xs ys : List Reference). xs ++ ys) (gathered_references (λ j t. reference_at t) (λ j place choices w. refl) k 0 p.tree ∙ numbered_self 0 (references p.tree)) (own_references (suc k) pieces)
 
 -- ---- as the code sees them
 

@@ -11,7 +11,7 @@ ghost use Rattle.av_flat.specs.Chained.{IsChained};
 ghost use Rattle.av_flat.specs.Broadcasts.{references};
 ghost use Rattle.av_sched.specs.Offsets.{part};
 ghost use Rattle.av_sched.specs.Order.{entry_rank, references_of};
-ghost use Rattle.av_sched.specs.inner.Ways.{HasSmallReferences, reference_at, ways_of, still_among};
+ghost use Rattle.av_sched.specs.inner.Ways.{HasSmallReferences, ways_of, still_among};
 ghost use Rattle.av_sched.specs.Prices.{ArePricesAt, ArePricesTo, AreFloorsTo};
 ghost use Rattle.av_sched.specs.inner.Walk.{AreAllPriced};
 
@@ -19,7 +19,7 @@ use crate::direction::{along_of, moves_some};
 use crate::price::{Price, at_least, least_of};
 use av_affine::Map;
 use av_base::{List, Memory, Point};
-use av_flat::{Flat, Piece, ReadingPlace, Tree, piece_places, place_of};
+use av_flat::{Flat, Piece, Tree, place_of, tree_references};
 use std::alloc::Global;
 
 // The place of an entry in the order.
@@ -88,19 +88,16 @@ fn add_way(alloc: Global, map: &Map, to: &mut List<List<Point>>) -> Result<(), M
     Ok(())
 }
 
-// Adds the directions along which a place reads one point, if it is a broadcast.
-fn add_ways(
-    alloc: Global,
-    place: &ReadingPlace<'_>,
-    to: &mut List<List<Point>>,
-) -> Result<(), Memory>
-    requires { HasSmallReferences (view place.now.tree) }
-    ensures { OnOk result (to.new ≡ to.old ++ ways_of (reference_at (view place.now.tree))) }
+// Adds for each broadcast of the tree the directions along which it reads one point.
+fn add_ways(alloc: Global, tree: &Tree, to: &mut List<List<Point>>) -> Result<(), Memory>
+    requires { HasSmallReferences (view tree.now) }
+    ensures { IfOk result (λ done. to.new ≡ to.old ++ ways_of (references (view tree.now))) }
 {
-    match place.tree {
-        Tree::Ref { map, .. } => add_way(alloc, map, to),
-        _ => Ok(()),
+    let found = tree_references(alloc, tree)?;
+    for reference in found.as_slice() {
+        add_way(alloc, reference.map, to)?;
     }
+    Ok(())
 }
 
 // For each broadcast of pieces the directions along which it reads one point.
@@ -109,10 +106,9 @@ fn ways_of_pieces(alloc: Global, pieces: &[Piece]) -> Result<List<List<Point>>, 
     ensures { IfOk result (λ ways. ways ≡
         ways_of (flat_map (λ p. references (view p.tree)) pieces.now)) }
 {
-    let places = piece_places(alloc, pieces)?;
     let mut ways = List::new(alloc);
-    for place in places.as_slice() {
-        add_ways(alloc, place, &mut ways)?;
+    for piece in pieces {
+        add_ways(alloc, &piece.tree, &mut ways)?;
     }
     Ok(ways)
 }

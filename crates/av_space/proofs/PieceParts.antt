@@ -1,21 +1,14 @@
 -- Pieces of nodes, their parts and their references to inputs.
 use Rattle.std.proofs.Common.{◌≡◌, ℕ, zero, suc, ◌+◌, ◌^◌, ◌<◌, ◌≤◌, Bool, true, false, not, IsTrue, Some, None, List, [], ◌∷◌, ◌++◌, length, get_or, refl, sym, ap, subst, ◌∙◌, arith}
 use Rattle.std.specs.Prelude.{slice_get, filter, All, Option, IfSome}
-use Rattle.std.specs.List.{AllByRecursion}
-use Rattle.std.proofs.lemmas.List.{length-append, length-map}
+use Rattle.std.proofs.lemmas.List.{length-map}
 use Rattle.std.proofs.lemmas.Option.{slice_get_within, get_or_from_slice_get}
 use Rattle.av_affine.specs.declared.map.Map.{Map}
 use Rattle.av_affine.specs.Forms.{IsWithinLimits}
 use Rattle.av_affine.specs.Numbers.{AtMost}
 use Rattle.av_tree.specs.Points.{Point}
-use Rattle.av_tree.specs.declared.sign.Sign.{Sign}
-use Rattle.av_tree.specs.declared.relation.Relation.{Relation}
 use Rattle.av_flat.specs.declared.flat.Var.{Var}
-use Rattle.av_flat.specs.declared.tree.Tree.{Tree as TreeMade}
-use Rattle.av_flat.specs.declared.tree.Tree.TheVariants as made
-use Rattle.av_flat.specs.Sites.{Place, places_in}
-use Rattle.av_flat.proofs.Reading.{each_place}
-use Rattle.av_flat.specs.Trees.{Tree, Piece, Variable, view, view_piece, view_variable, view_system, reference, constant, binary, choice, restriction, cases, dependence, reduction, pick}
+use Rattle.av_flat.specs.Trees.{Tree, Piece, Variable, view_piece, view_variable, view_system, reference}
 use Rattle.av_flat.specs.Broadcasts.{Reference, references}
 use Rattle.av_flat.specs.Nodes.{nodes, node_place}
 use Rattle.av_flat.specs.Legal.{IsMoving}
@@ -23,6 +16,7 @@ use Rattle.av_flat.specs.Signatures.{Signature, signatures, signature, is_input,
 use Rattle.av_flat.specs.WellFormed.{EachPart, Fits, HasSmallRows, dimension_of}
 use Rattle.av_poly.specs.Points.{Set}
 use Rattle.av_depend.specs.SetPoints.{IsPointOf}
+use Rattle.av_flat.proofs.Reading.{each_reference}
 use Rattle.av_flat.proofs.NodeNumbers.{variable_at, node_variable, place_of_node, node_in_places}
 use Rattle.av_space.specs.declared.cells.InPort.{InPort}
 use Rattle.av_space.specs.declared.layout.Slot.{Slot}
@@ -32,14 +26,14 @@ use Rattle.av_space.specs.declared.ports.Ports.{Ports as Found}
 use Rattle.av_space.specs.Ports.{IsPort}
 use Rattle.av_space.specs.Taps.{node_of, helper_at, Handing}
 use Rattle.av_space.specs.inner.Feeding.{direction_of, is_entered, with_port, StandAt}
-use Rattle.av_space.specs.inner.NodePieces.{IsNodePiece, IsPart, IsInputSite, number_behind, ArePortsAt}
+use Rattle.av_space.specs.inner.NodePieces.{IsNodePiece, IsPart, IsInputSite, ArePortsAt}
 use Rattle.av_space.proofs.ByPlace.{read_at}
 use Rattle.av_space.proofs.Directions.{first_step}
 use Rattle.av_space.proofs.Fed.{IsSiteOn, next_cell, node_of_port, same_reference}
 use Rattle.av_space.proofs.FirstCells.{node_between}
 use Rattle.av_space.proofs.Helpers.{found_helper}
 use Rattle.av_space.proofs.OnCells.{IsCellOf, slot_points}
-use Rattle.av_base.proofs.Lists.{all_at, some_is, there_is}
+use Rattle.av_base.proofs.Lists.{all_at, each_at, some_is, there_is}
 
 -- ---- parts
 
@@ -60,100 +54,22 @@ stand_right {X} j xs ys whole h i x e =
     right [] i e = let a : i ≡ 0 + i = omega arith in subst (λ (n : ℕ). slice_get ys n ≡ Some x) a e
     right (y ∷ xs) i e = let a : suc (length xs + i) ≡ suc (length xs) + i = omega arith in subst (λ (n : ℕ). slice_get (y ∷ (xs ++ ys)) n ≡ Some x) a (right xs i e)
 
-pub part_left : (at : NodePiece) (j : ℕ) (g : Sign) (l r : Tree) → IsPart at j (binary g l r) → IsPart at j l
-part_left at j g l r h = record {
-  stand = stand_left j (references l) (references r) _ h.stand;
-  fits = h.fits.0;
-  rows = h.rows.1;
-  few = (let a = h.few in let e = length-append (references l) (references r) in omega (arith, a, e));
-}
-
-pub part_right : (at : NodePiece) (j : ℕ) (g : Sign) (l r : Tree) → IsPart at j (binary g l r) → IsPart at (j + length (references l)) r
-part_right at j g l r h = record {
-  stand = stand_right j (references l) (references r) _ h.stand;
-  fits = h.fits.1;
-  rows = h.rows.2;
-  few = (let a = h.few in let e = length-append (references l) (references r) in omega (arith, a, e));
-}
-
--- the four parts of a choice
-pub record ArePartsOfChoice (at : NodePiece) (j : ℕ) (l r x y : Tree) : Type 0 where
-  pub left : IsPart at j l
-  pub right : IsPart at (j + length (references l)) r
-  pub first : IsPart at (j + length (references l) + length (references r)) x
-  pub second : IsPart at (j + length (references l) + length (references r) + length (references x)) y
-
-pub parts_of_choice : (at : NodePiece) (j : ℕ) (l : Tree) (c : Relation) (r x y : Tree) → IsPart at j (choice l c r x y) → ArePartsOfChoice at j l r x y
-parts_of_choice at j l c r x y h =
-    let ls = references l in
-    let rs = references r in
-    let xs = references x in
-    let ys = references y in
-    let whole = references (view_piece at.piece.now).tree in
-    let three = stand_left j (ls ++ rs ++ xs) ys whole h.stand in
-    let two = stand_left j (ls ++ rs) xs whole three in
-    let a = h.few in
-    let e = length-append (ls ++ rs ++ xs) ys in
-    let f = length-append (ls ++ rs) xs in
-    let g = length-append ls rs in
-    let n2 : j + length (ls ++ rs) ≡ j + length ls + length rs = omega (arith, g) in
-    let n3 : j + length (ls ++ rs ++ xs) ≡ j + length ls + length rs + length xs = omega (arith, f, g) in
+-- each reference of a part that begins with the first one
+pub part_at : (at : NodePiece) (t : Tree) (j : ℕ) (r : Reference) → IsPart at 0 t → slice_get (references t) j ≡ Some r → IsPart at j (reference r.place r.map)
+part_at at t j r h e =
+    let Q = Fits (signatures (view_system at.timed.now.flat)) at.piece.now.domain.dim in
+    let l = slice_get_within (references t) j r e in
+    let few = h.few in
     record {
-      left = record { stand = stand_left j ls rs whole two; fits = h.fits.0; rows = h.rows.1; few = omega (arith, a, e, f, g) };
-      right = record { stand = stand_right j ls rs whole two; fits = h.fits.1; rows = h.rows.2; few = omega (arith, a, e, f, g) };
-      first = record { stand = subst (λ (n : ℕ). StandAt n xs whole) n2 (stand_right j (ls ++ rs) xs whole three); fits = h.fits.2; rows = h.rows.3; few = omega (arith, a, e, f, g) };
-      second = record { stand = subst (λ (n : ℕ). StandAt n ys whole) n3 (stand_right j (ls ++ rs ++ xs) ys whole h.stand); fits = h.fits.3; rows = h.rows.4; few = omega (arith, a, e, f, g) };
+      stand = one;
+      fits = each_at (λ (q : Reference). Q (reference q.place q.map)) (references t) j r (each_reference Q (λ g a b k. k) (λ a o b x y k. k) t h.fits) e;
+      rows = each_at (λ (q : Reference). EachPart HasSmallRows (reference q.place q.map)) (references t) j r (each_reference (EachPart HasSmallRows) (λ g a b k. (k.1, k.2)) (λ a o b x y k. (k.1, k.2, k.3, k.4)) t h.rows) e;
+      few = omega (arith, l, few);
     }
-
--- each place that reads is a part
-pub each_part : (at : NodePiece) (k j : ℕ) (t : Tree) → IsPart at j t → AllByRecursion (λ (p : Place). IsPart at p.site p.tree) (places_in k j t)
-each_part at k j t h =
-    each_place (IsPart at) (λ n g l r h. (part_left at n g l r h, part_right at n g l r h)) (λ n l c r x y h. let p = parts_of_choice at n l c r x y h in (p.left, p.right, p.first, p.second)) k j t h
-
--- ---- numbers of places
-
--- places that read one after the other, from one number on up to another
-abbrev pub AreConsecutive : ℕ → List Place → ℕ → Type 0
-AreConsecutive j [] next = j ≡ next
-AreConsecutive j (p ∷ ps) next = (p.site ≡ j) × AreConsecutive (number_behind p.site p.tree) ps next
-
-both_consecutive : (j m next : ℕ) (ps qs : List Place) → AreConsecutive j ps m → AreConsecutive m qs next → AreConsecutive j (ps ++ qs) next
-both_consecutive j m next [] qs e h = subst (λ (n : ℕ). AreConsecutive n qs next) (sym e) h
-both_consecutive j m next (p ∷ ps) qs g h = (g.0, both_consecutive (number_behind p.site p.tree) m next ps qs g.1 h)
-
-pub consecutive : (k j next : ℕ) (t : Tree) → next ≡ j + length (references t) → AreConsecutive j (places_in k j t) next
-consecutive k j next (reference place m) e = (refl, sym e)
-consecutive k j next (constant w) e = omega (arith, e)
-consecutive k j next (binary g l r) e =
-    let m = j + length (references l) in
-    let p = length-append (references l) (references r) in
-    both_consecutive j m next (places_in k j l) (places_in k m r) (consecutive k j m l refl) (consecutive k m next r (omega (arith, e, p)))
-consecutive k j next (choice l c r x y) e =
-    let a = references l in
-    let b = references r in
-    let d = references x in
-    let m = j + length a in
-    let n = m + length b in
-    let o = n + length d in
-    let ls = places_in k j l in
-    let rs = places_in k m r in
-    let xs = places_in k n x in
-    let p = length-append a b in
-    let q = length-append (a ++ b) d in
-    let u = length-append (a ++ b ++ d) (references y) in
-    both_consecutive j o next (ls ++ rs ++ xs) (places_in k o y)
-    (both_consecutive j n o (ls ++ rs) xs (both_consecutive j m n ls rs (consecutive k j m l refl) (consecutive k m n r refl)) (consecutive k n o x refl))
-    (consecutive k o next y (omega (arith, e, p, q, u)))
-consecutive k j next (restriction d t) e = omega (arith, e)
-consecutive k j next (cases ts) e = omega (arith, e)
-consecutive k j next (dependence m t) e = omega (arith, e)
-consecutive k j next (reduction o m t set) e = omega (arith, e)
-consecutive k j next (pick place choices w) e = (refl, omega (arith, e))
-
--- of no reference it is the same
-pub same_behind : (n : ℕ) (t : TreeMade) → ((place : ℕ) (m : Map) → t ≡ made.Ref place m → ⊥) → number_behind n (view t) ≡ n
-same_behind n (made.Ref place m) none = absurd (none place m refl)
-same_behind n _ none = refl
+  where
+    one : (i : ℕ) (x : Reference) → slice_get (r ∷ []) i ≡ Some x → slice_get (references (view_piece at.piece.now).tree) (j + i) ≡ Some x
+    one zero x f = let first : 0 + j ≡ j + 0 = omega arith in subst (λ (n : ℕ). slice_get (references (view_piece at.piece.now).tree) n ≡ Some x) first (h.stand j r e ∙ f)
+    one (suc i) x f = absurd cc
 
 -- the whole piece
 pub whole_part : (at : NodePiece) → Fits (signatures (view_system at.timed.now.flat)) at.piece.now.domain.dim (view_piece at.piece.now).tree → EachPart HasSmallRows (view_piece at.piece.now).tree

@@ -11,7 +11,7 @@ ghost use Rattle.av_space.specs.Ports.{ArePorts};
 ghost use Rattle.av_space.specs.Quantities.{IsOperatorCount};
 ghost use Rattle.av_space.specs.Occupancy.{IsCellBefore};
 ghost use Rattle.av_space.specs.inner.Feeding.{is_entered, with_port, IsReadable, IsFirstOf};
-ghost use Rattle.av_space.specs.inner.NodePieces.{IsNodePiece, IsPart, IsInputSite, number_behind, ArePortsAt, ArePortsOf, IsSmallNode};
+ghost use Rattle.av_space.specs.inner.NodePieces.{IsNodePiece, IsPart, IsInputSite, ArePortsAt, ArePortsOf, IsSmallNode};
 ghost use Rattle.av_space.specs.Layouts.{IsLayout};
 
 use crate::cells::{Cell, InPort};
@@ -20,7 +20,7 @@ use crate::layout::{Layout, Slot};
 use crate::node_places::variable_of;
 use av_affine::Map;
 use av_base::{List, Memory};
-use av_flat::{Piece, ReadingPlace, Timed, Tree, tree_places};
+use av_flat::{Piece, Timed, tree_references};
 use av_net::Entry;
 use std::alloc::Global;
 
@@ -125,26 +125,6 @@ fn add_reference(
     add_site(alloc, at, number, &site, ports)
 }
 
-// The ports of a place that reads, if it is a reference to an input.
-fn add_place(
-    alloc: Global,
-    at: &NodePiece,
-    place: &ReadingPlace<'_>,
-    ports: &mut Ports,
-) -> Result<(), Memory>
-    requires at { IsNodePiece at.now }
-    requires part { IsPart at.now place.now.site (view place.now.tree) }
-    requires old { ArePortsAt at.now place.now.site at.now.first ports.old }
-    ensures { OnOk result (ArePortsAt at.now (number_behind place.now.site (view place.now.tree)) at.now.first ports.new) }
-{
-    match place.tree {
-        Tree::Ref { var, map } => {
-            add_reference(alloc, at, place.site as usize, *var, map, ports)
-        }
-        _ => Ok(()),
-    }
-}
-
 // The ports of the references in the piece.
 fn add_piece(alloc: Global, at: &NodePiece, ports: &mut Ports) -> Result<(), Memory>
     requires at { IsNodePiece at.now }
@@ -153,9 +133,9 @@ fn add_piece(alloc: Global, at: &NodePiece, ports: &mut Ports) -> Result<(), Mem
     ensures { OnOk result (ArePortsAt at.now (length (references (view at.now.piece.now.tree))) at.now.first ports.new) }
 {
     let piece = at.piece;
-    let places = tree_places(alloc, at.number, &piece.tree)?;
-    for place in places.as_slice() {
-        add_place(alloc, at, place, ports)?;
+    let found = tree_references(alloc, &piece.tree)?;
+    for (number, reference) in found.as_slice().iter().enumerate() {
+        add_reference(alloc, at, number, reference.var, reference.map, ports)?;
     }
     Ok(())
 }

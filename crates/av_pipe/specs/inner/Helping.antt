@@ -1,22 +1,11 @@
--- Helpers put behind those of before, in the terms of the code. Only private contracts cite this.
-use Rattle.std.specs.Prelude.{◌≡◌, pos, negsuc, [], ◌∷◌, ℕ, ◌≤◌, All, List}
+-- Maps of references as directions are sought along them. Only private contracts cite this.
+use Rattle.std.specs.Prelude.{◌≡◌, pos, negsuc, [], ◌∷◌, ◌≤◌, All, List}
 use Rattle.av_affine.specs.declared.map.Map.{Map}
 use Rattle.av_affine.specs.Forms.{IsWithinLimits}
 use Rattle.av_tree.specs.Points.{Point}
-use Rattle.std.specs.List.{flat_map, AllByRecursion}
+use Rattle.std.specs.List.{AllByRecursion}
 use Rattle.av_flat.specs.Trees.{Tree, Variable, reference, binary, choice}
-use Rattle.av_flat.specs.declared.timed.Helper.{Helper}
-use Rattle.av_flat.specs.Broadcasts.{first_moving, lists_of}
-use Rattle.av_flat.specs.Sites.{Place}
-use Rattle.av_pipe.specs.Pipelines.{helper_of}
-
--- the helper of a place that reads, with this number, if it is a reference
-abbrev pub of_site : ℕ → ℕ → Point → ℕ → Tree → List Helper
-of_site own piece linear site (reference place m) = helper_of own piece site (first_moving linear m)
-of_site own piece linear site _ = []
-
-abbrev pub of_places : ℕ → ℕ → Point → List Place → List Helper
-of_places own piece linear ps = flat_map (λ p. of_site own piece linear p.site p.tree) ps
+use Rattle.av_flat.specs.Broadcasts.{lists_of}
 
 -- the map is within its limits, and these are all points of so many entries 0, 1 and -1 as it has indices
 abbrev pub IsFineMap : List Point → Map → Type 0

@@ -1,5 +1,5 @@
 -- The directions along which references read one point. Only private contracts cite this.
-use Rattle.std.specs.Prelude.{ℕ, map, ◌≤◌, List, [], ◌∷◌, length, All, not, filter}
+use Rattle.std.specs.Prelude.{ℕ, map, ◌≤◌, List, length, All, not, filter}
 use Rattle.std.specs.List.{list_any}
 use Rattle.av_affine.specs.Forms.{IsWithinLimits}
 use Rattle.av_tree.specs.Points.{Point}
@@ -10,11 +10,6 @@ use Rattle.av_flat.specs.Broadcasts.{Reference, along, is_broadcast, moves}
 pub record IsSmallReference (r : Reference) : Type 0 where
   pub few : r.map.from ≤ 4
   pub rows : All IsWithinLimits r.map.rows
-
--- the reference that a tree is, if it is one
-abbrev pub reference_at : Tree → List Reference
-reference_at (reference place m) = record { place = place; map = m } ∷ []
-reference_at _ = []
 
 -- for each broadcast among references the directions along which it reads one point
 abbrev pub ways_of : List Reference → List (List Point)

@@ -1,7 +1,7 @@
 -- Pieces of nodes with the cells of the node, references to inputs in them, and the ports that are found up to these.
 use Rattle.std.specs.Prelude.{◌≡◌, ℕ, ◌+◌, ◌<◌, ◌≤◌, ◌^◌, IsTrue, Some, slice_get, length}
 use Rattle.av_flat.specs.declared.timed.Timed.{Timed}
-use Rattle.av_flat.specs.Trees.{Tree, Piece, Variable, FlatSystem, view_piece, view_variable, view_system, reference}
+use Rattle.av_flat.specs.Trees.{Tree, Piece, Variable, FlatSystem, view_piece, view_variable, view_system}
 use Rattle.av_flat.specs.Broadcasts.{references}
 use Rattle.av_flat.specs.Nodes.{nodes, node_place}
 use Rattle.av_flat.specs.Signatures.{signatures, is_input}
@@ -39,11 +39,6 @@ pub record IsPart (at : NodePiece) (j : ℕ) (t : Tree) : Type 0 where
   pub fits : Fits (signatures (view_system at.timed.now.flat)) at.piece.now.domain.dim t
   pub rows : EachPart HasSmallRows t
   pub few : j + length (references t) < 2 ^ 32
-
--- the number of the next reference behind a place that reads
-abbrev pub number_behind : ℕ → Tree → ℕ
-number_behind n (reference place m) = n + 1
-number_behind n _ = n
 
 -- the reference with this number in the piece
 pub record IsInputSite (at : NodePiece) (j : ℕ) (site : InputSite) : Type 0 where

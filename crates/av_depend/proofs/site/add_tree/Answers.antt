@@ -1,4 +1,5 @@
 use Rattle.std.proofs.Common.{rules, ◌≡◌, ◌∙◌, ◌<◌, ◌≤◌, List, length, map, take, sym, ap, subst}
+use Rattle.std.proofs.lemmas.List.Folds.{flat_map-map}
 use Rattle.std.specs.List.{flat_map, AllByRecursion}
 use Rattle.std.proofs.lemmas.List.Elements.{All-from_recursion}
 use Rattle.av_flat.specs.Signatures.{signatures}
@@ -8,7 +9,7 @@ use Rattle.av_flat.specs.WellFormed.{Fits}
 use Rattle.av_flat.proofs.Reading.{each_place}
 use Rattle.av_depend.specs.Sites.{Site}
 use Rattle.av_depend.specs.inner.Adding.{HasAdded, sites_at}
-use Rattle.av_depend.proofs.Adds.{added_nothing, added_both, flat_take_more, flat_map_map, at_mapped, sites_gathered}
+use Rattle.av_depend.proofs.Adds.{added_nothing, added_both, flat_take_more, at_mapped, sites_gathered}
 use Rattle.av_depend.proofs.site.add_tree.Goals as goal
 use Rattle.av_base.proofs.Lists.{take_whole}
 
@@ -23,7 +24,7 @@ add_place-requires-clause-fits c =
     let items = c.as_slice-place-items.result.now in
     let l : c.loop-place.place-index < length items = search rules in
     let are : map place_of items ≡ places_in 0 0 (view c.args.tree.now) = ap (λ (ps : List PlaceMade). map place_of ps) c.as_slice-place-items.ensures ∙ c.in_ok-places.ensures in
-    let each = subst (AllByRecursion P) (sym are) (each_place (λ n t. Fits vs dim t) (λ n g l r h. h) (λ n l o r x y h. h) 0 0 (view c.args.tree.now) c.requires.fits) in
+    let each = subst (AllByRecursion P) (sym are) (each_place (Fits vs dim) (λ g l r h. h) (λ l o r x y h. h) 0 0 (view c.args.tree.now) c.requires.fits) in
     at_mapped P place_of items c.loop-place.place-index c.place-item.result (All-from_recursion P (map place_of items) each) l c.place-item.is
 
 pub loop-place-preserved : goal.loop-place-preserved
@@ -47,5 +48,5 @@ returns c =
     let items = c.as_slice-place-items.result.now in
     let over : length items ≤ c.loop-place.place-index = search rules in
     let are : map place_of items ≡ places_in 0 0 (view c.args.tree.now) = ap (λ (ps : List PlaceMade). map place_of ps) c.as_slice-place-items.ensures ∙ c.in_ok-places.ensures in
-    let whole = ap (flat_map f) (take_whole items c.loop-place.place-index over) ∙ sym (flat_map_map g place_of items) ∙ ap (flat_map g) are ∙ sites_gathered c.args.node set 0 0 (view c.args.tree.now) in
+    let whole = ap (flat_map f) (take_whole items c.loop-place.place-index over) ∙ sym (flat_map-map g place_of items) ∙ ap (flat_map g) are ∙ sites_gathered c.args.node set 0 0 (view c.args.tree.now) in
     subst (λ (sites : List Site). HasAdded s sites c.args.edges.now c.loop-place.edges) whole c.loop-place.invariant
