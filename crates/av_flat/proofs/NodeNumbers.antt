@@ -2,7 +2,7 @@
 use Rattle.std.proofs.Common.{◌≡◌, ℕ, zero, suc, ◌+◌, ◌<◌, ◌≤◌, Bool, true, false, if◌then◌else◌, Some, List, [], ◌∷◌, ◌++◌, length, map, take, get_or, refl, sym, ap, ◌∙◌, arith, length-append}
 use Rattle.std.specs.Prelude.{slice_get, filter}
 use Rattle.std.specs.Option.{option_map}
-use Rattle.std.proofs.lemmas.Option.{slice_get-map, slice_get-get_or, slice_get_within, get_or_from_slice_get}
+use Rattle.std.proofs.lemmas.Option.{slice_get-map, slice_get-get_or, slice_get_within}
 use Rattle.std.proofs.lemmas.List.{take_all, length-map}
 use Rattle.std.proofs.lemmas.List.FromFn.{length-map-range_with_len, get_or-map-range_with_len}
 use Rattle.std.proofs.lemmas.List.Elements.{filter_more, All-filter}
@@ -124,9 +124,6 @@ place_of_node s n l =
 
 pub node_in_places : (s : FlatSystem) (places : List ℕ) (n : ℕ) → places ≡ places_of s → n < length (nodes s) → n < length places
 node_in_places s places n e l = slice_get_within places n (node_place s n) (ap (λ (xs : List ℕ). slice_get xs n) e ∙ place_of_node s n l)
-
-pub place_listed : (s : FlatSystem) (places : List ℕ) (n d : ℕ) → places ≡ places_of s → n < length (nodes s) → get_or places n d ≡ node_place s n
-place_listed s places n d e l = get_or_from_slice_get places n (node_place s n) d (ap (λ (xs : List ℕ). slice_get xs n) e ∙ place_of_node s n l)
 
 pub number_listed : (flat : Flat) (numbers : List ℕ) (place d : ℕ) → numbers ≡ numbers_of (view_system flat) → place < length flat.vars → get_or numbers place d ≡ number_at (view_system flat) place
 number_listed flat numbers place d e l =

@@ -2,7 +2,7 @@
 
 ghost use Rattle.std.specs.Prelude.{◌≡◌, ◌<◌, ◌≤◌, length, Some, slice_get, IfOk};
 ghost use Rattle.av_flat.specs.Trees.{view_system, view_variable};
-ghost use Rattle.av_flat.specs.Nodes.{nodes, number_at, node_place, places_of, numbers_of};
+ghost use Rattle.av_flat.specs.Nodes.{nodes, number_at, places_of, numbers_of};
 
 use crate::flat::{Flat, Var};
 use av_base::{List, Memory};
@@ -127,14 +127,6 @@ impl<'a> Nodes<'a> {
         // So few variables that 32 bits number them.
         let _most = self.flat.vars.len();
         self.numbers.as_slice()[place]
-    }
-
-    /// The place of a node among the variables.
-    pub fn place(&self, node: usize) -> usize
-        requires { node < length (nodes (view_system self.now)) }
-        ensures { result ≡ node_place (view_system self.now) node }
-    {
-        self.places.as_slice()[node]
     }
 
     /// The variable of a node.
