@@ -125,6 +125,14 @@ place_of_node s n l =
 pub node_in_places : (s : FlatSystem) (places : List ℕ) (n : ℕ) → places ≡ places_of s → n < length (nodes s) → n < length places
 node_in_places s places n e l = slice_get_within places n (node_place s n) (ap (λ (xs : List ℕ). slice_get xs n) e ∙ place_of_node s n l)
 
+pub place_in_numbers : (flat : Flat) (numbers : List ℕ) (place : ℕ) → numbers ≡ numbers_of (view_system flat) → place < length flat.vars → place < length numbers
+place_in_numbers flat numbers place e l =
+    let s = view_system flat in
+    let many = length-map-range_with_len (number_at s) 0 (length s.variables) in
+    let all = length-map flat.vars view_variable in
+    let f = ap (λ (xs : List ℕ). length xs) e in
+    omega (arith, many, all, f, l)
+
 pub number_listed : (flat : Flat) (numbers : List ℕ) (place d : ℕ) → numbers ≡ numbers_of (view_system flat) → place < length flat.vars → get_or numbers place d ≡ number_at (view_system flat) place
 number_listed flat numbers place d e l =
     let s = view_system flat in
@@ -139,6 +147,15 @@ node_passes s n v e = (passing is_node s.variables n v e).passes
 
 pub chained_node : (s : FlatSystem) (n : ℕ) (v : Variable) → IsChained s → slice_get (nodes s) n ≡ Some v → IsChainedVariable s v
 chained_node s n v chained e = all_at (IsChainedVariable s) (nodes s) n v (All-filter is_node (IsChainedVariable s) s.variables chained.each) e
+
+-- the place of a node is one of the variables
+pub node_listed : (flat : Flat) (vars : List Var) (places : List ℕ) (n : ℕ) → vars ≡ flat.vars → places ≡ places_of (view_system flat) → n < length (nodes (view_system flat)) → get_or places n 0 < length vars
+node_listed flat vars places n f e l =
+    let at = node_at_place (view_system flat) places n 0 e (node_in_places (view_system flat) places n e l) in
+    let k = slice_get_within (view_system flat).variables (get_or places n 0) at.variable at.is_variable in
+    let m = length-map flat.vars view_variable in
+    let g = ap (λ (xs : List Var). length xs) f in
+    omega (arith, k, m, g)
 
 -- ---- variables as they lie in memory
 

@@ -1,24 +1,18 @@
-use Rattle.std.proofs.Common.{◌≡◌, ◌∙◌, ◌<◌, ℕ, List, length, get_or, sym, ap, subst, arith}
-use Rattle.std.proofs.lemmas.List.{length-map}
-use Rattle.std.proofs.lemmas.List.FromFn.{length-map-range_with_len, get_or-map-range_with_len}
+use Rattle.std.proofs.Common.{◌∙◌, ◌<◌, length, sym, ap, subst, arith}
 use Rattle.av_flat.specs.declared.flat.Flat.{Flat}
-use Rattle.av_flat.specs.Trees.{view_system, view_variable}
+use Rattle.av_flat.specs.Trees.{view_system}
 use Rattle.av_flat.specs.Nodes.{number_at}
-use Rattle.av_flat.proofs.NodeNumbers.{number_within, number_listed}
+use Rattle.av_flat.proofs.NodeNumbers.{number_within, place_in_numbers, number_listed}
 use Rattle.av_flat.proofs.nodes.Nodes.number.Goals as goal
 
 pub bounds-as_slice-place : goal.bounds-as_slice-place
 bounds-as_slice-place c =
-    let flat = c.self.inside.flat.now in
-    let s = view_system flat in
-    let many = length-map-range_with_len (number_at s) 0 (length s.variables) in
-    let all = length-map flat.vars view_variable in
-    let e = ap (length {A = ℕ}) (c.as_slice.ensures ∙ c.self.invariant.1) in
-    let l : c.args.place < length flat.vars = subst (λ (f : Flat). c.args.place < length f.vars) (sym c.self.view_is) c.requires in
-    omega (arith, many, all, e, l)
+    place_in_numbers c.self.inside.flat.now c.as_slice.result.now c.args.place (c.as_slice.ensures ∙ c.self.invariant.1) (subst (λ (f : Flat). c.args.place < length f.vars) (sym c.self.view_is) c.requires)
 
 pub offset_bounds-as_slice-place : goal.offset_bounds-as_slice-place
-offset_bounds-as_slice-place c = let within = bounds-as_slice-place c in omega arith
+offset_bounds-as_slice-place c =
+    let within = place_in_numbers c.self.inside.flat.now c.as_slice.result.now c.args.place (c.as_slice.ensures ∙ c.self.invariant.1) (subst (λ (f : Flat). c.args.place < length f.vars) (sym c.self.view_is) c.requires) in
+    omega arith
 
 pub returns-clause-is : goal.returns-clause-is
 returns-clause-is c =
