@@ -1,5 +1,5 @@
 -- The first direction that moves a reference, among points that are gone through.
-use Rattle.std.proofs.Common.{◌≡◌, ℕ, zero, suc, ◌+◌, ◌<◌, ◌≤◌, ℤ, pos, negsuc, unsigned_abs, map, ◌+ℤ◌, ◌*ℤ◌, Bool, true, false, not, ◌&&◌, if◌then◌else◌, Option, Some, List, [], ◌∷◌, ◌++◌, length, filter, replicate, get_or, slice_get, refl, sym, ap, subst, ◌∙◌, arith, All, Result, Ok, Err, OnOk}
+use Rattle.std.proofs.Common.{◌≡◌, ℕ, zero, suc, ◌+◌, ◌<◌, ◌≤◌, ℤ, pos, negsuc, unsigned_abs, map, ◌+ℤ◌, ◌*ℤ◌, Bool, true, false, not, ◌&&◌, if◌then◌else◌, Option, Some, List, [], ◌∷◌, ◌++◌, length, filter, replicate, get_or, slice_get, refl, sym, ap, subst, ◌∙◌, arith, All}
 use Rattle.std.specs.List.{AllByRecursion, flat_map}
 use Rattle.std.proofs.lemmas.List.Elements.{All-from_recursion}
 use Rattle.std.proofs.lemmas.Int.{ints}
@@ -102,7 +102,3 @@ small_directions ws n e =
     go : (xs : List Point) → AllByRecursion Small xs → AllByRecursion (AtMost 4095) xs
     go [] h = tt
     go (w ∷ xs) h = (All-from_recursion (λ x. unsigned_abs x ≤ 4095) w h.0, go xs h.1)
-
-pub on_ok : {T E : Type 0} {P Q : Type 0} (r : Result T E) → OnOk r P → (P → Q) → OnOk r Q
-on_ok (Ok x) h f = f h
-on_ok (Err e) h f = h
