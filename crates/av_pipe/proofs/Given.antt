@@ -9,7 +9,7 @@ use Rattle.av_flat.specs.declared.timed.Time.{Time}
 use Rattle.av_flat.specs.declared.timed.Helper.{Helper}
 use Rattle.av_flat.specs.declared.timed.Timed.{Timed}
 use Rattle.av_flat.specs.Chained.{IsChained}
-use Rattle.av_flat.specs.Legal.{IsMoving, IsLegal, HasAllHelpers}
+use Rattle.av_flat.specs.Legal.{IsMoving, IsLegal}
 use Rattle.av_flat.specs.Schedules.{IsSchedule}
 use Rattle.av_flat.specs.Helped.{helped_shows_of}
 use Rattle.av_pipe.specs.Pipelines.{pipelines}

@@ -1,5 +1,5 @@
 -- What is computed stands behind what it is computed from: in a later cycle, or in the same at a higher rank.
-use Rattle.std.proofs.Common.{◌≡◌, ℕ, zero, suc, ℤ, pos, ◌+ℤ◌, ◌≤ℤ◌, ◌<◌, ◌⊎◌, inl, inr, IsTrue, Some, [], ◌++◌, slice_get, refl, sym, ap, subst, ◌∙◌, arith}
+use Rattle.std.proofs.Common.{◌≡◌, ℕ, zero, suc, ℤ, pos, ◌+ℤ◌, ◌≤ℤ◌, ◌<◌, ◌⊎◌, inl, inr, IsTrue, Some, ◌++◌, slice_get, refl, sym, ap, subst, ◌∙◌, arith}
 use Rattle.std.proofs.lemmas.Int.{ints}
 use Rattle.std.proofs.lemmas.List.Elements.{recursion_from_All}
 use Rattle.av_affine.specs.Maps.{image}
