@@ -3,7 +3,7 @@ use Rattle.std.specs.Prelude.{slice_get}
 use Rattle.av_flat.specs.declared.flat.Flat.{Flat}
 use Rattle.av_flat.specs.Nodes.{nodes}
 use Rattle.av_flat.specs.Trees.{view_system, view_variable}
-use Rattle.av_flat.specs.Chained.{IsChained, IsChainedVariable}
+use Rattle.av_flat.specs.Chained.{IsChained}
 use Rattle.av_flat.proofs.NodeNumbers.{chained_node}
 use Rattle.av_depend.specs.Sites.{sites_of}
 use Rattle.av_depend.specs.inner.Adding.{HasAdded}
