@@ -14,8 +14,8 @@ ghost use Rattle.av_best.specs.inner.Spans.{IsSpanOver, ArePointsOf, AreSpansAt,
 use av_base::{List, Memory, Point};
 use av_depend::generating_points;
 use av_elim::box_of;
-use av_flat::{Flat, Reach};
-use av_sched::{place_of, products};
+use av_flat::{Flat, Reach, place_of};
+use av_sched::products;
 use std::alloc::Global;
 
 // The least and the greatest value of a linear part over the points of a node.

@@ -9,13 +9,13 @@ use Rattle.av_base.proofs.Widths.{width_is}
 use Rattle.av_flat.specs.declared.timed.Helper.{Helper}
 use Rattle.av_flat.specs.Trees.{Tree, Piece, Variable, FlatSystem, view_piece, view_variable, reference}
 use Rattle.av_flat.specs.Broadcasts.{Reference}
-use Rattle.av_flat.specs.Nodes.{nodes}
+use Rattle.av_flat.specs.Nodes.{nodes, node_place}
 use Rattle.av_space.specs.declared.array.Array.{Array as ArrayMade}
 use Rattle.av_space.specs.declared.spots.Site.{Site as PlaceMade}
 use Rattle.av_space.specs.declared.spots.Spot.{Spot as SpotMade}
-use Rattle.av_space.specs.Sites.{place_of}
+use Rattle.av_flat.specs.Sites.{place_of, Place, places_in}
 use Rattle.av_space.specs.Spots.{system_of, helpers_of, IsSpot, IsSiteOf, AreSites, handing_by}
-use Rattle.av_space.specs.Taps.{node_place, Handing, helper_at, Place, places_in}
+use Rattle.av_space.specs.Taps.{Handing, helper_at}
 use Rattle.av_space.proofs.Elements.{in_range}
 use Rattle.av_kinds.specs.declared.counter.Counter.{Counter}
 use Rattle.av_kinds.specs.declared.program.Inlet.TheVariants.{Pipe}

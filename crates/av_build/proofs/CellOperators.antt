@@ -14,7 +14,7 @@ use Rattle.av_flat.specs.Signatures.{is_computed}
 use Rattle.av_flat.specs.Nodes.{is_node, nodes}
 use Rattle.av_space.specs.Quantities.{IsUse}
 use Rattle.av_space.proofs.ByPlace.{from_map, pairs_by_place}
-use Rattle.av_space.proofs.Nodes.{passing}
+use Rattle.av_flat.proofs.NodeNumbers.{passing}
 use Rattle.av_space.proofs.OneCell.{one_node}
 use Rattle.av_kinds.specs.Programs.{Work, Mode, Lane, Program, lanes_of, IsProgram, is_active}
 use Rattle.av_kinds.specs.Sorts.{Sort, operators, lanes_operators}

@@ -12,7 +12,7 @@ use Rattle.av_space.specs.Spots.{system_of, helpers_of, placings_of, cells_of, C
 use Rattle.av_space.specs.Occupancy.{IsUsed}
 use Rattle.av_space.proofs.ByPlace.{from_map}
 use Rattle.av_space.proofs.Elements.{at_index, in_range}
-use Rattle.av_space.proofs.Nodes.{passing}
+use Rattle.av_flat.proofs.NodeNumbers.{passing}
 use Rattle.av_space.proofs.Scheduling.{scheduled}
 use Rattle.av_space.proofs.Timely.{some_piece_of}
 use Rattle.av_base.proofs.Among.{among_at}

@@ -16,7 +16,7 @@ use Rattle.av_space.specs.Arrays.{IsArrayOf}
 use Rattle.av_space.proofs.OneCell.{Inverts, one_node}
 use Rattle.av_space.proofs.Placed.{inverts}
 use Rattle.av_space.proofs.Elements.{at_index}
-use Rattle.av_space.proofs.Nodes.{passing}
+use Rattle.av_flat.proofs.NodeNumbers.{passing}
 use Rattle.av_space.proofs.Scheduling.{chained_variable, chained_piece, scheduled}
 use Rattle.av_base.proofs.Among.{among_at}
 use Rattle.av_base.proofs.Lists.{some_is}

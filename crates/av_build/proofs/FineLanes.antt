@@ -15,10 +15,10 @@ use Rattle.av_flat.specs.declared.tree.Choice.{Choice}
 use Rattle.av_flat.specs.Trees.{FlatSystem, Tree, reference, constant, binary, choice, restriction, cases, dependence, reduction, pick}
 use Rattle.av_flat.specs.Points.{has}
 use Rattle.av_flat.specs.Values.{picked}
-use Rattle.av_flat.specs.Nodes.{is_node, nodes, number_at}
+use Rattle.av_flat.specs.Nodes.{is_node, nodes, number_at, node_place}
 use Rattle.av_flat.specs.Broadcasts.{references}
 use Rattle.av_depend.specs.ComputedPlaces.{computed_at}
-use Rattle.av_space.specs.Taps.{node_place, Handing, helper_at, each}
+use Rattle.av_space.specs.Taps.{Handing, helper_at, each}
 use Rattle.av_kinds.specs.declared.program.Source.{Source}
 use Rattle.av_kinds.specs.declared.program.Source.TheVariants.{Word, Line}
 use Rattle.av_kinds.specs.declared.program.Link.{Link}

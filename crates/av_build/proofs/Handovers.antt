@@ -7,20 +7,20 @@ use Rattle.av_flat.specs.declared.timed.Helper.{Helper}
 use Rattle.av_flat.specs.Trees.{Tree, Piece, Variable, FlatSystem, view, view_piece, view_variable, reference}
 use Rattle.av_flat.specs.Broadcasts.{Reference, references}
 use Rattle.av_flat.specs.Helped.{before}
-use Rattle.av_flat.specs.Nodes.{nodes, number_at}
+use Rattle.av_flat.specs.Nodes.{is_node, nodes, number_at, node_place}
 use Rattle.av_flat.specs.Points.{has}
 use Rattle.av_flat.specs.Signatures.{signatures}
 use Rattle.av_space.specs.declared.array.Array.{Array as ArrayMade}
 use Rattle.av_space.specs.declared.layout.Slot.{Slot}
 use Rattle.av_space.specs.declared.spots.Site.{Site as PlaceMade}
 use Rattle.av_space.specs.declared.spots.Spot.{Spot as SpotMade}
-use Rattle.av_space.specs.Sites.{place_of}
+use Rattle.av_flat.specs.Sites.{place_of, Place}
 use Rattle.av_space.specs.Spots.{system_of, helpers_of, cells_of, ComputesIn, IsSpot, IsSlotIn, IsSiteOf, IsLinkedBy, handed_tap, handing_by}
-use Rattle.av_space.specs.Taps.{Handing, helper_at, node_place, Place, handed}
+use Rattle.av_space.specs.Taps.{Handing, helper_at, handed}
 use Rattle.av_space.proofs.ByPlace.{from_map}
 use Rattle.av_space.proofs.Elements.{at_index, in_range}
-use Rattle.av_space.proofs.NodePlaces.{node_at}
-use Rattle.av_space.proofs.Nodes.{own_place}
+use Rattle.av_flat.proofs.NodeNumbers.{own_place}
+use Rattle.av_flat.proofs.Cycles.{node_at}
 use Rattle.av_space.proofs.SpotPlaces.{IsPlaceBy, place_read}
 use Rattle.av_space.proofs.SpotReadings.{known}
 use Rattle.av_history.specs.Performing.{IsHelper}
@@ -43,7 +43,7 @@ module _ (b : Blueprint) (is : IsBlueprint b) (j : ℕ) (h : Helper) (v : Variab
   w = b.array
 
   node : slice_get (nodes (system_of w)) (number_at (system_of w) h.var) ≡ Some v
-  node = node_at (system_of w).variables h.var v it.is_variable it.is_node
+  node = node_at is_node (system_of w).variables h.var v it.is_variable it.is_node
 
   plan_there : (plan : CellPlan) × (slice_get b.cells p ≡ Some plan)
   plan_there =

@@ -8,11 +8,11 @@ use Rattle.av_flat.specs.Trees.{Piece, Variable, reference}
 use Rattle.av_flat.specs.Points.{has}
 use Rattle.av_flat.specs.Broadcasts.{Reference}
 use Rattle.av_flat.specs.Helped.{before, IsEntry}
-use Rattle.av_flat.specs.Nodes.{nodes, number_at}
+use Rattle.av_flat.specs.Nodes.{is_node, nodes, number_at}
 use Rattle.av_depend.specs.ComputedPlaces.{computed_at}
 use Rattle.av_space.specs.Taps.{entries}
 use Rattle.av_space.proofs.Elements.{in_range}
-use Rattle.av_space.proofs.NodePlaces.{node_at}
+use Rattle.av_flat.proofs.Cycles.{node_at}
 use Rattle.av_kinds.specs.declared.program.Inlet.{Inlet}
 use Rattle.av_kinds.specs.declared.program.Interval.{Interval}
 use Rattle.av_kinds.specs.declared.program.Site.{Site}
@@ -38,7 +38,7 @@ module _ (a : Array) (count : ℕ → ℕ) (few : (c : ℕ) → count c < 2 ^ 12
   q = lanes.of_helper j p
 
   is_variable : slice_get (nodes a.system) at.node ≡ Some v
-  is_variable = node_at a.system.variables h.var v it.is_variable it.is_node
+  is_variable = node_at is_node a.system.variables h.var v it.is_variable it.is_node
 
   -- ---- its two modes
 

@@ -12,9 +12,9 @@ use Rattle.av_flat.specs.Signatures.{signatures}
 use Rattle.av_space.specs.declared.array.Array.{Array as ArrayMade}
 use Rattle.av_space.specs.declared.spots.Site.{Site as PlaceMade}
 use Rattle.av_space.specs.declared.spots.Spot.{Spot as SpotMade}
-use Rattle.av_space.specs.Sites.{place_of}
+use Rattle.av_flat.specs.Sites.{place_of, Place, places_in}
 use Rattle.av_space.specs.Spots.{system_of, helpers_of, IsArray, IsSpot, IsSiteOf, handing_by}
-use Rattle.av_space.specs.Taps.{Handing, helper_at, Place, places_in}
+use Rattle.av_space.specs.Taps.{Handing, helper_at}
 use Rattle.av_space.proofs.Elements.{at_index, in_range}
 use Rattle.av_space.proofs.Helpers.{found_helper}
 use Rattle.av_space.proofs.SpotPlaces.{IsPlaceBy, place_read}

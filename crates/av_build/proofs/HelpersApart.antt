@@ -8,9 +8,9 @@ use Rattle.av_flat.specs.Trees.{view}
 use Rattle.av_space.specs.declared.array.Array.{Array as ArrayMade}
 use Rattle.av_space.specs.declared.spots.Site.{Site as PlaceMade}
 use Rattle.av_space.specs.declared.spots.Spot.{Spot as SpotMade}
-use Rattle.av_space.specs.Sites.{place_of}
+use Rattle.av_flat.specs.Sites.{place_of, Place, places_in}
 use Rattle.av_space.specs.Spots.{IsArray}
-use Rattle.av_space.specs.Taps.{Handing, Place, places_in}
+use Rattle.av_space.specs.Taps.{Handing}
 use Rattle.av_space.proofs.ByPlace.{pair_at}
 use Rattle.av_kinds.specs.Programs.{AreInTurn}
 use Rattle.av_build.specs.declared.blueprint.CellPlan.{CellPlan}

@@ -10,14 +10,14 @@ use Rattle.av_flat.specs.Chained.{IsOfPartial}
 use Rattle.av_flat.specs.WellFormed.{EachPart, HasWords, is_reduction}
 use Rattle.av_flat.specs.Kept.{IsPlain}
 use Rattle.av_flat.specs.Points.{has}
-use Rattle.av_flat.specs.Nodes.{is_node, nodes}
+use Rattle.av_flat.specs.Nodes.{is_node, nodes, node_place}
 use Rattle.av_space.specs.Coordinates.{Placing}
-use Rattle.av_space.specs.Taps.{node_place, Tap, taps, IsTapRead}
+use Rattle.av_space.specs.Taps.{Tap, taps, IsTapRead}
 use Rattle.av_space.specs.Occupancy.{Computes}
 use Rattle.av_space.specs.Links.{AreLinks}
 use Rattle.av_space.proofs.OneCell.{Inverts, same_point}
 use Rattle.av_space.proofs.Timely.{Scheduled, some_piece_of, one_piece_of, earlier}
-use Rattle.av_space.proofs.Nodes.{passing, own_place}
+use Rattle.av_flat.proofs.NodeNumbers.{passing, own_place}
 use Rattle.av_space.proofs.Placed.{empty}
 use Rattle.av_space.proofs.Helpers.{equal}
 use Rattle.av_base.proofs.Truths.{both}

@@ -30,7 +30,8 @@ use Rattle.av_space.specs.Occupancy.{Computes}
 use Rattle.av_space.specs.Whole.{IsPresented}
 use Rattle.av_space.proofs.ByPlace.{from_map, all_by_place}
 use Rattle.av_space.proofs.Elements.{in_range}
-use Rattle.av_space.proofs.Nodes.{chained_variable, small_of, passing}
+use Rattle.av_flat.proofs.NodeNumbers.{passing}
+use Rattle.av_space.proofs.Nodes.{chained_variable, small_of}
 use Rattle.av_kinds.specs.declared.counter.Counter.{Counter}
 use Rattle.av_kinds.specs.declared.planning.Modules.{Modules}
 use Rattle.av_kinds.specs.Names.{Naming, input_name, output_name, value_name, labels}

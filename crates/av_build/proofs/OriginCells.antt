@@ -11,7 +11,8 @@ use Rattle.av_space.specs.declared.origin.Origin.TheVariants as origin
 use Rattle.av_space.specs.declared.spots.Spot.{Spot as SpotMade}
 use Rattle.av_space.specs.Links.{IsStretch}
 use Rattle.av_space.specs.Spots.{system_of, helpers_of, placings_of, cells_of, IsArray, IsLinkedBy, over_link, IsPickOrigin, IsOriginBy, own_way}
-use Rattle.av_space.specs.Taps.{Handing, Place, each, Tap}
+use Rattle.av_flat.specs.Sites.{Place}
+use Rattle.av_space.specs.Taps.{Handing, each, Tap}
 use Rattle.av_space.proofs.Elements.{in_range}
 
 pub producer_in : (w : ArrayMade) → IsArray w → (at : SpotMade) (c : ℕ) (tap : Tap) (q d : ℕ) → IsLinkedBy w at c tap q d → q < length (cells_of w)

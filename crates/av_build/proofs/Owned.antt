@@ -21,7 +21,7 @@ use Rattle.av_space.specs.declared.cells.Link.{Link as LinkMade}
 use Rattle.av_space.specs.Taps.{Way, each, handed, IsTapRead, helper_of}
 use Rattle.av_space.specs.Links.{line_length}
 use Rattle.av_space.proofs.Elements.{in_range}
-use Rattle.av_space.proofs.NodePlaces.{node_at}
+use Rattle.av_flat.proofs.Cycles.{node_at}
 use Rattle.av_kinds.specs.declared.program.Source.{Source}
 use Rattle.av_kinds.specs.declared.program.Source.TheVariants.{Word, Input, Line}
 use Rattle.av_kinds.specs.Programs.{Lane, Program, IsSource}
@@ -63,7 +63,7 @@ module _ (a : Array) (count : ℕ → ℕ) (lanes : Lanes) (program : Program) (
       → IsTapRead a.system at.node tree way at.piece z (number_at a.system place) y → IsOwned a program w at.cell (Line (lanes.of_value producer) delay)
   value_owned w at c z r site tree way producer delay l plain place y read is_read node wide reads =
       let f = linked a arranged at c z r site tree way producer delay l (number_at a.system place) y reads in
-      let there = g.values producer f.cycle (number_at a.system place) y read f.computes (node_at a.system.variables place read is_read node) in
+      let there = g.values producer f.cycle (number_at a.system place) y read f.computes (node_at is_node a.system.variables place read is_read node) in
       let lane = there.2.2 in
       link_owned w at c z r site tree way producer delay l f.some (lanes.of_value producer) there.2.0 there.2.1 lane.home_is (lane.width_is ∙ wide) (lane.length_is ∙ ap (line_length a.system a.helpers a.cells a.links producer) (sym plain))
 

@@ -8,12 +8,12 @@ use Rattle.av_flat.specs.Trees.{Tree, view, view_piece, view_variable}
 use Rattle.av_space.specs.declared.array.Array.{Array as ArrayMade}
 use Rattle.av_space.specs.declared.spots.Site.{Site as PlaceMade}
 use Rattle.av_space.specs.declared.spots.Spot.{Spot as SpotMade}
-use Rattle.av_space.specs.Sites.{place_of}
+use Rattle.av_flat.specs.Sites.{place_of, Place, places_in}
+use Rattle.av_flat.specs.Nodes.{node_place}
 use Rattle.av_space.specs.Spots.{system_of, placings_of, cells_of, IsArray, IsSpot, AreSites}
-use Rattle.av_space.specs.Taps.{node_place, Place, places_in}
+use Rattle.av_flat.proofs.NodeNumbers.{node_variable}
 use Rattle.av_space.proofs.ByPlace.{from_map}
 use Rattle.av_space.proofs.Elements.{in_range}
-use Rattle.av_space.proofs.Nodes.{node_variable}
 use Rattle.av_space.proofs.Scheduling.{scheduled}
 use Rattle.av_kinds.specs.declared.program.Site.{Site}
 use Rattle.av_history.specs.Performing.{Lanes}

@@ -6,7 +6,7 @@ use Rattle.std.proofs.lemmas.Bool.{cases_lt}
 use Rattle.av_affine.specs.declared.map.Map.{Map}
 use Rattle.av_flat.specs.Trees.{Tree, reference, constant, binary, choice, restriction, cases, dependence, reduction, pick}
 use Rattle.av_flat.specs.Broadcasts.{references}
-use Rattle.av_space.specs.Taps.{Place, places_in}
+use Rattle.av_flat.specs.Sites.{Place, places_in}
 use Rattle.av_space.proofs.Elements.{each_at}
 use Rattle.av_base.proofs.Lists.{each_append, each_weaker, some_is}
 

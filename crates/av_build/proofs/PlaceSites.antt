@@ -5,7 +5,7 @@ use Rattle.av_flat.specs.Trees.{Tree, reference, constant, binary, choice, restr
 use Rattle.av_flat.specs.Broadcasts.{references}
 use Rattle.av_flat.specs.Kept.{IsPlain}
 use Rattle.av_flat.specs.WellFormed.{EachPart, is_reduction}
-use Rattle.av_space.specs.Taps.{Place, places_in}
+use Rattle.av_flat.specs.Sites.{Place, places_in}
 use Rattle.av_kinds.specs.Programs.{site_count}
 use Rattle.av_history.specs.Places.{EachPlace}
 use Rattle.av_build.proofs.Appended.{get_right}

@@ -12,9 +12,10 @@ use Rattle.av_space.specs.declared.origin.Origin.{Origin}
 use Rattle.av_space.specs.declared.origin.Origin.TheVariants as origin
 use Rattle.av_space.specs.declared.spots.Site.{Site as PlaceMade}
 use Rattle.av_space.specs.declared.spots.Spot.{Spot as SpotMade}
-use Rattle.av_space.specs.Sites.{place_of}
+use Rattle.av_flat.specs.Sites.{place_of, Place}
+use Rattle.av_flat.specs.Nodes.{node_place}
 use Rattle.av_space.specs.Spots.{IsSpot, IsSiteOf, IsLinkedBy, IsReferenceOrigin, at_port, over_link, IsPickOrigin, IsOriginBy, own_way, handed_tap, handing_by, helpers_of, system_of}
-use Rattle.av_space.specs.Taps.{Handing, helper_at, node_place, Place, Way, each, handed}
+use Rattle.av_space.specs.Taps.{Handing, helper_at, Way, each, handed}
 use Rattle.av_space.proofs.SpotPlaces.{place_read}
 use Rattle.av_kinds.specs.declared.program.Source.{Source}
 use Rattle.av_kinds.specs.declared.program.Source.TheVariants.{Word, Input, Line}

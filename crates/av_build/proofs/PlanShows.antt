@@ -18,7 +18,7 @@ use Rattle.av_net.specs.Flat.{flat_module, flat_of}
 use Rattle.av_net.specs.Shown.{HasListed, Presents as PresentsWords, Shows}
 use Rattle.av_space.specs.Listings.{InLine, AreInLines, IsWireOf, output, value, AtLine, IsAtLine, AreAtLines}
 use Rattle.av_space.proofs.Elements.{in_range}
-use Rattle.av_space.proofs.Nodes.{passing}
+use Rattle.av_flat.proofs.NodeNumbers.{passing}
 use Rattle.av_kinds.specs.declared.counter.Counter.{Counter}
 use Rattle.av_kinds.specs.declared.planning.Modules.{Modules}
 use Rattle.av_kinds.specs.Programs.{Program}

@@ -16,9 +16,8 @@ use Rattle.av_space.specs.declared.cells.InPort.{InPort}
 use Rattle.av_space.specs.declared.spots.Site.{Site as PlaceMade}
 use Rattle.av_space.specs.declared.spots.Spot.{Spot as SpotMade}
 use Rattle.av_space.specs.Ports.{IsPort}
-use Rattle.av_space.specs.Sites.{place_of}
+use Rattle.av_flat.specs.Sites.{place_of, Place}
 use Rattle.av_space.specs.Spots.{system_of, helpers_of, placings_of, cells_of, ComputesIn, IsSpot, IsSiteOf}
-use Rattle.av_space.specs.Taps.{Place}
 use Rattle.av_space.proofs.ByPlace.{from_map}
 use Rattle.av_space.proofs.Elements.{in_range}
 use Rattle.av_space.proofs.Helpers.{equal}

@@ -9,9 +9,8 @@ use Rattle.av_tree.specs.Points.{Point}
 use Rattle.av_flat.specs.Trees.{Tree, Piece, Variable}
 use Rattle.av_flat.specs.Points.{has}
 use Rattle.av_flat.specs.Signatures.{is_computed}
-use Rattle.av_flat.specs.Nodes.{is_node, nodes}
-use Rattle.av_space.specs.Taps.{node_place}
-use Rattle.av_space.proofs.Nodes.{passing, own_place}
+use Rattle.av_flat.specs.Nodes.{is_node, nodes, node_place}
+use Rattle.av_flat.proofs.NodeNumbers.{passing, own_place}
 use Rattle.av_kinds.specs.declared.program.CellLanes.{CellLanes}
 use Rattle.av_kinds.specs.declared.program.Interval.{Interval}
 use Rattle.av_kinds.specs.Programs.{has_number, is_active, site_count, Mode, Lane, Program, FitsTree, IsModeOf, IsLaneOf}

@@ -4,14 +4,13 @@ use Rattle.std.specs.Prelude.{slice_get}
 use Rattle.av_base.proofs.Lists.{some_is}
 use Rattle.av_tree.specs.Points.{Point}
 use Rattle.av_flat.specs.Trees.{Piece, Variable, FlatSystem, view_piece, view_variable}
-use Rattle.av_flat.specs.Nodes.{is_node, nodes, number_at}
+use Rattle.av_flat.specs.Nodes.{is_node, nodes, number_at, node_place}
 use Rattle.av_space.specs.declared.array.Array.{Array as ArrayMade}
 use Rattle.av_space.specs.declared.cells.Cell.{Cell}
 use Rattle.av_space.specs.declared.spots.Spot.{Spot as SpotMade}
 use Rattle.av_space.specs.Spots.{system_of, cells_of, ComputesIn, IsSpot, IsSlotIn}
-use Rattle.av_space.specs.Taps.{node_place}
 use Rattle.av_space.proofs.Elements.{at_index}
-use Rattle.av_space.proofs.Nodes.{passing, own_place}
+use Rattle.av_flat.proofs.NodeNumbers.{passing, own_place}
 use Rattle.av_build.specs.inner.Blueprints.{seen, spot_of}
 use Rattle.av_build.proofs.MomentLemmas.{AreSpotSlots}
 

@@ -18,7 +18,7 @@ use Rattle.av_space.specs.declared.cells.InPort.{InPort}
 use Rattle.av_space.specs.declared.cells.Link.{Link as LinkMade}
 use Rattle.av_space.specs.Taps.{Way, Handing, each, entries, handed, IsTapRead}
 use Rattle.av_space.proofs.Elements.{in_range}
-use Rattle.av_space.proofs.NodePlaces.{node_at}
+use Rattle.av_flat.proofs.Cycles.{node_at}
 use Rattle.av_kinds.specs.declared.program.Source.{Source}
 use Rattle.av_kinds.specs.declared.program.Source.TheVariants.{Word, Input, Line}
 use Rattle.av_kinds.specs.declared.program.Link.{Link}
@@ -56,7 +56,7 @@ module _ (a : Array) (count : ℕ → ℕ) (lanes : Lanes) (program : Program) (
       → IsOf a program at.cell (Line (lanes.of_value producer) delay)
   value_is at c z r site tree way producer delay l place y read is_read node reads =
       let f = linked a arranged at c z r site tree way producer delay l (number_at a.system place) y reads in
-      let there = g.values producer f.cycle (number_at a.system place) y read f.computes (node_at a.system.variables place read is_read node) in
+      let there = g.values producer f.cycle (number_at a.system place) y read f.computes (node_at is_node a.system.variables place read is_read node) in
       line_is a program at.cell (lanes.of_value producer) delay (there.2.0, there.2.1, (l.link, l.is_link, l.in_link.0, sym l.producer_is ∙ sym there.2.2.home_is))
 
   reference_is : (at : Spot) (c : ℕ) (z : Point) → Reading a at c z → (i place : ℕ) (m : Map) (way : Way) → IsTapRead a.system at.node (reference place m) way at.piece z (number_at a.system place) (image m.rows z)
@@ -158,7 +158,7 @@ module _ (a : Array) (count : ℕ → ℕ) (lanes : Lanes) (program : Program) (
   lane_is : (first p q : ℕ) (lane : Lane) → IsLaneFor a count lanes first p q lane → (lane.home ≡ p) × ModesAreOf p lane
   lane_is first p q lane (of_value c n z v computes is_variable at is) = (is.home_is, value_lane_is first p n v is_variable lane is)
   lane_is first p q lane (of_helper j h v piece r is c z computes inside at low high l) =
-      (l.home_is, helper_lane_is j h v piece r is p (node_at a.system.variables h.var v is.is_variable is.is_node) lane l)
+      (l.home_is, helper_lane_is j h v piece r is p (node_at is_node a.system.variables h.var v is.is_variable is.is_node) lane l)
 
   -- what a place of a lane of the cell p takes
   pub taken : IsProgram program → (p : ℕ) (source : Source) → Takes program p source → IsOf a program p source

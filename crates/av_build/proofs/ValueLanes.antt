@@ -16,7 +16,7 @@ use Rattle.av_space.specs.Links.{line_length}
 use Rattle.av_space.specs.Spots.{system_of, helpers_of, placings_of, cells_of, ComputesIn, IsSpot, IsSlotIn, AreSpots}
 use Rattle.av_space.proofs.ByPlace.{from_map, pair_at}
 use Rattle.av_space.proofs.Elements.{at_index, in_range}
-use Rattle.av_space.proofs.Nodes.{passing}
+use Rattle.av_flat.proofs.NodeNumbers.{passing}
 use Rattle.av_space.proofs.OneCell.{one_node}
 use Rattle.av_kinds.specs.declared.counter.Counter.{Counter}
 use Rattle.av_kinds.specs.Counters.{count_in}

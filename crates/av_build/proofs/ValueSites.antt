@@ -12,9 +12,10 @@ use Rattle.av_flat.specs.Signatures.{signatures}
 use Rattle.av_space.specs.declared.array.Array.{Array as ArrayMade}
 use Rattle.av_space.specs.declared.spots.Site.{Site as PlaceMade}
 use Rattle.av_space.specs.declared.spots.Spot.{Spot as SpotMade}
-use Rattle.av_space.specs.Sites.{place_of}
+use Rattle.av_flat.specs.Sites.{place_of, Place}
+use Rattle.av_flat.specs.Nodes.{node_place}
 use Rattle.av_space.specs.Spots.{system_of, helpers_of, ComputesIn, IsSpot, IsSlotIn, IsSiteOf, handing_by}
-use Rattle.av_space.specs.Taps.{Handing, helper_at, node_place, Place}
+use Rattle.av_space.specs.Taps.{Handing, helper_at}
 use Rattle.av_space.proofs.Elements.{at_index}
 use Rattle.av_space.proofs.SpotPlaces.{IsPlaceBy, place_read}
 use Rattle.av_space.proofs.SpotReadings.{known}

@@ -48,7 +48,7 @@ fn is_reference(site: &Site<'_>, number: usize) -> bool
     ensures { result ≡ is_reference_at number site.now.place.site (view site.now.place.tree) }
 {
     match site.place.tree {
-        Tree::Ref { .. } => site.place.site == number,
+        Tree::Ref { .. } => site.place.site as usize == number,
         _ => false,
     }
 }

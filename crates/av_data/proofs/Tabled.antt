@@ -1,14 +1,11 @@
 -- Lines of cells that are written one after another.
-use Rattle.std.proofs.Common.{◌≡◌, ℕ, zero, suc, ◌+◌, ◌<◌, List, [], ◌∷◌, ◌++◌, length, get_or, take, Option, Some, option_map, true, sym, ap, subst, ◌∙◌, append_assoc, arith, All, map}
-use Rattle.std.specs.Prelude.{slice_get, filter}
-use Rattle.std.proofs.lemmas.List.{append-nil, take-map, get_or_default}
-use Rattle.std.proofs.lemmas.Option.{slice_get-get_or, slice_get-map, slice_get_within}
+use Rattle.std.proofs.Common.{◌≡◌, ℕ, zero, suc, ◌+◌, ◌<◌, List, [], ◌∷◌, ◌++◌, length, get_or, take, Option, Some, sym, ap, subst, ◌∙◌, append_assoc, arith, All}
+use Rattle.std.specs.Prelude.{slice_get}
+use Rattle.std.proofs.lemmas.List.{append-nil, get_or_default}
+use Rattle.std.proofs.lemmas.Option.{slice_get_within}
 use Rattle.std.proofs.lemmas.List.Elements.{All-weaker}
-use Rattle.av_flat.specs.declared.flat.Var.{Var}
-use Rattle.av_flat.specs.declared.flat.Flat.{Flat}
-use Rattle.av_flat.proofs.Cycles.{node_at}
-use Rattle.av_flat.specs.Trees.{FlatSystem, view_variable, view_system}
-use Rattle.av_flat.specs.Nodes.{is_node, nodes}
+use Rattle.av_flat.specs.Trees.{FlatSystem}
+use Rattle.av_flat.specs.Nodes.{nodes}
 use Rattle.av_space.specs.Coordinates.{Placing}
 use Rattle.av_space.specs.Occupancy.{IsUsed, AreCells}
 use Rattle.av_flat.specs.Trees.{Variable}
@@ -26,17 +23,6 @@ cells_more vs p (c ∷ cells) (suc k) d l =
     ∙ ap (λ rest. cell_line vs p c ++ rest) (cells_more vs (suc p) cells k d (omega (arith, l)))
     ∙ sym (append_assoc (cell_line vs p c) (cell_lines vs (suc p) (take k cells)) (cell_line vs (suc p + k) (get_or cells k d)))
     ∙ ap (λ n. (cell_line vs p c ++ cell_lines vs (suc p) (take k cells)) ++ cell_line vs n (get_or cells k d)) number
-
--- the variable at a place is a node, and so many nodes stand before it
-pub found : (flat : Flat) (vars : List Var) (k count node : ℕ) (a : Var) → vars ≡ flat.vars → k < length vars → a ≡ get_or vars k a → is_node (view_variable a) ≡ true
-    → count ≡ length (filter is_node (map view_variable (take k flat.vars))) → count ≡ node → slice_get (nodes (view_system flat)) node ≡ Some (view_variable a)
-found flat vars k count node a same l e is so_far at =
-    let s = view_system flat in
-    let here : slice_get s.variables k ≡ Some (view_variable a) =
-    ap (λ ys. slice_get (map view_variable ys) k) (sym same) ∙ slice_get-map view_variable vars k ∙ ap (option_map view_variable) (slice_get-get_or vars k a l ∙ ap (λ b. Some b) (sym e)) in
-    let n = node_at is_node s.variables k (view_variable a) here is in
-    let many : length (filter is_node (take k s.variables)) ≡ node = ap (λ xs. length (filter is_node xs)) (take-map view_variable k flat.vars) ∙ sym so_far ∙ at in
-    subst (λ (i : ℕ). slice_get (nodes s) i ≡ Some (view_variable a)) many n
 
 -- each cell is of a node
 pub of_nodes : (s : FlatSystem) (placings : List Placing) (cells : List Cell) → AreCells s placings cells → All (λ (c : Cell). c.node < length (nodes s)) cells
@@ -62,6 +48,3 @@ cell_more vs cells k cell other v l is named =
     ∙ ap (λ (x : Cell). lines ++ cell_line vs k x) is
     ∙ ap (λ n. lines ++ cell_line vs n (get_or cells k cell)) number
     ∙ sym (cells_more vs 0 cells k cell l)
-
-pub same_item : (xs : List Var) (k : ℕ) (a b : Var) → k < length xs → a ≡ get_or xs k a → b ≡ get_or xs k b → a ≡ b
-same_item xs k a b l e f = e ∙ get_or_default xs k a b l ∙ sym f

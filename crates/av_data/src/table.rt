@@ -8,7 +8,7 @@ ghost use Rattle.av_space.specs.Arrays.{IsArrayOf};
 ghost use Rattle.av_data.specs.Tables.{named_cell_line, cell_lines, listed_line, totals_line, table_text};
 
 use av_base::{Sink, WriteFault};
-use av_flat::{Flat, Timed, Var};
+use av_flat::{Flat, Timed, Var, place_of};
 use av_net::Entry;
 use av_page::Page;
 use av_space::{Cell, Cells};
@@ -44,18 +44,9 @@ fn node_at(flat: &Flat, node: u32) -> &Var
     requires { node < length (nodes (view_system flat.now)) }
     ensures { slice_get (nodes (view_system flat.now)) node ≡ Some (view_variable result.now) }
 {
+    let place = place_of(flat, node as usize);
     let vars = flat.vars.as_slice();
-    let mut count = 0;
-    for k in 0..vars.len() {
-        if !vars[k].is_node() {
-            continue;
-        }
-        if count == node {
-            return &vars[k];
-        }
-        count += 1;
-    }
-    unreachable!()
+    &vars[place]
 }
 
 // A line for each cell.

@@ -3,8 +3,7 @@ use Rattle.std.proofs.Common.{◌≡◌, ℕ, zero, suc, ◌+◌, ◌<◌, ◌�
 use Rattle.std.specs.Prelude.{Contains, filter, slice_get}
 use Rattle.std.specs.List.{flat_map}
 use Rattle.std.proofs.lemmas.List.{append-nil, length-map}
-use Rattle.std.proofs.lemmas.Option.{slice_get-map, slice_get-get_or, slice_get_within}
-use Rattle.std.specs.Option.{option_map}
+use Rattle.std.proofs.lemmas.Option.{slice_get_within}
 use Rattle.std.proofs.lemmas.List.Elements.{All-filter, filter_passes}
 use Rattle.std.proofs.lemmas.List.Kept.{AllPairs-filter}
 use Rattle.av_affine.specs.declared.form.Form.{Form}
@@ -14,18 +13,23 @@ use Rattle.av_poly.specs.declared.poly.Bounds.{Bounds}
 use Rattle.av_poly.specs.Points.{Set}
 use Rattle.av_tree.specs.Points.{Point}
 use Rattle.av_flat.specs.declared.flat.Var.{Var}
-use Rattle.av_flat.specs.Trees.{Variable, FlatSystem, view_variable}
+use Rattle.av_flat.specs.declared.tree.Choice.{Choice}
+use Rattle.av_flat.specs.declared.tree.Tree.{Tree as TreeMade}
+use Rattle.av_flat.specs.declared.tree.Tree.TheVariants as made
+use Rattle.av_flat.specs.Trees.{Tree, Variable, FlatSystem, view, view_variable}
+use Rattle.av_flat.specs.Sites.{Place, places_in}
+use Rattle.av_flat.proofs.Reading.{IsByParts, gathered}
 use Rattle.av_flat.proofs.Sets.{has_is}
 use Rattle.av_flat.specs.Points.{has}
 use Rattle.av_depend.specs.declared.edge.Edge.{Edge}
 use Rattle.av_depend.specs.ComputedPlaces.{computed_at}
-use Rattle.av_depend.specs.Sites.{Site, both, HasPair, sites_of, sites_from}
+use Rattle.av_depend.specs.Sites.{Site, both, HasPair, sites_in, sites_of, sites_from}
 use Rattle.av_flat.specs.Order.{IsBefore}
 use Rattle.av_depend.specs.Edges.{IsEdge, AreEdges, ended, without, with_pair}
 use Rattle.av_elim.specs.Extents.{IsInside}
 use Rattle.av_depend.specs.AllPoints.{AreAllPoints}
 use Rattle.av_depend.specs.SetPoints.{IsPointOf}
-use Rattle.av_depend.specs.inner.Adding.{IsComputedAt, HasAdded, site_at}
+use Rattle.av_depend.specs.inner.Adding.{IsComputedAt, HasAdded, site_at, sites_at}
 use Rattle.av_base.proofs.Among.{first_among, more_among, among_cases, none_among}
 use Rattle.av_depend.proofs.Covering.{has_both, both_have}
 use Rattle.av_elim.proofs.Boxes.{small_between}
@@ -127,9 +131,6 @@ small_points set extent points few low high inside all = λ k d l.
 
 -- ---- variables at their places
 
-pub variable_at : (vars : List Var) (place : ℕ) (x : Var) → place < length vars → x ≡ get_or vars place x → slice_get (map view_variable vars) place ≡ Some (view_variable x)
-variable_at vars place x l e = slice_get-map view_variable vars place ∙ ap (option_map view_variable) (slice_get-get_or vars place x l ∙ ap Some (sym e))
-
 pub computed_here : (s : FlatSystem) (place : ℕ) → computed_at (slice_get s.variables place) ≡ true → IsComputedAt s place
 computed_here s place t = by_variable (slice_get s.variables place) refl t
   where
@@ -164,10 +165,6 @@ flat_take_more f xs k x l e = rw add-one (go f xs k x l e)
     go f (y ∷ xs) zero x l e = append-nil (f y) ∙ ap f (sym e)
     go f (y ∷ xs) (suc k) x l e = ap (λ zs. f y ++ zs) (go f xs k x (omega (arith, l)) e) ∙ sym (append_assoc (f y) (flat_map f (take k xs)) (f x))
 
-pub flat_map_map : {X Y Z : Type 0} (f : Y → List Z) (g : X → Y) (xs : List X) → flat_map f (map g xs) ≡ flat_map (λ x. f (g x)) xs
-flat_map_map f g [] = refl
-flat_map_map f g (x ∷ xs) = ap (λ zs. f (g x) ++ zs) (flat_map_map f g xs)
-
 pub sites_from_more : (start : ℕ) (vs : List Variable) (v : Variable) → sites_from start (vs ++ v ∷ []) ≡ sites_from start vs ++ sites_of (start + length vs) v
 sites_from_more start [] v = append-nil (sites_of start v) ∙ ap (λ (n : ℕ). sites_of n v) (omega arith)
 sites_from_more start (w ∷ vs) v =
@@ -178,3 +175,27 @@ pub at_mapped : {X Y : Type 0} (P : Y → Type 0) (f : X → Y) (xs : List X) (k
 at_mapped P f [] k x h l e = absurd (omega (arith, l))
 at_mapped P f (y ∷ xs) zero x h l e = subst P (ap f (sym e)) (h 0 (f x) (omega arith))
 at_mapped P f (y ∷ xs) (suc k) x h l e = at_mapped P f xs k x (λ j d m. h (suc j) d (omega (arith, m))) (omega (arith, l)) e
+
+-- ---- the sites of places
+
+-- where a tree is no reference and no pick
+pub no_sites_at : (node : ℕ) (set : Set) (t : TreeMade) → ((place : ℕ) (m : Map) → t ≡ made.Ref place m → ⊥) → ((place : ℕ) (choices : List Choice) (w : _) → t ≡ made.Pick place choices w → ⊥)
+    → sites_at node set (view t) ≡ []
+no_sites_at node set (made.Ref place m) a b = absurd (a place m refl)
+no_sites_at node set (made.Pick place choices w) a b = absurd (b place choices w refl)
+no_sites_at node set _ a b = refl
+
+pub sites_gathered : (node : ℕ) (set : Set) (k n : ℕ) (t : Tree) → flat_map (λ (p : Place). sites_at node set p.tree) (places_in k n t) ≡ sites_in node set t
+sites_gathered node set k n t =
+    let by_parts : IsByParts (sites_at node set) (sites_in node set) = record {
+      of_reference = λ place m. refl;
+      of_pick = λ place choices w. refl;
+      of_binary = λ s l r. refl;
+      of_choice = λ l c r x y. refl;
+      of_constant = λ w. refl;
+      of_restriction = λ d u. refl;
+      of_cases = λ ts. refl;
+      of_dependence = λ m u. refl;
+      of_reduction = λ o m u inner. refl;
+    } in
+    gathered (sites_at node set) (sites_in node set) by_parts k n t

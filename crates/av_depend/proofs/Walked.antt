@@ -1,9 +1,10 @@
 -- The nodes of a system and their pieces, one after the other.
-use Rattle.std.proofs.Common.{◌≡◌, ℕ, ◌+◌, ◌<◌, false, IsTrue, List, [], ◌∷◌, ◌++◌, length, length-append, map, get_or, take, refl, sym, ap, subst, ◌∙◌, arith, zero-add, All}
-use Rattle.std.specs.Prelude.{filter}
+use Rattle.std.proofs.Common.{◌≡◌, ℕ, ◌+◌, ◌≤◌, Some, List, [], ◌∷◌, ◌++◌, length, take, refl, sym, ap, subst, ◌∙◌, arith, zero-add, All}
+use Rattle.std.specs.Prelude.{slice_get}
+use Rattle.std.proofs.lemmas.List.Folds.{flat_map-map}
 use Rattle.std.specs.List.{flat_map}
-use Rattle.std.proofs.lemmas.List.{append-nil}
-use Rattle.std.proofs.lemmas.List.Elements.{filter-append}
+use Rattle.std.proofs.lemmas.List.{length-take-le}
+use Rattle.std.proofs.lemmas.Option.{slice_get_within, get_or_from_slice_get}
 use Rattle.av_poly.specs.declared.poly.Bounds.{Bounds}
 use Rattle.av_poly.specs.Points.{Set, Has}
 use Rattle.av_tree.specs.Points.{Point}
@@ -13,14 +14,15 @@ use Rattle.av_flat.specs.Trees.{Piece, Variable, FlatSystem, view, view_piece, v
 use Rattle.av_flat.specs.Signatures.{signatures}
 use Rattle.av_flat.specs.WellFormed.{Fits}
 use Rattle.av_flat.specs.Chained.{IsChainedVariable, IsChainedPiece}
-use Rattle.av_flat.specs.Nodes.{is_node}
+use Rattle.av_flat.specs.Nodes.{nodes}
 use Rattle.av_flat.proofs.Sets.{has_is}
 use Rattle.av_depend.specs.declared.edge.Edge.{Edge}
-use Rattle.av_depend.specs.Sites.{Site, sites_in, sites_of, sites_from}
+use Rattle.av_depend.specs.Sites.{Site, sites_in, sites_of, sites_from, sites}
+use Rattle.av_depend.specs.Edges.{AreEdgesOf}
 use Rattle.av_elim.specs.Extents.{IsInside}
 use Rattle.av_depend.specs.inner.Adding.{HasAdded}
-use Rattle.av_depend.proofs.Adds.{added_both, map_take_more, sites_from_more, flat_map_map}
-use Rattle.av_depend.proofs.Listed.{filter_kept, filter_left}
+use Rattle.av_depend.proofs.Adds.{added_both, added_are, sites_from_more}
+use Rattle.av_base.proofs.Lists.{next_taken, take_whole}
 
 -- ---- pieces
 
@@ -29,7 +31,7 @@ abbrev pub sites_of_piece : ℕ → PieceMade → List Site
 sites_of_piece n p = sites_in n p.domain (view p.tree)
 
 pub sites_of_pieces : (n : ℕ) (x : Var) → sites_of n (view_variable x) ≡ flat_map (sites_of_piece n) x.pieces
-sites_of_pieces n x = flat_map_map (λ (p : Piece). sites_in n p.domain p.tree) view_piece x.pieces
+sites_of_pieces n x = flat_map-map (λ (p : Piece). sites_in n p.domain p.tree) view_piece x.pieces
 
 -- a variable without points has no piece
 pub no_pieces : (s : FlatSystem) (v : Variable) → IsChainedVariable s v → ((z : Point) → Has v.domain z → ⊥) → v.pieces ≡ []
@@ -53,39 +55,17 @@ piece_fits s v p set h e = subst (λ (n : ℕ). Fits (signatures s) n p.tree) (s
 
 -- ---- nodes
 
--- the nodes among the first k variables
-abbrev pub nodes_to : List Var → ℕ → List Variable
-nodes_to vars k = filter is_node (map view_variable (take k vars))
+-- the edges of one more node
+pub walked_more : (s : FlatSystem) (n : ℕ) (v : Variable) (old new : List Edge) → slice_get (nodes s) n ≡ Some v → HasAdded s (sites_from 0 (take n (nodes s))) [] old → HasAdded s (sites_of n v) old new
+    → HasAdded s (sites_from 0 (take (n + 1) (nodes s))) [] new
+walked_more s n v old new e h a =
+    let ns = nodes s in
+    let l = slice_get_within ns n v e in
+    let more = next_taken ns n v l (sym (get_or_from_slice_get ns n v v e)) in
+    let size : length (take n ns) ≡ n = length-take-le n ns (omega (arith, l)) in
+    subst (λ (sites : List Site). HasAdded s sites [] new)
+    (sym (ap (sites_from 0) more ∙ sites_from_more 0 (take n ns) v ∙ ap (λ (i : ℕ). sites_from 0 (take n ns) ++ sites_of i v) (zero-add (length (take n ns)) ∙ size)))
+    (added_both s (sites_from 0 (take n ns)) (sites_of n v) [] old new h a)
 
-pub node_more : (vars : List Var) (k : ℕ) (x : Var) → k < length vars → x ≡ get_or vars k x → IsTrue (is_node (view_variable x)) → nodes_to vars (k + 1) ≡ nodes_to vars k ++ view_variable x ∷ []
-node_more vars k x l e t =
-    ap (filter is_node) (map_take_more view_variable vars k x l e) ∙ filter-append is_node (map view_variable (take k vars)) (view_variable x ∷ []) ∙ ap (λ (vs : List Variable). nodes_to vars k ++ vs) (filter_kept is_node (view_variable x) t)
-
-pub node_same : (vars : List Var) (k : ℕ) (x : Var) → k < length vars → x ≡ get_or vars k x → is_node (view_variable x) ≡ false → nodes_to vars (k + 1) ≡ nodes_to vars k
-node_same vars k x l e f =
-    ap (filter is_node) (map_take_more view_variable vars k x l e) ∙ filter-append is_node (map view_variable (take k vars)) (view_variable x ∷ [])
-    ∙ ap (λ (vs : List Variable). nodes_to vars k ++ vs) (filter_left is_node (view_variable x) f) ∙ append-nil (nodes_to vars k)
-
--- the edges of the nodes among the first k variables, and how many nodes those are
-pub record AreWalked (s : FlatSystem) (vars : List Var) (k node : ℕ) (edges : List Edge) : Type 0 where
-  pub number : node ≡ length (nodes_to vars k)
-  pub added : HasAdded s (sites_from 0 (nodes_to vars k)) [] edges
-
-pub walked_same : (s : FlatSystem) (vars : List Var) (k node : ℕ) (x : Var) (edges : List Edge) → k < length vars → x ≡ get_or vars k x → is_node (view_variable x) ≡ false → AreWalked s vars k node edges → AreWalked s vars (k + 1) node edges
-walked_same s vars k node x edges l e f h = record {
-  number = h.number ∙ ap (λ (vs : List Variable). length vs) (sym (node_same vars k x l e f));
-  added = subst (λ (vs : List Variable). HasAdded s (sites_from 0 vs) [] edges) (sym (node_same vars k x l e f)) h.added;
-}
-
-pub walked_more : (s : FlatSystem) (vars : List Var) (k node : ℕ) (x : Var) (old new : List Edge) → k < length vars → x ≡ get_or vars k x → IsTrue (is_node (view_variable x)) → AreWalked s vars k node old → HasAdded s (sites_of node (view_variable x)) old new
-    → AreWalked s vars (k + 1) (node + 1) new
-walked_more s vars k node x old new l e t h a =
-    let more = node_more vars k x l e t in
-    let n = h.number in
-    let size = ap (λ (vs : List Variable). length vs) more in
-    record {
-      number = omega (arith, n, size, length-append (nodes_to vars k) (view_variable x ∷ []));
-      added = subst (λ (places : List Site). HasAdded s places [] new)
-          (sym (ap (sites_from 0) more ∙ sites_from_more 0 (nodes_to vars k) (view_variable x) ∙ ap (λ (i : ℕ). sites_from 0 (nodes_to vars k) ++ sites_of i (view_variable x)) (zero-add (length (nodes_to vars k)) ∙ sym n)))
-          (added_both s (sites_from 0 (nodes_to vars k)) (sites_of node (view_variable x)) [] old new h.added a);
-    }
+pub walked_whole : (s : FlatSystem) (n : ℕ) (edges : List Edge) → length (nodes s) ≤ n → HasAdded s (sites_from 0 (take n (nodes s))) [] edges → AreEdgesOf s edges
+walked_whole s n edges l h = added_are s (sites s) edges (subst (λ (vs : List Variable). HasAdded s (sites_from 0 vs) [] edges) (take_whole (nodes s) n l) h)

@@ -1,22 +1,21 @@
 //! Edges of the sites of one piece.
 
-ghost use Rattle.std.specs.Prelude.{◌≡◌, ◌≤◌, [], ◌∷◌, map, length, All, IfOk, OnOk, slice_get};
+ghost use Rattle.std.specs.Prelude.{◌≡◌, ◌≤◌, [], ◌∷◌, map, All, IfOk, OnOk, slice_get};
 ghost use Rattle.av_affine.specs.Numbers.{AtMost};
 ghost use Rattle.av_flat.specs.Trees.{view, view_system};
-ghost use Rattle.av_flat.specs.Nodes.{number_at};
 ghost use Rattle.av_flat.specs.Signatures.{signatures};
 ghost use Rattle.av_flat.specs.WellFormed.{Fits};
 ghost use Rattle.av_depend.specs.Sites.{sites_in, both};
 ghost use Rattle.av_depend.specs.ComputedPlaces.{computed_at};
 ghost use Rattle.av_elim.specs.Extents.{IsInside};
-ghost use Rattle.av_depend.specs.inner.Adding.{IsReadingSet, HasAdded, site_at, site_of};
+ghost use Rattle.av_depend.specs.inner.Adding.{IsReadingSet, HasAdded, site_at, site_of, sites_at};
 
 use crate::edge::Edge;
 use crate::generator::{copy_point, generators};
 use crate::listing::{all_points, points_within};
 use av_affine::Map;
 use av_base::{List, Memory, Point};
-use av_flat::{Choice, Flat, Tree, copy_map};
+use av_flat::{Choice, Flat, Nodes, ReadingPlace, Tree, copy_map, tree_places};
 use av_poly::{Bounds, Poly, copy_set};
 use std::alloc::Global;
 
@@ -78,21 +77,6 @@ pub fn is_computed_at(flat: &Flat, place: u32) -> bool
     }
 }
 
-// The number of the node at a place of the variables.
-fn number_of(flat: &Flat, place: u32) -> u32
-    requires { place ≤ length flat.now.vars }
-    ensures { result ≡ number_at (view_system flat.now) place }
-{
-    let vars = flat.vars.as_slice();
-    let mut number = 0;
-    for k in 0..place as usize {
-        if vars[k].is_node() {
-            number += 1;
-        }
-    }
-    number
-}
-
 // The same points.
 fn copy_points(alloc: Global, points: &[Point]) -> Result<List<Point>, Memory>
     ensures { IfOk result (λ to. to ≡ points.now) }
@@ -107,7 +91,7 @@ fn copy_points(alloc: Global, points: &[Point]) -> Result<List<Point>, Memory>
 // Adds the edge of a site, if it has a pair.
 fn add_site(
     alloc: Global,
-    flat: &Flat,
+    nodes: &Nodes<'_>,
     node: u32,
     place: u32,
     map: &Map,
@@ -115,17 +99,17 @@ fn add_site(
     edges: &mut List<Edge>,
 ) -> Result<(), Memory>
     requires reading { IsReadingSet reading.now }
-    ensures { OnOk result (HasAdded (view_system flat.now) (site_at node place map.now reading.now.set ∷ []) edges.old edges.new) }
+    ensures { OnOk result (HasAdded (view_system nodes.now) (site_at node place map.now reading.now.set ∷ []) edges.old edges.new) }
 {
     if reading.points.as_slice().is_empty() {
         return Ok(());
     }
-    if !is_computed_at(flat, place) {
+    if !is_computed_at(nodes.flat(), place) {
         return Ok(());
     }
     let edge = Edge {
         consumer: node,
-        producer: number_of(flat, place),
+        producer: nodes.number(place as usize) as u32,
         map: copy_map(map),
         points: copy_points(alloc, reading.generators.as_slice())?,
     };
@@ -135,7 +119,7 @@ fn add_site(
 // Adds the edge of each choice that has a pair.
 fn add_choices(
     alloc: Global,
-    flat: &Flat,
+    nodes: &Nodes<'_>,
     node: u32,
     place: u32,
     choices: &[Choice],
@@ -144,53 +128,53 @@ fn add_choices(
 ) -> Result<(), Memory>
     requires reading { IsReadingSet reading.now }
     requires dims { All (λ c. c.set.dim ≡ reading.now.set.dim) choices.now }
-    ensures { OnOk result (HasAdded (view_system flat.now) (map (site_of node place reading.now.set) choices.now) edges.old edges.new) }
+    ensures { OnOk result (HasAdded (view_system nodes.now) (map (site_of node place reading.now.set) choices.now) edges.old edges.new) }
 {
     for choice in choices {
         let own = narrowed(alloc, reading, &choice.set)?;
-        add_site(alloc, flat, node, place, &choice.map, &own, edges)?;
+        add_site(alloc, nodes, node, place, &choice.map, &own, edges)?;
     }
     Ok(())
+}
+
+// Adds the edge of each site of a place that reads, if it has a pair.
+fn add_place(
+    alloc: Global,
+    nodes: &Nodes<'_>,
+    node: u32,
+    place: &ReadingPlace<'_>,
+    reading: &ReadingSet,
+    edges: &mut List<Edge>,
+) -> Result<(), Memory>
+    requires reading { IsReadingSet reading.now }
+    requires fits { Fits (signatures (view_system nodes.now)) reading.now.set.dim (view place.now.tree) }
+    ensures { OnOk result (HasAdded (view_system nodes.now) (sites_at node reading.now.set (view place.now.tree)) edges.old edges.new) }
+{
+    match place.tree {
+        Tree::Ref { var, map } => add_site(alloc, nodes, node, *var, map, reading, edges),
+        Tree::Pick { var, choices, .. } => {
+            add_choices(alloc, nodes, node, *var, choices.as_slice(), reading, edges)
+        }
+        _ => Ok(()),
+    }
 }
 
 /// Adds the edge of each site of a tree that has a pair, in the order of the text.
 pub(crate) fn add_tree(
     alloc: Global,
-    flat: &Flat,
+    nodes: &Nodes<'_>,
     node: u32,
     tree: &Tree,
     reading: &ReadingSet,
     edges: &mut List<Edge>,
 ) -> Result<(), Memory>
     requires reading { IsReadingSet reading.now }
-    requires fits { Fits (signatures (view_system flat.now)) reading.now.set.dim (view tree.now) }
-    ensures { OnOk result (HasAdded (view_system flat.now) (sites_in node reading.now.set (view tree.now)) edges.old edges.new) }
+    requires fits { Fits (signatures (view_system nodes.now)) reading.now.set.dim (view tree.now) }
+    ensures { OnOk result (HasAdded (view_system nodes.now) (sites_in node reading.now.set (view tree.now)) edges.old edges.new) }
 {
-    match tree {
-        Tree::Ref { var, map } => add_site(alloc, flat, node, *var, map, reading, edges),
-        Tree::Binary { left, right, .. } => {
-            add_tree(alloc, flat, node, left, reading, edges)?;
-            add_tree(alloc, flat, node, right, reading, edges)
-        }
-        Tree::Choose {
-            left,
-            right,
-            yes,
-            no,
-            ..
-        } => {
-            add_tree(alloc, flat, node, left, reading, edges)?;
-            add_tree(alloc, flat, node, right, reading, edges)?;
-            add_tree(alloc, flat, node, yes, reading, edges)?;
-            add_tree(alloc, flat, node, no, reading, edges)
-        }
-        Tree::Pick { var, choices, .. } => {
-            add_choices(alloc, flat, node, *var, choices.as_slice(), reading, edges)
-        }
-        Tree::Const(_) => Ok(()),
-        Tree::Restrict { .. } => Ok(()),
-        Tree::Case { .. } => Ok(()),
-        Tree::Depend { .. } => Ok(()),
-        Tree::Reduce { .. } => Ok(()),
+    let places = tree_places(alloc, 0, tree)?;
+    for place in places.as_slice() {
+        add_place(alloc, nodes, node, place, reading, edges)?;
     }
+    Ok(())
 }

@@ -15,3 +15,5 @@ pub mod Bounded
 pub mod Falling
 pub mod DeclaredPoints
 pub mod SignVectors
+pub mod NodeNumbers
+pub mod Reading

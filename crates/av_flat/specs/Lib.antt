@@ -17,8 +17,10 @@ pub mod Nodes
 pub mod Reads
 pub mod Schedules
 pub mod Broadcasts
+pub mod Sites
 pub mod Chained
 pub mod OneSolution
 pub mod Helped
 pub mod Legal
 pub mod Unreduced
+pub mod inner

@@ -6,8 +6,10 @@ mod copy;
 mod direction;
 mod flat;
 mod laws;
+mod nodes;
 mod pass;
 mod quantity;
+mod sites;
 mod then;
 mod timed;
 mod tree;
@@ -19,8 +21,10 @@ pub use laws::{
     counted_pieces, counted_word, nodes_have_points, number_of_pieces, one_solution, one_word,
     points_of_sets, unhelped_systems_show_the_same, unreduced_is_chained, words_of_pieces,
 };
+pub use nodes::{Nodes, numbers, place_of, places};
 pub use pass::{Feeds, Meant, Pass};
 pub use quantity::Quantity;
+pub use sites::{ReadingPlace, Reference, piece_places, tree_places, tree_references};
 pub use then::{Then, ThenFault};
 pub use timed::{Helper, Reach, Time, Timed};
 pub use tree::{Choice, Tree};

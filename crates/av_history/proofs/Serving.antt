@@ -12,11 +12,11 @@ use Rattle.av_flat.specs.Points.{has}
 use Rattle.av_flat.specs.Signatures.{signature, is_computed}
 use Rattle.av_flat.specs.Values.{picked}
 use Rattle.av_flat.specs.declared.timed.Helper.{Helper}
-use Rattle.av_flat.specs.Nodes.{is_node, nodes, number_at}
+use Rattle.av_flat.specs.Nodes.{is_node, nodes, number_at, node_place}
 use Rattle.av_flat.specs.Broadcasts.{Reference, references}
 use Rattle.av_flat.specs.Helped.{before, IsEntry}
 use Rattle.av_net.specs.declared.design.Entry.{Entry}
-use Rattle.av_space.specs.Taps.{node_place, Handing, helper_at, IsReadAt, Way, each, entries, handed, Tap, IsTapRead, IsTapped}
+use Rattle.av_space.specs.Taps.{Handing, helper_at, IsReadAt, Way, each, entries, handed, Tap, IsTapRead, IsTapped}
 use Rattle.av_space.specs.Links.{IsStretch}
 use Rattle.av_space.specs.Ports.{IsFed}
 use Rattle.av_space.specs.Listings.{InLine, IsInLine, input_name}
@@ -30,9 +30,9 @@ use Rattle.av_history.specs.Arranged.{IsArranged}
 use Rattle.av_history.proofs.Serves.{Placement, Feeding, read_of, read_by, read_at, IsEarlier, IsPointBrought, IsEntered, IsHandedOn, IsBrought, IsWorked, IsHandled, Serves}
 use Rattle.av_history.proofs.Words.{place_weaker, place_both}
 use Rattle.av_history.proofs.Shown.{signature_at}
-use Rattle.av_space.proofs.NodePlaces.{node_at}
+use Rattle.av_flat.proofs.Cycles.{node_at}
 use Rattle.av_space.proofs.Helpers.{found_helper}
-use Rattle.av_space.proofs.Nodes.{own_place}
+use Rattle.av_flat.proofs.NodeNumbers.{own_place}
 use Rattle.av_base.proofs.Truths.{both}
 use Rattle.av_base.proofs.Among.{among_at}
 use Rattle.av_base.proofs.Lists.{some_is}
@@ -338,7 +338,7 @@ module _ (a : Array) (g : IsArranged a) (lanes : Lanes) (start : ℕ) where
         let n = number_at a.system place in
         let p = h.cell in
         let b = h.cycle in
-        let is_variable : slice_get (nodes a.system) n ≡ Some v = node_at a.system.variables place v h.is_variable h.is_node in
+        let is_variable : slice_get (nodes a.system) n ≡ Some v = node_at is_node a.system.variables place v h.is_variable h.is_node in
         let computation = h.computes.stands.computation in
         let same : computation.variable ≡ v = some_of computation.variable v (slice_get (nodes a.system) n) computation.is is_variable in
         let declared : has v.domain z ≡ true = subst (λ (w : Variable). has w.domain z ≡ true) same computation.declared in
@@ -388,7 +388,7 @@ module _ (a : Array) (g : IsArranged a) (lanes : Lanes) (start : ℕ) where
         let b = h.cycle in
         let p = h.cell in
         let at = helper_spot a h.helper v piece p in
-        let r : Reading a at b z = record { computes = h.computes; is_variable = node_at a.system.variables h.helper.var v h.is.is_variable h.is.is_node; is_piece = h.is.is_piece; within = h.within } in
+        let r : Reading a at b z = record { computes = h.computes; is_variable = node_at is_node a.system.variables h.helper.var v h.is.is_variable h.is.is_node; is_piece = h.is.is_piece; within = h.within } in
         let done = perform.helpers j h.helper v piece read h.is p b z h.computes h.within in
         let task = done.0 in
         record {

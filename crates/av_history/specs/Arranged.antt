@@ -4,8 +4,8 @@ use Rattle.av_tree.specs.Points.{Point}
 use Rattle.av_flat.specs.Trees.{Piece, Variable}
 use Rattle.av_flat.specs.Points.{has}
 use Rattle.av_flat.specs.Signatures.{is_computed}
-use Rattle.av_flat.specs.Nodes.{nodes}
-use Rattle.av_space.specs.Taps.{node_place, Tap, taps, IsTapRead}
+use Rattle.av_flat.specs.Nodes.{nodes, node_place}
+use Rattle.av_space.specs.Taps.{Tap, taps, IsTapRead}
 use Rattle.av_space.specs.Links.{AreLinks}
 use Rattle.av_history.specs.Widths.{PicksAsWide}
 use Rattle.av_history.specs.Places.{EachPlace}

@@ -8,14 +8,14 @@ use Rattle.av_flat.specs.Points.{has}
 use Rattle.av_flat.specs.Signatures.{is_input}
 use Rattle.av_flat.specs.Values.{picked}
 use Rattle.av_flat.specs.declared.timed.Helper.{Helper}
-use Rattle.av_flat.specs.Nodes.{is_node, nodes, number_at}
+use Rattle.av_flat.specs.Nodes.{is_node, nodes, number_at, node_place}
 use Rattle.av_flat.specs.Broadcasts.{Reference, references}
 use Rattle.av_flat.specs.Helped.{before}
 use Rattle.av_space.specs.Coordinates.{Placing}
 use Rattle.av_space.specs.declared.cells.Cell.{Cell}
 use Rattle.av_space.specs.declared.cells.Link.{Link}
 use Rattle.av_space.specs.declared.cells.InPort.{InPort}
-use Rattle.av_space.specs.Taps.{node_place, Handing, helper_at, Way, each, entries, handed, taps}
+use Rattle.av_space.specs.Taps.{Handing, helper_at, Way, each, entries, handed, taps}
 use Rattle.av_space.specs.Occupancy.{Computes}
 use Rattle.av_space.specs.Links.{IsInLink}
 use Rattle.av_kinds.specs.declared.program.Source.{Source}

@@ -1,39 +1,20 @@
--- The numbers of nodes, variable after variable, and what legal systems grant the code.
-use Rattle.std.proofs.Common.{◌≡◌, ℕ, zero, suc, pos, negsuc, ◌+◌, ◌≤◌, Bool, true, false, if◌then◌else◌, Some, List, [], ◌∷◌, ◌++◌, length, filter, map, take, drop, slice_get, refl, sym, ap, subst, ◌∙◌, arith, add-one, append_assoc, All}
+-- Helpers variable after variable, and what legal systems grant the code.
+use Rattle.std.proofs.Common.{◌≡◌, ℕ, suc, pos, negsuc, ◌+◌, Some, List, [], ◌∷◌, ◌++◌, length, slice_get, refl, sym, ap, ◌∙◌, arith, add-one, append_assoc, All}
 use Rattle.std.specs.List.{AllByRecursion}
 use Rattle.std.proofs.lemmas.List.Elements.{All-from_recursion, recursion_from_All}
 use Rattle.av_affine.specs.Numbers.{AtMost}
 use Rattle.av_tree.specs.Points.{Point}
 use Rattle.av_flat.specs.Broadcasts.{lists_of}
-use Rattle.av_flat.specs.Trees.{Tree, Piece, Variable, FlatSystem, view_variable, reference, constant, binary, choice, restriction, cases, dependence, reduction, pick}
+use Rattle.av_flat.specs.Trees.{Tree, Piece, Variable, FlatSystem, reference, constant, binary, choice, restriction, cases, dependence, reduction, pick}
 use Rattle.av_flat.specs.Signatures.{Signature, signatures}
 use Rattle.av_flat.specs.WellFormed.{Fits}
 use Rattle.av_flat.specs.declared.timed.Time.{Time}
-use Rattle.av_flat.specs.declared.flat.Var.{Var}
 use Rattle.av_flat.specs.declared.timed.Helper.{Helper}
 use Rattle.av_pipe.specs.Pipelines.{of_variable, of_variables}
-use Rattle.av_flat.specs.Nodes.{is_node, nodes, number_at}
+use Rattle.av_flat.specs.Nodes.{nodes, number_at}
 use Rattle.av_flat.specs.Chained.{IsChained, IsChainedVariable, IsChainedPiece}
 use Rattle.av_flat.specs.Schedules.{IsSchedule, IsLinearPart}
 use Rattle.av_pipe.specs.inner.Helping.{HasFineMaps, HasFinePieces}
-
--- ---- one more variable
-
-if_more : (b : Bool) (x : Variable) (a c : List Variable) (n : ℕ) → length a ≡ length c + n → length (if b then x ∷ a else a) ≡ length (if b then x ∷ c else c) + n
-if_more true x a c n h = omega (arith, h)
-if_more false x a c n h = h
-
-one_or_none : (b : Bool) (x : Variable) → length (if b then x ∷ [] else []) ≡ 0 + (if b then 1 else 0)
-one_or_none true x = refl
-one_or_none false x = refl
-
-pub counted : (vs : List Variable) (place : ℕ) (v : Variable) → slice_get vs place ≡ Some v
-    → length (filter is_node (take (suc place) vs)) ≡ length (filter is_node (take place vs)) + (if is_node v then 1 else 0)
-counted [] place v e = absurd cc
-counted (x ∷ vs) zero v e =
-    let same : x ≡ v = cc in
-    subst (λ (u : Variable). length (if is_node x then x ∷ [] else []) ≡ 0 + (if is_node u then 1 else 0)) same (one_or_none (is_node x) x)
-counted (x ∷ vs) (suc k) v e = if_more (is_node x) x (filter is_node (take (suc k) vs)) (filter is_node (take k vs)) (if is_node v then 1 else 0) (counted vs k v e)
 
 -- ---- maps
 
@@ -74,22 +55,6 @@ pub small_times : (s : FlatSystem) (times : List Time) → IsSchedule s 4 times 
 small_times s times h = All-from_recursion (λ (t : Time). AtMost 4 t.linear) times (small_all (nodes s) times h.one_each h.linear)
 
 -- ---- variables that are gone through
-
-at_map : (vars : List Var) (i : ℕ) (x : Var) (rest : List Var) → drop i vars ≡ x ∷ rest → slice_get (map view_variable vars) i ≡ Some (view_variable x)
-at_map [] zero x rest e = absurd cc
-at_map [] (suc i) x rest e = absurd cc
-at_map (y ∷ ys) zero x rest e = let same : y ≡ x = cc in ap (λ (u : Var). Some (view_variable u)) same
-at_map (y ∷ ys) (suc i) x rest e = at_map ys i x rest e
-
-pub few_more : (b : Bool) (n p : ℕ) → n ≤ p → n + (if b then 1 else 0) ≤ p + 1
-few_more true n p l = omega (arith, l)
-few_more false n p l = omega (arith, l)
-
-pub counted_more : (vars : List Var) (i : ℕ) (x : Var) (rest : List Var) (now next : ℕ) → drop i vars ≡ x ∷ rest → now ≡ length (filter is_node (take i (map view_variable vars)))
-    → next ≡ now + (if is_node (view_variable x) then 1 else 0) → next ≡ length (filter is_node (take (i + 1) (map view_variable vars)))
-counted_more vars i x rest now next d e f =
-    f ∙ ap (λ (n : ℕ). n + (if is_node (view_variable x) then 1 else 0)) e ∙ sym (counted (map view_variable vars) i (view_variable x) (at_map vars i x rest d))
-    ∙ ap (λ (k : ℕ). length (filter is_node (take k (map view_variable vars)))) (sym (add-one i))
 
 pub made_more : (s : FlatSystem) (times : List Time) (place : ℕ) (x : Variable) (xs : List Variable) (old new all : List Helper) (number : ℕ) → number ≡ number_at s place
     → old ++ of_variables s times place (x ∷ xs) ≡ all → new ≡ old ++ of_variable place (slice_get times number) x → new ++ of_variables s times (place + 1) xs ≡ all

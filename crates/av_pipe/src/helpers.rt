@@ -1,10 +1,9 @@
 //! The helpers of a scheduled system.
 
-ghost use Rattle.std.specs.Prelude.{◌≡◌, ◌<◌, ◌+◌, ◌++◌, All, IfOk, OnOk, if◌then◌else◌, map, slice_get, []};
+ghost use Rattle.std.specs.Prelude.{◌≡◌, ◌++◌, All, IfOk, OnOk, map, slice_get, []};
 ghost use Rattle.std.specs.List.{AllByRecursion};
 ghost use Rattle.av_affine.specs.Numbers.{AtMost};
 ghost use Rattle.av_flat.specs.Trees.{view_variable, view_system};
-ghost use Rattle.av_flat.specs.Nodes.{is_node};
 ghost use Rattle.av_flat.specs.Legal.{IsLegal};
 ghost use Rattle.av_pipe.specs.Pipelines.{of_variable, pipelines};
 ghost use Rattle.av_pipe.specs.Piped.{IsPiped};
@@ -12,16 +11,8 @@ ghost use Rattle.av_pipe.specs.inner.Helping.{HasFinePieces};
 
 use crate::site::piece_helpers;
 use av_base::{List, Memory, Point};
-use av_flat::{Flat, Helper, Time, Timed, Var, copy_flat, sign_vectors};
+use av_flat::{Flat, Helper, Nodes, Time, Timed, Var, copy_flat, sign_vectors};
 use std::alloc::Global;
-
-// The number of the next node, behind a variable.
-fn number_after(number: usize, var: &Var) -> usize
-    requires { number < 18446744073709551615 }
-    ensures { result ≡ number + (if is_node (view_variable var.now) then 1 else 0) }
-{
-    if var.is_node() { number + 1 } else { number }
-}
 
 // Puts the helpers of a variable behind others, where there is a time for the node of this number.
 fn variable_helpers(
@@ -56,12 +47,12 @@ fn all_helpers(alloc: Global, flat: &Flat, times: &[Time]) -> Result<List<Helper
 {
     // So few variables that 32 bits number them.
     let _most = flat.vars.len();
+    let nodes = Nodes::new(alloc, flat)?;
     let vars = flat.vars.as_slice();
     let mut helpers = List::new(alloc);
-    let mut number: usize = 0;
     for (place, var) in vars.iter().enumerate() {
-        variable_helpers(alloc, place as u32, times, number, var, &mut helpers)?;
-        number = number_after(number, var);
+        let node = nodes.number(place);
+        variable_helpers(alloc, place as u32, times, node, var, &mut helpers)?;
     }
     Ok(helpers)
 }

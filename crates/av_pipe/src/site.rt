@@ -6,38 +6,12 @@ ghost use Rattle.av_affine.specs.Numbers.{AtMost};
 ghost use Rattle.av_flat.specs.Trees.{view, view_piece};
 ghost use Rattle.av_flat.specs.Broadcasts.{references, first_moving};
 ghost use Rattle.av_pipe.specs.Pipelines.{helper_of, of_references, of_pieces};
-ghost use Rattle.av_pipe.specs.inner.Helping.{maps_of, of_maps, IsFineMap, HasFineMaps};
+ghost use Rattle.av_pipe.specs.inner.Helping.{IsFineMap, HasFineMaps};
 
 use av_affine::Map;
 use av_base::{List, Memory, Point};
-use av_flat::{Helper, Piece, Tree, copy_map, first_moving};
+use av_flat::{Helper, Piece, Reference, Tree, first_moving, tree_references};
 use std::alloc::Global;
-
-// Puts the maps of the references in a tree behind others, in order.
-fn append_maps(tree: &Tree, maps: &mut List<Map>) -> Result<(), Memory>
-    ensures { OnOk result (maps.new ≡ maps.old ++ maps_of (view tree.now)) }
-{
-    match tree {
-        Tree::Ref { map, .. } => maps.push(copy_map(map)),
-        Tree::Binary { left, right, .. } => {
-            append_maps(left, maps)?;
-            append_maps(right, maps)
-        }
-        Tree::Choose {
-            left,
-            right,
-            yes,
-            no,
-            ..
-        } => {
-            append_maps(left, maps)?;
-            append_maps(right, maps)?;
-            append_maps(yes, maps)?;
-            append_maps(no, maps)
-        }
-        _ => Ok(()),
-    }
-}
 
 // Puts the helper of a reference with this map behind others, where it is moved.
 fn reference_helper(
@@ -64,22 +38,30 @@ fn reference_helper(
     Ok(())
 }
 
-// Puts the helpers of references with these maps behind others.
-fn map_helpers(
+// Puts the helpers of references behind others.
+fn reference_helpers(
     place: u32,
     piece: u32,
     linear: &Point,
     points: &[Point],
-    maps: &[Map],
+    found: &[Reference<'_>],
     helpers: &mut List<Helper>,
 ) -> Result<(), Memory>
     requires linear { AtMost 4 linear.now }
-    requires few { length maps.now ≤ 1073741824 }
-    requires fine { AllByRecursion (IsFineMap points.now) maps.now }
-    ensures { OnOk result (helpers.new ≡ helpers.old ++ of_maps place piece linear.now 0 maps.now) }
+    requires few { length found.now ≤ 1073741824 }
+    requires fine { AllByRecursion (λ r. IsFineMap points.now r.map) found.now }
+    ensures { OnOk result (helpers.new ≡ helpers.old ++ of_references place piece linear.now 0 found.now) }
 {
-    for (site, map) in maps.iter().enumerate() {
-        reference_helper(place, piece, linear, points, site as u32, map, helpers)?;
+    for (site, reference) in found.iter().enumerate() {
+        reference_helper(
+            place,
+            piece,
+            linear,
+            points,
+            site as u32,
+            reference.map,
+            helpers,
+        )?;
     }
     Ok(())
 }
@@ -98,11 +80,10 @@ fn tree_helpers(
     requires maps { HasFineMaps points.now (view tree.now) }
     ensures { OnOk result (helpers.new ≡ helpers.old ++ of_references place piece linear.now 0 (references (view tree.now))) }
 {
-    let mut maps = List::new(alloc);
-    append_maps(tree, &mut maps)?;
+    let found = tree_references(alloc, tree)?;
     // So few that 32 bits number them.
-    let _most = maps.len();
-    map_helpers(place, piece, linear, points, maps.as_slice(), helpers)
+    let _most = found.len();
+    reference_helpers(place, piece, linear, points, found.as_slice(), helpers)
 }
 
 /// Puts the helpers of the references of a variable's pieces behind others.

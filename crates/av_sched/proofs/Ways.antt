@@ -1,6 +1,6 @@
 -- The directions along which references read one point, and references of chained systems.
 use Rattle.std.proofs.Common.{◌≡◌, ℕ, ◌≤◌, List, [], ◌∷◌, ◌++◌, map, get_or, refl, ap, ◌∙◌, arith, All}
-use Rattle.std.specs.Prelude.{filter, Contains, slice_get, Some}
+use Rattle.std.specs.Prelude.{filter, Contains}
 use Rattle.std.specs.List.{flat_map}
 use Rattle.std.proofs.lemmas.List.Elements.{All-map, All-filter, All-contains, Contains-get_or, filter-append}
 use Rattle.std.proofs.lemmas.List.{map-append}
@@ -11,12 +11,10 @@ use Rattle.av_base.proofs.Among.{among_map}
 use Rattle.av_flat.specs.Trees.{view, view_piece, view_variable, Tree, Piece, Variable, FlatSystem, reference, constant, binary, choice, restriction, cases, dependence, reduction, pick}
 use Rattle.av_flat.specs.Signatures.{Signature, signatures}
 use Rattle.av_flat.specs.WellFormed.{Fits}
-use Rattle.av_flat.specs.Nodes.{is_node, nodes}
-use Rattle.av_flat.specs.Chained.{IsChained, IsChainedVariable, IsChainedPiece}
+use Rattle.av_flat.specs.Chained.{IsChainedVariable, IsChainedPiece}
 use Rattle.av_flat.specs.Broadcasts.{Reference, references, along, is_broadcast}
 use Rattle.av_flat.proofs.SignVectors.{small_along}
 use Rattle.av_sched.specs.inner.Ways.{HasSmallReferences, ways_of}
-use Rattle.av_base.proofs.Lists.{all_at}
 
 -- all entries of the directions of references
 pub small_ways : (refs : List Reference) → All (All (AtMost 1)) (ways_of refs)
@@ -44,9 +42,6 @@ pub small_piece : (s : FlatSystem) (v : Variable) (p : Piece) → IsChainedVaria
 small_piece s v p own among =
     let piece = All-contains (IsChainedPiece (signatures s) v) v.pieces p own.pieces among in
     small_tree (signatures s) v.domain.dim p.tree own.indices piece.tree.fits
-
-pub chained_node : (s : FlatSystem) (n : ℕ) (v : Variable) → IsChained s → slice_get (nodes s) n ≡ Some v → IsChainedVariable s v
-chained_node s n v chained e = all_at (IsChainedVariable s) (nodes s) n v (All-filter is_node (IsChainedVariable s) s.variables chained.each) e
 
 -- ---- as the code sees them
 

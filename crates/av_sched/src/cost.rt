@@ -14,11 +14,10 @@ ghost use Rattle.av_sched.specs.inner.Ways.{HasSmallReferences, ways_of, still_a
 ghost use Rattle.av_sched.specs.Prices.{ArePricesAt, ArePricesTo, AreFloorsTo};
 ghost use Rattle.av_sched.specs.inner.Walk.{AreAllPriced};
 
-use crate::node::place_of;
 use crate::price::{Price, at_least, least_of};
 use av_affine::Map;
 use av_base::{List, Memory, Point};
-use av_flat::{Flat, Piece, Tree, along_of, moves};
+use av_flat::{Flat, Piece, Tree, along_of, moves, place_of, tree_references};
 use std::alloc::Global;
 
 // The place of an entry in the order.
@@ -91,26 +90,11 @@ fn add_ways(alloc: Global, tree: &Tree, to: &mut List<List<Point>>) -> Result<()
     requires { HasSmallReferences (view tree.now) }
     ensures { IfOk result (λ done. to.new ≡ to.old ++ ways_of (references (view tree.now))) }
 {
-    match tree {
-        Tree::Ref { map, .. } => add_way(alloc, map, to),
-        Tree::Binary { left, right, .. } => {
-            add_ways(alloc, left, to)?;
-            add_ways(alloc, right, to)
-        }
-        Tree::Choose {
-            left,
-            right,
-            yes,
-            no,
-            ..
-        } => {
-            add_ways(alloc, left, to)?;
-            add_ways(alloc, right, to)?;
-            add_ways(alloc, yes, to)?;
-            add_ways(alloc, no, to)
-        }
-        _ => Ok(()),
+    let found = tree_references(alloc, tree)?;
+    for reference in found.as_slice() {
+        add_way(alloc, reference.map, to)?;
     }
+    Ok(())
 }
 
 // For each broadcast of pieces the directions along which it reads one point.

@@ -1,6 +1,6 @@
 //! The dimensions of the nodes.
 
-ghost use Rattle.std.specs.Prelude.{◌≡◌, ◌<◌, length, map, All, IfOk, slice_get};
+ghost use Rattle.std.specs.Prelude.{◌≡◌, ◌<◌, length, map, All, IfOk};
 ghost use Rattle.av_flat.specs.Trees.{view_system};
 ghost use Rattle.av_flat.specs.Nodes.{nodes};
 ghost use Rattle.av_flat.specs.Chained.{IsChained};
@@ -44,25 +44,4 @@ pub(crate) fn lists_of(
         lists.push(list)?;
     }
     Ok(lists)
-}
-
-/// The place of a node among the variables.
-pub fn place_of(flat: &Flat, node: usize) -> usize
-    requires { node < length (nodes (view_system flat.now)) }
-    ensures fits { result < length flat.now.vars }
-    ensures is { slice_get (nodes (view_system flat.now)) node
-        ≡ slice_get (view_system flat.now).variables result }
-{
-    let vars = flat.vars.as_slice();
-    let mut count: usize = 0;
-    for k in 0..vars.len() {
-        if !vars[k].is_node() {
-            continue;
-        }
-        if count == node {
-            return k;
-        }
-        count += 1;
-    }
-    unreachable!()
 }

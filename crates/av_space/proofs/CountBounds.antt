@@ -20,7 +20,7 @@ use Rattle.av_space.specs.declared.cells.Cell.{Cell}
 use Rattle.av_space.specs.declared.layout.Layout.{Layout}
 use Rattle.av_space.specs.Coordinates.{Placing, along}
 use Rattle.av_space.specs.Occupancy.{Occupies, Computes}
-use Rattle.av_space.specs.Taps.{places_in, places_from}
+use Rattle.av_flat.specs.Sites.{places_in, places_from}
 use Rattle.av_space.specs.Quantities.{size, Use, IsUse, IsOperatorCount}
 use Rattle.av_space.specs.Layouts.{IsLayout}
 use Rattle.av_space.proofs.OperatorCounts.{tree_sizes, sizes_more}

@@ -14,13 +14,14 @@ use Rattle.av_tree.specs.Points.{Point}
 use Rattle.av_flat.specs.declared.flat.Kind.TheVariants as kind
 use Rattle.av_flat.specs.Trees.{Piece, Variable, FlatSystem, reference, binary}
 use Rattle.av_flat.specs.Points.{has}
-use Rattle.av_flat.specs.Nodes.{nodes}
+use Rattle.av_flat.specs.Nodes.{nodes, node_place}
 use Rattle.av_flat.proofs.Sets.{has_is}
 use Rattle.av_space.specs.declared.cells.Cell.{Cell}
 use Rattle.av_space.specs.declared.cells.Link.{Link}
 use Rattle.av_space.specs.Coordinates.{Placing, along}
 use Rattle.av_space.specs.Occupancy.{Occupies, IsUsed, IsCellBefore, AreCells, Computes}
-use Rattle.av_space.specs.Taps.{Tap, Place, taps, node_place, IsTapped, each}
+use Rattle.av_flat.specs.Sites.{Place}
+use Rattle.av_space.specs.Taps.{Tap, taps, IsTapped, each}
 use Rattle.av_space.specs.Links.{IsStretch, AreLinks, delay_count}
 use Rattle.av_space.specs.Ports.{output_cells}
 

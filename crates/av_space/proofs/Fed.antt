@@ -16,7 +16,7 @@ use Rattle.av_flat.specs.Points.{has}
 use Rattle.av_flat.specs.Broadcasts.{Reference, references}
 use Rattle.av_flat.specs.Signatures.{is_input}
 use Rattle.av_flat.specs.Helped.{before}
-use Rattle.av_flat.specs.Nodes.{nodes}
+use Rattle.av_flat.specs.Nodes.{nodes, node_place}
 use Rattle.av_flat.specs.declared.timed.Helper.{Helper}
 use Rattle.av_flat.proofs.Sets.{both_true, both_hold}
 use Rattle.av_net.specs.declared.design.Entry.{Entry}
@@ -29,7 +29,7 @@ use Rattle.av_space.specs.declared.cells.InPort.{InPort}
 use Rattle.av_space.specs.declared.layout.Slot.{Slot}
 use Rattle.av_space.specs.declared.ports.Ports.{Ports as Found}
 use Rattle.av_space.specs.Occupancy.{Computes}
-use Rattle.av_space.specs.Taps.{node_of, node_place, helper_at, Handing, IsReadAt}
+use Rattle.av_space.specs.Taps.{node_of, helper_at, Handing, IsReadAt}
 use Rattle.av_space.specs.Ports.{IsFed, IsPort, IsPortBefore, ArePorts, by_node, by_piece, by_site, by_cell}
 use Rattle.av_space.specs.Listings.{input_name, InLine, IsInLine, AreInLines}
 use Rattle.av_space.specs.Layouts.{IsSlot, AreSlots}

@@ -13,17 +13,18 @@ use Rattle.av_flat.specs.Trees.{Tree, Piece, Variable, FlatSystem, view_system, 
 use Rattle.av_flat.specs.Signatures.{signatures}
 use Rattle.av_flat.specs.Chained.{IsChainedPiece}
 use Rattle.av_flat.specs.Legal.{IsLegal}
-use Rattle.av_flat.specs.Nodes.{nodes, IsComputation}
+use Rattle.av_flat.specs.Nodes.{nodes, IsComputation, node_place}
 use Rattle.av_space.specs.declared.cells.Link.{Link}
 use Rattle.av_space.specs.declared.layout.Layout.{Layout}
 use Rattle.av_space.specs.Coordinates.{Placing}
-use Rattle.av_space.specs.Taps.{Handing, helper_at, Place, Tap, node_place, places_in, places_from, taps_by, taps_at, is_own, all_taps, taps}
+use Rattle.av_flat.specs.Sites.{Place, places_in, places_from}
+use Rattle.av_space.specs.Taps.{Handing, helper_at, Tap, taps_by, taps_at, is_own, all_taps, taps}
 use Rattle.av_depend.specs.ComputedPlaces.{computed_at}
 use Rattle.av_space.specs.Links.{AreLinks}
 use Rattle.av_space.specs.Quantities.{size, Use, IsUse, IsOperatorCount}
 use Rattle.av_space.specs.Layouts.{IsLayout}
+use Rattle.av_flat.proofs.NodeNumbers.{chained_node}
 use Rattle.av_space.proofs.Elements.{at_index, in_range}
-use Rattle.av_space.proofs.Nodes.{node_chained}
 use Rattle.av_space.proofs.OneCell.{one_node}
 use Rattle.av_space.proofs.Scheduling.{scheduled}
 use Rattle.av_space.proofs.Timely.{stands}
@@ -111,7 +112,7 @@ module _ (t : Timed) (l : Layout) (legal : IsLegal t) (layout : IsLayout t l) (m
   -- a point of the piece stands on some cell
   used : (n : ℕ) (v : Variable) → slice_get (nodes own) n ≡ Some v → (j : ℕ) (p : Piece) → slice_get v.pieces j ≡ Some p → (q : ℕ) × IsUse own l.placements l.cells (record { cell = q; piece = j }) p
   used n v is j p at =
-      let chained = node_chained own n v legal.chained is in
+      let chained = chained_node own n v legal.chained is in
       let c = at_index (IsChainedPiece (signatures own) v) v.pieces chained.pieces j p at in
       let comp : IsComputation own n c.point = record { variable = v; is = is; declared = c.within c.point c.has_point } in
       let g = scheduled t l.placements l.cells legal layout.are_placings layout.are_cells in

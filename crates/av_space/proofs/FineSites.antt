@@ -12,7 +12,8 @@ use Rattle.av_flat.specs.WellFormed.{EachPart, Fits, HasSmallRows, dimension_of}
 use Rattle.av_flat.specs.Broadcasts.{references}
 use Rattle.av_flat.specs.Chained.{IsOfPartial, IsChainedPiece, IsChainedVariable}
 use Rattle.av_flat.specs.Legal.{IsMoving, IsLegal}
-use Rattle.av_space.specs.Taps.{Handing, helper_at, Place, places_in, places_from, Way, each, entries, handed, Tap, taps_by, taps_at, is_own, all_taps, taps}
+use Rattle.av_flat.specs.Sites.{Place, places_in, places_from}
+use Rattle.av_space.specs.Taps.{Handing, helper_at, Way, each, entries, handed, Tap, taps_by, taps_at, is_own, all_taps, taps}
 use Rattle.av_depend.specs.ComputedPlaces.{computed_at}
 use Rattle.av_space.specs.inner.Readings.{IsReadable, IsFineTap}
 use Rattle.av_space.proofs.Directions.{first_step}

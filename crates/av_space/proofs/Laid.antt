@@ -12,7 +12,7 @@ use Rattle.av_flat.specs.declared.timed.Time.{Time}
 use Rattle.av_flat.specs.declared.timed.Timed.{Timed}
 use Rattle.av_flat.specs.Legal.{IsLegal}
 use Rattle.av_flat.specs.Trees.{Variable, FlatSystem, view_system}
-use Rattle.av_flat.specs.Nodes.{nodes, IsComputation}
+use Rattle.av_flat.specs.Nodes.{nodes, IsComputation, places_of, numbers_of}
 use Rattle.av_space.specs.declared.cells.Cell.{Cell}
 use Rattle.av_space.specs.declared.layout.Slot.{Slot}
 use Rattle.av_space.specs.declared.ranked.Ranked.{Ranked}
@@ -21,13 +21,14 @@ use Rattle.av_space.specs.Occupancy.{Occupies, IsUsed, IsCellBefore, AreCells, C
 use Rattle.av_space.specs.SpaceFaults.{IsCycles}
 use Rattle.av_space.specs.Layouts.{AreSlots}
 use Rattle.av_space.specs.inner.Laying.{HasFewCycles, HasCellCount, ranked_at, cell_of, AreRanked, IsRunEnd, AreCellsTo, AreCellsIn, IsFilled, AreFilled}
-use Rattle.av_space.specs.Layouts.{IsSlot, IsLayout, places_of, numbers_of}
+use Rattle.av_space.specs.Layouts.{IsSlot, IsLayout}
 use Rattle.av_space.specs.declared.layout.Layout.{Layout}
 use Rattle.av_flat.specs.Signatures.{signatures, is_computed}
 use Rattle.av_flat.specs.Chained.{IsChainedPiece}
 use Rattle.av_flat.proofs.Sets.{both_true}
 use Rattle.av_space.proofs.Grouped.{slots_of, cells_none, cells_more, cells_of_node, filled}
-use Rattle.av_space.proofs.Nodes.{node_chained, computed_point, node_passes}
+use Rattle.av_flat.proofs.NodeNumbers.{chained_node, node_passes}
+use Rattle.av_space.proofs.Nodes.{computed_point}
 use Rattle.av_space.proofs.Orders.{pairs_append}
 use Rattle.av_base.proofs.Lists.{all_at, there_is}
 
@@ -117,7 +118,7 @@ slots_of_cell s placings cells slots k own h e =
 pub node_computes : (t : Timed) (n : ℕ) → IsLegal t → n < length (nodes (view_system t.flat)) → (z : Point) × IsComputation (view_system t.flat) n z
 node_computes t n h l =
     let v = there_is (nodes (view_system t.flat)) n l in
-    let c = node_chained (view_system t.flat) n v.0 h.chained v.1 in
+    let c = chained_node (view_system t.flat) n v.0 h.chained v.1 in
     let some = node_pieces (view_system t.flat) n v.0 v.1 in
     let p = there_is v.0.pieces 0 some in
     let k = all_at (IsChainedPiece (signatures (view_system t.flat)) v.0) v.0.pieces 0 p.0 c.pieces p.1 in

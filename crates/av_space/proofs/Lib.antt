@@ -34,7 +34,6 @@ pub mod Streams
 pub mod Diagonal
 mod RowSums
 pub mod WholeListing
-pub mod NodePlaces
 pub mod OnePiece
 pub mod Timely
 pub mod Scheduling

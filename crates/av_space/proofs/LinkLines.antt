@@ -11,14 +11,15 @@ use Rattle.av_space.specs.declared.cells.Cell.{Cell}
 use Rattle.av_space.specs.declared.cells.Link.{Link}
 use Rattle.av_space.specs.declared.lengths.Line.{Line}
 use Rattle.av_space.specs.Coordinates.{Placing}
-use Rattle.av_space.specs.Taps.{node_place, Way, each, entries, handed, helper_of, helper_read, IsTapped}
+use Rattle.av_flat.specs.Nodes.{node_place}
+use Rattle.av_space.specs.Taps.{Way, each, entries, handed, helper_of, helper_read, IsTapped}
 use Rattle.av_space.specs.Links.{IsStretch, AreLinks, line_length, delay_count}
 use Rattle.av_space.specs.inner.Lengths.{is_line, line_of}
 use Rattle.av_space.specs.Lengths.{length_in, AreLengths}
 use Rattle.av_space.proofs.Elements.{in_range}
 use Rattle.av_space.proofs.FineSites.{IsKnown, fine_tap}
+use Rattle.av_flat.proofs.NodeNumbers.{chained_node}
 use Rattle.av_space.proofs.LineLengths.{lengths_more, count_more, tapped_helper}
-use Rattle.av_space.proofs.Nodes.{node_chained}
 
 known_of : (t : Timed) (legal : IsLegal t) (way : Way) → IsKnown t legal way → IfSome (helper_of way) (λ h. h < length t.helpers)
 known_of t legal each k = tt
@@ -29,7 +30,7 @@ known_helper : (t : Timed) → IsLegal t → (placings : List Placing) (cells : 
     → IfSome (helper_read (view_system t.flat) t.helpers cells p j) (λ h. h < length t.helpers)
 known_helper t legal placings cells p j c q d r =
     let s = view_system t.flat in
-    let f = fine_tap t legal (node_place s r.node) r.variable (node_chained s r.node r.variable legal.chained r.is_variable) j r.tap r.is_tap in
+    let f = fine_tap t legal (node_place s r.node) r.variable (chained_node s r.node r.variable legal.chained r.is_variable) j r.tap r.is_tap in
     subst (λ (o : Option ℕ). IfSome o (λ h. h < length t.helpers)) (sym (tapped_helper s t.helpers placings cells p j c q d r)) (known_of t legal r.tap.way f.known)
 
 -- so the registers of all lines grow by what that line grows

@@ -8,10 +8,9 @@ use Rattle.std.proofs.Math.ListN.{get_or-map}
 use Rattle.std.proofs.lemmas.List.FromFn.{take-map-range_with_len, get_or-map-range_with_len, length-map-range_with_len}
 use Rattle.av_flat.specs.declared.timed.Helper.{Helper}
 use Rattle.av_flat.specs.Trees.{Variable, FlatSystem}
-use Rattle.av_flat.specs.Nodes.{nodes}
-use Rattle.av_space.specs.Taps.{node_place, Tap, taps, taps_of}
+use Rattle.av_flat.specs.Nodes.{nodes, node_place, places_of}
+use Rattle.av_space.specs.Taps.{Tap, taps, taps_of}
 use Rattle.av_space.specs.inner.Sites.{TapMade, tap_of, AreTapsTo, AreNodeTaps}
-use Rattle.av_space.specs.Layouts.{places_of}
 
 -- one more value of a function
 one_value_more : {X : Type 0} (f : ℕ → X) (k : ℕ) → map f (range_with_len 0 (k + 1)) ≡ map f (range_with_len 0 k) ++ f k ∷ []

@@ -1,8 +1,7 @@
 -- What a layout knows of the computations on a cell.
 use Rattle.std.proofs.Common.{◌≡◌, ℕ, ◌<◌, IsTrue, Some, List, length, get_or, sym, ap, subst, ◌∙◌, arith}
 use Rattle.std.specs.Prelude.{slice_get, Contains, All, Any}
-use Rattle.std.proofs.lemmas.Option.{slice_get-get_or, slice_get_within}
-use Rattle.std.proofs.lemmas.List.FromFn.{length-map-range_with_len, get_or-map-range_with_len}
+use Rattle.std.proofs.lemmas.Option.{slice_get_within}
 use Rattle.std.proofs.lemmas.List.Elements.{All-contains, Contains-get_or}
 use Rattle.av_tree.specs.Points.{Point}
 use Rattle.av_flat.specs.declared.timed.Timed.{Timed}
@@ -20,22 +19,10 @@ use Rattle.av_space.specs.declared.layout.Slot.{Slot}
 use Rattle.av_space.specs.declared.layout.Layout.{Layout}
 use Rattle.av_space.specs.Coordinates.{Placing}
 use Rattle.av_space.specs.Occupancy.{Computes, AreCells, IsUsed}
-use Rattle.av_space.specs.Taps.{node_place}
 use Rattle.av_space.specs.Quantities.{IsUse}
-use Rattle.av_space.specs.Layouts.{IsSlot, AreSlots, IsLayout, places_of}
+use Rattle.av_space.specs.Layouts.{IsSlot, AreSlots, IsLayout}
 use Rattle.av_space.proofs.ByPlace.{place_of}
 use Rattle.av_base.proofs.Lists.{all_at, some_is}
-
--- ---- places
-
--- the places of nodes, one by one
-pub place_of_node : (s : FlatSystem) (n : ℕ) → n < length (nodes s) → slice_get (places_of s) n ≡ Some (node_place s n)
-place_of_node s n l =
-    let many = length-map-range_with_len (node_place s) 0 (length (nodes s)) in
-    slice_get-get_or (places_of s) n 0 (omega (arith, l, many)) ∙ ap (λ (k : ℕ). Some k) (get_or-map-range_with_len (node_place s) 0 (length (nodes s)) n n 0 l (omega arith))
-
-pub node_in_places : (s : FlatSystem) (places : List ℕ) (n : ℕ) → places ≡ places_of s → n < length (nodes s) → n < length places
-node_in_places s places n e l = slice_get_within places n (node_place s n) (ap (λ (xs : List ℕ). slice_get xs n) e ∙ place_of_node s n l)
 
 -- ---- cells
 

@@ -12,7 +12,7 @@ use Rattle.av_flat.specs.Points.{has}
 use Rattle.av_flat.specs.Signatures.{signatures}
 use Rattle.av_flat.specs.Chained.{IsChainedPiece}
 use Rattle.av_flat.specs.Legal.{IsLegal}
-use Rattle.av_flat.specs.Nodes.{is_node, number_at}
+use Rattle.av_flat.specs.Nodes.{is_node, number_at, node_place}
 use Rattle.av_flat.specs.Schedules.{cycle}
 use Rattle.av_space.specs.declared.cells.Cell.{Cell}
 use Rattle.av_space.specs.declared.layout.Slot.{Slot}
@@ -20,11 +20,12 @@ use Rattle.av_space.specs.declared.layout.Layout.{Layout}
 use Rattle.av_space.specs.declared.stretch.Reading.{Reading}
 use Rattle.av_space.specs.Coordinates.{Placing, along}
 use Rattle.av_space.specs.Occupancy.{AreCells, IsCellBefore, Computes}
-use Rattle.av_space.specs.Taps.{node_place, Way, each, entries, handed, Tap, taps, IsReadBy, IsTapRead}
+use Rattle.av_space.specs.Taps.{Way, each, entries, handed, Tap, taps, IsReadBy, IsTapRead}
 use Rattle.av_space.specs.Layouts.{IsLayout, IsSlot}
 use Rattle.av_space.specs.inner.Readings.{IsSiteOn, IsReadingAt}
 use Rattle.av_space.proofs.Elements.{at_index}
-use Rattle.av_space.proofs.Nodes.{passing, own_place, node_chained, computed_small}
+use Rattle.av_flat.proofs.NodeNumbers.{passing, own_place, chained_node}
+use Rattle.av_space.proofs.Nodes.{computed_small}
 use Rattle.av_space.proofs.OneArray.{cells_in_turn}
 use Rattle.av_space.proofs.Scheduling.{scheduled}
 use Rattle.av_space.proofs.Timely.{earlier}
@@ -105,7 +106,7 @@ module _ (t : Timed) (l : Layout) (legal : IsLegal t) (layout : IsLayout t l) wh
       let comp = (slot_computes p j n tap piece slots is c z at).stands.computation in
       let small = computed_small t n z legal comp in
       let same : comp.variable ≡ is.variable = some_is comp.variable is.variable (sym comp.is ∙ is.is_variable) in
-      let chained = node_chained own n is.variable legal.chained is.is_variable in
+      let chained = chained_node own n is.variable legal.chained is.is_variable in
       let own_piece = at_index (IsChainedPiece (signatures own) is.variable) is.variable.pieces chained.pieces tap.place.piece piece is.is_piece in
       (small.size ∙ ap (λ (v : Variable). v.domain.dim) same ∙ sym own_piece.dimension, small.small)
 

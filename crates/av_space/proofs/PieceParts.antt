@@ -1,32 +1,30 @@
 -- Pieces of nodes, their parts and their references to inputs.
 use Rattle.std.proofs.Common.{◌≡◌, ℕ, zero, suc, ◌+◌, ◌^◌, ◌<◌, ◌≤◌, Bool, true, false, not, IsTrue, Some, None, List, [], ◌∷◌, ◌++◌, length, get_or, refl, sym, ap, subst, ◌∙◌, arith}
 use Rattle.std.specs.Prelude.{slice_get, filter, All, Option, IfSome}
-use Rattle.std.proofs.lemmas.List.{length-append, length-map}
+use Rattle.std.proofs.lemmas.List.{length-map}
 use Rattle.std.proofs.lemmas.Option.{slice_get_within, get_or_from_slice_get}
 use Rattle.av_affine.specs.declared.map.Map.{Map}
 use Rattle.av_affine.specs.Forms.{IsWithinLimits}
 use Rattle.av_affine.specs.Numbers.{AtMost}
 use Rattle.av_tree.specs.Points.{Point}
-use Rattle.av_tree.specs.declared.sign.Sign.{Sign}
-use Rattle.av_tree.specs.declared.relation.Relation.{Relation}
 use Rattle.av_flat.specs.declared.flat.Var.{Var}
-use Rattle.av_flat.specs.declared.tree.Tree.{Tree as TreeMade}
-use Rattle.av_flat.specs.Trees.{Tree, Piece, Variable, view, view_piece, view_variable, view_system, reference, binary, choice}
+use Rattle.av_flat.specs.Trees.{Tree, Piece, Variable, view_piece, view_variable, view_system, reference}
 use Rattle.av_flat.specs.Broadcasts.{Reference, references}
-use Rattle.av_flat.specs.Nodes.{nodes}
+use Rattle.av_flat.specs.Nodes.{nodes, node_place}
 use Rattle.av_flat.specs.Legal.{IsMoving}
 use Rattle.av_flat.specs.Signatures.{Signature, signatures, signature, is_input, is_computed}
 use Rattle.av_flat.specs.WellFormed.{EachPart, Fits, HasSmallRows, dimension_of}
 use Rattle.av_poly.specs.Points.{Set}
 use Rattle.av_depend.specs.SetPoints.{IsPointOf}
-use Rattle.av_depend.proofs.Adds.{variable_at}
+use Rattle.av_flat.proofs.Reading.{each_reference}
+use Rattle.av_flat.proofs.NodeNumbers.{variable_at, node_variable, place_of_node, node_in_places}
 use Rattle.av_space.specs.declared.cells.InPort.{InPort}
 use Rattle.av_space.specs.declared.layout.Slot.{Slot}
 use Rattle.av_space.specs.declared.input_site.InputSite.{InputSite}
 use Rattle.av_space.specs.declared.ports.NodePiece.{NodePiece}
 use Rattle.av_space.specs.declared.ports.Ports.{Ports as Found}
 use Rattle.av_space.specs.Ports.{IsPort}
-use Rattle.av_space.specs.Taps.{node_of, node_place, helper_at, Handing}
+use Rattle.av_space.specs.Taps.{node_of, helper_at, Handing}
 use Rattle.av_space.specs.inner.Feeding.{direction_of, is_entered, with_port, StandAt}
 use Rattle.av_space.specs.inner.NodePieces.{IsNodePiece, IsPart, IsInputSite, ArePortsAt}
 use Rattle.av_space.proofs.ByPlace.{read_at}
@@ -34,9 +32,8 @@ use Rattle.av_space.proofs.Directions.{first_step}
 use Rattle.av_space.proofs.Fed.{IsSiteOn, next_cell, node_of_port, same_reference}
 use Rattle.av_space.proofs.FirstCells.{node_between}
 use Rattle.av_space.proofs.Helpers.{found_helper}
-use Rattle.av_space.proofs.Nodes.{node_variable}
-use Rattle.av_space.proofs.OnCells.{IsCellOf, place_of_node, node_in_places, slot_points}
-use Rattle.av_base.proofs.Lists.{all_at, some_is, there_is}
+use Rattle.av_space.proofs.OnCells.{IsCellOf, slot_points}
+use Rattle.av_base.proofs.Lists.{all_at, each_at, some_is, there_is}
 
 -- ---- parts
 
@@ -57,54 +54,22 @@ stand_right {X} j xs ys whole h i x e =
     right [] i e = let a : i ≡ 0 + i = omega arith in subst (λ (n : ℕ). slice_get ys n ≡ Some x) a e
     right (y ∷ xs) i e = let a : suc (length xs + i) ≡ suc (length xs) + i = omega arith in subst (λ (n : ℕ). slice_get (y ∷ (xs ++ ys)) n ≡ Some x) a (right xs i e)
 
-pub part_left : (at : NodePiece) (j : ℕ) (g : Sign) (l r : Tree) → IsPart at j (binary g l r) → IsPart at j l
-part_left at j g l r h = record {
-  stand = stand_left j (references l) (references r) _ h.stand;
-  fits = h.fits.0;
-  rows = h.rows.1;
-  few = (let a = h.few in let e = length-append (references l) (references r) in omega (arith, a, e));
-}
-
-pub part_right : (at : NodePiece) (j : ℕ) (g : Sign) (l r : Tree) → IsPart at j (binary g l r) → IsPart at (j + length (references l)) r
-part_right at j g l r h = record {
-  stand = stand_right j (references l) (references r) _ h.stand;
-  fits = h.fits.1;
-  rows = h.rows.2;
-  few = (let a = h.few in let e = length-append (references l) (references r) in omega (arith, a, e));
-}
-
--- the four parts of a choice
-pub record ArePartsOfChoice (at : NodePiece) (j : ℕ) (l r x y : Tree) : Type 0 where
-  pub left : IsPart at j l
-  pub right : IsPart at (j + length (references l)) r
-  pub first : IsPart at (j + length (references l) + length (references r)) x
-  pub second : IsPart at (j + length (references l) + length (references r) + length (references x)) y
-
-pub parts_of_choice : (at : NodePiece) (j : ℕ) (l : Tree) (c : Relation) (r x y : Tree) → IsPart at j (choice l c r x y) → ArePartsOfChoice at j l r x y
-parts_of_choice at j l c r x y h =
-    let ls = references l in
-    let rs = references r in
-    let xs = references x in
-    let ys = references y in
-    let whole = references (view_piece at.piece.now).tree in
-    let three = stand_left j (ls ++ rs ++ xs) ys whole h.stand in
-    let two = stand_left j (ls ++ rs) xs whole three in
-    let a = h.few in
-    let e = length-append (ls ++ rs ++ xs) ys in
-    let f = length-append (ls ++ rs) xs in
-    let g = length-append ls rs in
-    let n2 : j + length (ls ++ rs) ≡ j + length ls + length rs = omega (arith, g) in
-    let n3 : j + length (ls ++ rs ++ xs) ≡ j + length ls + length rs + length xs = omega (arith, f, g) in
+-- each reference of a part that begins with the first one
+pub part_at : (at : NodePiece) (t : Tree) (j : ℕ) (r : Reference) → IsPart at 0 t → slice_get (references t) j ≡ Some r → IsPart at j (reference r.place r.map)
+part_at at t j r h e =
+    let Q = Fits (signatures (view_system at.timed.now.flat)) at.piece.now.domain.dim in
+    let l = slice_get_within (references t) j r e in
+    let few = h.few in
     record {
-      left = record { stand = stand_left j ls rs whole two; fits = h.fits.0; rows = h.rows.1; few = omega (arith, a, e, f, g) };
-      right = record { stand = stand_right j ls rs whole two; fits = h.fits.1; rows = h.rows.2; few = omega (arith, a, e, f, g) };
-      first = record { stand = subst (λ (n : ℕ). StandAt n xs whole) n2 (stand_right j (ls ++ rs) xs whole three); fits = h.fits.2; rows = h.rows.3; few = omega (arith, a, e, f, g) };
-      second = record { stand = subst (λ (n : ℕ). StandAt n ys whole) n3 (stand_right j (ls ++ rs ++ xs) ys whole h.stand); fits = h.fits.3; rows = h.rows.4; few = omega (arith, a, e, f, g) };
+      stand = one;
+      fits = each_at (λ (q : Reference). Q (reference q.place q.map)) (references t) j r (each_reference Q (λ g a b k. k) (λ a o b x y k. k) t h.fits) e;
+      rows = each_at (λ (q : Reference). EachPart HasSmallRows (reference q.place q.map)) (references t) j r (each_reference (EachPart HasSmallRows) (λ g a b k. (k.1, k.2)) (λ a o b x y k. (k.1, k.2, k.3, k.4)) t h.rows) e;
+      few = omega (arith, l, few);
     }
-
--- a part with another number, and the tree that the code has
-pub part_is : (at : NodePiece) (j k : ℕ) (t : Tree) (u v : TreeMade) → k ≡ j → u ≡ v → view v ≡ t → IsPart at j t → IsPart at k (view u)
-part_is at j k t u v e f g h = subst (λ (n : ℕ). IsPart at n (view u)) (sym e) (subst (IsPart at j) (sym g ∙ ap view (sym f)) h)
+  where
+    one : (i : ℕ) (x : Reference) → slice_get (r ∷ []) i ≡ Some x → slice_get (references (view_piece at.piece.now).tree) (j + i) ≡ Some x
+    one zero x f = let first : 0 + j ≡ j + 0 = omega arith in subst (λ (n : ℕ). slice_get (references (view_piece at.piece.now).tree) n ≡ Some x) first (h.stand j r e ∙ f)
+    one (suc i) x f = absurd cc
 
 -- the whole piece
 pub whole_part : (at : NodePiece) → Fits (signatures (view_system at.timed.now.flat)) at.piece.now.domain.dim (view_piece at.piece.now).tree → EachPart HasSmallRows (view_piece at.piece.now).tree

@@ -13,7 +13,7 @@ use Rattle.av_flat.specs.declared.flat.Kind.TheVariants as kind
 use Rattle.av_flat.specs.declared.tree.Choice.{Choice}
 use Rattle.av_flat.specs.Trees.{Tree, Piece, Variable, FlatSystem, reference, binary, pick}
 use Rattle.av_flat.specs.Points.{has}
-use Rattle.av_flat.specs.Nodes.{nodes}
+use Rattle.av_flat.specs.Nodes.{nodes, node_place}
 use Rattle.av_flat.specs.Schedules.{cycle}
 use Rattle.av_flat.specs.Values.{picked}
 use Rattle.av_flat.proofs.Sets.{has_is}
@@ -21,7 +21,7 @@ use Rattle.av_space.specs.declared.cells.Cell.{Cell}
 use Rattle.av_space.specs.declared.cells.Link.{Link}
 use Rattle.av_space.specs.Coordinates.{Placing, along}
 use Rattle.av_space.specs.Occupancy.{Occupies, IsUsed, IsCellBefore, AreCells, Computes}
-use Rattle.av_space.specs.Taps.{Tap, taps, node_place, IsTapped, IsTapRead, each}
+use Rattle.av_space.specs.Taps.{Tap, taps, IsTapped, IsTapRead, each}
 use Rattle.av_space.specs.Links.{IsStretch, IsLinkBefore, AreNeighbours, AreLinks, delay_count}
 use Rattle.av_space.specs.Ports.{output_cells}
 use Rattle.av_space.proofs.Diagonal.{form, i, j, zero_or_one}

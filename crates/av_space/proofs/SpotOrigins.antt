@@ -21,7 +21,8 @@ use Rattle.av_space.specs.declared.origin.Origin.TheVariants as origin
 use Rattle.av_space.specs.declared.spots.Site.{Site}
 use Rattle.av_space.specs.declared.spots.Spot.{Spot}
 use Rattle.av_space.specs.declared.stretch.Reading.{Reading}
-use Rattle.av_space.specs.Taps.{Handing, helper_at, IsReadAt, Place, each, entries, handed, Tap, taps_by, taps_at, IsReadBy, IsTapRead}
+use Rattle.av_flat.specs.Sites.{Place}
+use Rattle.av_space.specs.Taps.{Handing, helper_at, IsReadAt, each, entries, handed, Tap, taps_by, taps_at, IsReadBy, IsTapRead}
 use Rattle.av_depend.specs.ComputedPlaces.{computed_at}
 use Rattle.av_space.specs.Spots.{system_of, helpers_of, IsArray, IsSpot, IsSlotIn, IsSiteOf, handing_by, handed_tap, own_way, IsLinkedBy, IsReferenceOrigin, at_port, over_link, IsPickOrigin}
 use Rattle.av_space.specs.inner.SpotTaps.{own_tap}

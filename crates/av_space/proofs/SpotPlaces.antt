@@ -13,7 +13,8 @@ use Rattle.av_flat.specs.Chained.{IsOfPartial}
 use Rattle.av_flat.specs.Signatures.{Signature, signature, signatures, is_kind, is_computed}
 use Rattle.av_flat.specs.WellFormed.{EachPart}
 use Rattle.av_depend.proofs.Adds.{among_filter}
-use Rattle.av_space.specs.Taps.{Place, places_in, places_from, Tap, taps_at, is_own, all_taps, taps}
+use Rattle.av_flat.specs.Sites.{Place, places_in, places_from}
+use Rattle.av_space.specs.Taps.{Tap, taps_at, is_own, all_taps, taps}
 use Rattle.av_depend.specs.ComputedPlaces.{computed_at}
 use Rattle.av_space.specs.inner.Feeding.{StandAt}
 use Rattle.av_space.specs.inner.SpotTaps.{IsComputedRead}

@@ -14,15 +14,16 @@ use Rattle.av_space.specs.declared.layout.Slot.{Slot}
 use Rattle.av_space.specs.declared.spots.Site.{Site}
 use Rattle.av_space.specs.declared.spots.Spot.{Spot}
 use Rattle.av_space.specs.declared.stretch.Reading.{Reading}
-use Rattle.av_space.specs.Taps.{node_place, Handing, helper_at, IsReadAt, Place, Way, Tap, taps_at, IsReadBy, IsTapRead, IsTapped}
+use Rattle.av_flat.specs.Sites.{Place, place_of}
+use Rattle.av_flat.specs.Nodes.{node_place}
+use Rattle.av_space.specs.Taps.{Handing, helper_at, IsReadAt, Way, Tap, taps_at, IsReadBy, IsTapRead, IsTapped}
 use Rattle.av_space.specs.Links.{IsStretch}
-use Rattle.av_space.specs.Sites.{place_of}
 use Rattle.av_space.specs.Spots.{system_of, helpers_of, placings_of, cells_of, IsArray, IsSpot, IsSlotIn, IsSiteOf, handing_by, IsLinkedBy}
 use Rattle.av_space.specs.inner.Readings.{IsFineTap, IsSiteOn, IsSite, IsReadingAt, IsReadingOf}
 use Rattle.av_space.specs.inner.SpotTaps.{IsSpotTap, IsReadThere, IsComputedRead, IsPortSite}
+use Rattle.av_flat.proofs.NodeNumbers.{chained_node, node_variable}
 use Rattle.av_space.proofs.Elements.{in_range, at_index}
 use Rattle.av_space.proofs.FineSites.{fine_tap}
-use Rattle.av_space.proofs.Nodes.{node_chained, node_variable}
 use Rattle.av_space.proofs.OneReading.{read_before}
 use Rattle.av_space.proofs.Scheduling.{scheduled}
 use Rattle.av_space.proofs.SiteLinks.{to_tapped}
@@ -43,7 +44,7 @@ module _ (a : Array) (is : IsArray a) (at : Spot) (spot : IsSpot a at) where
 
   -- the piece of a variable of a chained system
   pub chained : IsChainedPiece (signatures s) v piece
-  chained = at_index (IsChainedPiece (signatures s) v) v.pieces (node_chained s at.node v is.legal.chained spot.is_variable).pieces at.number piece spot.is_piece
+  chained = at_index (IsChainedPiece (signatures s) v) v.pieces (chained_node s at.node v is.legal.chained spot.is_variable).pieces at.number piece spot.is_piece
 
   -- ---- a tap site at a computation
 
@@ -71,7 +72,7 @@ module _ (a : Array) (is : IsArray a) (at : Spot) (spot : IsSpot a at) where
 
     pub fine : IsFineTap at.piece.now.domain.dim (length a.timed.now.flat.vars) tap
     fine =
-        let f = fine_tap a.timed.now is.legal (node_place s at.node) v (node_chained s at.node v is.legal.chained spot.is_variable) tapped.number tap tapped.is_tap in
+        let f = fine_tap a.timed.now is.legal (node_place s at.node) v (chained_node s at.node v is.legal.chained spot.is_variable) tapped.number tap tapped.is_tap in
         let same : f.piece ≡ piece = some_is f.piece piece (sym f.is_piece ∙ site_on.is_piece) in
         subst (λ (k : ℕ). IsFineTap piece.domain.dim k tap) (length-map a.timed.now.flat.vars view_variable)
         (subst (λ (q : Piece). IsFineTap q.domain.dim (length s.variables) tap) same f.fine)

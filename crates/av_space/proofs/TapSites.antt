@@ -5,9 +5,9 @@ use Rattle.std.specs.List.{flat_map}
 use Rattle.std.proofs.lemmas.List.Elements.{filter-append}
 use Rattle.av_flat.specs.declared.timed.Helper.{Helper}
 use Rattle.av_flat.specs.Trees.{Tree, Variable, FlatSystem, reference, constant, binary, choice, restriction, cases, dependence, reduction, pick}
-use Rattle.av_space.specs.Taps.{Place, Tap, Handing, places_from, helper_at, taps_by, taps_at, taps}
+use Rattle.av_flat.specs.Sites.{Place, places_from, PlaceMade, place_of}
+use Rattle.av_space.specs.Taps.{Tap, Handing, helper_at, taps_by, taps_at, taps}
 use Rattle.av_depend.specs.ComputedPlaces.{computed_at}
-use Rattle.av_space.specs.Sites.{PlaceMade, place_of}
 use Rattle.av_space.specs.inner.Sites.{is_among, taps_where}
 
 -- ---- the taps of places

@@ -30,10 +30,11 @@ use Rattle.av_flat.specs.Reads.{IsRead, IsPair}
 use Rattle.av_flat.specs.Chained.{ReadsThere}
 use Rattle.av_flat.specs.Helped.{before}
 use Rattle.av_space.specs.inner.SpotTaps.{IsComputedRead}
-use Rattle.av_space.specs.Taps.{Handing, helper_at, Place, places_in, places_from, Way, each, entries, handed, Tap, taps_by, taps_at, is_own, all_taps, taps, IsReadBy, IsTapRead}
+use Rattle.av_flat.specs.Sites.{Place, places_in, places_from}
+use Rattle.av_space.specs.Taps.{Handing, helper_at, Way, each, entries, handed, Tap, taps_by, taps_at, is_own, all_taps, taps, IsReadBy, IsTapRead}
 use Rattle.av_depend.specs.ComputedPlaces.{computed_at}
 use Rattle.av_space.proofs.Elements.{each_at, in_range}
-use Rattle.av_space.proofs.NodePlaces.{node_at}
+use Rattle.av_flat.proofs.Cycles.{node_at}
 use Rattle.av_space.proofs.CountBounds.{natural}
 use Rattle.av_base.proofs.Among.{among_at}
 use Rattle.av_base.proofs.Lists.{each_append, each_by_place, each_filtered, each_weaker, get_mapped, some_is, there_is, place_in}
@@ -292,7 +293,7 @@ earlier s hs placings cells g p c n z own v is_own node number computes piece j 
     among = among_at s.variables own v is_own
 
     is_reader : slice_get (nodes s) n ≡ Some v
-    is_reader = subst (λ m. slice_get (nodes s) m ≡ Some v) (sym number) (node_at s.variables own v is_own node)
+    is_reader = subst (λ m. slice_get (nodes s) m ≡ Some v) (sym number) (node_at is_node s.variables own v is_own node)
 
     -- with the placing of the computation that is read
     placed : (comp : IsComputation s k y) → ((t u : Time) → slice_get (map (λ (p : Placing). p.time) placings) n ≡ Some t → slice_get (map (λ (p : Placing). p.time) placings) k ≡ Some u → (cycle u y +ℤ pos 1) ≤ℤ cycle t z)
@@ -313,7 +314,7 @@ earlier s hs placings cells g p c n z own v is_own node number computes piece j 
         let read = part z place y r in
         let w = read_node s hs placings cells g v among tap.place.piece piece is_piece z inside place y read computed in
         let comp : IsComputation s k y =
-        record { variable = w.variable; is = subst (λ m. slice_get (nodes s) m ≡ Some w.variable) (sym e) (node_at s.variables place w.variable w.is w.node); declared = w.declared } in
+        record { variable = w.variable; is = subst (λ m. slice_get (nodes s) m ≡ Some w.variable) (sym e) (node_at is_node s.variables place w.variable w.is w.node); declared = w.declared } in
         let pair : IsPair s n z k y = record {
           reader = v;
           is_reader = is_reader;

@@ -1,16 +1,14 @@
 -- Layouts of legal systems: cells with the computations on each by cycle, within the limits on cycles and cells.
-use Rattle.std.specs.Prelude.{◌≡◌, ℕ, ◌<◌, ◌≤◌, List, All, AllPairs, Contains, Some, slice_get, length, map}
-use Rattle.std.specs.List.{range_with_len}
+use Rattle.std.specs.Prelude.{◌≡◌, ℕ, ◌<◌, ◌≤◌, List, All, AllPairs, Contains, Some, slice_get, length}
 use Rattle.av_tree.specs.Points.{Point}
 use Rattle.av_flat.specs.declared.timed.Timed.{Timed}
 use Rattle.av_flat.specs.Trees.{FlatSystem, view_system}
-use Rattle.av_flat.specs.Nodes.{nodes, number_at}
+use Rattle.av_flat.specs.Nodes.{places_of, numbers_of}
 use Rattle.av_space.specs.declared.cells.Cell.{Cell}
 use Rattle.av_space.specs.declared.layout.Slot.{Slot}
 use Rattle.av_space.specs.declared.layout.Layout.{Layout}
 use Rattle.av_space.specs.Coordinates.{Placing, ArePlacings}
 use Rattle.av_space.specs.Occupancy.{AreCells, Computes}
-use Rattle.av_space.specs.Taps.{node_place}
 use Rattle.av_space.specs.Quantities.{IsCycleCount}
 
 -- the computation is on the cell with this number
@@ -23,14 +21,6 @@ pub record AreSlots (s : FlatSystem) (placings : List Placing) (cells : List Cel
   pub each : All (IsSlot s placings cells p) slots
   pub all : (c n : ℕ) (z : Point) → Computes s placings cells p c n z → Contains slots (record { cycle = c; point = z })
   pub order : AllPairs (λ a b. a.cycle < b.cycle) slots
-
--- the place of each node among the variables
-abbrev pub places_of : FlatSystem → List ℕ
-places_of s = map (node_place s) (range_with_len 0 (length (nodes s)))
-
--- how many nodes stand before each variable
-abbrev pub numbers_of : FlatSystem → List ℕ
-numbers_of s = map (number_at s) (range_with_len 0 (length s.variables))
 
 pub record IsLayout (t : Timed) (l : Layout) : Type 0 where
   pub are_placings : ArePlacings t.times l.placements

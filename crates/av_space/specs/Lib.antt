@@ -10,6 +10,5 @@ pub mod SpaceFaults
 pub mod Arrays
 pub mod Whole
 pub mod Layouts
-pub mod Sites
 pub mod Spots
 pub mod inner

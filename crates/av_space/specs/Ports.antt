@@ -12,8 +12,8 @@ use Rattle.av_space.specs.Coordinates.{Placing}
 use Rattle.av_space.specs.declared.cells.Cell.{Cell}
 use Rattle.av_space.specs.declared.cells.InPort.{InPort}
 use Rattle.av_flat.specs.Broadcasts.{references}
-use Rattle.av_space.specs.Taps.{node_place, helper_at, IsReadAt, node_of}
-use Rattle.av_flat.specs.Nodes.{nodes}
+use Rattle.av_space.specs.Taps.{helper_at, IsReadAt, node_of}
+use Rattle.av_flat.specs.Nodes.{nodes, node_place}
 use Rattle.av_space.specs.Occupancy.{Computes}
 
 -- on the port's cell the reference reads an input in cycle c, at the point z; with a helper it reads at entry points alone

@@ -11,7 +11,7 @@ use Rattle.av_flat.specs.Signatures.{is_input}
 use Rattle.av_flat.specs.Values.{picked}
 use Rattle.av_flat.specs.Broadcasts.{references}
 use Rattle.av_flat.specs.Legal.{IsLegal}
-use Rattle.av_flat.specs.Nodes.{is_node, nodes}
+use Rattle.av_flat.specs.Nodes.{is_node, nodes, node_place}
 use Rattle.av_space.specs.declared.array.Array.{Array}
 use Rattle.av_space.specs.declared.cells.Cell.{Cell}
 use Rattle.av_space.specs.declared.cells.Link.{Link}
@@ -23,13 +23,13 @@ use Rattle.av_space.specs.declared.spots.Site.{Site}
 use Rattle.av_space.specs.declared.spots.Spot.{Spot}
 use Rattle.av_space.specs.Coordinates.{Placing}
 use Rattle.av_space.specs.Occupancy.{Computes}
-use Rattle.av_space.specs.Taps.{node_place, Handing, helper_at, Place, places_in, Way, each, entries, handed, Tap, taps}
+use Rattle.av_flat.specs.Sites.{Place, places_in, place_of}
+use Rattle.av_space.specs.Taps.{Handing, helper_at, Way, each, entries, handed, Tap, taps}
 use Rattle.av_space.specs.Links.{IsInLink, AreLinks}
 use Rattle.av_space.specs.Ports.{ArePorts}
 use Rattle.av_space.specs.Whole.{IsWhole}
 use Rattle.av_space.specs.Layouts.{IsLayout}
 use Rattle.av_space.specs.Lengths.{AreLengths}
-use Rattle.av_space.specs.Sites.{place_of}
 
 -- ---- the array
 

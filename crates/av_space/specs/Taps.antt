@@ -1,31 +1,20 @@
 -- What cells tap: the places of the pieces of a node that read computed variables, the pipelines of references that are
 -- moved, and what each reads in a cycle.
-use Rattle.std.specs.Prelude.{◌≡◌, ℕ, zero, suc, ◌+◌, ◌&&◌, not, nat_eq, Bool, true, false, List, [], ◌∷◌, ◌++◌, length, filter, IsTrue, Option, Some, None, slice_get, if◌then◌else◌}
+use Rattle.std.specs.Prelude.{◌≡◌, ℕ, suc, ◌+◌, ◌&&◌, not, nat_eq, Bool, true, false, List, [], ◌∷◌, ◌++◌, filter, IsTrue, Option, Some, None, slice_get, if◌then◌else◌}
 use Rattle.std.specs.List.{flat_map}
 use Rattle.av_affine.specs.Maps.{image}
 use Rattle.av_tree.specs.Points.{Point}
-use Rattle.av_flat.specs.Trees.{Tree, Piece, Variable, FlatSystem, reference, binary, choice, pick}
+use Rattle.av_flat.specs.Trees.{Tree, Piece, Variable, FlatSystem, reference, pick}
 use Rattle.av_flat.specs.Points.{has}
 use Rattle.av_flat.specs.Values.{picked}
 use Rattle.av_flat.specs.declared.timed.Helper.{Helper}
 use Rattle.av_depend.specs.ComputedPlaces.{computed_at}
 use Rattle.av_space.specs.Coordinates.{Placing}
 use Rattle.av_space.specs.declared.cells.Cell.{Cell}
-use Rattle.av_flat.specs.Broadcasts.{references}
 use Rattle.av_flat.specs.Helped.{before, IsEntry}
-use Rattle.av_flat.specs.Nodes.{is_node, nodes, number_at}
+use Rattle.av_flat.specs.Nodes.{nodes, number_at, node_place}
+use Rattle.av_flat.specs.Sites.{Place, places_from}
 use Rattle.av_space.specs.Occupancy.{Computes}
-
--- ---- places of nodes
-
--- the place among the variables of the node with this number, where they stand from a place on
-abbrev pub place_from : ℕ → ℕ → List Variable → ℕ
-place_from place n [] = place
-place_from place zero (v ∷ vs) = if is_node v then place else place_from (suc place) zero vs
-place_from place (suc n) (v ∷ vs) = if is_node v then place_from (suc place) n vs else place_from (suc place) (suc n) vs
-
-abbrev pub node_place : FlatSystem → ℕ → ℕ
-node_place s n = place_from 0 n s.variables
 
 -- ---- helpers of references
 
@@ -47,28 +36,6 @@ helper_at hs place piece site = helper_from 0 hs place piece site
 abbrev pub IsReadAt : Option Handing → Piece → Point → Type 0
 IsReadAt None piece z = Unit {0}
 IsReadAt (Some h) piece z = IsEntry piece.domain h.direction z
-
--- ---- places
-
--- a place of a piece that reads; of a reference with its number in the piece
-pub record Place : Type 0 where
-  pub piece : ℕ
-  pub site : ℕ
-  pub tree : Tree
-
--- the places of a tree that read, in the order of the text; its references have the numbers from n on
-abbrev pub places_in : ℕ → ℕ → Tree → List Place
-places_in k n (reference place m) = record { piece = k; site = n; tree = reference place m } ∷ []
-places_in k n (binary g l r) = places_in k n l ++ places_in k (n + length (references l)) r
-places_in k n (choice l c r x y) =
-    places_in k n l ++ places_in k (n + length (references l)) r ++ places_in k (n + length (references l) + length (references r)) x
-    ++ places_in k (n + length (references l) + length (references r) + length (references x)) y
-places_in k n (pick place choices m) = record { piece = k; site = n; tree = pick place choices m } ∷ []
-places_in k n _ = []
-
-abbrev pub places_from : ℕ → List Piece → List Place
-places_from k [] = []
-places_from k (p ∷ pieces) = places_in k 0 p.tree ++ places_from (suc k) pieces
 
 -- ---- tap sites
 

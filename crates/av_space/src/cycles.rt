@@ -6,7 +6,7 @@ ghost use Rattle.av_flat.specs.Legal.{IsLegal};
 ghost use Rattle.av_flat.specs.Schedules.{cycle};
 ghost use Rattle.av_flat.specs.Trees.{view_system};
 ghost use Rattle.av_space.specs.SpaceFaults.{IsCycles};
-ghost use Rattle.av_space.specs.Layouts.{places_of};
+ghost use Rattle.av_flat.specs.Nodes.{places_of};
 
 use crate::placement::cycle_of;
 use crate::points::node_points;

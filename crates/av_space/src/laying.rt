@@ -5,7 +5,8 @@ ghost use Rattle.av_flat.specs.Legal.{IsLegal};
 ghost use Rattle.av_flat.specs.Trees.{view_system};
 ghost use Rattle.av_space.specs.Coordinates.{Placing, IsPlacing, ArePlacings};
 ghost use Rattle.av_space.specs.SpaceFaults.{IsCycles, IsSpaceFault};
-ghost use Rattle.av_space.specs.Layouts.{IsLayout, places_of, numbers_of};
+ghost use Rattle.av_flat.specs.Nodes.{places_of, numbers_of};
+ghost use Rattle.av_space.specs.Layouts.{IsLayout};
 ghost use Rattle.av_space.specs.inner.Laying.{HasFewCycles, HasCellCount, AreCellsIn, AreFilled};
 
 use crate::cells::Cell;

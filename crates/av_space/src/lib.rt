@@ -44,4 +44,4 @@ pub use mapping::map;
 pub use origin::Origin;
 pub use spots::{Ends, Site, Spot, ends_of};
 pub use stretch::Reading;
-pub use tap::{Handing, Place};
+pub use tap::Handing;

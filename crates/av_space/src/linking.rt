@@ -4,7 +4,8 @@ ghost use Rattle.std.specs.Prelude.{ℕ, ◌≡◌, ◌↔◌, ◌<◌, List as 
 ghost use Rattle.av_flat.specs.Trees.{view_piece, view_system, view_variable};
 ghost use Rattle.av_flat.specs.Legal.{IsLegal};
 ghost use Rattle.av_space.specs.declared.layout.Slot.{Slot as SlotSeen};
-ghost use Rattle.av_space.specs.Taps.{node_place, taps, IsTapped};
+ghost use Rattle.av_flat.specs.Nodes.{node_place};
+ghost use Rattle.av_space.specs.Taps.{taps, IsTapped};
 ghost use Rattle.av_space.specs.Links.{AreLinks};
 ghost use Rattle.av_space.specs.Layouts.{IsLayout};
 ghost use Rattle.av_space.specs.inner.Sites.{tap_of, AreNodeTaps};

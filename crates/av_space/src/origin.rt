@@ -6,7 +6,7 @@ ghost use Rattle.av_flat.specs.Helped.{before};
 ghost use Rattle.av_flat.specs.Points.{has};
 ghost use Rattle.av_flat.specs.Trees.{view, view_piece};
 ghost use Rattle.av_space.specs.Ports.{IsPortBefore};
-ghost use Rattle.av_space.specs.Sites.{place_of};
+ghost use Rattle.av_flat.specs.Sites.{place_of};
 ghost use Rattle.av_space.specs.Spots.{own_way};
 ghost use Rattle.av_space.specs.Taps.{IsReadAt, IsReadBy};
 ghost use Rattle.av_space.specs.inner.Sites.{tap_of, way_of};
@@ -135,7 +135,7 @@ impl Array<'_> {
         let port = PortPlace {
             cell: spot.cell,
             piece: spot.number,
-            site: place.site,
+            site: place.site as usize,
         };
         let cells = self.layout.cells.as_slice();
         port_at(cells, self.cells.inputs.as_slice(), &port)

@@ -6,7 +6,7 @@ ghost use Rattle.av_flat.specs.Sets.{IsBounded};
 ghost use Rattle.av_flat.specs.Legal.{IsLegal};
 ghost use Rattle.av_flat.specs.Trees.{view_system};
 ghost use Rattle.av_depend.specs.AllPoints.{AreAllPoints};
-ghost use Rattle.av_space.specs.Layouts.{places_of};
+ghost use Rattle.av_flat.specs.Nodes.{places_of};
 ghost use Rattle.av_space.specs.inner.Laying.{AreNodePoints};
 
 use crate::node_places::variable_of;

@@ -20,7 +20,7 @@ use crate::layout::{Layout, Slot};
 use crate::node_places::variable_of;
 use av_affine::Map;
 use av_base::{List, Memory};
-use av_flat::{Piece, Timed, Tree};
+use av_flat::{Piece, Timed, tree_references};
 use av_net::Entry;
 use std::alloc::Global;
 
@@ -125,47 +125,19 @@ fn add_reference(
     add_site(alloc, at, number, &site, ports)
 }
 
-// The ports of the references in a tree, whose first one has this number; the number after its last one.
-fn add_tree(
-    alloc: Global,
-    at: &NodePiece,
-    tree: &Tree,
-    number: usize,
-    ports: &mut Ports,
-) -> Result<usize, Memory>
+// The ports of the references in the piece.
+fn add_piece(alloc: Global, at: &NodePiece, ports: &mut Ports) -> Result<(), Memory>
     requires at { IsNodePiece at.now }
-    requires part { IsPart at.now number (view tree.now) }
-    requires old { ArePortsAt at.now number at.now.first ports.old }
-    ensures { IfOk result (λ next. (next ≡ number + length (references (view tree.now))) × ArePortsAt at.now next at.now.first ports.new) }
+    requires part { IsPart at.now 0 (view at.now.piece.now.tree) }
+    requires old { ArePortsAt at.now 0 at.now.first ports.old }
+    ensures { OnOk result (ArePortsAt at.now (length (references (view at.now.piece.now.tree))) at.now.first ports.new) }
 {
-    match tree {
-        Tree::Ref { var, map } => {
-            add_reference(alloc, at, number, *var, map, ports)?;
-            Ok(number + 1)
-        }
-        Tree::Binary { left, right, .. } => {
-            let number = add_tree(alloc, at, left, number, ports)?;
-            add_tree(alloc, at, right, number, ports)
-        }
-        Tree::Choose {
-            left,
-            right,
-            yes,
-            no,
-            ..
-        } => {
-            let number = add_tree(alloc, at, left, number, ports)?;
-            let number = add_tree(alloc, at, right, number, ports)?;
-            let number = add_tree(alloc, at, yes, number, ports)?;
-            add_tree(alloc, at, no, number, ports)
-        }
-        Tree::Const(_) => Ok(number),
-        Tree::Restrict { .. } => Ok(number),
-        Tree::Case { .. } => Ok(number),
-        Tree::Depend { .. } => Ok(number),
-        Tree::Reduce { .. } => Ok(number),
-        Tree::Pick { .. } => Ok(number),
+    let piece = at.piece;
+    let found = tree_references(alloc, &piece.tree)?;
+    for (number, reference) in found.as_slice().iter().enumerate() {
+        add_reference(alloc, at, number, reference.var, reference.map, ports)?;
     }
+    Ok(())
 }
 
 // The ports of a node with these cells.
@@ -199,7 +171,7 @@ fn add_node(
             first,
             last,
         };
-        add_tree(alloc, &at, &piece.tree, 0, ports)?;
+        add_piece(alloc, &at, ports)?;
     }
     Ok(())
 }

@@ -6,7 +6,7 @@ ghost use Rattle.av_affine.specs.Numbers.{AtMost};
 ghost use Rattle.av_flat.specs.Legal.{IsLegal};
 ghost use Rattle.av_flat.specs.Trees.{view_system};
 ghost use Rattle.av_space.specs.Coordinates.{IsPlacing};
-ghost use Rattle.av_space.specs.Layouts.{places_of};
+ghost use Rattle.av_flat.specs.Nodes.{places_of};
 ghost use Rattle.av_space.specs.inner.Laying.{HasFewCycles, IsTimely, IsRunEnd, AreRanked, rank_from, ranked_at};
 
 use crate::layout::Slot;

@@ -1,10 +1,9 @@
 //! The pieces on the cells of an array, and their places that read.
 
-ghost use Rattle.std.specs.Prelude.{◌≡◌, ◌<◌, length, map, filter, All, AllPairs, IfOk};
+ghost use Rattle.std.specs.Prelude.{◌≡◌, ◌<◌, length, filter, All, AllPairs, IfOk};
 ghost use Rattle.av_flat.specs.Points.{has};
 ghost use Rattle.av_flat.specs.Trees.{view};
-ghost use Rattle.av_space.specs.Taps.{places_in};
-ghost use Rattle.av_space.specs.Sites.{place_of};
+ghost use Rattle.av_flat.specs.Sites.{place_of};
 ghost use Rattle.av_space.specs.Spots.{AreEnds, handing_by};
 ghost use Rattle.av_depend.specs.SetPoints.{IsPointOf};
 
@@ -13,10 +12,10 @@ use crate::layout::Slot;
 use crate::linking::piece_at;
 use crate::node_places::variable_of;
 use crate::reading::is_in;
-use crate::tap::{Handing, Place};
-use crate::tapping::{helper_at, same, tree_places};
+use crate::tap::Handing;
+use crate::tapping::{helper_at, same};
 use av_base::{List, Memory};
-use av_flat::{Helper, Piece, Tree, Var};
+use av_flat::{Helper, Piece, ReadingPlace, Tree, Var, tree_places};
 use av_poly::Poly;
 use std::alloc::Global;
 
@@ -43,7 +42,7 @@ pub struct Ends {
 /// A place of a piece that reads, with the helper of its reference.
 #[derive(Drop)]
 pub struct Site<'a> {
-    pub place: Place<'a>,
+    pub place: ReadingPlace<'a>,
     pub handing: Option<Handing>,
 }
 
@@ -74,22 +73,13 @@ fn slots_in(alloc: Global, slots: &[Slot], set: &Poly) -> Result<List<Slot>, Mem
 }
 
 // The helper of a place that is a reference, of the variable at the place `own`.
-fn handing(helpers: &[Helper], own: usize, place: &Place<'_>) -> Option<Handing>
+fn handing(helpers: &[Helper], own: usize, place: &ReadingPlace<'_>) -> Option<Handing>
     ensures { result ≡ handing_by helpers.now own (place_of place.now) (view place.now.tree) }
 {
     match place.tree {
-        Tree::Ref { .. } => helper_at(helpers, own, place.piece, place.site),
+        Tree::Ref { .. } => helper_at(helpers, own, place.piece, place.site as usize),
         _ => None,
     }
-}
-
-// The places of a piece that read.
-fn places<'a>(alloc: Global, number: usize, piece: &'a Piece) -> Result<List<Place<'a>>, Memory>
-    ensures { IfOk result (λ places. map place_of places ≡ places_in number 0 (view piece.now.tree)) }
-{
-    let mut places = List::new(alloc);
-    tree_places(number, 0, &piece.tree, &mut places)?;
-    Ok(places)
 }
 
 impl<'a> Array<'a> {
@@ -151,7 +141,8 @@ impl<'a> Array<'a> {
         ensures { IfOk result (AreSites self.now spot.now) }
     {
         let helpers = self.timed.helpers.as_slice();
-        let places = places(alloc, spot.number, spot.piece)?;
+        let piece = spot.piece;
+        let places = tree_places(alloc, spot.number, &piece.tree)?;
         let mut sites = List::new(alloc);
         for place in places.as_slice() {
             sites.push(Site {

@@ -5,7 +5,7 @@ ghost use Rattle.av_space.specs.Taps.{helper_of};
 ghost use Rattle.av_space.specs.inner.Sites.{way_of};
 
 use av_base::Point;
-use av_flat::Tree;
+use av_flat::ReadingPlace;
 use std::marker::Model;
 
 /// How a tap site reads: at each point of its piece, at the entry points of a direction, or a helper's own word at the
@@ -33,30 +33,10 @@ impl Model for Handing {
     ghost view = { λ h. record { number = h.number; direction = h.direction } };
 }
 
-/// A place of a piece that reads: the number of the piece, and of the reference in it.
-#[derive(Debug, Drop)]
-pub struct Place<'a> {
-    pub piece: usize,
-    pub site: usize,
-    pub tree: &'a Tree,
-}
-
-impl<'a> Model for Place<'a> {
-    ghost use Rattle.std.specs.Coded.{codes};
-    ghost use Rattle.av_flat.specs.contracts.tree.Tree as made;
-    ghost use Rattle.av_space.specs.Sites.{PlaceMade};
-
-    ghost Value = { PlaceMade };
-
-    ghost coded = { Prim.hlevel (codes, made.the_row.coded) };
-
-    ghost view = { λ p. record { piece = p.piece; site = p.site; tree = p.tree.now } };
-}
-
 /// A place with one of the ways in which it reads.
 #[derive(Debug, Drop)]
 pub(crate) struct TapSite<'a> {
-    pub(crate) place: Place<'a>,
+    pub(crate) place: ReadingPlace<'a>,
     pub(crate) way: Way,
 }
 

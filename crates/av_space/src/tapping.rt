@@ -1,74 +1,16 @@
 //! The tap sites of a node.
 
-ghost use Rattle.std.specs.Prelude.{◌≡◌, ◌+◌, ◌<◌, ◌≤◌, ◌++◌, ◌&&◌, nat_eq, length, map, IfOk, OnOk};
-ghost use Rattle.av_flat.specs.Trees.{view, view_piece, view_system, view_variable};
-ghost use Rattle.av_space.specs.Taps.{places_from, helper_at, taps_by, taps_at, is_own, taps};
-ghost use Rattle.av_space.specs.inner.Sites.{HasPlaces, tap_of, taps_where};
-ghost use Rattle.av_space.specs.Sites.{place_of};
+ghost use Rattle.std.specs.Prelude.{◌≡◌, ◌+◌, ◌<◌, ◌++◌, ◌&&◌, nat_eq, map, IfOk, OnOk};
+ghost use Rattle.av_flat.specs.Trees.{view, view_system, view_variable};
+ghost use Rattle.av_flat.specs.Sites.{place_of};
+ghost use Rattle.av_space.specs.Taps.{helper_at, taps_by, taps_at, is_own, taps};
+ghost use Rattle.av_space.specs.inner.Sites.{tap_of, taps_where};
 
-use crate::tap::{Handing, Place, TapSite, Way};
+use crate::tap::{Handing, TapSite, Way};
 use av_base::{List, Memory, Point};
 use av_depend::is_computed_at;
-use av_flat::{Helper, Piece, Timed, Tree, Var};
+use av_flat::{Helper, ReadingPlace, Timed, Tree, Var, piece_places};
 use std::alloc::Global;
-
-// The number after that of a reference that stands among the places.
-fn next_site(site: usize, places: &[Place<'_>]) -> usize
-    requires { site < length places.now }
-    ensures { result ≡ site + 1 }
-{
-    site + 1
-}
-
-/// Puts the places of a tree behind others; the number of the next reference.
-pub(crate) fn tree_places<'a>(
-    piece: usize,
-    site: usize,
-    tree: &'a Tree,
-    places: &mut List<Place<'a>>,
-) -> Result<usize, Memory>
-    requires { site ≤ length places.old }
-    ensures { IfOk result (HasPlaces piece site tree.now places.old places.new) }
-{
-    match tree {
-        Tree::Ref { .. } => {
-            places.push(Place { piece, site, tree })?;
-            Ok(next_site(site, places.as_slice()))
-        }
-        Tree::Pick { .. } => {
-            places.push(Place { piece, site, tree })?;
-            Ok(site)
-        }
-        Tree::Binary { left, right, .. } => {
-            let site = tree_places(piece, site, left, places)?;
-            tree_places(piece, site, right, places)
-        }
-        Tree::Choose {
-            left,
-            right,
-            yes,
-            no,
-            ..
-        } => {
-            let site = tree_places(piece, site, left, places)?;
-            let site = tree_places(piece, site, right, places)?;
-            let site = tree_places(piece, site, yes, places)?;
-            tree_places(piece, site, no, places)
-        }
-        _ => Ok(site),
-    }
-}
-
-// The places of pieces that read, in order.
-fn piece_places<'a>(alloc: Global, pieces: &'a [Piece]) -> Result<List<Place<'a>>, Memory>
-    ensures { IfOk result (λ places. map place_of places ≡ places_from 0 (map view_piece pieces.now)) }
-{
-    let mut places = List::new(alloc);
-    for (number, piece) in pieces.iter().enumerate() {
-        tree_places(number, 0, &piece.tree, &mut places)?;
-    }
-    Ok(places)
-}
 
 // Whether the helper is of this reference.
 fn is_of(helper: &Helper, place: usize, piece: usize, site: usize) -> bool
@@ -98,10 +40,10 @@ pub(crate) fn helper_at(
 }
 
 /// The same place.
-pub(crate) fn same<'a>(place: &Place<'a>) -> Place<'a>
+pub(crate) fn same<'a>(place: &ReadingPlace<'a>) -> ReadingPlace<'a>
     ensures { result ≡ place.now }
 {
-    Place {
+    ReadingPlace {
         piece: place.piece,
         site: place.site,
         tree: place.tree,
@@ -112,7 +54,7 @@ pub(crate) fn same<'a>(place: &Place<'a>) -> Place<'a>
 fn add_taps_by<'a>(
     computed: bool,
     handing: Option<Handing>,
-    place: &Place<'a>,
+    place: &ReadingPlace<'a>,
     sites: &mut List<TapSite<'a>>,
 ) -> Result<(), Memory>
     ensures { OnOk result (map tap_of sites.new ≡ map tap_of sites.old ++ taps_by computed handing (place_of place.now)) }
@@ -142,7 +84,7 @@ fn add_taps_by<'a>(
 fn add_taps<'a>(
     timed: &Timed,
     own: usize,
-    place: &Place<'a>,
+    place: &ReadingPlace<'a>,
     sites: &mut List<TapSite<'a>>,
 ) -> Result<(), Memory>
     ensures { OnOk result (map tap_of sites.new ≡ map tap_of sites.old
@@ -151,7 +93,7 @@ fn add_taps<'a>(
     match place.tree {
         Tree::Ref { var, .. } => {
             let helpers = timed.helpers.as_slice();
-            let handing = helper_at(helpers, own, place.piece, place.site);
+            let handing = helper_at(helpers, own, place.piece, place.site as usize);
             add_taps_by(is_computed_at(&timed.flat, *var), handing, place, sites)
         }
         Tree::Pick { var, .. } => {
@@ -162,7 +104,7 @@ fn add_taps<'a>(
 }
 
 // Whether the place is a pick of the variable at the place `own`.
-fn is_own(own: usize, place: &Place<'_>) -> bool
+fn is_own(own: usize, place: &ReadingPlace<'_>) -> bool
     ensures { result ≡ is_own own (view place.now.tree) }
 {
     match place.tree {
@@ -176,7 +118,7 @@ fn add_taps_of<'a>(
     timed: &Timed,
     own: usize,
     picks: bool,
-    places: &[Place<'a>],
+    places: &[ReadingPlace<'a>],
     sites: &mut List<TapSite<'a>>,
 ) -> Result<(), Memory>
     ensures { OnOk result (map tap_of sites.new ≡ map tap_of sites.old

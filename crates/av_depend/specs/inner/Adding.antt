@@ -1,9 +1,9 @@
 -- Edges put behind others, one for each site that has a pair.
-use Rattle.std.specs.Prelude.{◌≡◌, ℕ, List, ◌++◌, All, IsTrue, Some, slice_get}
+use Rattle.std.specs.Prelude.{◌≡◌, ℕ, List, [], ◌∷◌, ◌++◌, map, All, IsTrue, Some, slice_get}
 use Rattle.av_affine.specs.declared.map.Map.{Map}
 use Rattle.av_poly.specs.Points.{Set}
 use Rattle.av_flat.specs.declared.tree.Choice.{Choice}
-use Rattle.av_flat.specs.Trees.{Variable, FlatSystem}
+use Rattle.av_flat.specs.Trees.{Tree, Variable, FlatSystem, reference, pick}
 use Rattle.av_flat.specs.Signatures.{is_computed}
 use Rattle.av_depend.specs.declared.edge.Edge.{Edge}
 use Rattle.av_depend.specs.declared.site.ReadingSet.{ReadingSet}
@@ -30,6 +30,12 @@ site_at node place m set = record { node = node; place = place; map = m; set = s
 -- the site of a choice of a pick
 abbrev pub site_of : ℕ → ℕ → Set → Choice → Site
 site_of node place set c = record { node = node; place = place; map = c.map; set = both set c.set }
+
+-- the sites of a reference or a pick
+abbrev pub sites_at : ℕ → Set → Tree → List Site
+sites_at node set (reference place m) = site_at node place m set ∷ []
+sites_at node set (pick place choices w) = map (site_of node place set) choices
+sites_at node set _ = []
 
 -- edges have been put behind the old ones, one for each of the sites that has a pair
 pub record HasAdded (s : FlatSystem) (places : List Site) (old new : List Edge) : Type 0 where

@@ -1,8 +1,7 @@
 -- Generators found among all points of a set by mirror images of earlier points.
-use Rattle.std.specs.Prelude.{ℕ, ◌<◌, ◌+ℤ◌, ◌-ℤ◌, List, [], ◌∷◌, take, All, AllPairs, Contains, IsTrue, slice_index_or}
+use Rattle.std.specs.Prelude.{ℕ, ◌<◌, ◌+ℤ◌, ◌-ℤ◌, List, [], ◌∷◌, take, All, AllPairs, Contains, slice_index_or}
 use Rattle.av_poly.specs.Points.{Set, Has}
 use Rattle.av_tree.specs.Points.{Point}
-use Rattle.av_flat.specs.Points.{has}
 use Rattle.av_flat.specs.Order.{IsBefore}
 use Rattle.av_depend.specs.Edges.{IsGenerator}
 

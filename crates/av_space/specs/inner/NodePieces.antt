@@ -3,7 +3,7 @@ use Rattle.std.specs.Prelude.{◌≡◌, ℕ, ◌+◌, ◌<◌, ◌≤◌, ◌^�
 use Rattle.av_flat.specs.declared.timed.Timed.{Timed}
 use Rattle.av_flat.specs.Trees.{Tree, Piece, Variable, FlatSystem, view_piece, view_variable, view_system}
 use Rattle.av_flat.specs.Broadcasts.{references}
-use Rattle.av_flat.specs.Nodes.{nodes}
+use Rattle.av_flat.specs.Nodes.{nodes, node_place}
 use Rattle.av_flat.specs.Signatures.{signatures, is_input}
 use Rattle.av_flat.specs.WellFormed.{EachPart, Fits, HasSmallRows}
 use Rattle.av_flat.specs.Legal.{IsLegal}
@@ -11,7 +11,7 @@ use Rattle.av_space.specs.declared.input_site.InputSite.{InputSite}
 use Rattle.av_space.specs.declared.layout.Layout.{Layout}
 use Rattle.av_space.specs.declared.ports.NodePiece.{NodePiece}
 use Rattle.av_space.specs.declared.ports.Ports.{Ports}
-use Rattle.av_space.specs.Taps.{node_place, helper_at}
+use Rattle.av_space.specs.Taps.{helper_at}
 use Rattle.av_space.specs.inner.Feeding.{direction_of, IsReadable, IsFirstOf, StandAt, ArePortsTo}
 use Rattle.av_space.specs.Layouts.{IsLayout}
 

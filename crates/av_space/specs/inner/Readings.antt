@@ -7,13 +7,13 @@ use Rattle.av_tree.specs.Points.{Point}
 use Rattle.av_flat.specs.declared.timed.Helper.{Helper}
 use Rattle.av_flat.specs.Trees.{Tree, Piece, Variable, FlatSystem, reference, pick}
 use Rattle.av_flat.specs.Points.{has}
-use Rattle.av_flat.specs.Nodes.{nodes}
+use Rattle.av_flat.specs.Nodes.{nodes, node_place}
 use Rattle.av_space.specs.declared.cells.Cell.{Cell}
 use Rattle.av_space.specs.declared.layout.Slot.{Slot}
 use Rattle.av_space.specs.declared.stretch.Reading.{Reading}
 use Rattle.av_space.specs.Coordinates.{Placing}
 use Rattle.av_space.specs.Occupancy.{Computes}
-use Rattle.av_space.specs.Taps.{Way, each, entries, handed, Tap, node_place, taps, IsTapRead}
+use Rattle.av_space.specs.Taps.{Way, each, entries, handed, Tap, taps, IsTapRead}
 use Rattle.av_space.specs.Layouts.{AreSlots}
 use Rattle.av_space.specs.inner.Stretches.{AreByCycle}
 

@@ -1,15 +1,13 @@
 -- Tap sites as the program keeps them: a place with its tree as it lies in memory, and the way in which it reads.
-use Rattle.std.specs.Prelude.{◌≡◌, ℕ, ◌+◌, ◌≤◌, List, ◌++◌, length, map, filter, Bool, true, false, not, slice_get}
+use Rattle.std.specs.Prelude.{◌≡◌, ℕ, List, length, map, filter, Bool, true, false, not, slice_get}
 use Rattle.std.specs.List.{flat_map, range_with_len}
-use Rattle.av_flat.specs.declared.tree.Tree.{Tree as TreeMade}
 use Rattle.av_flat.specs.declared.timed.Helper.{Helper}
-use Rattle.av_flat.specs.Trees.{FlatSystem, view}
-use Rattle.av_flat.specs.Broadcasts.{references}
+use Rattle.av_flat.specs.Trees.{FlatSystem}
 use Rattle.av_flat.specs.Nodes.{nodes}
 use Rattle.av_space.specs.declared.tap.Way.{Way as WayMade}
 use Rattle.av_space.specs.declared.tap.Way.TheVariants as made
-use Rattle.av_space.specs.Sites.{PlaceMade, place_of}
-use Rattle.av_space.specs.Taps.{Place, Way, each, entries, handed, Tap, places_in, taps_at, taps_of, is_own}
+use Rattle.av_flat.specs.Sites.{PlaceMade, place_of, Place}
+use Rattle.av_space.specs.Taps.{Way, each, entries, handed, Tap, taps_at, taps_of, is_own}
 
 pub record TapMade : Type 0 where
   pub place : PlaceMade
@@ -22,12 +20,6 @@ way_of (made.Handed number direction) = handed number direction
 
 abbrev pub tap_of : TapMade → Tap
 tap_of t = record { place = place_of t.place; way = way_of t.way }
-
--- the places of a tree, whose references have the numbers from n on, stand behind the old ones, and next is the number after theirs
-pub record HasPlaces (k n : ℕ) (tree : TreeMade) (old new : List PlaceMade) (next : ℕ) : Type 0 where
-  pub places : map place_of new ≡ map place_of old ++ places_in k n (view tree)
-  pub next_is : next ≡ n + length (references (view tree))
-  pub within : next ≤ length new
 
 -- the taps of those places that are picks of the variable itself, or of those that are not
 abbrev pub is_among : ℕ → Bool → Place → Bool

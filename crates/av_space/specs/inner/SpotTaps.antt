@@ -4,14 +4,15 @@ use Rattle.av_affine.specs.declared.map.Map.{Map}
 use Rattle.av_tree.specs.Points.{Point}
 use Rattle.av_flat.specs.Trees.{Tree, Variable, FlatSystem, view, view_piece, view_variable, reference, pick}
 use Rattle.av_flat.specs.Broadcasts.{references}
-use Rattle.av_flat.specs.Nodes.{nodes}
+use Rattle.av_flat.specs.Nodes.{nodes, node_place}
 use Rattle.av_flat.specs.Signatures.{is_input}
 use Rattle.av_space.specs.declared.array.Array.{Array}
 use Rattle.av_space.specs.declared.cells.Cell.{Cell}
 use Rattle.av_space.specs.declared.layout.Slot.{Slot}
 use Rattle.av_space.specs.declared.spots.Site.{Site}
 use Rattle.av_space.specs.declared.spots.Spot.{Spot}
-use Rattle.av_space.specs.Taps.{node_place, Handing, Place, Tap, taps, IsTapRead}
+use Rattle.av_flat.specs.Sites.{Place}
+use Rattle.av_space.specs.Taps.{Handing, Tap, taps, IsTapRead}
 use Rattle.av_depend.specs.ComputedPlaces.{computed_at}
 use Rattle.av_space.specs.Spots.{system_of, helpers_of, cells_of, own_way, IsSiteOf}
 

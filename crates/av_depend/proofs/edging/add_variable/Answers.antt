@@ -23,17 +23,17 @@ box_of-requires-clause-small c = small_point c.args.var.now.domain c.requires.bo
 
 pub returns-in_default : goal.returns-in_default
 returns-in_default c =
-    let s = view_system c.args.flat.now in
+    let s = view_system c.args.nodes.now in
     let v = view_variable c.args.var.now in
     let empty : (z : Point) → Has v.domain z → ⊥ = subst (λ (o : Option Bounds). IfNone o ((z : Point) → Has v.domain z → ⊥)) c.in_default.is c.in_ok-extent.ensures.empty in
     added_none_of s (sites_of c.args.node v) c.args.edges.now (no_sites c.args.node v (no_pieces s v c.requires empty))
 
 pub loop-piece-init : goal.loop-piece-init
-loop-piece-init c = added_nothing (view_system c.args.flat.now) c.args.edges.now
+loop-piece-init c = added_nothing (view_system c.args.nodes.now) c.args.edges.now
 
 pub own_box-requires-clause-dim : goal.own_box-requires-clause-dim
 own_box-requires-clause-dim c =
-    let s = view_system c.args.flat.now in
+    let s = view_system c.args.nodes.now in
     let v = view_variable c.args.var.now in
     let x = c.piece-item.result in
     let l : c.loop-piece.piece-index < length c.as_slice-piece-items.result.now = search rules in
@@ -44,7 +44,7 @@ own_box-requires-clause-dim c =
 
 pub own_box-requires-clause-rows : goal.own_box-requires-clause-rows
 own_box-requires-clause-rows c =
-    let s = view_system c.args.flat.now in
+    let s = view_system c.args.nodes.now in
     let v = view_variable c.args.var.now in
     let x = c.piece-item.result in
     let l : c.loop-piece.piece-index < length c.as_slice-piece-items.result.now = search rules in
@@ -55,7 +55,7 @@ own_box-requires-clause-rows c =
 
 pub own_box-requires-clause-small : goal.own_box-requires-clause-small
 own_box-requires-clause-small c = λ z h.
-    let s = view_system c.args.flat.now in
+    let s = view_system c.args.nodes.now in
     let v = view_variable c.args.var.now in
     let x = c.piece-item.result in
     let l : c.loop-piece.piece-index < length c.as_slice-piece-items.result.now = search rules in
@@ -66,7 +66,7 @@ own_box-requires-clause-small c = λ z h.
 
 pub own_box-requires-clause-inside : goal.own_box-requires-clause-inside
 own_box-requires-clause-inside c =
-    let s = view_system c.args.flat.now in
+    let s = view_system c.args.nodes.now in
     let v = view_variable c.args.var.now in
     let x = c.piece-item.result in
     let l : c.loop-piece.piece-index < length c.as_slice-piece-items.result.now = search rules in
@@ -78,7 +78,7 @@ own_box-requires-clause-inside c =
 
 pub reading_set-requires-clause-few : goal.reading_set-requires-clause-few
 reading_set-requires-clause-few c =
-    let s = view_system c.args.flat.now in
+    let s = view_system c.args.nodes.now in
     let v = view_variable c.args.var.now in
     let x = c.piece-item.result in
     let l : c.loop-piece.piece-index < length c.as_slice-piece-items.result.now = search rules in
@@ -89,7 +89,7 @@ reading_set-requires-clause-few c =
 
 pub add_tree-requires-clause-fits : goal.add_tree-requires-clause-fits
 add_tree-requires-clause-fits c =
-    let s = view_system c.args.flat.now in
+    let s = view_system c.args.nodes.now in
     let v = view_variable c.args.var.now in
     let x = c.piece-item.result in
     let l : c.loop-piece.piece-index < length c.as_slice-piece-items.result.now = search rules in
@@ -100,7 +100,7 @@ add_tree-requires-clause-fits c =
 
 pub loop-piece-preserved : goal.loop-piece-preserved
 loop-piece-preserved c =
-    let s = view_system c.args.flat.now in
+    let s = view_system c.args.nodes.now in
     let x = c.piece-item.result in
     let f = sites_of_piece c.args.node in
     let xs = c.as_slice-piece-items.result.now in
@@ -113,7 +113,7 @@ loop-piece-preserved c =
 
 pub returns : goal.returns
 returns c =
-    let s = view_system c.args.flat.now in
+    let s = view_system c.args.nodes.now in
     let f = sites_of_piece c.args.node in
     let over : length c.as_slice-piece-items.result.now ≤ c.loop-piece.piece-index = search rules in
     let whole = ap (flat_map f) (take_whole c.as_slice-piece-items.result.now c.loop-piece.piece-index over ∙ c.as_slice-piece-items.ensures) ∙ sym (sites_of_pieces c.args.node c.args.var.now) in

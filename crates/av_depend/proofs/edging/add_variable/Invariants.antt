@@ -6,4 +6,4 @@ use Rattle.av_depend.proofs.Walked.{sites_of_piece}
 use Rattle.av_depend.proofs.edging.add_variable.Given as goal
 
 abbrev pub invariant-loop-piece : goal.invariant-loop-piece
-invariant-loop-piece l = HasAdded (view_system l.flat) (flat_map (sites_of_piece l.node) (take l.piece-index l.piece-items)) l.initial.edges l.edges
+invariant-loop-piece l = HasAdded (view_system l.nodes) (flat_map (sites_of_piece l.node) (take l.piece-index l.piece-items)) l.initial.edges l.edges

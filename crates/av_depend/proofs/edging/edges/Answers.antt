@@ -1,34 +1,36 @@
-use Rattle.std.proofs.Common.{rules, ◌≡◌, ◌∙◌, ◌<◌, ◌+◌, [], List, length, get_or, refl, sym, ap, subst, arith, IsTrue}
-use Rattle.av_flat.specs.declared.flat.Var.{Var}
+use Rattle.std.proofs.Common.{rules, ◌≡◌, ◌≤◌, ◌∙◌, [], Some, length, sym, ap, subst, arith}
+use Rattle.std.specs.Prelude.{slice_get}
+use Rattle.av_flat.specs.declared.flat.Flat.{Flat}
+use Rattle.av_flat.specs.Nodes.{nodes}
 use Rattle.av_flat.specs.Trees.{view_system, view_variable}
-use Rattle.av_flat.specs.Chained.{IsChainedVariable}
-use Rattle.av_flat.specs.Nodes.{is_node}
-use Rattle.av_depend.proofs.Adds.{added_nothing, at_mapped}
-use Rattle.av_depend.proofs.Walked.{AreWalked, walked_more}
+use Rattle.av_flat.specs.Chained.{IsChained}
+use Rattle.av_flat.proofs.NodeNumbers.{chained_node}
+use Rattle.av_depend.specs.Sites.{sites_of}
+use Rattle.av_depend.specs.inner.Adding.{HasAdded}
+use Rattle.av_depend.proofs.Adds.{added_nothing}
+use Rattle.av_depend.proofs.Walked.{walked_more, walked_whole}
 use Rattle.av_depend.proofs.edging.edges.Goals as goal
 
-pub loop-var-init : goal.loop-var-init
-loop-var-init c =
-    let s = view_system c.args.flat.now in
-    let start : AreWalked s c.as_slice-var-items.result.now 0 0 [] = record { number = refl; added = added_nothing s [] } in
-    (subst (AreWalked s c.as_slice-var-items.result.now 0 0) (sym c.new-list.ensures) start, omega arith)
+pub loop-node-init : goal.loop-node-init
+loop-node-init c = let s = view_system c.args.flat.now in subst (HasAdded s [] []) (sym c.new-list.ensures) (added_nothing s [])
 
 pub add_variable-requires : goal.add_variable-requires
 add_variable-requires c =
-    let s = view_system c.args.flat.now in
-    let x = c.var-item.result in
-    let l : c.loop-var.var-index < length c.as_slice-var-items.result.now = search rules in
-    let within : c.loop-var.var-index < length c.args.flat.now.vars = (let e = ap length c.as_slice-var-items.ensures in omega (arith, e, l)) in
-    let is = subst (λ (xs : List Var). x ≡ get_or xs c.loop-var.var-index x) c.as_slice-var-items.ensures c.var-item.is in
-    at_mapped (IsChainedVariable s) view_variable c.args.flat.now.vars c.loop-var.var-index x c.requires.chained.each within is
+    let chained = subst (λ (f : Flat). IsChained (view_system f)) (sym c.in_ok-nodes.ensures) c.requires.chained in
+    chained_node (view_system c.in_ok-nodes.nodes) c.loop-node.node (view_variable c.variable.result.now) chained c.variable.ensures
 
-pub loop-var-preserved : goal.loop-var-preserved
-loop-var-preserved c =
+pub loop-node-preserved : goal.loop-node-preserved
+loop-node-preserved c =
     let s = view_system c.args.flat.now in
-    let x = c.var-item.result in
-    let vars = c.as_slice-var-items.result.now in
-    let l : c.loop-var.var-index < length vars = search rules in
-    let t : IsTrue c.is_node.result = search rules in
-    let own : IsTrue (is_node (view_variable x)) = sym c.is_node.ensures ∙ t in
-    let few = c.loop-var.invariant.1 in
-    (walked_more s vars c.loop-var.var-index c.loop-var.node x c.loop-var.list c.add_variable.new.edges l c.var-item.is own c.loop-var.invariant.0 c.in_ok-add_variable.ensures, omega (arith, few))
+    let v = view_variable c.variable.result.now in
+    let n = c.loop-node.node in
+    let is = subst (λ (f : Flat). slice_get (nodes (view_system f)) n ≡ Some v) c.in_ok-nodes.ensures c.variable.ensures in
+    let one = subst (λ (f : Flat). HasAdded (view_system f) (sites_of n v) c.loop-node.list c.add_variable.new.edges) c.in_ok-nodes.ensures c.in_ok-add_variable.ensures in
+    walked_more s n v c.loop-node.list c.add_variable.new.edges is c.loop-node.invariant one
+
+pub returns : goal.returns
+returns c =
+    let s = view_system c.args.flat.now in
+    let over : c.len-count.result ≤ c.loop-node.node = search rules in
+    let many = c.len-count.ensures.count ∙ ap (λ (f : Flat). length (nodes (view_system f))) c.in_ok-nodes.ensures in
+    walked_whole s c.loop-node.node c.loop-node.list (omega (arith, over, many)) c.loop-node.invariant

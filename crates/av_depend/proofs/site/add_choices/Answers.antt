@@ -7,11 +7,11 @@ use Rattle.av_depend.proofs.Adds.{added_nothing, added_both, map_take_more}
 use Rattle.av_depend.proofs.site.add_choices.Goals as goal
 
 pub loop-choice-init : goal.loop-choice-init
-loop-choice-init c = added_nothing (view_system c.args.flat.now) c.args.edges.now
+loop-choice-init c = added_nothing (view_system c.args.nodes.now) c.args.edges.now
 
 pub loop-choice-preserved : goal.loop-choice-preserved
 loop-choice-preserved c =
-    let s = view_system c.args.flat.now in
+    let s = view_system c.args.nodes.now in
     let x = c.choice-item.result in
     let n = c.args.node in
     let p = c.args.place in

@@ -1,19 +1,19 @@
-use Rattle.std.proofs.Common.{◌≡◌, ◌++◌, ◌∙◌, List, ap}
-use Rattle.av_affine.specs.declared.map.Map.{Map}
+use Rattle.std.proofs.Common.{◌≡◌, ◌++◌, ◌∙◌, List, sym, ap, subst}
+use Rattle.std.specs.List.{AllByRecursion}
+use Rattle.std.proofs.lemmas.Result.{on_ok_weaker}
 use Rattle.av_flat.specs.Trees.{view}
-use Rattle.av_flat.specs.Broadcasts.{references}
-use Rattle.av_flat.specs.declared.timed.Helper.{Helper}
-use Rattle.av_pipe.specs.inner.Helping.{maps_of, of_maps}
-use Rattle.av_pipe.proofs.References.{by_maps, all_fine, on_ok}
+use Rattle.av_flat.specs.Broadcasts.{Reference, references}
+use Rattle.av_flat.proofs.Reading.{each_reference}
+use Rattle.av_pipe.specs.inner.Helping.{IsFineMap, HasFineMaps}
+use Rattle.av_pipe.specs.Pipelines.{of_references}
 use Rattle.av_pipe.proofs.site.tree_helpers.Goals as goal
 
-pub map_helpers-requires-clause-fine : goal.map_helpers-requires-clause-fine
-map_helpers-requires-clause-fine c =
-    rw (c.as_slice.ensures, c.in_ok-append_maps.ensures, c.new-maps.ensures) (all_fine c.args.points.now (view c.args.tree.now) c.requires.maps)
+pub reference_helpers-requires-clause-fine : goal.reference_helpers-requires-clause-fine
+reference_helpers-requires-clause-fine c =
+    subst (AllByRecursion (λ (r : Reference). IsFineMap c.args.points.now r.map)) (sym (c.as_slice.ensures ∙ c.in_ok-found.ensures))
+    (each_reference (HasFineMaps c.args.points.now) (λ g l r h. h) (λ l o r x y h. h) (view c.args.tree.now) c.requires.maps)
 
 pub returns : goal.returns
 returns c =
-    let rs = references (view c.args.tree.now) in
-    let are : c.as_slice.result.now ≡ maps_of (view c.args.tree.now) = c.as_slice.ensures ∙ c.in_ok-append_maps.ensures ∙ ap (λ (ms : List Map). ms ++ maps_of (view c.args.tree.now)) c.new-maps.ensures in
-    on_ok c.map_helpers.result c.map_helpers.ensures
-    (λ e. e ∙ ap (λ (ms : List Map). c.args.helpers.now ++ of_maps c.args.place c.args.piece c.args.linear.now 0 ms) are ∙ ap (λ (hs : List Helper). c.args.helpers.now ++ hs) (by_maps c.args.place c.args.piece c.args.linear.now 0 rs))
+    let are : c.as_slice.result.now ≡ references (view c.args.tree.now) = c.as_slice.ensures ∙ c.in_ok-found.ensures in
+    on_ok_weaker c.reference_helpers.result (λ e. e ∙ ap (λ (rs : List Reference). c.args.helpers.now ++ of_references c.args.place c.args.piece c.args.linear.now 0 rs) are) c.reference_helpers.ensures

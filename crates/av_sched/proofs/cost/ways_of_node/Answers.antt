@@ -10,8 +10,8 @@ use Rattle.av_flat.specs.Nodes.{nodes}
 use Rattle.av_flat.specs.Broadcasts.{references}
 use Rattle.av_sched.specs.Order.{references_of}
 use Rattle.av_sched.specs.inner.Ways.{HasSmallReferences, ways_of}
-use Rattle.av_sched.proofs.Starting.{at_view}
-use Rattle.av_sched.proofs.Ways.{chained_node, small_seen, pieces_seen}
+use Rattle.av_flat.proofs.NodeNumbers.{chained_node, viewed_at}
+use Rattle.av_sched.proofs.Ways.{small_seen, pieces_seen}
 use Rattle.av_sched.proofs.cost.ways_of_node.Goals as goal
 
 pub ways_of_pieces-requires : goal.ways_of_pieces-requires
@@ -20,7 +20,7 @@ ways_of_pieces-requires c =
     let a = c.index-vars-place.result in
     let k = c.place_of-place.result in
     let l : k < length c.as_slice-vars.result.now = search rules in
-    let at = at_view c.args.flat.now c.as_slice-vars.result.now k a c.as_slice-vars.ensures l c.index-vars-place.is in
+    let at = viewed_at c.args.flat.now c.as_slice-vars.result.now k a c.as_slice-vars.ensures l c.index-vars-place.is in
     let same : c.as_slice.result.now ≡ a.pieces = c.as_slice.ensures ∙ ap (λ (v : Var). v.pieces) (sym c.index-vars-place.is) in
     subst (All (λ (p : PieceMade). HasSmallReferences (view p.tree))) (sym same)
     (small_seen s a (chained_node s c.args.node (view_variable a) c.requires.chained (c.place_of-place.ensures.is ∙ at)))
@@ -31,7 +31,7 @@ returns c =
     let a = c.index-vars-place.result in
     let k = c.place_of-place.result in
     let l : k < length c.as_slice-vars.result.now = search rules in
-    let at = at_view c.args.flat.now c.as_slice-vars.result.now k a c.as_slice-vars.ensures l c.index-vars-place.is in
+    let at = viewed_at c.args.flat.now c.as_slice-vars.result.now k a c.as_slice-vars.ensures l c.index-vars-place.is in
     let same : c.as_slice.result.now ≡ a.pieces = c.as_slice.ensures ∙ ap (λ (v : Var). v.pieces) (sym c.index-vars-place.is) in
     let seen = ap ways_of (ap (λ (ps : List PieceMade). flat_map (λ (p : PieceMade). references (view p.tree)) ps) same ∙ sym (pieces_seen a.pieces)) in
     let whole = seen ∙ ap (λ (o : Option Variable). ways_of (references_of o)) (sym (c.place_of-place.ensures.is ∙ at)) in

@@ -4,7 +4,8 @@ use Rattle.av_affine.specs.Numbers.{AtMost}
 use Rattle.av_flat.specs.Trees.{view_variable, view_system}
 use Rattle.av_sched.specs.Offsets.{part}
 use Rattle.av_sched.proofs.Started.{IsStarted, started_other, started_node}
-use Rattle.av_sched.proofs.Starting.{at_view, starting_node}
+use Rattle.av_flat.proofs.NodeNumbers.{viewed_at}
+use Rattle.av_sched.proofs.Starting.{starting_node}
 use Rattle.av_sched.proofs.placing.starts_of.Goals as goal
 use Rattle.av_base.proofs.Lists.{same_default}
 
@@ -13,7 +14,7 @@ loop-k-preserved-then-not-is_node c =
     let s = view_system c.args.flat.now in
     let a = c.index-vars-k.result in
     let l : c.loop-k.k < length c.as_slice-vars.result.now = search rules in
-    started_other s c.args.linear.now c.loop-k.k c.loop-k.low (view_variable a) (at_view c.args.flat.now c.as_slice-vars.result.now c.loop-k.k a c.as_slice-vars.ensures l c.index-vars-k.is) (sym c.is_node.ensures ∙ c.if-not-is_node.true) c.loop-k.invariant
+    started_other s c.args.linear.now c.loop-k.k c.loop-k.low (view_variable a) (viewed_at c.args.flat.now c.as_slice-vars.result.now c.loop-k.k a c.as_slice-vars.ensures l c.index-vars-k.is) (sym c.is_node.ensures ∙ c.if-not-is_node.true) c.loop-k.invariant
 
 pub bounds-linear-node : goal.bounds-linear-node
 bounds-linear-node c =

@@ -8,7 +8,7 @@ use Rattle.av_depend.specs.Components.{first_node}
 use Rattle.av_sched.specs.SchedFaults.{HasNoSchedule}
 use Rattle.av_sched.specs.inner.FirstChoices.{IsStuck}
 use Rattle.std.proofs.lemmas.Result.{IfOk-weaker}
-use Rattle.av_sched.proofs.Starting.{at_view}
+use Rattle.av_flat.proofs.NodeNumbers.{viewed_at}
 use Rattle.av_sched.proofs.Faulting.{stuck_fault}
 use Rattle.av_sched.proofs.searching.stuck_at.Goals as goal
 
@@ -20,7 +20,7 @@ returns c =
     let list = c.as_slice.result.now in
     let components = c.args.components.now in
     let l : k < length c.as_slice-vars.result.now = search rules in
-    let at = at_view c.args.flat.now c.as_slice-vars.result.now k a c.as_slice-vars.ensures l c.index-vars-place.is in
+    let at = viewed_at c.args.flat.now c.as_slice-vars.result.now k a c.as_slice-vars.ensures l c.index-vars-place.is in
     let is : slice_get (nodes s) (first_node list) ≡ slice_get s.variables k = c.place_of-place.ensures.is in
     let item = c.index-components-k.result in
     let got = slice_get-get_or components c.args.k item c.requires.within in

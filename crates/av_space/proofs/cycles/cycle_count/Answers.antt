@@ -8,7 +8,8 @@ use Rattle.av_flat.specs.Trees.{view_system}
 use Rattle.av_flat.specs.Nodes.{IsComputation}
 use Rattle.av_flat.specs.Schedules.{cycle}
 use Rattle.av_space.specs.inner.Laying.{AreNodePoints}
-use Rattle.av_space.proofs.Nodes.{computed_small, computed_within, places_number}
+use Rattle.av_flat.proofs.NodeNumbers.{places_number}
+use Rattle.av_space.proofs.Nodes.{computed_small, computed_within}
 use Rattle.av_space.proofs.Counts.{count_more, count_whole}
 use Rattle.av_space.proofs.cycles.cycle_count.Goals as goal
 

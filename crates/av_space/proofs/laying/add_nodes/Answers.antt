@@ -5,7 +5,7 @@ use Rattle.std.specs.Prelude.{slice_get}
 use Rattle.std.proofs.lemmas.Option.{slice_get-get_or}
 use Rattle.av_flat.specs.Trees.{view_system}
 use Rattle.av_space.specs.Coordinates.{Placing, IsPlacing}
-use Rattle.av_space.proofs.Nodes.{places_number}
+use Rattle.av_flat.proofs.NodeNumbers.{places_number}
 use Rattle.av_space.proofs.Laid.{placings_number, placing_time, no_cells, none_filled}
 use Rattle.av_space.proofs.laying.add_nodes.Goals as goal
 

@@ -1,6 +1,6 @@
 use Rattle.std.proofs.Common.{length, arith}
 use Rattle.av_flat.specs.Trees.{view_system}
-use Rattle.av_space.proofs.Nodes.{places_number}
+use Rattle.av_flat.proofs.NodeNumbers.{places_number}
 use Rattle.av_space.proofs.Laid.{made_layout}
 use Rattle.av_space.proofs.laying.laid.Goals as goal
 

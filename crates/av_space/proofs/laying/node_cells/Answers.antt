@@ -1,7 +1,7 @@
 use Rattle.std.proofs.Common.{arith, sym, subst}
 use Rattle.av_flat.specs.Trees.{view_system}
 use Rattle.av_space.specs.inner.Laying.{AreRanked}
-use Rattle.av_space.proofs.Nodes.{places_number}
+use Rattle.av_flat.proofs.NodeNumbers.{places_number}
 use Rattle.av_space.proofs.Laid.{counted_none, counted_more, counted_all, ranked_some}
 use Rattle.av_space.proofs.laying.node_cells.Goals as goal
 

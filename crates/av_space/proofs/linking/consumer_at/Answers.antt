@@ -4,7 +4,7 @@ use Rattle.std.proofs.lemmas.Option.{slice_get-get_or}
 use Rattle.av_flat.specs.Trees.{view_system}
 use Rattle.av_space.specs.declared.cells.Cell.{Cell}
 use Rattle.av_space.specs.declared.layout.Slot.{Slot}
-use Rattle.av_space.proofs.Nodes.{places_number}
+use Rattle.av_flat.proofs.NodeNumbers.{places_number}
 use Rattle.av_space.proofs.SiteLinks.{cell_node}
 use Rattle.av_space.proofs.linking.consumer_at.Goals as goal
 

@@ -1,8 +1,7 @@
 use Rattle.std.proofs.Common.{◌≡◌, ℕ, ◌+◌, List, length, sym, ap, subst, ◌∙◌, arith, get_or}
 use Rattle.std.proofs.lemmas.List.FromFn.{length-map-range_with_len}
 use Rattle.av_flat.specs.Trees.{view_system, view_variable}
-use Rattle.av_flat.specs.Nodes.{nodes}
-use Rattle.av_space.specs.Taps.{node_place}
+use Rattle.av_flat.specs.Nodes.{nodes, node_place}
 use Rattle.av_space.specs.inner.Sites.{AreTapsTo}
 use Rattle.av_space.proofs.NodeTaps.{taps_step, place_is}
 use Rattle.av_space.proofs.linking.node_taps.Goals as goal

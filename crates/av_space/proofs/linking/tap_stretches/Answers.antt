@@ -4,13 +4,13 @@ use Rattle.std.proofs.lemmas.List.{length-map}
 use Rattle.std.proofs.lemmas.Result.{on_ok_weaker}
 use Rattle.av_flat.specs.Trees.{Piece, view_piece, view_system, view_variable}
 use Rattle.av_space.specs.declared.stretch.Reading.{Reading}
-use Rattle.av_space.specs.Taps.{node_place}
+use Rattle.av_flat.specs.Nodes.{node_place}
 use Rattle.av_space.specs.inner.Sites.{tap_of}
 use Rattle.av_space.specs.inner.Stretches.{HasLinks, IsAt, Told, AreByCycle}
 use Rattle.av_space.specs.inner.Readings.{IsFineTap}
 use Rattle.av_space.proofs.Elements.{in_range}
+use Rattle.av_flat.proofs.NodeNumbers.{chained_node}
 use Rattle.av_space.proofs.FineSites.{fine_tap}
-use Rattle.av_space.proofs.Nodes.{node_chained}
 use Rattle.av_space.proofs.SiteLinks.{site_on, site_links}
 use Rattle.av_space.proofs.linking.tap_stretches.Goals as goal
 use Rattle.av_base.proofs.Lists.{some_is}
@@ -19,7 +19,7 @@ pub piece_at-piece-requires : goal.piece_at-piece-requires
 piece_at-piece-requires c =
     let s = view_system c.args.timed.now.flat in
     let v = view_variable c.args.consumer.now.var.now in
-    let f = fine_tap c.args.timed.now c.requires.legal (node_place s c.args.consumer.now.node) v (node_chained s c.args.consumer.now.node v c.requires.legal.chained c.requires.consumer.is_variable) c.args.number (tap_of c.args.site.now) c.requires.site in
+    let f = fine_tap c.args.timed.now c.requires.legal (node_place s c.args.consumer.now.node) v (chained_node s c.args.consumer.now.node v c.requires.legal.chained c.requires.consumer.is_variable) c.args.number (tap_of c.args.site.now) c.requires.site in
     let low = in_range v.pieces c.args.site.now.place.piece f.piece f.is_piece in
     let size = length-map c.args.consumer.now.var.now.pieces view_piece in
     let e = c.piece.ensures in
@@ -29,7 +29,7 @@ pub readings-requires-clause-fine : goal.readings-requires-clause-fine
 readings-requires-clause-fine c =
     let s = view_system c.args.timed.now.flat in
     let v = view_variable c.args.consumer.now.var.now in
-    let f = fine_tap c.args.timed.now c.requires.legal (node_place s c.args.consumer.now.node) v (node_chained s c.args.consumer.now.node v c.requires.legal.chained c.requires.consumer.is_variable) c.args.number (tap_of c.args.site.now) c.requires.site in
+    let f = fine_tap c.args.timed.now c.requires.legal (node_place s c.args.consumer.now.node) v (chained_node s c.args.consumer.now.node v c.requires.legal.chained c.requires.consumer.is_variable) c.args.number (tap_of c.args.site.now) c.requires.site in
     let piece = view_piece c.piece_at-piece.result.now in
     let same : f.piece ≡ piece = some_is f.piece piece (sym f.is_piece ∙ ap (slice_get v.pieces) (sym c.piece.ensures) ∙ c.piece_at-piece.ensures) in
     subst (λ (k : ℕ). IsFineTap piece.domain.dim k (tap_of c.args.site.now)) (length-map c.args.timed.now.flat.vars view_variable)

@@ -3,7 +3,7 @@ use Rattle.std.proofs.lemmas.Option.{slice_get_within}
 use Rattle.std.proofs.lemmas.List.{length-map}
 use Rattle.av_flat.specs.declared.flat.Var.{Var}
 use Rattle.av_flat.specs.Trees.{view_system, view_variable}
-use Rattle.av_space.proofs.Nodes.{node_at_place, is_viewed}
+use Rattle.av_flat.proofs.NodeNumbers.{node_at_place, is_viewed}
 use Rattle.av_space.proofs.node_places.variable_of.Goals as goal
 
 pub offset_bounds-vars-place : goal.offset_bounds-vars-place

@@ -3,9 +3,8 @@ use Rattle.std.proofs.lemmas.List.{take_all}
 use Rattle.std.proofs.lemmas.List.FromFn.{length-map-range_with_len}
 use Rattle.std.proofs.lemmas.Option.{slice_get_within, get_or_from_slice_get}
 use Rattle.av_depend.proofs.Adds.{map_take_more}
-use Rattle.av_flat.specs.Nodes.{nodes}
+use Rattle.av_flat.specs.Nodes.{nodes, node_place}
 use Rattle.av_flat.specs.Trees.{view_variable, view_system}
-use Rattle.av_space.specs.Taps.{node_place}
 use Rattle.av_space.specs.inner.Counting.{piece_sizes}
 use Rattle.av_space.proofs.operators.all_sizes.Goals as goal
 

@@ -19,7 +19,8 @@ use Rattle.av_space.specs.inner.Counting.{piece_sizes, IsCountOf}
 use Rattle.av_space.proofs.ByPlace.{read_at}
 use Rattle.av_space.proofs.TreeSizes.{made_size, size_at, own_sizes, row_within}
 use Rattle.av_space.proofs.OperatorCounts.{count_none, one_more, not_more, whole_cell}
-use Rattle.av_space.proofs.OnCells.{node_in_places, IsCellOf, node_within, cell_of, slot_points, use_of, slot_of_use}
+use Rattle.av_flat.proofs.NodeNumbers.{node_in_places}
+use Rattle.av_space.proofs.OnCells.{IsCellOf, node_within, cell_of, slot_points, use_of, slot_of_use}
 use Rattle.av_space.proofs.operators.cell_operators.Goals as goal
 use Rattle.av_space.proofs.operators.cell_operators.Goals.{then-is_used, else-is_used}
 use Rattle.av_base.proofs.Lists.{get_mapped, some_is}

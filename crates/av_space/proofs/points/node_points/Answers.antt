@@ -2,12 +2,13 @@ use Rattle.av_flat.specs.Trees.{view_system, view_variable}
 use Rattle.std.proofs.lemmas.Result.{IfOk-weaker}
 use Rattle.av_depend.specs.AllPoints.{AreAllPoints}
 use Rattle.av_space.specs.inner.Laying.{AreNodePoints}
-use Rattle.av_space.proofs.Nodes.{node_chained, points_of_node}
+use Rattle.av_flat.proofs.NodeNumbers.{chained_node}
+use Rattle.av_space.proofs.Nodes.{points_of_node}
 use Rattle.av_space.proofs.points.node_points.Goals as goal
 
 pub points_of-requires : goal.points_of-requires
 points_of-requires c =
-    let h = node_chained (view_system c.args.timed.now.flat) c.args.node (view_variable c.variable_of-var.result.now) c.requires.legal.chained c.variable_of-var.ensures in
+    let h = chained_node (view_system c.args.timed.now.flat) c.args.node (view_variable c.variable_of-var.result.now) c.requires.legal.chained c.variable_of-var.ensures in
     record { indices = h.indices; rows = h.rows; bounded = h.bounded }
 
 pub returns : goal.returns

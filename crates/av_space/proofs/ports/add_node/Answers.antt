@@ -3,10 +3,11 @@ use Rattle.std.proofs.lemmas.List.{length-map}
 use Rattle.std.proofs.lemmas.Option.{slice_get_within}
 use Rattle.av_flat.specs.declared.flat.Piece.{Piece as PieceMade}
 use Rattle.av_flat.specs.Nodes.{nodes}
-use Rattle.av_flat.specs.Trees.{view_piece, view_variable, view_system}
+use Rattle.av_flat.specs.Broadcasts.{references}
+use Rattle.av_flat.specs.Trees.{view, view_piece, view_variable, view_system}
 use Rattle.av_space.specs.declared.ports.NodePiece.{NodePiece}
 use Rattle.av_space.proofs.Fed.{next_node}
-use Rattle.av_space.proofs.OnCells.{node_in_places}
+use Rattle.av_flat.proofs.NodeNumbers.{node_in_places}
 use Rattle.av_space.proofs.NodeParts.{piece_below, node_piece_is, piece_part, piece_passed}
 use Rattle.av_space.proofs.ports.add_node.Goals as goal
 
@@ -15,8 +16,8 @@ variable_of-var-requires-clause-within c =
     node_in_places (view_system c.args.timed.now.flat) c.as_slice.result.now c.args.node (c.as_slice.ensures ∙ c.requires.layout.places)
     (slice_get_within (nodes (view_system c.args.timed.now.flat)) c.args.node c.requires.small.variable c.requires.small.is_variable)
 
-pub add_tree-requires-clause-part : goal.add_tree-requires-clause-part
-add_tree-requires-clause-part c =
+pub add_piece-requires-clause-part : goal.add_piece-requires-clause-part
+add_piece-requires-clause-part c =
     let r = c.requires in
     let l : c.loop-number.number < length c.as_slice-piece-items.result.now = search rules in
     piece_part _ (node_piece_is _ c.variable_of-var.result.now c.as_slice-piece-items.result.now r.legal r.layout r.small c.variable_of-var.ensures c.as_slice-piece-items.ensures l c.piece-item.is r.first r.last r.ordered r.within) r.small
@@ -35,7 +36,7 @@ loop-number-preserved c =
       last = c.args.last;
     } in
     piece_passed at (node_piece_is at c.variable_of-var.result.now c.as_slice-piece-items.result.now r.legal r.layout r.small c.variable_of-var.ensures c.as_slice-piece-items.ensures l c.piece-item.is r.first r.last r.ordered r.within)
-    c.in_ok-add_tree.field-0 c.add_tree.new.ports c.in_ok-add_tree.ensures.0 c.in_ok-add_tree.ensures.1
+    (length (references (view c.piece-item.result.tree))) c.add_piece.new.ports (omega arith) c.in_ok-add_piece.ensures
 
 pub returns : goal.returns
 returns c =

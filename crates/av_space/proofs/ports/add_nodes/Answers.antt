@@ -4,7 +4,7 @@ use Rattle.av_flat.specs.Nodes.{nodes}
 use Rattle.av_flat.specs.Trees.{view_system}
 use Rattle.av_space.proofs.Fed.{all_ports}
 use Rattle.av_space.proofs.NodeParts.{small_node}
-use Rattle.av_space.proofs.Nodes.{places_number}
+use Rattle.av_flat.proofs.NodeNumbers.{places_number}
 use Rattle.av_space.proofs.ports.add_nodes.Goals as goal
 
 pub add_node-requires-clause-small : goal.add_node-requires-clause-small

@@ -4,7 +4,7 @@ use Rattle.av_flat.specs.Nodes.{nodes}
 use Rattle.av_flat.specs.Trees.{view_system, view_variable}
 use Rattle.av_space.specs.inner.Laying.{AreNodePoints}
 use Rattle.av_space.specs.inner.Showing.{AreLinesTo}
-use Rattle.av_space.proofs.OnCells.{node_in_places}
+use Rattle.av_flat.proofs.NodeNumbers.{node_in_places}
 use Rattle.av_space.proofs.ShownLines.{outputs_rise, first_point, next_point, whole_node}
 use Rattle.av_space.proofs.shown.add_lines.Goals as goal
 

@@ -3,7 +3,7 @@ use Rattle.av_flat.specs.Nodes.{nodes}
 use Rattle.av_flat.specs.Signatures.{is_shown}
 use Rattle.av_flat.specs.Trees.{view_system, view_variable}
 use Rattle.av_space.specs.inner.Showing.{AreLinesBelow}
-use Rattle.av_space.proofs.Nodes.{places_number}
+use Rattle.av_flat.proofs.NodeNumbers.{places_number}
 use Rattle.av_space.proofs.ShownLines.{no_lines, not_shown, whole_system}
 use Rattle.av_space.proofs.shown.at_lines.Goals as goal
 

@@ -1,6 +1,6 @@
 use Rattle.std.proofs.Common.{◌≡◌, ◌++◌, map, drop}
 use Rattle.av_flat.specs.Trees.{view_system}
-use Rattle.av_space.specs.Sites.{place_of}
+use Rattle.av_flat.specs.Sites.{place_of}
 use Rattle.av_space.specs.inner.Sites.{tap_of, taps_where}
 use Rattle.av_space.proofs.tapping.add_taps_of.Given as goal
 

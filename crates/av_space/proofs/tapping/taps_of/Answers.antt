@@ -1,8 +1,7 @@
 use Rattle.std.proofs.Common.{◌++◌, List, map, ap, ◌∙◌, false, true}
 use Rattle.av_flat.specs.declared.flat.Piece.{Piece}
 use Rattle.av_flat.specs.Trees.{view_piece, view_system, view_variable}
-use Rattle.av_space.specs.Taps.{places_from}
-use Rattle.av_space.specs.Sites.{PlaceMade, place_of}
+use Rattle.av_flat.specs.Sites.{places_from, PlaceMade, place_of}
 use Rattle.av_space.specs.inner.Sites.{TapMade, tap_of, taps_where}
 use Rattle.av_space.proofs.TapSites.{all_found}
 use Rattle.av_space.proofs.tapping.taps_of.Goals as goal

@@ -5,7 +5,7 @@ use Rattle.av_flat.specs.Helped.{before}
 use Rattle.av_flat.specs.Points.{has}
 use Rattle.av_flat.specs.Trees.{view, view_piece}
 use Rattle.av_space.specs.declared.stretch.Reading.{Reading}
-use Rattle.av_space.specs.Sites.{place_of}
+use Rattle.av_flat.specs.Sites.{place_of}
 use Rattle.av_space.specs.Spots.{IsLinkedBy, handed_tap}
 use Rattle.av_space.specs.Taps.{Handing, IsReadAt}
 use Rattle.av_build.specs.inner.Blueprints.{seen, spot_of, lanes_of}

@@ -2,7 +2,7 @@ use Rattle.std.proofs.Common.{ℕ, refl, ap, subst, arith}
 use Rattle.av_flat.specs.Trees.{view}
 use Rattle.av_space.specs.declared.origin.Origin.{Origin}
 use Rattle.av_space.specs.declared.origin.Origin.TheVariants as origin
-use Rattle.av_space.specs.Sites.{place_of}
+use Rattle.av_flat.specs.Sites.{place_of}
 use Rattle.av_space.specs.Spots.{IsOriginBy}
 use Rattle.av_kinds.specs.declared.program.Source.TheVariants.{Word, Input, Line}
 use Rattle.av_build.specs.inner.Blueprints.{lanes_of}

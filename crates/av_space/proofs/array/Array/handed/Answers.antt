@@ -1,6 +1,6 @@
 use Rattle.std.proofs.Common.{◌≡◌, ℕ, sym, ap, ap₂, subst, ◌∙◌}
 use Rattle.av_tree.specs.Points.{Point}
-use Rattle.av_space.specs.Sites.{PlaceMade, place_of}
+use Rattle.av_flat.specs.Sites.{PlaceMade, place_of}
 use Rattle.av_space.specs.Taps.{Handing, handed, Tap}
 use Rattle.av_space.specs.Spots.{handed_tap}
 use Rattle.av_space.specs.inner.SpotTaps.{IsSpotTap}

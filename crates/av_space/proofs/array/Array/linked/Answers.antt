@@ -1,5 +1,5 @@
 use Rattle.std.proofs.Common.{◌≡◌, sym, ap₂, subst}
-use Rattle.av_space.specs.Sites.{PlaceMade, place_of}
+use Rattle.av_flat.specs.Sites.{PlaceMade, place_of}
 use Rattle.av_space.specs.Taps.{Way, Tap}
 use Rattle.av_space.specs.inner.SpotTaps.{own_tap}
 use Rattle.av_space.specs.inner.Sites.{way_of}

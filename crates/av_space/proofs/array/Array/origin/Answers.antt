@@ -3,7 +3,7 @@ use Rattle.av_flat.specs.Trees.{Tree, view, reference, pick}
 use Rattle.av_flat.specs.Broadcasts.{references}
 use Rattle.av_flat.specs.Signatures.{signatures}
 use Rattle.av_space.specs.declared.origin.Origin.TheVariants as origin
-use Rattle.av_space.specs.Sites.{PlaceMade, place_of}
+use Rattle.av_flat.specs.Sites.{PlaceMade, place_of}
 use Rattle.av_space.specs.Spots.{system_of, IsOriginBy}
 use Rattle.av_space.proofs.SpotPlaces.{IsPlaceBy}
 use Rattle.av_space.proofs.SpotReadings.{known}

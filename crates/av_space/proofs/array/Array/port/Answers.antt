@@ -3,7 +3,7 @@ use Rattle.std.specs.Prelude.{All, AllPairs, Contains}
 use Rattle.av_space.specs.declared.cells.Cell.{Cell}
 use Rattle.av_space.specs.declared.cells.InPort.{InPort}
 use Rattle.av_space.specs.Ports.{IsPortBefore}
-use Rattle.av_space.specs.Sites.{PlaceMade}
+use Rattle.av_flat.specs.Sites.{PlaceMade}
 use Rattle.av_space.specs.Spots.{cells_of}
 use Rattle.av_space.proofs.Elements.{in_range}
 use Rattle.av_space.proofs.SpotReadings.{port_there}

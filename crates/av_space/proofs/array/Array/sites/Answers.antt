@@ -5,8 +5,7 @@ use Rattle.std.proofs.lemmas.Option.{slice_get-get_or}
 use Rattle.av_flat.specs.declared.timed.Helper.{Helper}
 use Rattle.av_flat.specs.Trees.{view}
 use Rattle.av_space.specs.declared.spots.Site.{Site}
-use Rattle.av_space.specs.Taps.{Place, places_in}
-use Rattle.av_space.specs.Sites.{PlaceMade, place_of}
+use Rattle.av_flat.specs.Sites.{Place, places_in, PlaceMade, place_of}
 use Rattle.av_space.specs.Spots.{handing_by}
 use Rattle.av_space.proofs.array.Array.sites.Goals as goal
 use Rattle.av_base.proofs.Among.{among_at}

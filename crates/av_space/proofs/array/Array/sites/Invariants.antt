@@ -1,7 +1,7 @@
 use Rattle.std.proofs.Common.{◌≡◌, map, take}
 use Rattle.std.specs.Prelude.{All}
 use Rattle.av_flat.specs.Trees.{view}
-use Rattle.av_space.specs.Sites.{place_of}
+use Rattle.av_flat.specs.Sites.{place_of}
 use Rattle.av_space.specs.Spots.{handing_by}
 use Rattle.av_space.proofs.array.Array.sites.Given as goal
 

@@ -1,0 +1,141 @@
+//! Nodes of a system by their places among the variables, and variables by how many nodes stand before them.
+
+ghost use Rattle.std.specs.Prelude.{◌≡◌, ◌<◌, ◌≤◌, length, Some, slice_get, IfOk};
+ghost use Rattle.av_flat.specs.Trees.{view_system, view_variable};
+ghost use Rattle.av_flat.specs.Nodes.{nodes, number_at, places_of, numbers_of};
+
+use crate::flat::{Flat, Var};
+use av_base::{List, Memory};
+use std::alloc::Global;
+use std::marker::Model;
+
+/// The place of each node among the variables.
+pub fn places(alloc: Global, flat: &Flat) -> Result<List<usize>, Memory>
+    ensures { IfOk result (λ to. to ≡ places_of (view_system flat.now)) }
+{
+    let vars = flat.vars.as_slice();
+    let mut to = List::new(alloc);
+    for place in 0..vars.len() {
+        if !vars[place].is_node() {
+            continue;
+        }
+        to.push(place)?;
+    }
+    Ok(to)
+}
+
+/// How many nodes stand before each variable.
+pub fn numbers(alloc: Global, flat: &Flat) -> Result<List<usize>, Memory>
+    ensures { IfOk result (λ to. to ≡ numbers_of (view_system flat.now)) }
+{
+    let vars = flat.vars.as_slice();
+    let mut to = List::new(alloc);
+    let mut number: usize = 0;
+    for place in 0..vars.len() {
+        to.push(number)?;
+        if vars[place].is_node() {
+            number += 1;
+        }
+    }
+    Ok(to)
+}
+
+/// The place of a node among the variables, which is looked for without memory.
+pub fn place_of(flat: &Flat, node: usize) -> usize
+    requires { node < length (nodes (view_system flat.now)) }
+    ensures fits { result < length flat.now.vars }
+    ensures is { slice_get (nodes (view_system flat.now)) node
+        ≡ slice_get (view_system flat.now).variables result }
+{
+    let vars = flat.vars.as_slice();
+    let mut count: usize = 0;
+    for k in 0..vars.len() {
+        if !vars[k].is_node() {
+            continue;
+        }
+        if count == node {
+            return k;
+        }
+        count += 1;
+    }
+    unreachable!()
+}
+
+/// The nodes of a system, found once. Contracts see the system.
+#[derive(Drop)]
+pub struct Nodes<'a> {
+    flat: &'a Flat,
+    // Of each node.
+    places: List<usize>,
+    // Before each variable.
+    numbers: List<usize>,
+}
+
+impl<'a> Model for Nodes<'a> {
+    ghost use Rattle.std.specs.Prelude.{◌≡◌};
+    ghost use Rattle.std.specs.Coded.{codes};
+    ghost use Rattle.av_flat.specs.contracts.flat.Flat as made;
+    ghost use Rattle.av_flat.specs.declared.flat.Flat.{Flat as FlatSeen};
+    ghost use Rattle.av_flat.specs.Trees.{view_system};
+    ghost use Rattle.av_flat.specs.Nodes.{places_of, numbers_of};
+
+    ghost Value = { FlatSeen };
+
+    ghost coded = { Prim.hlevel (codes, made.the_row.coded) };
+
+    ghost view = { λ it. it.flat.now };
+
+    ghost invariant = { λ it. (it.places ≡ places_of (view_system it.flat.now))
+        × (it.numbers ≡ numbers_of (view_system it.flat.now)) };
+}
+
+impl<'a> Nodes<'a> {
+    /// Those of a system.
+    pub fn new(alloc: Global, flat: &'a Flat) -> Result<Nodes<'a>, Memory>
+        ensures { IfOk result (λ found. found ≡ flat.now) }
+    {
+        let places = places(alloc, flat)?;
+        let numbers = numbers(alloc, flat)?;
+        Ok(Nodes {
+            flat,
+            places,
+            numbers,
+        })
+    }
+
+    /// The system.
+    pub fn flat(&self) -> &'a Flat
+        ensures { result.now ≡ self.now }
+    {
+        self.flat
+    }
+
+    /// How many there are.
+    pub fn len(&self) -> usize
+        ensures count { result ≡ length (nodes (view_system self.now)) }
+        ensures most { result ≤ 1073741824 }
+    {
+        self.places.len()
+    }
+
+    /// How many nodes stand before a place of the variables. It is the number of the node there, if a node stands there.
+    pub fn number(&self, place: usize) -> usize
+        requires { place < length self.now.vars }
+        ensures is { result ≡ number_at (view_system self.now) place }
+        ensures most { result ≤ 1073741824 }
+    {
+        // So few variables that 32 bits number them.
+        let _most = self.flat.vars.len();
+        self.numbers.as_slice()[place]
+    }
+
+    /// The variable of a node.
+    pub fn variable(&self, node: usize) -> &'a Var
+        requires { node < length (nodes (view_system self.now)) }
+        ensures { slice_get (nodes (view_system self.now)) node ≡ Some (view_variable result.now) }
+    {
+        let vars = self.flat.vars.as_slice();
+        let place = self.places.as_slice()[node];
+        &vars[place]
+    }
+}

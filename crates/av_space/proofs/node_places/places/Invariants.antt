@@ -1,9 +1,0 @@
-use Rattle.std.proofs.Common.{◌≡◌, map}
-use Rattle.std.specs.List.{range_with_len}
-use Rattle.av_flat.specs.Trees.{view_system}
-use Rattle.av_flat.specs.Nodes.{number_at}
-use Rattle.av_space.specs.Taps.{node_place}
-use Rattle.av_space.proofs.node_places.places.Given as goal
-
-abbrev pub invariant-loop-place : goal.invariant-loop-place
-invariant-loop-place l = l.to ≡ map (node_place (view_system l.fn.flat)) (range_with_len 0 (number_at (view_system l.fn.flat) l.place))
