@@ -14,6 +14,7 @@ mod measure;
 mod nonempty_pieces;
 mod normal;
 mod opposed;
+mod outline;
 mod piece;
 mod reduction_sets;
 
