@@ -15,6 +15,7 @@ ghost use Rattle.av_normal.specs.inner.Numbered.{part_at, signatures_of};
 ghost use Rattle.av_normal.specs.Searches.{IsNarrow, AreNarrow, IsWide};
 ghost use Rattle.av_normal.specs.inner.UnderMaps.{IsReadable, StandsUnder};
 ghost use Rattle.av_normal.specs.inner.ReductionSets.{has_reduction};
+ghost use Rattle.av_normal.specs.inner.Sketches.{sketches};
 ghost use Rattle.av_normal.specs.inner.Making.{maps_measured, parts_measured, bodies_measured, held, held_parts, filled_part, StandsIn, IsMade, AreMade, AreAdded, IsParted, IsHolder};
 ghost use Rattle.av_normal.specs.inner.AllPieces.{IsPieceOfPart, ArePiecesOfParts, HasAllPieces, HaveAllPieces, IsWideIn};
 
@@ -26,6 +27,7 @@ use crate::opposed::are_contrary;
 use crate::outline::outline_at;
 use crate::piece::tree_at;
 use crate::reduction_sets::filled;
+use crate::sketch::sketch_tree;
 use av_base::{List, Memory, Word};
 use av_flat::{Flat, Piece, Tree, Var};
 use av_poly::{Poly, copy_set};
@@ -93,9 +95,12 @@ fn made_piece(
     vars: &[Var],
     domain: &Poly,
     tree: &Tree,
+    sketch: &Tree,
     number: u128,
 ) -> Result<Piece, NormalFault>
     requires readable { IsReadable (signatures_of vars.now) [] (view tree.now) }
+    requires sketch { IsReadable [] [] (view sketch.now) }
+    requires same { sketches [] [] (view sketch.now) ≡ sketches (signatures_of vars.now) [] (view tree.now) }
     requires domain { All IsWithinLimits domain.now.rows }
     requires number { number < piece_count (view tree.now) }
     requires few { piece_count (view tree.now) ≤ 256 }
@@ -103,7 +108,7 @@ fn made_piece(
     ensures narrow { OnOk result (IsNarrow (of_set (set_of domain.now.dim (held domain.now.rows (part_at (parts (signatures_of vars.now) [] (view tree.now)) number))))) }
     ensures wide { IfErr result (IsWide (of_set (set_of domain.now.dim (held domain.now.rows (part_at (parts (signatures_of vars.now) [] (view tree.now)) number))) ∷ [])) }
 {
-    let outline = outline_at(alloc, vars, domain, tree, number)?;
+    let outline = outline_at(alloc, vars, domain, tree, sketch, number)?;
     let domain = narrowed(outline.domain)?;
     let tree = needed_tree(alloc, vars, &domain, outline.folds, tree, number)?;
     Ok(Piece { domain, tree })
@@ -125,8 +130,9 @@ fn append_pieces(
     ensures wide { IfErr result (IsWide (parts_measured domain.now.dim (with_rows domain.now.rows (parts (signatures_of vars.now) [] (view tree.now))))) }
 {
     let count = piece_count(tree);
+    let sketch = sketch_tree(alloc, vars, domain.dim, tree)?;
     for number in 0..count {
-        pieces.push(made_piece(alloc, vars, domain, tree, number)?)?;
+        pieces.push(made_piece(alloc, vars, domain, tree, &sketch, number)?)?;
     }
     Ok(())
 }

@@ -17,6 +17,7 @@ mod opposed;
 mod outline;
 mod piece;
 mod reduction_sets;
+mod sketch;
 
 pub use box_limit::quantity_over;
 pub use compose::prepend_map;

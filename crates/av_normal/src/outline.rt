@@ -10,6 +10,7 @@ ghost use Rattle.av_normal.specs.inner.Numbered.{part_at, signatures_of};
 ghost use Rattle.av_normal.specs.inner.UnderMaps.{IsReadable, AreReadable};
 ghost use Rattle.av_normal.specs.inner.ReductionSets.{has_reduction};
 ghost use Rattle.av_normal.specs.inner.PieceByNumber.{HasPart, AreRowsAt};
+ghost use Rattle.av_normal.specs.inner.Sketches.{sketches};
 
 use crate::compose::prepend_map;
 use crate::count::piece_count;
@@ -28,24 +29,26 @@ pub(crate) struct Outline {
     pub folds: bool,
 }
 
-/// The outline of the piece of a variable's right side with this number.
+/// The outline of the piece of a variable's right side with this number, by the sketch of the right side.
 pub(crate) fn outline_at(
     alloc: Global,
-    vars: &[Var],
+    _vars: &[Var],
     domain: &Poly,
-    tree: &Tree,
+    _tree: &Tree,
+    sketch: &Tree,
     number: u128,
 ) -> Result<Outline, Memory>
-    requires readable { IsReadable (signatures_of vars.now) [] (view tree.now) }
+    requires sketch { IsReadable [] [] (view sketch.now) }
+    requires same { sketches [] [] (view sketch.now) ≡ sketches (signatures_of _vars.now) [] (view _tree.now) }
     requires domain { All IsWithinLimits domain.now.rows }
-    requires number { number < piece_count (view tree.now) }
-    requires few { piece_count (view tree.now) ≤ 256 }
+    requires number { number < piece_count (view _tree.now) }
+    requires few { piece_count (view _tree.now) ≤ 256 }
     ensures dim { IfOk result (λ o. o.domain.dim ≡ domain.now.dim) }
-    ensures rows { IfOk result (λ o. o.domain.rows ≡ domain.now.rows ++ (part_at (parts (signatures_of vars.now) [] (view tree.now)) number).rows) }
-    ensures folds { IfOk result (λ o. o.folds ≡ has_reduction (part_at (parts (signatures_of vars.now) [] (view tree.now)) number).tree) }
+    ensures rows { IfOk result (λ o. o.domain.rows ≡ domain.now.rows ++ (part_at (parts (signatures_of _vars.now) [] (view _tree.now)) number).rows) }
+    ensures folds { IfOk result (λ o. o.folds ≡ has_reduction (part_at (parts (signatures_of _vars.now) [] (view _tree.now)) number).tree) }
 {
     let mut rows = copy_rows(alloc, domain.rows.as_slice())?;
-    let folds = rows_of_part(alloc, vars, &[], tree, number, &mut rows)?;
+    let folds = rows_of_part(alloc, &[], &[], sketch, number, &mut rows)?;
     let domain = Poly {
         dim: domain.dim,
         rows,

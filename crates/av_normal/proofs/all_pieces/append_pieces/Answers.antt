@@ -23,7 +23,7 @@ returns-in_err-made_piece-clause-wide c =
     let below : k < c.piece_count-count.result = search rules in
     let l = number_below (signatures_of c.args.vars.now) (view c.args.tree.now) k c.piece_count-count.result c.piece_count-count.ensures c.requires.few below in
     let next = subst (λ (qs : List Part). StandsFor (parts_measured dim qs) (parts_measured dim all)) (held_at rows own k l) c.loop-number.invariant.left in
-    let p = err_from_is_err_and c.from_residual.result c.from_residual.ensures.1 in
+    let p = err_from_is_err_and c.from_residual-in_err-made_piece.result c.from_residual-in_err-made_piece.ensures.1 in
     rw (p.1, p.2)
     (refused (of_set (set_of dim (held rows (part_at own k))) ∷ []) (parts_measured dim (drop (k + 1) all)) (parts_measured dim all) c.in_err-made_piece.field-0.0 next c.in_err-made_piece.ensures.wide)
 
