@@ -1,5 +1,5 @@
-use Rattle.std.proofs.Common.{◌≡◌, ◌<◌, ◌≤◌, ◌+◌, ◌∙◌, ◌∷◌, ◌++◌, [], List, Bool, false, length, map, take, take-suc, rules, ap, ap₂, sym, subst, All}
-use Rattle.std.proofs.lemmas.List.{take_all}
+use Rattle.std.proofs.Common.{◌≡◌, ◌<◌, ◌≤◌, ◌+◌, ◌∙◌, ◌∷◌, ◌++◌, [], List, Bool, false, length, map, take, rules, ap, ap₂, sym, subst, All}
+use Rattle.std.proofs.lemmas.List.{take_all, take_more}
 use Rattle.std.proofs.lemmas.List.Elements.{All-nil}
 use Rattle.av_affine.specs.declared.form.Form.{Form}
 use Rattle.av_poly.specs.Points.{IsSmall}
@@ -100,7 +100,7 @@ sketch_all-loop-branch-preserved t c =
     let so_far = c.loop-branch.invariant in
     let here = c.in_ok-tree_of.ensures.same ∙ c.in_ok-sketch.ensures.same in
     let more : take (i + 1) branches ≡ take i branches ++ branch ∷ [] =
-    take-suc branches i branch l ∙ ap (λ (b : TreeMade). take i branches ++ b ∷ []) (sym c.branch-item.is)
+    take_more branches i branch l ∙ ap (λ (b : TreeMade). take i branches ++ b ∷ []) (sym c.branch-item.is)
     in
     record {
       readable = subst (λ (ts : List TreeMade). AreReadable [] [] (trees_of (map view ts))) (sym c.in_ok-push.ensures.ok) (readable_more [] [] c.loop-branch.trees made so_far.readable c.in_ok-tree_of.ensures.readable);
