@@ -12,7 +12,7 @@ use Rattle.av_normal.specs.inner.UnderMaps.{IsReading, IsReadable, AreReadable}
 use Rattle.av_normal.specs.inner.Sketches.{sketched, sketches, side_by_side}
 use Rattle.av_normal.proofs.Outcomes.{if_ok}
 use Rattle.av_normal.proofs.Reading.{fits_read}
-use Rattle.av_normal.proofs.Depths.{less_deep}
+use Rattle.av_normal.proofs.Depths.{less_deep, branch_falls}
 use Rattle.av_normal.proofs.PieceByNumber.{case_readable}
 use Rattle.av_normal.proofs.Sketches.{reference_sketch, sketched_pairs, sketched_fours, sketched_behind, sketched_more, readable_more, readable_at}
 use Rattle.av_normal.proofs.sketch.+sketch_of.Goals as goal
@@ -87,8 +87,10 @@ sketch_of-returns-in_ok-branches-in-Case-clause-same t c =
 
 pub sketch_all-sketch_of-requires : goal.sketch_all-sketch_of-requires
 sketch_all-sketch_of-requires t c =
-    let l : c.loop-branch.branch-index < length c.args.branches.now = search rules in
-    (search rules, readable_at (signatures_of c.args.vars.now) c.args.under.now c.args.branches.now c.loop-branch.branch-index c.branch-item.result l c.branch-item.is c.requires)
+    let l : c.loop-branch.branch-index < length c.args.branches.now = search rules in (
+      branch_falls t c.args.branches.now c.loop-branch.branch-index c.branch-item.result c.decreases l c.branch-item.is,
+      readable_at (signatures_of c.args.vars.now) c.args.under.now c.args.branches.now c.loop-branch.branch-index c.branch-item.result l c.branch-item.is c.requires,
+    )
 
 pub sketch_all-loop-branch-preserved : goal.sketch_all-loop-branch-preserved
 sketch_all-loop-branch-preserved t c =
