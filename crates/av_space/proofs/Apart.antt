@@ -95,9 +95,9 @@ module _ (t : Timed) (placings : List Placing) (cells : List Cell) (legal : IsLe
       between.0 between.1)
 
 -- the computations on a cell, and the set of a piece of the cell's node
-pub of_node : (t : Timed) (l : Layout) (p : ℕ) (v : Variable) (slots : List Slot) → IsLegal t → ArePlacings t.times l.placements → IsCellOf (view_system t.flat) l.placements l.cells p v slots
+pub are_of_node : (t : Timed) (l : Layout) (p : ℕ) (v : Variable) (slots : List Slot) → IsLegal t → ArePlacings t.times l.placements → IsCellOf (view_system t.flat) l.placements l.cells p v slots
     → (k : ℕ) (piece : Piece) → slice_get v.pieces k ≡ Some piece → AreOfNode piece.domain slots
-of_node t l p v slots legal are on k piece is =
+are_of_node t l p v slots legal are on k piece is =
     let s = view_system t.flat in
     let chained = chained_node t on.cell.node v legal on.is_variable in
     record {

@@ -29,7 +29,7 @@ use Rattle.av_space.specs.Taps.{node_of, node_place, helper_at, Handing}
 use Rattle.av_space.specs.inner.Apart.{AreOfNode}
 use Rattle.av_space.specs.inner.Feeding.{direction_of, is_entered, with_port, StandAt}
 use Rattle.av_space.specs.inner.NodePieces.{IsNodePiece, IsPart, IsInputSite, ArePortsAt}
-use Rattle.av_space.proofs.Apart.{of_node}
+use Rattle.av_space.proofs.Apart.{are_of_node}
 use Rattle.av_space.proofs.ByPlace.{read_at}
 use Rattle.av_space.proofs.Directions.{first_step}
 use Rattle.av_space.proofs.Fed.{IsSiteOn, next_cell, node_of_port, same_reference}
@@ -140,7 +140,7 @@ pub slots_between : (at : NodePiece) (is : IsNodePiece at) (j : ℕ) (site : Inp
     → AreOfNode site.domain.now slots
 slots_between at is j site own p slots low high e =
     let on = (cell_between at is p slots low high e).0 in
-    let h = of_node at.timed.now at.layout.now p is.variable slots is.legal is.layout.are_placings on at.number (view_piece at.piece.now) is.is_piece in
+    let h = are_of_node at.timed.now at.layout.now p is.variable slots is.legal is.layout.are_placings on at.number (view_piece at.piece.now) is.is_piece in
     subst (λ (set : Set). AreOfNode set slots) (sym own.domain) h
 
 -- one cell more

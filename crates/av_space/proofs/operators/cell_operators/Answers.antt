@@ -16,7 +16,7 @@ use Rattle.av_space.specs.Layouts.{IsLayout}
 use Rattle.av_space.specs.Quantities.{size, Use, IsUse}
 use Rattle.av_space.specs.inner.Apart.{AreOfNode}
 use Rattle.av_space.specs.inner.Counting.{piece_sizes, IsCountOf}
-use Rattle.av_space.proofs.Apart.{of_node}
+use Rattle.av_space.proofs.Apart.{are_of_node}
 use Rattle.av_space.proofs.ByPlace.{read_at}
 use Rattle.av_space.proofs.TreeSizes.{made_size, size_at, own_sizes, row_within}
 use Rattle.av_space.proofs.OperatorCounts.{count_none, one_more, not_more, whole_cell}
@@ -99,7 +99,7 @@ is_used-requires c =
     let lp : c.loop-number.number < length c.as_slice-piece-items.result.now = search rules in
     let is = get_mapped view_piece v.pieces c.loop-number.number piece (read_at v.pieces c.as_slice-piece-items.result.now c.loop-number.number piece c.as_slice-piece-items.ensures lp c.piece-item.is) in
     subst (λ (ts : List Slot). AreOfNode piece.domain ts) (sym c.as_slice-slots.ensures)
-    (of_node t l c.args.cell (view_variable v) slots c.requires.legal c.requires.layout.are_placings on c.loop-number.number (view_piece piece) is)
+    (are_of_node t l c.args.cell (view_variable v) slots c.requires.legal c.requires.layout.are_placings on c.loop-number.number (view_piece piece) is)
 
 pub loop-number-preserved : goal.loop-number-preserved
 loop-number-preserved c =
