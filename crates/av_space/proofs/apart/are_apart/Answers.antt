@@ -1,10 +1,21 @@
 use Rattle.std.proofs.Common.{rules, ◌≡◌, ◌-◌, ◌<◌, List, length, refl, sym, subst, arith}
 use Rattle.av_affine.specs.declared.form.Form.{Form}
+use Rattle.av_affine.specs.Numbers.{AtMost}
 use Rattle.av_poly.specs.Points.{Holds}
 use Rattle.av_space.specs.declared.layout.Slot.{Slot}
 use Rattle.av_space.proofs.Apart.{none_of_rows}
 use Rattle.av_space.proofs.ByPlace.{read_at}
 use Rattle.av_space.proofs.apart.are_apart.Goals as goal
+
+pub one_is_below_both-requires-clause-first : goal.one_is_below_both-requires-clause-first
+one_is_below_both-requires-clause-first c =
+    let some : 0 < length c.args.slots.now = search rules in
+    subst (λ (t : Slot). AtMost 4095 t.point) (sym c.index-slots-0.is) (c.requires.points 0 c.index-slots-0.result some).entries
+
+pub one_is_below_both-requires-clause-last : goal.one_is_below_both-requires-clause-last
+one_is_below_both-requires-clause-last c =
+    let some : 0 < length c.args.slots.now = search rules in
+    subst (λ (t : Slot). AtMost 4095 t.point) (sym c.index-slots-slots.is) (c.requires.points (length c.args.slots.now - 1) c.index-slots-slots.result (omega (arith, some))).entries
 
 pub returns : goal.returns
 returns c = λ t.
