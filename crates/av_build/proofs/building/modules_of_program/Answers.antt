@@ -9,5 +9,5 @@ both P Q R f (Err e) p q = p
 
 pub returns : goal.returns
 returns c =
-    both _ _ _ (λ m netlists form. counting_plan c.args.timed.now c.args.cells.now c.requires.legal c.requires.within c.args.counter (program_of c.args.program.now) c.requires.program m netlists form) c.modules_of.result c.modules_of.ensures.netlists
+    both _ _ _ (λ m netlists form. counting_plan c.args._timed.now c.args._cells.now c.requires.legal c.requires.within c.args.counter (program_of c.args.program.now) c.requires.program m netlists form) c.modules_of.result c.modules_of.ensures.netlists
     c.modules_of.ensures.form
