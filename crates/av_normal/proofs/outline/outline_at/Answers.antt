@@ -1,4 +1,4 @@
-use Rattle.std.proofs.Common.{◌≡◌, ◌∙◌, ◌++◌, List, Bool, ap, ap₂, arith, []}
+use Rattle.std.proofs.Common.{◌≡◌, ◌∙◌, ◌++◌, List, Bool, ap, ap₂, arith, rules, []}
 use Rattle.av_affine.specs.declared.form.Form.{Form}
 use Rattle.av_flat.specs.Trees.{view}
 use Rattle.av_normal.specs.inner.Numbered.{signatures_of}
@@ -15,7 +15,8 @@ returns-clause-rows c =
     let n = same_count (signatures_of c.args._vars.now) (view c.args.sketch.now) (view c.args._tree.now) c.requires.same in
     let same = same_sketch (signatures_of c.args._vars.now) (view c.args.sketch.now) (view c.args._tree.now) c.requires.same c.args.number c.requires.number in
     let made = c.in_ok-folds.ensures.part (omega (arith, c.requires.number, n)) (omega (arith, c.requires.few, n)) in
-    made.0 ∙ ap₂ (λ (xs ys : List Form). xs ++ ys) (c.in_ok-rows.ensures ∙ c.as_slice.ensures) (ap (λ (s : List Form × Bool). s.0) same)
+    let copied : c.as_slice.result.now ≡ c.args.domain.now.rows = search rules in
+    made.0 ∙ ap₂ (λ (xs ys : List Form). xs ++ ys) (c.in_ok-rows.ensures ∙ copied) (ap (λ (s : List Form × Bool). s.0) same)
 
 pub returns-clause-folds : goal.returns-clause-folds
 returns-clause-folds c =

@@ -1,4 +1,4 @@
-use Rattle.std.proofs.Common.{◌≡◌, ◌-◌, ◌<◌, List, length, refl, sym, subst, arith}
+use Rattle.std.proofs.Common.{◌≡◌, ◌-◌, ◌<◌, List, length, refl, sym, subst, arith, rules}
 use Rattle.av_affine.specs.declared.form.Form.{Form}
 use Rattle.av_affine.specs.Numbers.{AtMost}
 use Rattle.av_poly.specs.Points.{Holds}
@@ -25,5 +25,6 @@ returns c = λ t.
     let last = c.index-slots-slots.result in
     let is_first = read_at slots slots 0 first refl some c.index-slots-0.is in
     let is_last = read_at slots slots (length slots - 1) last refl (omega (arith, some)) c.index-slots-slots.is in
+    let same : c.as_slice.result.now ≡ c.args.set.now.rows = search rules in
     none_of_rows c.args.set.now first.point last.point slots (c.requires.ends first last is_first is_last)
-    (λ z between h. c.one_is_below_both.ensures t z between (subst (λ (rows : List Form). Holds rows z) (sym c.as_slice.ensures) h))
+    (λ z between h. c.one_is_below_both.ensures t z between (subst (λ (rows : List Form). Holds rows z) (sym same) h))
