@@ -1,7 +1,7 @@
 //! The first point of a system of rectangles that has no word, or two.
 
 use crate::asserts::same;
-use av_check::{CheckFault, check};
+use av_check::{CheckFault, check, check_normal};
 use av_flat::{Flat, Pass};
 use av_normal::Normal;
 use av_testing::{push_point, push_words, system};
@@ -26,18 +26,26 @@ fn push_fault(out: &mut String, fault: &CheckFault) -> Result<(), Fail> {
     }
 }
 
-// What the check says of a text.
-fn verdict(alloc: Global, text: &str) -> Result<String, Fail> {
-    let flat = system(alloc, text, &[])?;
-    if Normal.run(alloc, &flat).is_err() {
-        return Err(Fail::new("normal"));
-    }
+// What a check says.
+fn verdict(alloc: Global, answer: Result<(), CheckFault>) -> Result<String, Fail> {
     let mut out = String::new(alloc);
-    match check(alloc, &flat) {
+    match answer {
         Ok(()) => push_words(&mut out, "ok")?,
         Err(fault) => push_fault(&mut out, &fault)?,
     }
     Ok(out)
+}
+
+// What both checks say of a text: the one that makes its normal form, and the one that is given it.
+fn verdicts(alloc: Global, text: &str) -> Result<(String, String), Fail> {
+    let flat = system(alloc, text, &[])?;
+    match Normal.run(alloc, &flat) {
+        Ok(normal) => Ok((
+            verdict(alloc, check(alloc, &flat))?,
+            verdict(alloc, check_normal(alloc, &flat, &normal))?,
+        )),
+        Err(_) => Err(Fail::new("normal")),
+    }
 }
 
 fn assert_verdict(
@@ -50,7 +58,9 @@ fn assert_verdict(
     let text = format!(in alloc;
         "system t () returns (Y : {{i,j | {domain}}} of integer); let Y[i,j] = case {cases} esac; tel;"
     )?;
-    same(rt, verdict(alloc, text.as_str())?.as_str(), wanted);
+    let (made, given) = verdicts(alloc, text.as_str())?;
+    same(rt, made.as_str(), wanted);
+    same(rt, given.as_str(), wanted);
     Ok(())
 }
 

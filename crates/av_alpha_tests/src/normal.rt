@@ -5,7 +5,7 @@ ghost use Rattle.av_flat.specs.WellFormed.{IsWellFormed};
 
 use crate::asserts::same;
 use av_flat::{Flat, Pass};
-use av_normal::{Normal, NormalFault};
+use av_normal::{Normal, NormalFault, are_contrary};
 use av_testing::{push_limit, push_named, push_number, push_words, system};
 use std::alloc::Global;
 use std::fmt::Write;
@@ -111,6 +111,31 @@ fn assert_answer(rt: &impl Abort, alloc: Global, text: &str, wanted: &str) -> Re
 fn pieces_and_faults(rt: HostRuntime) -> Result<(), Fail> {
     for (text, wanted) in ROWS {
         assert_answer(&rt, rt.alloc(), text, wanted)?;
+    }
+    Ok(())
+}
+
+// Whether two rows of a domain cannot hold at once.
+fn has_contrary_rows(alloc: Global, domain: &str) -> Result<bool, Fail> {
+    let text = format!(in alloc;
+        "system t () returns (Y : {{i,j | {domain}}} of integer); let Y = 1; tel;"
+    )?;
+    let flat = system(alloc, text.as_str(), &[])?;
+    let var = flat.vars.as_slice().first().ok_or("no variable")?;
+    Ok(are_contrary(var.domain.rows.as_slice()))
+}
+
+#[test]
+fn contrary_rows(rt: HostRuntime) -> Result<(), Fail> {
+    for (domain, wanted) in [
+        ("0<=i<=3; 0<=j<=3", false),
+        ("1<=i<=0; 0<=j<=3", true),
+        ("0<=i<=3; 0<=j<=3; i+j<=2; i+j>=3", true),
+        ("0<=i<=3; 0<=j<=3; i+j<=2; i+j>=2", false),
+        // without a point, but each two rows have a common one
+        ("0<=i<=3; 0<=j<=3; i+j>=9", false),
+    ] {
+        assert_eq!(rt; has_contrary_rows(rt.alloc(), domain)?, wanted);
     }
     Ok(())
 }

@@ -17,8 +17,8 @@ use Rattle.av_net.specs.Sound.{IsSound}
 use Rattle.av_lanes.specs.Seen.{Seen, lane, carried}
 use Rattle.av_lanes.proofs.ByLane.{lane_set, lane_size, lane_replicate}
 use Rattle.av_data.specs.declared.stimulus.Stimulus.{Stimulus}
-use Rattle.av_wave.specs.Clocking.{AreLeft}
-use Rattle.av_wave.proofs.Cycling.{ForRuns, presented, settled_cycle, reset_registers, tick_registers}
+use Rattle.av_wave.specs.Clocking.{ForRuns, AreLeft}
+use Rattle.av_wave.proofs.Cycling.{presented, settled_cycle, reset_registers, tick_registers}
 use Rattle.av_commands.specs.inner.LaneClocking.{AreLeftInLanes, ArePresentedInLanes}
 use Rattle.av_commands.specs.inner.Watching.{AreTaps, noted, watched}
 use Rattle.av_commands.proofs.LanesPresented.{zero_at}

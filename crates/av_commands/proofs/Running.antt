@@ -18,11 +18,11 @@ use Rattle.av_data.specs.declared.stimulus.Stimulus.{Stimulus}
 use Rattle.av_data.specs.Cycles.{cycle_line}
 use Rattle.av_commands.specs.declared.simulation.Prepared.{Prepared}
 use Rattle.av_wave.specs.Simulated.{header_ports, port_words, words_line, run_lines}
-use Rattle.av_wave.specs.Clocking.{AreLeft, ArePresented}
+use Rattle.av_wave.specs.Clocking.{ForRuns, AreLeft, ArePresented}
 use Rattle.av_commands.specs.inner.Clocking.{IsPrepared}
 use Rattle.av_wave.proofs.Presenting.{words_noted}
 use Rattle.av_commands.proofs.Prefixes.{lines_split}
-use Rattle.av_wave.proofs.Cycling.{ForRuns, tick_registers, presented, settled_cycle, header_named}
+use Rattle.av_wave.proofs.Cycling.{tick_registers, presented, settled_cycle, header_named}
 use Rattle.av_data.proofs.Lined.{name_there}
 
 -- c cycles were written, and the registers have the words of the next one

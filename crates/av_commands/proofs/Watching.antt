@@ -17,11 +17,11 @@ use Rattle.av_net.specs.Sound.{IsSound}
 use Rattle.av_clock.specs.Seen.{Seen, carried}
 use Rattle.av_data.specs.declared.stimulus.Stimulus.{Stimulus}
 use Rattle.av_wave.specs.Simulated.{IsStimulated}
-use Rattle.av_wave.specs.Clocking.{AreLeft, ArePresented}
+use Rattle.av_wave.specs.Clocking.{ForRuns, AreLeft, ArePresented}
 use Rattle.av_commands.specs.Shown.{IsFedRun, AreShown}
 use Rattle.av_commands.specs.inner.Feeding.{AreOfLines}
 use Rattle.av_commands.specs.inner.Watching.{bits_of, noted, watched}
-use Rattle.av_wave.proofs.Cycling.{ForRuns, presented, settled_cycle, tick_registers, stream_of, is_stream}
+use Rattle.av_wave.proofs.Cycling.{presented, settled_cycle, tick_registers, stream_of, is_stream}
 use Rattle.av_commands.proofs.Watched.{agree_on, watched_more, watched_all}
 use Rattle.av_commands.proofs.Fed.{fed}
 

@@ -5,4 +5,5 @@ pub mod Searches
 pub mod Extents
 pub mod Pairwise
 pub mod Domains
+pub mod Contrary
 pub mod inner

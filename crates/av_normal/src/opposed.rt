@@ -1,8 +1,9 @@
 //! Rows that cannot hold at once, which most sets without a point have.
 
-ghost use Rattle.std.specs.Prelude.{ℤ, List as Items, ◌≡◌, ◌^◌, ◌-ℤ◌, pos, map, All, IsTrue};
+ghost use Rattle.std.specs.Prelude.{ℤ, List as Items, ◌≡◌, ◌^◌, ◌-ℤ◌, pos, map, All, Any, IsTrue};
 ghost use Rattle.av_affine.specs.Numbers.{AtMost};
 ghost use Rattle.av_poly.specs.Points.{IsSmall, Holds, HoldsAt};
+ghost use Rattle.av_normal.specs.Contrary.{AreOpposed};
 
 use av_affine::Form;
 
@@ -18,7 +19,8 @@ fn turned(coef: [i64; 4]) -> [i64; 4]
 fn are_opposed(some: &Form, other: &Form) -> bool
     requires some { IsSmall some.now }
     requires other { IsSmall other.now }
-    ensures { IsTrue result → (z : Items ℤ) → HoldsAt some.now z → HoldsAt other.now z → ⊥ }
+    ensures none { IsTrue result → (z : Items ℤ) → HoldsAt some.now z → HoldsAt other.now z → ⊥ }
+    ensures complete { AreOpposed some.now other.now → IsTrue result }
 {
     let coef = other.coef;
     if turned(some.coef) == coef {
@@ -32,7 +34,8 @@ fn are_opposed(some: &Form, other: &Form) -> bool
 fn opposes_any(row: &Form, others: &[Form]) -> bool
     requires row { IsSmall row.now }
     requires others { All IsSmall others.now }
-    ensures { IsTrue result → (z : Items ℤ) → HoldsAt row.now z → Holds others.now z → ⊥ }
+    ensures none { IsTrue result → (z : Items ℤ) → HoldsAt row.now z → Holds others.now z → ⊥ }
+    ensures complete { Any (AreOpposed row.now) others.now → IsTrue result }
 {
     for other in others {
         if are_opposed(row, other) {
@@ -42,10 +45,12 @@ fn opposes_any(row: &Form, others: &[Form]) -> bool
     false
 }
 
-/// Whether two of the rows cannot hold at once.
+/// Whether two of the rows have opposite coefficients and leave no number between them, so that no point has both. Most sets
+/// without a point have two such rows; that the answer is no says nothing of a set.
 pub fn are_contrary(rows: &[Form]) -> bool
     requires { All IsSmall rows.now }
-    ensures { IsTrue result → (z : Items ℤ) → Holds rows.now z → ⊥ }
+    ensures none { IsTrue result → (z : Items ℤ) → Holds rows.now z → ⊥ }
+    ensures complete { Any (λ row. Any (AreOpposed row) rows.now) rows.now → IsTrue result }
 {
     for row in rows {
         if opposes_any(row, rows) {

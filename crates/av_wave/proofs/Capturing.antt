@@ -28,8 +28,8 @@ use Rattle.av_wave.specs.declared.wave.Change.{Change}
 use Rattle.av_wave.specs.Waves.{Recording, zeros, all_changed, changes_to, values_in}
 use Rattle.av_wave.specs.Simulated.{header_ports, port_words}
 use Rattle.av_wave.specs.Recorded.{IsFor, IsRecorded, IsCaptured}
-use Rattle.av_wave.specs.Clocking.{AreLeft, ArePresented}
-use Rattle.av_wave.specs.inner.Capturing.{ForRuns, AreValues, IsCapturing}
+use Rattle.av_wave.specs.Clocking.{ForRuns, AreLeft, ArePresented}
+use Rattle.av_wave.specs.inner.Capturing.{AreValues, IsCapturing}
 use Rattle.av_wave.specs.inner.Parts.{Part, IsPart, IsPast, Records, FitsPort, at_first, wave_of}
 use Rattle.av_wave.proofs.PartSteps.{part_wave}
 use Rattle.av_wave.proofs.Walking.{given_fits, all_left}

@@ -18,7 +18,7 @@ use Rattle.av_data.specs.declared.stimulus.Stimulus.{Stimulus}
 use Rattle.av_data.specs.Reading.{place_of}
 use Rattle.av_data.proofs.Lined.{name_there, place_at}
 use Rattle.av_wave.specs.Simulated.{given_word, IsStimulated, header_ports}
-use Rattle.av_wave.specs.inner.Capturing.{ForRuns}
+use Rattle.av_wave.specs.Clocking.{ForRuns}
 use Rattle.av_wave.proofs.Presenting.{given_distinct}
 
 -- ---- registers

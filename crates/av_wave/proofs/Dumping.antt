@@ -17,9 +17,9 @@ use Rattle.av_data.specs.declared.stimulus.Stimulus.{Stimulus}
 use Rattle.av_wave.specs.declared.run.Prepared.{Prepared}
 use Rattle.av_wave.specs.Simulated.{header_ports, port_words}
 use Rattle.av_wave.specs.Recorded.{IsFor}
-use Rattle.av_wave.specs.Clocking.{AreLeft, ArePresented, AreWires}
+use Rattle.av_wave.specs.Clocking.{ForRuns, AreLeft, ArePresented, AreWires}
 use Rattle.av_wave.specs.Dumps.{time_line, head_lines, joined}
-use Rattle.av_wave.specs.inner.Capturing.{ForRuns, IsCapturing}
+use Rattle.av_wave.specs.inner.Capturing.{IsCapturing}
 use Rattle.av_wave.specs.inner.Heads.{IsHead}
 use Rattle.av_wave.specs.inner.Parts.{Part, HasWords, at_first, wave_of}
 use Rattle.av_wave.specs.inner.Running.{IsPrepared, PutsDump}

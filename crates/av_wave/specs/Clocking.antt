@@ -4,10 +4,16 @@ use Rattle.av_net.specs.declared.netlist.Port.{Port}
 use Rattle.av_net.specs.declared.netlist.Module.{Module}
 use Rattle.av_net.specs.Meaning.{Words}
 use Rattle.av_net.specs.Names.{targets_of}
+use Rattle.av_net.specs.Clocked.{Stream, Run, IsRun}
 use Rattle.av_data.specs.declared.stimulus.Given.{Given}
+use Rattle.av_data.specs.declared.stimulus.Stimulus.{Stimulus}
 use Rattle.av_data.specs.Stimuli.{IsBefore}
-use Rattle.av_wave.specs.Simulated.{given_word}
+use Rattle.av_wave.specs.Simulated.{given_word, IsStimulated}
 use Rattle.av_wave.specs.Recorded.{IsForPort}
+
+-- what holds of each run under the stimulus
+abbrev pub ForRuns : Module → Stimulus → (Run → Type 0) → Type 0
+ForRuns m s P = (stream : Stream) (run : Run) → IsStimulated m s stream → IsRun m s.cycles stream run → P run
 
 -- ---- the next value
 

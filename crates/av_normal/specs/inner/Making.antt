@@ -3,10 +3,10 @@ use Rattle.std.specs.Prelude.{◌≡◌, ℕ, ℤ, ◌≤◌, List, [], ◌∷�
 use Rattle.av_affine.specs.declared.form.Form.{Form}
 use Rattle.av_affine.specs.Forms.{IsWithinLimits}
 use Rattle.av_poly.specs.Points.{Set, Has}
-use Rattle.av_flat.specs.Trees.{Tree, Piece, Variable}
+use Rattle.av_flat.specs.Trees.{Tree, Piece}
 use Rattle.av_flat.specs.Signatures.{Signature}
 use Rattle.av_flat.specs.Pieces.{Part, part, parts, with_rows, filled}
-use Rattle.av_flat.specs.Quantities.{Measured, of_set, of_map, composed_maps, body_sets, measured, piece_count}
+use Rattle.av_flat.specs.Quantities.{Measured, of_set, of_map, composed_maps, body_sets, piece_count}
 use Rattle.av_normal.specs.declared.fault.NormalFault.{NormalFault}
 use Rattle.av_normal.specs.NormalForm.{IsNormalised, set_of}
 use Rattle.av_normal.specs.Searches.{AreNarrow, IsWide}

@@ -4,17 +4,13 @@ use Rattle.av_net.specs.declared.netlist.Port.{Port}
 use Rattle.av_net.specs.declared.netlist.Module.{Module}
 use Rattle.av_net.specs.Names.{names_of}
 use Rattle.av_net.specs.Settled.{Agree}
-use Rattle.av_net.specs.Clocked.{Stream, Run, IsRun}
+use Rattle.av_net.specs.Clocked.{Run}
 use Rattle.av_clock.specs.Seen.{Seen, carried}
 use Rattle.av_data.specs.declared.stimulus.Stimulus.{Stimulus}
 use Rattle.av_wave.specs.Waves.{values_in}
-use Rattle.av_wave.specs.Simulated.{header_ports, IsStimulated}
-use Rattle.av_wave.specs.Clocking.{AreLeft}
+use Rattle.av_wave.specs.Simulated.{header_ports}
+use Rattle.av_wave.specs.Clocking.{ForRuns, AreLeft}
 use Rattle.av_wave.specs.inner.Parts.{Part, IsPart}
-
--- what holds of each run under the stimulus
-abbrev pub ForRuns : Module → Stimulus → (Run → Type 0) → Type 0
-ForRuns m s P = (stream : Stream) (run : Run) → IsStimulated m s stream → IsRun m s.cycles stream run → P run
 
 -- the values in the first cycles are those of the run
 abbrev pub AreValues : Module → Part → ℕ → Run → Type 0

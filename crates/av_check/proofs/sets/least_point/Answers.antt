@@ -6,4 +6,4 @@ use Rattle.av_check.proofs.sets.least_point.Goals as goal
 pub returns-then-are_contrary : goal.returns-then-are_contrary
 returns-then-are_contrary c = λ z h.
     let e : c.as_slice.result.now ≡ c.args.set.now.rows = search rules in
-    c.are_contrary.ensures c.if-are_contrary.true z (subst (λ (rows : List Form). Holds rows z) (sym e) h.holds)
+    c.are_contrary.ensures.none c.if-are_contrary.true z (subst (λ (rows : List Form). Holds rows z) (sym e) h.holds)

@@ -6,4 +6,4 @@ use Rattle.av_normal.proofs.all_pieces.is_idle.Goals as goal
 pub returns-else-folds-clause-none : goal.returns-else-folds-clause-none
 returns-else-folds-clause-none c = λ t z h.
     let e : c.as_slice.result.now ≡ c.args.domain.now.rows = search rules in
-    c.are_contrary.ensures t z (subst (λ (rows : List Form). Holds rows z) (sym e) h.holds)
+    c.are_contrary.ensures.none t z (subst (λ (rows : List Form). Holds rows z) (sym e) h.holds)
