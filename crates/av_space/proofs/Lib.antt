@@ -58,7 +58,7 @@ pub mod ArrayParts
 pub mod SpotPlaces
 pub mod SpotReadings
 pub mod OnSpots
-pub mod Apart
+pub mod OffCells
 pub mod PortOrder
 pub mod SlotEnds
 pub mod SpotOrigins

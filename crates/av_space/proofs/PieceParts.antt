@@ -29,7 +29,7 @@ use Rattle.av_space.specs.Taps.{node_of, node_place, helper_at, Handing}
 use Rattle.av_space.specs.inner.Apart.{AreOfNode}
 use Rattle.av_space.specs.inner.Feeding.{direction_of, is_entered, with_port, StandAt}
 use Rattle.av_space.specs.inner.NodePieces.{IsNodePiece, IsPart, IsInputSite, ArePortsAt}
-use Rattle.av_space.proofs.Apart.{are_of_node}
+use Rattle.av_space.proofs.OffCells.{are_of_node}
 use Rattle.av_space.proofs.ByPlace.{read_at}
 use Rattle.av_space.proofs.Directions.{first_step}
 use Rattle.av_space.proofs.Fed.{IsSiteOn, next_cell, node_of_port, same_reference}

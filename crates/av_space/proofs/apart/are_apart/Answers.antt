@@ -3,7 +3,7 @@ use Rattle.av_affine.specs.declared.form.Form.{Form}
 use Rattle.av_affine.specs.Numbers.{AtMost}
 use Rattle.av_poly.specs.Points.{Holds}
 use Rattle.av_space.specs.declared.layout.Slot.{Slot}
-use Rattle.av_space.proofs.Apart.{none_of_rows}
+use Rattle.av_space.proofs.OffCells.{none_of_rows}
 use Rattle.av_space.proofs.ByPlace.{read_at}
 use Rattle.av_space.proofs.apart.are_apart.Goals as goal
 

@@ -16,7 +16,7 @@ use Rattle.av_space.specs.Layouts.{IsLayout}
 use Rattle.av_space.specs.Quantities.{size, Use, IsUse}
 use Rattle.av_space.specs.inner.Apart.{AreOfNode}
 use Rattle.av_space.specs.inner.Counting.{piece_sizes, IsCountOf}
-use Rattle.av_space.proofs.Apart.{are_of_node}
+use Rattle.av_space.proofs.OffCells.{are_of_node}
 use Rattle.av_space.proofs.ByPlace.{read_at}
 use Rattle.av_space.proofs.TreeSizes.{made_size, size_at, own_sizes, row_within}
 use Rattle.av_space.proofs.OperatorCounts.{count_none, one_more, not_more, whole_cell}

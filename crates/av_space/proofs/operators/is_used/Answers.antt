@@ -1,4 +1,4 @@
-use Rattle.av_space.proofs.Apart.{none_any}
+use Rattle.av_space.proofs.OffCells.{none_any}
 use Rattle.av_space.proofs.operators.is_used.Goals as goal
 
 pub returns-then-are_apart : goal.returns-then-are_apart

@@ -1,7 +1,7 @@
 use Rattle.std.proofs.Common.{◌≡◌, List, sym, subst, refl}
 use Rattle.av_space.specs.declared.layout.Slot.{Slot}
 use Rattle.av_space.specs.inner.Feeding.{is_entered, with_port}
-use Rattle.av_space.proofs.Apart.{none_filtered, none_entered}
+use Rattle.av_space.proofs.OffCells.{none_filtered, none_entered}
 use Rattle.av_space.proofs.ports.add_port.Goals as goal
 
 pub returns-then-are_apart-clause-ports : goal.returns-then-are_apart-clause-ports

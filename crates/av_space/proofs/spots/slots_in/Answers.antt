@@ -1,7 +1,7 @@
 use Rattle.std.proofs.Common.{sym, ◌∙◌}
 use Rattle.av_flat.specs.Points.{has}
 use Rattle.av_space.specs.declared.layout.Slot.{Slot}
-use Rattle.av_space.proofs.Apart.{none_filtered}
+use Rattle.av_space.proofs.OffCells.{none_filtered}
 use Rattle.av_space.proofs.spots.slots_in.Goals as goal
 
 pub returns-then-are_apart : goal.returns-then-are_apart

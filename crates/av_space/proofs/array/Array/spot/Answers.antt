@@ -7,7 +7,7 @@ use Rattle.av_flat.specs.Trees.{view_piece, view_variable}
 use Rattle.av_space.specs.declared.cells.Cell.{Cell}
 use Rattle.av_space.specs.declared.layout.Slot.{Slot}
 use Rattle.av_space.specs.Spots.{system_of, placings_of, cells_of, AreSlotsIn}
-use Rattle.av_space.proofs.Apart.{are_of_node}
+use Rattle.av_space.proofs.OffCells.{are_of_node}
 use Rattle.av_space.proofs.Nodes.{places_number}
 use Rattle.av_space.proofs.NodeTaps.{place_is}
 use Rattle.av_space.proofs.OnSpots.{some_slots}
