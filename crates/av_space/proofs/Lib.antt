@@ -58,6 +58,7 @@ pub mod ArrayParts
 pub mod SpotPlaces
 pub mod SpotReadings
 pub mod OnSpots
+pub mod OffCells
 pub mod PortOrder
 pub mod SlotEnds
 pub mod SpotOrigins

@@ -18,7 +18,6 @@ use Rattle.av_flat.specs.Legal.{IsMoving}
 use Rattle.av_flat.specs.Signatures.{Signature, signatures, signature, is_input, is_computed}
 use Rattle.av_flat.specs.WellFormed.{EachPart, Fits, HasSmallRows, dimension_of}
 use Rattle.av_poly.specs.Points.{Set}
-use Rattle.av_depend.specs.SetPoints.{IsPointOf}
 use Rattle.av_depend.proofs.Adds.{variable_at}
 use Rattle.av_space.specs.declared.cells.InPort.{InPort}
 use Rattle.av_space.specs.declared.layout.Slot.{Slot}
@@ -27,15 +26,17 @@ use Rattle.av_space.specs.declared.ports.NodePiece.{NodePiece}
 use Rattle.av_space.specs.declared.ports.Ports.{Ports as Found}
 use Rattle.av_space.specs.Ports.{IsPort}
 use Rattle.av_space.specs.Taps.{node_of, node_place, helper_at, Handing}
+use Rattle.av_space.specs.inner.Apart.{AreOfNode}
 use Rattle.av_space.specs.inner.Feeding.{direction_of, is_entered, with_port, StandAt}
 use Rattle.av_space.specs.inner.NodePieces.{IsNodePiece, IsPart, IsInputSite, ArePortsAt}
+use Rattle.av_space.proofs.OffCells.{are_of_node}
 use Rattle.av_space.proofs.ByPlace.{read_at}
 use Rattle.av_space.proofs.Directions.{first_step}
 use Rattle.av_space.proofs.Fed.{IsSiteOn, next_cell, node_of_port, same_reference}
 use Rattle.av_space.proofs.FirstCells.{node_between}
 use Rattle.av_space.proofs.Helpers.{found_helper}
 use Rattle.av_space.proofs.Nodes.{node_variable}
-use Rattle.av_space.proofs.OnCells.{IsCellOf, place_of_node, node_in_places, slot_points}
+use Rattle.av_space.proofs.OnCells.{IsCellOf, place_of_node, node_in_places}
 use Rattle.av_base.proofs.Lists.{all_at, some_is, there_is}
 
 -- ---- parts
@@ -134,13 +135,13 @@ cell_between at is p slots low high e =
     let var = ap (λ (n : ℕ). slice_get (nodes (view_system at.timed.now.flat)) n) node ∙ is.is_variable in
     (record { cell = x.0; is_cell = x.1; is_variable = var; are_slots = is.layout.are_slots p slots e }, node)
 
--- points of slots as the site asks for them
-pub points_between : (at : NodePiece) (is : IsNodePiece at) (j : ℕ) (site : InputSite) → IsInputSite at j site → (p : ℕ) (slots : List Slot) → at.first ≤ p → p < at.last → slice_get at.layout.now.slots p ≡ Some slots
-    → All (λ (t : Slot). IsPointOf site.domain.now t.point) slots
-points_between at is j site own p slots low high e =
+-- the computations on a cell as the site asks for them
+pub slots_between : (at : NodePiece) (is : IsNodePiece at) (j : ℕ) (site : InputSite) → IsInputSite at j site → (p : ℕ) (slots : List Slot) → at.first ≤ p → p < at.last → slice_get at.layout.now.slots p ≡ Some slots
+    → AreOfNode site.domain.now slots
+slots_between at is j site own p slots low high e =
     let on = (cell_between at is p slots low high e).0 in
-    let h = slot_points at.timed.now at.layout.now p is.variable slots is.legal on at.number (view_piece at.piece.now) is.is_piece in
-    subst (λ (set : _). All (λ (t : Slot). IsPointOf set t.point) slots) (sym own.domain) h
+    let h = are_of_node at.timed.now at.layout.now p is.variable slots is.legal is.layout.are_placings on at.number (view_piece at.piece.now) is.is_piece in
+    subst (λ (set : Set). AreOfNode set slots) (sym own.domain) h
 
 -- one cell more
 pub one_cell_more : (at : NodePiece) (is : IsNodePiece at) (j : ℕ) (site : InputSite) → IsInputSite at j site → (p : ℕ) (slots : List Slot) → at.first ≤ p → p < at.last → slice_get at.layout.now.slots p ≡ Some slots

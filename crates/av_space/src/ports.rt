@@ -10,10 +10,12 @@ ghost use Rattle.av_space.specs.Listings.{AreInLines};
 ghost use Rattle.av_space.specs.Ports.{ArePorts};
 ghost use Rattle.av_space.specs.Quantities.{IsOperatorCount};
 ghost use Rattle.av_space.specs.Occupancy.{IsCellBefore};
+ghost use Rattle.av_space.specs.inner.Apart.{AreOfNode};
 ghost use Rattle.av_space.specs.inner.Feeding.{is_entered, with_port, IsReadable, IsFirstOf};
 ghost use Rattle.av_space.specs.inner.NodePieces.{IsNodePiece, IsPart, IsInputSite, ArePortsAt, ArePortsOf, IsSmallNode};
 ghost use Rattle.av_space.specs.Layouts.{IsLayout};
 
+use crate::apart::are_apart;
 use crate::cells::{Cell, InPort};
 use crate::input_site::{InputSite, direction_of};
 use crate::layout::{Layout, Slot};
@@ -43,8 +45,8 @@ struct NodePiece<'a> {
     last: usize,
 }
 
-// Puts the port of a reference on a cell behind others, with its lines, if it has a read there.
-fn add_port(
+// Puts the port of a reference on a cell behind others, with its lines, if it has a read there, as each computation tells.
+fn add_lines(
     alloc: Global,
     site: &InputSite,
     port: InPort,
@@ -68,6 +70,28 @@ fn add_port(
         ports.inputs.push(port)?;
     }
     Ok(())
+}
+
+// Puts the port of a reference on a cell behind others, with its lines, if it has a read there.
+fn add_port(
+    alloc: Global,
+    site: &InputSite,
+    port: InPort,
+    slots: &[Slot],
+    ports: &mut Ports,
+) -> Result<(), Memory>
+    requires readable { IsReadable site.now.domain.now site.now.direction site.now.map.now }
+    requires slots { AreOfNode site.now.domain.now slots.now }
+    requires few { length ports.old.inputs ≤ 2 ^ 64 }
+    ensures ports { OnOk result (ports.new ≡ with_port port site.now.input.now.name site.now.map.now ports.old
+        (filter (λ t. is_entered site.now.domain.now site.now.direction t.point) slots.now)) }
+    ensures few { OnOk result (length ports.new.inputs ≤ 2 ^ 64) }
+{
+    if are_apart(slots, site.domain) {
+        Ok(())
+    } else {
+        add_lines(alloc, site, port, slots, ports)
+    }
 }
 
 // The ports of a reference to an input, cell by cell.

@@ -6,8 +6,10 @@ ghost use Rattle.av_flat.specs.Trees.{view};
 ghost use Rattle.av_space.specs.Taps.{places_in};
 ghost use Rattle.av_space.specs.Sites.{place_of};
 ghost use Rattle.av_space.specs.Spots.{AreEnds, handing_by};
+ghost use Rattle.av_space.specs.inner.Apart.{AreOfNode};
 ghost use Rattle.av_depend.specs.SetPoints.{IsPointOf};
 
+use crate::apart::are_apart;
 use crate::array::Array;
 use crate::layout::Slot;
 use crate::linking::piece_at;
@@ -59,8 +61,8 @@ pub fn ends_of(slots: &[Slot]) -> Ends
     }
 }
 
-// Those of the computations that are points of the set.
-fn slots_in(alloc: Global, slots: &[Slot], set: &Poly) -> Result<List<Slot>, Memory>
+// Those of the computations that are points of the set, as each of them tells.
+fn slots_among(alloc: Global, slots: &[Slot], set: &Poly) -> Result<List<Slot>, Memory>
     requires { All (λ t. IsPointOf set.now t.point) slots.now }
     ensures { IfOk result (λ own. own ≡ filter (λ t. has set.now t.point) slots.now) }
 {
@@ -71,6 +73,18 @@ fn slots_in(alloc: Global, slots: &[Slot], set: &Poly) -> Result<List<Slot>, Mem
         }
     }
     Ok(own)
+}
+
+// Those of the computations on a cell that are points of the set.
+fn slots_in(alloc: Global, slots: &[Slot], set: &Poly) -> Result<List<Slot>, Memory>
+    requires { AreOfNode set.now slots.now }
+    ensures { IfOk result (λ own. own ≡ filter (λ t. has set.now t.point) slots.now) }
+{
+    if are_apart(slots, set) {
+        Ok(List::new(alloc))
+    } else {
+        slots_among(alloc, slots, set)
+    }
 }
 
 // The helper of a place that is a reference, of the variable at the place `own`.

@@ -1,7 +1,7 @@
 use Rattle.std.proofs.Common.{◌≡◌, ◌++◌, take}
 use Rattle.std.specs.Prelude.{filter}
 use Rattle.av_space.specs.inner.Feeding.{is_entered, lines_of}
-use Rattle.av_space.proofs.ports.add_port.Given as goal
+use Rattle.av_space.proofs.ports.add_lines.Given as goal
 
 abbrev pub invariant-loop-slot : goal.invariant-loop-slot
 invariant-loop-slot l =
