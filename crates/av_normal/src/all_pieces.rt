@@ -114,6 +114,31 @@ fn made_piece(
     Ok(Piece { domain, tree })
 }
 
+// Puts all pieces of a tree behind others, by the sketch of the tree.
+fn append_by_sketch(
+    alloc: Global,
+    vars: &[Var],
+    domain: &Poly,
+    tree: &Tree,
+    sketch: &Tree,
+    pieces: &mut List<Piece>,
+) -> Result<(), NormalFault>
+    requires readable { IsReadable (signatures_of vars.now) [] (view tree.now) }
+    requires sketch { IsReadable [] [] (view sketch.now) }
+    requires same { sketches [] [] (view sketch.now) ≡ sketches (signatures_of vars.now) [] (view tree.now) }
+    requires domain { All IsWithinLimits domain.now.rows }
+    requires few { piece_count (view tree.now) ≤ 256 }
+    ensures added { OnOk result (AreAdded domain.now.dim (with_rows domain.now.rows (parts (signatures_of vars.now) [] (view tree.now))) (map view_piece pieces.old) (map view_piece pieces.new)) }
+    ensures narrow { OnOk result (AreNarrow (parts_measured domain.now.dim (with_rows domain.now.rows (parts (signatures_of vars.now) [] (view tree.now))))) }
+    ensures wide { IfErr result (IsWide (parts_measured domain.now.dim (with_rows domain.now.rows (parts (signatures_of vars.now) [] (view tree.now))))) }
+{
+    let count = piece_count(tree);
+    for number in 0..count {
+        pieces.push(made_piece(alloc, vars, domain, tree, sketch, number)?)?;
+    }
+    Ok(())
+}
+
 // Puts all pieces of a tree behind others.
 fn append_pieces(
     alloc: Global,
@@ -129,12 +154,8 @@ fn append_pieces(
     ensures narrow { OnOk result (AreNarrow (parts_measured domain.now.dim (with_rows domain.now.rows (parts (signatures_of vars.now) [] (view tree.now))))) }
     ensures wide { IfErr result (IsWide (parts_measured domain.now.dim (with_rows domain.now.rows (parts (signatures_of vars.now) [] (view tree.now))))) }
 {
-    let count = piece_count(tree);
     let sketch = sketch_tree(alloc, vars, domain.dim, tree)?;
-    for number in 0..count {
-        pieces.push(made_piece(alloc, vars, domain, tree, &sketch, number)?)?;
-    }
-    Ok(())
+    append_by_sketch(alloc, vars, domain, tree, &sketch, pieces)
 }
 
 // All pieces of an equation; the sets of their reductions are as in the equation.

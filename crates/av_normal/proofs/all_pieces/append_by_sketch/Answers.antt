@@ -11,13 +11,7 @@ use Rattle.av_normal.specs.Searches.{AreNarrow}
 use Rattle.av_normal.specs.inner.Making.{parts_measured, held, StandsFor, AreMade, Continues}
 use Rattle.av_normal.proofs.Trying.{past, refused}
 use Rattle.av_normal.proofs.Making.{held_at, number_below, numbers_end, one_made, all_made}
-use Rattle.av_normal.proofs.all_pieces.append_pieces.Goals as goal
-
-pub made_piece-requires-clause-sketch : goal.made_piece-requires-clause-sketch
-made_piece-requires-clause-sketch c = c.loop-number.invariant.readable
-
-pub made_piece-requires-clause-same : goal.made_piece-requires-clause-same
-made_piece-requires-clause-same c = c.loop-number.invariant.same
+use Rattle.av_normal.proofs.all_pieces.append_by_sketch.Goals as goal
 
 pub returns-in_err-made_piece-clause-wide : goal.returns-in_err-made_piece-clause-wide
 returns-in_err-made_piece-clause-wide c =
@@ -29,7 +23,7 @@ returns-in_err-made_piece-clause-wide c =
     let below : k < c.piece_count-count.result = search rules in
     let l = number_below (signatures_of c.args.vars.now) (view c.args.tree.now) k c.piece_count-count.result c.piece_count-count.ensures c.requires.few below in
     let next = subst (λ (qs : List Part). StandsFor (parts_measured dim qs) (parts_measured dim all)) (held_at rows own k l) c.loop-number.invariant.left in
-    let p = err_from_is_err_and c.from_residual-in_err-made_piece.result c.from_residual-in_err-made_piece.ensures.1 in
+    let p = err_from_is_err_and c.from_residual.result c.from_residual.ensures.1 in
     rw (p.1, p.2)
     (refused (of_set (set_of dim (held rows (part_at own k))) ∷ []) (parts_measured dim (drop (k + 1) all)) (parts_measured dim all) c.in_err-made_piece.field-0.0 next c.in_err-made_piece.ensures.wide)
 
@@ -47,8 +41,6 @@ loop-number-preserved c =
     let piece = c.in_ok-made_piece.field-0 in
     let rest = subst (λ (qs : List Part). Continues (AreMade dim) all old.0 qs) (held_at rows own k l) old.2 in
     record {
-      readable = c.loop-number.invariant.readable;
-      same = c.loop-number.invariant.same;
       left = past (of_set (set_of dim (held rows (part_at own k))) ∷ []) (parts_measured dim (drop (k + 1) all)) (parts_measured dim all) next (c.in_ok-made_piece.ensures.narrow, tt);
       added = (
         old.0 ++ view_piece piece ∷ [],
