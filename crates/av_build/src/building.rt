@@ -7,35 +7,16 @@ ghost use Rattle.av_space.specs.Layouts.{IsLayout};
 ghost use Rattle.av_space.specs.Whole.{IsWhole};
 ghost use Rattle.av_kinds.specs.Counters.{IsCounter};
 ghost use Rattle.av_kinds.specs.Netlists.{plan_of};
-ghost use Rattle.av_kinds.specs.Written.{program_of};
 ghost use Rattle.av_build.specs.ArrayPlans.{IsPlanOf, IsWithinCount, IsCountingPlan};
-ghost use Rattle.av_build.specs.inner.Built.{IsProgrammed};
 
 use crate::listing::copied_listing;
 use crate::programming::{program, program_of_layout};
 use av_base::Memory;
 use av_flat::Timed;
-use av_kinds::{Counter, Modules, Program, modules_of};
+use av_kinds::{Counter, Modules, modules_of};
 use av_net::Plan;
 use av_space::{Cells, Layout};
 use std::alloc::Global;
-
-// The modules of the program of an array.
-fn modules_of_program(
-    alloc: Global,
-    _timed: &Timed,
-    _cells: &Cells,
-    counter: Counter,
-    program: &Program<'_>,
-) -> Result<Modules, Memory>
-    requires legal { IsLegal _timed.now }
-    requires within { (f : Fault) → IsSpaceFault _timed.now f → f ≡ fault.Memory }
-    requires counter { IsCounter counter }
-    requires program { IsProgrammed _timed.now _cells.now counter (program_of program.now) }
-    ensures { IfOk result (λ made. IsCountingPlan _timed.now _cells.now counter (plan_of _cells.now.listing made)) }
-{
-    modules_of(alloc, counter, program)
-}
 
 /// The modules of an array whose cells choose by this counter: its kinds, and a top module named `array` with an instance for each cell.
 /// With the listing of the array they are its plan.
@@ -62,7 +43,7 @@ pub fn counting_modules(
     ensures { IfOk result (λ made. IsCountingPlan timed.now cells.now counter (plan_of cells.now.listing made)) }
 {
     let program = program(alloc, timed, cells, counter)?;
-    modules_of_program(alloc, timed, cells, counter, &program)
+    modules_of(alloc, counter, &program)
 }
 
 /// The modules of an array that counts cycles, as `counting_modules` makes them. The flat design of their plan shows the solution for
@@ -94,7 +75,7 @@ pub fn modules_of_layout(
     ensures { IfOk result (λ made. IsPlanOf timed.now cells.now (plan_of cells.now.listing made)) }
 {
     let program = program_of_layout(alloc, timed, cells, layout, Counter::Cycles)?;
-    modules_of_program(alloc, timed, cells, Counter::Cycles, &program)
+    modules_of(alloc, Counter::Cycles, &program)
 }
 
 // The plan of an array's modules, with a copy of the listing.

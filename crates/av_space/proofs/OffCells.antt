@@ -128,4 +128,4 @@ none_entered set None slots h = h
 none_entered set (Some w) slots h = All-weaker (λ t. has set t.point ≡ false) (λ t. is_entered set (Some w) t.point ≡ false) (λ t e. rw e refl) slots h
 
 pub none_any : (set : Set) (slots : List Slot) → All (λ t. has set t.point ≡ false) slots → Any (λ t. IsTrue (has set t.point)) slots → ⊥
-none_any set slots h (k, t, l, e, p) = true≢false (sym p ∙ subst (λ (s : Slot). has set s.point ≡ false) (sym e) (h k t l))
+none_any set slots h (k, t, l, e, p) = true≢false (sym p ∙ subst (λ (x : Slot). has set x.point ≡ false) e (h k t l))

@@ -107,13 +107,13 @@ fn show_points(alloc: Global, timed: &Timed, layout: &Layout) -> Result<Shown, M
 
 // The same cells, in memory of their own.
 fn copied_cells(alloc: Global, cells: &[Cell]) -> Result<List<Cell>, Memory>
-    ensures { IfOk result (λ to. to ≡ cells.now) }
+    ensures { IfOk result (λ copy. copy ≡ cells.now) }
 {
-    let mut to = List::new(alloc);
+    let mut copy = List::new(alloc);
     for cell in cells {
-        to.push(cell.copied())?;
+        copy.push(cell.copied())?;
     }
-    Ok(to)
+    Ok(copy)
 }
 
 // The array of a layout whose quantities are within their limits.

@@ -1,0 +1,7 @@
+use Rattle.av_kinds.specs.Written.{program_of}
+use Rattle.av_build.proofs.Promised.{counting_plans}
+use Rattle.av_build.proofs.building.counting_modules.Goals as goal
+
+pub returns : goal.returns
+returns c =
+    counting_plans c.args.timed.now c.args.cells.now c.requires.legal c.requires.within c.args.counter (program_of c.in_ok-program.program) c.in_ok-program.ensures c.modules_of.result c.modules_of.ensures.netlists c.modules_of.ensures.form
