@@ -56,12 +56,7 @@ fn paired(alloc: Global, first: Tree, second: Tree) -> Result<Sketch, Memory>
 }
 
 // One part with these rows, and another tree beside it.
-fn joined_rows(
-    alloc: Global,
-    dim: u8,
-    rows: List<Form>,
-    second: Sketch,
-) -> Result<Sketch, Memory>
+fn joined_rows(alloc: Global, dim: u8, rows: List<Form>, second: Sketch) -> Result<Sketch, Memory>
     requires rows { All IsSmall rows }
     requires second { IsSketch second }
     ensures sketch { IfOk result IsSketch }
@@ -211,12 +206,7 @@ fn sketch_all(
 
 /// A tree without references whose parts have the same rows as those of a tree, and a reduction where those have one. What it
 /// restricts it restricts to sets of so many indices.
-pub(crate) fn sketch_tree(
-    alloc: Global,
-    vars: &[Var],
-    dim: u8,
-    tree: &Tree,
-) -> Result<Tree, Memory>
+pub(crate) fn sketch_tree(alloc: Global, vars: &[Var], dim: u8, tree: &Tree) -> Result<Tree, Memory>
     requires { IsReadable (signatures_of vars.now) [] (view tree.now) }
     ensures readable { IfOk result (λ t. IsReadable [] [] (view t)) }
     ensures same { IfOk result (λ t. sketches [] [] (view t) ≡ sketches (signatures_of vars.now) [] (view tree.now)) }

@@ -86,13 +86,13 @@ module _ (t : Timed) (placings : List Placing) (cells : List Cell) (legal : IsLe
   between_ends : (p : ℕ) (v : Variable) (slots : List Slot) → IsCellOf own placings cells p v slots → AreBetweenEnds slots
   between_ends p v slots on first last is_first is_last =
       all_by_place (λ (x : Slot). StandsBetween first.point last.point x.point) slots (λ k x is.
-          let ends = are_ends slots on.are_slots.order first last (length slots - 1) is_first is_last (omega arith) in
-          let between = all_at (λ (u : Slot). (first.cycle ≤ u.cycle) × (u.cycle ≤ last.cycle)) slots k x ends.between is in
-          in_turn p on.cell.node first x last
-          (slot_computes own placings cells p v slots on first (among_at slots 0 first is_first)).0
-          (slot_computes own placings cells p v slots on x (among_at slots k x is)).0
-          (slot_computes own placings cells p v slots on last (among_at slots (length slots - 1) last is_last)).0
-          between.0 between.1)
+      let ends = are_ends slots on.are_slots.order first last (length slots - 1) is_first is_last (omega arith) in
+      let between = all_at (λ (u : Slot). (first.cycle ≤ u.cycle) × (u.cycle ≤ last.cycle)) slots k x ends.between is in
+      in_turn p on.cell.node first x last
+      (slot_computes own placings cells p v slots on first (among_at slots 0 first is_first)).0
+      (slot_computes own placings cells p v slots on x (among_at slots k x is)).0
+      (slot_computes own placings cells p v slots on last (among_at slots (length slots - 1) last is_last)).0
+      between.0 between.1)
 
 -- the computations on a cell, and the set of a piece of the cell's node
 pub of_node : (t : Timed) (l : Layout) (p : ℕ) (v : Variable) (slots : List Slot) → IsLegal t → ArePlacings t.times l.placements → IsCellOf (view_system t.flat) l.placements l.cells p v slots

@@ -22,10 +22,10 @@ sketches vs ds t = map sketched (parts vs ds t)
 
 -- each of the first with each of the second, the first one slowest
 abbrev pub beside : List Form × Bool → List Form × Bool → List Form × Bool
-beside a b = (a.0 ++ b.0, a.1 || b.1)
+beside x y = (x.0 ++ y.0, x.1 || y.1)
 
 abbrev pub side_by_side : List (List Form × Bool) → List (List Form × Bool) → List (List Form × Bool)
-side_by_side as bs = flat_map (λ a. map (beside a) bs) as
+side_by_side xs ys = flat_map (λ x. map (beside x) ys) xs
 
 -- one part with these rows, or the parts of this tree
 abbrev pub sketches_of : Sketch → List (List Form × Bool)

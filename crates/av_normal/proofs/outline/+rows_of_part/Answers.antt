@@ -76,61 +76,61 @@ rows_of_case-unreachable-requires t c =
 pub rows_of_part-rows_of_part-requires-in-Binary : goal.rows_of_part-rows_of_part-requires-in-Binary
 rows_of_part-rows_of_part-requires-in-Binary t c =
     let less = right_falls t c.args.tree.now c.deref-in-Binary-2.result.now c.decreases c.in-Binary.sign c.in-Binary.left c.in-Binary.right c.in-Binary.is c.deref-in-Binary-2.ensures in (
-  omega (arith, less),
-  (
-    search rules,
-    rw c.deref-in-Binary-2.ensures (has_right c.in-Binary.sign (view c.in-Binary.left.value) (view c.in-Binary.right.value) c.args.number c.two_numbers-first.result.0 c.two_numbers-first.result.1
-        (rw c.deref.ensures at c.two_numbers-first.ensures) (rw c.in-Binary.is at c.requires.number)),
-  ),
-)
+      omega (arith, less),
+      (
+        search rules,
+        rw c.deref-in-Binary-2.ensures (has_right c.in-Binary.sign (view c.in-Binary.left.value) (view c.in-Binary.right.value) c.args.number c.two_numbers-first.result.0 c.two_numbers-first.result.1
+            (rw c.deref.ensures at c.two_numbers-first.ensures) (rw c.in-Binary.is at c.requires.number)),
+      ),
+    )
 
 pub rows_of_part-rows_of_part-requires-in-Choose : goal.rows_of_part-rows_of_part-requires-in-Choose
 rows_of_part-rows_of_part-requires-in-Choose t c =
     let less = first_falls t c.args.tree.now c.deref-in-Choose-4.result.now c.decreases c.in-Choose.compare c.in-Choose.left c.in-Choose.right c.in-Choose.yes c.in-Choose.no c.in-Choose.is c.deref-in-Choose-4.ensures in (
-  omega (arith, less),
-  (
-    search rules,
-    rw c.deref-in-Choose-4.ensures (has_one c.in-Choose.compare (view c.in-Choose.left.value) (view c.in-Choose.right.value) (view c.in-Choose.yes.value) (view c.in-Choose.no.value) c.args.number
-        c.four_numbers-first.result.0 c.four_numbers-first.result.1 c.four_numbers-first.result.2 c.four_numbers-first.result.3
-        (rw (c.deref-in-Choose.ensures, c.deref-in-Choose-2.ensures, c.deref-in-Choose-3.ensures) at c.four_numbers-first.ensures) (rw c.in-Choose.is at c.requires.number)),
-  ),
-)
+      omega (arith, less),
+      (
+        search rules,
+        rw c.deref-in-Choose-4.ensures (has_one c.in-Choose.compare (view c.in-Choose.left.value) (view c.in-Choose.right.value) (view c.in-Choose.yes.value) (view c.in-Choose.no.value) c.args.number
+            c.four_numbers-first.result.0 c.four_numbers-first.result.1 c.four_numbers-first.result.2 c.four_numbers-first.result.3
+            (rw (c.deref-in-Choose.ensures, c.deref-in-Choose-2.ensures, c.deref-in-Choose-3.ensures) at c.four_numbers-first.ensures) (rw c.in-Choose.is at c.requires.number)),
+      ),
+    )
 
 pub rows_of_part-rows_of_part-requires-in-Choose-2 : goal.rows_of_part-rows_of_part-requires-in-Choose-2
 rows_of_part-rows_of_part-requires-in-Choose-2 t c =
     let less = second_falls t c.args.tree.now c.deref-in-Choose-5.result.now c.decreases c.in-Choose.compare c.in-Choose.left c.in-Choose.right c.in-Choose.yes c.in-Choose.no c.in-Choose.is c.deref-in-Choose-5.ensures in (
-  omega (arith, less),
-  (
-    search rules,
-    rw c.deref-in-Choose-5.ensures (has_two c.in-Choose.compare (view c.in-Choose.left.value) (view c.in-Choose.right.value) (view c.in-Choose.yes.value) (view c.in-Choose.no.value) c.args.number
-        c.four_numbers-first.result.0 c.four_numbers-first.result.1 c.four_numbers-first.result.2 c.four_numbers-first.result.3
-        (rw (c.deref-in-Choose.ensures, c.deref-in-Choose-2.ensures, c.deref-in-Choose-3.ensures) at c.four_numbers-first.ensures) (rw c.in-Choose.is at c.requires.number)),
-  ),
-)
+      omega (arith, less),
+      (
+        search rules,
+        rw c.deref-in-Choose-5.ensures (has_two c.in-Choose.compare (view c.in-Choose.left.value) (view c.in-Choose.right.value) (view c.in-Choose.yes.value) (view c.in-Choose.no.value) c.args.number
+            c.four_numbers-first.result.0 c.four_numbers-first.result.1 c.four_numbers-first.result.2 c.four_numbers-first.result.3
+            (rw (c.deref-in-Choose.ensures, c.deref-in-Choose-2.ensures, c.deref-in-Choose-3.ensures) at c.four_numbers-first.ensures) (rw c.in-Choose.is at c.requires.number)),
+      ),
+    )
 
 pub rows_of_part-rows_of_part-requires-in-Choose-3 : goal.rows_of_part-rows_of_part-requires-in-Choose-3
 rows_of_part-rows_of_part-requires-in-Choose-3 t c =
     let less = third_falls t c.args.tree.now c.deref-in-Choose-6.result.now c.decreases c.in-Choose.compare c.in-Choose.left c.in-Choose.right c.in-Choose.yes c.in-Choose.no c.in-Choose.is c.deref-in-Choose-6.ensures in (
-  omega (arith, less),
-  (
-    search rules,
-    rw c.deref-in-Choose-6.ensures (has_three c.in-Choose.compare (view c.in-Choose.left.value) (view c.in-Choose.right.value) (view c.in-Choose.yes.value) (view c.in-Choose.no.value) c.args.number
-        c.four_numbers-first.result.0 c.four_numbers-first.result.1 c.four_numbers-first.result.2 c.four_numbers-first.result.3
-        (rw (c.deref-in-Choose.ensures, c.deref-in-Choose-2.ensures, c.deref-in-Choose-3.ensures) at c.four_numbers-first.ensures) (rw c.in-Choose.is at c.requires.number)),
-  ),
-)
+      omega (arith, less),
+      (
+        search rules,
+        rw c.deref-in-Choose-6.ensures (has_three c.in-Choose.compare (view c.in-Choose.left.value) (view c.in-Choose.right.value) (view c.in-Choose.yes.value) (view c.in-Choose.no.value) c.args.number
+            c.four_numbers-first.result.0 c.four_numbers-first.result.1 c.four_numbers-first.result.2 c.four_numbers-first.result.3
+            (rw (c.deref-in-Choose.ensures, c.deref-in-Choose-2.ensures, c.deref-in-Choose-3.ensures) at c.four_numbers-first.ensures) (rw c.in-Choose.is at c.requires.number)),
+      ),
+    )
 
 pub rows_of_part-rows_of_part-requires-in-Choose-4 : goal.rows_of_part-rows_of_part-requires-in-Choose-4
 rows_of_part-rows_of_part-requires-in-Choose-4 t c =
     let less = fourth_falls t c.args.tree.now c.deref-in-Choose-7.result.now c.decreases c.in-Choose.compare c.in-Choose.left c.in-Choose.right c.in-Choose.yes c.in-Choose.no c.in-Choose.is c.deref-in-Choose-7.ensures in (
-  omega (arith, less),
-  (
-    search rules,
-    rw c.deref-in-Choose-7.ensures (has_four c.in-Choose.compare (view c.in-Choose.left.value) (view c.in-Choose.right.value) (view c.in-Choose.yes.value) (view c.in-Choose.no.value) c.args.number
-        c.four_numbers-first.result.0 c.four_numbers-first.result.1 c.four_numbers-first.result.2 c.four_numbers-first.result.3
-        (rw (c.deref-in-Choose.ensures, c.deref-in-Choose-2.ensures, c.deref-in-Choose-3.ensures) at c.four_numbers-first.ensures) (rw c.in-Choose.is at c.requires.number)),
-  ),
-)
+      omega (arith, less),
+      (
+        search rules,
+        rw c.deref-in-Choose-7.ensures (has_four c.in-Choose.compare (view c.in-Choose.left.value) (view c.in-Choose.right.value) (view c.in-Choose.yes.value) (view c.in-Choose.no.value) c.args.number
+            c.four_numbers-first.result.0 c.four_numbers-first.result.1 c.four_numbers-first.result.2 c.four_numbers-first.result.3
+            (rw (c.deref-in-Choose.ensures, c.deref-in-Choose-2.ensures, c.deref-in-Choose-3.ensures) at c.four_numbers-first.ensures) (rw c.in-Choose.is at c.requires.number)),
+      ),
+    )
 
 pub rows_of_part-returns-in_ok-right-in-Binary-clause-part : goal.rows_of_part-returns-in_ok-right-in-Binary-clause-part
 rows_of_part-returns-in_ok-right-in-Binary-clause-part t c =
