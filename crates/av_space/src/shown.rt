@@ -153,7 +153,9 @@ pub(crate) fn at_lines(
     ensures { IfOk result (AreAtLines (view_system timed.now.flat) layout.now.placements layout.now.cells outputs.now) }
 {
     let places = layout.places.as_slice();
-    let wires = wires_of(alloc, outputs, layout.cells.as_slice().len())?;
+    let cells = layout.cells.as_slice();
+    let names = wires_of(alloc, outputs, cells.len())?;
+    let wires = names.as_slice();
     let mut lines = List::new(alloc);
     for node in 0..places.len() {
         let var = variable_of(&timed.flat, places, node);
@@ -164,7 +166,7 @@ pub(crate) fn at_lines(
             timed,
             layout,
             outputs,
-            wires: wires.as_slice(),
+            wires,
             node,
             var,
         };
