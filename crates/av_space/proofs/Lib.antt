@@ -59,6 +59,8 @@ pub mod SpotPlaces
 pub mod SpotReadings
 pub mod OnSpots
 pub mod OffCells
+pub mod CellMarks
+pub mod PortLines
 pub mod PortOrder
 pub mod SlotEnds
 pub mod SpotOrigins

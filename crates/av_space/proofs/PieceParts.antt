@@ -14,10 +14,12 @@ use Rattle.av_flat.specs.declared.tree.Tree.{Tree as TreeMade}
 use Rattle.av_flat.specs.Trees.{Tree, Piece, Variable, view, view_piece, view_variable, view_system, reference, binary, choice}
 use Rattle.av_flat.specs.Broadcasts.{Reference, references}
 use Rattle.av_flat.specs.Nodes.{nodes}
+use Rattle.av_flat.specs.Points.{has}
 use Rattle.av_flat.specs.Legal.{IsMoving}
 use Rattle.av_flat.specs.Signatures.{Signature, signatures, signature, is_input, is_computed}
 use Rattle.av_flat.specs.WellFormed.{EachPart, Fits, HasSmallRows, dimension_of}
 use Rattle.av_poly.specs.Points.{Set}
+use Rattle.av_depend.specs.SetPoints.{IsPointOf}
 use Rattle.av_depend.proofs.Adds.{variable_at}
 use Rattle.av_space.specs.declared.cells.InPort.{InPort}
 use Rattle.av_space.specs.declared.layout.Slot.{Slot}
@@ -26,17 +28,16 @@ use Rattle.av_space.specs.declared.ports.NodePiece.{NodePiece}
 use Rattle.av_space.specs.declared.ports.Ports.{Ports as Found}
 use Rattle.av_space.specs.Ports.{IsPort}
 use Rattle.av_space.specs.Taps.{node_of, node_place, helper_at, Handing}
-use Rattle.av_space.specs.inner.Apart.{AreOfNode}
 use Rattle.av_space.specs.inner.Feeding.{direction_of, is_entered, with_port, StandAt}
-use Rattle.av_space.specs.inner.NodePieces.{IsNodePiece, IsPart, IsInputSite, ArePortsAt}
-use Rattle.av_space.proofs.OffCells.{are_of_node}
+use Rattle.av_space.specs.inner.NodePieces.{IsOff, IsNodePiece, IsPart, IsInputSite, ArePortsAt}
+use Rattle.av_space.proofs.OffCells.{none_filtered, none_entered}
 use Rattle.av_space.proofs.ByPlace.{read_at}
 use Rattle.av_space.proofs.Directions.{first_step}
 use Rattle.av_space.proofs.Fed.{IsSiteOn, next_cell, node_of_port, same_reference}
 use Rattle.av_space.proofs.FirstCells.{node_between}
 use Rattle.av_space.proofs.Helpers.{found_helper}
 use Rattle.av_space.proofs.Nodes.{node_variable}
-use Rattle.av_space.proofs.OnCells.{IsCellOf, place_of_node, node_in_places}
+use Rattle.av_space.proofs.OnCells.{IsCellOf, place_of_node, node_in_places, slot_points}
 use Rattle.av_base.proofs.Lists.{all_at, some_is, there_is}
 
 -- ---- parts
@@ -135,13 +136,13 @@ cell_between at is p slots low high e =
     let var = ap (λ (n : ℕ). slice_get (nodes (view_system at.timed.now.flat)) n) node ∙ is.is_variable in
     (record { cell = x.0; is_cell = x.1; is_variable = var; are_slots = is.layout.are_slots p slots e }, node)
 
--- the computations on a cell as the site asks for them
-pub slots_between : (at : NodePiece) (is : IsNodePiece at) (j : ℕ) (site : InputSite) → IsInputSite at j site → (p : ℕ) (slots : List Slot) → at.first ≤ p → p < at.last → slice_get at.layout.now.slots p ≡ Some slots
-    → AreOfNode site.domain.now slots
-slots_between at is j site own p slots low high e =
+-- points of slots as the site asks for them
+pub points_between : (at : NodePiece) (is : IsNodePiece at) (j : ℕ) (site : InputSite) → IsInputSite at j site → (p : ℕ) (slots : List Slot) → at.first ≤ p → p < at.last → slice_get at.layout.now.slots p ≡ Some slots
+    → All (λ (t : Slot). IsPointOf site.domain.now t.point) slots
+points_between at is j site own p slots low high e =
     let on = (cell_between at is p slots low high e).0 in
-    let h = are_of_node at.timed.now at.layout.now p is.variable slots is.legal is.layout.are_placings on at.number (view_piece at.piece.now) is.is_piece in
-    subst (λ (set : Set). AreOfNode set slots) (sym own.domain) h
+    let h = slot_points at.timed.now at.layout.now p is.variable slots is.legal on at.number (view_piece at.piece.now) is.is_piece in
+    subst (λ (set : _). All (λ (t : Slot). IsPointOf set t.point) slots) (sym own.domain) h
 
 -- one cell more
 pub one_cell_more : (at : NodePiece) (is : IsNodePiece at) (j : ℕ) (site : InputSite) → IsInputSite at j site → (p : ℕ) (slots : List Slot) → at.first ≤ p → p < at.last → slice_get at.layout.now.slots p ≡ Some slots
@@ -168,6 +169,20 @@ one_cell_more at is j site own p slots low high e old new h f few =
     let more = next_cell s at.timed.now.helpers at.layout.now.placements at.layout.now.cells at.node at.number j p (view_piece at.piece.now) site.direction (view_variable site.input.now) site.map.now slots on old h in
     let same = f ∙ ap (λ (set : _). with_port (record { cell = p; piece = at.number; site = j }) site.input.now.name site.map.now old (filter (λ (t : Slot). is_entered set site.direction t.point) slots)) own.domain in
     subst (ArePortsAt at j (p + 1)) (sym same) (more (subst (λ (ports : Found). length ports.inputs ≤ 2 ^ 64) same few))
+
+-- one cell more, which computes no point of the piece
+pub off_cell : (at : NodePiece) (is : IsNodePiece at) (j : ℕ) (site : InputSite) → IsInputSite at j site → (p : ℕ) → at.first ≤ p → p < at.last → IsOff at.layout.now.slots at.piece.now.domain p
+    → (ports : Found) → ArePortsAt at j p ports → ArePortsAt at j (p + 1) ports
+off_cell at is j site own p low high off ports h =
+    let w = is.within in
+    let o = is.layout.one_each in
+    let there = there_is at.layout.now.slots p (omega (arith, high, w, o)) in
+    let slots = there.0 in
+    let port : InPort = record { cell = p; piece = at.number; site = j } in
+    let none = subst (λ (set : Set). All (λ (t : Slot). has set t.point ≡ false) slots) (sym own.domain) (off slots there.1) in
+    let empty = none_filtered (λ (t : Slot). is_entered site.domain.now site.direction t.point) slots (none_entered site.domain.now site.direction slots none) in
+    let same = ap (λ (ts : List Slot). with_port port site.input.now.name site.map.now ports ts) empty in
+    one_cell_more at is j site own p slots low high there.1 ports ports h (sym same) h.few
 
 -- ---- references
 

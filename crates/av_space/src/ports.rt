@@ -1,27 +1,26 @@
 //! Input ports, and the lines of the reads at them: node by node, piece by piece, reference by reference and cell by cell, and the
 //! lines of one port by cycle.
 
-ghost use Rattle.std.specs.Prelude.{ℕ, ◌≡◌, ◌<◌, ◌≤◌, ◌+◌, ◌^◌, All, AllPairs, IfOk, OnOk, length, filter};
+ghost use Rattle.std.specs.Prelude.{ℕ, false, ◌≡◌, ◌<◌, ◌≤◌, ◌+◌, ◌++◌, ◌^◌, All, AllPairs, IfOk, OnOk, length, filter};
 ghost use Rattle.av_flat.specs.Broadcasts.{references};
 ghost use Rattle.av_flat.specs.Legal.{IsLegal};
 ghost use Rattle.av_flat.specs.Trees.{reference, view, view_system};
 ghost use Rattle.av_depend.specs.SetPoints.{IsPointOf};
-ghost use Rattle.av_space.specs.Listings.{AreInLines};
+ghost use Rattle.av_space.specs.Listings.{input_name, AreInLines};
 ghost use Rattle.av_space.specs.Ports.{ArePorts};
 ghost use Rattle.av_space.specs.Quantities.{IsOperatorCount};
 ghost use Rattle.av_space.specs.Occupancy.{IsCellBefore};
-ghost use Rattle.av_space.specs.inner.Apart.{AreOfNode};
-ghost use Rattle.av_space.specs.inner.Feeding.{is_entered, with_port, IsReadable, IsFirstOf};
-ghost use Rattle.av_space.specs.inner.NodePieces.{IsNodePiece, IsPart, IsInputSite, ArePortsAt, ArePortsOf, IsSmallNode};
+ghost use Rattle.av_space.specs.inner.Feeding.{is_entered, lines_at, with_port, IsReadable, IsFirstOf};
+ghost use Rattle.av_space.specs.inner.NodePieces.{AreOfPiece, IsOff, AreMarks, IsNodePiece, IsPart, IsInputSite, ArePortsAt, ArePortsOf, IsSmallNode};
 ghost use Rattle.av_space.specs.Layouts.{IsLayout};
 
-use crate::apart::are_apart;
 use crate::cells::{Cell, InPort};
 use crate::input_site::{InputSite, direction_of};
 use crate::layout::{Layout, Slot};
 use crate::node_places::variable_of;
+use crate::operators::is_used;
 use av_affine::Map;
-use av_base::{List, Memory};
+use av_base::{List, Memory, Name};
 use av_flat::{Piece, Timed, Tree};
 use av_net::Entry;
 use std::alloc::Global;
@@ -43,10 +42,41 @@ struct NodePiece<'a> {
     number: usize,
     first: usize,
     last: usize,
+    /// Of each of the cells, whether it computes a point of the piece.
+    used: List<bool>,
 }
 
-// Puts the port of a reference on a cell behind others, with its lines, if it has a read there, as each computation tells.
+// The wire of the input port with this number.
+fn input_wire(alloc: Global, port: usize) -> Result<Name, Memory>
+    ensures { IfOk result (λ wire. wire ≡ input_name port) }
+{
+    let wire = format!(in alloc; "i{port}")?;
+    Name::new(alloc, wire.as_str())
+}
+
+// Puts the lines of the reads at the port with this wire behind others.
 fn add_lines(
+    alloc: Global,
+    site: &InputSite,
+    wire: &Name,
+    slots: &[Slot],
+    ins: &mut List<Entry>,
+) -> Result<(), Memory>
+    requires readable { IsReadable site.now.domain.now site.now.direction site.now.map.now }
+    requires points { All (λ t. IsPointOf site.now.domain.now t.point) slots.now }
+    ensures { OnOk result (ins.new ≡ ins.old ++ lines_at wire.now site.now.input.now.name site.now.map.now
+        (filter (λ t. is_entered site.now.domain.now site.now.direction t.point) slots.now)) }
+{
+    for slot in slots {
+        if site.is_entered(&slot.point) {
+            ins.push(site.line(alloc, wire, slot)?)?;
+        }
+    }
+    Ok(())
+}
+
+// Puts the port of a reference on a cell behind others, with its lines, if it has a read there.
+fn add_port(
     alloc: Global,
     site: &InputSite,
     port: InPort,
@@ -61,37 +91,25 @@ fn add_lines(
 {
     let number = ports.inputs.as_slice().len();
     let before = ports.ins.as_slice().len();
-    for slot in slots {
-        if site.is_entered(&slot.point) {
-            ports.ins.push(site.line(alloc, number, slot)?)?;
-        }
+    let wire = input_wire(alloc, number)?;
+    add_lines(alloc, site, &wire, slots, &mut ports.ins)?;
+    let after = ports.ins.as_slice().len();
+    if after == before {
+        return Ok(());
     }
-    if ports.ins.as_slice().len() > before {
-        ports.inputs.push(port)?;
-    }
-    Ok(())
+    ports.inputs.push(port)
 }
 
-// Puts the port of a reference on a cell behind others, with its lines, if it has a read there.
-fn add_port(
-    alloc: Global,
-    site: &InputSite,
-    port: InPort,
-    slots: &[Slot],
-    ports: &mut Ports,
-) -> Result<(), Memory>
-    requires readable { IsReadable site.now.domain.now site.now.direction site.now.map.now }
-    requires slots { AreOfNode site.now.domain.now slots.now }
-    requires few { length ports.old.inputs ≤ 2 ^ 64 }
-    ensures ports { OnOk result (ports.new ≡ with_port port site.now.input.now.name site.now.map.now ports.old
-        (filter (λ t. is_entered site.now.domain.now site.now.direction t.point) slots.now)) }
-    ensures few { OnOk result (length ports.new.inputs ≤ 2 ^ 64) }
+// Whether a cell of the node computes a point of the piece.
+fn has_point(at: &NodePiece, cell: usize) -> bool
+    requires at { IsNodePiece at.now }
+    requires low { at.now.first ≤ cell }
+    requires high { cell < at.now.last }
+    ensures { result ≡ false → IsOff at.now.layout.now.slots at.now.piece.now.domain cell }
 {
-    if are_apart(slots, site.domain) {
-        Ok(())
-    } else {
-        add_lines(alloc, site, port, slots, ports)
-    }
+    let used = at.used.as_slice();
+    let place = cell - at.first;
+    used[place]
 }
 
 // The ports of a reference to an input, cell by cell.
@@ -109,6 +127,9 @@ fn add_site(
     ensures { OnOk result (ArePortsAt at.now number at.now.last ports.new) }
 {
     for cell in at.first..at.last {
+        if !has_point(at, cell) {
+            continue;
+        }
         let port = InPort {
             cell: cell as u32,
             piece: at.number as u32,
@@ -192,6 +213,27 @@ fn add_tree(
     }
 }
 
+// Of each of these cells of a node, whether it computes a point of a piece of the node.
+fn marks_of(
+    alloc: Global,
+    layout: &Layout,
+    piece: &Piece,
+    first: usize,
+    last: usize,
+) -> Result<List<bool>, Memory>
+    requires slots { AreOfPiece layout.now.slots piece.now.domain first last }
+    requires ordered { first ≤ last }
+    requires within { last ≤ length layout.now.slots }
+    ensures { IfOk result (AreMarks layout.now.slots piece.now.domain first last) }
+{
+    let mut marks = List::new(alloc);
+    for cell in first..last {
+        let slots = layout.slots.as_slice()[cell].as_slice();
+        marks.push(is_used(slots, piece))?;
+    }
+    Ok(marks)
+}
+
 // The ports of a node with these cells.
 fn add_node(
     alloc: Global,
@@ -214,6 +256,7 @@ fn add_node(
 {
     let var = variable_of(&timed.flat, layout.places.as_slice(), node);
     for (number, piece) in var.pieces.as_slice().iter().enumerate() {
+        let used = marks_of(alloc, layout, piece, first, last)?;
         let at = NodePiece {
             timed,
             layout,
@@ -222,6 +265,7 @@ fn add_node(
             number,
             first,
             last,
+            used,
         };
         add_tree(alloc, &at, &piece.tree, 0, ports)?;
     }
