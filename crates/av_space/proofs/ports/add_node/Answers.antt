@@ -18,8 +18,8 @@ variable_of-var-requires-clause-within c =
     node_in_places (view_system c.args.timed.now.flat) c.as_slice.result.now c.args.node (c.as_slice.ensures ∙ c.requires.layout.places)
     (slice_get_within (nodes (view_system c.args.timed.now.flat)) c.args.node c.requires.small.variable c.requires.small.is_variable)
 
-pub marks_of-used-requires-clause-slots : goal.marks_of-used-requires-clause-slots
-marks_of-used-requires-clause-slots c =
+pub marks_of-requires-clause-slots : goal.marks_of-requires-clause-slots
+marks_of-requires-clause-slots c =
     let t = c.args.timed.now in
     let l = c.args.layout.now in
     let r = c.requires in
@@ -30,8 +30,8 @@ marks_of-used-requires-clause-slots c =
     let here = get_mapped view_piece v.pieces k piece (read_at v.pieces c.as_slice-piece-items.result.now k piece c.as_slice-piece-items.ensures lt c.piece-item.is) in
     are_of_piece t l c.args.node k c.args.first c.args.last (view_variable v) (view_piece piece) r.legal r.layout c.variable_of-var.ensures here r.first r.last r.within
 
-pub marks_of-used-requires-clause-within : goal.marks_of-used-requires-clause-within
-marks_of-used-requires-clause-within c = let within = c.requires.within in let one_each = c.requires.layout.one_each in omega (arith, within, one_each)
+pub marks_of-requires-clause-within : goal.marks_of-requires-clause-within
+marks_of-requires-clause-within c = let within = c.requires.within in let one_each = c.requires.layout.one_each in omega (arith, within, one_each)
 
 pub add_tree-requires-clause-at : goal.add_tree-requires-clause-at
 add_tree-requires-clause-at c =

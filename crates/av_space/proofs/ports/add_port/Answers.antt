@@ -24,6 +24,7 @@ returns-clause-ports c =
     let site = c.args.site.now in
     let own = filter (λ (t : Slot). is_entered site.domain.now site.direction t.point) c.args.slots.now in
     let named = c.in_ok-wire.ensures ∙ ap (λ (ports : List InPort). input_name (length ports)) c.as_slice.ensures in
+    let more : length c.add_lines.new.ins ≡ length old.ins → ⊥ = search rules in
     on_ok_weaker c.push.result
-    (λ e. port_with_lines c.args.port site.input.now.name site.map.now old c.in_ok-wire.wire named own c.push.new.self c.add_lines.new.ins e c.in_ok-add_lines.ensures (λ same. absurd (search rules)))
+    (λ e. port_with_lines c.args.port site.input.now.name site.map.now old c.in_ok-wire.wire named own c.push.new.self c.add_lines.new.ins e c.in_ok-add_lines.ensures more)
     c.push.ensures.ok
