@@ -60,6 +60,7 @@ pub mod SpotReadings
 pub mod OnSpots
 pub mod OffCells
 pub mod CellMarks
+pub mod CellUses
 pub mod PortLines
 pub mod PortOrder
 pub mod SlotEnds

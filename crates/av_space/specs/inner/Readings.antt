@@ -1,5 +1,5 @@
 -- What tap sites read at points: what is taken for granted of a site, and the readings of a site on a cell.
-use Rattle.std.specs.Prelude.{◌≡◌, ℕ, ◌+◌, ◌<◌, List, All, Contains, IsTrue, Some, slice_get}
+use Rattle.std.specs.Prelude.{◌≡◌, ℕ, ◌+◌, ◌<◌, ◌≤◌, Bool, false, List, All, Contains, IsTrue, Some, slice_get, length}
 use Rattle.av_affine.specs.Numbers.{AtMost}
 use Rattle.av_affine.specs.Forms.{IsWithinLimits}
 use Rattle.av_poly.specs.Points.{Set}
@@ -88,3 +88,12 @@ pub record IsConsumer (s : FlatSystem) (placings : List Placing) (cells : List C
   pub node : cell.node ≡ n
   pub are_slots : AreSlots s placings cells p slots
   pub is_variable : slice_get (nodes s) n ≡ Some v
+
+-- of each of the first pieces of a variable, whether it has the point of one of these computations
+pub record AreUsesTo (v : Variable) (slots : List Slot) (n : ℕ) (used : List Bool) : Type 0 where
+  pub number : length used ≡ n
+  pub within : n ≤ length v.pieces
+  pub off : (k : ℕ) (piece : Piece) → slice_get v.pieces k ≡ Some piece → slice_get used k ≡ Some false → All (λ t. has piece.domain t.point ≡ false) slots
+
+abbrev pub AreUses : Variable → List Slot → List Bool → Type 0
+AreUses v slots used = AreUsesTo v slots (length v.pieces) used
