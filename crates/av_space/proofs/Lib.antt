@@ -59,8 +59,7 @@ pub mod SpotPlaces
 pub mod SpotReadings
 pub mod OnSpots
 pub mod OffCells
-pub mod CellMarks
-pub mod CellUses
+pub mod OwnSlots
 pub mod PortLines
 pub mod PortOrder
 pub mod SlotEnds

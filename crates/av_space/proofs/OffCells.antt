@@ -1,8 +1,8 @@
 -- Computations on a cell, which stand in turn on a line, and sets that have none of them.
-use Rattle.std.proofs.Common.{◌≡◌, ◌∙◌, ℕ, ◌-◌, ◌<◌, ◌≤◌, ℤ, pos, ◌-ℤ◌, ◌≤ℤ◌, ◌↔◌, Bool, true, false, true≢false, IsTrue, Some, List, [], ◌∷◌, length, map, get_or, refl, sym, ap, subst, arith, All, Any}
-use Rattle.std.specs.Prelude.{slice_get, filter, Option, None}
+use Rattle.std.proofs.Common.{◌≡◌, ◌∙◌, ℕ, ◌-◌, ◌<◌, ◌≤◌, ℤ, pos, ◌-ℤ◌, ◌≤ℤ◌, Bool, true, false, true≢false, IsTrue, Some, List, [], ◌∷◌, length, map, refl, sym, ap, subst, arith, All, Any}
+use Rattle.std.specs.Prelude.{slice_get, filter}
 use Rattle.std.proofs.lemmas.Int.{ints}
-use Rattle.std.proofs.lemmas.List.Elements.{All-head, All-tail, All-weaker, Contains-get_or}
+use Rattle.std.proofs.lemmas.List.Elements.{All-head, All-tail, All-weaker}
 use Rattle.av_affine.specs.declared.form.Form.{Form}
 use Rattle.av_tree.specs.Points.{Point}
 use Rattle.av_poly.specs.Points.{Set, Holds, HoldsAt}
@@ -21,7 +21,6 @@ use Rattle.av_space.specs.declared.layout.Slot.{Slot}
 use Rattle.av_space.specs.Coordinates.{Placing, IsPlacing, ArePlacings, along}
 use Rattle.av_space.specs.Occupancy.{Computes}
 use Rattle.av_space.specs.inner.Apart.{StandsBetween, AreBetweenEnds, AreOfNode}
-use Rattle.av_space.specs.inner.Feeding.{is_entered}
 use Rattle.av_space.proofs.ByPlace.{all_by_place}
 use Rattle.av_space.proofs.Grouped.{linear_size}
 use Rattle.av_space.proofs.Laid.{placing_time}
@@ -122,17 +121,6 @@ none_filtered test [] h = refl
 none_filtered test (x ∷ xs) h =
     let e = All-head (λ y. test y ≡ false) x xs h in
     rw e (none_filtered test xs (All-tail (λ y. test y ≡ false) x xs h))
-
-pub none_entered : (set : Set) (direction : Option Point) (slots : List Slot) → All (λ t. has set t.point ≡ false) slots → All (λ t. is_entered set direction t.point ≡ false) slots
-none_entered set None slots h = h
-none_entered set (Some w) slots h = All-weaker (λ t. has set t.point ≡ false) (λ t. is_entered set (Some w) t.point ≡ false) (λ t e. rw e refl) slots h
-
--- where none of the computations is a point of the set
-pub none_of_any : (set : Set) (slots : List Slot) (b : Bool) → IsTrue b ↔ Any (λ t. IsTrue (has set t.point)) slots → b ≡ false → All (λ t. has set t.point ≡ false) slots
-none_of_any set slots b h f = λ k d l.
-    let t = get_or slots k d in
-    let here = Contains-get_or slots k d l in
-    not_there (has set t.point) (λ e. let u = h.1 (here.0, t, here.1, here.2, e) in true≢false (sym u ∙ f))
 
 pub none_any : (set : Set) (slots : List Slot) → All (λ t. has set t.point ≡ false) slots → Any (λ t. IsTrue (has set t.point)) slots → ⊥
 none_any set slots h (k, t, l, e, p) = true≢false (sym p ∙ subst (λ (x : Slot). has set x.point ≡ false) e (h k t l))

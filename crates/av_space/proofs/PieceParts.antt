@@ -2,6 +2,7 @@
 use Rattle.std.proofs.Common.{◌≡◌, ℕ, zero, suc, ◌+◌, ◌^◌, ◌<◌, ◌≤◌, Bool, true, false, not, IsTrue, Some, None, List, [], ◌∷◌, ◌++◌, length, get_or, refl, sym, ap, subst, ◌∙◌, arith}
 use Rattle.std.specs.Prelude.{slice_get, filter, All, Option, IfSome}
 use Rattle.std.proofs.lemmas.List.{length-append, length-map}
+use Rattle.std.proofs.lemmas.List.Elements.{All-filter}
 use Rattle.std.proofs.lemmas.Option.{slice_get_within, get_or_from_slice_get}
 use Rattle.av_affine.specs.declared.map.Map.{Map}
 use Rattle.av_affine.specs.Forms.{IsWithinLimits}
@@ -29,8 +30,8 @@ use Rattle.av_space.specs.declared.ports.Ports.{Ports as Found}
 use Rattle.av_space.specs.Ports.{IsPort}
 use Rattle.av_space.specs.Taps.{node_of, node_place, helper_at, Handing}
 use Rattle.av_space.specs.inner.Feeding.{direction_of, is_entered, with_port, StandAt}
-use Rattle.av_space.specs.inner.NodePieces.{IsOff, IsNodePiece, IsPart, IsInputSite, ArePortsAt}
-use Rattle.av_space.proofs.OffCells.{none_filtered, none_entered}
+use Rattle.av_space.specs.inner.NodePieces.{IsNodePiece, IsPart, IsInputSite, ArePortsAt}
+use Rattle.av_space.proofs.OwnSlots.{entered_twice}
 use Rattle.av_space.proofs.ByPlace.{read_at}
 use Rattle.av_space.proofs.Directions.{first_step}
 use Rattle.av_space.proofs.Fed.{IsSiteOn, next_cell, node_of_port, same_reference}
@@ -136,6 +137,9 @@ cell_between at is p slots low high e =
     let var = ap (λ (n : ℕ). slice_get (nodes (view_system at.timed.now.flat)) n) node ∙ is.is_variable in
     (record { cell = x.0; is_cell = x.1; is_variable = var; are_slots = is.layout.are_slots p slots e }, node)
 
+row_there : (at : NodePiece) → IsNodePiece at → (p : ℕ) → p < at.last → (slots : List Slot) × (slice_get at.layout.now.slots p ≡ Some slots)
+row_there at is p high = let w = is.within in let o = is.layout.one_each in there_is at.layout.now.slots p (omega (arith, high, w, o))
+
 -- points of slots as the site asks for them
 pub points_between : (at : NodePiece) (is : IsNodePiece at) (j : ℕ) (site : InputSite) → IsInputSite at j site → (p : ℕ) (slots : List Slot) → at.first ≤ p → p < at.last → slice_get at.layout.now.slots p ≡ Some slots
     → All (λ (t : Slot). IsPointOf site.domain.now t.point) slots
@@ -170,19 +174,28 @@ one_cell_more at is j site own p slots low high e old new h f few =
     let same = f ∙ ap (λ (set : _). with_port (record { cell = p; piece = at.number; site = j }) site.input.now.name site.map.now old (filter (λ (t : Slot). is_entered set site.direction t.point) slots)) own.domain in
     subst (ArePortsAt at j (p + 1)) (sym same) (more (subst (λ (ports : Found). length ports.inputs ≤ 2 ^ 64) same few))
 
--- one cell more, which computes no point of the piece
-pub off_cell : (at : NodePiece) (is : IsNodePiece at) (j : ℕ) (site : InputSite) → IsInputSite at j site → (p : ℕ) → at.first ≤ p → p < at.last → IsOff at.layout.now.slots at.piece.now.domain p
-    → (ports : Found) → ArePortsAt at j p ports → ArePortsAt at j (p + 1) ports
-off_cell at is j site own p low high off ports h =
-    let w = is.within in
-    let o = is.layout.one_each in
-    let there = there_is at.layout.now.slots p (omega (arith, high, w, o)) in
+-- the same where only the points of the piece were looked at
+pub one_cell_of_own : (at : NodePiece) (is : IsNodePiece at) (j : ℕ) (site : InputSite) → IsInputSite at j site → (p : ℕ) → at.first ≤ p → p < at.last → (own : List Slot)
+    → ((slots : List Slot) → slice_get at.layout.now.slots p ≡ Some slots → own ≡ filter (λ t. has at.piece.now.domain t.point) slots) → (old new : Found) → ArePortsAt at j p old
+    → new ≡ with_port (record { cell = p; piece = at.number; site = j }) site.input.now.name site.map.now old (filter (λ (t : Slot). is_entered site.domain.now site.direction t.point) own)
+    → length new.inputs ≤ 2 ^ 64 → ArePortsAt at j (p + 1) new
+one_cell_of_own at is j site fits p low high own is_own old new h f few =
+    let there = row_there at is p high in
     let slots = there.0 in
     let port : InPort = record { cell = p; piece = at.number; site = j } in
-    let none = subst (λ (set : Set). All (λ (t : Slot). has set t.point ≡ false) slots) (sym own.domain) (off slots there.1) in
-    let empty = none_filtered (λ (t : Slot). is_entered site.domain.now site.direction t.point) slots (none_entered site.domain.now site.direction slots none) in
-    let same = ap (λ (ts : List Slot). with_port port site.input.now.name site.map.now ports ts) empty in
-    one_cell_more at is j site own p slots low high there.1 ports ports h (sym same) h.few
+    let mine : own ≡ filter (λ t. has site.domain.now t.point) slots = is_own slots there.1 ∙ ap (λ (set : Set). filter (λ (t : Slot). has set t.point) slots) (sym fits.domain) in
+    let twice = ap (λ (ts : List Slot). filter (λ (t : Slot). is_entered site.domain.now site.direction t.point) ts) mine ∙ entered_twice site.domain.now site.direction slots in
+    one_cell_more at is j site fits p slots low high there.1 old new h (f ∙ ap (λ (ts : List Slot). with_port port site.input.now.name site.map.now old ts) twice) few
+
+-- points of the piece as the site asks for them
+pub own_points : (at : NodePiece) (is : IsNodePiece at) (j : ℕ) (site : InputSite) → IsInputSite at j site → (p : ℕ) → at.first ≤ p → p < at.last → (own : List Slot)
+    → ((slots : List Slot) → slice_get at.layout.now.slots p ≡ Some slots → own ≡ filter (λ t. has at.piece.now.domain t.point) slots) → All (λ (t : Slot). IsPointOf site.domain.now t.point) own
+own_points at is j site fits p low high own is_own =
+    let there = row_there at is p high in
+    let slots = there.0 in
+    let all = points_between at is j site fits p slots low high there.1 in
+    subst (λ (ts : List Slot). All (λ (t : Slot). IsPointOf site.domain.now t.point) ts) (sym (is_own slots there.1))
+    (All-filter (λ (t : Slot). has at.piece.now.domain t.point) (λ (t : Slot). IsPointOf site.domain.now t.point) slots all)
 
 -- ---- references
 
@@ -230,13 +243,6 @@ fine_direction at is j place m e (Some h) f =
     (subst (λ (w : Point). length w ≡ m.from) r.direction_is (step.size ∙ from), subst (AtMost 4095) r.direction_is step.small)
 
 -- ---- what the code reads
-
-pub slots_there : (at : NodePiece) → IsNodePiece at → (p : ℕ) (slots : List Slot) (rows : List (List Slot)) → p < at.last → rows ≡ at.layout.now.slots → slots ≡ get_or rows p slots → slice_get at.layout.now.slots p ≡ Some slots
-slots_there at is p slots rows high e f =
-    let w = is.within in
-    let o = is.layout.one_each in
-    let m = ap (λ (xs : List (List Slot)). length xs) e in
-    read_at at.layout.now.slots rows p slots e (omega (arith, high, w, o, m)) f
 
 -- the variable that a reference reads
 pub var_there : (at : NodePiece) (j var : ℕ) (m : Map) → IsPart at j (reference var m) → var < length at.timed.now.flat.vars

@@ -1,7 +1,6 @@
 //! Links of the array: the stretches of all tap sites of all cells.
 
-ghost use Rattle.std.specs.Prelude.{ℕ, false, ◌≡◌, ◌↔◌, ◌<◌, List as Items, length, All, Contains, IsTrue, Some, slice_get, slice_index_or, [], map, IfOk, IfSome, OnOk};
-ghost use Rattle.av_flat.specs.Points.{has};
+ghost use Rattle.std.specs.Prelude.{ℕ, ◌≡◌, ◌↔◌, ◌<◌, List as Items, length, Contains, Some, slice_get, slice_index_or, [], map, IfOk, IfSome, OnOk};
 ghost use Rattle.av_flat.specs.Trees.{Piece as PieceSeen, view_piece, view_system, view_variable};
 ghost use Rattle.av_flat.specs.Legal.{IsLegal};
 ghost use Rattle.av_space.specs.declared.layout.Slot.{Slot as SlotSeen};
@@ -10,13 +9,13 @@ ghost use Rattle.av_space.specs.Links.{AreLinks};
 ghost use Rattle.av_space.specs.Layouts.{IsLayout};
 ghost use Rattle.av_space.specs.inner.Apart.{AreOfNode};
 ghost use Rattle.av_space.specs.inner.Sites.{tap_of, AreNodeTaps};
-ghost use Rattle.av_space.specs.inner.Readings.{IsFineTap, IsSite, IsReadingAt, IsReadingOf, AreReadings, IsConsumer, AreUses};
+ghost use Rattle.av_space.specs.inner.Readings.{IsFineTap, IsSite, HasSite, IsReadingAt, IsReadingOf, AreReadings, IsConsumer, AreOwn};
 ghost use Rattle.av_space.specs.inner.Stretches.{HasLinks, IsAt, IsOn};
 
+use crate::apart::slots_in;
 use crate::layout::{Layout, Slot};
 use crate::locate::locate;
 use crate::node_places::variable_of;
-use crate::operators::is_used;
 use crate::reading::{is_in, read_at};
 use crate::stretch::{Reading, Stretch, site_stretches};
 use crate::tap::TapSite;
@@ -65,7 +64,7 @@ pub(crate) fn reading_at(
     })
 }
 
-// What a tap site reads on its cell, by cycle.
+// What a tap site reads at those computations on its cell that are points of its piece, by cycle.
 fn readings(
     alloc: Global,
     timed: &Timed,
@@ -78,7 +77,7 @@ fn readings(
     requires legal { IsLegal timed.now }
     requires layout { IsLayout timed.now layout.now }
     requires fine { IsFineTap piece.now.domain.dim (length timed.now.flat.vars) (tap_of site.now) }
-    requires site { IsSite (view_system timed.now.flat) timed.now.helpers layout.now.placements layout.now.cells node (tap_of site.now) (view_piece piece.now) slots.now }
+    requires site { HasSite (view_system timed.now.flat) timed.now.helpers layout.now.placements layout.now.cells node (tap_of site.now) (view_piece piece.now) slots.now }
     ensures { IfOk result (AreReadings
         (IsReadingOf (view_system timed.now.flat) layout.now.placements layout.now.cells node (tap_of site.now) (view_piece piece.now) slots.now)) }
 {
@@ -91,39 +90,6 @@ fn readings(
     Ok(readings)
 }
 
-// What a tap site reads on its cell, by cycle: nothing where it is known that no computation there is a point of its piece.
-fn own_readings(
-    alloc: Global,
-    timed: &Timed,
-    layout: &Layout,
-    consumer: &Consumer<'_>,
-    site: &TapSite<'_>,
-    piece: &Piece,
-    off: bool,
-) -> Result<List<Reading>, Memory>
-    requires legal { IsLegal timed.now }
-    requires layout { IsLayout timed.now layout.now }
-    requires fine { IsFineTap piece.now.domain.dim (length timed.now.flat.vars) (tap_of site.now) }
-    requires site { IsSite (view_system timed.now.flat) timed.now.helpers layout.now.placements layout.now.cells consumer.now.node (tap_of site.now) (view_piece piece.now) consumer.now.slots.now }
-    requires off { IsTrue off → All (λ t. has piece.now.domain t.point ≡ false) consumer.now.slots.now }
-    ensures { IfOk result (AreReadings
-        (IsReadingOf (view_system timed.now.flat) layout.now.placements layout.now.cells consumer.now.node (tap_of site.now) (view_piece piece.now) consumer.now.slots.now)) }
-{
-    if off {
-        Ok(List::new(alloc))
-    } else {
-        readings(
-            alloc,
-            timed,
-            layout,
-            consumer.node,
-            site,
-            piece,
-            consumer.slots,
-        )
-    }
-}
-
 /// The piece with this number.
 pub(crate) fn piece_at(var: &Var, number: usize) -> &Piece
     requires { number < length var.now.pieces }
@@ -132,12 +98,12 @@ pub(crate) fn piece_at(var: &Var, number: usize) -> &Piece
     &var.pieces.as_slice()[number]
 }
 
-// Whether the piece with this number is not used, by what is known of each piece.
-fn is_off(used: &[bool], piece: usize) -> bool
-    requires { piece < length used.now }
-    ensures { IsTrue result → slice_get used.now piece ≡ Some false }
+// The computations that are points of the piece with this number.
+fn slots_at(own: &[List<Slot>], piece: usize) -> &[Slot]
+    requires { piece < length own.now }
+    ensures { slice_get own.now piece ≡ Some result.now }
 {
-    !used[piece]
+    own[piece].as_slice()
 }
 
 // Puts the stretches of a tap site of a cell behind others.
@@ -148,7 +114,7 @@ fn tap_stretches(
     consumer: &Consumer<'_>,
     number: usize,
     site: &TapSite<'_>,
-    used: &[bool],
+    own: &[List<Slot>],
     stretches: &mut List<Stretch>,
 ) -> Result<(), Memory>
     requires legal { IsLegal timed.now }
@@ -157,14 +123,14 @@ fn tap_stretches(
         consumer.now.number consumer.now.node (view_variable consumer.now.var.now) consumer.now.slots.now }
     requires site { slice_get (taps (view_system timed.now.flat) timed.now.helpers (node_place (view_system timed.now.flat) consumer.now.node) (view_variable consumer.now.var.now)) number
         ≡ Some (tap_of site.now) }
-    requires used { AreUses (view_variable consumer.now.var.now) consumer.now.slots.now used.now }
+    requires own { AreOwn (view_variable consumer.now.var.now) consumer.now.slots.now own.now }
     ensures { OnOk result (HasLinks (IsTapped (view_system timed.now.flat) timed.now.helpers layout.now.placements layout.now.cells)
         (IsAt consumer.now.number number) stretches.old stretches.new) }
 {
-    let own = site.piece();
-    let piece = piece_at(consumer.var, own);
-    let off = is_off(used, own);
-    let readings = own_readings(alloc, timed, layout, consumer, site, piece, off)?;
+    let place = site.piece();
+    let piece = piece_at(consumer.var, place);
+    let slots = slots_at(own, place);
+    let readings = readings(alloc, timed, layout, consumer.node, site, piece, slots)?;
     site_stretches(consumer.number, number, readings.as_slice(), stretches)
 }
 
@@ -175,7 +141,7 @@ fn cell_stretches(
     layout: &Layout,
     consumer: &Consumer<'_>,
     sites: &[TapSite<'_>],
-    used: &[bool],
+    own: &[List<Slot>],
     stretches: &mut List<Stretch>,
 ) -> Result<(), Memory>
     requires legal { IsLegal timed.now }
@@ -184,14 +150,12 @@ fn cell_stretches(
         consumer.now.number consumer.now.node (view_variable consumer.now.var.now) consumer.now.slots.now }
     requires sites { map tap_of sites.now
         ≡ taps (view_system timed.now.flat) timed.now.helpers (node_place (view_system timed.now.flat) consumer.now.node) (view_variable consumer.now.var.now) }
-    requires used { AreUses (view_variable consumer.now.var.now) consumer.now.slots.now used.now }
+    requires own { AreOwn (view_variable consumer.now.var.now) consumer.now.slots.now own.now }
     ensures { OnOk result (HasLinks (IsTapped (view_system timed.now.flat) timed.now.helpers layout.now.placements layout.now.cells)
         (IsOn consumer.now.number) stretches.old stretches.new) }
 {
     for (number, site) in sites.iter().enumerate() {
-        tap_stretches(
-            alloc, timed, layout, consumer, number, site, used, stretches,
-        )?;
+        tap_stretches(alloc, timed, layout, consumer, number, site, own, stretches)?;
     }
     Ok(())
 }
@@ -230,16 +194,17 @@ fn consumer_at<'a>(timed: &'a Timed, layout: &'a Layout, number: usize) -> Consu
     }
 }
 
-// Of each piece of the variable of a cell, whether it has the point of a computation on the cell.
-fn used_pieces(alloc: Global, consumer: &Consumer<'_>) -> Result<List<bool>, Memory>
+// Of each piece of the variable of a cell the computations on the cell that are points of it.
+fn slots_of_pieces(alloc: Global, consumer: &Consumer<'_>) -> Result<List<List<Slot>>, Memory>
     requires { (k : ℕ) (piece : PieceSeen) → slice_get (view_variable consumer.now.var.now).pieces k ≡ Some piece → AreOfNode piece.domain consumer.now.slots.now }
-    ensures { IfOk result (AreUses (view_variable consumer.now.var.now) consumer.now.slots.now) }
+    ensures { IfOk result (AreOwn (view_variable consumer.now.var.now) consumer.now.slots.now) }
 {
-    let mut used = List::new(alloc);
+    let mut own = List::new(alloc);
     for piece in consumer.var.pieces.as_slice() {
-        used.push(is_used(consumer.slots, piece))?;
+        let part = slots_in(alloc, consumer.slots, &piece.domain)?;
+        own.push(part)?;
     }
-    Ok(used)
+    Ok(own)
 }
 
 /// The tap sites of a node.
@@ -265,14 +230,14 @@ pub(crate) fn stretches(
     for number in 0..layout.cells.as_slice().len() {
         let consumer = consumer_at(timed, layout, number);
         let own = taps_of_node(sites.as_slice(), consumer.node);
-        let used = used_pieces(alloc, &consumer)?;
+        let slots = slots_of_pieces(alloc, &consumer)?;
         cell_stretches(
             alloc,
             timed,
             layout,
             &consumer,
             own,
-            used.as_slice(),
+            slots.as_slice(),
             &mut stretches,
         )?;
     }

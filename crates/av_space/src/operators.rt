@@ -96,8 +96,8 @@ fn has_any(slots: &[Slot], piece: &Piece) -> bool
     false
 }
 
-/// Whether the piece has the point of a computation on a cell.
-pub(crate) fn is_used(slots: &[Slot], piece: &Piece) -> bool
+// Whether the piece has the point of a computation on a cell.
+fn is_used(slots: &[Slot], piece: &Piece) -> bool
     requires { AreOfNode piece.now.domain slots.now }
     ensures { IsTrue result ↔ Any (λ t. IsTrue (has piece.now.domain t.point)) slots.now }
 {

@@ -1,24 +1,26 @@
 //! Input ports, and the lines of the reads at them: node by node, piece by piece, reference by reference and cell by cell, and the
 //! lines of one port by cycle.
 
-ghost use Rattle.std.specs.Prelude.{ℕ, false, ◌≡◌, ◌<◌, ◌≤◌, ◌+◌, ◌++◌, ◌^◌, All, AllPairs, IfOk, OnOk, length, filter};
+ghost use Rattle.std.specs.Prelude.{ℕ, ◌≡◌, ◌<◌, ◌≤◌, ◌+◌, ◌++◌, ◌^◌, List as Items, All, AllPairs, IfOk, OnOk, Some, slice_get, length, filter};
 ghost use Rattle.av_flat.specs.Broadcasts.{references};
 ghost use Rattle.av_flat.specs.Legal.{IsLegal};
+ghost use Rattle.av_flat.specs.Points.{has};
 ghost use Rattle.av_flat.specs.Trees.{reference, view, view_system};
 ghost use Rattle.av_depend.specs.SetPoints.{IsPointOf};
+ghost use Rattle.av_space.specs.declared.layout.Slot.{Slot as SlotSeen};
 ghost use Rattle.av_space.specs.Listings.{input_name, AreInLines};
 ghost use Rattle.av_space.specs.Ports.{ArePorts};
 ghost use Rattle.av_space.specs.Quantities.{IsOperatorCount};
 ghost use Rattle.av_space.specs.Occupancy.{IsCellBefore};
 ghost use Rattle.av_space.specs.inner.Feeding.{is_entered, lines_at, with_port, IsReadable, IsFirstOf};
-ghost use Rattle.av_space.specs.inner.NodePieces.{AreOfPiece, IsOff, AreMarks, IsNodePiece, IsPart, IsInputSite, ArePortsAt, ArePortsOf, IsSmallNode};
+ghost use Rattle.av_space.specs.inner.NodePieces.{AreOfPiece, AreOwnSlots, IsNodePiece, IsPart, IsInputSite, ArePortsAt, ArePortsOf, IsSmallNode};
 ghost use Rattle.av_space.specs.Layouts.{IsLayout};
 
+use crate::apart::slots_in;
 use crate::cells::{Cell, InPort};
 use crate::input_site::{InputSite, direction_of};
 use crate::layout::{Layout, Slot};
 use crate::node_places::variable_of;
-use crate::operators::is_used;
 use av_affine::Map;
 use av_base::{List, Memory, Name};
 use av_flat::{Piece, Timed, Tree};
@@ -42,8 +44,8 @@ struct NodePiece<'a> {
     number: usize,
     first: usize,
     last: usize,
-    /// Of each of the cells, whether it computes a point of the piece.
-    used: List<bool>,
+    /// Of each of the cells the computations that are points of the piece.
+    own: List<List<Slot>>,
 }
 
 // The wire of the input port with this number.
@@ -85,10 +87,14 @@ fn add_port(
 ) -> Result<(), Memory>
     requires readable { IsReadable site.now.domain.now site.now.direction site.now.map.now }
     requires points { All (λ t. IsPointOf site.now.domain.now t.point) slots.now }
+    requires few { length ports.old.inputs ≤ 2 ^ 64 }
     ensures ports { OnOk result (ports.new ≡ with_port port site.now.input.now.name site.now.map.now ports.old
         (filter (λ t. is_entered site.now.domain.now site.now.direction t.point) slots.now)) }
     ensures few { OnOk result (length ports.new.inputs ≤ 2 ^ 64) }
 {
+    if slots.is_empty() {
+        return Ok(());
+    }
     let number = ports.inputs.as_slice().len();
     let before = ports.ins.as_slice().len();
     let wire = input_wire(alloc, number)?;
@@ -100,16 +106,16 @@ fn add_port(
     ports.inputs.push(port)
 }
 
-// Whether a cell of the node computes a point of the piece.
-fn has_point(at: &NodePiece, cell: usize) -> bool
+// The computations on a cell of the node that are points of the piece.
+fn own_slots<'s>(at: &'s NodePiece, cell: usize) -> &'s [Slot]
     requires at { IsNodePiece at.now }
     requires low { at.now.first ≤ cell }
     requires high { cell < at.now.last }
-    ensures { result ≡ false → IsOff at.now.layout.now.slots at.now.piece.now.domain cell }
+    ensures { (slots : Items SlotSeen) → slice_get at.now.layout.now.slots cell ≡ Some slots → result.now ≡ filter (λ t. has at.now.piece.now.domain t.point) slots }
 {
-    let used = at.used.as_slice();
+    let own = at.own.as_slice();
     let place = cell - at.first;
-    used[place]
+    own[place].as_slice()
 }
 
 // The ports of a reference to an input, cell by cell.
@@ -127,15 +133,12 @@ fn add_site(
     ensures { OnOk result (ArePortsAt at.now number at.now.last ports.new) }
 {
     for cell in at.first..at.last {
-        if !has_point(at, cell) {
-            continue;
-        }
         let port = InPort {
             cell: cell as u32,
             piece: at.number as u32,
             site: number as u32,
         };
-        let slots = at.layout.slots.as_slice()[cell].as_slice();
+        let slots = own_slots(at, cell);
         add_port(alloc, site, port, slots, ports)?;
     }
     Ok(())
@@ -213,25 +216,26 @@ fn add_tree(
     }
 }
 
-// Of each of these cells of a node, whether it computes a point of a piece of the node.
-fn marks_of(
+// Of each of these cells of a node the computations that are points of a piece of the node.
+fn slots_of_piece(
     alloc: Global,
     layout: &Layout,
     piece: &Piece,
     first: usize,
     last: usize,
-) -> Result<List<bool>, Memory>
+) -> Result<List<List<Slot>>, Memory>
     requires slots { AreOfPiece layout.now.slots piece.now.domain first last }
     requires ordered { first ≤ last }
     requires within { last ≤ length layout.now.slots }
-    ensures { IfOk result (AreMarks layout.now.slots piece.now.domain first last) }
+    ensures { IfOk result (AreOwnSlots layout.now.slots piece.now.domain first last) }
 {
-    let mut marks = List::new(alloc);
+    let mut own = List::new(alloc);
     for cell in first..last {
         let slots = layout.slots.as_slice()[cell].as_slice();
-        marks.push(is_used(slots, piece))?;
+        let part = slots_in(alloc, slots, &piece.domain)?;
+        own.push(part)?;
     }
-    Ok(marks)
+    Ok(own)
 }
 
 // The ports of a node with these cells.
@@ -256,7 +260,7 @@ fn add_node(
 {
     let var = variable_of(&timed.flat, layout.places.as_slice(), node);
     for (number, piece) in var.pieces.as_slice().iter().enumerate() {
-        let used = marks_of(alloc, layout, piece, first, last)?;
+        let own = slots_of_piece(alloc, layout, piece, first, last)?;
         let at = NodePiece {
             timed,
             layout,
@@ -265,7 +269,7 @@ fn add_node(
             number,
             first,
             last,
-            used,
+            own,
         };
         add_tree(alloc, &at, &piece.tree, 0, ports)?;
     }

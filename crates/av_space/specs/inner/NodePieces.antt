@@ -1,5 +1,5 @@
 -- Pieces of nodes with the cells of the node, references to inputs in them, and the ports that are found up to these.
-use Rattle.std.specs.Prelude.{◌≡◌, ℕ, ◌+◌, ◌<◌, ◌≤◌, ◌^◌, Bool, false, IsTrue, List, Some, slice_get, length, All}
+use Rattle.std.specs.Prelude.{◌≡◌, ℕ, ◌+◌, ◌<◌, ◌≤◌, ◌^◌, IsTrue, List, Some, slice_get, length, filter}
 use Rattle.av_flat.specs.declared.timed.Timed.{Timed}
 use Rattle.av_flat.specs.Trees.{Tree, Piece, Variable, FlatSystem, view_piece, view_variable, view_system}
 use Rattle.av_flat.specs.Broadcasts.{references}
@@ -29,14 +29,10 @@ ArePortsAt at j p ports = ArePortsTo (view_system at.timed.now.flat) at.timed.no
 abbrev pub AreOfPiece : List (List Slot) → Set → ℕ → ℕ → Type 0
 AreOfPiece rows set first last = (p : ℕ) (slots : List Slot) → first ≤ p → p < last → slice_get rows p ≡ Some slots → AreOfNode set slots
 
--- no computation on the cell is a point of the set
-abbrev pub IsOff : List (List Slot) → Set → ℕ → Type 0
-IsOff rows set p = (slots : List Slot) → slice_get rows p ≡ Some slots → All (λ t. has set t.point ≡ false) slots
-
--- of each of these cells, whether it computes a point of the set
-pub record AreMarks (rows : List (List Slot)) (set : Set) (first last : ℕ) (marks : List Bool) : Type 0 where
-  pub number : first + length marks ≡ last
-  pub off : (k : ℕ) → slice_get marks k ≡ Some false → IsOff rows set (first + k)
+-- of each of these cells the computations that are points of the set
+pub record AreOwnSlots (rows : List (List Slot)) (set : Set) (first last : ℕ) (own : List (List Slot)) : Type 0 where
+  pub number : first + length own ≡ last
+  pub each : (k : ℕ) (slots some : List Slot) → slice_get rows (first + k) ≡ Some slots → slice_get own k ≡ Some some → some ≡ filter (λ t. has set t.point) slots
 
 pub record IsNodePiece (at : NodePiece) : Type 0 where
   pub legal : IsLegal at.timed.now
@@ -49,7 +45,7 @@ pub record IsNodePiece (at : NodePiece) : Type 0 where
   pub last : IsFirstOf at.layout.now.cells (at.node + 1) at.last
   pub ordered : at.first ≤ at.last
   pub within : at.last ≤ length at.layout.now.cells
-  pub used : AreMarks at.layout.now.slots at.piece.now.domain at.first at.last at.used
+  pub own : AreOwnSlots at.layout.now.slots at.piece.now.domain at.first at.last at.own
 
 -- a part of the piece, whose references have the numbers from j on
 pub record IsPart (at : NodePiece) (j : ℕ) (t : Tree) : Type 0 where

@@ -6,7 +6,7 @@ use Rattle.av_flat.specs.Nodes.{nodes}
 use Rattle.av_flat.specs.Trees.{view_piece, view_variable, view_system}
 use Rattle.av_space.specs.declared.ports.NodePiece.{NodePiece}
 use Rattle.av_space.proofs.ByPlace.{read_at}
-use Rattle.av_space.proofs.CellMarks.{are_of_piece}
+use Rattle.av_space.proofs.OwnSlots.{are_of_piece}
 use Rattle.av_space.proofs.Fed.{next_node}
 use Rattle.av_space.proofs.OnCells.{node_in_places}
 use Rattle.av_space.proofs.NodeParts.{piece_below, node_piece_is, piece_part, piece_passed}
@@ -18,8 +18,8 @@ variable_of-var-requires-clause-within c =
     node_in_places (view_system c.args.timed.now.flat) c.as_slice.result.now c.args.node (c.as_slice.ensures ∙ c.requires.layout.places)
     (slice_get_within (nodes (view_system c.args.timed.now.flat)) c.args.node c.requires.small.variable c.requires.small.is_variable)
 
-pub marks_of-requires-clause-slots : goal.marks_of-requires-clause-slots
-marks_of-requires-clause-slots c =
+pub slots_of_piece-requires-clause-slots : goal.slots_of_piece-requires-clause-slots
+slots_of_piece-requires-clause-slots c =
     let t = c.args.timed.now in
     let l = c.args.layout.now in
     let r = c.requires in
@@ -30,20 +30,20 @@ marks_of-requires-clause-slots c =
     let here = get_mapped view_piece v.pieces k piece (read_at v.pieces c.as_slice-piece-items.result.now k piece c.as_slice-piece-items.ensures lt c.piece-item.is) in
     are_of_piece t l c.args.node k c.args.first c.args.last (view_variable v) (view_piece piece) r.legal r.layout c.variable_of-var.ensures here r.first r.last r.within
 
-pub marks_of-requires-clause-within : goal.marks_of-requires-clause-within
-marks_of-requires-clause-within c = let within = c.requires.within in let one_each = c.requires.layout.one_each in omega (arith, within, one_each)
+pub slots_of_piece-requires-clause-within : goal.slots_of_piece-requires-clause-within
+slots_of_piece-requires-clause-within c = let within = c.requires.within in let one_each = c.requires.layout.one_each in omega (arith, within, one_each)
 
 pub add_tree-requires-clause-at : goal.add_tree-requires-clause-at
 add_tree-requires-clause-at c =
     let r = c.requires in
     let l : c.loop-number.number < length c.as_slice-piece-items.result.now = search rules in
-    node_piece_is _ c.variable_of-var.result.now c.as_slice-piece-items.result.now r.legal r.layout r.small c.variable_of-var.ensures c.as_slice-piece-items.ensures l c.piece-item.is r.first r.last r.ordered r.within c.in_ok-used.ensures
+    node_piece_is _ c.variable_of-var.result.now c.as_slice-piece-items.result.now r.legal r.layout r.small c.variable_of-var.ensures c.as_slice-piece-items.ensures l c.piece-item.is r.first r.last r.ordered r.within c.in_ok-own.ensures
 
 pub add_tree-requires-clause-part : goal.add_tree-requires-clause-part
 add_tree-requires-clause-part c =
     let r = c.requires in
     let l : c.loop-number.number < length c.as_slice-piece-items.result.now = search rules in
-    piece_part _ (node_piece_is _ c.variable_of-var.result.now c.as_slice-piece-items.result.now r.legal r.layout r.small c.variable_of-var.ensures c.as_slice-piece-items.ensures l c.piece-item.is r.first r.last r.ordered r.within c.in_ok-used.ensures) r.small
+    piece_part _ (node_piece_is _ c.variable_of-var.result.now c.as_slice-piece-items.result.now r.legal r.layout r.small c.variable_of-var.ensures c.as_slice-piece-items.ensures l c.piece-item.is r.first r.last r.ordered r.within c.in_ok-own.ensures) r.small
 
 pub loop-number-preserved : goal.loop-number-preserved
 loop-number-preserved c =
@@ -57,9 +57,9 @@ loop-number-preserved c =
       number = c.loop-number.number;
       first = c.args.first;
       last = c.args.last;
-      used = c.in_ok-used.used;
+      own = c.in_ok-own.own;
     } in
-    piece_passed at (node_piece_is at c.variable_of-var.result.now c.as_slice-piece-items.result.now r.legal r.layout r.small c.variable_of-var.ensures c.as_slice-piece-items.ensures l c.piece-item.is r.first r.last r.ordered r.within c.in_ok-used.ensures)
+    piece_passed at (node_piece_is at c.variable_of-var.result.now c.as_slice-piece-items.result.now r.legal r.layout r.small c.variable_of-var.ensures c.as_slice-piece-items.ensures l c.piece-item.is r.first r.last r.ordered r.within c.in_ok-own.ensures)
     c.in_ok-add_tree.field-0 c.add_tree.new.ports c.in_ok-add_tree.ensures.0 c.in_ok-add_tree.ensures.1
 
 pub returns : goal.returns
