@@ -1,5 +1,5 @@
 -- Computations on a cell, which stand in turn on a line, and sets that have none of them.
-use Rattle.std.proofs.Common.{◌≡◌, ◌∙◌, ℕ, ◌-◌, ◌<◌, ◌≤◌, ℤ, pos, ◌-ℤ◌, ◌≤ℤ◌, Bool, true, false, true≢false, IsTrue, Some, List, [], ◌∷◌, length, map, refl, sym, ap, subst, arith, All, Any}
+use Rattle.std.proofs.Common.{◌≡◌, ◌∙◌, ℕ, ◌-◌, ◌≤◌, ℤ, pos, ◌-ℤ◌, ◌≤ℤ◌, Bool, true, false, true≢false, IsTrue, Some, List, [], ◌∷◌, length, map, refl, sym, ap, subst, arith, All, Any}
 use Rattle.std.specs.Prelude.{slice_get, filter}
 use Rattle.std.proofs.lemmas.Int.{ints}
 use Rattle.std.proofs.lemmas.List.Elements.{All-head, All-tail, All-weaker}

@@ -32,7 +32,6 @@ use Rattle.av_space.specs.Taps.{node_of, node_place, helper_at, Handing}
 use Rattle.av_space.specs.inner.Feeding.{direction_of, is_entered, with_port, StandAt}
 use Rattle.av_space.specs.inner.NodePieces.{IsNodePiece, IsPart, IsInputSite, ArePortsAt}
 use Rattle.av_space.proofs.OwnSlots.{entered_twice}
-use Rattle.av_space.proofs.ByPlace.{read_at}
 use Rattle.av_space.proofs.Directions.{first_step}
 use Rattle.av_space.proofs.Fed.{IsSiteOn, next_cell, node_of_port, same_reference}
 use Rattle.av_space.proofs.FirstCells.{node_between}

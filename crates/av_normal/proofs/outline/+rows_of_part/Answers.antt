@@ -11,7 +11,7 @@ use Rattle.av_normal.specs.inner.PieceByNumber.{AreRowsAt}
 use Rattle.av_normal.proofs.Outcomes.{on_ok, if_ok}
 use Rattle.av_normal.proofs.Reading.{fits_read}
 use Rattle.av_normal.proofs.Depths.{less_deep, right_falls, first_falls, second_falls, third_falls, fourth_falls}
-use Rattle.av_normal.proofs.PieceByNumber.{case_readable, case_has_part, has_left, has_right, has_one, has_two, has_three, has_four, next_branch_left, one_branch_more, leaf_rows, reduction_rows, restriction_rows, binary_rows, choice_rows, branch_rows}
+use Rattle.av_normal.proofs.PieceByNumber.{case_readable, case_has_part, has_right, has_one, has_two, has_three, has_four, next_branch_left, one_branch_more, leaf_rows, reduction_rows, restriction_rows, binary_rows, choice_rows, branch_rows}
 use Rattle.av_base.proofs.Lists.{nothing_left}
 use Rattle.av_normal.proofs.outline.+rows_of_part.Goals as goal
 

@@ -1,4 +1,4 @@
-use Rattle.std.proofs.Common.{◌≡◌, ◌∙◌, [], List, Bool, ap}
+use Rattle.std.proofs.Common.{◌∙◌, [], List, Bool, ap}
 use Rattle.av_affine.specs.declared.form.Form.{Form}
 use Rattle.av_flat.specs.Trees.{view}
 use Rattle.av_normal.specs.inner.Sketches.{sketches, side_by_side}

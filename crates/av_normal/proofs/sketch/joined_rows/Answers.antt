@@ -1,9 +1,9 @@
-use Rattle.std.proofs.Common.{◌≡◌, ◌∙◌, ◌∷◌, ◌++◌, [], List, Bool, false, ap, subst, sym, All}
+use Rattle.std.proofs.Common.{◌∙◌, ◌∷◌, ◌++◌, [], List, Bool, false, ap, subst, sym, All}
 use Rattle.std.proofs.lemmas.List.Elements.{All-append}
 use Rattle.av_affine.specs.declared.form.Form.{Form}
 use Rattle.av_poly.specs.Points.{IsSmall}
 use Rattle.av_flat.specs.Trees.{view}
-use Rattle.av_normal.specs.inner.Sketches.{sketches, side_by_side, IsSketch}
+use Rattle.av_normal.specs.inner.Sketches.{sketches, side_by_side}
 use Rattle.av_normal.proofs.Outcomes.{if_ok}
 use Rattle.av_normal.proofs.sketch.joined_rows.Goals as goal
 

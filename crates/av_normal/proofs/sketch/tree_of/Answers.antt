@@ -1,4 +1,4 @@
-use Rattle.std.proofs.Common.{◌∙◌, ap, refl}
+use Rattle.std.proofs.Common.{ap, refl}
 use Rattle.av_flat.specs.Trees.{view}
 use Rattle.av_normal.proofs.Sketches.{restricted_sketch, restricted_readable}
 use Rattle.av_normal.proofs.sketch.tree_of.Goals as goal

@@ -1,4 +1,4 @@
-use Rattle.std.proofs.Common.{◌≡◌, ◌∙◌, List, Some, refl, sym, ap}
+use Rattle.std.proofs.Common.{◌∙◌, List, Some, refl, sym, ap}
 use Rattle.av_space.specs.declared.layout.Slot.{Slot}
 use Rattle.av_space.proofs.ByPlace.{read_at}
 use Rattle.av_space.proofs.linking.slots_at.Goals as goal

@@ -1,4 +1,4 @@
-use Rattle.std.proofs.Common.{rules, ◌≡◌, ◌≤◌, ◌+◌, List, ℕ, length, sym, subst, arith}
+use Rattle.std.proofs.Common.{rules, ◌≡◌, ◌≤◌, ◌+◌, List, ℕ, sym, subst, arith}
 use Rattle.av_tree.specs.Trees.{Text}
 use Rattle.av_space.specs.inner.Showing.{AreWires}
 use Rattle.av_space.proofs.ShownLines.{no_wires, wire_more}
