@@ -47,7 +47,7 @@ pieces_of_consumer t l p n v slots legal layout is k piece is_piece =
 -- ---- lists that are filtered twice
 
 filter_twice : {X : Type 0} (p q : X → Bool) → ((x : X) → q x ≡ false → p x ≡ false) → (xs : List X) → filter p (filter q xs) ≡ filter p xs
-filter_twice p q h [] = refl
+filter_twice {X} p q h [] = refl
 filter_twice {X} p q h (x ∷ xs) = go (q x) refl (filter_twice p q h xs)
   where
     go : (b : Bool) → q x ≡ b → filter p (filter q xs) ≡ filter p xs → filter p (if b then x ∷ filter q xs else filter q xs) ≡ (if p x then x ∷ filter p xs else filter p xs)

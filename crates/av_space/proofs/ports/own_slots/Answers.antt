@@ -17,4 +17,4 @@ returns c = λ slots is.
     let at = c.args.at.now in
     let part = c.index-own-place.result in
     let read = read_at at.own c.as_slice-own.result.now (c.args.cell - at.first) part c.as_slice-own.ensures (bounds-own-place c) c.index-own-place.is in
-    c.as_slice-2.ensures ∙ own_at at.layout.now.slots at.piece.now.domain at.first at.last c.args.cell at.own slots part c.requires.at.own c.requires.low is read
+    c.as_slice.ensures ∙ own_at at.layout.now.slots at.piece.now.domain at.first at.last c.args.cell at.own slots part c.requires.at.own c.requires.low is read
