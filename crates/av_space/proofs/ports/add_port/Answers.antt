@@ -1,5 +1,6 @@
 use Rattle.std.proofs.Common.{rules, ◌≡◌, ◌∙◌, List, [], length, refl, sym, ap, subst}
 use Rattle.std.specs.Prelude.{filter}
+use Rattle.std.proofs.lemmas.List.{nil_from_length}
 use Rattle.std.proofs.lemmas.Result.{on_ok_weaker}
 use Rattle.av_net.specs.declared.design.Entry.{Entry}
 use Rattle.av_space.specs.declared.cells.InPort.{InPort}
@@ -12,7 +13,8 @@ use Rattle.av_space.proofs.ports.add_port.Goals as goal
 pub returns-then-is_empty-clause-ports : goal.returns-then-is_empty-clause-ports
 returns-then-is_empty-clause-ports c =
     let site = c.args.site.now in
-    let none : c.args.slots.now ≡ [] = search rules in
+    let size : length c.args.slots.now ≡ 0 = search rules in
+    let none = nil_from_length c.args.slots.now size in
     subst (λ (slots : List Slot). c.args.ports.now ≡ with_port c.args.port site.input.now.name site.map.now c.args.ports.now (filter (λ (t : Slot). is_entered site.domain.now site.direction t.point) slots)) (sym none) refl
 
 pub returns-then-after-before-clause-ports : goal.returns-then-after-before-clause-ports
