@@ -33,7 +33,7 @@ slots_of_pieces-requires c =
 pub cell_stretches-requires-clause-own : goal.cell_stretches-requires-clause-own
 cell_stretches-requires-clause-own c =
     let x = c.consumer_at-consumer.result in
-    subst (λ (own : List (List Slot)). AreOwn (view_variable x.var.now) x.slots.now own) (sym c.as_slice-2.ensures) c.in_ok-slots.ensures
+    subst (λ (own : List (List Slot)). AreOwn (view_variable x.var.now) x.slots.now own) (sym c.as_slice-in-loop-number.ensures) c.in_ok-slots.ensures
 
 pub loop-number-preserved : goal.loop-number-preserved
 loop-number-preserved c =
