@@ -1,5 +1,6 @@
 -- The plan of the modules of an array's program is what is promised of plans of arrays.
-use Rattle.std.proofs.Common.{◌≡◌, ℕ, List, map, ap, ◌∙◌}
+use Rattle.std.proofs.Common.{◌≡◌, ℕ, List, map, ap, ◌∙◌, Result, Ok, Err}
+use Rattle.std.specs.Prelude.{IfOk}
 use Rattle.av_flat.specs.declared.timed.Timed.{Timed}
 use Rattle.av_flat.specs.Legal.{IsLegal}
 use Rattle.av_net.specs.declared.plan.Plan.{Plan}
@@ -55,3 +56,9 @@ module _ (t : Timed) (a : Cells) (legal : IsLegal t) (within : (f : SpaceFault) 
 
   pub counting_plan : IsCountingPlan t a counter plan
   counting_plan = record { is_plan = is_plan; shows = shown t a legal counter program g m netlists }
+
+-- the same of modules that may not have been made
+pub counting_plans : {E : Type 0} (t : Timed) (a : Cells) → IsLegal t → ((f : SpaceFault) → IsSpaceFault t f → f ≡ fault.Memory) → (counter : Counter) (program : Program) → IsProgrammed t a counter program
+    → (r : Result Modules E) → IfOk r (AreNetlistsOf counter program) → IfOk r (AreFormedBy counter program) → IfOk r (λ m. IsCountingPlan t a counter (plan_of a.listing m))
+counting_plans t a legal within counter program g (Ok m) netlists formed = counting_plan t a legal within counter program g m netlists formed
+counting_plans t a legal within counter program g (Err e) netlists formed = netlists

@@ -3,18 +3,19 @@ ghost use Rattle.av_flat.specs.Legal.{IsLegal};
 ghost use Rattle.av_space.specs.declared.fault.SpaceFault.{SpaceFault as Fault};
 ghost use Rattle.av_space.specs.declared.fault.SpaceFault.TheVariants as fault;
 ghost use Rattle.av_space.specs.SpaceFaults.{IsSpaceFault};
+ghost use Rattle.av_space.specs.Layouts.{IsLayout};
 ghost use Rattle.av_space.specs.Whole.{IsWhole};
 ghost use Rattle.av_kinds.specs.Counters.{IsCounter};
 ghost use Rattle.av_kinds.specs.Netlists.{plan_of};
 ghost use Rattle.av_build.specs.ArrayPlans.{IsPlanOf, IsWithinCount, IsCountingPlan};
 
 use crate::listing::copied_listing;
-use crate::programming::program;
+use crate::programming::{program, program_of_layout};
 use av_base::Memory;
 use av_flat::Timed;
 use av_kinds::{Counter, Modules, modules_of};
 use av_net::Plan;
-use av_space::Cells;
+use av_space::{Cells, Layout};
 use std::alloc::Global;
 
 /// The modules of an array whose cells choose by this counter: its kinds, and a top module named `array` with an instance for each cell.
@@ -56,6 +57,25 @@ pub fn modules(alloc: Global, timed: &Timed, cells: &Cells) -> Result<Modules, M
     ensures { IfOk result (λ made. IsPlanOf timed.now cells.now (plan_of cells.now.listing made)) }
 {
     counting_modules(alloc, timed, cells, Counter::Cycles)
+}
+
+/// What `modules` makes, from the layout that the cells were mapped from.
+pub fn modules_of_layout(
+    alloc: Global,
+    timed: &Timed,
+    cells: &Cells,
+    layout: Layout,
+) -> Result<Modules, Memory>
+    requires legal { IsLegal timed.now }
+
+    // The cells are those that the mapping gives for the system.
+    requires whole { IsWhole timed.now cells.now }
+    requires layout { IsLayout timed.now layout }
+    requires within { (f : Fault) → IsSpaceFault timed.now f → f ≡ fault.Memory }
+    ensures { IfOk result (λ made. IsPlanOf timed.now cells.now (plan_of cells.now.listing made)) }
+{
+    let program = program_of_layout(alloc, timed, cells, layout, Counter::Cycles)?;
+    modules_of(alloc, Counter::Cycles, &program)
 }
 
 // The plan of an array's modules, with a copy of the listing.

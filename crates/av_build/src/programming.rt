@@ -5,7 +5,8 @@ ghost use Rattle.av_flat.specs.Legal.{IsLegal};
 ghost use Rattle.av_space.specs.declared.fault.SpaceFault.{SpaceFault as Fault};
 ghost use Rattle.av_space.specs.declared.fault.SpaceFault.TheVariants as fault;
 ghost use Rattle.av_space.specs.SpaceFaults.{IsSpaceFault};
-ghost use Rattle.av_space.specs.Spots.{helpers_of, cells_of};
+ghost use Rattle.av_space.specs.Layouts.{IsLayout};
+ghost use Rattle.av_space.specs.Spots.{helpers_of, cells_of, IsArray};
 ghost use Rattle.av_space.specs.Whole.{IsWhole};
 ghost use Rattle.av_kinds.specs.Counters.{IsCounter, count_in};
 ghost use Rattle.av_kinds.specs.Written.{work_of, mode_of, lane_of, program_of};
@@ -25,7 +26,7 @@ use crate::spots::planned_spot;
 use av_base::{List, Memory};
 use av_flat::{Flat, Timed};
 use av_kinds::{CellLanes, Counter, Inlet, Lane, Mode, Program, Site as ProgramSite, Source, Work};
-use av_space::{Array, Cells, Site, Spot};
+use av_space::{Array, Cells, Layout, Site, Spot};
 use std::alloc::Global;
 
 impl<'a> Blueprint<'a> {
@@ -250,6 +251,27 @@ fn from_blueprint<'a>(
     })
 }
 
+// The program of an array.
+fn program_of_array<'a>(
+    alloc: Global,
+    timed: &'a Timed,
+    cells: &'a Cells,
+    array: Array<'a>,
+    counter: Counter,
+) -> Result<Program<'a>, Memory>
+    requires array { IsArray array }
+    requires timed { array.timed.now ≡ timed.now }
+    requires cells { array.cells.now ≡ cells.now }
+    requires within { (f : Fault) → IsSpaceFault timed.now f → f ≡ fault.Memory }
+    requires counter { IsCounter counter }
+    requires apart { IsWithinCount timed.now cells.now counter }
+    ensures { IfOk result (λ program. IsProgrammed timed.now cells.now counter (program_of program)) }
+{
+    prove!(timed.helpers.len() <= 1 << 30);
+    let blueprint = plan_lanes(alloc, array, cells.cells.as_slice().len())?;
+    from_blueprint(alloc, timed, cells, counter, &blueprint)
+}
+
 /// The program of the array that `map` gives for a timed system.
 pub(crate) fn program<'a>(
     alloc: Global,
@@ -264,8 +286,26 @@ pub(crate) fn program<'a>(
     requires apart { IsWithinCount timed.now cells.now counter }
     ensures { IfOk result (λ program. IsProgrammed timed.now cells.now counter (program_of program)) }
 {
-    prove!(timed.helpers.len() <= 1 << 30);
     let array = Array::new(alloc, timed, cells)?;
-    let blueprint = plan_lanes(alloc, array, cells.cells.as_slice().len())?;
-    from_blueprint(alloc, timed, cells, counter, &blueprint)
+    program_of_array(alloc, timed, cells, array, counter)
+}
+
+/// The same program from a layout that is at hand.
+pub(crate) fn program_of_layout<'a>(
+    alloc: Global,
+    timed: &'a Timed,
+    cells: &'a Cells,
+    layout: Layout,
+    counter: Counter,
+) -> Result<Program<'a>, Memory>
+    requires legal { IsLegal timed.now }
+    requires whole { IsWhole timed.now cells.now }
+    requires layout { IsLayout timed.now layout }
+    requires within { (f : Fault) → IsSpaceFault timed.now f → f ≡ fault.Memory }
+    requires counter { IsCounter counter }
+    requires apart { IsWithinCount timed.now cells.now counter }
+    ensures { IfOk result (λ program. IsProgrammed timed.now cells.now counter (program_of program)) }
+{
+    let array = Array::with_layout(alloc, timed, cells, layout)?;
+    program_of_array(alloc, timed, cells, array, counter)
 }

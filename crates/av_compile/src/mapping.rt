@@ -1,6 +1,7 @@
 ghost use Rattle.std.specs.Prelude.{◌≡◌, ◌≢◌, ◌<◌, ◌⊎◌, length, IfOk, IfErr, OnOk, Err};
 ghost use Rattle.av_flat.specs.declared.timed.Timed.{Timed as System};
 ghost use Rattle.av_names.specs.Texts.{AreSmall};
+ghost use Rattle.av_space.specs.Layouts.{IsLayout};
 ghost use Rattle.av_compile.specs.Scheduled.{HasOneSolutionEach};
 ghost use Rattle.av_compile.specs.Mapped.{IsPipelined, HasArray, IsMapped, IsUnmapped};
 ghost use Rattle.av_compile.specs.declared.refusal.Refusal.{Refusal as Refused};
@@ -12,7 +13,7 @@ use av_base::Width;
 use av_flat::{Pass, Reach, Timed};
 use av_names::Size;
 use av_pipe::Pipe;
-use av_space::{Cells, map};
+use av_space::{Cells, Layout, lay_out, map_layout};
 use std::alloc::Global;
 
 /// A scheduled system with its pipelines, and its array.
@@ -20,6 +21,41 @@ use std::alloc::Global;
 pub struct Array {
     pub timed: Timed,
     pub cells: Cells,
+}
+
+// The same with the layout that the cells were mapped from.
+#[derive(Drop)]
+pub(crate) struct LaidOut {
+    pub(crate) timed: Timed,
+    pub(crate) cells: Cells,
+    pub(crate) layout: Layout,
+}
+
+/// What `mapped` gives, with the layout for those who build from the array.
+pub(crate) fn mapped_with_layout(
+    alloc: Global,
+    bytes: &[u8],
+    sizes: &[Size],
+    width: Width,
+    reach: Reach,
+) -> Result<LaidOut, Refusal>
+    requires short { length bytes.now < 4294967295 }
+    requires small { AreSmall sizes.now }
+    ensures found { IfOk result (λ to. IsMapped bytes.now sizes.now width.bits reach.size to.timed to.cells) }
+    ensures layout { IfOk result (λ to. IsLayout to.timed to.layout) }
+    ensures one_solution { OnOk result (HasOneSolutionEach bytes.now sizes.now width.bits) }
+    ensures refused { (f : Refused) → result ≡ Err f → f ≢ refusal.Memory → IsUnmapped bytes.now sizes.now width.bits reach.size f }
+    ensures complete { (t : System) → IsPipelined bytes.now sizes.now width.bits reach.size t → HasArray t → IfErr result (λ f. f ≡ refusal.Memory) }
+{
+    let found = scheduled(alloc, bytes, sizes, width, reach)?;
+    let timed = Pipe.run(alloc, &found)?;
+    let layout = lay_out(alloc, &timed)?;
+    let cells = map_layout(alloc, &timed, &layout)?;
+    Ok(LaidOut {
+        timed,
+        cells,
+        layout,
+    })
 }
 
 /// The array of the system that a text spells, with its sizes, in words of this width: by its first schedule in the box.
@@ -52,8 +88,9 @@ pub fn mapped(
     // A system with a first schedule, whose array is within the limits, is not refused.
     ensures complete { (t : System) → IsPipelined bytes.now sizes.now width.bits reach.size t → HasArray t → IfErr result (λ f. f ≡ refusal.Memory) }
 {
-    let found = scheduled(alloc, bytes, sizes, width, reach)?;
-    let timed = Pipe.run(alloc, &found)?;
-    let cells = map(alloc, &timed)?;
-    Ok(Array { timed, cells })
+    let found = mapped_with_layout(alloc, bytes, sizes, width, reach)?;
+    Ok(Array {
+        timed: found.timed,
+        cells: found.cells,
+    })
 }

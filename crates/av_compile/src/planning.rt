@@ -8,9 +8,9 @@ ghost use Rattle.av_compile.specs.declared.refusal.Refusal.{Refusal as Refused};
 ghost use Rattle.av_compile.specs.declared.refusal.Refusal.TheVariants as refusal;
 
 use crate::Refusal;
-use crate::mapping::{Array, mapped};
+use crate::mapping::{LaidOut, mapped_with_layout};
 use av_base::Width;
-use av_build::{Modules, modules};
+use av_build::{Modules, modules_of_layout};
 use av_flat::Reach;
 use av_names::Size;
 use av_net::{Listing, Plan};
@@ -55,7 +55,11 @@ pub fn planned(
     // A system with a first schedule, whose array is within the limits, is not refused.
     ensures complete { (t : System) → IsPipelined bytes.now sizes.now width.bits reach.size t → HasArray t → IfErr result (λ f. f ≡ refusal.Memory) }
 {
-    let Array { timed, cells } = mapped(alloc, bytes, sizes, width, reach)?;
-    let modules = modules(alloc, &timed, &cells)?;
+    let LaidOut {
+        timed,
+        cells,
+        layout,
+    } = mapped_with_layout(alloc, bytes, sizes, width, reach)?;
+    let modules = modules_of_layout(alloc, &timed, &cells, layout)?;
     Ok(with_listing(cells.listing, modules))
 }

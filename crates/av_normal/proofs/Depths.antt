@@ -1,6 +1,6 @@
 -- The parts of a tree are smaller than the tree.
-use Rattle.std.proofs.Common.{◌≡◌, ℕ, ◌<◌, ◌+◌, ◌*◌, List, Box, Global, ap, arith}
-use denote.Param.Weighed.{most}
+use Rattle.std.proofs.Common.{◌≡◌, ℕ, ◌<◌, ◌+◌, ◌*◌, List, length, get_or, Box, Global, ap, arith}
+use denote.Param.Weighed.{most, at_most}
 use Rattle.av_base.specs.declared.word.Op.{Op}
 use Rattle.av_affine.specs.declared.map.Map.{Map}
 use Rattle.av_poly.specs.Points.{Set}
@@ -17,6 +17,9 @@ less_deep t u ts slice is same d =
     let f = ap the_size is in
     let g = ap (λ xs. most (λ x. the_size x) xs) same in
     omega (arith, d, f, g, sized-Case ts)
+
+pub branch_falls : (t : ℕ) (ts : List TreeMade) (i : ℕ) (x : TreeMade) → 2 * most (λ x. the_size x) ts + 1 ≡ t → i < length ts → x ≡ get_or ts i x → 2 * the_size x + 0 < t
+branch_falls t ts i x d l e = let m = at_most (λ x. the_size x) ts i x l in let f = ap the_size e in omega (arith, d, m, f)
 
 -- and any tree than each part of it
 abbrev Boxed : Type 0

@@ -16,7 +16,7 @@ use Rattle.av_flat.specs.Pieces.{Part, rows_of, parts}
 use Rattle.av_flat.specs.Quantities.{of_map, steps_under, composed_maps, composed_maps_of_all}
 use Rattle.av_normal.specs.Searches.{AreNarrow}
 use Rattle.av_normal.specs.inner.Counted.{pieces_counted, IsOfFew, HasFew}
-use Rattle.av_normal.specs.inner.UnderMaps.{LeadsTo, AreChained, StandsUnder, StandUnder, FitsUnder, IsReadable, AreReadable}
+use Rattle.av_normal.specs.inner.UnderMaps.{LeadsTo, AreChained, StandsUnder, StandUnder, FitsUnder, IsSmallUnder, IsReadable, AreReadable}
 use Rattle.av_normal.specs.inner.ReductionSets.{IsFillable}
 use Rattle.av_normal.specs.inner.Making.{maps_measured, held_parts, IsParted}
 use Rattle.av_normal.proofs.Searching.{narrow_first, narrow_second}
@@ -43,6 +43,10 @@ leads_to m n (d ∷ ds) e l = e ∙ l
 fits_under : (d : Set) (n : ℕ) (ds : List Map) → d.dim ≡ n → Leads n ds → FitsUnder ds d
 fits_under d n [] e l = tt
 fits_under d n (m ∷ ds) e l = sym (e ∙ l)
+
+small_rows_under : (d : Set) (ds : List Map) → All IsWithinLimits d.rows → IsSmallUnder ds d
+small_rows_under d [] h = tt
+small_rows_under d (m ∷ ds) h = h
 
 mutual
   stands_under : (vs : List Signature) (n : ℕ) (ds : List Map) (t : Tree) → Fits vs n t → EachPart HasSmallRows t → AreChained ds → Leads n ds → StandsUnder ds t
@@ -90,7 +94,7 @@ mutual
         readable vs n ds y v f.3 s.4 p.4 c l (narrow_second of_map (composed_maps ds a ++ composed_maps ds r ++ composed_maps ds x) (composed_maps ds y) w),
       )
   readable vs n ds (restriction d t) v f s p c l w = (
-    record { chained = c; narrow = narrow_first of_map (steps_under ds) (composed_maps ds t) w; fits = fits_under d n ds f.0 l; rows = s.0 },
+    record { chained = c; narrow = narrow_first of_map (steps_under ds) (composed_maps ds t) w; fits = fits_under d n ds f.0 l; rows = small_rows_under d ds s.0 },
     readable vs n ds t v f.1 s.1 p.1 c l (narrow_second of_map (steps_under ds) (composed_maps ds t) w),
   )
   readable vs n ds (cases ts) v f s p c l w = all_readable vs n ds ts v f s.1 p.1 c l w

@@ -1,24 +1,26 @@
 -- The part of a tree with a number, made from parts of what the tree is made from.
-use Rattle.std.proofs.Common.{◌≡◌, ℕ, zero, suc, ◌+◌, ◌-◌, ◌*◌, ◌/◌, ◌%◌, ◌^◌, ◌<◌, ◌≤◌, min, List, [], ◌∷◌, ◌++◌, map, length, drop, get_or, refl, sym, ap, ap₂, subst, arith, ◌∙◌}
+use Rattle.std.proofs.Common.{◌≡◌, ℕ, zero, suc, ◌+◌, ◌-◌, ◌*◌, ◌/◌, ◌%◌, ◌^◌, ◌<◌, ◌≤◌, min, Bool, true, false, ◌||◌, List, [], ◌∷◌, ◌++◌, map, length, drop, get_or, slice_get, refl, sym, ap, ap₂, subst, arith, ◌∙◌}
 use Rattle.std.proofs.Math.Nat.{min-eq_left, mul_assoc}
 use Rattle.std.proofs.lemmas.List.{append_assoc, append-nil}
 use Rattle.av_base.specs.declared.word.Op.{Op}
 use Rattle.av_affine.specs.declared.form.Form.{Form}
 use Rattle.av_affine.specs.declared.map.Map.{Map}
 use Rattle.av_poly.specs.Points.{Set}
+use Rattle.av_poly.specs.Preimages.{rows_before}
 use Rattle.av_tree.specs.declared.relation.Relation.{Relation}
 use Rattle.av_tree.specs.declared.sign.Sign.{Sign}
 use Rattle.av_flat.specs.declared.tree.Tree.{Tree as TreeMade}
 use Rattle.av_flat.specs.declared.tree.Tree.TheVariants as made
-use Rattle.av_flat.specs.Trees.{Tree, Trees, binary, choice, restriction, cases, reduction, more, trees_of, view}
+use Rattle.av_flat.specs.Trees.{Tree, Trees, reference, binary, choice, restriction, cases, reduction, more, trees_of, view}
 use Rattle.av_flat.specs.Signatures.{Signature}
-use Rattle.av_flat.specs.Pieces.{Part, part, rows_under, parts, parts_of_all}
+use Rattle.av_flat.specs.Pieces.{Part, part, composed, rows_of, rows_under, parts, parts_of_all}
 use Rattle.av_flat.specs.Quantities.{piece_count, piece_count_of_all}
 use Rattle.av_flat.proofs.Parts.{length_parts}
 use Rattle.av_flat.proofs.Views.{view_case}
 use Rattle.av_normal.specs.inner.Numbered.{part_at}
 use Rattle.av_normal.specs.inner.UnderMaps.{IsReadable, AreReadable}
-use Rattle.av_normal.specs.inner.PieceByNumber.{HasPart, IsPartAt, AreShares, AreFourNumbers, AreLeft}
+use Rattle.av_normal.specs.inner.ReductionSets.{has_reduction}
+use Rattle.av_normal.specs.inner.PieceByNumber.{HasPart, IsPartAt, AreRowsAt, AreShares, AreFourNumbers, AreLeft}
 use Rattle.av_normal.proofs.Numbering.{at_first, at_second, at_map, at_pairs, at_fours, AreBelow, below}
 use Rattle.av_base.proofs.Lists.{next_item}
 
@@ -222,6 +224,60 @@ module _ (vs : List Signature) (ds : List Map) where
               ∙ ap (λ (p : Part). p.tree) is,
         )
 
+  -- ---- rows alone
+
+  -- the part whose rows they are
+  part_of_rows : (t : Tree) (number : ℕ) (old new : List Form) (folds : Bool) → AreRowsAt vs ds t number old new folds → IsPartAt vs ds t number old new (chosen t number).tree
+  part_of_rows t number old new folds h less few = ((h less few).0, refl)
+
+  pub leaf_rows : (t : Tree) (number : ℕ) (old : List Form) → parts vs ds t ≡ part [] t ∷ [] → piece_count t ≡ 1 → false ≡ has_reduction t → AreRowsAt vs ds t number old old false
+  leaf_rows t number old is one e less few = let p = leaf_part t t number old is one refl less few in (p.0, e ∙ ap has_reduction p.1)
+
+  pub reference_rows : (place : ℕ) (m : Map) (number : ℕ) (old new : List Form) → new ≡ old ++ rows_before (composed m ds) (rows_of (slice_get vs place)) → AreRowsAt vs ds (reference place m) number old new false
+  reference_rows place m number old new e less few =
+      let whole = part (rows_before (composed m ds) (rows_of (slice_get vs place))) (reference place (composed m ds)) in
+      let is = sym (at_alone whole number less) in
+      (e ∙ ap (λ (p : Part). old ++ p.rows) is, ap (λ (p : Part). has_reduction p.tree) is)
+
+  pub reduction_rows : (o : Op) (m : Map) (t : Tree) (set : Set) (number : ℕ) (old : List Form) → AreRowsAt vs ds (reduction o m t set) number old old true
+  reduction_rows o m t set number old less few =
+      let body = part_at (parts vs [] t) 0 in
+      let alone = alone_part (reduction o m body.tree (record { dim = m.from; rows = set.rows ++ body.rows })) number old less in
+      (alone.0, ap has_reduction alone.1)
+
+  pub restriction_rows : (d : Set) (t : Tree) (number : ℕ) (old mid new : List Form) (folds : Bool) → mid ≡ old ++ rows_under ds d.rows → AreRowsAt vs ds t number mid new folds
+      → AreRowsAt vs ds (restriction d t) number old new folds
+  restriction_rows d t number old mid new folds e h less few =
+      let p = restriction_part d t number old mid new (chosen t number).tree e (part_of_rows t number mid new folds h) less few in
+      (p.0, (h less few).1 ∙ ap has_reduction p.1)
+
+  pub binary_rows : (s : Sign) (l r : Tree) (number first second : ℕ) (old mid new : List Form) (a b : Bool)
+      → (0 < piece_count r → piece_count r ≤ 256 → (first ≡ number / piece_count r) × (second ≡ number % piece_count r))
+      → AreRowsAt vs ds l first old mid a → AreRowsAt vs ds r second mid new b
+      → AreRowsAt vs ds (binary s l r) number old new (a || b)
+  binary_rows s l r number first second old mid new a b shares h k less few =
+      let p = binary_part s l r number first second old mid new (chosen l first).tree (chosen r second).tree shares (part_of_rows l first old mid a h) (part_of_rows r second mid new b k) less few in
+      let f = has_left s l r number first second shares (less, few) in
+      let g = has_right s l r number first second shares (less, few) in
+      (p.0, ap₂ (λ (v w : Bool). v || w) (h f.0 f.1).1 (k g.0 g.1).1 ∙ ap has_reduction p.1)
+
+  module _ (c : Relation) (l r x y : Tree) (number one two three four : ℕ) where
+    pub choice_rows : (old a b d new : List Form) (t u v w : Bool)
+        → (0 < piece_count r * (piece_count x * piece_count y) → piece_count r * (piece_count x * piece_count y) ≤ 256
+        → AreShares number (piece_count r * (piece_count x * piece_count y)) (piece_count x * piece_count y) (piece_count y) one two three four)
+        → AreRowsAt vs ds l one old a t → AreRowsAt vs ds r two a b u → AreRowsAt vs ds x three b d v → AreRowsAt vs ds y four d new w
+        → AreRowsAt vs ds (choice l c r x y) number old new (t || (u || (v || w)))
+    choice_rows old a b d new t u v w shares i j k m less few =
+        let p = choice_part c l r x y number one two three four old a b d new (chosen l one).tree (chosen r two).tree (chosen x three).tree (chosen y four).tree shares
+        (part_of_rows l one old a t i) (part_of_rows r two a b u j) (part_of_rows x three b d v k) (part_of_rows y four d new w m) less few
+        in
+        let first = has_one c l r x y number one two three four shares (less, few) in
+        let second = has_two c l r x y number one two three four shares (less, few) in
+        let third = has_three c l r x y number one two three four shares (less, few) in
+        let fourth = has_four c l r x y number one two three four shares (less, few) in
+        let others = ap₂ (λ (v w : Bool). v || w) (k third.0 third.1).1 (m fourth.0 fourth.1).1 in
+        (p.0, ap₂ (λ (v w : Bool). v || w) (i first.0 first.1).1 (ap₂ (λ (v w : Bool). v || w) (j second.0 second.1).1 others) ∙ ap has_reduction p.1)
+
   -- ---- branches
 
   pub case_readable : (u : TreeMade) (ts us : List TreeMade) → u ≡ made.Case ts → us ≡ ts → IsReadable vs ds (view u) → AreReadable vs ds (trees_of (map view us))
@@ -263,3 +319,9 @@ module _ (vs : List Signature) (ds : List Map) where
         let b = p (omega (arith, e, l)) (few_here few) in
         let n = sym (h.same few ∙ at_first (parts vs ds t) (parts_of_all vs ds ts) left (omega (arith, e, size, l))) in
         (b.0 ∙ ap (λ (p : Part). old ++ p.rows) n, b.1 ∙ ap (λ (p : Part). p.tree) n)
+
+    pub branch_rows : left < count → (old new : List Form) (folds : Bool) → AreRowsAt vs ds t left old new folds → AreRowsAt vs ds (cases all) number old new folds
+    branch_rows l old new folds k less few =
+        let e = capped (piece_count t) count is (few_here few) in
+        let p = branch_found l old new (chosen t left).tree (part_of_rows t left old new folds k) less few in
+        (p.0, (k (omega (arith, e, l)) (few_here few)).1 ∙ ap has_reduction p.1)

@@ -1,7 +1,8 @@
 -- Maps under dependences, and the variables that references read.
-use Rattle.std.proofs.Common.{◌≡◌, ℕ, zero, suc, ◌<◌, List, [], ◌∷◌, length, get_or, Some, sym, ap, ◌∙◌, arith}
+use Rattle.std.proofs.Common.{◌≡◌, ℕ, zero, suc, ◌<◌, List, [], ◌∷◌, length, get_or, Some, sym, ap, ◌∙◌, arith, All}
 use Rattle.std.specs.Prelude.{slice_get}
 use Rattle.av_affine.specs.declared.map.Map.{Map}
+use Rattle.av_affine.specs.Forms.{IsWithinLimits}
 use Rattle.av_poly.specs.Points.{Set}
 use Rattle.av_flat.specs.declared.flat.Var.{Var}
 use Rattle.av_flat.specs.Trees.{view_variable}
@@ -9,7 +10,7 @@ use Rattle.av_flat.specs.Signatures.{Signature, signature}
 use Rattle.av_flat.specs.WellFormed.{dimension_of}
 use Rattle.av_flat.specs.Pieces.{composed, rows_of}
 use Rattle.av_normal.specs.inner.Numbered.{signatures_of}
-use Rattle.av_normal.specs.inner.UnderMaps.{composed_under, FitsUnder}
+use Rattle.av_normal.specs.inner.UnderMaps.{composed_under, FitsUnder, IsSmallUnder}
 use Rattle.av_normal.proofs.Laid.{composed_length}
 
 pub fits_under : (ds : List Map) (d : Set) (whole : Map) → Some whole ≡ composed_under ds → FitsUnder ds d → length whole.rows ≡ d.dim
@@ -18,6 +19,10 @@ fits_under (m ∷ ds) d whole e f = ap (λ (n : Map). length n.rows) (the_same w
   where
     the_same : (a b : Map) → Some a ≡ Some b → a ≡ b
     the_same a b p = cc
+
+pub small_under : (ds : List Map) (d : Set) (whole : Map) → Some whole ≡ composed_under ds → IsSmallUnder ds d → All IsWithinLimits d.rows
+small_under [] d whole e s = absurd cc
+small_under (m ∷ ds) d whole e s = s
 
 -- ---- the variable that a reference reads
 

@@ -1,6 +1,7 @@
 pub mod UnderMaps
 pub mod Numbered
 pub mod PieceByNumber
+pub mod Sketches
 pub mod ReductionSets
 pub mod Counted
 pub mod AllPieces

@@ -14,7 +14,8 @@ ghost use Rattle.av_normal.specs.NormalFaults.{HasNarrowSets};
 ghost use Rattle.av_normal.specs.inner.Numbered.{part_at, signatures_of};
 ghost use Rattle.av_normal.specs.Searches.{IsNarrow, AreNarrow, IsWide};
 ghost use Rattle.av_normal.specs.inner.UnderMaps.{IsReadable, StandsUnder};
-ghost use Rattle.av_normal.specs.inner.ReductionSets as inner;
+ghost use Rattle.av_normal.specs.inner.ReductionSets.{has_reduction};
+ghost use Rattle.av_normal.specs.inner.Sketches.{sketches};
 ghost use Rattle.av_normal.specs.inner.Making.{maps_measured, parts_measured, bodies_measured, held, held_parts, filled_part, StandsIn, IsMade, AreMade, AreAdded, IsParted, IsHolder};
 ghost use Rattle.av_normal.specs.inner.AllPieces.{IsPieceOfPart, ArePiecesOfParts, HasAllPieces, HaveAllPieces, IsWideIn};
 
@@ -23,8 +24,10 @@ use crate::compose::maps_fit;
 use crate::count::piece_count;
 use crate::measure::narrowed;
 use crate::opposed::are_contrary;
-use crate::piece::piece_at;
-use crate::reduction_sets::{filled, has_reduction};
+use crate::outline::outline_at;
+use crate::piece::tree_at;
+use crate::reduction_sets::filled;
+use crate::sketch::sketch_tree;
 use av_base::{List, Memory, Word};
 use av_flat::{Flat, Piece, Tree, Var};
 use av_poly::{Poly, copy_set};
@@ -53,25 +56,36 @@ fn equation_fits(alloc: Global, equation: &[Piece]) -> Result<(), NormalFault>
 }
 
 // Whether a piece has no point and no reduction: two of its rows cannot hold at once.
-fn is_idle(domain: &Poly, tree: &Tree) -> bool
+fn is_idle(domain: &Poly, folds: bool) -> bool
     ensures none { IsTrue result → (z : Items ℤ) → Has domain.now z → ⊥ }
-    ensures plain { IsTrue result → inner.has_reduction (view tree.now) ≡ false }
+    ensures plain { IsTrue result → folds ≡ false }
 {
-    if are_contrary(domain.rows.as_slice()) {
-        !has_reduction(tree)
-    } else {
+    if folds {
         false
+    } else {
+        are_contrary(domain.rows.as_slice())
     }
 }
 
-// The tree of a piece, or a constant in the place of a tree that is dropped with its piece.
-fn needed_tree(domain: &Poly, tree: Tree) -> Tree
-    ensures { StandsIn domain.now (view tree) (view result) }
+// The tree of the piece with this number; where the piece is dropped and no reduction is in the tree, a constant stands in its place.
+fn needed_tree(
+    alloc: Global,
+    vars: &[Var],
+    domain: &Poly,
+    folds: bool,
+    tree: &Tree,
+    number: u128,
+) -> Result<Tree, Memory>
+    requires readable { IsReadable (signatures_of vars.now) [] (view tree.now) }
+    requires number { number < piece_count (view tree.now) }
+    requires few { piece_count (view tree.now) ≤ 256 }
+    requires folds { folds ≡ has_reduction (part_at (parts (signatures_of vars.now) [] (view tree.now)) number).tree }
+    ensures { IfOk result (λ t. StandsIn domain.now (part_at (parts (signatures_of vars.now) [] (view tree.now)) number).tree (view t)) }
 {
-    if is_idle(domain, &tree) {
-        Tree::Const(Word { bits: 0 })
+    if is_idle(domain, folds) {
+        Ok(Tree::Const(Word { bits: 0 }))
     } else {
-        tree
+        tree_at(alloc, vars, tree, number)
     }
 }
 
@@ -81,9 +95,12 @@ fn made_piece(
     vars: &[Var],
     domain: &Poly,
     tree: &Tree,
+    sketch: &Tree,
     number: u128,
 ) -> Result<Piece, NormalFault>
     requires readable { IsReadable (signatures_of vars.now) [] (view tree.now) }
+    requires sketch { IsReadable [] [] (view sketch.now) }
+    requires same { sketches [] [] (view sketch.now) ≡ sketches (signatures_of vars.now) [] (view tree.now) }
     requires domain { All IsWithinLimits domain.now.rows }
     requires number { number < piece_count (view tree.now) }
     requires few { piece_count (view tree.now) ≤ 256 }
@@ -91,10 +108,35 @@ fn made_piece(
     ensures narrow { OnOk result (IsNarrow (of_set (set_of domain.now.dim (held domain.now.rows (part_at (parts (signatures_of vars.now) [] (view tree.now)) number))))) }
     ensures wide { IfErr result (IsWide (of_set (set_of domain.now.dim (held domain.now.rows (part_at (parts (signatures_of vars.now) [] (view tree.now)) number))) ∷ [])) }
 {
-    let piece = piece_at(alloc, vars, domain, tree, number)?;
-    let domain = narrowed(piece.domain)?;
-    let tree = needed_tree(&domain, piece.tree);
+    let outline = outline_at(alloc, vars, domain, tree, sketch, number)?;
+    let domain = narrowed(outline.domain)?;
+    let tree = needed_tree(alloc, vars, &domain, outline.folds, tree, number)?;
     Ok(Piece { domain, tree })
+}
+
+// Puts all pieces of a tree behind others, by the sketch of the tree.
+fn append_by_sketch(
+    alloc: Global,
+    vars: &[Var],
+    domain: &Poly,
+    tree: &Tree,
+    sketch: &Tree,
+    pieces: &mut List<Piece>,
+) -> Result<(), NormalFault>
+    requires readable { IsReadable (signatures_of vars.now) [] (view tree.now) }
+    requires sketch { IsReadable [] [] (view sketch.now) }
+    requires same { sketches [] [] (view sketch.now) ≡ sketches (signatures_of vars.now) [] (view tree.now) }
+    requires domain { All IsWithinLimits domain.now.rows }
+    requires few { piece_count (view tree.now) ≤ 256 }
+    ensures added { OnOk result (AreAdded domain.now.dim (with_rows domain.now.rows (parts (signatures_of vars.now) [] (view tree.now))) (map view_piece pieces.old) (map view_piece pieces.new)) }
+    ensures narrow { OnOk result (AreNarrow (parts_measured domain.now.dim (with_rows domain.now.rows (parts (signatures_of vars.now) [] (view tree.now))))) }
+    ensures wide { IfErr result (IsWide (parts_measured domain.now.dim (with_rows domain.now.rows (parts (signatures_of vars.now) [] (view tree.now))))) }
+{
+    let count = piece_count(tree);
+    for number in 0..count {
+        pieces.push(made_piece(alloc, vars, domain, tree, sketch, number)?)?;
+    }
+    Ok(())
 }
 
 // Puts all pieces of a tree behind others.
@@ -112,11 +154,8 @@ fn append_pieces(
     ensures narrow { OnOk result (AreNarrow (parts_measured domain.now.dim (with_rows domain.now.rows (parts (signatures_of vars.now) [] (view tree.now))))) }
     ensures wide { IfErr result (IsWide (parts_measured domain.now.dim (with_rows domain.now.rows (parts (signatures_of vars.now) [] (view tree.now))))) }
 {
-    let count = piece_count(tree);
-    for number in 0..count {
-        pieces.push(made_piece(alloc, vars, domain, tree, number)?)?;
-    }
-    Ok(())
+    let sketch = sketch_tree(alloc, vars, domain.dim, tree)?;
+    append_by_sketch(alloc, vars, domain, tree, &sketch, pieces)
 }
 
 // All pieces of an equation; the sets of their reductions are as in the equation.

@@ -14,8 +14,10 @@ mod measure;
 mod nonempty_pieces;
 mod normal;
 mod opposed;
+mod outline;
 mod piece;
 mod reduction_sets;
+mod sketch;
 
 pub use box_limit::quantity_over;
 pub use compose::prepend_map;

@@ -18,33 +18,25 @@ use crate::count::piece_count;
 use crate::distribute::{append_before, append_under, composed_map};
 use av_affine::{Form, Map};
 use av_base::{List, Memory, Op};
-use av_flat::{Piece, Tree, Var, copy_map, copy_tree};
+use av_flat::{Tree, Var, copy_map, copy_tree};
 use av_poly::{Poly, copy_rows};
 use std::alloc::Global;
 
-/// The piece of a variable's right side with this number, before its bodies' sets are filled in.
-pub(crate) fn piece_at(
+/// The tree of the piece of a variable's right side with this number, before its bodies' sets are filled in.
+pub(crate) fn tree_at(
     alloc: Global,
     vars: &[Var],
-    domain: &Poly,
     tree: &Tree,
     number: u128,
-) -> Result<Piece, Memory>
+) -> Result<Tree, Memory>
     requires readable { IsReadable (signatures_of vars.now) [] (view tree.now) }
-    requires domain { All IsWithinLimits domain.now.rows }
     requires number { number < piece_count (view tree.now) }
     requires few { piece_count (view tree.now) ≤ 256 }
-    ensures dim { IfOk result (λ p. p.domain.dim ≡ domain.now.dim) }
-    ensures rows { IfOk result (λ p. p.domain.rows ≡ domain.now.rows ++ (part_at (parts (signatures_of vars.now) [] (view tree.now)) number).rows) }
-    ensures tree { IfOk result (λ p. view p.tree ≡ (part_at (parts (signatures_of vars.now) [] (view tree.now)) number).tree) }
+    ensures { IfOk result (λ t. view t ≡ (part_at (parts (signatures_of vars.now) [] (view tree.now)) number).tree) }
 {
-    let mut rows = copy_rows(alloc, domain.rows.as_slice())?;
+    let mut rows = List::new(alloc);
     let tree = part_of(alloc, vars, &[], tree, number, &mut rows)?;
-    let domain = Poly {
-        dim: domain.dim,
-        rows,
-    };
-    Ok(Piece { domain, tree })
+    Ok(tree)
 }
 
 // A number among pairs as that of the first and that of the second, of which there are this many.
@@ -56,16 +48,21 @@ fn split(number: u128, count: u128) -> (u128, u128)
     (number / some, number % some)
 }
 
-// The numbers of two operands of a tree; the first is slowest.
-fn two_numbers(number: u128, right: &Tree) -> (u128, u128)
+/// The numbers of two operands of a tree; the first is slowest.
+pub(crate) fn two_numbers(number: u128, right: &Tree) -> (u128, u128)
     ensures { 0 < piece_count (view right.now) → piece_count (view right.now) ≤ 256 →
         (result.0 ≡ number / piece_count (view right.now)) × (result.1 ≡ number % piece_count (view right.now)) }
 {
     split(number, piece_count(right))
 }
 
-// The numbers of four operands of a tree; the first is slowest.
-fn four_numbers(number: u128, right: &Tree, yes: &Tree, no: &Tree) -> (u128, u128, u128, u128)
+/// The numbers of four operands of a tree; the first is slowest.
+pub(crate) fn four_numbers(
+    number: u128,
+    right: &Tree,
+    yes: &Tree,
+    no: &Tree,
+) -> (u128, u128, u128, u128)
     ensures { AreFourNumbers number (piece_count (view right.now)) (piece_count (view yes.now)) (piece_count (view no.now)) result.0 result.1 result.2 result.3 }
 {
     let fourth_count = piece_count(no);
@@ -77,8 +74,8 @@ fn four_numbers(number: u128, right: &Tree, yes: &Tree, no: &Tree) -> (u128, u12
     (first, second, third, fourth)
 }
 
-// Puts the rows of a variable's domain, taken at the image under a map, behind others.
-fn append_read(
+/// Puts the rows of a variable's domain, taken at the image under a map, behind others.
+pub(crate) fn append_read(
     alloc: Global,
     vars: &[Var],
     place: u32,

@@ -9,7 +9,6 @@ ghost use Rattle.av_flat.specs.Pieces.{filled};
 ghost use Rattle.av_flat.specs.Quantities.{of_set, body_sets};
 ghost use Rattle.av_normal.specs.NormalForm.{HasNormalSets};
 ghost use Rattle.av_normal.specs.Searches.{IsNarrow, AreNarrow, IsWide};
-ghost use Rattle.av_normal.specs.inner.ReductionSets as inner;
 ghost use Rattle.av_normal.specs.inner.ReductionSets.{inner_of, IsFoldable, IsFillable};
 
 use crate::NormalFault;
@@ -97,29 +96,4 @@ fn boxed(alloc: Global, holder: &Poly, tree: &Tree) -> Result<Box<Tree>, NormalF
 {
     let made = filled(alloc, holder, tree)?;
     Ok(Box::new(alloc, made)?)
-}
-
-/// Whether a reduction is in the tree of a piece.
-pub(crate) fn has_reduction(tree: &Tree) -> bool
-    ensures { result ≡ inner.has_reduction (view tree.now) }
-{
-    match tree {
-        Tree::Binary { left, right, .. } => has_reduction(left) || has_reduction(right),
-        Tree::Choose {
-            left,
-            right,
-            yes,
-            no,
-            ..
-        } => {
-            has_reduction(left) || has_reduction(right) || has_reduction(yes) || has_reduction(no)
-        }
-        Tree::Reduce { .. } => true,
-        Tree::Ref { .. }
-        | Tree::Const(_)
-        | Tree::Restrict { .. }
-        | Tree::Case { .. }
-        | Tree::Depend { .. }
-        | Tree::Pick { .. } => false,
-    }
 }

@@ -1,6 +1,6 @@
 //! Declarations, equations and the whole.
 
-ghost use Rattle.std.specs.Prelude.{◌≡◌, ◌++◌, length, IfOk};
+ghost use Rattle.std.specs.Prelude.{◌≡◌, ◌++◌, ◌∷◌, [], length, IfOk};
 ghost use Rattle.av_lex.specs.Lexing.{view as token_view, views};
 ghost use Rattle.av_tree.specs.Trees.{System as Spelled, view, view_equation, view_equations, view_system};
 ghost use Rattle.av_tree.specs.Grammar.{declared};
@@ -26,8 +26,8 @@ struct Header {
     outputs: List<Declaration>,
 }
 
-// One declaration for each name, put behind these.
-fn declare(
+// One declaration for each name, put behind these, each with a copy of the domain.
+fn declare_copies(
     alloc: Global,
     found: &mut List<Declaration>,
     domain: &DomainText,
@@ -44,6 +44,44 @@ fn declare(
             place: token.place,
         })?;
     }
+    Ok(())
+}
+
+// The declaration of one name, put behind these.
+fn declare_one(
+    alloc: Global,
+    found: &mut List<Declaration>,
+    domain: DomainText,
+    width: Option<u64>,
+    token: &Token,
+) -> Result<(), Memory>
+    ensures { IfOk result (λ _. found.new ≡ found.old ++ declared domain width (token_view token.now ∷ [])) }
+{
+    found.push(Declaration {
+        name: Name::from_ascii(alloc, token.text)?,
+        domain,
+        width,
+        place: token.place,
+    })?;
+    Ok(())
+}
+
+// One declaration for each name, put behind these; the last one takes the domain itself, so a single name needs no copy.
+fn declare(
+    alloc: Global,
+    found: &mut List<Declaration>,
+    domain: DomainText,
+    width: Option<u64>,
+    names: &[Token],
+) -> Result<(), Memory>
+    ensures { IfOk result (λ _. found.new ≡ found.old ++ declared domain width (views names.now)) }
+{
+    if names.is_empty() {
+        return Ok(());
+    }
+    let last = names.len() - 1;
+    declare_copies(alloc, found, &domain, width, &names[..last])?;
+    declare_one(alloc, found, domain, width, &names[last])?;
     Ok(())
 }
 
@@ -109,7 +147,7 @@ impl<'t, 'a> Cursor<'t, 'a> {
     {
         let domain = self.domain()?;
         let width = self.typing()?;
-        declare(self.alloc, found, &domain, width, names)?;
+        declare(self.alloc, found, domain, width, names)?;
         Ok(())
     }
 

@@ -57,6 +57,9 @@ pub mod ArrayParts
 pub mod SpotPlaces
 pub mod SpotReadings
 pub mod OnSpots
+pub mod OffCells
+pub mod OwnSlots
+pub mod PortLines
 pub mod PortOrder
 pub mod SlotEnds
 pub mod SpotOrigins

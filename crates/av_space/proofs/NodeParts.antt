@@ -24,7 +24,7 @@ use Rattle.av_space.specs.Quantities.{IsOperatorCount}
 use Rattle.av_space.specs.Taps.{node_of}
 use Rattle.av_space.specs.inner.Feeding.{IsFirstOf}
 use Rattle.av_space.specs.Layouts.{IsLayout}
-use Rattle.av_space.specs.inner.NodePieces.{IsNodePiece, IsPart, IsSmallNode, ArePortsOf, ArePortsAt}
+use Rattle.av_space.specs.inner.NodePieces.{AreOwnSlots, IsNodePiece, IsPart, IsSmallNode, ArePortsOf, ArePortsAt}
 use Rattle.av_space.proofs.ByPlace.{read_at}
 use Rattle.av_space.proofs.CountBounds.{bounded_node}
 use Rattle.av_space.proofs.Fed.{node_of_port, next_piece}
@@ -69,8 +69,9 @@ short_piece s n k v piece small is e =
 -- a piece as a loop over the pieces of the variable has it
 pub node_piece_is : (at : NodePiece) (v : Var) (items : List PieceMade) → IsLegal at.timed.now → IsLayout at.timed.now at.layout.now → IsSmallNode (view_system at.timed.now.flat) at.node
     → slice_get (nodes (view_system at.timed.now.flat)) at.node ≡ Some (view_variable v) → items ≡ v.pieces → at.number < length items → at.piece.now ≡ get_or items at.number at.piece.now
-    → IsFirstOf at.layout.now.cells at.node at.first → IsFirstOf at.layout.now.cells (at.node + 1) at.last → at.first ≤ at.last → at.last ≤ length at.layout.now.cells → IsNodePiece at
-node_piece_is at v items legal layout small is same lt read first last ordered within =
+    → IsFirstOf at.layout.now.cells at.node at.first → IsFirstOf at.layout.now.cells (at.node + 1) at.last → at.first ≤ at.last → at.last ≤ length at.layout.now.cells
+    → AreOwnSlots at.layout.now.slots at.piece.now.domain at.first at.last at.own → IsNodePiece at
+node_piece_is at v items legal layout small is same lt read first last ordered within own =
     let here = get_mapped view_piece v.pieces at.number at.piece.now (read_at v.pieces items at.number at.piece.now same lt read) in
     record {
       legal = legal;
@@ -83,6 +84,7 @@ node_piece_is at v items legal layout small is same lt read first last ordered w
       last = last;
       ordered = ordered;
       within = within;
+      own = own;
     }
 
 pub piece_part : (at : NodePiece) (is : IsNodePiece at) → IsSmallNode (view_system at.timed.now.flat) at.node → IsPart at 0 (view_piece at.piece.now).tree

@@ -2,6 +2,7 @@
 use Rattle.std.proofs.Common.{◌≡◌, ℕ, zero, suc, ◌+◌, ◌^◌, ◌<◌, ◌≤◌, Bool, true, false, not, IsTrue, Some, None, List, [], ◌∷◌, ◌++◌, length, get_or, refl, sym, ap, subst, ◌∙◌, arith}
 use Rattle.std.specs.Prelude.{slice_get, filter, All, Option, IfSome}
 use Rattle.std.proofs.lemmas.List.{length-map}
+use Rattle.std.proofs.lemmas.List.Elements.{All-filter}
 use Rattle.std.proofs.lemmas.Option.{slice_get_within, get_or_from_slice_get}
 use Rattle.av_affine.specs.declared.map.Map.{Map}
 use Rattle.av_affine.specs.Forms.{IsWithinLimits}
@@ -11,6 +12,7 @@ use Rattle.av_flat.specs.declared.flat.Var.{Var}
 use Rattle.av_flat.specs.Trees.{Tree, Piece, Variable, view_piece, view_variable, view_system, reference}
 use Rattle.av_flat.specs.Broadcasts.{Reference, references}
 use Rattle.av_flat.specs.Nodes.{nodes, node_place}
+use Rattle.av_flat.specs.Points.{has}
 use Rattle.av_flat.specs.Legal.{IsMoving}
 use Rattle.av_flat.specs.Signatures.{Signature, signatures, signature, is_input, is_computed}
 use Rattle.av_flat.specs.WellFormed.{EachPart, Fits, HasSmallRows, dimension_of}
@@ -27,7 +29,7 @@ use Rattle.av_space.specs.Ports.{IsPort}
 use Rattle.av_space.specs.Taps.{node_of, helper_at, Handing}
 use Rattle.av_space.specs.inner.Feeding.{direction_of, is_entered, with_port, StandAt}
 use Rattle.av_space.specs.inner.NodePieces.{IsNodePiece, IsPart, IsInputSite, ArePortsAt}
-use Rattle.av_space.proofs.ByPlace.{read_at}
+use Rattle.av_space.proofs.OwnSlots.{entered_twice}
 use Rattle.av_space.proofs.Directions.{first_step}
 use Rattle.av_space.proofs.Fed.{IsSiteOn, next_cell, node_of_port, same_reference}
 use Rattle.av_space.proofs.FirstCells.{node_between}
@@ -99,6 +101,9 @@ cell_between at is p slots low high e =
     let var = ap (λ (n : ℕ). slice_get (nodes (view_system at.timed.now.flat)) n) node ∙ is.is_variable in
     (record { cell = x.0; is_cell = x.1; is_variable = var; are_slots = is.layout.are_slots p slots e }, node)
 
+row_there : (at : NodePiece) → IsNodePiece at → (p : ℕ) → p < at.last → (slots : List Slot) × (slice_get at.layout.now.slots p ≡ Some slots)
+row_there at is p high = let w = is.within in let o = is.layout.one_each in there_is at.layout.now.slots p (omega (arith, high, w, o))
+
 -- points of slots as the site asks for them
 pub points_between : (at : NodePiece) (is : IsNodePiece at) (j : ℕ) (site : InputSite) → IsInputSite at j site → (p : ℕ) (slots : List Slot) → at.first ≤ p → p < at.last → slice_get at.layout.now.slots p ≡ Some slots
     → All (λ (t : Slot). IsPointOf site.domain.now t.point) slots
@@ -132,6 +137,29 @@ one_cell_more at is j site own p slots low high e old new h f few =
     let more = next_cell s at.timed.now.helpers at.layout.now.placements at.layout.now.cells at.node at.number j p (view_piece at.piece.now) site.direction (view_variable site.input.now) site.map.now slots on old h in
     let same = f ∙ ap (λ (set : _). with_port (record { cell = p; piece = at.number; site = j }) site.input.now.name site.map.now old (filter (λ (t : Slot). is_entered set site.direction t.point) slots)) own.domain in
     subst (ArePortsAt at j (p + 1)) (sym same) (more (subst (λ (ports : Found). length ports.inputs ≤ 2 ^ 64) same few))
+
+-- the same where only the points of the piece were looked at
+pub one_cell_of_own : (at : NodePiece) (is : IsNodePiece at) (j : ℕ) (site : InputSite) → IsInputSite at j site → (p : ℕ) → at.first ≤ p → p < at.last → (own : List Slot)
+    → ((slots : List Slot) → slice_get at.layout.now.slots p ≡ Some slots → own ≡ filter (λ t. has at.piece.now.domain t.point) slots) → (old new : Found) → ArePortsAt at j p old
+    → new ≡ with_port (record { cell = p; piece = at.number; site = j }) site.input.now.name site.map.now old (filter (λ (t : Slot). is_entered site.domain.now site.direction t.point) own)
+    → length new.inputs ≤ 2 ^ 64 → ArePortsAt at j (p + 1) new
+one_cell_of_own at is j site fits p low high own is_own old new h f few =
+    let there = row_there at is p high in
+    let slots = there.0 in
+    let port : InPort = record { cell = p; piece = at.number; site = j } in
+    let mine : own ≡ filter (λ t. has site.domain.now t.point) slots = is_own slots there.1 ∙ ap (λ (set : Set). filter (λ (t : Slot). has set t.point) slots) (sym fits.domain) in
+    let twice = ap (λ (ts : List Slot). filter (λ (t : Slot). is_entered site.domain.now site.direction t.point) ts) mine ∙ entered_twice site.domain.now site.direction slots in
+    one_cell_more at is j site fits p slots low high there.1 old new h (f ∙ ap (λ (ts : List Slot). with_port port site.input.now.name site.map.now old ts) twice) few
+
+-- points of the piece as the site asks for them
+pub own_points : (at : NodePiece) (is : IsNodePiece at) (j : ℕ) (site : InputSite) → IsInputSite at j site → (p : ℕ) → at.first ≤ p → p < at.last → (own : List Slot)
+    → ((slots : List Slot) → slice_get at.layout.now.slots p ≡ Some slots → own ≡ filter (λ t. has at.piece.now.domain t.point) slots) → All (λ (t : Slot). IsPointOf site.domain.now t.point) own
+own_points at is j site fits p low high own is_own =
+    let there = row_there at is p high in
+    let slots = there.0 in
+    let all = points_between at is j site fits p slots low high there.1 in
+    subst (λ (ts : List Slot). All (λ (t : Slot). IsPointOf site.domain.now t.point) ts) (sym (is_own slots there.1))
+    (All-filter (λ (t : Slot). has at.piece.now.domain t.point) (λ (t : Slot). IsPointOf site.domain.now t.point) slots all)
 
 -- ---- references
 
@@ -179,13 +207,6 @@ fine_direction at is j place m e (Some h) f =
     (subst (λ (w : Point). length w ≡ m.from) r.direction_is (step.size ∙ from), subst (AtMost 4095) r.direction_is step.small)
 
 -- ---- what the code reads
-
-pub slots_there : (at : NodePiece) → IsNodePiece at → (p : ℕ) (slots : List Slot) (rows : List (List Slot)) → p < at.last → rows ≡ at.layout.now.slots → slots ≡ get_or rows p slots → slice_get at.layout.now.slots p ≡ Some slots
-slots_there at is p slots rows high e f =
-    let w = is.within in
-    let o = is.layout.one_each in
-    let m = ap (λ (xs : List (List Slot)). length xs) e in
-    read_at at.layout.now.slots rows p slots e (omega (arith, high, w, o, m)) f
 
 -- the variable that a reference reads
 pub var_there : (at : NodePiece) (j var : ℕ) (m : Map) → IsPart at j (reference var m) → var < length at.timed.now.flat.vars

@@ -1,5 +1,5 @@
 -- Lines of computed points: their wires, and one line after another.
-use Rattle.std.proofs.Common.{◌≡◌, ℕ, ◌+◌, ◌<◌, ◌≤◌, ◌⊎◌, inl, inr, ⊎_elim, IsTrue, Some, List, [], ◌∷◌, ◌++◌, length, take, get_or, refl, sym, ap, subst, ◌∙◌, arith}
+use Rattle.std.proofs.Common.{◌≡◌, ℕ, zero, suc, ◌+◌, ◌<◌, ◌≤◌, ◌⊎◌, inl, inr, ⊎_elim, IsTrue, Some, List, [], ◌∷◌, ◌++◌, length, length-append, take, get_or, refl, sym, ap, subst, ◌∙◌, arith}
 use Rattle.std.specs.Prelude.{slice_get, Contains, AllPairs, Result, Ok, Err}
 use Rattle.std.specs.List.{range_with_len}
 use Rattle.std.specs.List.Sorted.{IsBinarySearchResult}
@@ -13,6 +13,7 @@ use Rattle.std.proofs.lemmas.List.Kept.{AllPairs-filter}
 use Rattle.std.proofs.lemmas.List.Quantifiers.{all_pairs_push}
 use Rattle.std.proofs.lemmas.Option.{slice_get-get_or, slice_get_within}
 use Rattle.av_tree.specs.Points.{Point}
+use Rattle.av_tree.specs.Trees.{Text}
 use Rattle.av_flat.specs.Nodes.{nodes, IsComputation}
 use Rattle.av_flat.specs.Order.{IsBefore}
 use Rattle.av_flat.specs.Signatures.{is_shown}
@@ -25,10 +26,10 @@ use Rattle.av_space.specs.Listings.{output_name, value_name, AtLine, IsAtLine, A
 use Rattle.av_space.specs.Ports.{is_output_cell, output_cells}
 use Rattle.av_space.specs.Occupancy.{AreCells, Computes}
 use Rattle.av_space.specs.inner.Laying.{AreNodePoints}
-use Rattle.av_space.specs.inner.Showing.{AreLinesOf}
+use Rattle.av_space.specs.inner.Showing.{AreWires, AreLinesOf}
 use Rattle.av_space.proofs.ByPlace.{pair_at}
 use Rattle.av_space.proofs.OneReading.{one_place}
-use Rattle.av_base.proofs.Lists.{some_is}
+use Rattle.av_base.proofs.Lists.{some_is, get_cases}
 
 -- ---- output ports
 
@@ -42,6 +43,29 @@ range_rises n i j d l m =
 pub outputs_rise : (s : FlatSystem) (cells : List Cell) (outputs : List ℕ) → outputs ≡ output_cells s cells → AllPairs (λ a b. a < b) outputs
 outputs_rise s cells outputs e =
     subst (λ (ps : List ℕ). AllPairs (λ a b. a < b) ps) (sym e) (AllPairs-filter (λ a b. a < b) (is_output_cell s cells) (range_with_len 0 (length cells)) (range_rises (length cells)))
+
+-- the wires of more and more cells
+pub no_wires : (outputs : List ℕ) → AreWires outputs 0 []
+no_wires outputs = record { number = refl; each = λ p wire e. absurd cc }
+
+last_wire : (wire w : Text) (j : ℕ) → slice_get (wire ∷ []) j ≡ Some w → (j ≡ 0) × (wire ≡ w)
+last_wire wire w zero e = (refl, some_is wire w e)
+last_wire wire w (suc j) e = absurd cc
+
+pub wire_more : (outputs : List ℕ) (count : ℕ) (wires : List Text) (wire : Text) → IsWireOf outputs count wire → AreWires outputs count wires → AreWires outputs (count + 1) (wires ++ wire ∷ [])
+wire_more outputs count wires wire is h = record {
+  number = length-append wires (wire ∷ []) ∙ ap (λ (n : ℕ). n + 1) h.number;
+  each = λ p w e. ⊎_elim
+      (λ here. h.each p w here)
+      (λ there.
+      let last = last_wire wire w there.0 there.2 in
+      let zero_is = last.0 in
+      let at = there.1 in
+      let many = h.number in
+      let same : count ≡ p = omega (arith, zero_is, at, many) in
+      subst (λ (q : ℕ). IsWireOf outputs q w) same (subst (λ (x : Text). IsWireOf outputs count x) last.1 is))
+      (get_cases wires (wire ∷ []) p w e);
+}
 
 -- as a search among them asks
 never_fall : (outputs : List ℕ) → AllPairs (λ a b. a < b) outputs → (i j : ℕ) → i ≤ j → j < length outputs → get_or outputs i 0 ≤ get_or outputs j 0

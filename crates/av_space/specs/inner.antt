@@ -9,3 +9,4 @@ pub mod Lengths
 pub mod Quantified
 pub mod Showing
 pub mod SpotTaps
+pub mod Apart

@@ -11,7 +11,7 @@ ghost use Rattle.av_space.specs.declared.fault.SpaceFault.TheVariants as fault;
 
 use crate::cells::Cells;
 use crate::fault::SpaceFault;
-use crate::laying::layout;
+use crate::laying::lay_out;
 use crate::layout::{Layout, Slot};
 use crate::lengths::Line;
 use crate::lines::line_lengths;
@@ -36,7 +36,7 @@ fn small_layout(alloc: Global, timed: &Timed) -> Result<Layout, Memory>
     requires small { (f : Fault) → IsSpaceFault timed.now f → f ≡ fault.Memory }
     ensures { IfOk result (IsLayout timed.now) }
 {
-    match layout(alloc, timed) {
+    match lay_out(alloc, timed) {
         Ok(layout) => Ok(layout),
         Err(SpaceFault::Memory) => Err(Memory),
         Err(_) => unreachable!(),
@@ -56,6 +56,23 @@ impl<'a> Array<'a> {
         ensures array { IfOk result IsArray }
     {
         let layout = small_layout(alloc, timed)?;
+        Array::with_layout(alloc, timed, cells, layout)
+    }
+
+    /// The same array from a layout that is at hand.
+    pub fn with_layout(
+        alloc: Global,
+        timed: &'a Timed,
+        cells: &'a Cells,
+        layout: Layout,
+    ) -> Result<Array<'a>, Memory>
+        requires legal { IsLegal timed.now }
+        requires whole { IsWhole timed.now cells.now }
+        requires layout { IsLayout timed.now layout }
+        ensures timed { IfOk result (λ a. a.timed.now ≡ timed.now) }
+        ensures cells { IfOk result (λ a. a.cells.now ≡ cells.now) }
+        ensures array { IfOk result IsArray }
+    {
         let lengths = line_lengths(alloc, timed, &layout, cells.links.as_slice())?;
         Ok(Array {
             timed,

@@ -1,3 +1,5 @@
+ghost use Rattle.std.specs.Prelude.{◌≡◌};
+
 use av_base::{List, Point};
 use av_net::Listing;
 
@@ -6,6 +8,18 @@ use av_net::Listing;
 pub struct Cell {
     pub node: u32,
     pub at: Point,
+}
+
+impl Cell {
+    /// The same cell once more.
+    pub(crate) fn copied(&self) -> Cell
+        ensures { result ≡ self.now }
+    {
+        Cell {
+            node: self.node,
+            at: Point::from_slice(self.at.as_slice()),
+        }
+    }
 }
 
 /// A stretch of cycles in which one tap site of a cell reads one cell with one delay, in cycles. The tap sites of a node

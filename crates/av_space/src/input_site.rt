@@ -3,7 +3,7 @@
 ghost use Rattle.std.specs.Prelude.{◌≡◌, IfOk};
 ghost use Rattle.av_depend.specs.SetPoints.{IsPointOf};
 ghost use Rattle.av_space.specs.Taps.{helper_at};
-ghost use Rattle.av_space.specs.inner.Feeding.{direction_of, is_entered, line_of, IsReadable};
+ghost use Rattle.av_space.specs.inner.Feeding.{direction_of, is_entered, line_at, IsReadable};
 
 use crate::layout::Slot;
 use crate::reading::before;
@@ -54,18 +54,18 @@ impl InputSite<'_> {
         }
     }
 
-    /// The line of the read at a slot, at the port with this number.
-    pub(crate) fn line(&self, alloc: Global, port: usize, slot: &Slot) -> Result<Entry, Memory>
+    /// The line of the read at a slot, at the port with this wire.
+    pub(crate) fn line(&self, alloc: Global, wire: &Name, slot: &Slot) -> Result<Entry, Memory>
         requires readable { IsReadable self.now.domain.now self.now.direction self.now.map.now }
         requires point { IsPointOf self.now.domain.now slot.now.point }
-        ensures { IfOk result (λ line. line ≡ line_of port self.now.input.now.name self.now.map.now slot.now) }
+        ensures { IfOk result (λ line. line ≡ line_at wire.now self.now.input.now.name self.now.map.now slot.now) }
     {
         let variable = Name::new(alloc, self.input.name.as_str())?;
-        let wire = format!(in alloc; "i{port}")?;
+        let wire = Name::new(alloc, wire.as_str())?;
         Ok(Entry {
             variable,
             point: self.map.apply(&slot.point),
-            wire: Name::new(alloc, wire.as_str())?,
+            wire,
             cycle: slot.cycle,
         })
     }

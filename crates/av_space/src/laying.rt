@@ -275,8 +275,9 @@ fn limit_cells(
     Ok(())
 }
 
-/// The layout of a legal timed system. The cells are counted once they stand, so that each node's points are ordered once.
-pub(crate) fn layout(alloc: Global, timed: &Timed) -> Result<Layout, SpaceFault>
+/// The layout of a legal timed system, or the first of the cycles and the cells that are above their limit. The cells are counted once
+/// they stand, so that each node's points are ordered once.
+pub fn lay_out(alloc: Global, timed: &Timed) -> Result<Layout, SpaceFault>
     requires { IsLegal timed.now }
     ensures whole { IfOk result (IsLayout timed.now) }
     ensures refused { IfErr result (IsSpaceFault timed.now) }

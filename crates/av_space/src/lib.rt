@@ -2,6 +2,7 @@
 //! listing of where each input point is presented and each computed point is shown.
 #![tactic(auto)]
 
+mod apart;
 mod array;
 mod cells;
 mod cycles;
@@ -38,9 +39,10 @@ pub use laws::{
     between_points, coordinates_have_inverses, one_point, presenting_streams,
     quantities_are_unique, same_systems_have_the_same_faults, whole_listings,
 };
+pub use laying::lay_out;
 pub use layout::{Layout, Slot};
 pub use lengths::Line;
-pub use mapping::map;
+pub use mapping::{map, map_layout};
 pub use origin::Origin;
 pub use spots::{Ends, Site, Spot, ends_of};
 pub use stretch::Reading;

@@ -1,17 +1,19 @@
 //! Links of the array: the stretches of all tap sites of all cells.
 
 ghost use Rattle.std.specs.Prelude.{ℕ, ◌≡◌, ◌↔◌, ◌<◌, List as Items, length, Contains, Some, slice_get, slice_index_or, [], map, IfOk, IfSome, OnOk};
-ghost use Rattle.av_flat.specs.Trees.{view_piece, view_system, view_variable};
+ghost use Rattle.av_flat.specs.Trees.{Piece as PieceSeen, view_piece, view_system, view_variable};
 ghost use Rattle.av_flat.specs.Legal.{IsLegal};
 ghost use Rattle.av_space.specs.declared.layout.Slot.{Slot as SlotSeen};
 ghost use Rattle.av_flat.specs.Nodes.{node_place};
 ghost use Rattle.av_space.specs.Taps.{taps, IsTapped};
 ghost use Rattle.av_space.specs.Links.{AreLinks};
 ghost use Rattle.av_space.specs.Layouts.{IsLayout};
+ghost use Rattle.av_space.specs.inner.Apart.{AreOfNode};
 ghost use Rattle.av_space.specs.inner.Sites.{tap_of, AreNodeTaps};
-ghost use Rattle.av_space.specs.inner.Readings.{IsFineTap, IsSite, IsReadingAt, IsReadingOf, AreReadings, IsConsumer};
+ghost use Rattle.av_space.specs.inner.Readings.{IsFineTap, IsSite, HasSite, IsReadingAt, IsReadingOf, AreReadings, IsConsumer, AreOwn};
 ghost use Rattle.av_space.specs.inner.Stretches.{HasLinks, IsAt, IsOn};
 
+use crate::apart::slots_in;
 use crate::layout::{Layout, Slot};
 use crate::locate::locate;
 use crate::node_places::variable_of;
@@ -63,7 +65,7 @@ pub(crate) fn reading_at(
     })
 }
 
-// What a tap site reads on its cell, by cycle.
+// What a tap site reads at those computations on its cell that are points of its piece, by cycle.
 fn readings(
     alloc: Global,
     timed: &Timed,
@@ -76,7 +78,7 @@ fn readings(
     requires legal { IsLegal timed.now }
     requires layout { IsLayout timed.now layout.now }
     requires fine { IsFineTap piece.now.domain.dim (length timed.now.flat.vars) (tap_of site.now) }
-    requires site { IsSite (view_system timed.now.flat) timed.now.helpers layout.now.placements layout.now.cells node (tap_of site.now) (view_piece piece.now) slots.now }
+    requires site { HasSite (view_system timed.now.flat) timed.now.helpers layout.now.placements layout.now.cells node (tap_of site.now) (view_piece piece.now) slots.now }
     ensures { IfOk result (AreReadings
         (IsReadingOf (view_system timed.now.flat) layout.now.placements layout.now.cells node (tap_of site.now) (view_piece piece.now) slots.now)) }
 {
@@ -97,6 +99,14 @@ pub(crate) fn piece_at(var: &Var, number: usize) -> &Piece
     &var.pieces.as_slice()[number]
 }
 
+// The computations that are points of the piece with this number.
+fn slots_at(own: &[List<Slot>], piece: usize) -> &[Slot]
+    requires { piece < length own.now }
+    ensures { slice_get own.now piece ≡ Some result.now }
+{
+    own[piece].as_slice()
+}
+
 // Puts the stretches of a tap site of a cell behind others.
 fn tap_stretches(
     alloc: Global,
@@ -105,6 +115,7 @@ fn tap_stretches(
     consumer: &Consumer<'_>,
     number: usize,
     site: &TapSite<'_>,
+    own: &[List<Slot>],
     stretches: &mut List<Stretch>,
 ) -> Result<(), Memory>
     requires legal { IsLegal timed.now }
@@ -113,19 +124,14 @@ fn tap_stretches(
         consumer.now.number consumer.now.node (view_variable consumer.now.var.now) consumer.now.slots.now }
     requires site { slice_get (taps (view_system timed.now.flat) timed.now.helpers (node_place (view_system timed.now.flat) consumer.now.node) (view_variable consumer.now.var.now)) number
         ≡ Some (tap_of site.now) }
+    requires own { AreOwn (view_variable consumer.now.var.now) consumer.now.slots.now own.now }
     ensures { OnOk result (HasLinks (IsTapped (view_system timed.now.flat) timed.now.helpers layout.now.placements layout.now.cells)
         (IsAt consumer.now.number number) stretches.old stretches.new) }
 {
-    let piece = piece_at(consumer.var, site.piece());
-    let readings = readings(
-        alloc,
-        timed,
-        layout,
-        consumer.node,
-        site,
-        piece,
-        consumer.slots,
-    )?;
+    let place = site.piece();
+    let piece = piece_at(consumer.var, place);
+    let slots = slots_at(own, place);
+    let readings = readings(alloc, timed, layout, consumer.node, site, piece, slots)?;
     site_stretches(consumer.number, number, readings.as_slice(), stretches)
 }
 
@@ -136,6 +142,7 @@ fn cell_stretches(
     layout: &Layout,
     consumer: &Consumer<'_>,
     sites: &[TapSite<'_>],
+    own: &[List<Slot>],
     stretches: &mut List<Stretch>,
 ) -> Result<(), Memory>
     requires legal { IsLegal timed.now }
@@ -144,11 +151,12 @@ fn cell_stretches(
         consumer.now.number consumer.now.node (view_variable consumer.now.var.now) consumer.now.slots.now }
     requires sites { map tap_of sites.now
         ≡ taps (view_system timed.now.flat) timed.now.helpers (node_place (view_system timed.now.flat) consumer.now.node) (view_variable consumer.now.var.now) }
+    requires own { AreOwn (view_variable consumer.now.var.now) consumer.now.slots.now own.now }
     ensures { OnOk result (HasLinks (IsTapped (view_system timed.now.flat) timed.now.helpers layout.now.placements layout.now.cells)
         (IsOn consumer.now.number) stretches.old stretches.new) }
 {
     for (number, site) in sites.iter().enumerate() {
-        tap_stretches(alloc, timed, layout, consumer, number, site, stretches)?;
+        tap_stretches(alloc, timed, layout, consumer, number, site, own, stretches)?;
     }
     Ok(())
 }
@@ -187,6 +195,19 @@ fn consumer_at<'a>(timed: &'a Timed, layout: &'a Layout, number: usize) -> Consu
     }
 }
 
+// Of each piece of the variable of a cell the computations on the cell that are points of it.
+fn slots_of_pieces(alloc: Global, consumer: &Consumer<'_>) -> Result<List<List<Slot>>, Memory>
+    requires { (k : ℕ) (piece : PieceSeen) → slice_get (view_variable consumer.now.var.now).pieces k ≡ Some piece → AreOfNode piece.domain consumer.now.slots.now }
+    ensures { IfOk result (AreOwn (view_variable consumer.now.var.now) consumer.now.slots.now) }
+{
+    let mut own = List::new(alloc);
+    for piece in consumer.var.pieces.as_slice() {
+        let part = slots_in(alloc, consumer.slots, &piece.domain)?;
+        own.push(part)?;
+    }
+    Ok(own)
+}
+
 /// The tap sites of a node.
 pub(crate) fn taps_of_node<'s, 'a>(sites: &'s [List<TapSite<'a>>], node: usize) -> &'s [TapSite<'a>]
     requires { node < length sites.now }
@@ -210,7 +231,16 @@ pub(crate) fn stretches(
     for number in 0..layout.cells.as_slice().len() {
         let consumer = consumer_at(timed, layout, number);
         let own = taps_of_node(sites.as_slice(), consumer.node);
-        cell_stretches(alloc, timed, layout, &consumer, own, &mut stretches)?;
+        let slots = slots_of_pieces(alloc, &consumer)?;
+        cell_stretches(
+            alloc,
+            timed,
+            layout,
+            &consumer,
+            own,
+            slots.as_slice(),
+            &mut stretches,
+        )?;
     }
     Ok(stretches)
 }

@@ -12,9 +12,9 @@ ghost use Rattle.av_space.specs.Listings.{AreInLines, AreAtLines};
 ghost use Rattle.av_space.specs.Ports.{ArePorts, output_cells};
 ghost use Rattle.av_space.specs.inner.Quantified.{HasOperators, AreWithin, IsLaidOut, LinksOf, delays_of};
 
-use crate::cells::{Cells, Link};
+use crate::cells::{Cell, Cells, Link};
 use crate::fault::SpaceFault;
-use crate::laying::layout;
+use crate::laying::lay_out;
 use crate::layout::Layout;
 use crate::lines::delay_count;
 use crate::linking::stretches;
@@ -105,25 +105,37 @@ fn show_points(alloc: Global, timed: &Timed, layout: &Layout) -> Result<Shown, M
     Ok(Shown { outputs, ats })
 }
 
+// The same cells, in memory of their own.
+fn copied_cells(alloc: Global, cells: &[Cell]) -> Result<List<Cell>, Memory>
+    ensures { IfOk result (λ copy. copy ≡ cells.now) }
+{
+    let mut copy = List::new(alloc);
+    for cell in cells {
+        copy.push(cell.copied())?;
+    }
+    Ok(copy)
+}
+
 // The array of a layout whose quantities are within their limits.
 fn laid_out(
     alloc: Global,
     timed: &Timed,
-    layout: Layout,
+    layout: &Layout,
     stretches: &[Stretch],
     delays: u32,
 ) -> Result<Cells, Memory>
     requires legal { IsLegal timed.now }
-    requires layout { IsLayout timed.now layout }
-    requires links { LinksOf timed.now layout stretches.now }
-    requires delays { delays ≡ delays_of timed.now layout stretches.now }
-    requires few { HasOperators timed.now layout 1048576 }
-    ensures { IfOk result (IsLaidOut timed.now layout stretches.now) }
+    requires layout { IsLayout timed.now layout.now }
+    requires links { LinksOf timed.now layout.now stretches.now }
+    requires delays { delays ≡ delays_of timed.now layout.now stretches.now }
+    requires few { HasOperators timed.now layout.now 1048576 }
+    ensures { IfOk result (IsLaidOut timed.now layout.now stretches.now) }
 {
-    let joined = join_cells(alloc, timed, &layout, stretches)?;
-    let shown = show_points(alloc, timed, &layout)?;
+    let joined = join_cells(alloc, timed, layout, stretches)?;
+    let shown = show_points(alloc, timed, layout)?;
+    let cells = copied_cells(alloc, layout.cells.as_slice())?;
     Ok(Cells {
-        cells: layout.cells,
+        cells,
         links: joined.links,
         inputs: joined.ports.inputs,
         outputs: shown.outputs,
@@ -140,18 +152,31 @@ fn laid_out(
 fn limited(
     alloc: Global,
     timed: &Timed,
-    layout: Layout,
+    layout: &Layout,
     stretches: &[Stretch],
 ) -> Result<Cells, SpaceFault>
     requires legal { IsLegal timed.now }
-    requires layout { IsLayout timed.now layout }
-    requires links { LinksOf timed.now layout stretches.now }
-    ensures laid { IfOk result (IsLaidOut timed.now layout stretches.now) }
-    ensures within { IfOk result (λ a. AreWithin timed.now layout stretches.now) }
+    requires layout { IsLayout timed.now layout.now }
+    requires links { LinksOf timed.now layout.now stretches.now }
+    ensures laid { IfOk result (IsLaidOut timed.now layout.now stretches.now) }
+    ensures within { IfOk result (λ a. AreWithin timed.now layout.now stretches.now) }
     ensures refused { IfErr result (IsSpaceFault timed.now) }
 {
-    let delays = within_limits(alloc, timed, &layout, stretches)?;
+    let delays = within_limits(alloc, timed, layout, stretches)?;
     let cells = laid_out(alloc, timed, layout, stretches, delays)?;
+    Ok(cells)
+}
+
+/// What `map` gives, from the layout of the system, which stays at hand for those who build from the array.
+pub fn map_layout(alloc: Global, timed: &Timed, layout: &Layout) -> Result<Cells, SpaceFault>
+    requires legal { IsLegal timed.now }
+    requires layout { IsLayout timed.now layout.now }
+    ensures whole { IfOk result (IsWhole timed.now) }
+    ensures complete { IfOk result (λ a. (f : Fault) → IsSpaceFault timed.now f → f ≡ fault.Memory) }
+    ensures refused { IfErr result (IsSpaceFault timed.now) }
+{
+    let stretches = stretches(alloc, timed, layout)?;
+    let cells = limited(alloc, timed, layout, stretches.as_slice())?;
     Ok(cells)
 }
 
@@ -165,8 +190,6 @@ pub fn map(alloc: Global, timed: &Timed) -> Result<Cells, SpaceFault>
     ensures complete { IfOk result (λ a. (f : Fault) → IsSpaceFault timed.now f → f ≡ fault.Memory) }
     ensures refused { IfErr result (IsSpaceFault timed.now) }
 {
-    let layout = layout(alloc, timed)?;
-    let stretches = stretches(alloc, timed, &layout)?;
-    let cells = limited(alloc, timed, layout, stretches.as_slice())?;
-    Ok(cells)
+    let layout = lay_out(alloc, timed)?;
+    map_layout(alloc, timed, &layout)
 }

@@ -8,9 +8,11 @@ ghost use Rattle.av_flat.specs.Points.{has};
 ghost use Rattle.av_flat.specs.Trees.{view, view_system, view_variable};
 ghost use Rattle.av_depend.specs.SetPoints.{IsPointOf};
 ghost use Rattle.av_space.specs.Quantities.{size, IsOperatorCount};
+ghost use Rattle.av_space.specs.inner.Apart.{AreOfNode};
 ghost use Rattle.av_space.specs.inner.Counting.{piece_sizes, IsCountOf, IsOnCell};
 ghost use Rattle.av_space.specs.Layouts.{IsLayout};
 
+use crate::apart::are_apart;
 use crate::layout::{Layout, Slot};
 use crate::node_places::variable_of;
 use av_base::{List, Memory};
@@ -81,8 +83,8 @@ fn all_sizes(alloc: Global, timed: &Timed, layout: &Layout) -> Result<List<List<
     Ok(sizes)
 }
 
-// Whether the piece has the point of a computation.
-fn is_used(slots: &[Slot], piece: &Piece) -> bool
+// Whether the piece has the point of a computation, as each of them tells.
+fn has_any(slots: &[Slot], piece: &Piece) -> bool
     requires { All (λ t. IsPointOf piece.now.domain t.point) slots.now }
     ensures { IsTrue result ↔ Any (λ t. IsTrue (has piece.now.domain t.point)) slots.now }
 {
@@ -92,6 +94,18 @@ fn is_used(slots: &[Slot], piece: &Piece) -> bool
         }
     }
     false
+}
+
+// Whether the piece has the point of a computation on a cell.
+fn is_used(slots: &[Slot], piece: &Piece) -> bool
+    requires { AreOfNode piece.now.domain slots.now }
+    ensures { IsTrue result ↔ Any (λ t. IsTrue (has piece.now.domain t.point)) slots.now }
+{
+    if are_apart(slots, &piece.domain) {
+        false
+    } else {
+        has_any(slots, piece)
+    }
 }
 
 // Those of the pieces on a cell.

@@ -1,25 +1,28 @@
 //! Input ports, and the lines of the reads at them: node by node, piece by piece, reference by reference and cell by cell, and the
 //! lines of one port by cycle.
 
-ghost use Rattle.std.specs.Prelude.{ℕ, ◌≡◌, ◌<◌, ◌≤◌, ◌+◌, ◌^◌, All, AllPairs, IfOk, OnOk, length, filter};
+ghost use Rattle.std.specs.Prelude.{ℕ, ◌≡◌, ◌<◌, ◌≤◌, ◌+◌, ◌++◌, ◌^◌, List as Items, All, AllPairs, IfOk, OnOk, Some, slice_get, length, filter};
 ghost use Rattle.av_flat.specs.Broadcasts.{references};
 ghost use Rattle.av_flat.specs.Legal.{IsLegal};
+ghost use Rattle.av_flat.specs.Points.{has};
 ghost use Rattle.av_flat.specs.Trees.{reference, view, view_system};
 ghost use Rattle.av_depend.specs.SetPoints.{IsPointOf};
-ghost use Rattle.av_space.specs.Listings.{AreInLines};
+ghost use Rattle.av_space.specs.declared.layout.Slot.{Slot as SlotSeen};
+ghost use Rattle.av_space.specs.Listings.{input_name, AreInLines};
 ghost use Rattle.av_space.specs.Ports.{ArePorts};
 ghost use Rattle.av_space.specs.Quantities.{IsOperatorCount};
 ghost use Rattle.av_space.specs.Occupancy.{IsCellBefore};
-ghost use Rattle.av_space.specs.inner.Feeding.{is_entered, with_port, IsReadable, IsFirstOf};
-ghost use Rattle.av_space.specs.inner.NodePieces.{IsNodePiece, IsPart, IsInputSite, ArePortsAt, ArePortsOf, IsSmallNode};
+ghost use Rattle.av_space.specs.inner.Feeding.{is_entered, lines_at, with_port, IsReadable, IsFirstOf};
+ghost use Rattle.av_space.specs.inner.NodePieces.{AreOfPiece, AreOwnSlots, IsNodePiece, IsPart, IsInputSite, ArePortsAt, ArePortsOf, IsSmallNode};
 ghost use Rattle.av_space.specs.Layouts.{IsLayout};
 
+use crate::apart::slots_in;
 use crate::cells::{Cell, InPort};
 use crate::input_site::{InputSite, direction_of};
 use crate::layout::{Layout, Slot};
 use crate::node_places::variable_of;
 use av_affine::Map;
-use av_base::{List, Memory};
+use av_base::{List, Memory, Name};
 use av_flat::{Piece, Timed, tree_references};
 use av_net::Entry;
 use std::alloc::Global;
@@ -41,6 +44,37 @@ struct NodePiece<'a> {
     number: usize,
     first: usize,
     last: usize,
+    /// Of each of the cells the computations that are points of the piece.
+    own: List<List<Slot>>,
+}
+
+// The wire of the input port with this number.
+fn input_wire(alloc: Global, port: usize) -> Result<Name, Memory>
+    ensures { IfOk result (λ wire. wire ≡ input_name port) }
+{
+    let wire = format!(in alloc; "i{port}")?;
+    Name::new(alloc, wire.as_str())
+}
+
+// Puts the lines of the reads at the port with this wire behind others.
+fn add_lines(
+    alloc: Global,
+    site: &InputSite,
+    wire: &Name,
+    slots: &[Slot],
+    ins: &mut List<Entry>,
+) -> Result<(), Memory>
+    requires readable { IsReadable site.now.domain.now site.now.direction site.now.map.now }
+    requires points { All (λ t. IsPointOf site.now.domain.now t.point) slots.now }
+    ensures { OnOk result (ins.new ≡ ins.old ++ lines_at wire.now site.now.input.now.name site.now.map.now
+        (filter (λ t. is_entered site.now.domain.now site.now.direction t.point) slots.now)) }
+{
+    for slot in slots {
+        if site.is_entered(&slot.point) {
+            ins.push(site.line(alloc, wire, slot)?)?;
+        }
+    }
+    Ok(())
 }
 
 // Puts the port of a reference on a cell behind others, with its lines, if it has a read there.
@@ -53,21 +87,35 @@ fn add_port(
 ) -> Result<(), Memory>
     requires readable { IsReadable site.now.domain.now site.now.direction site.now.map.now }
     requires points { All (λ t. IsPointOf site.now.domain.now t.point) slots.now }
+    requires few { length ports.old.inputs ≤ 2 ^ 64 }
     ensures ports { OnOk result (ports.new ≡ with_port port site.now.input.now.name site.now.map.now ports.old
         (filter (λ t. is_entered site.now.domain.now site.now.direction t.point) slots.now)) }
     ensures few { OnOk result (length ports.new.inputs ≤ 2 ^ 64) }
 {
+    if slots.is_empty() {
+        return Ok(());
+    }
     let number = ports.inputs.as_slice().len();
     let before = ports.ins.as_slice().len();
-    for slot in slots {
-        if site.is_entered(&slot.point) {
-            ports.ins.push(site.line(alloc, number, slot)?)?;
-        }
+    let wire = input_wire(alloc, number)?;
+    add_lines(alloc, site, &wire, slots, &mut ports.ins)?;
+    let after = ports.ins.as_slice().len();
+    if after == before {
+        return Ok(());
     }
-    if ports.ins.as_slice().len() > before {
-        ports.inputs.push(port)?;
-    }
-    Ok(())
+    ports.inputs.push(port)
+}
+
+// The computations on a cell of the node that are points of the piece.
+fn own_slots<'s>(at: &'s NodePiece, cell: usize) -> &'s [Slot]
+    requires at { IsNodePiece at.now }
+    requires low { at.now.first ≤ cell }
+    requires high { cell < at.now.last }
+    ensures { (slots : Items SlotSeen) → slice_get at.now.layout.now.slots cell ≡ Some slots → result.now ≡ filter (λ t. has at.now.piece.now.domain t.point) slots }
+{
+    let own = at.own.as_slice();
+    let place = cell - at.first;
+    own[place].as_slice()
 }
 
 // The ports of a reference to an input, cell by cell.
@@ -90,7 +138,7 @@ fn add_site(
             piece: at.number as u32,
             site: number as u32,
         };
-        let slots = at.layout.slots.as_slice()[cell].as_slice();
+        let slots = own_slots(at, cell);
         add_port(alloc, site, port, slots, ports)?;
     }
     Ok(())
@@ -140,6 +188,28 @@ fn add_piece(alloc: Global, at: &NodePiece, ports: &mut Ports) -> Result<(), Mem
     Ok(())
 }
 
+// Of each of these cells of a node the computations that are points of a piece of the node.
+fn slots_of_piece(
+    alloc: Global,
+    layout: &Layout,
+    piece: &Piece,
+    first: usize,
+    last: usize,
+) -> Result<List<List<Slot>>, Memory>
+    requires slots { AreOfPiece layout.now.slots piece.now.domain first last }
+    requires ordered { first ≤ last }
+    requires within { last ≤ length layout.now.slots }
+    ensures { IfOk result (AreOwnSlots layout.now.slots piece.now.domain first last) }
+{
+    let mut own = List::new(alloc);
+    for cell in first..last {
+        let slots = layout.slots.as_slice()[cell].as_slice();
+        let part = slots_in(alloc, slots, &piece.domain)?;
+        own.push(part)?;
+    }
+    Ok(own)
+}
+
 // The ports of a node with these cells.
 fn add_node(
     alloc: Global,
@@ -162,6 +232,7 @@ fn add_node(
 {
     let var = variable_of(&timed.flat, layout.places.as_slice(), node);
     for (number, piece) in var.pieces.as_slice().iter().enumerate() {
+        let own = slots_of_piece(alloc, layout, piece, first, last)?;
         let at = NodePiece {
             timed,
             layout,
@@ -170,6 +241,7 @@ fn add_node(
             number,
             first,
             last,
+            own,
         };
         add_piece(alloc, &at, ports)?;
     }

@@ -1,6 +1,6 @@
 //! Cells of outputs, and where each computed point is shown: node by node, and point by point.
 
-ghost use Rattle.std.specs.Prelude.{◌≡◌, ◌+◌, ◌<◌, AllPairs, IfOk, OnOk};
+ghost use Rattle.std.specs.Prelude.{◌≡◌, ◌+◌, ◌<◌, ◌≤◌, AllPairs, IfOk, OnOk, length};
 ghost use Rattle.av_flat.specs.declared.flat.Kind.TheVariants.{Output};
 ghost use Rattle.av_flat.specs.Legal.{IsLegal};
 ghost use Rattle.av_flat.specs.Nodes.{IsComputation};
@@ -9,7 +9,7 @@ ghost use Rattle.av_flat.specs.Trees.{view_system};
 ghost use Rattle.av_space.specs.Listings.{IsWireOf, IsAtLine, AreAtLines};
 ghost use Rattle.av_space.specs.Ports.{output_cells};
 ghost use Rattle.av_space.specs.Layouts.{IsLayout};
-ghost use Rattle.av_space.specs.inner.Showing.{IsShownNode, AreLinesBelow};
+ghost use Rattle.av_space.specs.inner.Showing.{AreWires, IsShownNode, AreLinesBelow};
 
 use crate::layout::Layout;
 use crate::locate::locate;
@@ -26,6 +26,8 @@ struct ShownNode<'a> {
     timed: &'a Timed,
     layout: &'a Layout,
     outputs: &'a [u32],
+    /// Of each cell.
+    wires: &'a [Name],
     node: usize,
     var: &'a Var,
 }
@@ -83,7 +85,30 @@ fn wire_of(alloc: Global, outputs: &[u32], cell: u32) -> Result<Name, Memory>
     Name::new(alloc, wire.as_str())
 }
 
+// The wires of so many cells.
+fn wires_of(alloc: Global, outputs: &[u32], count: usize) -> Result<List<Name>, Memory>
+    requires order { AllPairs (λ a b. a < b) outputs.now }
+    requires few { count ≤ 2048 }
+    ensures { IfOk result (AreWires outputs.now count) }
+{
+    let mut wires = List::new(alloc);
+    for cell in 0..count {
+        wires.push(wire_of(alloc, outputs, cell as u32)?)?;
+    }
+    Ok(wires)
+}
+
 impl ShownNode<'_> {
+    // The wire of a cell.
+    fn wire(&self, alloc: Global, cell: u32) -> Result<Name, Memory>
+        requires node { IsShownNode self.now }
+        requires cell { cell < length self.now.layout.now.cells }
+        ensures { IfOk result (IsWireOf self.now.outputs.now cell) }
+    {
+        let wires = self.wires;
+        Name::new(alloc, wires[cell as usize].as_str())
+    }
+
     // The line of a point of the node.
     fn line(&self, alloc: Global, z: &Point) -> Result<Entry, Memory>
         requires node { IsShownNode self.now }
@@ -95,7 +120,7 @@ impl ShownNode<'_> {
         Ok(Entry {
             variable: Name::new(alloc, self.var.name.as_str())?,
             point: Point::from_slice(z.as_slice()),
-            wire: wire_of(alloc, self.outputs, located.cell)?,
+            wire: self.wire(alloc, located.cell)?,
             cycle: located.cycle,
         })
     }
@@ -128,6 +153,9 @@ pub(crate) fn at_lines(
     ensures { IfOk result (AreAtLines (view_system timed.now.flat) layout.now.placements layout.now.cells outputs.now) }
 {
     let places = layout.places.as_slice();
+    let cells = layout.cells.as_slice();
+    let names = wires_of(alloc, outputs, cells.len())?;
+    let wires = names.as_slice();
     let mut lines = List::new(alloc);
     for node in 0..places.len() {
         let var = variable_of(&timed.flat, places, node);
@@ -138,6 +166,7 @@ pub(crate) fn at_lines(
             timed,
             layout,
             outputs,
+            wires,
             node,
             var,
         };

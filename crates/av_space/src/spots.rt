@@ -1,22 +1,19 @@
 //! The pieces on the cells of an array, and their places that read.
 
-ghost use Rattle.std.specs.Prelude.{◌≡◌, ◌<◌, length, filter, All, AllPairs, IfOk};
-ghost use Rattle.av_flat.specs.Points.{has};
+ghost use Rattle.std.specs.Prelude.{◌≡◌, ◌<◌, length, map, AllPairs, IfOk};
 ghost use Rattle.av_flat.specs.Trees.{view};
 ghost use Rattle.av_flat.specs.Sites.{place_of};
 ghost use Rattle.av_space.specs.Spots.{AreEnds, handing_by};
-ghost use Rattle.av_depend.specs.SetPoints.{IsPointOf};
 
+use crate::apart::slots_in;
 use crate::array::Array;
 use crate::layout::Slot;
 use crate::linking::piece_at;
 use crate::node_places::variable_of;
-use crate::reading::is_in;
 use crate::tap::Handing;
 use crate::tapping::{helper_at, same};
 use av_base::{List, Memory};
 use av_flat::{Helper, Piece, ReadingPlace, Tree, Var, tree_places};
-use av_poly::Poly;
 use std::alloc::Global;
 
 /// A piece of the variable of a cell's node, by its number, with its computations on the cell by cycle.
@@ -56,20 +53,6 @@ pub fn ends_of(slots: &[Slot]) -> Ends
         first: slots[0].cycle,
         last: slots[slots.len() - 1].cycle,
     }
-}
-
-// Those of the computations that are points of the set.
-fn slots_in(alloc: Global, slots: &[Slot], set: &Poly) -> Result<List<Slot>, Memory>
-    requires { All (λ t. IsPointOf set.now t.point) slots.now }
-    ensures { IfOk result (λ own. own ≡ filter (λ t. has set.now t.point) slots.now) }
-{
-    let mut own = List::new(alloc);
-    for slot in slots {
-        if is_in(set, &slot.point) {
-            own.push(slot.copied())?;
-        }
-    }
-    Ok(own)
 }
 
 // The helper of a place that is a reference, of the variable at the place `own`.

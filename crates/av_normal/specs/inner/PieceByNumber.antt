@@ -1,5 +1,5 @@
 -- A part of a tree chosen by its number. Only private contracts cite this.
-use Rattle.std.specs.Prelude.{◌≡◌, ◌<◌, ◌≤◌, ◌/◌, ◌%◌, ◌*◌, ℕ, ◌++◌, List}
+use Rattle.std.specs.Prelude.{◌≡◌, ◌<◌, ◌≤◌, ◌/◌, ◌%◌, ◌*◌, ℕ, Bool, ◌++◌, List}
 use Rattle.av_affine.specs.declared.form.Form.{Form}
 use Rattle.av_affine.specs.declared.map.Map.{Map}
 use Rattle.av_flat.specs.Trees.{Tree, Trees}
@@ -7,6 +7,7 @@ use Rattle.av_flat.specs.Signatures.{Signature}
 use Rattle.av_flat.specs.Pieces.{parts, parts_of_all}
 use Rattle.av_flat.specs.Quantities.{piece_count, piece_count_of_all}
 use Rattle.av_normal.specs.inner.Numbered.{part_at}
+use Rattle.av_normal.specs.inner.ReductionSets.{has_reduction}
 use Rattle.av_normal.specs.inner.UnderMaps.{AreReadable}
 
 -- there is a part with this number, from 0, and there are few
@@ -17,6 +18,11 @@ HasPart t number = (number < piece_count t) × (piece_count t ≤ 256)
 abbrev pub IsPartAt : List Signature → List Map → Tree → ℕ → List Form → List Form → Tree → Type 0
 IsPartAt vs ds t number old new made =
     number < piece_count t → piece_count t ≤ 256 → (new ≡ old ++ (part_at (parts vs ds t) number).rows) × (made ≡ (part_at (parts vs ds t) number).tree)
+
+-- where there is a part with this number, its rows were put behind the old ones, and it is told whether a reduction is in its tree
+abbrev pub AreRowsAt : List Signature → List Map → Tree → ℕ → List Form → List Form → Bool → Type 0
+AreRowsAt vs ds t number old new folds =
+    number < piece_count t → piece_count t ≤ 256 → (new ≡ old ++ (part_at (parts vs ds t) number).rows) × (folds ≡ has_reduction (part_at (parts vs ds t) number).tree)
 
 -- what a loop over branches keeps: the part is the one with a number of its own among those of the branches to come
 pub record AreLeft (vs : List Signature) (ds : List Map) (all rest : Trees) (number left : ℕ) : Type 0 where

@@ -63,12 +63,17 @@ abbrev pub FitsUnder : List Map → Set → Type 0
 FitsUnder [] d = Unit {0}
 FitsUnder (m ∷ ds) d = length m.rows ≡ d.dim
 
+-- under a map the numbers of the set's rows are within their limits
+abbrev pub IsSmallUnder : List Map → Set → Type 0
+IsSmallUnder [] d = Unit {0}
+IsSmallUnder (m ∷ ds) d = All IsWithinLimits d.rows
+
 -- a restriction under maps: these compose within the limits, and lead to its indices
 pub record IsRestricting (ds : List Map) (d : Set) : Type 0 where
   pub chained : AreChained ds
   pub narrow : AreNarrow (map of_map (steps_under ds))
   pub fits : FitsUnder ds d
-  pub rows : All IsWithinLimits d.rows
+  pub rows : IsSmallUnder ds d
 
 -- a reference under maps: these compose within the limits, and lead to the indices of a variable that is there
 pub record IsReading (vs : List Signature) (ds : List Map) (place : ℕ) (m : Map) : Type 0 where

@@ -46,6 +46,13 @@ line_of k name m t = record { variable = name; point = image m.rows t.point; wir
 abbrev pub lines_of : ℕ → Text → Map → List Slot → List Entry
 lines_of k name m slots = map (line_of k name m) slots
 
+-- the same by the name of the port's wire
+abbrev pub line_at : Text → Text → Map → Slot → Entry
+line_at wire name m t = record { variable = name; point = image m.rows t.point; wire = wire; cycle = t.cycle }
+
+abbrev pub lines_at : Text → Text → Map → List Slot → List Entry
+lines_at wire name m slots = map (line_at wire name m) slots
+
 -- the port and its lines put behind others, where it has a read
 abbrev pub with_port : InPort → Text → Map → Ports → List Slot → Ports
 with_port port name m ports [] = ports

@@ -1,17 +1,21 @@
 -- Pieces of nodes with the cells of the node, references to inputs in them, and the ports that are found up to these.
-use Rattle.std.specs.Prelude.{◌≡◌, ℕ, ◌+◌, ◌<◌, ◌≤◌, ◌^◌, IsTrue, Some, slice_get, length}
+use Rattle.std.specs.Prelude.{◌≡◌, ℕ, ◌+◌, ◌<◌, ◌≤◌, ◌^◌, IsTrue, List, Some, slice_get, length, filter}
 use Rattle.av_flat.specs.declared.timed.Timed.{Timed}
 use Rattle.av_flat.specs.Trees.{Tree, Piece, Variable, FlatSystem, view_piece, view_variable, view_system}
 use Rattle.av_flat.specs.Broadcasts.{references}
 use Rattle.av_flat.specs.Nodes.{nodes, node_place}
+use Rattle.av_flat.specs.Points.{has}
 use Rattle.av_flat.specs.Signatures.{signatures, is_input}
 use Rattle.av_flat.specs.WellFormed.{EachPart, Fits, HasSmallRows}
 use Rattle.av_flat.specs.Legal.{IsLegal}
+use Rattle.av_poly.specs.Points.{Set}
 use Rattle.av_space.specs.declared.input_site.InputSite.{InputSite}
 use Rattle.av_space.specs.declared.layout.Layout.{Layout}
+use Rattle.av_space.specs.declared.layout.Slot.{Slot}
 use Rattle.av_space.specs.declared.ports.NodePiece.{NodePiece}
 use Rattle.av_space.specs.declared.ports.Ports.{Ports}
 use Rattle.av_space.specs.Taps.{helper_at}
+use Rattle.av_space.specs.inner.Apart.{AreOfNode}
 use Rattle.av_space.specs.inner.Feeding.{direction_of, IsReadable, IsFirstOf, StandAt, ArePortsTo}
 use Rattle.av_space.specs.Layouts.{IsLayout}
 
@@ -20,6 +24,15 @@ ArePortsOf t l n k p ports = ArePortsTo (view_system t.flat) t.helpers l.placeme
 
 abbrev pub ArePortsAt : NodePiece → ℕ → ℕ → Ports → Type 0
 ArePortsAt at j p ports = ArePortsTo (view_system at.timed.now.flat) at.timed.now.helpers at.layout.now.placements at.layout.now.cells at.node at.number j p ports
+
+-- the computations on these cells are of the node of a piece with this set
+abbrev pub AreOfPiece : List (List Slot) → Set → ℕ → ℕ → Type 0
+AreOfPiece rows set first last = (p : ℕ) (slots : List Slot) → first ≤ p → p < last → slice_get rows p ≡ Some slots → AreOfNode set slots
+
+-- of each of these cells the computations that are points of the set
+pub record AreOwnSlots (rows : List (List Slot)) (set : Set) (first last : ℕ) (own : List (List Slot)) : Type 0 where
+  pub number : first + length own ≡ last
+  pub each : (k : ℕ) (slots some : List Slot) → slice_get rows (first + k) ≡ Some slots → slice_get own k ≡ Some some → some ≡ filter (λ t. has set t.point) slots
 
 pub record IsNodePiece (at : NodePiece) : Type 0 where
   pub legal : IsLegal at.timed.now
@@ -32,6 +45,7 @@ pub record IsNodePiece (at : NodePiece) : Type 0 where
   pub last : IsFirstOf at.layout.now.cells (at.node + 1) at.last
   pub ordered : at.first ≤ at.last
   pub within : at.last ≤ length at.layout.now.cells
+  pub own : AreOwnSlots at.layout.now.slots at.piece.now.domain at.first at.last at.own
 
 -- a part of the piece, whose references have the numbers from j on
 pub record IsPart (at : NodePiece) (j : ℕ) (t : Tree) : Type 0 where

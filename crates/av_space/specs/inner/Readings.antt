@@ -1,5 +1,5 @@
 -- What tap sites read at points: what is taken for granted of a site, and the readings of a site on a cell.
-use Rattle.std.specs.Prelude.{◌≡◌, ℕ, ◌+◌, ◌<◌, List, All, Contains, IsTrue, Some, slice_get}
+use Rattle.std.specs.Prelude.{◌≡◌, ℕ, ◌+◌, ◌<◌, ◌≤◌, List, All, Contains, IsTrue, Some, slice_get, length, filter}
 use Rattle.av_affine.specs.Numbers.{AtMost}
 use Rattle.av_affine.specs.Forms.{IsWithinLimits}
 use Rattle.av_poly.specs.Points.{Set}
@@ -59,6 +59,12 @@ pub record IsSite (s : FlatSystem) (hs : List Helper) (placings : List Placing) 
   pub number : ℕ
   pub is : IsSiteOn s hs placings cells consumer number n t piece slots
 
+-- the computations of a site's cell that are points of its piece
+pub record HasSite (s : FlatSystem) (hs : List Helper) (placings : List Placing) (cells : List Cell) (n : ℕ) (t : Tap) (piece : Piece) (own : List Slot) : Type 0 where
+  pub slots : List Slot
+  pub own_is : own ≡ filter (λ x. has piece.domain x.point) slots
+  pub site : IsSite s hs placings cells n t piece slots
+
 -- at the point z of the piece, in cycle c, it reads what the cell q had d cycles before
 pub record IsReadingAt (s : FlatSystem) (placings : List Placing) (cells : List Cell) (n : ℕ) (t : Tap) (piece : Piece) (z : Point) (c q d : ℕ) : Type 0 where
   pub within : IsTrue (has piece.domain z)
@@ -88,3 +94,12 @@ pub record IsConsumer (s : FlatSystem) (placings : List Placing) (cells : List C
   pub node : cell.node ≡ n
   pub are_slots : AreSlots s placings cells p slots
   pub is_variable : slice_get (nodes s) n ≡ Some v
+
+-- of each of the first pieces of a variable the computations that are points of it
+pub record AreOwnTo (v : Variable) (slots : List Slot) (n : ℕ) (own : List (List Slot)) : Type 0 where
+  pub number : length own ≡ n
+  pub within : n ≤ length v.pieces
+  pub each : (k : ℕ) (piece : Piece) (some : List Slot) → slice_get v.pieces k ≡ Some piece → slice_get own k ≡ Some some → some ≡ filter (λ t. has piece.domain t.point) slots
+
+abbrev pub AreOwn : Variable → List Slot → List (List Slot) → Type 0
+AreOwn v slots own = AreOwnTo v slots (length v.pieces) own

@@ -1,6 +1,7 @@
 -- Lines of computed points as far as they are found: node by node and point by point.
-use Rattle.std.specs.Prelude.{◌≡◌, ℕ, ◌<◌, ◌⊎◌, List, map, All, AllPairs, Contains, IsTrue, Some, slice_get}
+use Rattle.std.specs.Prelude.{◌≡◌, ℕ, ◌<◌, ◌⊎◌, List, map, All, AllPairs, Contains, IsTrue, Some, slice_get, length}
 use Rattle.av_tree.specs.Points.{Point}
+use Rattle.av_tree.specs.Trees.{Text}
 use Rattle.av_flat.specs.declared.timed.Timed.{Timed}
 use Rattle.av_flat.specs.Legal.{IsLegal}
 use Rattle.av_flat.specs.Nodes.{nodes}
@@ -12,14 +13,20 @@ use Rattle.av_space.specs.declared.cells.Cell.{Cell}
 use Rattle.av_space.specs.declared.layout.Layout.{Layout}
 use Rattle.av_space.specs.declared.shown.ShownNode.{ShownNode}
 use Rattle.av_space.specs.Coordinates.{Placing}
-use Rattle.av_space.specs.Listings.{AtLine, IsAtLine}
+use Rattle.av_space.specs.Listings.{AtLine, IsWireOf, IsAtLine}
 use Rattle.av_space.specs.Ports.{output_cells}
 use Rattle.av_space.specs.Layouts.{IsLayout}
+
+-- the wires at which so many cells are shown
+pub record AreWires (outputs : List ℕ) (count : ℕ) (wires : List Text) : Type 0 where
+  pub number : length wires ≡ count
+  pub each : (p : ℕ) (wire : Text) → slice_get wires p ≡ Some wire → IsWireOf outputs p wire
 
 pub record IsShownNode (shown : ShownNode) : Type 0 where
   pub legal : IsLegal shown.timed.now
   pub layout : IsLayout shown.timed.now shown.layout.now
   pub outputs : shown.outputs.now ≡ output_cells (view_system shown.timed.now.flat) shown.layout.now.cells
+  pub wires : AreWires shown.outputs.now (length shown.layout.now.cells) shown.wires.now
   pub is_variable : slice_get (nodes (view_system shown.timed.now.flat)) shown.node ≡ Some (view_variable shown.var.now)
   pub is_shown : IsTrue (is_shown shown.var.now.kind)
 

@@ -1,51 +1,16 @@
-use Rattle.std.proofs.Common.{◌≡◌, ap}
+use Rattle.std.proofs.Common.{◌≡◌}
 use Rattle.std.specs.Prelude.{Err}
-use Rattle.av_flat.specs.Trees.{view_system}
-use Rattle.av_compile.specs.Refusals.{of_space}
-use Rattle.av_compile.specs.Mapped.{IsUnmapped, in_schedule, in_array}
-use Rattle.av_compile.proofs.FirstFaults.{told, memory_only}
-use Rattle.av_compile.proofs.OneUnmapped.{one_unmapped, not_mapped, answered_error, answered_memory}
-use Rattle.av_compile.proofs.Pipelined.{pipelined, array_of}
+use Rattle.av_compile.specs.Mapped.{IsUnmapped}
+use Rattle.av_compile.proofs.FirstFaults.{told}
+use Rattle.av_compile.proofs.OneUnmapped.{one_unmapped, not_mapped, answered_error}
 use Rattle.av_compile.proofs.mapping.mapped.Goals as goal
-
--- ---- the first fault
 
 pub returns-in_err-found-clause-refused : goal.returns-in_err-found-clause-refused
 returns-in_err-found-clause-refused c = λ f is not_memory.
     let fault = c.in_err-found.field-0.0 in
     let e : f ≡ fault = told c.from_residual.result fault f c.from_residual.ensures.1 is in
-    let was : c.scheduled.result ≡ Err f = cc in
-    in_schedule (c.scheduled.ensures.refused f was not_memory)
-
-pub returns-in_err-cells-clause-refused : goal.returns-in_err-cells-clause-refused
-returns-in_err-cells-clause-refused c = λ f is not_memory.
-    let fault = c.in_err-cells.field-0.0 in
-    let e : f ≡ of_space fault = told c.from_residual-in_err-cells.result (of_space fault) f c.from_residual-in_err-cells.ensures.1 is in
-    in_array fault e c.in_ok-timed.timed
-    (pipelined c.args.bytes.now c.args.sizes.now c.args.width.bits c.args.reach.size c.in_ok-found.found c.in_ok-timed.timed c.in_ok-found.ensures.found c.in_ok-timed.ensures.gives)
-    c.in_err-cells.ensures.refused
-
--- ---- none where there is none
-
-pub returns-in_err-found-clause-complete : goal.returns-in_err-found-clause-complete
-returns-in_err-found-clause-complete c = λ t h has.
-    memory_only c.from_residual.result c.in_err-found.field-0.0 c.from_residual.ensures.1 (c.in_err-found.ensures.complete (view_system t.flat) h.serialises h.no_cause)
-
-pub returns-in_err-cells-clause-complete : goal.returns-in_err-cells-clause-complete
-returns-in_err-cells-clause-complete c = λ t h has.
-    let fault = c.in_err-cells.field-0.0 in
-    let own = pipelined c.args.bytes.now c.args.sizes.now c.args.width.bits c.args.reach.size c.in_ok-found.found c.in_ok-timed.timed c.in_ok-found.ensures.found c.in_ok-timed.ensures.gives in
-    memory_only c.from_residual-in_err-cells.result (of_space fault) c.from_residual-in_err-cells.ensures.1
-    (ap of_space (array_of c.args.bytes.now c.args.sizes.now c.args.width.bits c.args.reach.size t c.in_ok-timed.timed h own has fault c.in_err-cells.ensures.refused))
-
--- ---- what is found
-
-pub returns-clause-found : goal.returns-clause-found
-returns-clause-found c = record {
-  pipelined = pipelined c.args.bytes.now c.args.sizes.now c.args.width.bits c.args.reach.size c.in_ok-found.found c.in_ok-timed.timed c.in_ok-found.ensures.found c.in_ok-timed.ensures.gives;
-  whole = c.in_ok-cells.ensures.whole;
-  no_cause = c.in_ok-cells.ensures.complete;
-}
+    let was : c.mapped_with_layout.result ≡ Err f = cc in
+    c.mapped_with_layout.ensures.refused f was not_memory
 
 -- ---- each cause has its answer
 
@@ -53,14 +18,7 @@ pub returns-in_err-found-clause-cause : goal.returns-in_err-found-clause-cause
 returns-in_err-found-clause-cause c =
     answered_error (IsUnmapped c.args.bytes.now c.args.sizes.now c.args.width.bits c.args.reach.size) (one_unmapped c.args.bytes.now c.args.sizes.now c.args.width.bits c.args.reach.size) c.from_residual.result c.in_err-found.field-0.0 c.from_residual.ensures.1 (returns-in_err-found-clause-refused c)
 
-pub returns-in_err-timed-clause-cause : goal.returns-in_err-timed-clause-cause
-returns-in_err-timed-clause-cause c = answered_memory (IsUnmapped c.args.bytes.now c.args.sizes.now c.args.width.bits c.args.reach.size) (one_unmapped c.args.bytes.now c.args.sizes.now c.args.width.bits c.args.reach.size) c.from_residual-in_err-timed.result c.from_residual-in_err-timed.ensures.1
-
-pub returns-in_err-cells-clause-cause : goal.returns-in_err-cells-clause-cause
-returns-in_err-cells-clause-cause c =
-    answered_error (IsUnmapped c.args.bytes.now c.args.sizes.now c.args.width.bits c.args.reach.size) (one_unmapped c.args.bytes.now c.args.sizes.now c.args.width.bits c.args.reach.size) c.from_residual-in_err-cells.result (of_space c.in_err-cells.field-0.0) c.from_residual-in_err-cells.ensures.1 (returns-in_err-cells-clause-refused c)
-
 pub returns-clause-cause : goal.returns-clause-cause
 returns-clause-cause c = λ f is some.
-    let found = returns-clause-found c in
-    absurd (not_mapped c.args.bytes.now c.args.sizes.now c.args.width.bits c.args.reach.size c.in_ok-timed.timed f found.pipelined found.no_cause is some)
+    let mapped = c.in_ok-found.ensures.found in
+    absurd (not_mapped c.args.bytes.now c.args.sizes.now c.args.width.bits c.args.reach.size c.in_ok-found.found.timed f mapped.pipelined mapped.no_cause is some)

@@ -13,8 +13,8 @@ pub returns-in_err-timed-clause-refused : goal.returns-in_err-timed-clause-refus
 returns-in_err-timed-clause-refused c = λ f is not_memory.
     let fault = c.in_err-timed.field-0.0 in
     let e : f ≡ fault = told c.from_residual.result fault f c.from_residual.ensures.1 is in
-    let was : c.mapped.result ≡ Err f = cc in
-    c.mapped.ensures.refused f was not_memory
+    let was : c.mapped_with_layout.result ≡ Err f = cc in
+    c.mapped_with_layout.ensures.refused f was not_memory
 
 pub returns-in_err-modules-clause-complete : goal.returns-in_err-modules-clause-complete
 returns-in_err-modules-clause-complete c = λ t h has. memory_only c.from_residual-in_err-modules.result refusal.Memory c.from_residual-in_err-modules.ensures.1 refl

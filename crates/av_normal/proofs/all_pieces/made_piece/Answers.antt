@@ -1,13 +1,13 @@
 use Rattle.std.proofs.Common.{[], subst}
 use Rattle.std.proofs.lemmas.Result.{err_from_is_err_and}
 use Rattle.av_poly.specs.Points.{Set}
-use Rattle.av_flat.specs.Trees.{Tree, view}
+use Rattle.av_flat.specs.Trees.{view}
 use Rattle.av_flat.specs.Pieces.{parts}
 use Rattle.av_flat.specs.Quantities.{of_set}
 use Rattle.av_normal.specs.NormalForm.{IsNormalised, set_of}
 use Rattle.av_normal.specs.inner.Numbered.{part_at, signatures_of}
 use Rattle.av_normal.specs.Searches.{IsNarrow, IsWideOne}
-use Rattle.av_normal.specs.inner.Making.{held, StandsIn}
+use Rattle.av_normal.specs.inner.Making.{held}
 use Rattle.av_normal.proofs.InnerSets.{same_set}
 use Rattle.av_normal.proofs.Searching.{wide_here}
 use Rattle.av_normal.proofs.all_pieces.made_piece.Goals as goal
@@ -16,22 +16,22 @@ pub returns-in_err-domain-clause-wide : goal.returns-in_err-domain-clause-wide
 returns-in_err-domain-clause-wide c =
     let f = c.in_err-domain.field-0.0 in
     let set = set_of c.args.domain.now.dim (held c.args.domain.now.rows (part_at (parts (signatures_of c.args.vars.now) [] (view c.args.tree.now)) c.args.number)) in
-    let e = same_set c.in_ok-piece.piece.domain set c.in_ok-piece.ensures.dim c.in_ok-piece.ensures.rows in
+    let e = same_set c.in_ok-outline.outline.domain set c.in_ok-outline.ensures.dim c.in_ok-outline.ensures.rows in
     let p = err_from_is_err_and c.from_residual-in_err-domain.result c.from_residual-in_err-domain.ensures.1 in
     rw (p.1, p.2) (wide_here (of_set set) [] f (subst (λ (b : Set). IsWideOne (of_set b) f) e c.in_err-domain.ensures.wide))
 
 pub returns-clause-narrow : goal.returns-clause-narrow
 returns-clause-narrow c =
     let set = set_of c.args.domain.now.dim (held c.args.domain.now.rows (part_at (parts (signatures_of c.args.vars.now) [] (view c.args.tree.now)) c.args.number)) in
-    let e = same_set c.in_ok-piece.piece.domain set c.in_ok-piece.ensures.dim c.in_ok-piece.ensures.rows in
+    let e = same_set c.in_ok-outline.outline.domain set c.in_ok-outline.ensures.dim c.in_ok-outline.ensures.rows in
     subst (λ (b : Set). IsNarrow (of_set b)) e c.in_ok-domain.ensures.narrow
 
 pub returns-clause-made : goal.returns-clause-made
 returns-clause-made c =
     let set = set_of c.args.domain.now.dim (held c.args.domain.now.rows (part_at (parts (signatures_of c.args.vars.now) [] (view c.args.tree.now)) c.args.number)) in
-    let e = same_set c.in_ok-piece.piece.domain set c.in_ok-piece.ensures.dim c.in_ok-piece.ensures.rows in
+    let e = same_set c.in_ok-outline.outline.domain set c.in_ok-outline.ensures.dim c.in_ok-outline.ensures.rows in
     record {
       domain = subst (λ (b : Set). IsNormalised b c.in_ok-domain.domain) e (record { dim = c.in_ok-domain.ensures.dim; rows = c.in_ok-domain.ensures.normalised });
-      tree = subst (λ (t : Tree). StandsIn c.in_ok-domain.domain t (view c.needed_tree-tree.result)) c.in_ok-piece.ensures.tree c.needed_tree-tree.ensures;
+      tree = c.in_ok-tree.ensures;
       small = c.in_ok-domain.ensures.limits;
     }

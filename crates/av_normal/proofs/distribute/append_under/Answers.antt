@@ -6,12 +6,16 @@ use Rattle.av_poly.specs.Points.{IsSmall}
 use Rattle.av_flat.specs.Quantities.{of_map, steps_under}
 use Rattle.av_normal.proofs.NeverWide.{never_wide}
 use Rattle.av_normal.proofs.Outcomes.{on_ok}
-use Rattle.av_normal.proofs.Reading.{fits_under}
+use Rattle.av_normal.proofs.Reading.{fits_under, small_under}
 use Rattle.av_normal.proofs.distribute.append_under.Goals as goal
 
 pub append_before-requires-clause-fits : goal.append_before-requires-clause-fits
 append_before-requires-clause-fits c =
     fits_under c.args.under.now c.args.domain.now c.in-Ok-Some.whole (sym c.in-Ok-Some.field-0-is ∙ c.in-Ok-Some.ensures.composed) c.requires.fits
+
+pub append_before-requires-clause-rows : goal.append_before-requires-clause-rows
+append_before-requires-clause-rows c =
+    small_under c.args.under.now c.args.domain.now c.in-Ok-Some.whole (sym c.in-Ok-Some.field-0-is ∙ c.in-Ok-Some.ensures.composed) c.requires.rows
 
 pub returns-in-Ok-None-clause-small : goal.returns-in-Ok-None-clause-small
 returns-in-Ok-None-clause-small c =

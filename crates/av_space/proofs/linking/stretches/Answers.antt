@@ -1,9 +1,12 @@
-use Rattle.std.proofs.Common.{ℕ, List, [], length, map, ap, subst, ◌∙◌, arith, get_or}
+use Rattle.std.proofs.Common.{ℕ, List, [], length, map, sym, ap, subst, ◌∙◌, arith, get_or}
 use Rattle.av_flat.specs.Trees.{view_system, view_variable}
 use Rattle.av_space.specs.declared.cells.Cell.{Cell}
+use Rattle.av_space.specs.declared.layout.Slot.{Slot}
 use Rattle.av_space.specs.Taps.{IsTapped}
 use Rattle.av_space.specs.inner.Sites.{TapMade, tap_of}
+use Rattle.av_space.specs.inner.Readings.{AreOwn}
 use Rattle.av_space.specs.inner.Stretches.{HasLinks, IsOn}
+use Rattle.av_space.proofs.OwnSlots.{pieces_of_consumer}
 use Rattle.av_space.proofs.JoinedLinks.{below_more_cells}
 use Rattle.av_space.proofs.NodeTaps.{taps_at_node}
 use Rattle.av_space.proofs.SiteLinks.{are_links}
@@ -21,6 +24,16 @@ cell_stretches-requires-clause-sites c =
     let x = c.consumer_at-consumer.result in
     let at = (taps_at_node (view_system c.args.timed.now.flat) c.args.timed.now.helpers c.in_ok-sites.sites c.in_ok-sites.ensures x.node (view_variable x.var.now) c.consumer_at-consumer.ensures.consumer.is_variable []).1 in
     ap (λ (ts : List TapMade). map tap_of ts) (c.taps_of_node-own.ensures ∙ ap (λ (ts : List (List TapMade)). get_or ts x.node []) c.as_slice.ensures) ∙ at
+
+pub slots_of_pieces-requires : goal.slots_of_pieces-requires
+slots_of_pieces-requires c =
+    let x = c.consumer_at-consumer.result in
+    pieces_of_consumer c.args.timed.now c.args.layout.now x.number x.node (view_variable x.var.now) x.slots.now c.requires.legal c.requires.layout c.consumer_at-consumer.ensures.consumer
+
+pub cell_stretches-requires-clause-own : goal.cell_stretches-requires-clause-own
+cell_stretches-requires-clause-own c =
+    let x = c.consumer_at-consumer.result in
+    subst (λ (own : List (List Slot)). AreOwn (view_variable x.var.now) x.slots.now own) (sym c.as_slice-in-loop-number.ensures) c.in_ok-slots.ensures
 
 pub loop-number-preserved : goal.loop-number-preserved
 loop-number-preserved c =

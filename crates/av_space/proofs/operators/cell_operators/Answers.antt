@@ -1,5 +1,5 @@
 use Rattle.std.proofs.Common.{rules, ◌≡◌, ◌↔◌, ◌∙◌, ◌<◌, ◌≤◌, ◌+◌, ℕ, List, Some, Bool, IsTrue, false, length, map, get_or, sym, ap, subst, arith}
-use Rattle.std.specs.Prelude.{slice_get, All, Any}
+use Rattle.std.specs.Prelude.{slice_get, Any}
 use Rattle.std.proofs.lemmas.List.{length-map}
 use Rattle.std.proofs.lemmas.Option.{slice_get_within}
 use Rattle.av_flat.specs.declared.flat.Piece.{Piece as PieceMade}
@@ -13,14 +13,15 @@ use Rattle.av_space.specs.declared.layout.Slot.{Slot}
 use Rattle.av_space.specs.declared.layout.Layout.{Layout}
 use Rattle.av_space.specs.Coordinates.{Placing}
 use Rattle.av_space.specs.Layouts.{IsLayout}
-use Rattle.av_depend.specs.SetPoints.{IsPointOf}
 use Rattle.av_space.specs.Quantities.{size, Use, IsUse}
+use Rattle.av_space.specs.inner.Apart.{AreOfNode}
 use Rattle.av_space.specs.inner.Counting.{piece_sizes, IsCountOf}
+use Rattle.av_space.proofs.OffCells.{are_of_node}
 use Rattle.av_space.proofs.ByPlace.{read_at}
 use Rattle.av_space.proofs.TreeSizes.{made_size, size_at, own_sizes, row_within}
 use Rattle.av_space.proofs.OperatorCounts.{count_none, one_more, not_more, whole_cell}
 use Rattle.av_flat.proofs.NodeNumbers.{node_in_places}
-use Rattle.av_space.proofs.OnCells.{IsCellOf, node_within, cell_of, slot_points, use_of, slot_of_use}
+use Rattle.av_space.proofs.OnCells.{IsCellOf, node_within, cell_of, use_of, slot_of_use}
 use Rattle.av_space.proofs.operators.cell_operators.Goals as goal
 use Rattle.av_space.proofs.operators.cell_operators.Goals.{then-is_used, else-is_used}
 use Rattle.av_base.proofs.Lists.{get_mapped, some_is}
@@ -98,8 +99,8 @@ is_used-requires c =
     let on = here t l c.args.cell x v slots c.as_slice.result.now c.as_slice-3.result.now c.requires.layout c.requires.cell c.as_slice.ensures c.index-as_slice-cell.is c.variable_of-var.ensures c.as_slice-3.ensures c.index-as_slice-cell-2.is in
     let lp : c.loop-number.number < length c.as_slice-piece-items.result.now = search rules in
     let is = get_mapped view_piece v.pieces c.loop-number.number piece (read_at v.pieces c.as_slice-piece-items.result.now c.loop-number.number piece c.as_slice-piece-items.ensures lp c.piece-item.is) in
-    subst (λ (ts : List Slot). All (λ (t : Slot). IsPointOf piece.domain t.point) ts) (sym c.as_slice-slots.ensures)
-    (slot_points t l c.args.cell (view_variable v) slots c.requires.legal on c.loop-number.number (view_piece piece) is)
+    subst (λ (ts : List Slot). AreOfNode piece.domain ts) (sym c.as_slice-slots.ensures)
+    (are_of_node t l c.args.cell (view_variable v) slots c.requires.legal c.requires.layout.are_placings on c.loop-number.number (view_piece piece) is)
 
 pub loop-number-preserved : goal.loop-number-preserved
 loop-number-preserved c =

@@ -1,31 +1,27 @@
-use Rattle.std.proofs.Common.{rules, ◌≡◌, ◌∙◌, ◌<◌, ◌≤◌, ℕ, List, Some, sym, ap, subst, arith}
-use Rattle.std.specs.Prelude.{All}
-use Rattle.av_depend.specs.SetPoints.{IsPointOf}
-use Rattle.av_space.specs.declared.layout.Slot.{Slot}
+use Rattle.std.proofs.Common.{rules, ◌≡◌, ◌<◌, ◌≤◌, ℕ, subst, arith}
 use Rattle.av_space.specs.inner.NodePieces.{ArePortsAt}
-use Rattle.av_space.proofs.PieceParts.{slots_there, points_between, one_cell_more}
+use Rattle.av_space.proofs.PieceParts.{own_points, one_cell_of_own}
 use Rattle.av_space.proofs.ports.add_site.Goals as goal
 
 pub add_port-requires-clause-points : goal.add_port-requires-clause-points
 add_port-requires-clause-points c =
     let at = c.args.at.now in
     let p = c.loop-cell.cell in
-    let slots = c.index-as_slice-cell.result in
     let low : at.first ≤ p = search rules in
     let high : p < at.last = search rules in
-    let here = slots_there at c.requires.at p slots c.as_slice.result.now high c.as_slice.ensures c.index-as_slice-cell.is in
-    subst (λ (ts : List Slot). All (λ (t : Slot). IsPointOf c.args.site.now.domain.now t.point) ts) (sym c.as_slice-slots.ensures)
-    (points_between at c.requires.at c.args.number c.args.site.now c.requires.site p slots low high here)
+    own_points at c.requires.at c.args.number c.args.site.now c.requires.site p low high c.own_slots-slots.result.now c.own_slots-slots.ensures
+
+pub add_port-requires-clause-few : goal.add_port-requires-clause-few
+add_port-requires-clause-few c = c.loop-cell.invariant.few
 
 pub loop-cell-preserved : goal.loop-cell-preserved
 loop-cell-preserved c =
     let at = c.args.at.now in
     let p = c.loop-cell.cell in
-    let slots = c.as_slice-slots.result.now in
     let low : at.first ≤ p = search rules in
     let high : p < at.last = search rules in
-    let here = slots_there at c.requires.at p c.index-as_slice-cell.result c.as_slice.result.now high c.as_slice.ensures c.index-as_slice-cell.is ∙ ap (λ (ts : List Slot). Some ts) (sym c.as_slice-slots.ensures) in
-    one_cell_more at c.requires.at c.args.number c.args.site.now c.requires.site p slots low high here c.loop-cell.ports c.add_port.new.ports c.loop-cell.invariant c.in_ok-add_port.ensures.ports c.in_ok-add_port.ensures.few
+    one_cell_of_own at c.requires.at c.args.number c.args.site.now c.requires.site p low high c.own_slots-slots.result.now c.own_slots-slots.ensures c.loop-cell.ports c.add_port.new.ports c.loop-cell.invariant c.in_ok-add_port.ensures.ports
+    c.in_ok-add_port.ensures.few
 
 pub returns : goal.returns
 returns c =

@@ -1,10 +1,12 @@
-use Rattle.std.proofs.Common.{rules, ◌≡◌, ◌∙◌, ◌<◌, ◌≤◌, ℕ, List, false, length, sym, ap, subst, arith}
+use Rattle.std.proofs.Common.{rules, ◌≡◌, ◌∙◌, ◌<◌, ◌≤◌, ℕ, List, true, false, length, sym, ap, subst, arith}
+use Rattle.av_tree.specs.Trees.{Text}
 use Rattle.av_flat.specs.Nodes.{nodes}
 use Rattle.av_flat.specs.Signatures.{is_shown}
 use Rattle.av_flat.specs.Trees.{view_system, view_variable}
-use Rattle.av_space.specs.inner.Showing.{AreLinesBelow}
+use Rattle.av_space.specs.declared.cells.Cell.{Cell}
+use Rattle.av_space.specs.inner.Showing.{AreWires, AreLinesBelow}
 use Rattle.av_flat.proofs.NodeNumbers.{places_number}
-use Rattle.av_space.proofs.ShownLines.{no_lines, not_shown, whole_system}
+use Rattle.av_space.proofs.ShownLines.{outputs_rise, no_lines, not_shown, whole_system}
 use Rattle.av_space.proofs.shown.at_lines.Goals as goal
 
 pub loop-node-init : goal.loop-node-init
@@ -21,6 +23,26 @@ loop-node-preserved-then-not-is_shown c =
     let f : c.is_shown.result ≡ false = search rules in
     let hidden : is_shown v.kind ≡ false = sym c.is_shown.ensures ∙ f in
     not_shown s l.placements l.cells c.args.outputs.now c.loop-node.node v c.loop-node.lines c.variable_of-var.ensures (λ t. absurd cc) c.loop-node.invariant
+
+pub wires_of-requires-clause-order : goal.wires_of-requires-clause-order
+wires_of-requires-clause-order c = outputs_rise (view_system c.args.timed.now.flat) c.args.layout.now.cells c.args.outputs.now c.requires.outputs
+
+pub wires_of-requires-clause-few : goal.wires_of-requires-clause-few
+wires_of-requires-clause-few c = let many = ap (λ (cells : List Cell). length cells) c.as_slice-cells.ensures in let few = c.requires.layout.few_cells in omega (arith, many, few)
+
+pub add_lines-requires-clause-node : goal.add_lines-requires-clause-node
+add_lines-requires-clause-node c =
+    let outputs = c.args.outputs.now in
+    let t : c.is_shown.result ≡ true = search rules in
+    let many = ap (λ (cells : List Cell). length cells) c.as_slice-cells.ensures in
+    record {
+      legal = c.requires.legal;
+      layout = c.requires.layout;
+      outputs = c.requires.outputs;
+      wires = subst (λ (wires : List Text). AreWires outputs (length c.args.layout.now.cells) wires) (sym c.as_slice-wires.ensures) (subst (λ (n : ℕ). AreWires outputs n c.in_ok-names.names) many c.in_ok-names.ensures);
+      is_variable = c.variable_of-var.ensures;
+      is_shown = sym c.is_shown.ensures ∙ t;
+    }
 
 pub add_lines-requires-clause-old : goal.add_lines-requires-clause-old
 add_lines-requires-clause-old c = c.loop-node.invariant

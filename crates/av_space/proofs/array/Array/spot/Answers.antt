@@ -8,8 +8,8 @@ use Rattle.av_space.specs.declared.cells.Cell.{Cell}
 use Rattle.av_space.specs.declared.layout.Slot.{Slot}
 use Rattle.av_space.specs.Spots.{system_of, placings_of, cells_of, AreSlotsIn}
 use Rattle.av_flat.proofs.NodeNumbers.{places_number}
+use Rattle.av_space.proofs.OffCells.{are_of_node}
 use Rattle.av_space.proofs.NodeTaps.{place_is}
-use Rattle.av_space.proofs.OnCells.{slot_points}
 use Rattle.av_space.proofs.OnSpots.{some_slots}
 use Rattle.av_space.proofs.SiteLinks.{cell_node}
 use Rattle.av_space.proofs.array.Array.spot.Goals as goal
@@ -30,7 +30,7 @@ slots_in-requires c =
     let a = c.args.self.now in
     let v = c.variable-var.ensures in
     let var = c.variable-var.result.now in
-    slot_points a.timed.now a.layout c.args.cell (view_variable var) c.slots.result.now c.requires.array.legal
+    are_of_node a.timed.now a.layout c.args.cell (view_variable var) c.slots.result.now c.requires.array.legal c.requires.array.layout.are_placings
     (record { cell = v.cell; is_cell = v.is_cell; is_variable = v.is_variable; are_slots = c.slots.ensures }) c.args.number (view_piece c.piece_at-piece.result.now) c.piece_at-piece.ensures
 
 pub returns : goal.returns

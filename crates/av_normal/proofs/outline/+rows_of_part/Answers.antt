@@ -1,0 +1,179 @@
+use Rattle.std.proofs.Common.{◌≡◌, ◌<◌, ◌≤◌, ◌+◌, [], length, map, drop, arith, rules, ap, sym, subst, ◌∙◌, List, refl, OnOk, All}
+use Rattle.av_affine.specs.declared.form.Form.{Form}
+use Rattle.av_poly.specs.Points.{IsSmall}
+use Rattle.av_flat.specs.declared.tree.Tree.{Tree as TreeMade}
+use Rattle.av_flat.specs.Trees.{view, cases, trees_of}
+use Rattle.av_flat.specs.Quantities.{piece_count_of_all}
+use Rattle.av_flat.proofs.Views.{view_case}
+use Rattle.av_normal.specs.inner.Numbered.{signatures_of}
+use Rattle.av_normal.specs.inner.UnderMaps.{IsReading}
+use Rattle.av_normal.specs.inner.PieceByNumber.{AreRowsAt}
+use Rattle.av_normal.proofs.Outcomes.{on_ok, if_ok}
+use Rattle.av_normal.proofs.Reading.{fits_read}
+use Rattle.av_normal.proofs.Depths.{less_deep, right_falls, first_falls, second_falls, third_falls, fourth_falls}
+use Rattle.av_normal.proofs.PieceByNumber.{case_readable, case_has_part, has_right, has_one, has_two, has_three, has_four, next_branch_left, one_branch_more, leaf_rows, reduction_rows, restriction_rows, binary_rows, choice_rows, branch_rows}
+use Rattle.av_base.proofs.Lists.{nothing_left}
+use Rattle.av_normal.proofs.outline.+rows_of_part.Goals as goal
+
+pub rows_of_part-append_read-requires-clause-fits : goal.rows_of_part-append_read-requires-clause-fits
+rows_of_part-append_read-requires-clause-fits t c =
+    let h : IsReading (signatures_of c.args.vars.now) c.args.under.now c.in-Ref.var c.in-Ref.map = rw c.in-Ref.is at c.requires.readable in
+    fits_read (signatures_of c.args.vars.now) c.args.under.now c.in-Ref.var c.in-Ref.map c.composed_map-map.result c.composed_map-map.ensures.composed h.results
+
+-- ---- branches
+
+pub rows_of_part-rows_of_case-requires : goal.rows_of_part-rows_of_case-requires
+rows_of_part-rows_of_case-requires t c = (
+  less_deep t c.args.tree.now c.in-Case.branches c.as_slice.result.now c.in-Case.is c.as_slice.ensures c.decreases,
+  (
+    case_readable (signatures_of c.args.vars.now) c.args.under.now c.args.tree.now c.in-Case.branches c.as_slice.result.now c.in-Case.is c.as_slice.ensures c.requires.readable,
+    case_has_part c.args.tree.now c.in-Case.branches c.as_slice.result.now c.args.number c.in-Case.is c.as_slice.ensures c.requires.number,
+  ),
+)
+
+pub rows_of_part-returns-in-Case-clause-part : goal.rows_of_part-returns-in-Case-clause-part
+rows_of_part-returns-in-Case-clause-part t c =
+    let e : view c.args.tree.now ≡ _ = ap view c.in-Case.is ∙ view_case c.in-Case.branches ∙ ap (λ (ts : List TreeMade). cases (trees_of (map view ts))) (sym c.as_slice.ensures) in
+    rw e c.rows_of_case.ensures.part
+
+pub rows_of_case-loop-branch-init : goal.rows_of_case-loop-branch-init
+rows_of_case-loop-branch-init t c = (record { readable = c.requires.readable; few = omega arith; there = λ less few. less; same = λ few. refl }, refl)
+
+pub rows_of_case-loop-branch-preserved : goal.rows_of_case-loop-branch-preserved
+rows_of_case-loop-branch-preserved t c =
+    let i = c.loop-branch.branch-index in
+    let trees = c.args.branches.now in
+    let l : i < length trees = search rules in
+    let next = next_branch_left (signatures_of c.args.vars.now) c.args.under.now (trees_of (map view trees)) trees i c.branch-item.result c.args.number c.loop-branch.left l c.branch-item.is c.loop-branch.invariant.0 in
+    (one_branch_more (signatures_of c.args.vars.now) c.args.under.now (trees_of (map view trees)) (view c.branch-item.result) (trees_of (map view (drop (i + 1) trees))) c.args.number c.loop-branch.left c.piece_count-count.result next c.piece_count-count.ensures (omega arith), c.loop-branch.invariant.1)
+
+pub rows_of_case-returns-then-left-count-clause-part : goal.rows_of_case-returns-then-left-count-clause-part
+rows_of_case-returns-then-left-count-clause-part t c =
+    let i = c.loop-branch.branch-index in
+    let trees = c.args.branches.now in
+    let l : i < length trees = search rules in
+    let next = next_branch_left (signatures_of c.args.vars.now) c.args.under.now (trees_of (map view trees)) trees i c.branch-item.result c.args.number c.loop-branch.left l c.branch-item.is c.loop-branch.invariant.0 in
+    if_ok c.rows_of_part.result c.rows_of_part.ensures.part
+    (λ folds p.
+    subst (λ (rows : List Form). AreRowsAt (signatures_of c.args.vars.now) c.args.under.now (cases (trees_of (map view trees))) c.args.number rows c.rows_of_part.new.rows folds) c.loop-branch.invariant.1
+    (branch_rows (signatures_of c.args.vars.now) c.args.under.now (trees_of (map view trees)) (view c.branch-item.result) (trees_of (map view (drop (i + 1) trees))) c.args.number c.loop-branch.left c.piece_count-count.result next c.piece_count-count.ensures (search rules)
+    c.loop-branch.rows c.rows_of_part.new.rows folds p))
+
+pub rows_of_case-returns-then-left-count-clause-small : goal.rows_of_case-returns-then-left-count-clause-small
+rows_of_case-returns-then-left-count-clause-small t c =
+    subst (λ (rows : List Form). OnOk c.rows_of_part.result (All IsSmall rows → All IsSmall c.rows_of_part.new.rows)) c.loop-branch.invariant.1 c.rows_of_part.ensures.small
+
+pub rows_of_case-unreachable-requires : goal.rows_of_case-unreachable-requires
+rows_of_case-unreachable-requires t c =
+    let l : length c.args.branches.now ≤ c.loop-branch.branch-index = search rules in
+    let h = subst (λ (ts : List TreeMade). c.loop-branch.left < piece_count_of_all (trees_of (map view ts))) (nothing_left c.args.branches.now c.loop-branch.branch-index l)
+    (c.loop-branch.invariant.0.there c.requires.number.0 c.requires.number.1)
+    in
+    omega (arith, h)
+
+-- ---- operands
+
+pub rows_of_part-rows_of_part-requires-in-Binary : goal.rows_of_part-rows_of_part-requires-in-Binary
+rows_of_part-rows_of_part-requires-in-Binary t c =
+    let less = right_falls t c.args.tree.now c.deref-in-Binary-2.result.now c.decreases c.in-Binary.sign c.in-Binary.left c.in-Binary.right c.in-Binary.is c.deref-in-Binary-2.ensures in (
+      omega (arith, less),
+      (
+        search rules,
+        rw c.deref-in-Binary-2.ensures (has_right c.in-Binary.sign (view c.in-Binary.left.value) (view c.in-Binary.right.value) c.args.number c.two_numbers-first.result.0 c.two_numbers-first.result.1
+            (rw c.deref.ensures at c.two_numbers-first.ensures) (rw c.in-Binary.is at c.requires.number)),
+      ),
+    )
+
+pub rows_of_part-rows_of_part-requires-in-Choose : goal.rows_of_part-rows_of_part-requires-in-Choose
+rows_of_part-rows_of_part-requires-in-Choose t c =
+    let less = first_falls t c.args.tree.now c.deref-in-Choose-4.result.now c.decreases c.in-Choose.compare c.in-Choose.left c.in-Choose.right c.in-Choose.yes c.in-Choose.no c.in-Choose.is c.deref-in-Choose-4.ensures in (
+      omega (arith, less),
+      (
+        search rules,
+        rw c.deref-in-Choose-4.ensures (has_one c.in-Choose.compare (view c.in-Choose.left.value) (view c.in-Choose.right.value) (view c.in-Choose.yes.value) (view c.in-Choose.no.value) c.args.number
+            c.four_numbers-first.result.0 c.four_numbers-first.result.1 c.four_numbers-first.result.2 c.four_numbers-first.result.3
+            (rw (c.deref-in-Choose.ensures, c.deref-in-Choose-2.ensures, c.deref-in-Choose-3.ensures) at c.four_numbers-first.ensures) (rw c.in-Choose.is at c.requires.number)),
+      ),
+    )
+
+pub rows_of_part-rows_of_part-requires-in-Choose-2 : goal.rows_of_part-rows_of_part-requires-in-Choose-2
+rows_of_part-rows_of_part-requires-in-Choose-2 t c =
+    let less = second_falls t c.args.tree.now c.deref-in-Choose-5.result.now c.decreases c.in-Choose.compare c.in-Choose.left c.in-Choose.right c.in-Choose.yes c.in-Choose.no c.in-Choose.is c.deref-in-Choose-5.ensures in (
+      omega (arith, less),
+      (
+        search rules,
+        rw c.deref-in-Choose-5.ensures (has_two c.in-Choose.compare (view c.in-Choose.left.value) (view c.in-Choose.right.value) (view c.in-Choose.yes.value) (view c.in-Choose.no.value) c.args.number
+            c.four_numbers-first.result.0 c.four_numbers-first.result.1 c.four_numbers-first.result.2 c.four_numbers-first.result.3
+            (rw (c.deref-in-Choose.ensures, c.deref-in-Choose-2.ensures, c.deref-in-Choose-3.ensures) at c.four_numbers-first.ensures) (rw c.in-Choose.is at c.requires.number)),
+      ),
+    )
+
+pub rows_of_part-rows_of_part-requires-in-Choose-3 : goal.rows_of_part-rows_of_part-requires-in-Choose-3
+rows_of_part-rows_of_part-requires-in-Choose-3 t c =
+    let less = third_falls t c.args.tree.now c.deref-in-Choose-6.result.now c.decreases c.in-Choose.compare c.in-Choose.left c.in-Choose.right c.in-Choose.yes c.in-Choose.no c.in-Choose.is c.deref-in-Choose-6.ensures in (
+      omega (arith, less),
+      (
+        search rules,
+        rw c.deref-in-Choose-6.ensures (has_three c.in-Choose.compare (view c.in-Choose.left.value) (view c.in-Choose.right.value) (view c.in-Choose.yes.value) (view c.in-Choose.no.value) c.args.number
+            c.four_numbers-first.result.0 c.four_numbers-first.result.1 c.four_numbers-first.result.2 c.four_numbers-first.result.3
+            (rw (c.deref-in-Choose.ensures, c.deref-in-Choose-2.ensures, c.deref-in-Choose-3.ensures) at c.four_numbers-first.ensures) (rw c.in-Choose.is at c.requires.number)),
+      ),
+    )
+
+pub rows_of_part-rows_of_part-requires-in-Choose-4 : goal.rows_of_part-rows_of_part-requires-in-Choose-4
+rows_of_part-rows_of_part-requires-in-Choose-4 t c =
+    let less = fourth_falls t c.args.tree.now c.deref-in-Choose-7.result.now c.decreases c.in-Choose.compare c.in-Choose.left c.in-Choose.right c.in-Choose.yes c.in-Choose.no c.in-Choose.is c.deref-in-Choose-7.ensures in (
+      omega (arith, less),
+      (
+        search rules,
+        rw c.deref-in-Choose-7.ensures (has_four c.in-Choose.compare (view c.in-Choose.left.value) (view c.in-Choose.right.value) (view c.in-Choose.yes.value) (view c.in-Choose.no.value) c.args.number
+            c.four_numbers-first.result.0 c.four_numbers-first.result.1 c.four_numbers-first.result.2 c.four_numbers-first.result.3
+            (rw (c.deref-in-Choose.ensures, c.deref-in-Choose-2.ensures, c.deref-in-Choose-3.ensures) at c.four_numbers-first.ensures) (rw c.in-Choose.is at c.requires.number)),
+      ),
+    )
+
+pub rows_of_part-returns-in_ok-right-in-Binary-clause-part : goal.rows_of_part-returns-in_ok-right-in-Binary-clause-part
+rows_of_part-returns-in_ok-right-in-Binary-clause-part t c =
+    rw (c.in-Binary.is, c.either.ensures)
+    (binary_rows (signatures_of c.args.vars.now) c.args.under.now c.in-Binary.sign (view c.in-Binary.left.value) (view c.in-Binary.right.value) c.args.number c.two_numbers-first.result.0 c.two_numbers-first.result.1
+    c.args.rows.now c.rows_of_part.new.rows c.rows_of_part-in-Binary.new.rows c.in_ok-left-in-Binary.left c.in_ok-right-in-Binary.right
+    (rw c.deref.ensures at c.two_numbers-first.ensures) (rw c.deref-in-Binary.ensures at c.in_ok-left-in-Binary.ensures.part) (rw c.deref-in-Binary-2.ensures at c.in_ok-right-in-Binary.ensures.part))
+
+pub rows_of_part-returns-in_ok-no-in-Choose-clause-part : goal.rows_of_part-returns-in_ok-no-in-Choose-clause-part
+rows_of_part-returns-in_ok-no-in-Choose-clause-part t c =
+    rw (c.in-Choose.is, c.either-in-Choose-3.ensures, c.either-in-Choose-2.ensures, c.either-in-Choose.ensures)
+    (choice_rows (signatures_of c.args.vars.now) c.args.under.now c.in-Choose.compare (view c.in-Choose.left.value) (view c.in-Choose.right.value) (view c.in-Choose.yes.value) (view c.in-Choose.no.value) c.args.number
+    c.four_numbers-first.result.0 c.four_numbers-first.result.1 c.four_numbers-first.result.2 c.four_numbers-first.result.3
+    c.args.rows.now c.rows_of_part-in-Choose.new.rows c.rows_of_part-in-Choose-2.new.rows c.rows_of_part-in-Choose-3.new.rows c.rows_of_part-in-Choose-4.new.rows
+    c.in_ok-left-in-Choose.left c.in_ok-right-in-Choose.right c.in_ok-yes-in-Choose.yes c.in_ok-no-in-Choose.no
+    (rw (c.deref-in-Choose.ensures, c.deref-in-Choose-2.ensures, c.deref-in-Choose-3.ensures) at c.four_numbers-first.ensures)
+    (rw c.deref-in-Choose-4.ensures at c.in_ok-left-in-Choose.ensures.part) (rw c.deref-in-Choose-5.ensures at c.in_ok-right-in-Choose.ensures.part)
+    (rw c.deref-in-Choose-6.ensures at c.in_ok-yes-in-Choose.ensures.part) (rw c.deref-in-Choose-7.ensures at c.in_ok-no-in-Choose.ensures.part))
+
+pub rows_of_part-returns-in_ok-no-in-Choose-clause-small : goal.rows_of_part-returns-in_ok-no-in-Choose-clause-small
+rows_of_part-returns-in_ok-no-in-Choose-clause-small t c =
+    λ h. c.in_ok-no-in-Choose.ensures.small (c.in_ok-yes-in-Choose.ensures.small (c.in_ok-right-in-Choose.ensures.small (c.in_ok-left-in-Choose.ensures.small h)))
+
+-- ---- others
+
+pub rows_of_part-returns-in_ok-append_under-in-Restrict-clause-part : goal.rows_of_part-returns-in_ok-append_under-in-Restrict-clause-part
+rows_of_part-returns-in_ok-append_under-in-Restrict-clause-part t c =
+    rw c.in-Restrict.is
+    (if_ok c.rows_of_part-in-Restrict.result (rw c.deref-in-Restrict.ensures at c.rows_of_part-in-Restrict.ensures.part)
+    (λ folds p. restriction_rows (signatures_of c.args.vars.now) c.args.under.now c.in-Restrict.domain (view c.in-Restrict.body.value) c.args.number c.args.rows.now c.append_under.new.rows c.rows_of_part-in-Restrict.new.rows folds c.in_ok-append_under-in-Restrict.ensures.rows p))
+
+pub rows_of_part-returns-in_ok-append_under-in-Restrict-clause-small : goal.rows_of_part-returns-in_ok-append_under-in-Restrict-clause-small
+rows_of_part-returns-in_ok-append_under-in-Restrict-clause-small t c =
+    on_ok c.rows_of_part-in-Restrict.result c.rows_of_part-in-Restrict.ensures.small (λ k h. k (c.in_ok-append_under-in-Restrict.ensures.small h))
+
+pub rows_of_part-returns-in-Const-clause-part : goal.rows_of_part-returns-in-Const-clause-part
+rows_of_part-returns-in-Const-clause-part t c =
+    leaf_rows (signatures_of c.args.vars.now) c.args.under.now (view c.args.tree.now) c.args.number c.args.rows.now (rw c.in-Const.is refl) (rw c.in-Const.is refl) (rw c.in-Const.is refl)
+
+pub rows_of_part-returns-in-Pick-clause-part : goal.rows_of_part-returns-in-Pick-clause-part
+rows_of_part-returns-in-Pick-clause-part t c =
+    leaf_rows (signatures_of c.args.vars.now) c.args.under.now (view c.args.tree.now) c.args.number c.args.rows.now (rw c.in-Pick.is refl) (rw c.in-Pick.is refl) (rw c.in-Pick.is refl)
+
+pub rows_of_part-returns-in-Reduce-clause-part : goal.rows_of_part-returns-in-Reduce-clause-part
+rows_of_part-returns-in-Reduce-clause-part t c =
+    rw c.in-Reduce.is (reduction_rows (signatures_of c.args.vars.now) c.args.under.now c.in-Reduce.op c.in-Reduce.map (view c.in-Reduce.body.value) c.in-Reduce.set c.args.number c.args.rows.now)

@@ -1,9 +1,0 @@
-use Rattle.std.proofs.Common.{◌≡◌, ◌++◌, take}
-use Rattle.std.specs.Prelude.{filter}
-use Rattle.av_space.specs.inner.Feeding.{is_entered, lines_of}
-use Rattle.av_space.proofs.ports.add_port.Given as goal
-
-abbrev pub invariant-loop-slot : goal.invariant-loop-slot
-invariant-loop-slot l =
-    (l.ports.inputs ≡ l.initial.ports.inputs)
-    × (l.ports.ins ≡ l.initial.ports.ins ++ lines_of l.number l.site.input.now.name l.site.map.now (filter (λ t. is_entered l.site.domain.now l.site.direction t.point) (take l.slot-index l.slots)))
