@@ -1,6 +1,6 @@
 -- The first and the last computation of a cell, by the points that stand on it.
-use Rattle.std.proofs.Common.{◌≡◌, ℕ, zero, suc, ◌+◌, ◌-◌, ◌*◌, ◌<◌, ◌≤◌, ◌^◌, ℤ, pos, ◌+ℤ◌, ◌<ℤ◌, ◌≤ℤ◌, Bool, true, false, List, [], ◌∷◌, length, map, get_or, Option, Some, refl, sym, ap, subst, ◌∙◌, arith, inl, inr, true≢false}
-use Rattle.std.specs.Prelude.{unsigned_abs, slice_get, IsTrue, All, ◌↔◌}
+use Rattle.std.proofs.Common.{◌≡◌, ℕ, zero, suc, ◌+◌, ◌-◌, ◌*◌, ◌<◌, ◌≤◌, ◌^◌, ℤ, pos, ◌+ℤ◌, Bool, false, List, [], ◌∷◌, length, map, get_or, Option, Some, refl, sym, ap, subst, ◌∙◌, arith, inl, inr, true≢false}
+use Rattle.std.specs.Prelude.{unsigned_abs, slice_get, IsTrue, ◌↔◌}
 use Rattle.std.proofs.lemmas.Int.{ints}
 use Rattle.std.proofs.lemmas.List.{length-map}
 use Rattle.std.proofs.lemmas.Option.{slice_get_within}
@@ -26,7 +26,7 @@ use Rattle.av_space.proofs.ByPlace.{read_at}
 use Rattle.av_space.proofs.Nodes.{IsTimeOf, time_at, IsSmallPoint, small_of, node_chained, computed_has, computed_within}
 use Rattle.av_space.proofs.OnePlacing.{one_placings}
 use Rattle.av_space.proofs.Rows.{small_rows, small_along}
-use Rattle.av_stream.specs.inner.Standing.{IsMatrixFor, placing_by, StandsAt, Stands, IsUsedIn, IsSpanOf, HasSpan}
+use Rattle.av_stream.specs.inner.Standing.{IsMatrixFor, placing_by, Stands, IsUsedIn, HasSpan}
 use Rattle.av_stream.proofs.StandingPoints.{is_placing}
 
 -- ---- placings
