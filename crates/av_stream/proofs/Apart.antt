@@ -1,6 +1,6 @@
 -- Problems that begin a period apart never meet: not on a cell, and so not at a port.
-use Rattle.std.proofs.Common.{◌≡◌, ◌≢◌, ℕ, suc, ◌+◌, ◌*◌, ◌<◌, ◌≤◌, List, length, map, Some, inl, inr, refl, sym, subst, ap, ◌∙◌, arith, suc-mul, mul-le-mul_right}
-use Rattle.std.specs.Prelude.{slice_get, AllPairs}
+use Rattle.std.proofs.Common.{◌≡◌, ◌≢◌, ℕ, ◌+◌, ◌*◌, ◌<◌, List, length, map, Some, inl, inr, sym, subst, ap, ◌∙◌, arith, suc-mul, mul-le-mul_right}
+use Rattle.std.specs.Prelude.{slice_get}
 use Rattle.std.specs.List.{range_with_len}
 use Rattle.std.proofs.lemmas.Bool.{cases_lt}
 use Rattle.std.proofs.lemmas.Option.{slice_get-get_or, slice_get_within}

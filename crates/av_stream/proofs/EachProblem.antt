@@ -1,6 +1,5 @@
 -- A design that shows each solution from each multiple of the period on shows the solutions of a list of inputs with the period.
-use Rattle.std.proofs.Common.{◌≡◌, ℕ, ◌*◌, ◌<◌, List, length, Some, subst, sym, arith}
-use Rattle.std.specs.Prelude.{slice_get}
+use Rattle.std.proofs.Common.{ℕ, ◌*◌, ◌<◌, List, length, arith}
 use Rattle.std.proofs.lemmas.Option.{slice_get_within}
 use Rattle.av_tree.specs.Values.{Assignment}
 use Rattle.av_flat.specs.declared.timed.Timed.{Timed}

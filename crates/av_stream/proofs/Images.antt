@@ -1,5 +1,5 @@
 -- The products of the rows of a matrix with a list of numbers, row by row.
-use Rattle.std.proofs.Common.{◌≡◌, ℕ, ◌+◌, ◌<◌, ◌≤◌, ◌^◌, ◌++◌, ◌∷◌, [], ℤ, pos, List, length, take, map, get_or, arith, to_z, of_z, w64, FitsSigned, to_z-of_z, sym, ap, ◌∙◌}
+use Rattle.std.proofs.Common.{◌≡◌, ℕ, ◌+◌, ◌<◌, ◌≤◌, ◌^◌, ◌++◌, ◌∷◌, [], ℤ, List, length, take, map, get_or, arith, to_z, of_z, w64, FitsSigned, to_z-of_z, ap, ◌∙◌}
 use Rattle.std.specs.Int.{w128}
 use Rattle.std.specs.Prelude.{unsigned_abs}
 use Rattle.std.proofs.lemmas.Int.{ints}

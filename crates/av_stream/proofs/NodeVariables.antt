@@ -1,6 +1,6 @@
 -- The nodes of a system among its variables, from left to right.
-use Rattle.std.proofs.Common.{◌≡◌, ℕ, suc, ◌+◌, ◌<◌, Bool, true, false, if◌then◌else◌, List, ◌∷◌, length, get_or, map, drop, Option, Some, sym, ap, ◌∙◌, add-one, drop-cons}
-use Rattle.std.specs.Prelude.{slice_get, filter}
+use Rattle.std.proofs.Common.{◌≡◌, ℕ, suc, ◌+◌, ◌<◌, Bool, true, false, if◌then◌else◌, List, ◌∷◌, length, get_or, map, drop, sym, ap, ◌∙◌, add-one, drop-cons}
+use Rattle.std.specs.Prelude.{filter}
 use Rattle.av_flat.specs.declared.flat.Var.{Var}
 use Rattle.av_flat.specs.Trees.{Variable, view_variable}
 use Rattle.av_flat.specs.Nodes.{is_node}

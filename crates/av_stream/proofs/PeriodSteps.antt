@@ -1,8 +1,8 @@
 -- The period of the first cells of an array, cell by cell.
-use Rattle.std.proofs.Common.{◌≡◌, ℕ, ◌+◌, ◌<◌, ◌≤◌, List, length, get_or, Some, refl, sym, ap, subst, ◌∙◌, arith, inl, inr}
+use Rattle.std.proofs.Common.{◌≡◌, ℕ, ◌+◌, ◌<◌, ◌≤◌, List, length, Some, refl, sym, subst, ◌∙◌, arith, inl, inr}
 use Rattle.std.specs.Prelude.{slice_get, max, ◌⊎◌}
 use Rattle.std.proofs.lemmas.Bool.{cases_lt}
-use Rattle.std.proofs.lemmas.Option.{slice_get_within, slice_get-get_or}
+use Rattle.std.proofs.lemmas.Option.{slice_get_within}
 use Rattle.av_base.proofs.Lists.{some_is}
 use Rattle.av_tree.specs.Points.{Point}
 use Rattle.av_flat.specs.declared.timed.Timed.{Timed}
@@ -11,7 +11,7 @@ use Rattle.av_space.specs.declared.cells.Cell.{Cell}
 use Rattle.av_space.specs.declared.cells.Cells.{Cells}
 use Rattle.av_space.specs.Coordinates.{Placing, ArePlacings}
 use Rattle.av_space.specs.Occupancy.{Occupies, Computes}
-use Rattle.av_stream.specs.Periods.{IsSpan, IsPeriod, HasPeriod}
+use Rattle.av_stream.specs.Periods.{IsSpan, HasPeriod}
 use Rattle.av_stream.specs.inner.Standing.{IsSpanOf, HasSpan}
 
 -- of the first k cells

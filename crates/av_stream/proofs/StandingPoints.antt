@@ -1,13 +1,12 @@
 -- The point of a node that stands at coordinates in a cycle, by the inverse of the node's matrix.
-use Rattle.std.proofs.Common.{◌≡◌, ℕ, inl, inr, mul-le-mul_right, ◌+◌, ◌*◌, ◌<◌, ◌≤◌, ◌^◌, ℤ, pos, ◌+ℤ◌, ◌-ℤ◌, ◌*ℤ◌, ◌<ℤ◌, ◌≤ℤ◌, List, [], ◌∷◌, length, map, drop, take, get_or, Option, Some, None, refl, sym, ap, subst, ◌∙◌, arith, ◌≢◌}
-use Rattle.std.specs.Prelude.{unsigned_abs, Any, All, IfNone}
+use Rattle.std.proofs.Common.{◌≡◌, ℕ, inl, inr, mul-le-mul_right, ◌+◌, ◌*◌, ◌<◌, ◌≤◌, ℤ, pos, ◌+ℤ◌, ◌-ℤ◌, ◌*ℤ◌, ◌<ℤ◌, ◌≤ℤ◌, List, [], ◌∷◌, length, map, drop, get_or, Option, Some, None, refl, sym, ap, subst, ◌∙◌, arith, ◌≢◌}
+use Rattle.std.specs.Prelude.{unsigned_abs, Any, IfNone}
 use Rattle.std.specs.Int.{int_div_euclid}
 use Rattle.std.proofs.Math.IntN.{*ℤ_comm}
 use Rattle.std.proofs.Math.Nat.{mul_comm}
 use Rattle.std.proofs.lemmas.Bool.{cases_lt}
 use Rattle.std.proofs.lemmas.Int.{ints, unsigned_abs-mul}
 use Rattle.std.proofs.lemmas.List.{nil_from_length, length-map, get_or-map}
-use Rattle.std.proofs.lemmas.List.Elements.{All-cons}
 use Rattle.av_affine.specs.declared.completion.Placed.{Placed}
 use Rattle.av_affine.specs.Numbers.{dot, AtMost}
 use Rattle.av_affine.specs.Completion.{first_row, rows_of, IsCompletion, beside_one, beside_two}

@@ -1,5 +1,5 @@
 -- The plan of an array whose cells choose by the phase of its period takes problem after problem.
-use Rattle.std.proofs.Common.{◌≡◌, ℕ, ◌*◌, List, sym, subst}
+use Rattle.std.proofs.Common.{ℕ, List, sym, subst}
 use Rattle.std.specs.Prelude.{All}
 use Rattle.std.proofs.lemmas.List.Elements.{All-weaker}
 use Rattle.av_tree.specs.Values.{Assignment}

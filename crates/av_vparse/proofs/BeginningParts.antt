@@ -16,7 +16,7 @@ use Rattle.av_net.specs.Names.{clk, rst}
 use Rattle.av_net.specs.Sound.{IsOrder}
 use Rattle.av_net.specs.Lexemes.{Token}
 use Rattle.av_net.specs.Grammar.{Declaration, wire, register, Item, drive, widening, step as step_item, AreWords, no_word, next_word, IsWordAt, IsNameAt, name, IsNumberAt, number, IsLiteralAt, IsRange, no_range, range, IsPort, IsDeclaration, wire_declaration, register_declaration, IsOperand, named, constant, spelling, IsSigned, IsOperation, plain, binary, signed, choice, selection, IsEdge, IsItem, at_an_edge, IsKindItem, kind_assignment, kind_wide_assignment}
-use Rattle.av_vparse.specs.inner.Reading.{◌>>=◌, Read, same, after, is_word, is_at, word_at, words_at, name_at, this_name_at, is_between, number_at, Sized, is_literal, sized_in, literal_by, literal_at, width_for, range_at, port_at, directed_at, declared_at, declaration_at, begins_literal, operand_at, order_of, symbol_at, order_by, order_at, signed_at, comparison_at, choice_at, selection_at, selected_bit_at, widening_at, alone_by, binary_by, operation_by, operation_at, given_at, assigned_at, edge_at, reset_at, step_at}
+use Rattle.av_vparse.specs.inner.Reading.{◌>>=◌, Read, same, after, is_word, is_at, word_at, words_at, name_at, this_name_at, is_between, number_at, Sized, is_literal, sized_in, literal_by, literal_at, width_for, range_at, port_at, directed_at, declared_at, declaration_at, begins, operand_at, order_of, symbol_at, order_by, order_at, signed_at, comparison_at, choice_at, selection_at, selected_bit_at, widening_at, alone_by, binary_by, operation_by, operation_at, given_at, assigned_at, edge_at, reset_at, step_at}
 use Rattle.av_vparse.proofs.Steps.{word_took, name_took, this_name_took, number_took, literal_took, at_word}
 use Rattle.av_vparse.proofs.Sound.{width_bits, symbol_took, order_took, Selected, part_is, Widened, name_of, Reset}
 use Rattle.av_vparse.proofs.Verdicts.{Ends, ends_some, left_ends, puts_none, Alike, Verdict, past, Reads, pair, alone, one_token, Follows, follows, then_reads, Mapped, mapped, unmap, map_reads, verdict_as, reads_as, opened, when_true, when_false, behind}
@@ -275,11 +275,11 @@ unfolding operand_at
 operand_reads = record { judged = judge; some = (reads_as as_name name_operand).some }
   where
     judge : (ts : List Token) → Ends ts → Verdict true pair IsOperand operand_at ts
-    judge ts e = go (begins_literal ts) refl
+    judge ts e = go (begins kind.Literal ts) refl
       where
-        go : (b : Bool) → begins_literal ts ≡ b → Verdict true pair IsOperand operand_at ts
-        go true h = when_true _ _ begins_literal (alike_test begins_literal (λ t a b. refl)) h (verdict_as as_literal (literal_operand.judged ts e))
-        go false h = when_false _ _ begins_literal (alike_test begins_literal (λ t a b. refl)) h (verdict_as as_name (name_operand.judged ts e))
+        go : (b : Bool) → begins kind.Literal ts ≡ b → Verdict true pair IsOperand operand_at ts
+        go true h = when_true _ _ (begins kind.Literal) (alike_test (begins kind.Literal) (λ t a b. refl)) h (verdict_as as_literal (literal_operand.judged ts e))
+        go false h = when_false _ _ (begins kind.Literal) (alike_test (begins kind.Literal) (λ t a b. refl)) h (verdict_as as_name (name_operand.judged ts e))
 
 -- an order, where a symbol is one
 abbrev OrderIs : List Token → List Token → Symbol → Type 0

@@ -21,7 +21,7 @@ use Rattle.av_net.specs.Sound.{IsOrder}
 use Rattle.av_net.specs.Lexemes.{Token}
 use Rattle.av_net.specs.Names.{clk}
 use Rattle.av_net.specs.Grammar.{Text, ModuleText, Declaration, Link, Instantiation, Item, step as step_item, instance, AreWords, no_word, next_word, IsWordAt, IsNameAt, name, IsLiteralAt, literal, IsRange, no_range, range, IsPort, IsDeclaration, wire_declaration, register_declaration, IsPart, IsWidening, IsOperand, named, constant, spelling, IsSigned, IsOperation, plain, binary, signed, choice, selection, IsEdge, IsStep, AreMany, no_more, one_more, IsLink, IsNextLink, IsInstantiation, IsItem, assignment, wide_assignment, at_an_edge, instantiation, IsKindInput, IsKindDeclaration, kind_wire, IsKindItem, kind_assignment, kind_wide_assignment, IsClockFirst, IsKind, IsClocked, IsTop, IsText}
-use Rattle.av_vparse.specs.inner.Reading.{Read, same, is_word, is_at, are_at, begins_literal, begins_name, range_at, port_at, directed_at, declared_at, begins_declaration, declaration_at, operand_at, order_of, symbol_of, symbol_at, order_by, order_at, signed_at, comparison_at, choice_at, selection_at, selected_bit_at, widening_at, alone_by, binary_by, operation_by, operation_at, given_at, assigned_at, edge_at, reset_at, step_at, link_at, next_link_at, instance_at, begins_item, item_at, many_at, all_at, ports_at, closed_at, clocked_at, header_at, top_at, is_name, begins_top, begins_kind, kind_input_at, kind_outputs_at, kind_header_at, kind_wire_at, kind_at, text_at}
+use Rattle.av_vparse.specs.inner.Reading.{Read, same, is_word, is_at, are_at, begins, range_at, port_at, directed_at, declared_at, begins_declaration, declaration_at, operand_at, order_of, symbol_of, symbol_at, order_by, order_at, signed_at, comparison_at, choice_at, selection_at, selected_bit_at, widening_at, alone_by, binary_by, operation_by, operation_at, given_at, assigned_at, edge_at, reset_at, step_at, link_at, next_link_at, instance_at, begins_item, item_at, many_at, all_at, ports_at, closed_at, clocked_at, header_at, top_at, is_name, begins_top, begins_kind, kind_input_at, kind_outputs_at, kind_header_at, kind_wire_at, kind_at, text_at}
 use Rattle.av_vparse.proofs.Steps.{same_is, text_is, other_kind, same_self, kind_other, not_name, is_text, word_gives, words_give, word_there, other_there, name_gives, this_name_gives, number_gives, literal_gives, end_gives}
 use Rattle.av_vparse.proofs.BitsOf.{is_width_of}
 use Rattle.av_vparse.proofs.Sound.{top_there}
@@ -75,11 +75,11 @@ operand_gives : {ts rest : List Token} {x : Operand} → IsOperand ts rest x →
 unfolding operand_at
 operand_gives (named n) = rw (no_literal n, name_gives n) refl
   where
-    no_literal : {ts rest : List Token} {text : List ℕ} → IsNameAt ts rest text → begins_literal ts ≡ false
+    no_literal : {ts rest : List Token} {text : List ℕ} → IsNameAt ts rest text → begins kind.Literal ts ≡ false
     no_literal (name {t = t} k e) = rw k refl
 operand_gives (constant l) = rw (a_literal l, literal_gives l) refl
   where
-    a_literal : {ts rest : List Token} {width : Width} {value : ℕ} → IsLiteralAt ts rest width value → begins_literal ts ≡ true
+    a_literal : {ts rest : List Token} {width : Width} {value : ℕ} → IsLiteralAt ts rest width value → begins kind.Literal ts ≡ true
     a_literal (literal {t = t} k e) = same_self t.kind kind.Literal k
 
 -- a literal begins with a digit
@@ -309,7 +309,7 @@ item_gives ts rest x (wide_assignment w) = rw ((word_there w.assigns).0) (assign
 item_gives ts rest x (at_an_edge s) = let f = edge_first s.at_edge in rw (f.1, f.0) (step_gives s)
 item_gives ts rest x (instantiation i) = rw (name_there i.kind (codes "assign"), name_there i.kind (codes "always")) (instance_gives i)
 
-a_name : {ts rest : List Token} {text : List ℕ} → IsNameAt ts rest text → begins_name ts ≡ true
+a_name : {ts rest : List Token} {text : List ℕ} → IsNameAt ts rest text → begins kind.Name ts ≡ true
 a_name (name {t = t} k e) = same_self t.kind kind.Name k
 
 pub item_begins : (ts rest : List Token) (x : Item) → IsItem ts rest x → begins_item ts ≡ true
@@ -348,7 +348,7 @@ no_declaration (one_more (wide_assignment w) many) s = rw (other_there w.assigns
 no_declaration (one_more (at_an_edge e) many) s = rw (other_there e.at_edge.at_edge (codes "wire") refl, other_there e.at_edge.at_edge (codes "reg") refl) refl
 no_declaration (one_more (instantiation i) many) s = rw (name_there i.kind (codes "wire"), name_there i.kind (codes "reg")) refl
 
-no_name : {text : List ℕ} {ts rest : List Token} → IsWordAt text ts rest → begins_name ts ≡ false
+no_name : {text : List ℕ} {ts rest : List Token} → IsWordAt text ts rest → begins kind.Name ts ≡ false
 no_name (next_word {t = t} k e (no_word)) = not_name t.kind k
 
 no_item : {ts rest : List Token} → IsWordAt (codes "endmodule") ts rest → begins_item ts ≡ false

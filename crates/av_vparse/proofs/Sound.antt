@@ -17,7 +17,7 @@ use Rattle.av_net.specs.Names.{clk, rst}
 use Rattle.av_net.specs.Sound.{IsOrder}
 use Rattle.av_net.specs.Lexemes.{Token}
 use Rattle.av_net.specs.Grammar.{Text, ModuleText, Declaration, wire, register, Link, Instantiation, Item, drive, widening, step as step_item, instance, AreWords, no_word, next_word, IsWordAt, IsNameAt, name, IsNumberAt, IsLiteralAt, IsRange, no_range, range, IsPort, IsDeclaration, wire_declaration, register_declaration, IsPart, IsWidening, IsOperand, named, constant, spelling, IsSigned, IsOperation, plain, binary, signed, choice, selection, IsEdge, AreMany, no_more, one_more, IsLink, IsNextLink, IsItem, assignment, wide_assignment, at_an_edge, instantiation, IsKindInput, IsKindDeclaration, kind_wire, IsKindItem, kind_assignment, kind_wide_assignment, IsClockFirst, IsKind, IsClocked, IsTop, IsText}
-use Rattle.av_vparse.specs.inner.Reading.{Read, same, after, is_at, are_at, begins_literal, word_at, words_at, name_at, number_at, Sized, literal_at, end_at, width_for, range_at, port_at, directed_at, declared_at, begins_declaration, declaration_at, operand_at, order_of, arithmetic_of, bitwise_of, or_else, symbol_of, symbol_at, order_by, order_at, signed_at, comparison_at, choice_at, selection_at, selected_bit_at, widening_at, alone_by, binary_by, operation_by, operation_at, given_at, assigned_at, this_name_at, edge_at, reset_at, step_at, link_at, next_link_at, links_at, instance_at, begins_item, item_at, many_at, all_at, ports_at, declarations_at, items_at, assignments_at, Header, closed_at, clocked_at, header_at, with_body, top_at, begins_top, begins_kind, kind_input_at, kind_inputs_at, more_outputs_at, kind_outputs_at, kind_header_at, kind_wire_at, kind_wires_at, kind_at, kinds_at, text_at}
+use Rattle.av_vparse.specs.inner.Reading.{Read, same, after, is_at, are_at, begins, word_at, words_at, name_at, number_at, Sized, literal_at, end_at, width_for, range_at, port_at, directed_at, declared_at, begins_declaration, declaration_at, operand_at, order_of, arithmetic_of, bitwise_of, or_else, symbol_of, symbol_at, order_by, order_at, signed_at, comparison_at, choice_at, selection_at, selected_bit_at, widening_at, alone_by, binary_by, operation_by, operation_at, given_at, assigned_at, this_name_at, edge_at, reset_at, step_at, link_at, next_link_at, links_at, instance_at, begins_item, item_at, many_at, all_at, ports_at, declarations_at, items_at, assignments_at, Header, closed_at, clocked_at, header_at, with_body, top_at, begins_top, begins_kind, kind_input_at, kind_inputs_at, more_outputs_at, kind_outputs_at, kind_header_at, kind_wire_at, kind_wires_at, kind_at, kinds_at, text_at}
 use Rattle.av_vparse.proofs.Steps.{step, chosen, ok_is, other_than, text_is, same_self, kind_other, is_text, word_took, at_word, words_took, name_took, this_name_took, number_took, literal_took, end_took}
 use Rattle.av_vparse.proofs.BitsOf.{bits_of}
 use Rattle.av_base.proofs.Truths.{not_true}
@@ -90,7 +90,7 @@ declaration_took ts y e =
 pub operand_took : (ts : List Token) (y : Operand × List Token) → operand_at ts ≡ Ok y → IsOperand ts y.1 y.0
 unfolding operand_at
 operand_took ts y e =
-    chosen (begins_literal ts) _ _ _ e
+    chosen (begins kind.Literal ts) _ _ _ e
     (λ h r. step (literal_at ts) _ y r (λ x e1 r1.
     let found : Operand × List Token = (operand.Literal x.0.width x.0.value, x.1) in
     subst (λ (z : Operand × List Token). IsOperand ts z.1 z.0) (ok_is found y r1) (constant (literal_took ts x e1))))

@@ -2,7 +2,8 @@
 
 ghost use Rattle.std.specs.Prelude.{◌≡◌, ◌≤◌, ◌∷◌, [], IfOk};
 ghost use Rattle.av_vparse.specs.inner.Lexing.{views};
-ghost use Rattle.av_vparse.specs.inner.Reading.{Gives, place_of, after, is_at, are_at, word_at, words_at, name_at, number_at, sized_view, literal_at, end_at, begins_literal, begins_name, this_name_at};
+ghost use Rattle.av_vparse.specs.inner.Reading.{Gives, place_of, after, is_at, are_at, word_at, words_at, name_at, number_at, sized_view, literal_at, end_at, begins, this_name_at};
+ghost use Rattle.av_vparse.specs.declared.fault.ReadError.TheVariants as error;
 
 use crate::fault::ReadError;
 use crate::literal::{Literal, literal_of};
@@ -61,24 +62,21 @@ impl<'t, 'a> Cursor<'t, 'a> {
         }
     }
 
-    /// Whether a literal stands next.
-    pub(crate) fn is_at_literal(&self) -> bool
-        ensures { result ≡ begins_literal (views self.now.rest.now) }
+    /// Whether the next token is of this kind.
+    pub(crate) fn begins(&self, kind: TokenKind) -> bool
+        ensures { result ≡ begins kind (views self.now.rest.now) }
     {
         match self.rest {
-            [first, ..] => first.kind == TokenKind::Literal,
+            [first, ..] => first.kind == kind,
             [] => false,
         }
     }
 
-    /// Whether a name stands next.
-    pub(crate) fn is_at_name(&self) -> bool
-        ensures { result ≡ begins_name (views self.now.rest.now) }
+    /// The next token is faulty.
+    pub(crate) fn syntax(&self) -> ReadError
+        ensures { result ≡ error.Syntax (place_of (views self.now.rest.now)) }
     {
-        match self.rest {
-            [first, ..] => first.kind == TokenKind::Name,
-            [] => false,
-        }
+        ReadError::Syntax(self.place())
     }
 
     /// This token, which is no name.
@@ -91,7 +89,7 @@ impl<'t, 'a> Cursor<'t, 'a> {
                 self.rest = rest;
                 Ok(())
             }
-            _ => Err(ReadError::Syntax(self.place())),
+            _ => Err(self.syntax()),
         }
     }
 
@@ -113,7 +111,7 @@ impl<'t, 'a> Cursor<'t, 'a> {
                 self.rest = rest;
                 Ok(Name::new(self.alloc, first.text)?)
             }
-            _ => Err(ReadError::Syntax(self.place())),
+            _ => Err(self.syntax()),
         }
     }
 
@@ -127,7 +125,7 @@ impl<'t, 'a> Cursor<'t, 'a> {
                 self.rest = rest;
                 Ok(())
             }
-            _ => Err(ReadError::Syntax(self.place())),
+            _ => Err(self.syntax()),
         }
     }
 
@@ -147,7 +145,7 @@ impl<'t, 'a> Cursor<'t, 'a> {
                     _ => Err(ReadError::Syntax(first.place)),
                 }
             }
-            _ => Err(ReadError::Syntax(self.place())),
+            _ => Err(self.syntax()),
         }
     }
 
@@ -166,7 +164,7 @@ impl<'t, 'a> Cursor<'t, 'a> {
                     None => Err(ReadError::Syntax(first.place)),
                 }
             }
-            _ => Err(ReadError::Syntax(self.place())),
+            _ => Err(self.syntax()),
         }
     }
 
@@ -177,7 +175,7 @@ impl<'t, 'a> Cursor<'t, 'a> {
     {
         match self.rest {
             [last] if last.kind == TokenKind::End => Ok(()),
-            _ => Err(ReadError::Syntax(self.place())),
+            _ => Err(self.syntax()),
         }
     }
 }

@@ -10,7 +10,7 @@ use crate::fault::ReadError;
 use crate::literal::Literal;
 use crate::parsed::Item;
 use av_base::{List, Name};
-use av_net::{Drive, Step};
+use av_net::{Drive, Step, TokenKind};
 
 impl<'t, 'a> Cursor<'t, 'a> {
     // A widening for a target, and the end.
@@ -94,7 +94,7 @@ impl<'t, 'a> Cursor<'t, 'a> {
     fn begins_item(&self) -> bool
         ensures { result ≡ begins_item (views self.now.rest.now) }
     {
-        self.is_at("assign") || self.is_at("always") || self.is_at_name()
+        self.is_at("assign") || self.is_at("always") || self.begins(TokenKind::Name)
     }
 
     #[tactic(auto, unfolding(crate::specs::inner::Reading::item_at))]

@@ -15,7 +15,7 @@ impl<'t, 'a> Cursor<'t, 'a> {
     pub(crate) fn operand(&mut self) -> Result<Operand, ReadError>
         ensures { Gives (λ x. (x, views self.new.rest.now)) result (operand_at (views self.old.rest.now)) }
     {
-        if self.is_at_literal() {
+        if self.begins(TokenKind::Literal) {
             let literal = self.literal()?;
             return Ok(Operand::Literal {
                 width: literal.width,
@@ -50,7 +50,7 @@ impl<'t, 'a> Cursor<'t, 'a> {
                 }
                 None => Err(ReadError::Syntax(first.place)),
             },
-            _ => Err(ReadError::Syntax(self.place())),
+            _ => Err(self.syntax()),
         }
     }
 

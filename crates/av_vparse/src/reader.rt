@@ -44,7 +44,7 @@ impl<'t, 'a> Cursor<'t, 'a> {
     {
         if self.is_at(",") {
             self.skip();
-            return Err(ReadError::Syntax(self.place()));
+            return Err(self.syntax());
         }
         self.pair(")", ";")
     }

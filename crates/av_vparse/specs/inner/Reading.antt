@@ -1,6 +1,6 @@
 -- Reading the tokens of a design text from left to right. What is read is a part and the tokens after it, or
 -- the place of the token where reading stops.
-use Rattle.std.specs.Prelude.{◌≡◌, ℕ, zero, suc, ◌+◌, ◌^◌, Bool, false, not, ◌&&◌, ◌||◌, if◌then◌else◌, nat_eq, nat_lt, nat_le, List, [], ◌∷◌, ◌++◌, length, map, take, drop, Option, Some, None, Result, Ok, Err, codes}
+use Rattle.std.specs.Prelude.{◌≡◌, ℕ, zero, suc, ◌+◌, ◌^◌, Bool, false, not, ◌&&◌, ◌||◌, if◌then◌else◌, nat_eq, nat_lt, nat_le, List, [], ◌∷◌, ◌++◌, length, take, drop, Option, Some, None, Result, Ok, Err, codes}
 use Rattle.std.specs.List.{prefix_len}
 use Rattle.std.specs.Char.{is_ascii_digit}
 use Rattle.std.specs.Str.{bytes_eq}
@@ -18,7 +18,7 @@ use Rattle.av_net.specs.declared.operation.Operation.TheVariants as operation
 use Rattle.av_net.specs.declared.netlist.Port.{Port}
 use Rattle.av_net.specs.Names.{clk, rst}
 use Rattle.av_net.specs.Lexemes.{Token}
-use Rattle.av_net.specs.Grammar.{Text, ModuleText, Declaration, wire, register, Link, Instantiation, Item, drive, widening, step, instance}
+use Rattle.av_net.specs.Grammar.{Text, ModuleText, Declaration, wire, register, Link, Item, drive, widening, step, instance}
 use Rattle.av_vparse.specs.Digits.{are_digits}
 use Rattle.av_vparse.specs.inner.Bits.{is_width, width_of}
 use Rattle.av_vparse.specs.declared.fault.ReadError.{ReadError}
@@ -67,6 +67,11 @@ place_of (t ∷ ts) = t.place
 abbrev pub after : List Token → List Token
 after [] = []
 after (t ∷ ts) = ts
+
+-- whether the next token is of this kind
+abbrev pub begins : TokenKind → List Token → Bool
+begins k [] = false
+begins k (t ∷ ts) = same t.kind k
 
 -- whether a token is no name, and has this text
 abbrev pub is_word : List ℕ → Token → Bool
@@ -188,13 +193,9 @@ declaration_at ts =
 
 -- ---- items
 
-abbrev pub begins_literal : List Token → Bool
-begins_literal [] = false
-begins_literal (t ∷ ts) = same t.kind kind.Literal
-
 unfoldable pub operand_at : Read Operand
 operand_at ts =
-    if begins_literal ts then (literal_at ts >>= λ x. Ok (operand.Literal x.0.width x.0.value, x.1))
+    if begins kind.Literal ts then (literal_at ts >>= λ x. Ok (operand.Literal x.0.width x.0.value, x.1))
     else (name_at ts >>= λ name. Ok (operand.Name name.0, name.1))
 
 -- the order that a symbol stands for
@@ -329,10 +330,6 @@ step_at ts = do
   t4 ← word_at (codes ";") next.1
   Ok (step reset.0.width (record { register = name.0; reset = reset.0.value; next = next.0 }), t4)
 
-abbrev pub begins_name : List Token → Bool
-begins_name [] = false
-begins_name (t ∷ ts) = same t.kind kind.Name
-
 -- `.port(operand)`
 unfoldable pub link_at : Read Link
 link_at ts = do
@@ -347,7 +344,7 @@ unfoldable pub next_link_at : Read Link
 next_link_at ts = word_at (codes ",") ts >>= λ rest. link_at rest
 
 abbrev pub begins_item : List Token → Bool
-begins_item ts = is_at (codes "assign") ts || is_at (codes "always") ts || begins_name ts
+begins_item ts = is_at (codes "assign") ts || is_at (codes "always") ts || begins kind.Name ts
 
 -- ---- lists
 

@@ -1,4 +1,4 @@
-use Rattle.std.proofs.Common.{◌≡◌, ℕ, ◌+◌, ◌-◌, ◌<◌, ◌≤◌, ap, arith, true, false}
+use Rattle.std.proofs.Common.{◌+◌, ◌-◌, arith}
 use Rattle.av_flat.specs.Trees.{Variable, view_variable}
 use Rattle.av_stream.proofs.CellSpans.{node_within, time_within, time_of_node, of_cell, near, small, size, indices, small_entries, known, timely, not_past, not_first, later_none, earlier_none, in_order, span_is}
 use Rattle.av_stream.proofs.spans.span.Goals as goal

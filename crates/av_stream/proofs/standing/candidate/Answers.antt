@@ -1,4 +1,4 @@
-use Rattle.std.proofs.Common.{◌≡◌, ◌+◌, ℕ, ℤ, List, [], Option, Some, None, length, sym, subst, ap, ◌∙◌, arith, pos, of_z, w64}
+use Rattle.std.proofs.Common.{◌≡◌, ℤ, List, [], Option, None, length, sym, subst, ap, ◌∙◌, arith, pos, of_z, w64}
 use Rattle.std.specs.Prelude.{IfSome, IfNone}
 use Rattle.av_affine.specs.declared.completion.Placed.{Placed}
 use Rattle.av_affine.specs.Numbers.{AtMost}

@@ -1,7 +1,6 @@
-use Rattle.std.proofs.Common.{◌≡◌, ◌≤◌, ◌^◌, ◌+◌, ◌++◌, ◌∷◌, [], ℤ, List, take, map, get_or, arith, to_z, of_z, w64, sym, ap, subst, ◌∙◌, pos}
+use Rattle.std.proofs.Common.{◌≡◌, ◌≤◌, ◌++◌, ◌∷◌, [], ℤ, List, take, get_or, arith, to_z, of_z, w64, sym, ap, subst, ◌∙◌, pos}
 use Rattle.std.specs.Int.{w128}
 use Rattle.std.specs.Prelude.{unsigned_abs}
-use Rattle.std.proofs.lemmas.Int.{ints}
 use Rattle.std.proofs.lemmas.List.Elements.{All-push}
 use Rattle.av_affine.specs.Numbers.{dot, AtMost}
 use Rattle.av_stream.proofs.Images.{along_more, along_at, length_along, as_wide, as_narrow}

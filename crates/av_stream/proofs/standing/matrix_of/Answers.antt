@@ -1,4 +1,4 @@
-use Rattle.std.proofs.Common.{◌≡◌, ◌<◌, ◌≤◌, ℕ, ℤ, List, length, rules, sym, ap, subst, ◌∙◌, arith}
+use Rattle.std.proofs.Common.{◌≡◌, ◌<◌, ◌≤◌, ℕ, length, rules, sym, ap, subst, ◌∙◌, arith}
 use Rattle.av_affine.specs.Squares.{product, identity}
 use Rattle.av_affine.specs.Completion.{first_row}
 use Rattle.av_space.proofs.Inverse.{square_keeps}

@@ -1,5 +1,5 @@
-use Rattle.std.proofs.Common.{◌≡◌, ◌<◌, ◌≤◌, ◌^◌, ◌∷◌, ◌+◌, ℕ, ℤ, List, Some, length, pos, ◌-ℤ◌, sym, ap, subst, ◌∙◌, arith, to_z, of_z, w64}
-use Rattle.std.specs.Prelude.{unsigned_abs, IfSome, IfNone}
+use Rattle.std.proofs.Common.{◌≡◌, ◌≤◌, ◌^◌, ◌∷◌, ℤ, List, Some, length, pos, ◌-ℤ◌, sym, ap, subst, ◌∙◌, arith, to_z, of_z, w64}
+use Rattle.std.specs.Prelude.{unsigned_abs}
 use Rattle.std.proofs.lemmas.Int.{ints}
 use Rattle.std.proofs.lemmas.Option.{IfSome_then}
 use Rattle.std.proofs.lemmas.List.Elements.{All-cons, All-weaker}

@@ -1,8 +1,7 @@
-use Rattle.std.proofs.Common.{◌≡◌, ◌≤◌, ◌^◌, ℕ, ℤ, List, true, false, IsTrue, length, sym, subst, ap, ◌∙◌, arith, true≢false}
+use Rattle.std.proofs.Common.{◌≤◌, ◌^◌, ℤ, List, sym, subst, ◌∙◌, arith, true≢false}
 use Rattle.std.specs.Prelude.{unsigned_abs}
 use Rattle.std.proofs.lemmas.List.Elements.{All-weaker}
 use Rattle.av_poly.specs.Points.{Has}
-use Rattle.av_flat.specs.Points.{has}
 use Rattle.av_flat.proofs.Sets.{has_is}
 use Rattle.av_stream.proofs.standing.stands.Goals as goal
 
