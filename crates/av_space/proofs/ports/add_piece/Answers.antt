@@ -1,7 +1,7 @@
 use Rattle.std.proofs.Common.{rules, ◌≡◌, ◌∙◌, ◌<◌, ◌≤◌, ℕ, List, Some, length, sym, ap, subst, arith}
 use Rattle.std.specs.Prelude.{slice_get}
 use Rattle.std.proofs.lemmas.Option.{slice_get-get_or}
-use Rattle.av_flat.specs.Broadcasts.{Reference, references}
+use Rattle.av_flat.specs.Broadcasts.{Reference}
 use Rattle.av_flat.specs.Trees.{view, reference}
 use Rattle.av_space.specs.inner.NodePieces.{IsPart, ArePortsAt}
 use Rattle.av_space.proofs.PieceParts.{part_at}

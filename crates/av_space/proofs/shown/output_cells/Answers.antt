@@ -5,7 +5,8 @@ use Rattle.av_flat.specs.Nodes.{nodes}
 use Rattle.av_flat.specs.Signatures.{is_kind}
 use Rattle.av_flat.specs.Trees.{view_system, view_variable}
 use Rattle.av_space.proofs.ByPlace.{read_at}
-use Rattle.av_space.proofs.OnCells.{node_in_places, node_within}
+use Rattle.av_flat.proofs.NodeNumbers.{node_in_places}
+use Rattle.av_space.proofs.OnCells.{node_within}
 use Rattle.av_space.proofs.OutputCells.{one_output_more, no_output_more}
 use Rattle.av_space.proofs.shown.output_cells.Goals as goal
 use Rattle.av_space.proofs.shown.output_cells.Goals.{then-is_output+in_ok-push, else-is_output}
