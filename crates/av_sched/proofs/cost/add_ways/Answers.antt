@@ -5,7 +5,7 @@ use Rattle.av_tree.specs.Points.{Point}
 use Rattle.av_flat.specs.Broadcasts.{Reference}
 use Rattle.av_flat.specs.Trees.{view, reference}
 use Rattle.av_flat.proofs.Reading.{each_reference}
-use Rattle.av_sched.specs.inner.Ways.{IsSmallReference, HasSmallReferences, ways_of}
+use Rattle.av_sched.specs.inner.Ways.{HasSmallReferences, ways_of}
 use Rattle.av_sched.proofs.Ways.{ways_append}
 use Rattle.av_sched.proofs.cost.add_ways.Goals as goal
 use Rattle.av_base.proofs.Lists.{next_taken, take_whole}
@@ -19,8 +19,7 @@ add_way-requires c =
     let l : i < length items = search rules in
     let each = subst (AllByRecursion P) (sym (c.as_slice-reference-items.ensures ∙ c.in_ok-found.ensures)) (each_reference HasSmallReferences (λ g l r h. h) (λ l o r x y h. h) (view c.args.tree.now) c.requires) in
     let own : P x = subst P (sym c.reference-item.is) (All-from_recursion P items each i x l) in
-    let small : IsSmallReference (record { place = c.reference.inside.var; map = c.reference.inside.map.now }) = subst P (sym c.reference.view_is) own in
-    record { from = small.few; rows = small.rows }
+    subst P (sym c.reference.view_is) own
 
 pub loop-reference-preserved : goal.loop-reference-preserved
 loop-reference-preserved c =
