@@ -18,7 +18,7 @@ use std::alloc::Global;
 
 /// A scheduled system with its pipelines, and its array.
 #[derive(Debug, Drop)]
-pub struct Array {
+pub struct MappedSystem {
     pub timed: Timed,
     pub cells: Cells,
 }
@@ -69,7 +69,7 @@ pub fn mapped(
     sizes: &[Size],
     width: Width,
     reach: Reach,
-) -> Result<Array, Refusal>
+) -> Result<MappedSystem, Refusal>
     requires short { length bytes.now < 4294967295 }
     requires small { AreSmall sizes.now }
 
@@ -89,7 +89,7 @@ pub fn mapped(
     ensures complete { (t : System) → IsPipelined bytes.now sizes.now width.bits reach.size t → HasArray t → IfErr result (λ f. f ≡ refusal.Memory) }
 {
     let found = mapped_with_layout(alloc, bytes, sizes, width, reach)?;
-    Ok(Array {
+    Ok(MappedSystem {
         timed: found.timed,
         cells: found.cells,
     })

@@ -62,7 +62,7 @@ fn next_site(site: u32, count: usize) -> u32
     site + 1
 }
 
-// Puts the places of a tree behind others; the number of the next reference.
+// Appends the places of a tree; the number of the next reference.
 fn add_places<'a>(
     piece: usize,
     site: u32,

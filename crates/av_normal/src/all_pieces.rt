@@ -114,7 +114,7 @@ fn made_piece(
     Ok(Piece { domain, tree })
 }
 
-// Puts all pieces of a tree behind others, by the sketch of the tree.
+// Appends all pieces of a tree, by the sketch of the tree.
 fn append_by_sketch(
     alloc: Global,
     vars: &[Var],
@@ -139,7 +139,7 @@ fn append_by_sketch(
     Ok(())
 }
 
-// Puts all pieces of a tree behind others.
+// Appends all pieces of a tree.
 fn append_pieces(
     alloc: Global,
     vars: &[Var],

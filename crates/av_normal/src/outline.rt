@@ -62,7 +62,7 @@ fn either(first: bool, second: bool) -> bool
     first || second
 }
 
-// Puts the rows of the part with this number behind others, and tells whether a reduction is in its tree.
+// Appends the rows of the part with this number, and tells whether a reduction is in its tree.
 #[cycle(rows_of_part)]
 fn rows_of_part(
     alloc: Global,

@@ -74,7 +74,7 @@ pub(crate) fn four_numbers(
     (first, second, third, fourth)
 }
 
-/// Puts the rows of a variable's domain, taken at the image under a map, behind others.
+/// Appends the rows of a variable's domain, taken at the image under a map.
 pub(crate) fn append_read(
     alloc: Global,
     vars: &[Var],
@@ -104,7 +104,7 @@ fn reduction(op: Op, map: &Map, body: Box<Tree>, rows: List<Form>) -> Tree
     Tree::reduction(op, copy_map(map), body, set)
 }
 
-// The tree of the part with this number; its rows are put behind others.
+// The tree of the part with this number; its rows are appended.
 #[cycle(part_of)]
 fn part_of(
     alloc: Global,
@@ -166,7 +166,7 @@ fn part_of(
     }
 }
 
-// The tree of the part of a case with this number, which a branch has; its rows are put behind others.
+// The tree of the part of a case with this number, which a branch has; its rows are appended.
 #[cycle(part_of)]
 fn part_of_case(
     alloc: Global,

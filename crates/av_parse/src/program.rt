@@ -19,14 +19,14 @@ use std::alloc::Global;
 
 /// The name, the sizes, the inputs and the outputs of a system.
 #[derive(Drop)]
-struct Header {
+struct SystemHeader {
     name: Name,
     sizes: DomainText,
     inputs: List<Declaration>,
     outputs: List<Declaration>,
 }
 
-// One declaration for each name, put behind these, each with a copy of the domain.
+// One declaration for each name, appended to these, each with a copy of the domain.
 fn declare_copies(
     alloc: Global,
     found: &mut List<Declaration>,
@@ -47,7 +47,7 @@ fn declare_copies(
     Ok(())
 }
 
-// The declaration of one name, put behind these.
+// The declaration of one name, appended to these.
 fn declare_one(
     alloc: Global,
     found: &mut List<Declaration>,
@@ -66,7 +66,7 @@ fn declare_one(
     Ok(())
 }
 
-// One declaration for each name, put behind these; the last one takes the domain itself, so a single name needs no copy.
+// One declaration for each name, appended to these; the last one takes the domain itself, so a single name needs no copy.
 fn declare(
     alloc: Global,
     found: &mut List<Declaration>,
@@ -92,10 +92,10 @@ fn headed(
     sizes: DomainText,
     inputs: List<Declaration>,
     outputs: List<Declaration>,
-) -> Result<Header, Memory>
+) -> Result<SystemHeader, Memory>
     ensures { IfOk result (λ h. view_header h ≡ record { name = (token_view name.entry).text; sizes = sizes; inputs = inputs; outputs = outputs }) }
 {
-    Ok(Header {
+    Ok(SystemHeader {
         name: Name::from_ascii(alloc, name.text)?,
         sizes,
         inputs,
@@ -137,7 +137,7 @@ impl<'t, 'a> Cursor<'t, 'a> {
         self.width()
     }
 
-    // `domain "of" width`, behind these names and the `:`, put behind these declarations.
+    // `domain "of" width`, behind these names and the `:`, appended to these declarations.
     fn declaration_rest(
         &mut self,
         names: &[Token<'a>],
@@ -151,7 +151,7 @@ impl<'t, 'a> Cursor<'t, 'a> {
         Ok(())
     }
 
-    // `names ":" domain "of" width`, put behind these declarations.
+    // `names ":" domain "of" width`, appended to these declarations.
     fn declaration(&mut self, found: &mut List<Declaration>) -> Result<(), Stop>
         ensures { Gives (λ _. (found.new, views self.new.rest.now)) result (with_front found.old (declaration_of (views self.old.rest.now))) }
     {
@@ -337,7 +337,7 @@ impl<'t, 'a> Cursor<'t, 'a> {
     }
 
     // What stands before the locals.
-    fn header(&mut self) -> Result<Header, Stop>
+    fn header(&mut self) -> Result<SystemHeader, Stop>
         ensures { Gives (λ h. (view_header h, views self.new.rest.now)) result (header_of (views self.old.rest.now)) }
     {
         self.word(b"system")?;

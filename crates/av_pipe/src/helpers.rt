@@ -14,7 +14,7 @@ use av_base::{List, Memory, Point};
 use av_flat::{Flat, Helper, Nodes, Time, Timed, Var, copy_flat, sign_vectors};
 use std::alloc::Global;
 
-// Puts the helpers of a variable behind others, where there is a time for the node of this number.
+// Appends the helpers of a variable, where there is a time for the node of this number.
 fn variable_helpers(
     alloc: Global,
     place: u32,

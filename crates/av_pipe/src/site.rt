@@ -13,7 +13,7 @@ use av_base::{List, Memory, Point};
 use av_flat::{Helper, Piece, Reference, Tree, first_moving, tree_references};
 use std::alloc::Global;
 
-// Puts the helper of a reference with this map behind others, where it is moved.
+// Appends the helper of a reference with this map, where it is moved.
 fn reference_helper(
     place: u32,
     piece: u32,
@@ -38,7 +38,7 @@ fn reference_helper(
     Ok(())
 }
 
-// Puts the helpers of references behind others.
+// Appends the helpers of references.
 fn reference_helpers(
     place: u32,
     piece: u32,
@@ -66,7 +66,7 @@ fn reference_helpers(
     Ok(())
 }
 
-// Puts the helpers of the references in a tree behind others.
+// Appends the helpers of the references in a tree.
 fn tree_helpers(
     alloc: Global,
     place: u32,
@@ -86,7 +86,7 @@ fn tree_helpers(
     reference_helpers(place, piece, linear, points, found.as_slice(), helpers)
 }
 
-/// Puts the helpers of the references of a variable's pieces behind others.
+/// Appends the helpers of the references of a variable's pieces.
 pub(crate) fn piece_helpers(
     alloc: Global,
     place: u32,

@@ -18,7 +18,7 @@ use Rattle.av_space.specs.declared.cells.Link.{Link}
 use Rattle.av_space.specs.declared.layout.Layout.{Layout}
 use Rattle.av_space.specs.Coordinates.{Placing}
 use Rattle.av_flat.specs.Sites.{Place, places_in, places_from}
-use Rattle.av_space.specs.Taps.{Handing, helper_at, Tap, taps_by, taps_at, is_own, all_taps, taps}
+use Rattle.av_space.specs.Taps.{Pipeline, helper_at, Tap, taps_by, taps_at, is_own, all_taps, taps}
 use Rattle.av_depend.specs.ComputedPlaces.{computed_at}
 use Rattle.av_space.specs.Links.{AreLinks}
 use Rattle.av_space.specs.Quantities.{size, Use, IsUse, IsOperatorCount}
@@ -47,7 +47,7 @@ few_places_of k (p ∷ pieces) =
 
 -- ---- taps and places
 
-two_by : (b : Bool) (o : Option Handing) (p : Place) → length (taps_by b o p) ≤ 2
+two_by : (b : Bool) (o : Option Pipeline) (p : Place) → length (taps_by b o p) ≤ 2
 two_by true None p = omega arith
 two_by true (Some h) p = omega arith
 two_by false None p = omega arith

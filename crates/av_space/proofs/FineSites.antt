@@ -13,7 +13,7 @@ use Rattle.av_flat.specs.Broadcasts.{references}
 use Rattle.av_flat.specs.Chained.{IsOfPartial, IsChainedPiece, IsChainedVariable}
 use Rattle.av_flat.specs.Legal.{IsMoving, IsLegal}
 use Rattle.av_flat.specs.Sites.{Place, places_in, places_from}
-use Rattle.av_space.specs.Taps.{Handing, helper_at, Way, each, entries, handed, Tap, taps_by, taps_at, is_own, all_taps, taps}
+use Rattle.av_space.specs.Taps.{Pipeline, helper_at, Way, each, entries, handed, Tap, taps_by, taps_at, is_own, all_taps, taps}
 use Rattle.av_depend.specs.ComputedPlaces.{computed_at}
 use Rattle.av_space.specs.inner.Readings.{IsReadable, IsFineTap}
 use Rattle.av_space.proofs.Directions.{first_step}
@@ -79,7 +79,7 @@ module _ (t : Timed) (legal : IsLegal t) where
   abbrev own : FlatSystem
   own = view_system t.flat
 
-  small_helper : (place piece site : ℕ) (h : Handing) → helper_at t.helpers place piece site ≡ Some h → AtMost 4095 h.direction × (h.number < length t.helpers)
+  small_helper : (place piece site : ℕ) (h : Pipeline) → helper_at t.helpers place piece site ≡ Some h → AtMost 4095 h.direction × (h.number < length t.helpers)
   small_helper place piece site h found =
       let f = found_helper t.helpers 0 place piece site h found in
       let m = at_index (IsMoving own t.times) t.helpers legal.helpers f.at f.helper f.is_helper in
@@ -100,12 +100,12 @@ module _ (t : Timed) (legal : IsLegal t) where
     fine : IsFineTap n count tap
     known : IsKnown tap.way
 
-  fine_by : (pieces : List Piece) (n count : ℕ) (p : Place) → IsOfPieces 0 pieces n count p → (b : Bool) (o : Option Handing) → ((h : Handing) → o ≡ Some h → AtMost 4095 h.direction × (h.number < length t.helpers)) → AllByRecursion (IsFineOf pieces n count) (taps_by b o p)
+  fine_by : (pieces : List Piece) (n count : ℕ) (p : Place) → IsOfPieces 0 pieces n count p → (b : Bool) (o : Option Pipeline) → ((h : Pipeline) → o ≡ Some h → AtMost 4095 h.direction × (h.number < length t.helpers)) → AllByRecursion (IsFineOf pieces n count) (taps_by b o p)
   fine_by pieces n count p is b o small =
       let at : slice_get pieces p.piece ≡ Some is.piece = ap (slice_get pieces) (is.number_is ∙ omega arith) ∙ is.is_piece in
       go b o small at
     where
-      go : (b : Bool) (o : Option Handing) → ((h : Handing) → o ≡ Some h → AtMost 4095 h.direction × (h.number < length t.helpers)) → slice_get pieces p.piece ≡ Some is.piece → AllByRecursion (IsFineOf pieces n count) (taps_by b o p)
+      go : (b : Bool) (o : Option Pipeline) → ((h : Pipeline) → o ≡ Some h → AtMost 4095 h.direction × (h.number < length t.helpers)) → slice_get pieces p.piece ≡ Some is.piece → AllByRecursion (IsFineOf pieces n count) (taps_by b o p)
       go true None f at = (record { piece = is.piece; is_piece = at; fine = record { tree = is.fine; way = tt }; known = tt }, tt)
       go true (Some h) f at = (record { piece = is.piece; is_piece = at; fine = record { tree = is.fine; way = (f h refl).0 }; known = tt }, (record { piece = is.piece; is_piece = at; fine = record { tree = is.fine; way = (f h refl).0 }; known = (f h refl).1 }, tt))
       go false None f at = tt

@@ -14,7 +14,7 @@ use Rattle.av_depend.proofs.Adds.{among_filter}
 use Rattle.av_space.specs.declared.cells.Cell.{Cell}
 use Rattle.av_space.specs.declared.layout.Layout.{Layout}
 use Rattle.av_space.specs.declared.layout.Slot.{Slot}
-use Rattle.av_space.specs.declared.stretch.Reading.{Reading}
+use Rattle.av_space.specs.declared.stretch.TapReading.{TapReading}
 use Rattle.av_space.specs.Coordinates.{Placing}
 use Rattle.av_space.specs.Taps.{Tap}
 use Rattle.av_space.specs.Layouts.{IsLayout}
@@ -61,7 +61,7 @@ entered_twice set direction slots = filter_twice (λ (t : Slot). is_entered set 
 
 -- the readings at the points of the piece are all readings
 pub readings_of_own : (s : FlatSystem) (placings : List Placing) (cells : List Cell) (n : ℕ) (t : Tap) (piece : Piece) (slots own : List Slot) → own ≡ filter (λ x. has piece.domain x.point) slots
-    → (readings : List Reading) → AreReadings (IsReadingOf s placings cells n t piece own) readings → AreReadings (IsReadingOf s placings cells n t piece slots) readings
+    → (readings : List TapReading) → AreReadings (IsReadingOf s placings cells n t piece own) readings → AreReadings (IsReadingOf s placings cells n t piece slots) readings
 readings_of_own s placings cells n t piece slots own e readings h =
     subst (λ (xs : List Slot). AreReadings (IsReadingOf s placings cells n t piece xs) readings → AreReadings (IsReadingOf s placings cells n t piece slots) readings) (sym e) whole h
   where

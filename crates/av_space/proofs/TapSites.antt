@@ -6,7 +6,7 @@ use Rattle.std.proofs.lemmas.List.Elements.{filter-append}
 use Rattle.av_flat.specs.declared.timed.Helper.{Helper}
 use Rattle.av_flat.specs.Trees.{Tree, Variable, FlatSystem, reference, constant, binary, choice, restriction, cases, dependence, reduction, pick}
 use Rattle.av_flat.specs.Sites.{Place, places_from, PlaceMade, place_of}
-use Rattle.av_space.specs.Taps.{Tap, Handing, helper_at, taps_by, taps_at, taps}
+use Rattle.av_space.specs.Taps.{Tap, Pipeline, helper_at, taps_by, taps_at, taps}
 use Rattle.av_depend.specs.ComputedPlaces.{computed_at}
 use Rattle.av_space.specs.inner.Sites.{is_among, taps_where}
 
@@ -21,7 +21,7 @@ module _ (s : FlatSystem) (hs : List Helper) (own : ℕ) where
   step picks p ps false e = ap (λ b. flat_map (λ (p : Place). taps_at s hs own p.tree p) (if b then p ∷ filter (is_among own picks) ps else filter (is_among own picks) ps)) e
 
 -- all taps of a place have that place
-by_place : (g : Place → Bool) (computed : Bool) (o : Option Handing) (p : Place) (b : Bool) → g p ≡ b → filter (λ (t : Tap). g t.place) (taps_by computed o p) ≡ (if b then taps_by computed o p else [])
+by_place : (g : Place → Bool) (computed : Bool) (o : Option Pipeline) (p : Place) (b : Bool) → g p ≡ b → filter (λ (t : Tap). g t.place) (taps_by computed o p) ≡ (if b then taps_by computed o p else [])
 by_place g true None p true e = rw e refl
 by_place g true None p false e = rw e refl
 by_place g true (Some h) p true e = rw e refl

@@ -31,7 +31,7 @@ use Rattle.av_flat.specs.Chained.{ReadsThere}
 use Rattle.av_flat.specs.Helped.{before}
 use Rattle.av_space.specs.inner.SpotTaps.{IsComputedRead}
 use Rattle.av_flat.specs.Sites.{Place, places_in, places_from}
-use Rattle.av_space.specs.Taps.{Handing, helper_at, Way, each, entries, handed, Tap, taps_by, taps_at, is_own, all_taps, taps, IsReadBy, IsTapRead}
+use Rattle.av_space.specs.Taps.{Pipeline, helper_at, Way, each, entries, handed, Tap, taps_by, taps_at, is_own, all_taps, taps, IsReadBy, IsTapRead}
 use Rattle.av_depend.specs.ComputedPlaces.{computed_at}
 use Rattle.av_space.proofs.Elements.{each_at, in_range}
 use Rattle.av_flat.proofs.Cycles.{node_at}
@@ -113,7 +113,7 @@ record IsTapOf (s : FlatSystem) (hs : List Helper) (own : ℕ) (v : Variable) (t
   fair : IsFair s hs own t.place t.way
 
 fair_taps : (s : FlatSystem) (hs : List Helper) (own : ℕ) (v : Variable) (p : Place) → IsPlaceOf 0 v.pieces p → (b : Bool) → (b ≡ true → IsComputedRead s p.tree)
-    → (o : Option Handing) → ((h : Handing) → o ≡ Some h → helper_at hs own p.piece p.site ≡ Some h) → AllByRecursion (IsTapOf s hs own v) (taps_by b o p)
+    → (o : Option Pipeline) → ((h : Pipeline) → o ≡ Some h → helper_at hs own p.piece p.site ≡ Some h) → AllByRecursion (IsTapOf s hs own v) (taps_by b o p)
 fair_taps s hs own v p is true e None f = (record { of_place = is; fair = e refl }, tt)
 fair_taps s hs own v p is true e (Some h) f = (record { of_place = is; fair = e refl }, (record { of_place = is; fair = f h refl }, tt))
 fair_taps s hs own v p is false e None f = tt
@@ -186,7 +186,7 @@ pub record Scheduled (s : FlatSystem) (hs : List Helper) (placings : List Placin
   pub no_reduction : (v : Variable) (k : ℕ) (piece : Piece) → Contains s.variables v → slice_get v.pieces k ≡ Some piece → EachPart (λ u. is_reduction u ≡ false) piece.tree
   pub proper : IsProper s
   -- the law of helpers
-  pub handed_later : (own piece site : ℕ) (h : Handing) (v : Variable) (q : Piece) (t : Time) → slice_get s.variables own ≡ Some v → slice_get v.pieces piece ≡ Some q → helper_at hs own piece site ≡ Some h
+  pub handed_later : (own piece site : ℕ) (h : Pipeline) (v : Variable) (q : Piece) (t : Time) → slice_get s.variables own ≡ Some v → slice_get v.pieces piece ≡ Some q → helper_at hs own piece site ≡ Some h
       → slice_get (map (λ (p : Placing). p.time) placings) (number_at s own) ≡ Some t → (z : Point) → has q.domain z ≡ true → (cycle t (before z h.direction) +ℤ pos 1) ≤ℤ cycle t z
 
 -- ---- each point is in one piece

@@ -18,22 +18,22 @@ use Rattle.av_space.specs.Occupancy.{Computes}
 
 -- ---- helpers of references
 
--- the helper of a reference: its number, and its direction
-pub record Handing : Type 0 where
+-- the pipeline of a reference: the number of its helper, and its direction
+pub record Pipeline : Type 0 where
   pub number : ℕ
   pub direction : Point
 
 -- the first helper of this reference, where the helpers have the numbers from j on
-abbrev pub helper_from : ℕ → List Helper → ℕ → ℕ → ℕ → Option Handing
+abbrev pub helper_from : ℕ → List Helper → ℕ → ℕ → ℕ → Option Pipeline
 helper_from j [] place piece site = None
 helper_from j (h ∷ hs) place piece site =
     if nat_eq h.var place && nat_eq h.piece piece && nat_eq h.site site then Some (record { number = j; direction = h.direction }) else helper_from (suc j) hs place piece site
 
-abbrev pub helper_at : List Helper → ℕ → ℕ → ℕ → Option Handing
+abbrev pub helper_at : List Helper → ℕ → ℕ → ℕ → Option Pipeline
 helper_at hs place piece site = helper_from 0 hs place piece site
 
 -- where a reference is read: at each point, or with a helper at the points of the set at which it is entered
-abbrev pub IsReadAt : Option Handing → Piece → Point → Type 0
+abbrev pub IsReadAt : Option Pipeline → Piece → Point → Type 0
 IsReadAt None piece z = Unit {0}
 IsReadAt (Some h) piece z = IsEntry piece.domain h.direction z
 
@@ -51,7 +51,7 @@ pub record Tap : Type 0 where
   pub way : Way
 
 -- a reference to a computed variable, and its pipeline; of a reference to an input the pipeline alone
-abbrev pub taps_by : Bool → Option Handing → Place → List Tap
+abbrev pub taps_by : Bool → Option Pipeline → Place → List Tap
 taps_by true None p = record { place = p; way = each } ∷ []
 taps_by true (Some h) p = record { place = p; way = entries h.direction } ∷ record { place = p; way = handed h.number h.direction } ∷ []
 taps_by false None p = []

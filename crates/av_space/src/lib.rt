@@ -41,9 +41,9 @@ pub use laws::{
 };
 pub use laying::lay_out;
 pub use layout::{Layout, Slot};
-pub use lengths::Line;
+pub use lengths::DelayLine;
 pub use mapping::{map, map_layout};
 pub use origin::Origin;
 pub use spots::{Ends, Site, Spot, ends_of};
-pub use stretch::Reading;
-pub use tap::Handing;
+pub use stretch::TapReading;
+pub use tap::Pipeline;

@@ -56,7 +56,7 @@ fn input_wire(alloc: Global, port: usize) -> Result<Name, Memory>
     Name::new(alloc, wire.as_str())
 }
 
-// Puts the lines of the reads at the port with this wire behind others.
+// Appends the lines of the reads at the port with this wire.
 fn add_lines(
     alloc: Global,
     site: &InputSite,
@@ -77,7 +77,7 @@ fn add_lines(
     Ok(())
 }
 
-// Puts the port of a reference on a cell behind others, with its lines, if it has a read there.
+// Appends the port of a reference on a cell, with its lines, if it has a read there.
 fn add_port(
     alloc: Global,
     site: &InputSite,

@@ -3,14 +3,14 @@
 ghost use Rattle.std.specs.Prelude.{◌≡◌, ◌<◌, length, map, AllPairs, IfOk};
 ghost use Rattle.av_flat.specs.Trees.{view};
 ghost use Rattle.av_flat.specs.Sites.{place_of};
-ghost use Rattle.av_space.specs.Spots.{AreEnds, handing_by};
+ghost use Rattle.av_space.specs.Spots.{AreEnds, pipeline_by};
 
 use crate::apart::slots_in;
 use crate::array::Array;
 use crate::layout::Slot;
 use crate::linking::piece_at;
 use crate::node_places::variable_of;
-use crate::tap::Handing;
+use crate::tap::Pipeline;
 use crate::tapping::{helper_at, same};
 use av_base::{List, Memory};
 use av_flat::{Helper, Piece, ReadingPlace, Tree, Var, tree_places};
@@ -40,7 +40,7 @@ pub struct Ends {
 #[derive(Drop)]
 pub struct Site<'a> {
     pub place: ReadingPlace<'a>,
-    pub handing: Option<Handing>,
+    pub pipeline: Option<Pipeline>,
 }
 
 /// The first and the last cycle of computations by cycle.
@@ -56,8 +56,8 @@ pub fn ends_of(slots: &[Slot]) -> Ends
 }
 
 // The helper of a place that is a reference, of the variable at the place `own`.
-fn handing(helpers: &[Helper], own: usize, place: &ReadingPlace<'_>) -> Option<Handing>
-    ensures { result ≡ handing_by helpers.now own (place_of place.now) (view place.now.tree) }
+fn pipeline(helpers: &[Helper], own: usize, place: &ReadingPlace<'_>) -> Option<Pipeline>
+    ensures { result ≡ pipeline_by helpers.now own (place_of place.now) (view place.now.tree) }
 {
     match place.tree {
         Tree::Ref { .. } => helper_at(helpers, own, place.piece, place.site as usize),
@@ -130,7 +130,7 @@ impl<'a> Array<'a> {
         for place in places.as_slice() {
             sites.push(Site {
                 place: same(place),
-                handing: handing(helpers, spot.place, place),
+                pipeline: pipeline(helpers, spot.place, place),
             })?;
         }
         Ok(sites)

@@ -18,17 +18,17 @@ pub(crate) enum Way {
     Handed(usize, Point),
 }
 
-/// The helper of a reference: its number, and its direction.
+/// The pipeline of a reference: the number of its helper, and its direction.
 #[derive(Debug, Drop)]
-pub struct Handing {
+pub struct Pipeline {
     pub number: usize,
     pub direction: Point,
 }
 
-impl Model for Handing {
-    ghost use Rattle.av_space.specs.Taps.{Handing as HandingSeen};
+impl Model for Pipeline {
+    ghost use Rattle.av_space.specs.Taps.{Pipeline as PipelineSeen};
 
-    ghost Value = { HandingSeen };
+    ghost Value = { PipelineSeen };
 
     ghost view = { λ h. record { number = h.number; direction = h.direction } };
 }

@@ -6,7 +6,7 @@ ghost use Rattle.av_flat.specs.Sites.{place_of};
 ghost use Rattle.av_space.specs.Taps.{helper_at, taps_by, taps_at, is_own, taps};
 ghost use Rattle.av_space.specs.inner.Sites.{tap_of, taps_where};
 
-use crate::tap::{Handing, TapSite, Way};
+use crate::tap::{Pipeline, TapSite, Way};
 use av_base::{List, Memory, Point};
 use av_depend::is_computed_at;
 use av_flat::{Helper, ReadingPlace, Timed, Tree, Var, piece_places};
@@ -25,12 +25,12 @@ pub(crate) fn helper_at(
     place: usize,
     piece: usize,
     site: usize,
-) -> Option<Handing>
+) -> Option<Pipeline>
     ensures { result ≡ helper_at helpers.now place piece site }
 {
     for (number, helper) in helpers.iter().enumerate() {
         if is_of(helper, place, piece, site) {
-            return Some(Handing {
+            return Some(Pipeline {
                 number,
                 direction: Point::from_slice(helper.direction.as_slice()),
             });
@@ -50,16 +50,16 @@ pub(crate) fn same<'a>(place: &ReadingPlace<'a>) -> ReadingPlace<'a>
     }
 }
 
-// Puts the tap sites of a place behind others: of a pipelined one the entry reads before the pipeline's own.
+// Appends the tap sites of a place: of a pipelined one the entry reads before the pipeline's own.
 fn add_taps_by<'a>(
     computed: bool,
-    handing: Option<Handing>,
+    pipeline: Option<Pipeline>,
     place: &ReadingPlace<'a>,
     sites: &mut List<TapSite<'a>>,
 ) -> Result<(), Memory>
-    ensures { OnOk result (map tap_of sites.new ≡ map tap_of sites.old ++ taps_by computed handing (place_of place.now)) }
+    ensures { OnOk result (map tap_of sites.new ≡ map tap_of sites.old ++ taps_by computed pipeline (place_of place.now)) }
 {
-    let Some(handing) = handing else {
+    let Some(pipeline) = pipeline else {
         if computed {
             sites.push(TapSite {
                 place: same(place),
@@ -71,16 +71,16 @@ fn add_taps_by<'a>(
     if computed {
         sites.push(TapSite {
             place: same(place),
-            way: Way::Entries(Point::from_slice(handing.direction.as_slice())),
+            way: Way::Entries(Point::from_slice(pipeline.direction.as_slice())),
         })?;
     }
     sites.push(TapSite {
         place: same(place),
-        way: Way::Handed(handing.number, handing.direction),
+        way: Way::Handed(pipeline.number, pipeline.direction),
     })
 }
 
-// Puts the tap sites of a place of the variable at the place `own` behind others.
+// Appends the tap sites of a place of the variable at the place `own`.
 fn add_taps<'a>(
     timed: &Timed,
     own: usize,
@@ -93,8 +93,8 @@ fn add_taps<'a>(
     match place.tree {
         Tree::Ref { var, .. } => {
             let helpers = timed.helpers.as_slice();
-            let handing = helper_at(helpers, own, place.piece, place.site as usize);
-            add_taps_by(is_computed_at(&timed.flat, *var), handing, place, sites)
+            let pipeline = helper_at(helpers, own, place.piece, place.site as usize);
+            add_taps_by(is_computed_at(&timed.flat, *var), pipeline, place, sites)
         }
         Tree::Pick { var, .. } => {
             add_taps_by(is_computed_at(&timed.flat, *var), None, place, sites)
@@ -113,7 +113,7 @@ fn is_own(own: usize, place: &ReadingPlace<'_>) -> bool
     }
 }
 
-// Puts the tap sites of those places behind others that are picks of the variable itself, or of those that are not.
+// Appends the tap sites of those places that are picks of the variable itself, or of those that are not.
 fn add_taps_of<'a>(
     timed: &Timed,
     own: usize,

@@ -7,9 +7,9 @@ ghost use Rattle.av_vparse.specs.declared.fault.ReadError.TheVariants as error;
 
 use crate::fault::ReadError;
 use crate::literal::{Literal, literal_of};
-use crate::token::{Token, is_word};
+use crate::token::{DesignToken, is_word};
 use av_base::{Name, Place, decimal_value};
-use av_net::TokenKind;
+use av_net::DesignTokenKind;
 use std::alloc::Global;
 
 /// The greatest number of a bit.
@@ -17,12 +17,12 @@ pub(crate) const MOST_BIT: u64 = 63;
 
 /// The tokens that are left.
 #[derive(Drop)]
-pub(crate) struct Cursor<'t, 'a> {
+pub(crate) struct DesignCursor<'t, 'a> {
     pub(crate) alloc: Global,
-    pub(crate) rest: &'t [Token<'a>],
+    pub(crate) rest: &'t [DesignToken<'a>],
 }
 
-impl<'t, 'a> Cursor<'t, 'a> {
+impl<'t, 'a> DesignCursor<'t, 'a> {
     /// Where the next token stands.
     pub(crate) fn place(&self) -> Place
         ensures { result ≡ place_of (views self.now.rest.now) }
@@ -63,7 +63,7 @@ impl<'t, 'a> Cursor<'t, 'a> {
     }
 
     /// Whether the next token is of this kind.
-    pub(crate) fn begins(&self, kind: TokenKind) -> bool
+    pub(crate) fn begins(&self, kind: DesignTokenKind) -> bool
         ensures { result ≡ begins kind (views self.now.rest.now) }
     {
         match self.rest {
@@ -107,7 +107,7 @@ impl<'t, 'a> Cursor<'t, 'a> {
         ensures { Gives (λ x. (x, views self.new.rest.now)) result (name_at (views self.old.rest.now)) }
     {
         match self.rest {
-            [first, rest @ ..] if first.kind == TokenKind::Name => {
+            [first, rest @ ..] if first.kind == DesignTokenKind::Name => {
                 self.rest = rest;
                 Ok(Name::new(self.alloc, first.text)?)
             }
@@ -121,7 +121,7 @@ impl<'t, 'a> Cursor<'t, 'a> {
         ensures { Gives (λ _. views self.new.rest.now) result (this_name_at name.now (views self.old.rest.now)) }
     {
         match self.rest {
-            [first, rest @ ..] if first.kind == TokenKind::Name && first.text == name => {
+            [first, rest @ ..] if first.kind == DesignTokenKind::Name && first.text == name => {
                 self.rest = rest;
                 Ok(())
             }
@@ -136,7 +136,7 @@ impl<'t, 'a> Cursor<'t, 'a> {
         ensures gives { Gives (λ x. (x, views self.new.rest.now)) result (number_at least most (views self.old.rest.now)) }
     {
         match self.rest {
-            [first, rest @ ..] if first.kind == TokenKind::Number => {
+            [first, rest @ ..] if first.kind == DesignTokenKind::Number => {
                 match decimal_value(first.text.as_bytes()) {
                     Some(value) if least <= value && value <= most => {
                         self.rest = rest;
@@ -155,7 +155,7 @@ impl<'t, 'a> Cursor<'t, 'a> {
         ensures { Gives (λ x. (sized_view x, views self.new.rest.now)) result (literal_at (views self.old.rest.now)) }
     {
         match self.rest {
-            [first, rest @ ..] if first.kind == TokenKind::Literal => {
+            [first, rest @ ..] if first.kind == DesignTokenKind::Literal => {
                 match literal_of(first.text) {
                     Some(literal) => {
                         self.rest = rest;
@@ -174,7 +174,7 @@ impl<'t, 'a> Cursor<'t, 'a> {
         ensures { Gives (λ _. tt) result (end_at (views self.now.rest.now)) }
     {
         match self.rest {
-            [last] if last.kind == TokenKind::End => Ok(()),
+            [last] if last.kind == DesignTokenKind::End => Ok(()),
             _ => Err(self.syntax()),
         }
     }

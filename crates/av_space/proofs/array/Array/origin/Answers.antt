@@ -18,7 +18,7 @@ port-requires-clause-site c =
 pub returns-then-not-is_computed_at : goal.returns-then-not-is_computed_at
 returns-then-not-is_computed_at c =
     let tree : view c.args.site.now.place.tree ≡ reference c.in-Ref.var c.in-Ref.map = ap (λ (p : PlaceMade). view p.tree) (sym c.place.view_is) ∙ ap view c.in-Ref.is in
-    subst (λ (t : Tree). IsOriginBy c.args.self.now c.args.spot.now c.args.slot.now (place_of c.args.site.now.place) c.args.site.now.handing t (origin.Port c.port.result)) (sym tree)
+    subst (λ (t : Tree). IsOriginBy c.args.self.now c.args.spot.now c.args.slot.now (place_of c.args.site.now.place) c.args.site.now.pipeline t (origin.Port c.port.result)) (sym tree)
     (reads_port c.args.self.now c.requires.array c.args.spot.now c.requires.spot c.args.site.now c.requires.site c.args.slot.now c.requires.slot c.in-Ref.var c.in-Ref.map tree (sym c.if-not-is_computed_at.ensures) c.port.result c.port.ensures)
 
 pub unreachable-requires : goal.unreachable-requires
@@ -44,7 +44,7 @@ returns-in-Some c =
     let tree : view c.args.site.now.place.tree ≡ reference c.in-Ref.var c.in-Ref.map = ap (λ (p : PlaceMade). view p.tree) (sym c.place.view_is) ∙ ap view c.in-Ref.is in
     let r = c.in-Some.reading in
     let read = c.in-Some.ensures in
-    subst (λ (t : Tree). IsOriginBy c.args.self.now c.args.spot.now c.args.slot.now (place_of c.args.site.now.place) c.args.site.now.handing t (origin.Value r.producer r.delay)) (sym tree)
+    subst (λ (t : Tree). IsOriginBy c.args.self.now c.args.spot.now c.args.slot.now (place_of c.args.site.now.place) c.args.site.now.pipeline t (origin.Value r.producer r.delay)) (sym tree)
     (reads_link c.args.self.now c.requires.array c.args.spot.now c.requires.spot c.args.site.now c.requires.site c.args.slot.now c.requires.slot c.in-Ref.var c.in-Ref.map tree (sym c.if-not-is_computed_at.ensures) r.producer r.delay read.1)
 
 pub returns-in-Some-linked : goal.returns-in-Some-linked
@@ -52,11 +52,11 @@ returns-in-Some-linked c =
     let tree : view c.args.site.now.place.tree ≡ pick c.in-Pick.var c.in-Pick.choices c.in-Pick.otherwise.bits = ap (λ (p : PlaceMade). view p.tree) (sym c.place.view_is) ∙ ap view c.in-Pick.is in
     let r = c.in-Some-linked.reading in
     let read = c.in-Some-linked.ensures in
-    subst (λ (t : Tree). IsOriginBy c.args.self.now c.args.spot.now c.args.slot.now (place_of c.args.site.now.place) c.args.site.now.handing t (origin.Value r.producer r.delay)) (sym tree)
+    subst (λ (t : Tree). IsOriginBy c.args.self.now c.args.spot.now c.args.slot.now (place_of c.args.site.now.place) c.args.site.now.pipeline t (origin.Value r.producer r.delay)) (sym tree)
     (picks_link c.args.self.now c.requires.array c.args.spot.now c.requires.spot c.args.site.now c.requires.site c.args.slot.now c.requires.slot c.in-Pick.var c.in-Pick.choices c.in-Pick.otherwise.bits tree r.producer r.delay read.0 read.1)
 
 pub returns-in-None : goal.returns-in-None
 returns-in-None c =
     let tree : view c.args.site.now.place.tree ≡ pick c.in-Pick.var c.in-Pick.choices c.in-Pick.otherwise.bits = ap (λ (p : PlaceMade). view p.tree) (sym c.place.view_is) ∙ ap view c.in-Pick.is in
-    subst (λ (t : Tree). IsOriginBy c.args.self.now c.args.spot.now c.args.slot.now (place_of c.args.site.now.place) c.args.site.now.handing t (origin.Number c.in-Pick.otherwise)) (sym tree)
+    subst (λ (t : Tree). IsOriginBy c.args.self.now c.args.spot.now c.args.slot.now (place_of c.args.site.now.place) c.args.site.now.pipeline t (origin.Number c.in-Pick.otherwise)) (sym tree)
     (picks_none c.args.self.now c.requires.array c.args.spot.now c.requires.spot c.args.site.now c.requires.site c.args.slot.now c.requires.slot c.in-Pick.var c.in-Pick.choices c.in-Pick.otherwise.bits tree c.in-None.ensures)

@@ -6,7 +6,7 @@ use Rattle.av_flat.specs.declared.timed.Helper.{Helper}
 use Rattle.av_flat.specs.Trees.{view}
 use Rattle.av_space.specs.declared.spots.Site.{Site}
 use Rattle.av_flat.specs.Sites.{Place, places_in, PlaceMade, place_of}
-use Rattle.av_space.specs.Spots.{handing_by}
+use Rattle.av_space.specs.Spots.{pipeline_by}
 use Rattle.av_space.proofs.array.Array.sites.Goals as goal
 use Rattle.av_base.proofs.Among.{among_at}
 use Rattle.av_base.proofs.Lists.{get_mapped}
@@ -25,6 +25,6 @@ returns c =
         is_place = (let x = get_or sites k d in
             subst (λ (ps : List Place). Contains ps (place_of x.place)) places
             (among_at (map (λ (site : Site). place_of site.place) sites) k (place_of x.place) (get_mapped (λ (site : Site). place_of site.place) sites k x (slice_get-get_or sites k d l))));
-        handing = subst (λ (hs : List Helper). (get_or sites k d).handing ≡ handing_by hs at.place (place_of (get_or sites k d).place) (view (get_or sites k d).place.tree)) c.as_slice-helpers.ensures (c.loop-place.invariant.handings k d l);
+        pipeline = subst (λ (hs : List Helper). (get_or sites k d).pipeline ≡ pipeline_by hs at.place (place_of (get_or sites k d).place) (view (get_or sites k d).place.tree)) c.as_slice-helpers.ensures (c.loop-place.invariant.pipelines k d l);
       };
     }
