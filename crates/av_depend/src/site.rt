@@ -99,7 +99,8 @@ fn add_site(
     edges: &mut List<Edge>,
 ) -> Result<(), Memory>
     requires reading { IsReadingSet reading.now }
-    ensures { OnOk result (HasAdded (view_system nodes.now) (site_at node place map.now reading.now.set ∷ []) edges.old edges.new) }
+    ensures { OnOk result (HasAdded (view_system nodes.now)
+        (site_at node place map.now reading.now.set ∷ []) edges.old edges.new) }
 {
     if reading.points.as_slice().is_empty() {
         return Ok(());
@@ -128,7 +129,8 @@ fn add_choices(
 ) -> Result<(), Memory>
     requires reading { IsReadingSet reading.now }
     requires dims { All (λ c. c.set.dim ≡ reading.now.set.dim) choices.now }
-    ensures { OnOk result (HasAdded (view_system nodes.now) (map (site_of node place reading.now.set) choices.now) edges.old edges.new) }
+    ensures { OnOk result (HasAdded (view_system nodes.now)
+        (map (site_of node place reading.now.set) choices.now) edges.old edges.new) }
 {
     for choice in choices {
         let own = narrowed(alloc, reading, &choice.set)?;
@@ -147,8 +149,10 @@ fn add_place(
     edges: &mut List<Edge>,
 ) -> Result<(), Memory>
     requires reading { IsReadingSet reading.now }
-    requires fits { Fits (signatures (view_system nodes.now)) reading.now.set.dim (view place.now.tree) }
-    ensures { OnOk result (HasAdded (view_system nodes.now) (sites_at node reading.now.set (view place.now.tree)) edges.old edges.new) }
+    requires fits { Fits (signatures (view_system nodes.now)) reading.now.set.dim
+        (view place.now.tree) }
+    ensures { OnOk result (HasAdded (view_system nodes.now)
+        (sites_at node reading.now.set (view place.now.tree)) edges.old edges.new) }
 {
     match place.tree {
         Tree::Ref { var, map } => add_site(alloc, nodes, node, *var, map, reading, edges),
@@ -170,7 +174,8 @@ pub(crate) fn add_tree(
 ) -> Result<(), Memory>
     requires reading { IsReadingSet reading.now }
     requires fits { Fits (signatures (view_system nodes.now)) reading.now.set.dim (view tree.now) }
-    ensures { OnOk result (HasAdded (view_system nodes.now) (sites_in node reading.now.set (view tree.now)) edges.old edges.new) }
+    ensures { OnOk result (HasAdded (view_system nodes.now)
+        (sites_in node reading.now.set (view tree.now)) edges.old edges.new) }
 {
     let places = tree_places(alloc, 0, tree)?;
     for place in places.as_slice() {

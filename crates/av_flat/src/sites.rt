@@ -119,7 +119,8 @@ pub fn piece_places<'a>(
     alloc: Global,
     pieces: &'a [Piece],
 ) -> Result<List<ReadingPlace<'a>>, Memory>
-    ensures { IfOk result (λ places. map place_of places ≡ places_from 0 (map view_piece pieces.now)) }
+    ensures { IfOk result (λ places.
+        map place_of places ≡ places_from 0 (map view_piece pieces.now)) }
 {
     let mut places = List::new(alloc);
     for (number, piece) in pieces.iter().enumerate() {

@@ -39,13 +39,16 @@ pub(crate) fn outline_at(
     number: u128,
 ) -> Result<Outline, Memory>
     requires sketch { IsReadable [] [] (view sketch.now) }
-    requires same { sketches [] [] (view sketch.now) ≡ sketches (signatures_of _vars.now) [] (view _tree.now) }
+    requires same { sketches [] [] (view sketch.now)
+        ≡ sketches (signatures_of _vars.now) [] (view _tree.now) }
     requires domain { All IsWithinLimits domain.now.rows }
     requires number { number < piece_count (view _tree.now) }
     requires few { piece_count (view _tree.now) ≤ 256 }
     ensures dim { IfOk result (λ o. o.domain.dim ≡ domain.now.dim) }
-    ensures rows { IfOk result (λ o. o.domain.rows ≡ domain.now.rows ++ (part_at (parts (signatures_of _vars.now) [] (view _tree.now)) number).rows) }
-    ensures folds { IfOk result (λ o. o.folds ≡ has_reduction (part_at (parts (signatures_of _vars.now) [] (view _tree.now)) number).tree) }
+    ensures rows { IfOk result (λ o. o.domain.rows ≡ domain.now.rows
+        ++ (part_at (parts (signatures_of _vars.now) [] (view _tree.now)) number).rows) }
+    ensures folds { IfOk result (λ o. o.folds ≡ has_reduction
+        (part_at (parts (signatures_of _vars.now) [] (view _tree.now)) number).tree) }
 {
     let mut rows = copy_rows(alloc, domain.rows.as_slice())?;
     let folds = rows_of_part(alloc, &[], &[], sketch, number, &mut rows)?;
@@ -74,7 +77,8 @@ fn rows_of_part(
 ) -> Result<bool, Memory>
     requires readable { IsReadable (signatures_of vars.now) under.now (view tree.now) }
     requires number { HasPart (view tree.now) number }
-    ensures part { IfOk result (λ folds. AreRowsAt (signatures_of vars.now) under.now (view tree.now) number rows.old rows.new folds) }
+    ensures part { IfOk result (λ folds. AreRowsAt
+        (signatures_of vars.now) under.now (view tree.now) number rows.old rows.new folds) }
     ensures small { OnOk result (All IsSmall rows.old → All IsSmall rows.new) }
 {
     match tree {
@@ -130,9 +134,11 @@ fn rows_of_case(
     number: u128,
     rows: &mut List<Form>,
 ) -> Result<bool, Memory>
-    requires readable { AreReadable (signatures_of vars.now) under.now (trees_of (map view branches.now)) }
+    requires readable { AreReadable (signatures_of vars.now) under.now
+        (trees_of (map view branches.now)) }
     requires number { HasPart (cases (trees_of (map view branches.now))) number }
-    ensures part { IfOk result (λ folds. AreRowsAt (signatures_of vars.now) under.now (cases (trees_of (map view branches.now))) number rows.old rows.new folds) }
+    ensures part { IfOk result (λ folds. AreRowsAt (signatures_of vars.now) under.now
+        (cases (trees_of (map view branches.now))) number rows.old rows.new folds) }
     ensures small { OnOk result (All IsSmall rows.old → All IsSmall rows.new) }
 {
     let mut left = number;

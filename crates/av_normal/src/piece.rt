@@ -32,7 +32,8 @@ pub(crate) fn tree_at(
     requires readable { IsReadable (signatures_of vars.now) [] (view tree.now) }
     requires number { number < piece_count (view tree.now) }
     requires few { piece_count (view tree.now) ≤ 256 }
-    ensures { IfOk result (λ t. view t ≡ (part_at (parts (signatures_of vars.now) [] (view tree.now)) number).tree) }
+    ensures { IfOk result (λ t.
+        view t ≡ (part_at (parts (signatures_of vars.now) [] (view tree.now)) number).tree) }
 {
     let mut rows = List::new(alloc);
     let tree = part_of(alloc, vars, &[], tree, number, &mut rows)?;
@@ -50,8 +51,9 @@ fn split(number: u128, count: u128) -> (u128, u128)
 
 /// The numbers of two operands of a tree; the first is slowest.
 pub(crate) fn two_numbers(number: u128, right: &Tree) -> (u128, u128)
-    ensures { 0 < piece_count (view right.now) → piece_count (view right.now) ≤ 256 →
-        (result.0 ≡ number / piece_count (view right.now)) × (result.1 ≡ number % piece_count (view right.now)) }
+    ensures { 0 < piece_count (view right.now)
+        → piece_count (view right.now) ≤ 256 → (result.0 ≡ number / piece_count (view right.now))
+        × (result.1 ≡ number % piece_count (view right.now)) }
 {
     split(number, piece_count(right))
 }
@@ -63,7 +65,8 @@ pub(crate) fn four_numbers(
     yes: &Tree,
     no: &Tree,
 ) -> (u128, u128, u128, u128)
-    ensures { AreFourNumbers number (piece_count (view right.now)) (piece_count (view yes.now)) (piece_count (view no.now)) result.0 result.1 result.2 result.3 }
+    ensures { AreFourNumbers number (piece_count (view right.now)) (piece_count (view yes.now))
+        (piece_count (view no.now)) result.0 result.1 result.2 result.3 }
 {
     let fourth_count = piece_count(no);
     let third_count = piece_count(yes).saturating_mul(fourth_count);
@@ -82,10 +85,12 @@ pub(crate) fn append_read(
     map: &Map,
     rows: &mut List<Form>,
 ) -> Result<(), Memory>
-    requires fits { dimension_of (slice_get (signatures_of vars.now) place) ≡ Some (length map.now.rows) }
+    requires fits { dimension_of (slice_get (signatures_of vars.now) place)
+        ≡ Some (length map.now.rows) }
     requires rows { All IsWithinLimits (rows_of (slice_get (signatures_of vars.now) place)) }
     requires map { All IsWithinLimits map.now.rows }
-    ensures rows { OnOk result (rows.new ≡ rows.old ++ rows_before map.now (rows_of (slice_get (signatures_of vars.now) place))) }
+    ensures rows { OnOk result (rows.new
+        ≡ rows.old ++ rows_before map.now (rows_of (slice_get (signatures_of vars.now) place))) }
     ensures small { OnOk result (All IsSmall rows.old → All IsSmall rows.new) }
 {
     let read = &vars[place as usize];
@@ -95,7 +100,8 @@ pub(crate) fn append_read(
 // The fold of a body along a map over the points of these rows.
 fn reduction(op: Op, map: &Map, body: Box<Tree>, rows: List<Form>) -> Tree
     requires small { All IsSmall rows }
-    ensures { view result ≡ flat.reduction op map.now (view body.value) (record { dim = map.now.from; rows = rows }) }
+    ensures { view result ≡ flat.reduction op map.now
+        (view body.value) (record { dim = map.now.from; rows = rows }) }
 {
     let set = Poly {
         dim: map.from,
@@ -116,7 +122,8 @@ fn part_of(
 ) -> Result<Tree, Memory>
     requires readable { IsReadable (signatures_of vars.now) under.now (view tree.now) }
     requires number { HasPart (view tree.now) number }
-    ensures part { IfOk result (λ t. IsPartAt (signatures_of vars.now) under.now (view tree.now) number rows.old rows.new (view t)) }
+    ensures part { IfOk result (λ t. IsPartAt
+        (signatures_of vars.now) under.now (view tree.now) number rows.old rows.new (view t)) }
     ensures small { OnOk result (All IsSmall rows.old → All IsSmall rows.new) }
 {
     match tree {
@@ -176,9 +183,11 @@ fn part_of_case(
     number: u128,
     rows: &mut List<Form>,
 ) -> Result<Tree, Memory>
-    requires readable { AreReadable (signatures_of vars.now) under.now (trees_of (map view branches.now)) }
+    requires readable { AreReadable (signatures_of vars.now) under.now
+        (trees_of (map view branches.now)) }
     requires number { HasPart (cases (trees_of (map view branches.now))) number }
-    ensures part { IfOk result (λ t. IsPartAt (signatures_of vars.now) under.now (cases (trees_of (map view branches.now))) number rows.old rows.new (view t)) }
+    ensures part { IfOk result (λ t. IsPartAt (signatures_of vars.now) under.now
+        (cases (trees_of (map view branches.now))) number rows.old rows.new (view t)) }
     ensures small { OnOk result (All IsSmall rows.old → All IsSmall rows.new) }
 {
     let mut left = number;
@@ -203,7 +212,8 @@ fn boxed_part(
 ) -> Result<Box<Tree>, Memory>
     requires readable { IsReadable (signatures_of vars.now) under.now (view tree.now) }
     requires number { HasPart (view tree.now) number }
-    ensures part { IfOk result (λ t. IsPartAt (signatures_of vars.now) under.now (view tree.now) number rows.old rows.new (view t.value)) }
+    ensures part { IfOk result (λ t. IsPartAt (signatures_of vars.now) under.now
+        (view tree.now) number rows.old rows.new (view t.value)) }
     ensures small { OnOk result (All IsSmall rows.old → All IsSmall rows.new) }
 {
     let part = part_of(alloc, vars, under, tree, number, rows)?;

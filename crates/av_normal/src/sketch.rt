@@ -48,7 +48,8 @@ fn paired(alloc: Global, first: Tree, second: Tree) -> Result<Sketch, Memory>
     requires first { IsReadable [] [] (view first) }
     requires second { IsReadable [] [] (view second) }
     ensures sketch { IfOk result IsSketch }
-    ensures same { IfOk result (λ s. sketches_of s ≡ side_by_side (sketches [] [] (view first)) (sketches [] [] (view second))) }
+    ensures same { IfOk result (λ s.
+        sketches_of s ≡ side_by_side (sketches [] [] (view first)) (sketches [] [] (view second))) }
 {
     let left = Box::new(alloc, first)?;
     let right = Box::new(alloc, second)?;
@@ -60,7 +61,8 @@ fn joined_rows(alloc: Global, dim: u8, rows: List<Form>, second: Sketch) -> Resu
     requires rows { All IsSmall rows }
     requires second { IsSketch second }
     ensures sketch { IfOk result IsSketch }
-    ensures same { IfOk result (λ s. sketches_of s ≡ side_by_side ((rows, false) ∷ []) (sketches_of second)) }
+    ensures same { IfOk result (λ s.
+        sketches_of s ≡ side_by_side ((rows, false) ∷ []) (sketches_of second)) }
 {
     match second {
         Sketch::One(more) => {
@@ -80,7 +82,8 @@ fn joined(alloc: Global, dim: u8, first: Sketch, second: Sketch) -> Result<Sketc
     requires first { IsSketch first }
     requires second { IsSketch second }
     ensures sketch { IfOk result IsSketch }
-    ensures same { IfOk result (λ s. sketches_of s ≡ side_by_side (sketches_of first) (sketches_of second)) }
+    ensures same { IfOk result (λ s.
+        sketches_of s ≡ side_by_side (sketches_of first) (sketches_of second)) }
 {
     match first {
         Sketch::One(rows) => joined_rows(alloc, dim, rows, second),
@@ -105,7 +108,8 @@ fn joined_four(
     requires third { IsSketch third }
     requires fourth { IsSketch fourth }
     ensures sketch { IfOk result IsSketch }
-    ensures same { IfOk result (λ s. sketches_of s ≡ side_by_side (sketches_of first) (side_by_side (sketches_of second) (side_by_side (sketches_of third) (sketches_of fourth)))) }
+    ensures same { IfOk result (λ s. sketches_of s ≡ side_by_side (sketches_of first) (side_by_side
+        (sketches_of second) (side_by_side (sketches_of third) (sketches_of fourth)))) }
 {
     let last = joined(alloc, dim, third, fourth)?;
     let others = joined(alloc, dim, second, last)?;
@@ -136,7 +140,8 @@ fn sketch_of(
 ) -> Result<Sketch, Memory>
     requires { IsReadable (signatures_of vars.now) under.now (view tree.now) }
     ensures sketch { IfOk result IsSketch }
-    ensures same { IfOk result (λ s. sketches_of s ≡ sketches (signatures_of vars.now) under.now (view tree.now)) }
+    ensures same { IfOk result (λ s.
+        sketches_of s ≡ sketches (signatures_of vars.now) under.now (view tree.now)) }
 {
     match tree {
         Tree::Ref { var, map } => {
@@ -194,7 +199,9 @@ fn sketch_all(
 ) -> Result<List<Tree>, Memory>
     requires { AreReadable (signatures_of vars.now) under.now (trees_of (map view branches.now)) }
     ensures readable { IfOk result (λ ts. AreReadable [] [] (trees_of (map view ts))) }
-    ensures same { IfOk result (λ ts. map sketched (parts_of_all [] [] (trees_of (map view ts))) ≡ map sketched (parts_of_all (signatures_of vars.now) under.now (trees_of (map view branches.now)))) }
+    ensures same { IfOk result (λ ts.
+        map sketched (parts_of_all [] [] (trees_of (map view ts))) ≡ map sketched
+        (parts_of_all (signatures_of vars.now) under.now (trees_of (map view branches.now)))) }
 {
     let mut trees = List::new(alloc);
     for branch in branches {
@@ -209,7 +216,8 @@ fn sketch_all(
 pub(crate) fn sketch_tree(alloc: Global, vars: &[Var], dim: u8, tree: &Tree) -> Result<Tree, Memory>
     requires { IsReadable (signatures_of vars.now) [] (view tree.now) }
     ensures readable { IfOk result (λ t. IsReadable [] [] (view t)) }
-    ensures same { IfOk result (λ t. sketches [] [] (view t) ≡ sketches (signatures_of vars.now) [] (view tree.now)) }
+    ensures same { IfOk result (λ t.
+        sketches [] [] (view t) ≡ sketches (signatures_of vars.now) [] (view tree.now)) }
 {
     let sketch = sketch_of(alloc, vars, dim, &[], tree)?;
     tree_of(alloc, dim, sketch)

@@ -25,7 +25,8 @@ fn reference_helper(
 ) -> Result<(), Memory>
     requires linear { AtMost 4 linear.now }
     requires fine { IsFineMap points.now map.now }
-    ensures { OnOk result (helpers.new ≡ helpers.old ++ helper_of place piece site (first_moving linear.now map.now)) }
+    ensures { OnOk result (helpers.new
+        ≡ helpers.old ++ helper_of place piece site (first_moving linear.now map.now)) }
 {
     if let Some(direction) = first_moving(linear, map, points) {
         helpers.push(Helper {
@@ -50,7 +51,8 @@ fn reference_helpers(
     requires linear { AtMost 4 linear.now }
     requires few { length found.now ≤ 1073741824 }
     requires fine { AllByRecursion (λ r. IsFineMap points.now r.map) found.now }
-    ensures { OnOk result (helpers.new ≡ helpers.old ++ of_references place piece linear.now 0 found.now) }
+    ensures { OnOk result (helpers.new
+        ≡ helpers.old ++ of_references place piece linear.now 0 found.now) }
 {
     for (site, reference) in found.iter().enumerate() {
         reference_helper(
@@ -78,7 +80,8 @@ fn tree_helpers(
 ) -> Result<(), Memory>
     requires linear { AtMost 4 linear.now }
     requires maps { HasFineMaps points.now (view tree.now) }
-    ensures { OnOk result (helpers.new ≡ helpers.old ++ of_references place piece linear.now 0 (references (view tree.now))) }
+    ensures { OnOk result (helpers.new
+        ≡ helpers.old ++ of_references place piece linear.now 0 (references (view tree.now))) }
 {
     let found = tree_references(alloc, tree)?;
     // So few that 32 bits number them.
@@ -97,8 +100,10 @@ pub(crate) fn piece_helpers(
 ) -> Result<(), Memory>
     requires linear { AtMost 4 linear.now }
     requires few { length pieces.now ≤ 1073741824 }
-    requires maps { AllByRecursion (λ p. HasFineMaps points.now p.tree) (map view_piece pieces.now) }
-    ensures { OnOk result (helpers.new ≡ helpers.old ++ of_pieces place linear.now 0 (map view_piece pieces.now)) }
+    requires maps { AllByRecursion
+        (λ p. HasFineMaps points.now p.tree) (map view_piece pieces.now) }
+    ensures { OnOk result (helpers.new
+        ≡ helpers.old ++ of_pieces place linear.now 0 (map view_piece pieces.now)) }
 {
     for (number, piece) in pieces.iter().enumerate() {
         tree_helpers(

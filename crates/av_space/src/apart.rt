@@ -30,7 +30,8 @@ fn is_below_both(row: &Form, first: &Point, last: &Point) -> bool
     requires row { IsWithinLimits row.now }
     requires first { AtMost 4095 first.now }
     requires last { AtMost 4095 last.now }
-    ensures { IsTrue result → (z : Items ℤ) → StandsBetween first.now last.now z → HoldsAt row.now z → ⊥ }
+    ensures { IsTrue result → (z : Items ℤ)
+        → StandsBetween first.now last.now z → HoldsAt row.now z → ⊥ }
 {
     if is_below(row, first) {
         is_below(row, last)
@@ -44,7 +45,8 @@ fn one_is_below_both(rows: &[Form], first: &Point, last: &Point) -> bool
     requires rows { All IsWithinLimits rows.now }
     requires first { AtMost 4095 first.now }
     requires last { AtMost 4095 last.now }
-    ensures { IsTrue result → (z : Items ℤ) → StandsBetween first.now last.now z → Holds rows.now z → ⊥ }
+    ensures { IsTrue result → (z : Items ℤ)
+        → StandsBetween first.now last.now z → Holds rows.now z → ⊥ }
 {
     for row in rows {
         if is_below_both(row, first, last) {

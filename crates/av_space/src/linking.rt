@@ -46,11 +46,13 @@ pub(crate) fn reading_at(
     requires legal { IsLegal timed.now }
     requires layout { IsLayout timed.now layout.now }
     requires fine { IsFineTap piece.now.domain.dim (length timed.now.flat.vars) (tap_of site.now) }
-    requires site { (slots : Items SlotSeen) × Contains slots slot.now
-        × IsSite (view_system timed.now.flat) timed.now.helpers layout.now.placements layout.now.cells node (tap_of site.now) (view_piece piece.now) slots }
+    requires site { (slots : Items SlotSeen)
+        × Contains slots slot.now × IsSite (view_system timed.now.flat) timed.now.helpers
+        layout.now.placements layout.now.cells node (tap_of site.now) (view_piece piece.now) slots }
     ensures cycle { IfSome result (λ r. r.cycle ≡ slot.now.cycle) }
-    ensures reading { (q d : ℕ) →
-        IsReadingAt (view_system timed.now.flat) layout.now.placements layout.now.cells node (tap_of site.now) (view_piece piece.now) slot.now.point slot.now.cycle q d
+    ensures reading { (q d : ℕ)
+        → IsReadingAt (view_system timed.now.flat) layout.now.placements layout.now.cells node
+        (tap_of site.now) (view_piece piece.now) slot.now.point slot.now.cycle q d
         ↔ (result ≡ Some (record { cycle = slot.now.cycle; producer = q; delay = d })) }
 {
     if !is_in(&piece.domain, &slot.point) {
@@ -78,9 +80,11 @@ fn readings(
     requires legal { IsLegal timed.now }
     requires layout { IsLayout timed.now layout.now }
     requires fine { IsFineTap piece.now.domain.dim (length timed.now.flat.vars) (tap_of site.now) }
-    requires site { HasSite (view_system timed.now.flat) timed.now.helpers layout.now.placements layout.now.cells node (tap_of site.now) (view_piece piece.now) slots.now }
+    requires site { HasSite (view_system timed.now.flat) timed.now.helpers layout.now.placements
+        layout.now.cells node (tap_of site.now) (view_piece piece.now) slots.now }
     ensures { IfOk result (AreReadings
-        (IsReadingOf (view_system timed.now.flat) layout.now.placements layout.now.cells node (tap_of site.now) (view_piece piece.now) slots.now)) }
+        (IsReadingOf (view_system timed.now.flat) layout.now.placements layout.now.cells node
+        (tap_of site.now) (view_piece piece.now) slots.now)) }
 {
     let mut readings = List::new(alloc);
     for slot in slots {
@@ -120,12 +124,15 @@ fn tap_stretches(
 ) -> Result<(), Memory>
     requires legal { IsLegal timed.now }
     requires layout { IsLayout timed.now layout.now }
-    requires consumer { IsConsumer (view_system timed.now.flat) layout.now.placements layout.now.cells
-        consumer.now.number consumer.now.node (view_variable consumer.now.var.now) consumer.now.slots.now }
-    requires site { slice_get (taps (view_system timed.now.flat) timed.now.helpers (node_place (view_system timed.now.flat) consumer.now.node) (view_variable consumer.now.var.now)) number
+    requires consumer { IsConsumer (view_system timed.now.flat)
+        layout.now.placements layout.now.cells consumer.now.number consumer.now.node
+        (view_variable consumer.now.var.now) consumer.now.slots.now }
+    requires site { slice_get (taps (view_system timed.now.flat) timed.now.helpers (node_place
+        (view_system timed.now.flat) consumer.now.node) (view_variable consumer.now.var.now)) number
         ≡ Some (tap_of site.now) }
     requires own { AreOwn (view_variable consumer.now.var.now) consumer.now.slots.now own.now }
-    ensures { OnOk result (HasLinks (IsTapped (view_system timed.now.flat) timed.now.helpers layout.now.placements layout.now.cells)
+    ensures { OnOk result (HasLinks (IsTapped
+        (view_system timed.now.flat) timed.now.helpers layout.now.placements layout.now.cells)
         (IsAt consumer.now.number number) stretches.old stretches.new) }
 {
     let place = site.piece();
@@ -147,12 +154,15 @@ fn cell_stretches(
 ) -> Result<(), Memory>
     requires legal { IsLegal timed.now }
     requires layout { IsLayout timed.now layout.now }
-    requires consumer { IsConsumer (view_system timed.now.flat) layout.now.placements layout.now.cells
-        consumer.now.number consumer.now.node (view_variable consumer.now.var.now) consumer.now.slots.now }
-    requires sites { map tap_of sites.now
-        ≡ taps (view_system timed.now.flat) timed.now.helpers (node_place (view_system timed.now.flat) consumer.now.node) (view_variable consumer.now.var.now) }
+    requires consumer { IsConsumer (view_system timed.now.flat)
+        layout.now.placements layout.now.cells consumer.now.number consumer.now.node
+        (view_variable consumer.now.var.now) consumer.now.slots.now }
+    requires sites { map tap_of sites.now ≡ taps (view_system timed.now.flat) timed.now.helpers
+        (node_place (view_system timed.now.flat) consumer.now.node)
+        (view_variable consumer.now.var.now) }
     requires own { AreOwn (view_variable consumer.now.var.now) consumer.now.slots.now own.now }
-    ensures { OnOk result (HasLinks (IsTapped (view_system timed.now.flat) timed.now.helpers layout.now.placements layout.now.cells)
+    ensures { OnOk result (HasLinks (IsTapped
+        (view_system timed.now.flat) timed.now.helpers layout.now.placements layout.now.cells)
         (IsOn consumer.now.number) stretches.old stretches.new) }
 {
     for (number, site) in sites.iter().enumerate() {
@@ -183,8 +193,8 @@ fn consumer_at<'a>(timed: &'a Timed, layout: &'a Layout, number: usize) -> Consu
     requires layout { IsLayout timed.now layout.now }
     requires number { number < length layout.now.cells }
     ensures number { result.number ≡ number }
-    ensures consumer { IsConsumer (view_system timed.now.flat) layout.now.placements layout.now.cells
-        result.number result.node (view_variable result.var.now) result.slots.now }
+    ensures consumer { IsConsumer (view_system timed.now.flat) layout.now.placements
+        layout.now.cells result.number result.node (view_variable result.var.now) result.slots.now }
 {
     let node = layout.cells.as_slice()[number].node as usize;
     Consumer {
@@ -197,7 +207,9 @@ fn consumer_at<'a>(timed: &'a Timed, layout: &'a Layout, number: usize) -> Consu
 
 // Of each piece of the variable of a cell the computations on the cell that are points of it.
 fn slots_of_pieces(alloc: Global, consumer: &Consumer<'_>) -> Result<List<List<Slot>>, Memory>
-    requires { (k : ℕ) (piece : PieceSeen) → slice_get (view_variable consumer.now.var.now).pieces k ≡ Some piece → AreOfNode piece.domain consumer.now.slots.now }
+    requires { (k : ℕ) (piece : PieceSeen)
+        → slice_get (view_variable consumer.now.var.now).pieces k ≡ Some piece
+        → AreOfNode piece.domain consumer.now.slots.now }
     ensures { IfOk result (AreOwn (view_variable consumer.now.var.now) consumer.now.slots.now) }
 {
     let mut own = List::new(alloc);
@@ -224,7 +236,8 @@ pub(crate) fn stretches(
 ) -> Result<List<Stretch>, Memory>
     requires legal { IsLegal timed.now }
     requires layout { IsLayout timed.now layout.now }
-    ensures { IfOk result (AreLinks (view_system timed.now.flat) timed.now.helpers layout.now.placements layout.now.cells) }
+    ensures { IfOk result (AreLinks
+        (view_system timed.now.flat) timed.now.helpers layout.now.placements layout.now.cells) }
 {
     let sites = node_taps(alloc, timed, layout)?;
     let mut stretches = List::new(alloc);

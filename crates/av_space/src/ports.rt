@@ -66,7 +66,8 @@ fn add_lines(
 ) -> Result<(), Memory>
     requires readable { IsReadable site.now.domain.now site.now.direction site.now.map.now }
     requires points { All (λ t. IsPointOf site.now.domain.now t.point) slots.now }
-    ensures { OnOk result (ins.new ≡ ins.old ++ lines_at wire.now site.now.input.now.name site.now.map.now
+    ensures { OnOk result (ins.new
+        ≡ ins.old ++ lines_at wire.now site.now.input.now.name site.now.map.now
         (filter (λ t. is_entered site.now.domain.now site.now.direction t.point) slots.now)) }
 {
     for slot in slots {
@@ -88,7 +89,8 @@ fn add_port(
     requires readable { IsReadable site.now.domain.now site.now.direction site.now.map.now }
     requires points { All (λ t. IsPointOf site.now.domain.now t.point) slots.now }
     requires few { length ports.old.inputs ≤ 2 ^ 64 }
-    ensures ports { OnOk result (ports.new ≡ with_port port site.now.input.now.name site.now.map.now ports.old
+    ensures ports { OnOk result (ports.new
+        ≡ with_port port site.now.input.now.name site.now.map.now ports.old
         (filter (λ t. is_entered site.now.domain.now site.now.direction t.point) slots.now)) }
     ensures few { OnOk result (length ports.new.inputs ≤ 2 ^ 64) }
 {
@@ -111,7 +113,8 @@ fn own_slots<'s>(at: &'s NodePiece, cell: usize) -> &'s [Slot]
     requires at { IsNodePiece at.now }
     requires low { at.now.first ≤ cell }
     requires high { cell < at.now.last }
-    ensures { (slots : Items SlotSeen) → slice_get at.now.layout.now.slots cell ≡ Some slots → result.now ≡ filter (λ t. has at.now.piece.now.domain t.point) slots }
+    ensures { (slots : Items SlotSeen) → slice_get at.now.layout.now.slots cell ≡ Some slots
+        → result.now ≡ filter (λ t. has at.now.piece.now.domain t.point) slots }
 {
     let own = at.own.as_slice();
     let place = cell - at.first;
@@ -178,7 +181,8 @@ fn add_piece(alloc: Global, at: &NodePiece, ports: &mut Ports) -> Result<(), Mem
     requires at { IsNodePiece at.now }
     requires part { IsPart at.now 0 (view at.now.piece.now.tree) }
     requires old { ArePortsAt at.now 0 at.now.first ports.old }
-    ensures { OnOk result (ArePortsAt at.now (length (references (view at.now.piece.now.tree))) at.now.first ports.new) }
+    ensures { OnOk result (ArePortsAt at.now
+        (length (references (view at.now.piece.now.tree))) at.now.first ports.new) }
 {
     let piece = at.piece;
     let found = tree_references(alloc, &piece.tree)?;
@@ -269,10 +273,14 @@ fn end_of(cells: &[Cell], node: usize, first: usize) -> usize
 fn add_nodes(alloc: Global, timed: &Timed, layout: &Layout, ports: &mut Ports) -> Result<(), Memory>
     requires legal { IsLegal timed.now }
     requires layout { IsLayout timed.now layout.now }
-    requires few { (m : ℕ) × IsOperatorCount (view_system timed.now.flat) layout.now.placements layout.now.cells m × (m ≤ 1048576) }
+    requires few { (m : ℕ)
+        × IsOperatorCount (view_system timed.now.flat) layout.now.placements layout.now.cells m
+        × (m ≤ 1048576) }
     requires none { ArePortsOf timed.now layout.now 0 0 0 ports.old }
-    ensures ports { OnOk result (ArePorts (view_system timed.now.flat) timed.now.helpers layout.now.placements layout.now.cells ports.new.inputs) }
-    ensures lines { OnOk result (AreInLines (view_system timed.now.flat) timed.now.helpers layout.now.placements layout.now.cells ports.new.inputs ports.new.ins) }
+    ensures ports { OnOk result (ArePorts (view_system timed.now.flat)
+        timed.now.helpers layout.now.placements layout.now.cells ports.new.inputs) }
+    ensures lines { OnOk result (AreInLines (view_system timed.now.flat)
+        timed.now.helpers layout.now.placements layout.now.cells ports.new.inputs ports.new.ins) }
     ensures few { OnOk result (length ports.new.inputs ≤ 2 ^ 64) }
 {
     let cells = layout.cells.as_slice();
@@ -289,9 +297,13 @@ fn add_nodes(alloc: Global, timed: &Timed, layout: &Layout, ports: &mut Ports) -
 pub(crate) fn input_ports(alloc: Global, timed: &Timed, layout: &Layout) -> Result<Ports, Memory>
     requires legal { IsLegal timed.now }
     requires layout { IsLayout timed.now layout.now }
-    requires few { (m : ℕ) × IsOperatorCount (view_system timed.now.flat) layout.now.placements layout.now.cells m × (m ≤ 1048576) }
-    ensures ports { IfOk result (λ p. ArePorts (view_system timed.now.flat) timed.now.helpers layout.now.placements layout.now.cells p.inputs) }
-    ensures lines { IfOk result (λ p. AreInLines (view_system timed.now.flat) timed.now.helpers layout.now.placements layout.now.cells p.inputs p.ins) }
+    requires few { (m : ℕ)
+        × IsOperatorCount (view_system timed.now.flat) layout.now.placements layout.now.cells m
+        × (m ≤ 1048576) }
+    ensures ports { IfOk result (λ p. ArePorts (view_system timed.now.flat)
+        timed.now.helpers layout.now.placements layout.now.cells p.inputs) }
+    ensures lines { IfOk result (λ p. AreInLines (view_system timed.now.flat)
+        timed.now.helpers layout.now.placements layout.now.cells p.inputs p.ins) }
     ensures few { IfOk result (λ p. length p.inputs ≤ 2 ^ 64) }
 {
     let mut ports = Ports {
